@@ -1,0 +1,37 @@
+-- The command that one more key state makes.
+use Rattle.std.proofs.Common.{◌≡◌, ℕ, ◌-◌, List, [], ◌∷◌, ◌++◌, length, get_or, ℤ, pos, negsuc, ◌+ℤ◌, ◌≤ℤ◌, refl, ap, ◌∙◌, arith, length-append}
+use Rattle.std.proofs.Math.Seq.{get_or-append_seam}
+use Rattle.std.proofs.lemmas.Int.{ints, clamps}
+use Rattle.dn_tic.specs.declared.keys.Key.TheVariants.{Forward, Back, StrafeRight, StrafeLeft}
+use Rattle.dn_tic.specs.Pressed.{pressed, clamped, opposed, strafed, forward_amount, side_amount, command_of, turn_hold, last_state}
+
+-- the last of some states and one more
+pub last_state-push : (states : List ℕ) (keys : ℕ) → last_state (states ++ keys ∷ []) ≡ keys
+last_state-push states keys =
+    let last : length (states ++ keys ∷ []) - 1 ≡ length states = omega (arith, length-append states (keys ∷ [])) in
+    ap (λ (i : ℕ). get_or (states ++ keys ∷ []) i 0) last ∙ get_or-append_seam states keys [] 0
+
+pub pressed-push : (states : List ℕ) (keys hold : ℕ) (mark : ℤ) → hold ≡ turn_hold (states ++ keys ∷ [])
+    → command_of keys hold mark ≡ pressed (states ++ keys ∷ []) mark
+unfolding pressed
+pressed-push states keys hold mark e = rw (last_state-push states keys, e) refl
+
+-- a clamped amount lies from -50 to 50
+pub clamped-low : (x : ℤ) → negsuc 49 ≤ℤ clamped x
+clamped-low x = omega (arith, ints, clamps)
+
+pub clamped-high : (x : ℤ) → clamped x ≤ℤ pos 50
+clamped-high x = omega (arith, ints, clamps)
+
+pub forward-low : (states : List ℕ) (mark : ℤ) → negsuc 49 ≤ℤ (pressed states mark).forward
+unfolding pressed
+forward-low states mark = clamped-low (opposed (last_state states) Forward Back (forward_amount (last_state states)))
+
+pub forward-high : (states : List ℕ) (mark : ℤ) → (pressed states mark).forward ≤ℤ pos 50
+unfolding pressed
+forward-high states mark = clamped-high (opposed (last_state states) Forward Back (forward_amount (last_state states)))
+
+-- the two parts of a side move
+pub side_is : (keys : ℕ) (from_turn amount from_strafe : ℤ) → from_turn ≡ strafed keys → amount ≡ side_amount keys
+    → from_strafe ≡ opposed keys StrafeRight StrafeLeft amount → from_turn +ℤ from_strafe ≡ strafed keys +ℤ opposed keys StrafeRight StrafeLeft (side_amount keys)
+side_is keys from_turn amount from_strafe a b c = rw (a, c, b) refl
