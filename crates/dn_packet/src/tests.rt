@@ -1,23 +1,177 @@
-use super::*;
+//! Datagrams with known fields and faults.
 
-const ONE_COMMAND: [u8; 16] = [
+ghost use Rattle.std.specs.Prelude.{◌<◌};
+
+use super::*;
+use arrayvec::ArrayVec;
+use dn_tic::TicCmd;
+use std::process::Abort;
+
+/// A choice of game: skill 3, no monsters, deathmatch, episode 1, map 7, version 109.
+const CHOICE: [u8; 8] = [0xCA, 0x8C, 0x90, 0x21, 0x63, 0x47, 0x6D, 0x00];
+
+/// No commands, start 5, of player 1.
+const EMPTY: [u8; 8] = [0x67, 0x4A, 0x24, 0x01, 0x00, 0x05, 0x01, 0x00];
+
+/// One command of player 0: forward 50 and attack.
+const ONE: [u8; 16] = [
     0xCB, 0x45, 0x23, 0x05, 0, 0, 0, 1, 0x32, 0, 0, 0, 0, 0, 0, 1,
 ];
 
+/// Twelve commands of player 0, each of eight bytes 255.
+fn twelve() -> [u8; 104] {
+    let mut bytes = [0xFF; 104];
+    bytes[0] = 0x23;
+    bytes[1] = 0x44;
+    bytes[2] = 0x23;
+    bytes[3] = 0x0D;
+    bytes[4] = 0;
+    bytes[5] = 0;
+    bytes[6] = 0;
+    bytes[7] = 12;
+    bytes
+}
+
+/// The bytes, with another byte at this place.
+fn changed(mut bytes: [u8; 16], place: usize, byte: u8) -> [u8; 16]
+    requires { place < 16 }
+{
+    bytes[place] = byte;
+    bytes
+}
+
+fn packet(flags: u8, ask: u8, start: u8, player: u8, commands: &[TicCmd]) -> Packet {
+    let mut cmds = ArrayVec::new();
+    let _ = cmds.try_extend_from_slice(commands);
+    Packet {
+        flags,
+        ask,
+        start,
+        player,
+        cmds,
+    }
+}
+
+fn attack() -> TicCmd {
+    TicCmd {
+        forward: 50,
+        side: 0,
+        turn: 0,
+        mark: 0,
+        chat: 0,
+        buttons: 1,
+    }
+}
+
+fn all_ones() -> TicCmd {
+    TicCmd {
+        forward: -1,
+        side: -1,
+        turn: -1,
+        mark: -1,
+        chat: 255,
+        buttons: 255,
+    }
+}
+
+fn is_text_of(rt: &impl Abort, bytes: &[u8], packet: &Packet) {
+    let read = decode(bytes);
+    assert!(rt; read.is_ok(), "{bytes:?} is refused");
+    if let Ok(read) = read {
+        assert_eq!(rt; read, *packet);
+    }
+    assert!(rt; packet.flags < 16);
+    let written = encode(packet);
+    assert_eq!(rt; written.as_slice(), bytes);
+}
+
 #[test]
-fn a_packet_is_read_and_written(rt: HostRuntime) {
-    let read = decode(&ONE_COMMAND);
-    assert!(rt; read.is_ok());
-    if let Ok(packet) = read {
-        assert_eq!(rt; packet.flags, 0);
-        assert_eq!(rt; packet.cmds.len(), 1);
-        let bytes = encode(&packet);
-        assert_eq!(rt; bytes.as_slice(), ONE_COMMAND.as_slice());
+fn packets_are_read_and_written(rt: HostRuntime) {
+    is_text_of(&rt, &CHOICE, &packet(SETUP, 99, 71, 109, &[]));
+    is_text_of(&rt, &EMPTY, &packet(0, 0, 5, 1, &[]));
+    is_text_of(&rt, &ONE, &packet(0, 0, 0, 0, &[attack()]));
+    is_text_of(&rt, &twelve(), &packet(0, 0, 0, 0, &[all_ones(); 12]));
+}
+
+#[test]
+fn flags_stand_above_the_sum(rt: HostRuntime) {
+    for (byte, flags) in [
+        (0x85, EXIT),
+        (0x45, RETRANSMIT),
+        (0x25, SETUP),
+        (0x15, KILL),
+    ] {
+        is_text_of(
+            &rt,
+            &changed(ONE, 3, byte),
+            &packet(flags, 0, 0, 0, &[attack()]),
+        );
     }
 }
 
 #[test]
-fn cut_datagrams_are_refused(rt: HostRuntime) {
-    assert!(rt; matches!(decode(&ONE_COMMAND[..15]), Err(PacketFault::Length)));
-    assert!(rt; matches!(decode(&ONE_COMMAND[..7]), Err(PacketFault::Short)));
+fn the_first_fault_is_told(rt: HostRuntime) {
+    let mut long = [0; 105];
+    long[..104].copy_from_slice(&twelve());
+    let mut thirteen = long;
+    thirteen[7] = 13;
+    let sum = changed(ONE, 15, 2);
+    let many = changed(ONE, 7, 13);
+    let faults = [
+        (&ONE[..0], PacketFault::Short),
+        (&ONE[..7], PacketFault::Short),
+        (&ONE[..15], PacketFault::Length),
+        (sum.as_slice(), PacketFault::Sum),
+        (many.as_slice(), PacketFault::Many),
+        (long.as_slice(), PacketFault::Length),
+        (thirteen.as_slice(), PacketFault::Many),
+    ];
+    for (bytes, fault) in faults {
+        let read = decode(bytes);
+        assert!(rt; read == Err(fault), "{bytes:?} is {read:?}");
+    }
+}
+
+#[test]
+fn each_proper_prefix_is_short_or_of_wrong_length(rt: HostRuntime) {
+    let twelve = twelve();
+    for bytes in [ONE.as_slice(), twelve.as_slice()] {
+        for len in 0..bytes.len() {
+            let fault = if len < 8 {
+                PacketFault::Short
+            } else {
+                PacketFault::Length
+            };
+            assert!(rt; decode(&bytes[..len]) == Err(fault), "{len} bytes");
+        }
+    }
+}
+
+/// Whether the sum leaves this bit out: the flags, and what its 28 bits have no room for.
+fn is_unseen(place: usize, bit: u8) -> bool {
+    match place {
+        3 | 15 => bit >= 4,
+        11 => bit >= 3,
+        _ => false,
+    }
+}
+
+#[test]
+fn one_changed_bit(rt: HostRuntime) {
+    let (mut sum, mut length, mut many, mut unseen) = (0u8, 0u8, 0u8, 0u8);
+    for place in 0..16 {
+        for bit in 0..8u8 {
+            match decode(&changed(ONE, place, ONE[place] ^ (1 << bit))) {
+                Err(PacketFault::Sum) => sum = sum.saturating_add(1),
+                Err(PacketFault::Length) => length = length.saturating_add(1),
+                Err(PacketFault::Many) => many = many.saturating_add(1),
+                Err(PacketFault::Short) => panic!(rt; "place {place} bit {bit}"),
+                Ok(_) => {
+                    assert!(rt; is_unseen(place, bit), "place {place} bit {bit}");
+                    unseen = unseen.saturating_add(1);
+                }
+            }
+        }
+    }
+    assert_eq!(rt; (sum, length, many, unseen), (107, 4, 4, 13));
 }

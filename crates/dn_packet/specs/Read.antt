@@ -1,0 +1,24 @@
+-- What the bytes of a datagram are read as.
+use Rattle.std.specs.Prelude.{◌≡◌, ◌≢◌, ◌<◌, ◌≤◌, ℕ, ◌+◌, ◌*◌, ◌%◌, ◌^◌, List, length, drop, slice_index, Result, Ok, Err}
+use Rattle.byteorder.specs.Endian.{little_number}
+use Rattle.dn_packet.specs.declared.packet.Packet.{Packet}
+use Rattle.dn_packet.specs.declared.packet.PacketFault.{PacketFault}
+use Rattle.dn_packet.specs.declared.packet.PacketFault.TheVariants.{Short, Many, Length, Sum}
+use Rattle.dn_packet.specs.Text.{text, sum_of, IsPacket}
+
+-- the number of commands that the bytes tell
+abbrev pub told_count : List ℕ → ℕ
+told_count bytes = slice_index bytes 7
+
+-- the sum that the bytes tell: the low 28 bits of the first word
+abbrev pub told_sum : List ℕ → ℕ
+told_sum bytes = little_number 4 bytes % 2 ^ 28
+
+-- a packet whose text the bytes are, or the first fault that they have
+abbrev pub IsReadAs : List ℕ → Result Packet PacketFault → Type 0
+IsReadAs bytes (Ok p) = IsPacket p × (bytes ≡ text p)
+IsReadAs bytes (Err Short) = length bytes < 8
+IsReadAs bytes (Err Many) = (8 ≤ length bytes) × (12 < told_count bytes)
+IsReadAs bytes (Err Length) = (8 ≤ length bytes) × (told_count bytes ≤ 12) × (length bytes ≢ 8 + 8 * told_count bytes)
+IsReadAs bytes (Err Sum) =
+    (told_count bytes ≤ 12) × (length bytes ≡ 8 + 8 * told_count bytes) × (told_sum bytes ≢ sum_of (drop 4 bytes))
