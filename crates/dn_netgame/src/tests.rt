@@ -135,3 +135,15 @@ fn twelve_commands_are_shown(rt: HostRuntime) -> Result<(), Fail> {
     assert_eq!(rt; output.taken.as_slice(), text.as_bytes());
     Ok(())
 }
+
+#[test]
+fn faults_have_their_lines(rt: HostRuntime) -> Result<(), Fail> {
+    for (fault, line) in [
+        (RunFault::Read, "read fault"),
+        (RunFault::Write, "write fault"),
+        (RunFault::Memory, "out of memory"),
+    ] {
+        assert_eq!(rt; fault.to_string(rt.alloc())?.as_str(), line);
+    }
+    Ok(())
+}
