@@ -1,0 +1,4 @@
+pub mod Settings
+pub mod Starts
+pub mod Setup
+pub mod Gathered

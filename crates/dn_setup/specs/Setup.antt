@@ -1,0 +1,37 @@
+-- The packet by which the key player tells the others what was chosen (d_net.c).
+use Rattle.std.specs.Prelude.{◌≡◌, ◌≢◌, ℕ, ◌+◌, ◌*◌, [], Result, Ok, Err, IsBitSet}
+use Rattle.dn_packet.specs.declared.packet.Packet.{Packet}
+use Rattle.dn_setup.specs.Settings.{Settings, IsSettings}
+use Rattle.dn_setup.specs.Starts.{bit}
+use Rattle.dn_setup.specs.declared.setup.SetupFault.{SetupFault}
+use Rattle.dn_setup.specs.declared.setup.SetupFault.TheVariants.{NotSetup, Version, Range}
+
+-- four bits of skill, one for respawn, one for no monsters, and two of deathmatch, the lowest first
+abbrev pub ask_byte : Settings → ℕ
+ask_byte s = s.skill + 16 * bit s.respawn + 32 * bit s.no_monsters + 64 * s.deathmatch
+
+-- six bits of map and two of episode, the lowest first
+abbrev pub start_byte : Settings → ℕ
+start_byte s = s.map + 64 * s.episode
+
+-- the packet of settings: flag SETUP alone, version 109 in the player's place, and no commands
+abbrev pub setup_packet : Settings → Packet
+setup_packet s = record { flags = 2; ask = ask_byte s; start = start_byte s; player = 109; cmds = record { items = [] } }
+
+-- the flag SETUP, the second lowest, is set
+abbrev pub HasSetup : Packet → Type 0
+HasSetup p = IsBitSet p.flags 1
+
+-- the packet's ask and start bytes are those of these settings
+pub record Tells (p : Packet) (s : Settings) : Type 0 where
+  pub in_range : IsSettings s
+  pub ask : p.ask ≡ ask_byte s
+  pub start : p.start ≡ start_byte s
+
+-- What a packet says as a set-up packet: settings, or the first fault that it has.
+-- Its other flags and its commands say nothing; out of range is what tells no settings at all.
+abbrev pub IsSetupReadAs : Packet → Result Settings SetupFault → Type 0
+IsSetupReadAs p (Ok s) = HasSetup p × (p.player ≡ 109) × Tells p s
+IsSetupReadAs p (Err NotSetup) = ¬ HasSetup p
+IsSetupReadAs p (Err Version) = HasSetup p × (p.player ≢ 109)
+IsSetupReadAs p (Err Range) = HasSetup p × (p.player ≡ 109) × ((s : Settings) → ¬ Tells p s)

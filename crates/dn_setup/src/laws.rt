@@ -1,0 +1,15 @@
+//! Laws of set-up packets.
+
+ghost use Rattle.std.specs.Prelude.{◌≡◌, Result, Ok};
+ghost use Rattle.dn_packet.specs.Text.{IsPacket};
+ghost use Rattle.dn_setup.specs.Settings.{Settings, IsSettings};
+ghost use Rattle.dn_setup.specs.Setup.{setup_packet, IsSetupReadAs};
+ghost use Rattle.dn_setup.specs.declared.setup.SetupFault.{SetupFault};
+
+/// Settings are found again in their packet, and nothing else is.
+pub fn settings_found_again()
+    ensures packet { (s : Settings) → IsSettings s → IsPacket (setup_packet s) }
+    ensures found { (s : Settings) → IsSettings s → IsSetupReadAs (setup_packet s) (Ok s) }
+    ensures only { (s : Settings) (r : Result Settings SetupFault)
+        → IsSettings s → IsSetupReadAs (setup_packet s) r → r ≡ Ok s }
+{}

@@ -1,0 +1,17 @@
+//! What a game is set up with.
+#![tactic(auto)]
+
+mod gather;
+mod laws;
+mod settings;
+mod setup;
+mod start;
+
+pub use gather::Gather;
+pub use laws::settings_found_again;
+pub use settings::{Settings, SettingsFault};
+pub use setup::{SetupFault, from_packet, to_packet};
+pub use start::Start;
+
+#[cfg(test)]
+mod tests;

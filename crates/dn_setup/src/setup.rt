@@ -1,0 +1,69 @@
+//! Settings as a packet.
+
+ghost use Rattle.std.specs.Prelude.{◌≡◌, Result};
+ghost use Rattle.dn_packet.specs.Text.{IsPacket};
+ghost use Rattle.dn_setup.specs.Settings.{Settings, IsSettings};
+ghost use Rattle.dn_setup.specs.Setup.{setup_packet, IsSetupReadAs};
+ghost use Rattle.dn_setup.specs.declared.setup.SetupFault.{SetupFault};
+
+use crate::settings::Settings;
+use arrayvec::ArrayVec;
+use dn_packet::Packet;
+use thiserror::Error;
+
+/// The flag of a set-up packet.
+const SETUP: u8 = 2;
+
+/// The version of the game.
+const VERSION: u8 = 109;
+
+/// Why a packet tells no settings.
+#[derive(Clone, Copy, Debug, PartialEq, Eq, Error)]
+pub enum SetupFault {
+    #[error("no set-up")]
+    NotSetup,
+    #[error("version")]
+    Version,
+    #[error("range")]
+    Range,
+}
+
+/// The packet that tells the settings.
+pub fn to_packet(settings: &Settings) -> Packet
+    ensures packet { result ≡ setup_packet settings.now }
+    ensures valid { IsPacket result }
+    ensures in_range { IsSettings settings.now }
+{
+    Packet {
+        flags: SETUP,
+        ask: settings.skill()
+            + 16 * u8::from(settings.respawn())
+            + 32 * u8::from(settings.no_monsters())
+            + 64 * settings.deathmatch(),
+        start: 64 * settings.episode() + settings.map(),
+        player: VERSION,
+        cmds: ArrayVec::new(),
+    }
+}
+
+/// The settings that the packet tells.
+pub fn from_packet(packet: &Packet) -> Result<Settings, SetupFault>
+    ensures reads { IsSetupReadAs packet.now result }
+    ensures only { (r : Result Settings SetupFault) → IsSetupReadAs packet.now r → result ≡ r }
+{
+    if packet.flags & SETUP == 0 {
+        return Err(SetupFault::NotSetup);
+    }
+    if packet.player != VERSION {
+        return Err(SetupFault::Version);
+    }
+    let (ask, start) = (packet.ask, packet.start);
+    let skill = ask % 16;
+    let respawn = ask / 16 % 2 == 1;
+    let no_monsters = ask / 32 % 2 == 1;
+    let deathmatch = ask / 64;
+    let episode = start / 64;
+    let map = start % 64;
+    let settings = Settings::new(skill, deathmatch, no_monsters, respawn, episode, map);
+    settings.map_err(|_| SetupFault::Range)
+}

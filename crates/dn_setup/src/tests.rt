@@ -1,0 +1,119 @@
+//! Tests of settings, set-up packets and gathering.
+
+use super::*;
+use arrayvec::ArrayVec;
+use dn_packet::{Packet, encode};
+use dn_tic::TicCmd;
+use std::test::Fail;
+
+#[test]
+fn fields_are_checked_in_their_order(rt: HostRuntime) {
+    for (skill, deathmatch, episode, map, fault) in [
+        (5, 3, 4, 33, Some(SettingsFault::Skill)),
+        (5, 3, 1, 7, Some(SettingsFault::Skill)),
+        (4, 3, 4, 33, Some(SettingsFault::Deathmatch)),
+        (4, 3, 1, 7, Some(SettingsFault::Deathmatch)),
+        (4, 2, 4, 33, Some(SettingsFault::Episode)),
+        (4, 2, 4, 7, Some(SettingsFault::Episode)),
+        (4, 2, 0, 7, Some(SettingsFault::Episode)),
+        (4, 2, 1, 33, Some(SettingsFault::Map)),
+        (4, 2, 1, 0, Some(SettingsFault::Map)),
+        (0, 0, 1, 1, None),
+        (4, 2, 3, 32, None),
+    ] {
+        let made = Settings::new(skill, deathmatch, true, false, episode, map);
+        assert_eq!(rt;
+            made.err(),
+            fault,
+            "at {skill} {deathmatch} {episode} {map}"
+        );
+    }
+}
+
+#[test]
+fn settings_are_read_back(rt: HostRuntime) -> Result<(), Fail> {
+    let settings = Settings::new(3, 1, true, false, 1, 7)?;
+    assert_eq!(rt; settings.skill(), 3);
+    assert_eq!(rt; settings.deathmatch(), 1);
+    assert!(rt; settings.no_monsters());
+    assert!(rt; !settings.respawn());
+    assert_eq!(rt; settings.episode(), 1);
+    assert_eq!(rt; settings.map(), 7);
+    let start = Start {
+        skill: 3,
+        episode: 1,
+        map: 7,
+        deathmatch: 1,
+        respawn: 0,
+        fast: 0,
+        no_monsters: 1,
+    };
+    assert_eq!(rt; settings.start(), start);
+    Ok(())
+}
+
+#[test]
+fn a_packet_tells_settings(rt: HostRuntime) -> Result<(), Fail> {
+    let settings = Settings::new(3, 1, true, false, 1, 7)?;
+    let packet = to_packet(&settings);
+    let bytes = [0xCA, 0x8C, 0x90, 0x21, 0x63, 0x47, 0x6D, 0];
+    assert_eq!(rt; encode(&packet).as_slice(), bytes.as_slice());
+    assert_eq!(rt; from_packet(&packet), Ok(settings));
+    Ok(())
+}
+
+#[test]
+fn packets_are_refused_in_order(rt: HostRuntime) {
+    for (flags, ask, start, player, fault) in [
+        (0, 5, 65, 110, SetupFault::NotSetup),
+        (0, 5, 65, 109, SetupFault::NotSetup),
+        (13, 99, 71, 109, SetupFault::NotSetup),
+        (2, 5, 65, 110, SetupFault::Version),
+        (2, 99, 71, 111, SetupFault::Version),
+        (2, 5, 65, 109, SetupFault::Range),
+        (2, 15, 65, 109, SetupFault::Range),
+        (2, 192, 65, 109, SetupFault::Range),
+        (2, 0, 1, 109, SetupFault::Range),
+        (2, 0, 64, 109, SetupFault::Range),
+        (2, 0, 97, 109, SetupFault::Range),
+    ] {
+        let packet = Packet {
+            flags,
+            ask,
+            start,
+            player,
+            cmds: ArrayVec::new(),
+        };
+        assert_eq!(rt;
+            from_packet(&packet),
+            Err(fault),
+            "at {flags} {ask} {start} {player}"
+        );
+    }
+}
+
+#[test]
+fn other_flags_and_commands_are_not_looked_at(rt: HostRuntime) -> Result<(), Fail> {
+    let settings = Settings::new(4, 2, true, true, 3, 32)?;
+    for flags in [2, 3, 6, 10, 15] {
+        let mut cmds = ArrayVec::new();
+        cmds.push(TicCmd::default());
+        let packet = Packet {
+            flags,
+            ask: 180,
+            start: 224,
+            player: 109,
+            cmds,
+        };
+        assert_eq!(rt; from_packet(&packet), Ok(settings), "at {flags}");
+    }
+    Ok(())
+}
+
+#[test]
+fn a_game_waits_for_every_peer(rt: HostRuntime) {
+    let mut gather = Gather::new(3);
+    for (player, complete) in [(2, false), (2, false), (0, false), (1, true), (7, true)] {
+        assert_eq!(rt; gather.hear(player), complete, "at {player}");
+    }
+}
