@@ -8,11 +8,8 @@ ghost use Rattle.dn_setup.specs.declared.setup.SetupFault.{SetupFault};
 
 use crate::settings::Settings;
 use arrayvec::ArrayVec;
-use dn_packet::Packet;
+use dn_packet::{Packet, SETUP};
 use thiserror::Error;
-
-/// The flag of a set-up packet.
-const SETUP: u8 = 2;
 
 /// The version of the game.
 const VERSION: u8 = 109;
