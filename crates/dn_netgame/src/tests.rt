@@ -59,14 +59,11 @@ fn datagrams_are_shown(rt: HostRuntime) {
         (sum.as_slice(), 1, "dropped 4 sum\n"),
     ];
     for (bytes, status, text) in rows {
-        let mut output = Sink::new(rt.alloc(), WHOLE, NEVER);
-        let shown = run_show(
-            rt.alloc(),
-            &mut Source::new(bytes, WHOLE, NEVER),
-            &mut output,
-        );
+        let mut input = bytes;
+        let mut output = Vec::new(rt.alloc());
+        let shown = run_show(rt.alloc(), &mut input, &mut output);
         assert_eq!(rt; shown, Ok(status), "{text}");
-        assert_eq!(rt; output.taken.as_slice(), text.as_bytes());
+        assert_eq!(rt; output.as_slice(), text.as_bytes());
     }
 }
 
@@ -125,14 +122,11 @@ fn twelve_commands_are_shown(rt: HostRuntime) -> Result<(), Fail> {
         let numbers = "forward -1 side -1 turn -1 mark -1 chat 255 buttons 255";
         writeln!(&mut text, "cmd {index} {numbers}")?;
     }
-    let mut output = Sink::new(rt.alloc(), WHOLE, NEVER);
-    let shown = run_show(
-        rt.alloc(),
-        &mut Source::new(&twelve(), WHOLE, NEVER),
-        &mut output,
-    );
-    assert_eq!(rt; shown, Ok(0));
-    assert_eq!(rt; output.taken.as_slice(), text.as_bytes());
+    let bytes = twelve();
+    let mut input = bytes.as_slice();
+    let mut output = Vec::new(rt.alloc());
+    assert_eq!(rt; run_show(rt.alloc(), &mut input, &mut output), Ok(0));
+    assert_eq!(rt; output.as_slice(), text.as_bytes());
     Ok(())
 }
 
