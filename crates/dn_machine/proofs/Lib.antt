@@ -1,0 +1,11 @@
+pub mod Truth
+pub mod Put
+pub mod Lists
+pub mod Marks
+pub mod Steps
+pub mod Games
+pub mod Promises
+pub mod TwoPlayers
+pub mod SingleNodes
+pub mod Slots
+pub mod Ranges

@@ -1,0 +1,78 @@
+-- What a packet does to the node that it comes to (d_net.c, GetPackets).
+use Rattle.std.specs.Prelude.{ℕ, ◌+◌, ◌-◌, Bool, true, false, ◌&&◌, ◌++◌, nat_lt, nat_le, ◌==◌, if◌then◌else◌, drop, Option, Some, None}
+use Rattle.dn_setup.specs.Settings.{Settings}
+use Rattle.dn_setup.specs.Gathered.{all_noted}
+use Rattle.dn_machine.specs.declared.answers.Cause.TheVariants as Cause
+use Rattle.dn_machine.specs.declared.answers.Phase.{Phase}
+use Rattle.dn_machine.specs.declared.answers.Phase.TheVariants.{Listening, Gathering, Playing, Ended}
+use Rattle.dn_machine.specs.declared.answers.Heard.{Heard}
+use Rattle.dn_machine.specs.Worlds.{Rules}
+use Rattle.dn_machine.specs.Flight.{Kind, SetUp, Play, Exit, Flight, end_of}
+use Rattle.dn_machine.specs.Node.{Node, put, got, made, ran}
+
+-- the node begins to play
+abbrev pub started : Node → Settings → Node
+started node settings = record node { phase = Playing; played = true; settings = Some settings }
+
+-- a gathering node has heard a player, and starts if that was the last
+abbrev pub on_gathering : {S : Type 0} → Rules S → Node → ℕ → Node × Heard
+on_gathering rules node player =
+    let noted = put node.noted player true in
+    if all_noted rules.players noted
+    then (record node { phase = Playing; played = true; noted = noted }, Heard.Started)
+    else (record node { noted = noted }, Heard.Noted)
+
+-- a request that can be met: for one of the last twelve commands, or for the one that is built next
+abbrev pub is_within : ℕ → Option ℕ → Bool
+is_within made None = false
+is_within made (Some tic) = nat_le tic made && nat_le (made - 12) tic
+
+abbrev pub requested_tic : Option ℕ → ℕ
+requested_tic None = 0
+requested_tic (Some tic) = tic
+
+-- a request is met unless one was met within the last ten packets of that peer
+abbrev pub after_request : ℕ → Node → ℕ → Option ℕ → Node
+after_request me node peer request =
+    if node.hold peer == 0 && is_within (made me node) request
+    then record node { resend = put node.resend peer (requested_tic request); hold = put node.hold peer 10 }
+    else record node { hold = put node.hold peer (node.hold peer - 1) }
+
+-- what a playing node does with the commands of a packet: an overrun is dropped; old ones are stale; past a gap a resend
+-- is wanted; and the others are taken from the first that is missing on
+abbrev pub on_commands : ℕ → Node → Flight → Node × Heard
+on_commands me node flight =
+    let peer = flight.from in
+    if nat_lt (ran node + 12) (end_of flight)
+    then (node, Heard.Dropped 12)
+    else (
+    let after = after_request me node peer flight.request in
+    if nat_le (end_of flight) (got node peer)
+    then (after, Heard.Stale)
+    else (
+    if nat_lt (got node peer) flight.start
+    then (record after { want = put node.want peer true }, Heard.Gap)
+    else (
+      record after {
+        want = put node.want peer false;
+        held = put node.held peer (node.held peer ++ drop (got node peer - flight.start) flight.commands);
+      },
+      Heard.Taken (end_of flight - got node peer),
+    )))
+
+-- by the phase and the packet's kind
+abbrev pub on_packet_in : {S : Type 0} → Rules S → ℕ → Node → Flight → Phase → Kind → Node × Heard
+on_packet_in rules me node flight (Ended cause) kind = (node, Heard.Dropped 13)
+on_packet_in rules me node flight Listening (SetUp settings) = (started node settings, Heard.Started)
+on_packet_in rules me node flight Gathering (SetUp settings) = (node, Heard.Dropped 6)
+on_packet_in rules me node flight Playing (SetUp settings) = (node, Heard.Dropped 6)
+on_packet_in rules me node flight Listening Play = (node, Heard.Dropped 13)
+on_packet_in rules me node flight Listening Exit = (node, Heard.Dropped 13)
+on_packet_in rules me node flight Gathering Play = on_gathering rules node flight.from
+on_packet_in rules me node flight Gathering Exit = on_gathering rules node flight.from
+on_packet_in rules me node flight Playing Exit = (record node { phase = Ended (Cause.Left flight.from) }, Heard.Left)
+on_packet_in rules me node flight Playing Play = on_commands me node flight
+
+-- node `me` hears a packet: the node after it, and the answer
+unfoldable pub on_packet : {S : Type 0} → Rules S → ℕ → Node → Flight → Node × Heard
+on_packet rules me node flight = on_packet_in rules me node flight node.phase flight.kind

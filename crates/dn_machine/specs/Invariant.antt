@@ -1,0 +1,70 @@
+-- What every event keeps.
+use Rattle.std.specs.Prelude.{ℕ, ◌+◌, ◌<◌, ◌≤◌, true, List, [], ◌≡◌, ◌≢◌, ℤ, get_or, length, Option, Some, slice_get}
+use Rattle.dn_tic.specs.declared.command.TicCmd.{TicCmd}
+use Rattle.dn_tic.specs.declared.command.Move.{Move}
+use Rattle.dn_setup.specs.Settings.{Settings}
+use Rattle.dn_machine.specs.declared.answers.Phase.TheVariants.{Playing, Gathering, Ended}
+use Rattle.dn_machine.specs.declared.answers.Cause.TheVariants as Cause
+use Rattle.dn_machine.specs.Worlds.{Rules, command, row}
+use Rattle.dn_machine.specs.Flight.{SetUp, Flight, end_of}
+use Rattle.dn_machine.specs.Node.{Node, blank}
+use Rattle.dn_machine.specs.Running.{capacity}
+use Rattle.dn_machine.specs.Game.{Game}
+
+-- A packet that was sent is a piece of what its sender has.
+pub record IsPiece {S : Type 0} (rules : Rules S) (settings : Settings) (keys : ℕ → List ℕ) (flight : Flight) : Type 0 where
+  pub sender : flight.from < rules.players
+  pub receiver : flight.to < rules.players
+  pub apart : flight.from ≢ flight.to
+  -- it carries commands that its sender has made, each at its own tic
+  pub reached : end_of flight ≤ length (keys flight.from)
+  pub commands : (j : ℕ) → j < length flight.commands
+      → get_or flight.commands j blank ≡ command rules settings keys flight.from (flight.start + j)
+  -- a set-up packet carries the key player's settings
+  pub set_up : (s : Settings) → flight.kind ≡ SetUp s → s ≡ settings
+  -- a request is for a tic that the receiver has reached
+  pub request : (tic : ℕ) → flight.request ≡ Some tic → tic ≤ length (keys flight.to)
+
+-- What all nodes together have done: the key states, the commands held and the rows run.
+pub record History : Type 0 where
+  pub keys : ℕ → List ℕ
+  pub held : ℕ → ℕ → List TicCmd
+  pub rows : ℕ → List (List (Option Move))
+
+-- All that was held, run and sent is what the players' keys make, and no node is ahead of what it has been sent.
+pub record ComesFromKeys {S : Type 0} (rules : Rules S) (settings : Settings) (history : History) (flights : List Flight) : Type 0 where
+  -- a node has as many own commands as key states
+  pub counted : (p : ℕ) → p < rules.players → length (history.held p p) ≡ length (history.keys p)
+  -- tics run, commands held, commands made: each at most the next, and the last at most five ahead of its own first
+  pub run : (q p : ℕ) → q < rules.players → p < rules.players → length (history.rows q) ≤ length (history.held q p)
+  pub got : (q p : ℕ) → q < rules.players → p < rules.players → length (history.held q p) ≤ length (history.keys p)
+  pub ahead : (p : ℕ) → p < rules.players → length (history.keys p) ≤ length (history.rows p) + 5
+  -- what was held and run is true
+  pub commands : (q p tic : ℕ) → q < rules.players → p < rules.players → tic < length (history.held q p)
+      → get_or (history.held q p) tic blank ≡ command rules settings history.keys p tic
+  pub moves : (q tic : ℕ) → q < rules.players → tic < length (history.rows q)
+      → get_or (history.rows q) tic [] ≡ row rules settings history.keys tic
+  pub pieces : (which : ℕ) (flight : Flight) → slice_get flights which ≡ Some flight
+      → IsPiece rules settings history.keys flight
+
+-- One node by itself.
+pub record IsSound {S : Type 0} (rules : Rules S) (settings : Settings) (me : ℕ) (node : Node) : Type 0 where
+  -- who plays or has played, and who gathers, has the key player's settings
+  pub played : node.played ≡ true → node.settings ≡ Some settings
+  pub playing : node.phase ≡ Playing → node.played ≡ true
+  pub gathering : node.phase ≡ Gathering → node.settings ≡ Some settings
+  -- no mark was off
+  pub consistent : (player : ℕ) (was should : ℤ) → node.phase ≢ Ended (Cause.Inconsistent player was should)
+  -- no resend starts past what was built
+  pub resend : (to : ℕ) → node.resend to ≤ length (node.held me)
+  -- the rows fit into the demo
+  pub room : length node.rows ≤ capacity rules
+
+abbrev pub history_of : Game → History
+history_of game =
+    record { keys = λ q. (game.nodes q).keys; held = λ q. (game.nodes q).held; rows = λ q. (game.nodes q).rows }
+
+-- The whole game.
+pub record IsKept {S : Type 0} (rules : Rules S) (settings : Settings) (game : Game) : Type 0 where
+  pub from_keys : ComesFromKeys rules settings (history_of game) game.flights
+  pub sound : (q : ℕ) → q < rules.players → IsSound rules settings q (game.nodes q)

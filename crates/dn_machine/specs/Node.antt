@@ -1,0 +1,72 @@
+-- What one node keeps, and what is read off it.
+use Rattle.std.specs.Prelude.{ℕ, zero, suc, ◌-◌, Bool, List, nat_lt, ◌==◌, ℤ, pos, if◌then◌else◌, get_or, take, length, Option, Some, None, fold}
+use Rattle.std.specs.Option.{option_or, option_map}
+use Rattle.dn_tic.specs.declared.command.TicCmd.{TicCmd}
+use Rattle.dn_tic.specs.declared.command.Move.{Move}
+use Rattle.dn_setup.specs.Settings.{Settings}
+use Rattle.dn_machine.specs.declared.answers.Phase.{Phase}
+use Rattle.dn_machine.specs.Worlds.{Rules, opening, mark_in}
+
+pub record Node : Type 0 where
+  pub phase : Phase
+  -- whether it is or was playing
+  pub played : Bool
+  pub settings : Option Settings
+  -- the key states of the builds that made a command
+  pub keys : List ℕ
+  -- the commands that it has of each player, from tic 0 on; of itself those that it made
+  pub held : ℕ → List TicCmd
+  -- the rows that it ran
+  pub rows : List (List (Option Move))
+  -- for each peer: the first tic of the next packet to it
+  pub resend : ℕ → ℕ
+  -- whether the next packet to it asks for a resend
+  pub want : ℕ → Bool
+  -- for how many of its packets no request is heard
+  pub hold : ℕ → ℕ
+  -- how many EXIT packets it was given
+  pub exits : ℕ → ℕ
+  -- whether it was heard while gathering
+  pub noted : ℕ → Bool
+
+-- at one place another thing
+abbrev pub put : {A : Type 0} → (ℕ → A) → ℕ → A → ℕ → A
+put all place new other = if other == place then new else all other
+
+-- the command of no key and no mark
+abbrev pub blank : TicCmd
+blank = record { forward = pos 0; side = pos 0; turn = pos 0; mark = pos 0; chat = 0; buttons = 0 }
+
+-- how many commands a node has of a player
+abbrev pub got : Node → ℕ → ℕ
+got node player = length (node.held player)
+
+-- how many commands node `me` made
+abbrev pub made : ℕ → Node → ℕ
+made me node = length (node.held me)
+
+-- how many tics a node ran
+abbrev pub ran : Node → ℕ
+ran node = length node.rows
+
+-- the command that a node has of a player for a tic
+abbrev pub held_at : Node → ℕ → ℕ → TicCmd
+held_at node player tic = get_or (node.held player) tic blank
+
+-- the world after the first `tic` of these rows
+unfoldable pub world_after : {S : Type 0} → Rules S → Settings → List (List (Option Move)) → ℕ → S
+world_after rules settings rows tic = fold rules.physics.step (opening rules settings) (take tic rows)
+
+-- a node's own world before a tic, once it has settings
+abbrev pub own_world : {S : Type 0} → Rules S → Node → ℕ → Option S
+own_world rules node tic = option_map (λ settings. world_after rules settings node.rows tic) node.settings
+
+-- the consistency mark for a tic by a node's own world: the player's mark before the tic twelve back, and 0 below tic 12
+abbrev pub own_mark : {S : Type 0} → Rules S → Node → ℕ → ℕ → ℤ
+own_mark rules node player tic =
+    if nat_lt tic 12 then pos 0 else mark_in rules.physics (own_world rules node (tic - 12)) player
+
+-- the lowest number below the bound that passes, if one does
+unfoldable pub lowest : ℕ → (ℕ → Bool) → Option ℕ
+lowest zero test = None
+lowest (suc bound) test = option_or (lowest bound test) (if test bound then Some bound else None)

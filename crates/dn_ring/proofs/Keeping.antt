@@ -1,0 +1,46 @@
+-- What a ring keeps of a whole list of commands.
+use Rattle.std.proofs.Common.{◌≡◌, ◌≤◌, ◌+◌, ◌-◌, ℕ, zero, suc, List, [], ◌∷◌, ◌++◌, length, drop, None, inl, inr, true, refl, ap, sym, ◌∙◌, arith}
+use Rattle.std.specs.Prelude.{slice_get, nat_le}
+use Rattle.std.proofs.lemmas.List.{drop-append-le, drop-drop, length-append, length-drop}
+use Rattle.std.proofs.lemmas.Bool.{cases_lt, lt-ltb, le-ltb, le-leb}
+use Rattle.dn_tic.specs.declared.command.TicCmd.{TicCmd}
+use Rattle.dn_ring.specs.Ring.{put, get, ring_of, last_twelve}
+
+-- one more command
+pub put-ring_of : (cs : List TicCmd) (c : TicCmd) → put (ring_of cs) c ≡ ring_of (cs ++ c ∷ [])
+put-ring_of cs c =
+    let n : ℕ = length cs - 12 in
+    let one = length-append cs (c ∷ []) in
+    let kept = length-append (drop n cs) (c ∷ []) in
+    let rest = length-drop n cs in
+    let count : length cs + 1 ≡ length (cs ++ c ∷ []) = omega arith in
+    let joined : drop n cs ++ c ∷ [] ≡ drop n (cs ++ c ∷ []) = sym (drop-append-le n cs (c ∷ []) (omega arith)) in
+    let place : n + (length (drop n cs ++ c ∷ []) - 12) ≡ length (cs ++ c ∷ []) - 12 = omega arith in
+    let last : drop (length (drop n cs ++ c ∷ []) - 12) (drop n cs ++ c ∷ []) ≡ drop (length (cs ++ c ∷ []) - 12) (cs ++ c ∷ []) =
+    ap (drop (length (drop n cs ++ c ∷ []) - 12)) joined ∙ drop-drop _ n (cs ++ c ∷ []) ∙ ap (λ (k : ℕ). drop k (cs ++ c ∷ [])) place in
+    λ i. record { count = count i; last = last i }
+
+-- places of a list from one on, and past its end
+pub slice_get-drop : {X : Type 0} (k j : ℕ) (xs : List X) → slice_get (drop k xs) j ≡ slice_get xs (k + j)
+slice_get-drop zero j xs = let e : 0 + j ≡ j = omega arith in rw e refl
+slice_get-drop (suc k) j [] = refl
+slice_get-drop (suc k) j (x ∷ xs) = let e : suc k + j ≡ suc (k + j) = omega arith in rw e (slice_get-drop k j xs)
+
+pub slice_get-past : {X : Type 0} (xs : List X) (j : ℕ) → length xs ≤ j → slice_get xs j ≡ None
+slice_get-past [] j h = refl
+slice_get-past (x ∷ xs) zero h = absurd (omega arith)
+slice_get-past (x ∷ xs) (suc j) h = slice_get-past xs j (omega arith)
+
+-- what a ring gives of the last twelve is what is held
+pub get-ring_of : (cs : List TicCmd) (g : ℕ) → length cs ≤ g + 12 → get (ring_of cs) g ≡ slice_get cs g
+get-ring_of cs g h =
+    elim (cases_lt g (length cs)) [
+      | inl below ↦
+          let first = lt-ltb g (length cs) below in
+          let second : nat_le (length cs - g) 12 ≡ true = le-leb (length cs - g) 12 (omega arith) in
+          let place : length cs - 12 + (length (last_twelve cs) - (length cs - g)) ≡ g = omega (arith, length-drop (length cs - 12) cs) in
+          rw (first, second) (slice_get-drop (length cs - 12) (length (last_twelve cs) - (length cs - g)) cs ∙ ap (slice_get cs) place)
+      | inr past ↦
+          let first = le-ltb g (length cs) past in
+          rw first (sym (slice_get-past cs g past))
+    ]

@@ -1,0 +1,8 @@
+use Rattle.dn_ring.proofs.Keeping.{put-ring_of, get-ring_of}
+use Rattle.dn_ring.proofs.laws.rings_keep_the_last.Goals as goal
+
+pub returns-clause-more : goal.returns-clause-more
+returns-clause-more c = put-ring_of
+
+pub returns-clause-kept : goal.returns-clause-kept
+returns-clause-kept c = get-ring_of

@@ -1,0 +1,11 @@
+//! The last twelve commands of a player.
+#![tactic(auto)]
+
+mod laws;
+mod ring;
+
+pub use laws::rings_keep_the_last;
+pub use ring::Ring;
+
+#[cfg(test)]
+mod tests;
