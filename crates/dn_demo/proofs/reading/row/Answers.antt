@@ -1,0 +1,7 @@
+use Rattle.std.proofs.Common.{rules}
+use Rattle.dn_demo.proofs.Places.{four_moves}
+use Rattle.dn_demo.proofs.reading.row.Goals as goal
+
+pub returns : goal.returns
+returns c =
+    four_moves _ _ _ _ _ _ _ _ _ _ _ (search rules) c.seated-a.ensures.step c.seated-b.ensures.step c.seated-c.ensures.step c.seated-d.ensures.step

@@ -1,0 +1,5 @@
+pub mod Rows
+pub mod Text
+pub mod Places
+pub mod Recorded
+pub mod Reading

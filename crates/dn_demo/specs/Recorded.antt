@@ -1,0 +1,37 @@
+-- What a recorder has written.
+use Rattle.std.specs.Prelude.{◌≡◌, ◌≤◌, ℕ, Bool, true, false, List, [], ◌∷◌, ◌++◌, Option, Result, Ok, Err}
+use Rattle.dn_tic.specs.declared.command.Move.{Move}
+use Rattle.dn_setup.specs.declared.start.Start.{Start}
+use Rattle.dn_demo.specs.Text.{demo_text}
+use Rattle.dn_demo.specs.declared.recorder.Stage.{Stage}
+use Rattle.dn_demo.specs.declared.recorder.Stage.TheVariants.{Blank}
+use Rattle.dn_demo.specs.declared.recorder.RecorderFault.{RecorderFault}
+use Rattle.dn_demo.specs.declared.recorder.RecorderFault.TheVariants.{Limit, Memory}
+
+-- a recorder: how many bytes a demo may have, how far it has come, and its bytes
+pub record Recorded : Type 0 where
+  pub limit : ℕ
+  pub stage : Stage
+  pub bytes : List ℕ
+
+-- a demo may have 1,024 to 16,777,216 bytes
+abbrev pub IsLimit : ℕ → Type 0
+IsLimit limit = (1024 ≤ limit) × (limit ≤ 16777216)
+
+-- what a recorder of this limit is made as: with nothing written, or refused for the limit, or for want of memory
+abbrev pub IsMadeAs : ℕ → Result Recorded RecorderFault → Type 0
+IsMadeAs limit (Ok recorder) = IsLimit limit × (recorder ≡ record { limit = limit; stage = Blank; bytes = [] })
+IsMadeAs limit (Err Limit) = ¬ IsLimit limit
+IsMadeAs limit (Err Memory) = IsLimit limit
+
+-- the text of an open demo, with one more row
+abbrev pub AddsRow : List ℕ → List ℕ → List (Option Move) → Type 0
+AddsRow old new row =
+    (start : Start) (view : ℕ) (present : List Bool) (rows : List (List (Option Move)))
+    → old ≡ demo_text start view present rows false → new ≡ demo_text start view present (rows ++ row ∷ []) false
+
+-- the text of an open demo, closed
+abbrev pub Closes : List ℕ → List ℕ → Type 0
+Closes old new =
+    (start : Start) (view : ℕ) (present : List Bool) (rows : List (List (Option Move)))
+    → old ≡ demo_text start view present rows false → new ≡ demo_text start view present rows true

@@ -1,0 +1,27 @@
+-- The rows of a demo: for each tic a seat for each of four players.
+use Rattle.std.specs.Prelude.{◌≡◌, ◌≢◌, ◌<◌, ℕ, zero, suc, pos, negsuc, int_rem, Bool, true, false, List, [], ◌∷◌, map, All, Option, is_some, IfSome, FitsSigned}
+use Rattle.std.specs.Int.{w8, w16}
+use Rattle.dn_tic.specs.declared.command.Move.{Move}
+
+-- the fields lie in the ranges of their types
+pub record IsMove (m : Move) : Type 0 where
+  pub forward : FitsSigned w8 m.forward
+  pub side : FitsSigned w8 m.side
+  pub turn : FitsSigned w16 m.turn
+  pub buttons : m.buttons < 256
+
+-- a move that a demo can tell: -128 forward would read as the marker, and one byte tells only whole multiples of 256
+pub record IsRecordable (m : Move) : Type 0 where
+  pub no_marker : m.forward ≢ negsuc 127
+  pub whole_turn : int_rem m.turn (pos 256) ≡ pos 0
+
+-- a row of these players: a recordable move for each who is present, and none for another
+pub record IsRow (present : List Bool) (row : List (Option Move)) : Type 0 where
+  pub seats : map is_some row ≡ present
+  pub moves : All (λ step. IfSome step IsRecordable) row
+
+-- how many players are present
+abbrev pub player_count : List Bool → ℕ
+player_count [] = zero
+player_count (true ∷ seats) = suc (player_count seats)
+player_count (false ∷ seats) = player_count seats

@@ -1,0 +1,133 @@
+//! A demo that was read.
+
+ghost use Rattle.std.specs.Prelude.{◌≡◌, length, slice_get, Result};
+ghost use Rattle.dn_demo.specs.declared.demo.DemoFault.{DemoFault};
+
+use crate::layout::{COMMAND, HEADER, VERSION};
+use crate::reading;
+use dn_setup::Start;
+use dn_tic::Move;
+use std::alloc::Global;
+use std::marker::Model;
+use thiserror::Error;
+
+/// Why bytes are no demo.
+#[derive(Clone, Copy, Debug, PartialEq, Eq, Error)]
+pub enum DemoFault {
+    #[error("short")]
+    Short,
+    #[error("version")]
+    Version,
+    #[error("no players")]
+    NoPlayers,
+    #[error("no marker")]
+    NoMarker,
+    #[error("out of memory")]
+    Memory,
+}
+
+/// A demo that was read: the bytes before its marker, and the number of those after it.
+#[derive(Debug, Drop)]
+pub struct Demo {
+    pub(crate) bytes: Vec<u8>,
+    after: usize,
+}
+
+impl Model for Demo {
+    ghost use Rattle.std.specs.Prelude.{◌<◌, ◌≤◌, length};
+    ghost use Rattle.dn_demo.specs.Rows.{player_count};
+    ghost use Rattle.dn_demo.specs.Text.{header_size};
+    ghost use Rattle.dn_demo.specs.Places.{seats_in, commands_in};
+    ghost use Rattle.dn_demo.specs.Reading.{Recording, recording};
+
+    ghost Value = { Recording };
+
+    ghost view = { λ d. recording d.bytes.items (commands_in d.bytes.items) d.after };
+
+    ghost invariant = { λ d. (header_size ≤ length d.bytes.items) × (0 < player_count (seats_in d.bytes.items)) };
+}
+
+impl Demo {
+    ghost use Rattle.dn_demo.specs.Reading.{Recording, IsReadAs, IsSameButMemory};
+
+    /// Reads a demo, up to its marker.
+    pub fn read(alloc: Global, bytes: &[u8]) -> Result<Demo, DemoFault>
+        ensures reads { IsReadAs bytes.now result }
+        ensures only { (r : Result Recording DemoFault) → IsReadAs bytes.now r → IsSameButMemory result r }
+    {
+        if bytes.len() < HEADER {
+            return Err(DemoFault::Short);
+        }
+        if bytes[0] != VERSION {
+            return Err(DemoFault::Version);
+        }
+        if reading::players(reading::seats(bytes)) == 0 {
+            return Err(DemoFault::NoPlayers);
+        }
+        let Some(commands) = reading::commands_before_marker(bytes) else {
+            return Err(DemoFault::NoMarker);
+        };
+        let front = &bytes[..HEADER + COMMAND * commands];
+        let after = bytes.len() - front.len() - 1;
+        match Vec::from_slice(alloc, front) {
+            Ok(bytes) => Ok(Demo { bytes, after }),
+            Err(_) => Err(DemoFault::Memory),
+        }
+    }
+
+    /// What the game starts from, as the header has it.
+    pub fn start(&self) -> Start
+        ensures { result ≡ self.now.start }
+    {
+        reading::start(&self.bytes)
+    }
+
+    /// Whose view the demo shows.
+    pub fn view(&self) -> u8
+        ensures { result ≡ self.now.view }
+    {
+        self.bytes[8]
+    }
+
+    /// Which players are present.
+    pub fn present(&self) -> [bool; 4]
+        ensures { result ≡ self.now.present }
+    {
+        reading::seats(&self.bytes)
+    }
+
+    /// How many whole tics the demo has.
+    pub fn tics(&self) -> usize
+        ensures { result ≡ length self.now.rows }
+    {
+        let players = reading::players(self.present());
+        reading::commands(&self.bytes) / players
+    }
+
+    /// The moves of a tic.
+    pub fn row(&self, tic: usize) -> Option<[Option<Move>; 4]>
+        ensures { result ≡ slice_get self.now.rows tic }
+    {
+        if tic < self.tics() {
+            let present = self.present();
+            Some(reading::row(&self.bytes, present, reading::players(present) * tic))
+        } else {
+            None
+        }
+    }
+
+    /// How many commands stand between the last whole tic and the marker.
+    pub fn cut(&self) -> usize
+        ensures { result ≡ self.now.cut }
+    {
+        let players = reading::players(self.present());
+        reading::commands(&self.bytes) % players
+    }
+
+    /// How many bytes stand after the marker.
+    pub fn after(&self) -> usize
+        ensures { result ≡ self.now.after }
+    {
+        self.after
+    }
+}

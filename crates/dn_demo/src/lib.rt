@@ -1,0 +1,13 @@
+//! Demos: rows of moves that are written as bytes, and read back and played.
+#![tactic(auto)]
+
+mod demo;
+mod layout;
+mod playing;
+mod reading;
+mod recorder;
+mod writing;
+
+pub use demo::{Demo, DemoFault};
+pub use playing::play;
+pub use recorder::{Recorder, RecorderFault};

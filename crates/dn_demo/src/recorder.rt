@@ -1,0 +1,139 @@
+//! A demo that is written tic by tic.
+
+ghost use Rattle.std.specs.Prelude.{◌≡◌, ◌<◌, ◌+◌, ◌*◌, true, false, [], ◌∷◌, ◌++◌, length, nat_le};
+ghost use Rattle.dn_demo.specs.Rows.{IsRow, player_count};
+ghost use Rattle.dn_demo.specs.Text.{row_bytes, demo_text, command_size, marker};
+ghost use Rattle.dn_demo.specs.declared.recorder.Stage.TheVariants.{Blank, Open, Closed};
+
+use crate::layout::MARKER;
+use crate::writing::{header_bytes, row_text};
+use dn_setup::Start;
+use dn_tic::Move;
+use std::alloc::Global;
+use std::marker::Model;
+use thiserror::Error;
+
+/// Why there is no recorder.
+#[derive(Clone, Copy, Debug, PartialEq, Eq, Error)]
+pub enum RecorderFault {
+    #[error("limit")]
+    Limit,
+    #[error("out of memory")]
+    Memory,
+}
+
+/// How far a demo has come.
+#[derive(Clone, Copy, Debug, PartialEq, Eq)]
+pub enum Stage {
+    /// Nothing is written.
+    Blank,
+    /// The header is written, and rows may follow.
+    Open,
+    /// The marker is written.
+    Closed,
+}
+
+/// A demo that is being written: a header, a row for each tic, and the marker that ends it.
+#[derive(Debug, Drop)]
+pub struct Recorder {
+    limit: u32,
+    stage: Stage,
+    bytes: Vec<u8>,
+}
+
+impl Model for Recorder {
+    ghost use Rattle.std.specs.Prelude.{◌≡◌, ◌≤◌, ◌+◌, [], vec_len};
+    ghost use Rattle.std.specs.Vec.{vec_capacity};
+    ghost use Rattle.dn_demo.specs.Text.{header_size};
+    ghost use Rattle.dn_demo.specs.Recorded.{Recorded, IsLimit};
+    ghost use Rattle.dn_demo.specs.declared.recorder.Stage.TheVariants.{Blank, Open};
+
+    ghost Value = { Recorded };
+
+    ghost view = { λ r. record { limit = r.limit; stage = r.stage; bytes = r.bytes.items } };
+
+    ghost invariant = { λ r.
+        IsLimit r.limit
+        × (r.limit ≤ vec_capacity r.bytes)
+        × (r.stage ≡ Blank → r.bytes.items ≡ [])
+        × (r.stage ≡ Open → (header_size ≤ vec_len r.bytes) × (vec_len r.bytes + 1 ≤ r.limit)) };
+}
+
+impl Recorder {
+    ghost use Rattle.dn_demo.specs.Places.{seats_in};
+    ghost use Rattle.dn_demo.specs.Recorded.{IsMadeAs, AddsRow, Closes};
+
+    /// A recorder with nothing written. Its room is `limit` bytes, and all of it is taken here.
+    pub fn new(alloc: Global, limit: u32) -> Result<Recorder, RecorderFault>
+        ensures { IsMadeAs limit result }
+    {
+        if !(1024..=16_777_216).contains(&limit) {
+            return Err(RecorderFault::Limit);
+        }
+        let Ok(bytes) = Vec::with_capacity(alloc, limit as usize) else {
+            return Err(RecorderFault::Memory);
+        };
+        Ok(Recorder {
+            limit,
+            stage: Stage::Blank,
+            bytes,
+        })
+    }
+
+    /// Writes the header: what the game starts from, whose view the demo shows, and which players
+    /// are present.
+    pub fn head(&mut self, start: &Start, view: u8, present: [bool; 4])
+        requires blank { self.old.stage ≡ Blank }
+        requires somebody { 0 < player_count present }
+        ensures written { self.new
+            ≡ record { limit = self.old.limit; stage = Open; bytes = demo_text start.now view present [] false } }
+        ensures seats { seats_in self.new.bytes ≡ present }
+    {
+        self.stage = Stage::Open;
+        let done = self
+            .bytes
+            .extend_from_slice(&header_bytes(start, view, present));
+        prove!(done.is_ok());
+        let _ = done;
+    }
+
+    /// Writes the moves of a tic, where these and the marker fit into the limit.
+    pub fn row(&mut self, moves: &[Option<Move>; 4]) -> bool
+        requires open { self.old.stage ≡ Open }
+        requires row { IsRow (seats_in self.old.bytes) moves.now }
+        ensures fits { result ≡ nat_le (length self.old.bytes + length (row_bytes moves.now) + 1) self.old.limit }
+        ensures size { length (row_bytes moves.now) ≡ command_size * player_count (seats_in self.old.bytes) }
+        ensures written { result ≡ true → self.new ≡ record self.old { bytes = self.old.bytes ++ row_bytes moves.now } }
+        ensures text { result ≡ true → AddsRow self.old.bytes self.new.bytes moves.now }
+        ensures seats { seats_in self.new.bytes ≡ seats_in self.old.bytes }
+        ensures kept { result ≡ false → self.new ≡ self.old }
+    {
+        let text = row_text(moves);
+        if self.bytes.len() + text.len() + 1 > self.limit as usize {
+            return false;
+        }
+        let done = self.bytes.extend_from_slice(text.as_slice());
+        prove!(done.is_ok());
+        let _ = done;
+        true
+    }
+
+    /// Writes the marker.
+    pub fn close(&mut self)
+        requires { self.old.stage ≡ Open }
+        ensures written { self.new ≡ record self.old { stage = Closed; bytes = self.old.bytes ++ marker ∷ [] } }
+        ensures text { Closes self.old.bytes self.new.bytes }
+    {
+        self.stage = Stage::Closed;
+        let done = self.bytes.push(MARKER);
+        prove!(done.is_ok());
+        let _ = done;
+    }
+
+    /// The text so far.
+    pub fn bytes(&self) -> &[u8]
+        ensures { result.now ≡ self.now.bytes }
+    {
+        &self.bytes
+    }
+}
