@@ -57,17 +57,24 @@ pub(crate) fn commands(bytes: &[u8]) -> usize
 
 /// How many commands stand before the marker.
 pub(crate) fn commands_before_marker(bytes: &[u8]) -> Option<usize>
+    requires { header_size ≤ length bytes.now }
     ensures found { IfSome result (EndsBehind bytes.now) }
     ensures none { IfNone result ((command : ℕ) → slice_get bytes.now (place command) ≢ Some marker) }
 {
-    let mut command = 0;
-    while HEADER + COMMAND * command < bytes.len() {
-        if bytes[HEADER + COMMAND * command] == MARKER {
-            return Some(command);
+    let mut rest = &bytes[HEADER..];
+    let mut commands = 0;
+    while let Some((command, after)) = rest.split_first_chunk::<COMMAND>() {
+        if command[0] == MARKER {
+            return Some(commands);
         }
-        command += 1;
+        rest = after;
+        commands += 1;
     }
-    None
+    if !rest.is_empty() && rest[0] == MARKER {
+        Some(commands)
+    } else {
+        None
+    }
 }
 
 /// The move that a command tells.
