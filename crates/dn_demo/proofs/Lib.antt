@@ -1,4 +1,7 @@
 pub mod Text
-pub mod Places
 pub mod Markers
+pub mod Fronts
 pub mod OneReading
+pub mod Kept
+pub mod Behind
+pub mod ReadBack

@@ -47,5 +47,16 @@ nowhere bytes rest k e short none not command here =
           let some : 0 < length rest = omega arith in
           let place_is : slice_get bytes (place k) ≡ Some marker = ap (λ i. slice_get bytes (place i)) (sym at) ∙ here in
           not_here bytes rest k e some (not some) place_is
-      | inr other ↦ elim other [ | inl below ↦ none command below here | inr above ↦ absurd (omega arith) ]
+      | inr other ↦ elim other [ inl below ↦ none command below here | inr above ↦ absurd (omega arith) ]
+    ]
+
+-- the marker stands behind one number of commands
+pub one_end : (bytes : List ℕ) (j k : ℕ) → EndsBehind bytes j → EndsBehind bytes k → j ≡ k
+one_end bytes j k p q =
+    elim (cases_order j k) [
+      | inl same ↦ same
+      | inr other ↦ elim other [
+        | inl below ↦ absurd (q.first j below p.marked)
+        | inr above ↦ absurd (p.first k above q.marked)
+      ]
     ]

@@ -9,7 +9,8 @@ use Rattle.dn_demo.specs.Places.{seats_in, place, commands_in, row_in, EndsBehin
 use Rattle.dn_demo.specs.Reading.{Recording, recording, HasHeader, IsReadAs, IsSameButMemory}
 use Rattle.dn_demo.specs.declared.demo.DemoFault.{DemoFault}
 use Rattle.dn_demo.specs.declared.demo.DemoFault.TheVariants.{Short, Version, NoPlayers, NoMarker, Memory}
-use Rattle.dn_demo.proofs.Places.{start_in-take, seats_in-take, row_in-take, map-agree, one_end}
+use Rattle.dn_demo.proofs.Fronts.{start_in-take, seats_in-take, row_in-take, map-agree}
+use Rattle.dn_demo.proofs.Markers.{one_end}
 
 -- the bytes before the marker tell the whole demo
 pub recording-take : (k : ℕ) (bytes : List ℕ) (after : ℕ) → recording (take (place k) bytes) k after ≡ recording bytes k after

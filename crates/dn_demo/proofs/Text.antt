@@ -51,7 +51,8 @@ is_set-bit true = refl
 is_set-bit false = refl
 
 -- the flags of a header are those of its players
-pub header-seats : (start : Start) (view : ℕ) (present : List Bool) → length present ≡ 4 → seats_in (header start view present) ≡ present
-header-seats start view (a ∷ b ∷ c ∷ d ∷ []) four =
+pub header-seats : (start : Start) (view : ℕ) (present : List Bool) (more : List ℕ) → length present ≡ 4
+    → seats_in (header start view present ++ more) ≡ present
+header-seats start view (a ∷ b ∷ c ∷ d ∷ []) more four =
     λ i. is_set-bit a i ∷ is_set-bit b i ∷ is_set-bit c i ∷ is_set-bit d i ∷ []
-header-seats start view _ four = absurd (omega arith)
+header-seats start view _ more four = absurd (omega arith)

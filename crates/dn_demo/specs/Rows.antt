@@ -1,5 +1,5 @@
 -- The rows of a demo: for each tic a seat for each of four players.
-use Rattle.std.specs.Prelude.{◌≡◌, ◌≢◌, ◌<◌, ℕ, zero, suc, pos, negsuc, int_rem, Bool, true, false, List, [], ◌∷◌, map, All, Option, is_some, IfSome, FitsSigned}
+use Rattle.std.specs.Prelude.{◌≡◌, ◌≢◌, ◌<◌, ℕ, zero, suc, pos, negsuc, int_rem, Bool, true, false, List, [], ◌∷◌, length, map, All, Option, is_some, IfSome, FitsSigned}
 use Rattle.std.specs.Int.{w8, w16}
 use Rattle.dn_tic.specs.declared.command.Move.{Move}
 
@@ -25,3 +25,10 @@ abbrev pub player_count : List Bool → ℕ
 player_count [] = zero
 player_count (true ∷ seats) = suc (player_count seats)
 player_count (false ∷ seats) = player_count seats
+
+-- rows that can be written for these players, of whom somebody is present
+pub record AreWritable (present : List Bool) (rows : List (List (Option Move))) : Type 0 where
+  pub four : length present ≡ 4
+  pub somebody : 0 < player_count present
+  pub recordable : All (IsRow present) rows
+  pub moves : All (All (λ step. IfSome step IsMove)) rows

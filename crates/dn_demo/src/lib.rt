@@ -2,6 +2,7 @@
 #![tactic(auto)]
 
 mod demo;
+mod laws;
 mod layout;
 mod playing;
 mod reading;
@@ -9,5 +10,6 @@ mod recorder;
 mod writing;
 
 pub use demo::{Demo, DemoFault};
+pub use laws::written_rows_are_read;
 pub use playing::play;
 pub use recorder::{Recorder, RecorderFault};

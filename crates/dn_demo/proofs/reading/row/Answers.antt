@@ -1,5 +1,5 @@
 use Rattle.std.proofs.Common.{rules}
-use Rattle.dn_demo.proofs.Places.{four_moves}
+use Rattle.dn_demo.proofs.Kept.{four_moves}
 use Rattle.dn_demo.proofs.reading.row.Goals as goal
 
 pub returns : goal.returns

@@ -2,7 +2,7 @@ use Rattle.std.proofs.Common.{◌≡◌, ◌/◌, ◌∙◌, sym, ap, rules}
 use Rattle.dn_demo.specs.Rows.{player_count}
 use Rattle.dn_demo.specs.Places.{commands_in, seats_in}
 use Rattle.dn_demo.specs.Reading.{Recording}
-use Rattle.dn_demo.proofs.Places.{length-rows}
+use Rattle.dn_demo.proofs.Kept.{length-rows}
 use Rattle.dn_demo.proofs.demo.Demo.tics.Goals as goal
 
 pub returns : goal.returns

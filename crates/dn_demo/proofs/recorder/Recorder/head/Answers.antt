@@ -1,4 +1,4 @@
-use Rattle.std.proofs.Common.{◌≡◌, ◌∙◌, length, sym, ap, rules}
+use Rattle.std.proofs.Common.{◌≡◌, ◌∙◌, [], length, append-nil, sym, ap, rules}
 use Rattle.dn_demo.specs.Text.{header}
 use Rattle.dn_demo.specs.Places.{seats_in}
 use Rattle.dn_demo.specs.declared.recorder.Stage.TheVariants.{Open}
@@ -16,4 +16,5 @@ pub returns-clause-seats : goal.returns-clause-seats
 returns-clause-seats c =
     let text : c.extend_from_slice-done.new.self.items ≡ header c.args.start.now c.args.view c.args.present = search rules in
     let four : length c.args.present ≡ 4 = search rules in
-    ap seats_in text ∙ header-seats c.args.start.now c.args.view c.args.present four
+    ap seats_in (text ∙ sym (append-nil (header c.args.start.now c.args.view c.args.present)))
+    ∙ header-seats c.args.start.now c.args.view c.args.present [] four
