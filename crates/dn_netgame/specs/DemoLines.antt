@@ -1,0 +1,88 @@
+-- The lines that a demo is shown by.
+use Rattle.std.specs.Prelude.{◌≡◌, ◌≤◌, ◌<◌, ◌⊎◌, ℕ, ℤ, pos, ◌+◌, Bool, true, false, List, [], ◌∷◌, ◌++◌, length, fold, codes, Option, Some, None, Result, Ok, Err}
+use Rattle.std.specs.List.{flat_map}
+use Rattle.dn_world.specs.declared.spot.Spot.{Spot}
+use Rattle.dn_world.specs.Plane.{Spots, spot_at, mark_of, walking}
+use Rattle.dn_demo.specs.Text.{version}
+use Rattle.dn_demo.specs.Reading.{Recording, IsReadAs}
+use Rattle.dn_demo.specs.declared.demo.DemoFault.{DemoFault}
+use Rattle.dn_demo.specs.declared.demo.DemoFault.TheVariants.{Short, Version, NoPlayers, NoMarker, Memory}
+use Rattle.dn_netgame.specs.Fields.{labelled}
+
+-- the numbers of the players who are present, from this player on
+abbrev pub players_present : ℕ → List Bool → List (List ℕ × ℤ)
+players_present player [] = []
+players_present player (true ∷ seats) = (codes " ", pos player) ∷ players_present (player + 1) seats
+players_present player (false ∷ seats) = players_present (player + 1) seats
+
+-- what a demo's header has, but for its players
+unfoldable pub header_fields : Recording → List ℕ
+header_fields d = labelled (
+    (codes "version ", pos version)
+    ∷ (codes " skill ", pos d.start.skill)
+    ∷ (codes " episode ", pos d.start.episode)
+    ∷ (codes " map ", pos d.start.map)
+    ∷ (codes " deathmatch ", pos d.start.deathmatch)
+    ∷ (codes " respawn ", pos d.start.respawn)
+    ∷ (codes " fast ", pos d.start.fast)
+    ∷ (codes " nomonsters ", pos d.start.no_monsters)
+    ∷ (codes " view ", pos d.view)
+    ∷ [])
+
+-- the line of a demo's header
+abbrev pub header_line : Recording → List ℕ
+header_line d = header_fields d ++ (codes " players" ++ (labelled (players_present 0 d.present) ++ codes "\n"))
+
+-- the line of how much a demo has
+unfoldable pub size_line : Recording → List ℕ
+size_line d = labelled (
+    (codes "tics ", pos (length d.rows))
+    ∷ (codes " cut ", pos d.cut)
+    ∷ (codes " after ", pos d.after)
+    ∷ []) ++ codes "\n"
+
+-- the line of a player
+unfoldable pub player_line : ℕ → (x y : ℤ) (angle : ℕ) (mark : ℤ) → List ℕ
+player_line player x y angle mark = labelled (
+    (codes "player ", pos player)
+    ∷ (codes " x ", x)
+    ∷ (codes " y ", y)
+    ∷ (codes " angle ", pos angle)
+    ∷ (codes " mark ", mark)
+    ∷ []) ++ codes "\n"
+
+-- the line of who is there, and nothing for another
+abbrev pub seat_line : ℕ → Option Spot → List ℕ
+seat_line player None = []
+seat_line player (Some s) = player_line player s.x s.y s.angle (mark_of (Some s))
+
+-- the lines of the four players
+abbrev pub player_lines : Spots → List ℕ
+player_lines spots = flat_map (λ player. seat_line player (spot_at spots player)) (0 ∷ 1 ∷ 2 ∷ 3 ∷ [])
+
+-- where the players are, once the whole demo was played
+abbrev pub spots_after : Recording → Spots
+spots_after d = fold walking.step (walking.begin d.start d.present) d.rows
+
+-- the lines of a demo
+abbrev pub demo_lines : Recording → List ℕ
+demo_lines d = header_line d ++ (size_line d ++ player_lines (spots_after d))
+
+-- the lines and the exit status for what a demo is read as; there are none for want of memory
+abbrev pub IsReadingShown : Result Recording DemoFault → List ℕ → ℕ → Type 0
+IsReadingShown (Ok d) lines status = (lines ≡ demo_lines d) × (status ≡ 0)
+IsReadingShown (Err Short) lines status = (lines ≡ codes "demo: short\n") × (status ≡ 1)
+IsReadingShown (Err Version) lines status = (lines ≡ codes "demo: version\n") × (status ≡ 1)
+IsReadingShown (Err NoPlayers) lines status = (lines ≡ codes "demo: no players\n") × (status ≡ 1)
+IsReadingShown (Err NoMarker) lines status = (lines ≡ codes "demo: no marker\n") × (status ≡ 1)
+IsReadingShown (Err Memory) lines status = ⊥
+
+-- a demo has at most so many bytes
+abbrev pub demo_limit : ℕ
+demo_limit = 33554432
+
+-- the lines and the exit status are those of what the bytes are read as, if they are not too many
+abbrev pub IsDemo : List ℕ → List ℕ → ℕ → Type 0
+IsDemo bytes lines status =
+    ((demo_limit < length bytes) × (lines ≡ codes "demo: too long\n") × (status ≡ 1))
+    ⊎ ((length bytes ≤ demo_limit) × ((read : Result Recording DemoFault) × IsReadAs bytes read × IsReadingShown read lines status))

@@ -1,0 +1,186 @@
+//! Showing a demo: what it has and where its players end, or why it is none.
+
+ghost use Rattle.std.specs.Prelude.{◌≡◌, ◌≢◌, ◌+◌, ◌++◌, codes, Err, IfOk, IfErr, OnOk};
+ghost use Rattle.std.specs.String.{string_bytes};
+ghost use Rattle.dn_world.specs.Plane.{spot_at};
+ghost use Rattle.dn_netgame.specs.DemoLines.{header_fields, size_line, player_line, seat_line, players_present, demo_lines, demo_limit, IsDemo};
+ghost use Rattle.dn_netgame.specs.Fields.{labelled};
+ghost use Rattle.dn_netgame.specs.Shown.{Shows, ShowsFront};
+ghost use Rattle.dn_netgame.specs.Transfer.{TakesFewer, TakesAtMost};
+ghost use Rattle.dn_netgame.specs.declared.fault.RunFault.{RunFault};
+
+use crate::fault::RunFault;
+use crate::fields::{push_fields, push_line};
+use crate::transfer::{gather, put};
+use dn_demo::{Demo, DemoFault, play};
+use dn_world::{Walk, World};
+use std::alloc::{AllocError, Global};
+use std::io::{Read, Write};
+
+/// A demo has at most so many bytes.
+const DEMO_LIMIT: usize = 33_554_432;
+
+/// The version of the demos that are read.
+const VERSION: i128 = 109;
+
+/// The numbers of the players who are present.
+fn push_present(text: &mut String, present: [bool; 4]) -> Result<(), AllocError>
+    ensures { OnOk result (string_bytes text.new
+        ≡ string_bytes text.old ++ labelled (players_present 0 present)) }
+{
+    for (player, taken) in present.iter().enumerate() {
+        if *taken {
+            push_fields(text, &[(" ", player as i128)])?;
+        }
+    }
+    Ok(())
+}
+
+/// The end of the first line, which names the players who are present.
+fn push_players(text: &mut String, present: [bool; 4]) -> Result<(), AllocError>
+    ensures { OnOk result (string_bytes text.new
+        ≡ string_bytes text.old ++ (codes " players" ++ (labelled (players_present 0 present) ++ codes "\n"))) }
+{
+    text.push_str(" players")?;
+    push_present(text, present)?;
+    text.push_str("\n")
+}
+
+#[tactic(auto, unfolding(crate::specs::DemoLines::header_fields))]
+fn push_header(text: &mut String, demo: &Demo) -> Result<(), AllocError>
+    ensures { OnOk result (string_bytes text.new ≡ string_bytes text.old ++ header_fields demo.now) }
+{
+    let start = demo.start();
+    let fields = [
+        ("version ", VERSION),
+        (" skill ", start.skill as i128),
+        (" episode ", start.episode as i128),
+        (" map ", start.map as i128),
+        (" deathmatch ", start.deathmatch as i128),
+        (" respawn ", start.respawn as i128),
+        (" fast ", start.fast as i128),
+        (" nomonsters ", start.no_monsters as i128),
+        (" view ", demo.view() as i128),
+    ];
+    push_fields(text, &fields)
+}
+
+#[tactic(auto, unfolding(crate::specs::DemoLines::size_line))]
+fn push_size(text: &mut String, demo: &Demo) -> Result<(), AllocError>
+    ensures { OnOk result (string_bytes text.new ≡ string_bytes text.old ++ size_line demo.now) }
+{
+    let fields = [
+        ("tics ", demo.tics() as i128),
+        (" cut ", demo.cut() as i128),
+        (" after ", demo.after() as i128),
+    ];
+    push_line(text, &fields)
+}
+
+#[tactic(auto, unfolding(crate::specs::DemoLines::player_line))]
+fn push_player(
+    text: &mut String,
+    player: u8,
+    x: i32,
+    y: i32,
+    angle: u16,
+    mark: i16,
+) -> Result<(), AllocError>
+    ensures { OnOk result (string_bytes text.new
+        ≡ string_bytes text.old ++ player_line player x y angle mark) }
+{
+    let fields = [
+        ("player ", player as i128),
+        (" x ", x as i128),
+        (" y ", y as i128),
+        (" angle ", angle as i128),
+        (" mark ", mark as i128),
+    ];
+    push_line(text, &fields)
+}
+
+/// The line of who is in the world, and nothing for another.
+#[tactic(auto, using(crate::proofs::Seats::empty_seat, crate::proofs::Seats::taken_seat))]
+fn push_seat(text: &mut String, walk: &Walk, player: u8) -> Result<(), AllocError>
+    ensures { OnOk result (string_bytes text.new
+        ≡ string_bytes text.old ++ seat_line player (spot_at walk.now player)) }
+{
+    let (Some(x), Some(y), Some(angle)) = (walk.x(player), walk.y(player), walk.angle(player))
+    else {
+        return Ok(());
+    };
+    push_player(text, player, x, y, angle, walk.mark(player))
+}
+
+/// The lines of a demo, which is played for them.
+fn text_of_demo(alloc: Global, demo: &Demo) -> Result<String, AllocError>
+    ensures { IfOk result (λ text. string_bytes text ≡ demo_lines demo.now) }
+{
+    let mut walk = Walk::new();
+    play(demo, &mut walk);
+    let mut text = String::new(alloc);
+    push_header(&mut text, demo)?;
+    push_players(&mut text, demo.present())?;
+    push_size(&mut text, demo)?;
+    push_seat(&mut text, &walk, 0)?;
+    push_seat(&mut text, &walk, 1)?;
+    push_seat(&mut text, &walk, 2)?;
+    push_seat(&mut text, &walk, 3)?;
+    Ok(text)
+}
+
+/// The lines of what the bytes are read as, and the exit status.
+fn text_of(alloc: Global, bytes: &[u8]) -> Result<(String, u8), RunFault>
+    ensures shown { IfOk result (λ shown. IsDemo bytes.now (string_bytes shown.0) shown.1) }
+    ensures fault { IfErr result (λ fault. fault ≡ RunFault.Memory) }
+{
+    let refusal = if bytes.len() > DEMO_LIMIT {
+        "demo: too long\n"
+    } else {
+        match Demo::read(alloc, bytes) {
+            Ok(demo) => return Ok((text_of_demo(alloc, &demo)?, 0)),
+            Err(DemoFault::Short) => "demo: short\n",
+            Err(DemoFault::Version) => "demo: version\n",
+            Err(DemoFault::NoPlayers) => "demo: no players\n",
+            Err(DemoFault::NoMarker) => "demo: no marker\n",
+            Err(DemoFault::Memory) => return Err(RunFault::Memory),
+        }
+    };
+    Ok((String::from_str(alloc, refusal)?, 1))
+}
+
+/// Reads a demo of at most 33,554,432 bytes, plays it, and writes its lines. The answer is the exit
+/// status: 0 for a demo, 1 for bytes that are none.
+///
+/// A read that fails is the fault `Read`, a write that fails or takes no bytes is `Write`, and
+/// `Memory` is answered where memory for the bytes or the lines was refused. Each ends the run at
+/// once.
+pub fn run_demo<R: Read, W: Write>(
+    alloc: Global,
+    input: &mut R,
+    output: &mut W,
+) -> Result<u8, RunFault>
+    // All lines of the demo were written, and the status is theirs. A byte more than a demo can have
+    // is taken, so that a longer input is not read as its front.
+    ensures shown { IfOk result (λ status. Shows (demo_limit + 1) IsDemo
+        (R.remaining input.old) (R.remaining input.new)
+        (W.contents output.old) (W.contents output.new) status) }
+
+    // A read fault comes before the last byte is there.
+    ensures read { result ≡ Err RunFault.Read
+        → TakesFewer (demo_limit + 1) (R.remaining input.old) (R.remaining input.new) }
+    // Memory can run out before that, too.
+    ensures memory { result ≡ Err RunFault.Memory
+        → TakesAtMost (demo_limit + 1) (R.remaining input.old) (R.remaining input.new) }
+    // A write fault comes before the last byte of the lines is written.
+    ensures write { result ≡ Err RunFault.Write
+        → ShowsFront (demo_limit + 1) IsDemo (R.remaining input.old) (R.remaining input.new)
+        (W.contents output.old) (W.contents output.new) }
+    // Any other fault leaves the output as it was.
+    ensures unwritten { IfErr result (λ fault. fault ≢ RunFault.Write → output.new ≡ output.old) }
+{
+    let bytes = gather(alloc, input, DEMO_LIMIT + 1)?;
+    let (text, status) = text_of(alloc, &bytes)?;
+    put(output, text.as_bytes())?;
+    Ok(status)
+}
