@@ -12,6 +12,7 @@ ways f s =
     to_z w32 (of_z w32 f) ∷ to_z w32 (of_z w32 s)
     ∷ to_z w32 (of_z w32 (pos 0 -ℤ to_z w32 (of_z w32 f))) ∷ to_z w32 (of_z w32 (pos 0 -ℤ to_z w32 (of_z w32 s))) ∷ []
 
+-- what x grows by is found at the quadrant
 pub x_grows : (q : ℕ) (f s : ℤ) → q < 4 → IsShort f → IsShort s
     → to_z w32 (of_z w32 (slice_index_or (ways f s) q (pos 0))) ≡ (growth q f s).0
 x_grows zero f s h a b = omega (arith, ints)
@@ -20,6 +21,7 @@ x_grows (suc (suc zero)) f s h a b = omega (arith, ints)
 x_grows (suc (suc (suc zero))) f s h a b = omega (arith, ints)
 x_grows (suc (suc (suc (suc q)))) f s h a b = absurd (omega arith)
 
+-- what y grows by is found one quadrant before
 pub y_grows : (q : ℕ) (f s : ℤ) → q < 4 → IsShort f → IsShort s
     → to_z w32 (of_z w32 (slice_index_or (ways f s) ((q + 3) % 4) (pos 0))) ≡ (growth q f s).1
 y_grows zero f s h a b = omega (arith, ints)
@@ -28,12 +30,14 @@ y_grows (suc (suc zero)) f s h a b = omega (arith, ints)
 y_grows (suc (suc (suc zero))) f s h a b = omega (arith, ints)
 y_grows (suc (suc (suc (suc q)))) f s h a b = absurd (omega arith)
 
+-- in every quadrant a short way stays short
 pub growth-short : (q : ℕ) (f s : ℤ) → IsShort f → IsShort s → IsShort (growth q f s).0 × IsShort (growth q f s).1
 growth-short zero f s a b = (omega (arith, ints), omega (arith, ints))
 growth-short (suc zero) f s a b = (b, a)
 growth-short (suc (suc zero)) f s a b = (omega (arith, ints), b)
 growth-short (suc (suc (suc q))) f s a b = (omega (arith, ints), omega (arith, ints))
 
+-- x wraps once, over the way and the buttons
 pub x_is : (x d b : ℤ) (n : ℕ) → FitsSigned w32 x → IsShort d → n < 256 → b ≡ pos n
     → cast_signed w32 ((of_z w32 x + of_z w32 (to_z w32 (of_z w32 d) +ℤ to_z w32 (of_z w32 b))) % 2 ^ 32) ≡ int_wrap w32 (x +ℤ d +ℤ pos n)
 x_is x d b n fits short byte e =
@@ -41,9 +45,11 @@ x_is x d b n fits short byte e =
     let small : FitsSigned w32 (d +ℤ pos n) = omega (arith, ints) in
     rw sum (wrapping_add_is w32 x (d +ℤ pos n) fits small ∙ ap (int_wrap w32) (omega (arith, ints)))
 
+-- y wraps over the way
 pub y_is : (y d : ℤ) → FitsSigned w32 y → IsShort d → cast_signed w32 ((of_z w32 y + of_z w32 d) % 2 ^ 32) ≡ int_wrap w32 (y +ℤ d)
 y_is y d fits short = wrapping_add_is w32 y d fits (omega (arith, ints))
 
+-- a signed byte becomes a way
 pub scaled : (f r : ℤ) → FitsSigned w8 f → r ≡ to_z w8 (of_z w8 f) → to_z w32 (of_z w32 (to_z w32 (of_z w32 r) *ℤ pos 2048)) ≡ f *ℤ pos 2048
 scaled f r fits e = omega (arith, ints)
 

@@ -67,6 +67,6 @@ mark_of (Some s) = cast_signed w16 (cast_unsigned w32 s.x % 2 ^ 16)
 abbrev pub walking : Physics Spots
 walking = record { begin = λ start present. first_spots 0 present; step = next_spots; mark = λ spots player. mark_of (spot_at spots player) }
 
--- a way that one move can go, forward or to the side
+-- no further than one move can go, 128 times 2048
 abbrev pub IsShort : ℤ → Type 0
 IsShort z = (negsuc 262143 ≤ℤ z) × (z ≤ℤ pos 262144)
