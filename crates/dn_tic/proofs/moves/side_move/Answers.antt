@@ -3,7 +3,7 @@ use Rattle.std.specs.Int.{w16}
 use Rattle.std.proofs.lemmas.Int.{ints, to_z-of_z}
 use Rattle.dn_tic.specs.Pressed.{clamped}
 use Rattle.dn_tic.proofs.Pressing.{side_is}
-use Rattle.dn_tic.proofs.builder.side_move.Goals as goal
+use Rattle.dn_tic.proofs.moves.side_move.Goals as goal
 
 pub returns : goal.returns
 returns c =

@@ -1,0 +1,139 @@
+//! What the keys of one build give: moves, a turn and buttons.
+
+ghost use Rattle.std.specs.Prelude.{◌≡◌, ◌≤◌, ◌≤ℤ◌, ◌+ℤ◌, pos, negsuc};
+ghost use Rattle.std.specs.List.{position};
+ghost use Rattle.dn_tic.specs.Keys.{is_down};
+ghost use Rattle.dn_tic.specs.Pressed.{opposed, forward_amount, side_amount, turn_amount, strafed, turned, buttons_of, weapons, weapon_buttons, clamped};
+
+use crate::keys::{Key, Keys};
+
+/// For how many builds in succession turns are slow.
+pub(crate) const SLOW_TURNS: u8 = 6;
+
+/// The farthest that one tic goes forward or to a side.
+const FARTHEST: i16 = 50;
+
+const ATTACK: u8 = 1;
+
+const USE: u8 = 2;
+
+const CHANGE: u8 = 4;
+
+const NEXT_WEAPON: u8 = 8;
+
+const WEAPONS: [Key; 8] = [
+    Key::Weapon1,
+    Key::Weapon2,
+    Key::Weapon3,
+    Key::Weapon4,
+    Key::Weapon5,
+    Key::Weapon6,
+    Key::Weapon7,
+    Key::Weapon8,
+];
+
+/// What a pair of opposite keys gives.
+fn opposed(keys: Keys, more: Key, less: Key, amount: i16) -> i16
+    requires least { pos 0 ≤ℤ amount }
+    requires most { amount ≤ℤ pos 1280 }
+    ensures value { result ≡ opposed keys more less amount }
+    ensures low { pos 0 ≤ℤ (result +ℤ amount) }
+    ensures high { result ≤ℤ amount }
+{
+    match (keys.is_down(more), keys.is_down(less)) {
+        (true, false) => amount,
+        (false, true) => -amount,
+        _ => 0,
+    }
+}
+
+fn forward_amount(keys: Keys) -> i16
+    ensures value { result ≡ forward_amount keys }
+{
+    if keys.is_down(Key::Speed) { 50 } else { 25 }
+}
+
+fn side_amount(keys: Keys) -> i16
+    ensures value { result ≡ side_amount keys }
+    ensures most { result ≤ℤ pos 40 }
+{
+    if keys.is_down(Key::Speed) { 40 } else { 24 }
+}
+
+fn turn_amount(keys: Keys, hold: u8) -> i16
+    ensures value { result ≡ turn_amount keys hold }
+{
+    if hold < SLOW_TURNS {
+        320
+    } else if keys.is_down(Key::Speed) {
+        1280
+    } else {
+        640
+    }
+}
+
+/// How far the keys go forward.
+pub(crate) fn forward_move(keys: Keys) -> i8
+    ensures { result ≡ clamped (opposed keys Key.Forward Key.Back (forward_amount keys)) }
+{
+    opposed(keys, Key::Forward, Key::Back, forward_amount(keys)).clamp(-FARTHEST, FARTHEST) as i8
+}
+
+/// The side move of the turn keys while strafe is down.
+fn strafed(keys: Keys) -> i16
+    ensures value { result ≡ strafed keys }
+    ensures low { negsuc 39 ≤ℤ result }
+    ensures high { result ≤ℤ pos 40 }
+{
+    if keys.is_down(Key::Strafe) {
+        opposed(keys, Key::Right, Key::Left, side_amount(keys))
+    } else {
+        0
+    }
+}
+
+/// How far the keys go to the right.
+pub(crate) fn side_move(keys: Keys) -> i8
+    ensures { result ≡ clamped (strafed keys +ℤ opposed keys Key.StrafeRight Key.StrafeLeft (side_amount keys)) }
+{
+    let side = strafed(keys) + opposed(keys, Key::StrafeRight, Key::StrafeLeft, side_amount(keys));
+    side.clamp(-FARTHEST, FARTHEST) as i8
+}
+
+/// How far the keys turn left, at this turn hold.
+pub(crate) fn turn(keys: Keys, hold: u8) -> i16
+    ensures { result ≡ turned keys hold }
+{
+    if keys.is_down(Key::Strafe) {
+        0
+    } else {
+        opposed(keys, Key::Left, Key::Right, turn_amount(keys, hold))
+    }
+}
+
+/// The place of the first of these keys that is down.
+fn first_down(keys: Keys, among: &[Key]) -> Option<usize>
+    ensures { result ≡ position (is_down keys) among.now }
+{
+    among.iter().position(|&key| keys.is_down(key))
+}
+
+/// What the lowest weapon key that is down adds to the buttons.
+fn weapon_buttons(keys: Keys) -> u8
+    ensures value { result ≡ weapon_buttons (position (is_down keys) weapons) }
+    ensures small { result ≤ 60 }
+{
+    match first_down(keys, &WEAPONS) {
+        Some(place) => CHANGE + NEXT_WEAPON * place as u8,
+        None => 0,
+    }
+}
+
+/// Attack, use, and a change of weapon.
+pub(crate) fn buttons(keys: Keys) -> u8
+    ensures { result ≡ buttons_of keys }
+{
+    let attack = if keys.is_down(Key::Attack) { ATTACK } else { 0 };
+    let operate = if keys.is_down(Key::Use) { USE } else { 0 };
+    attack + operate + weapon_buttons(keys)
+}
