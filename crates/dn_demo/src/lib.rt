@@ -13,3 +13,6 @@ pub use demo::{Demo, DemoFault};
 pub use laws::written_rows_are_read;
 pub use playing::play;
 pub use recorder::{Recorder, RecorderFault};
+
+#[cfg(test)]
+mod tests;

@@ -1,0 +1,36 @@
+//! Tests of recorders, read demos and their playing.
+
+ghost use Rattle.std.specs.Prelude.{◌≡◌, Some};
+
+mod reading;
+mod recording;
+
+use dn_setup::Start;
+use dn_tic::Move;
+
+/// Two tics of players 0 and 1, closed.
+const PLAYED: [u8; 30] = [
+    0x6D, 3, 1, 7, 1, 0, 0, 1, 1, 1, 1, 0, 0, 0x32, 0, 0, 0, 0, 0, 1, 0, 0xCE, 0, 0, 1, 0x19, 0x18,
+    0x40, 0, 0x80,
+];
+
+const START: Start = Start {
+    skill: 3,
+    episode: 1,
+    map: 7,
+    deathmatch: 1,
+    respawn: 0,
+    fast: 0,
+    no_monsters: 1,
+};
+
+fn moved(forward: i8, side: i8, turn: i16, buttons: u8) -> Option<Move>
+    ensures { result ≡ Some (record { forward = forward; side = side; turn = turn; buttons = buttons }) }
+{
+    Some(Move {
+        forward,
+        side,
+        turn,
+        buttons,
+    })
+}

@@ -1,0 +1,103 @@
+//! Tests of recorders, and of rows that are written and read back.
+
+ghost use Rattle.std.specs.Prelude.{◌≡◌};
+ghost use Rattle.dn_demo.specs.declared.recorder.Stage.TheVariants.{Blank, Open};
+
+use super::{PLAYED, START, moved};
+use crate::{Demo, DemoFault, Recorder, RecorderFault};
+use std::test::Fail;
+
+#[test]
+fn limits_are_checked(rt: HostRuntime) {
+    for (limit, fault) in [
+        (0, Some(RecorderFault::Limit)),
+        (1_023, Some(RecorderFault::Limit)),
+        (1_024, None),
+        (16_777_216, None),
+        (16_777_217, Some(RecorderFault::Limit)),
+        (u32::MAX, Some(RecorderFault::Limit)),
+    ] {
+        let made = Recorder::new(rt.alloc(), limit);
+        assert_eq!(rt; made.err(), fault, "limit {limit}");
+    }
+}
+
+#[test]
+fn rows_are_written_and_read_back(rt: HostRuntime) -> Result<(), Fail> {
+    let mut recorder = Recorder::new(rt.alloc(), 1_024)?;
+    assert!(rt; recorder.bytes().is_empty());
+    recorder.head(&START, 1, [true, true, false, false]);
+    assert_eq!(rt; recorder.bytes(), &PLAYED[..13]);
+    let first = [moved(50, 0, 0, 0), moved(0, 0, 256, 0), None, None];
+    assert!(rt; recorder.row(&first));
+    assert_eq!(rt; recorder.bytes(), &PLAYED[..21]);
+    let second = [moved(-50, 0, 0, 1), moved(25, 24, 16_384, 0), None, None];
+    assert!(rt; recorder.row(&second));
+    recorder.close();
+    assert_eq!(rt; recorder.bytes(), PLAYED.as_slice());
+    let demo = Demo::read(rt.alloc(), recorder.bytes())?;
+    assert_eq!(rt; demo.row(0), Some(first));
+    assert_eq!(rt; demo.row(1), Some(second));
+    assert_eq!(rt; demo.row(2), None);
+    Ok(())
+}
+
+#[test]
+fn absent_players_are_not_written(rt: HostRuntime) -> Result<(), Fail> {
+    let mut recorder = Recorder::new(rt.alloc(), 1_024)?;
+    recorder.head(&START, 3, [false, true, false, true]);
+    let row = [
+        None,
+        moved(1, -2, -256, 255),
+        None,
+        moved(127, -127, -32_768, 0),
+    ];
+    assert!(rt; recorder.row(&row));
+    recorder.close();
+    let bytes = [
+        0x6D, 3, 1, 7, 1, 0, 0, 1, 3, 0, 1, 0, 1, 1, 0xFE, 0xFF, 0xFF, 0x7F, 0x81, 0x80, 0, 0x80,
+    ];
+    assert_eq!(rt; recorder.bytes(), bytes.as_slice());
+    let demo = Demo::read(rt.alloc(), recorder.bytes())?;
+    assert_eq!(rt; demo.row(0), Some(row));
+    Ok(())
+}
+
+/// Writes rows of two players who stand still, until one does not fit. The answer is how many did.
+fn fill(recorder: &mut Recorder) -> usize
+    requires { recorder.old.stage ≡ Blank }
+    ensures { recorder.new.stage ≡ Open }
+{
+    recorder.head(&START, 0, [true, true, false, false]);
+    let still = [moved(0, 0, 0, 0), moved(0, 0, 0, 0), None, None];
+    for written in 0..200 {
+        if !recorder.row(&still) {
+            return written;
+        }
+    }
+    200
+}
+
+#[test]
+fn a_full_demo_takes_no_row(rt: HostRuntime) -> Result<(), Fail> {
+    for (limit, rows, len) in [(1_030, 127, 1_030), (1_029, 126, 1_022)] {
+        let mut recorder = Recorder::new(rt.alloc(), limit)?;
+        assert_eq!(rt; fill(&mut recorder), rows, "limit {limit}");
+        recorder.close();
+        assert_eq!(rt; recorder.bytes().len(), len, "limit {limit}");
+    }
+    Ok(())
+}
+
+/// Each request for memory may be refused: then the answer says so, and there is no other.
+#[test]
+fn want_of_memory_is_told(rt: HostRuntime) {
+    match Recorder::new(rt.alloc(), 1_024) {
+        Ok(recorder) => assert!(rt; recorder.bytes().is_empty()),
+        Err(fault) => assert_eq!(rt; fault, RecorderFault::Memory),
+    }
+    match Demo::read(rt.alloc(), &PLAYED) {
+        Ok(demo) => assert_eq!(rt; demo.tics(), 2),
+        Err(fault) => assert_eq!(rt; fault, DemoFault::Memory),
+    }
+}
