@@ -9,3 +9,4 @@ pub mod TwoPlayers
 pub mod SingleNodes
 pub mod Slots
 pub mod Ranges
+pub mod Edges

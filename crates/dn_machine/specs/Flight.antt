@@ -10,7 +10,7 @@ pub data Kind : Type 0 where
   Play : Kind
   Exit : Kind
 
--- a set-up packet has start 0, no request and no commands
+-- who sends it to whom, of what kind, and the tics and commands that it carries; a set-up packet carries none
 pub record Flight : Type 0 where
   pub from : ℕ
   pub to : ℕ
@@ -25,7 +25,7 @@ pub record Flight : Type 0 where
 abbrev pub end_of : Flight → ℕ
 end_of flight = flight.start + length flight.commands
 
--- 4 with a request
+-- the flag RETRANSMIT with a request (d_net.h)
 abbrev pub request_flag : Option ℕ → ℕ
 request_flag None = 0
 request_flag (Some tic) = 4
@@ -46,7 +46,7 @@ commands_packet flags flight =
       cmds = record { items = flight.commands };
     }
 
--- the packet that a flight goes out as
+-- the packet that a flight goes out as, with the flag EXIT where it says that its sender has ended (d_net.h)
 abbrev pub packet_of_kind : Flight → Kind → Packet
 packet_of_kind flight (SetUp settings) = setup_packet settings
 packet_of_kind flight Play = commands_packet 0 flight
@@ -63,7 +63,7 @@ distance a b = (a - b) + (b - a)
 abbrev pub is_close : ℕ → ℕ → Bool
 is_close made tic = not (nat_lt 64 (distance tic made))
 
--- so does a request, if there is one
+-- a request lies within 64 tics of a count, if there is one
 abbrev pub is_request_close : ℕ → Option ℕ → Bool
 is_request_close made None = true
 is_request_close made (Some tic) = is_close made tic

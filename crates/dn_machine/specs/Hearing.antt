@@ -1,4 +1,5 @@
--- What a packet does to the node that it comes to (d_net.c, GetPackets).
+-- What a packet does to the node that it comes to (d_net.c, GetPackets). That an overrun is dropped, that a request is
+-- bounded, and that EXIT ends the node are rules of this project; ten packets after a request is RESENDCOUNT of d_net.c.
 use Rattle.std.specs.Prelude.{ℕ, ◌+◌, ◌-◌, Bool, true, false, ◌&&◌, ◌++◌, nat_lt, nat_le, ◌==◌, if◌then◌else◌, drop, Option, Some, None}
 use Rattle.dn_setup.specs.Settings.{Settings}
 use Rattle.dn_setup.specs.Gathered.{all_noted}

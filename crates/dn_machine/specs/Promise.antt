@@ -18,7 +18,7 @@ IsPrefixOf {A} xs ys = (rest : List A) × (xs ++ rest ≡ ys)
 abbrev pub keys_of : Game → ℕ → List ℕ
 keys_of game player = (game.nodes player).keys
 
--- Agreement.
+-- Agreement: what nodes hold and run is what the players' keys make, the same at all of them.
 pub record Agree {S : Type 0} (rules : Rules S) (settings : Settings) (game : Game) : Type 0 where
   -- the row that a node ran for a tic is that of the commands which the players' keys make
   pub rows : (q tic : ℕ) → q < rules.players → tic < ran (game.nodes q)
@@ -56,7 +56,7 @@ pub record Fits {S : Type 0} (rules : Rules S) (game : Game) : Type 0 where
   -- the tics run fit into the demo
   pub room : (q : ℕ) → q < rules.players → ran (game.nodes q) ≤ capacity rules
 
--- Steadiness.
+-- Steadiness: nothing that was truly sent is taken for wrong.
 pub record Steady {S : Type 0} (rules : Rules S) (game : Game) : Type 0 where
   -- no consistency check failed
   pub consistent : (q : ℕ) (player : ℕ) (was should : ℤ) → q < rules.players

@@ -41,7 +41,7 @@ on_run_playing rules node None None =
     then (record node { phase = Ended Cause.Full }, Ran.DemoFull)
     else (record node { rows = node.rows ++ row_held rules node ∷ [] }, Ran.Ran (ran node))
 
--- by the phase
+-- a node is asked to run a tic, in this phase
 abbrev pub on_run_in : {S : Type 0} → Rules S → Node → Phase → Node × Ran
 on_run_in rules node Playing = on_run_playing rules node (lowest rules.players (is_awaited node)) (first_off rules node)
 on_run_in rules node Listening = (node, Ran.NotPlaying)
@@ -52,7 +52,7 @@ on_run_in rules node (Ended cause) = (node, Ran.NotPlaying)
 unfoldable pub on_run : {S : Type 0} → Rules S → Node → Node × Ran
 on_run rules node = on_run_in rules node node.phase
 
--- by the phase
+-- a node quits in this phase
 abbrev pub on_quit_in : Node → Phase → Node × Bool
 on_quit_in node (Ended cause) = (node, false)
 on_quit_in node Listening = (record node { phase = Ended Cause.Quit }, true)

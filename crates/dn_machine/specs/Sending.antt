@@ -1,4 +1,5 @@
--- What a node sends (d_net.c, NetUpdate and D_QuitNetGame).
+-- What a node sends (d_net.c, NetUpdate and D_QuitNetGame). That a resend far behind is moved up, and that whoever hears
+-- EXIT sends it too, are rules of this project.
 use Rattle.std.specs.Prelude.{ℕ, ◌+◌, ◌-◌, Bool, false, not, ◌&&◌, [], nat_lt, ◌==◌, if◌then◌else◌, drop, Option, Some, None}
 use Rattle.dn_setup.specs.Settings.{Settings}
 use Rattle.dn_machine.specs.declared.answers.Cause.{Cause}
@@ -54,7 +55,7 @@ ended_by Cause.Quit to = false
 ended_by Cause.Full to = false
 ended_by (Cause.Inconsistent player was should) to = false
 
--- by the phase; an ended node gives four EXIT packets to each peer that has not told it of its own end
+-- by the phase: a node that has played and ended gives four EXIT packets to each peer but the one whose EXIT ended it
 abbrev pub on_send_in : {S : Type 0} → Rules S → ℕ → Node → ℕ → Phase → Node × Option Flight
 on_send_in rules me node to Listening = (node, None)
 on_send_in rules me node to Gathering = (node, set_up_flight me to node.settings)

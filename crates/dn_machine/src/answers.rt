@@ -49,7 +49,10 @@ pub enum Heard {
     Left,
     /// The sender is noted while the node gathers.
     Noted,
-    /// The packet changed nothing, for the reason of this number.
+    /// The packet changed nothing: 1 too short, 2 too many commands, 3 a wrong length, 4 a wrong sum,
+    /// 5 not from a peer, 6 set-up out of place, 7 another version, 8 settings out of range, 9 KILL,
+    /// 10 a tic below 0, 11 a command that would end a demo, 12 an overrun of unread commands, 13 the
+    /// node does not play.
     Dropped(u8),
 }
 

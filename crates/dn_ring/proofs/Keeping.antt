@@ -1,8 +1,8 @@
 -- What a ring keeps of a whole list of commands.
-use Rattle.std.proofs.Common.{◌≡◌, ◌≤◌, ◌+◌, ◌-◌, ℕ, zero, suc, List, [], ◌∷◌, ◌++◌, length, drop, None, inl, inr, true, refl, ap, sym, ◌∙◌, arith}
+use Rattle.std.proofs.Common.{◌≡◌, ◌≤◌, ◌+◌, ◌-◌, ℕ, zero, suc, List, [], ◌∷◌, ◌++◌, length, drop, None, inl, inr, true, false, ◌<◌, refl, ap, sym, ◌∙◌, arith}
 use Rattle.std.specs.Prelude.{slice_get, nat_le}
 use Rattle.std.proofs.lemmas.List.{drop-append-le, drop-drop, length-append, length-drop}
-use Rattle.std.proofs.lemmas.Bool.{cases_lt, lt-ltb, le-ltb, le-leb}
+use Rattle.std.proofs.lemmas.Bool.{cases_lt, lt-ltb, le-ltb, le-leb, lt-leb}
 use Rattle.dn_tic.specs.declared.command.TicCmd.{TicCmd}
 use Rattle.dn_ring.specs.Ring.{put, get, ring_of, last_twelve}
 
@@ -30,6 +30,13 @@ pub slice_get-past : {X : Type 0} (xs : List X) (j : ℕ) → length xs ≤ j �
 slice_get-past [] j h = refl
 slice_get-past (x ∷ xs) zero h = absurd (omega arith)
 slice_get-past (x ∷ xs) (suc j) h = slice_get-past xs j (omega arith)
+
+-- and nothing of what came before them
+pub get-gone : (cs : List TicCmd) (g : ℕ) → g + 12 < length cs → get (ring_of cs) g ≡ None
+get-gone cs g h =
+    let first = lt-ltb g (length cs) (omega arith) in
+    let second : nat_le (length cs - g) 12 ≡ false = lt-leb (length cs - g) 12 (omega arith) in
+    rw (first, second) refl
 
 -- what a ring gives of the last twelve is what is held
 pub get-ring_of : (cs : List TicCmd) (g : ℕ) → length cs ≤ g + 12 → get (ring_of cs) g ≡ slice_get cs g

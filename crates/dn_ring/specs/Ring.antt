@@ -21,7 +21,7 @@ ring_of commands = record { count = length commands; last = last_twelve commands
 abbrev pub put : Ring → TicCmd → Ring
 put ring command = record { count = ring.count + 1; last = last_twelve (ring.last ++ command ∷ []) }
 
--- the command of a tic: there is one among the last twelve, and none elsewhere
+-- the command of a tic, where it is one of the last twelve
 abbrev pub get : Ring → ℕ → Option TicCmd
 get ring tic =
     if nat_lt tic ring.count && nat_le (ring.count - tic) 12

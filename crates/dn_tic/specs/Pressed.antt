@@ -23,7 +23,7 @@ amount_if test amount = if test then amount else pos 0
 abbrev pub opposed : ℕ → Key → Key → ℤ → ℤ
 opposed keys more less amount = amount_if (is_down keys more) amount -ℤ amount_if (is_down keys less) amount
 
--- how far one tic goes forward, to a side, and round; only the seventh of several turns in succession is fast
+-- how far one tic goes forward, to a side, and round; turns are fast from the sixth in succession on
 abbrev pub forward_amount : ℕ → ℤ
 forward_amount keys = if is_down keys Speed then pos 50 else pos 25
 

@@ -5,7 +5,7 @@ ghost use Rattle.dn_tic.specs.Pressed.{turn_hold, pressed};
 
 use crate::command::TicCmd;
 use crate::keys::{Key, Keys};
-use crate::moves::{SLOW_TURNS, buttons, forward_move, side_move, turn};
+use crate::moves::{FAST_TURNS, buttons, forward_move, side_move, turn};
 use std::marker::Model;
 
 /// The turn hold after one more key state.
@@ -15,7 +15,7 @@ fn next_hold(hold: u8, keys: Keys) -> u8
     ensures most { result ≤ 6 }
 {
     if keys.is_down(Key::Left) || keys.is_down(Key::Right) {
-        SLOW_TURNS.min(hold + 1)
+        FAST_TURNS.min(hold + 1)
     } else {
         0
     }

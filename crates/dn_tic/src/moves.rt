@@ -7,8 +7,8 @@ ghost use Rattle.dn_tic.specs.Pressed.{opposed, forward_amount, side_amount, tur
 
 use crate::keys::{Key, Keys};
 
-/// For how many builds in succession turns are slow.
-pub(crate) const SLOW_TURNS: u8 = 6;
+/// The turn hold from which on turns are fast; it counts no further.
+pub(crate) const FAST_TURNS: u8 = 6;
 
 /// The farthest that one tic goes forward or to a side.
 const FARTHEST: i16 = 50;
@@ -63,7 +63,7 @@ fn side_amount(keys: Keys) -> i16
 fn turn_amount(keys: Keys, hold: u8) -> i16
     ensures value { result ≡ turn_amount keys hold }
 {
-    if hold < SLOW_TURNS {
+    if hold < FAST_TURNS {
         320
     } else if keys.is_down(Key::Speed) {
         1280
