@@ -52,7 +52,7 @@ moves_from bytes (false ∷ seats) command = None ∷ moves_from bytes seats com
 abbrev pub commands_in : List ℕ → ℕ
 commands_in bytes = (length bytes - header_size) / command_size
 
--- the row of a tic: so many commands stand before it as the players of all tics before it have
+-- the row of a tic, behind those of the tics before it: each has a command for each player who is present
 abbrev pub row_in : List ℕ → ℕ → List (Option Move)
 row_in bytes tic = moves_from bytes (seats_in bytes) (player_count (seats_in bytes) * tic)
 

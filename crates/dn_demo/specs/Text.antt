@@ -14,10 +14,11 @@ version = 109
 abbrev pub marker : ℕ
 marker = 128
 
--- how many bytes a header has, and a command
+-- how many bytes a header has
 abbrev pub header_size : ℕ
 header_size = 13
 
+-- how many bytes a command has
 abbrev pub command_size : ℕ
 command_size = 4
 

@@ -69,10 +69,10 @@ impl Demo {
         };
         let front = &bytes[..HEADER + COMMAND * commands];
         let after = bytes.len() - front.len() - 1;
-        match Vec::from_slice(alloc, front) {
-            Ok(bytes) => Ok(Demo { bytes, after }),
-            Err(_) => Err(DemoFault::Memory),
-        }
+        let Ok(bytes) = Vec::from_slice(alloc, front) else {
+            return Err(DemoFault::Memory);
+        };
+        Ok(Demo { bytes, after })
     }
 
     /// What the game starts from, as the header has it.

@@ -90,11 +90,9 @@ impl Recorder {
         ensures seats { seats_in self.new.bytes ≡ present }
     {
         self.stage = Stage::Open;
-        let done = self
-            .bytes
-            .extend_from_slice(&header_bytes(start, view, present));
-        prove!(done.is_ok());
-        let _ = done;
+        self.bytes
+            .extend_from_slice(&header_bytes(start, view, present))
+            .unwrap();
     }
 
     /// Writes the moves of a tic, where these and the marker fit into the limit.
@@ -112,9 +110,7 @@ impl Recorder {
         if self.bytes.len() + text.len() + 1 > self.limit as usize {
             return false;
         }
-        let done = self.bytes.extend_from_slice(text.as_slice());
-        prove!(done.is_ok());
-        let _ = done;
+        self.bytes.extend_from_slice(text.as_slice()).unwrap();
         true
     }
 
@@ -125,9 +121,7 @@ impl Recorder {
         ensures text { Closes self.old.bytes self.new.bytes }
     {
         self.stage = Stage::Closed;
-        let done = self.bytes.push(MARKER);
-        prove!(done.is_ok());
-        let _ = done;
+        self.bytes.push(MARKER).unwrap();
     }
 
     /// The text so far.
