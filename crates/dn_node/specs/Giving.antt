@@ -1,0 +1,19 @@
+-- What a node must know to give a packet.
+use Rattle.std.specs.Prelude.{◌≡◌, ◌≢◌, ◌<◌, ◌≤◌, ℕ, ◌+◌}
+use Rattle.dn_machine.specs.declared.answers.Phase.TheVariants.{Ended}
+use Rattle.dn_machine.specs.declared.answers.Cause.{Cause}
+use Rattle.dn_node.specs.declared.node.sending.Aim.{Aim}
+use Rattle.dn_node.specs.Contents.{Contents}
+use Rattle.dn_node.specs.Rings.{count_of}
+
+-- the commands from its start on are all kept
+pub record Reaches {W : Type 0} (n : Contents W) (aim : Aim) : Type 0 where
+  pub flags : aim.flags < 16
+  pub low : aim.start ≤ count_of n.rings n.me
+  pub high : count_of n.rings n.me ≤ aim.start + 12
+
+-- there is a packet for this peer, so that it is a peer who was given less than four EXIT packets
+pub record Gives {W : Type 0} (n : Contents W) (to : ℕ) : Type 0 where
+  pub below : to < n.players
+  pub other : to ≢ n.me
+  pub exits : (cause : Cause) → n.phase ≡ Ended cause → (n.peers to).exits < 4

@@ -1,0 +1,26 @@
+-- What a node keeps of a peer.
+use Rattle.std.specs.Prelude.{ℕ, ◌-◌, false, ◌&&◌, ◌==◌, if◌then◌else◌, List, slice_index_or, Option}
+use Rattle.dn_machine.specs.Node as machine
+use Rattle.dn_machine.specs.Node.{put}
+use Rattle.dn_machine.specs.Hearing.{is_within, requested_tic}
+use Rattle.dn_node.specs.declared.peers.Peer.{Peer}
+
+-- what the machine's node keeps of a peer
+abbrev pub peer_of : machine.Node → ℕ → Peer
+peer_of node player =
+    record { resend = node.resend player; want = node.want player; hold = node.hold player; exits = node.exits player }
+
+-- a peer of which nothing is known
+abbrev pub no_peer : Peer
+no_peer = record { resend = 0; want = false; hold = 0; exits = 0 }
+
+-- of several peers the one of this number
+abbrev pub peer_at : List Peer → ℕ → Peer
+peer_at peers player = slice_index_or peers player no_peer
+
+-- a peer after a packet with this request: one that can be met is met, unless one was met within the last ten packets
+abbrev pub after_asking : Peer → ℕ → Option ℕ → Peer
+after_asking peer made request =
+    if peer.hold == 0 && is_within made request
+    then record peer { resend = requested_tic request; hold = 10 }
+    else record peer { hold = peer.hold - 1 }

@@ -1,0 +1,54 @@
+-- When a node represents a node of the machine.
+use Rattle.std.specs.Prelude.{◌≡◌, ℕ, ◌+◌, ◌%◌, ◌<◌, ◌≤◌, true, List, [], Option, Some, None, if◌then◌else◌}
+use Rattle.dn_tic.specs.Pressed.{turn_hold}
+use Rattle.dn_ring.specs.Ring.{ring_of}
+use Rattle.dn_setup.specs.Settings.{Settings}
+use Rattle.dn_setup.specs.Starts.{start_of}
+use Rattle.dn_setup.specs.Gathered.{is_noted, is_peer}
+use Rattle.dn_demo.specs.Text.{demo_text}
+use Rattle.dn_machine.specs.Worlds.{Rules}
+use Rattle.dn_machine.specs.Node as machine
+use Rattle.dn_machine.specs.Node.{own_mark, own_world}
+use Rattle.dn_machine.specs.Running as running
+use Rattle.dn_node.specs.Contents.{Contents}
+use Rattle.dn_node.specs.Peers.{peer_of}
+use Rattle.dn_node.specs.Phases.{is_ended}
+use Rattle.dn_node.specs.Rows.{seats_of}
+
+-- the demo of a node that has played with these settings: the rows that it ran, closed once it has ended
+abbrev pub demo_with : {S : Type 0} → Rules S → ℕ → machine.Node → Option Settings → List ℕ
+demo_with rules me m None = []
+demo_with rules me m (Some settings) = demo_text (start_of settings) me (seats_of rules.players) m.rows (is_ended m.phase)
+
+-- nothing before the start
+abbrev pub demo_of : {S : Type 0} → Rules S → ℕ → machine.Node → List ℕ
+demo_of rules me m = if m.played then demo_with rules me m m.settings else []
+
+-- the node of this number, in a game of these rules
+pub record IsNodeOf {W S : Type 0} (rules : Rules S) (me : ℕ) (n : Contents W) : Type 0 where
+  pub players : n.players ≡ rules.players
+  pub number : n.me ≡ me
+  pub extra : n.extra ≡ rules.extra
+  pub limit : n.demo.limit ≡ rules.limit
+  pub capacity : n.capacity ≡ running.capacity rules
+  pub gathers : n.gather.players ≡ rules.players
+
+pub record Represents {W S : Type 0} (state : W → S) (rules : Rules S) (me : ℕ) (n : Contents W) (m : machine.Node) : Type 0 where
+  pub game : IsNodeOf rules me n
+  pub phase : n.phase ≡ m.phase
+  pub played : n.played ≡ m.played
+  pub settings : n.settings ≡ m.settings
+  -- the turn hold is that of the key states of its builds
+  pub hold : n.hold ≡ turn_hold m.keys
+  -- it ran as many tics
+  pub ran : n.ran ≡ machine.ran m
+  -- each ring counts the commands held of its player and keeps the last twelve
+  pub rings : (p : ℕ) → p < rules.players → n.rings p ≡ ring_of (m.held p)
+  pub peers : (p : ℕ) → p < rules.players → n.peers p ≡ peer_of m p
+  pub noted : (p : ℕ) → is_peer rules.players p ≡ true → is_noted n.gather p ≡ m.noted p
+  -- its world is the one that its rows lead to, once it has started
+  pub world : m.played ≡ true → Some (state n.world) ≡ own_world rules m (machine.ran m)
+  -- for each of the next twelve tics the table has the mark of the world twelve tics before, and 0 below tic 12
+  pub marks : (p tic : ℕ) → p < rules.players → machine.ran m ≤ tic → tic < machine.ran m + 12
+      → n.marks p (tic % 12) ≡ own_mark rules m p tic
+  pub demo : n.demo.bytes ≡ demo_of rules me m

@@ -1,0 +1,75 @@
+//! The consistency table: each player's marks of the last twelve tics.
+
+ghost use Rattle.std.specs.Prelude.{◌≡◌, ◌≢◌, ◌<◌, ◌≤◌, ◌%◌, ℕ, pos};
+ghost use Rattle.dn_node.specs.Marks.{slot};
+
+use dn_world::World;
+use std::marker::Model;
+
+/// How many tics a player's marks are kept (`d_net.h`, BACKUPTICS).
+const PLACES: u32 = 12;
+
+/// A player's marks, by the remainders of tics.
+#[derive(Clone, Copy, Debug)]
+struct Slots {
+    slots: [i16; 12],
+}
+
+/// Four players' marks. A contract sees them by the player and the remainder of the tic.
+#[derive(Debug, Drop)]
+pub(crate) struct Marks {
+    players: [Slots; 4],
+}
+
+impl Model for Marks {
+    ghost use Rattle.std.specs.Prelude.{List};
+    ghost use Rattle.dn_node.specs.declared.marks.Slots.{Slots};
+
+    ghost Value = { List Slots };
+
+    ghost view = { λ m. m.players };
+}
+
+impl Marks {
+    /// Every mark is 0.
+    pub(crate) fn new() -> Marks
+        ensures { (p j : ℕ) → slot result p j ≡ pos 0 }
+    {
+        let slots = Slots { slots: [0; 12] };
+        Marks {
+            players: [slots, slots, slots, slots],
+        }
+    }
+
+    /// The player's mark for a tic.
+    pub(crate) fn get(&self, player: u8, tic: u32) -> i16
+        requires { player < 4 }
+        ensures { result ≡ slot self.now player (tic % 12) }
+    {
+        let slots = self.players[usize::from(player)];
+        slots.slots[(tic % PLACES) as usize]
+    }
+
+    /// Keeps another mark.
+    fn put(&mut self, player: u8, tic: u32, mark: i16)
+        requires { player < 4 }
+        ensures put { slot self.new player (tic % 12) ≡ mark }
+        ensures others { (p j : ℕ) → (p ≡ player → j ≢ tic % 12) → slot self.new p j ≡ slot self.old p j }
+    {
+        let place = usize::from(player);
+        let mut slots = self.players[place];
+        slots.slots[(tic % PLACES) as usize] = mark;
+        self.players[place] = slots;
+    }
+
+    /// Keeps each player's mark in the world, for the tic twelve on.
+    pub(crate) fn stamp<W: World>(&mut self, world: &W, players: u8, tic: u32)
+        requires { players ≤ 4 }
+        ensures marks { (p : ℕ) → p < players → slot self.new p (tic % 12) ≡ W.physics.mark (W.state world.now) p }
+        ensures others { (p j : ℕ) → j ≢ tic % 12 → slot self.new p j ≡ slot self.old p j }
+    {
+        for player in 0..players {
+            self.put(player, tic, world.mark(player));
+        }
+    }
+}

@@ -1,0 +1,138 @@
+//! One player's node, and what it tells of itself.
+
+ghost use Rattle.std.specs.Prelude.{◌≡◌, ◌≢◌, ℕ, ◌+◌, ◌*◌, ◌<◌, ◌≤◌, true, false, nat_lt, if◌then◌else◌, length, Some, None};
+ghost use Rattle.dn_demo.specs.Text.{header_size, command_size};
+ghost use Rattle.dn_demo.specs.Places.{seats_in};
+ghost use Rattle.dn_demo.specs.declared.recorder.Stage.TheVariants.{Blank, Open};
+ghost use Rattle.dn_machine.specs.declared.answers.Phase.TheVariants.{Gathering, Playing};
+ghost use Rattle.dn_node.specs.Phases.{is_waiting};
+ghost use Rattle.dn_node.specs.Rings.{ring_at, count_of};
+ghost use Rattle.dn_node.specs.Peers.{peer_at};
+ghost use Rattle.dn_node.specs.Rows.{seats_of};
+
+mod building;
+mod ending;
+mod hearing;
+mod opening;
+mod running;
+pub(crate) mod sending;
+mod starting;
+mod taking;
+
+use crate::marks::Marks;
+use crate::peers::Peers;
+use crate::rings::Rings;
+use dn_demo::Recorder;
+use dn_machine::Phase;
+use dn_setup::{Gather, Settings};
+use dn_tic::Builder;
+use dn_world::World;
+
+/// One player's node. A contract sees it as what it holds, and as the node of the machine that this
+/// represents.
+#[derive(Drop)]
+pub struct Node<W> {
+    players: u8,
+    me: u8,
+    extra: bool,
+    /// How many tics fit into the demo.
+    capacity: u32,
+    phase: Phase,
+    played: bool,
+    settings: Option<Settings>,
+    gather: Gather,
+    builder: Builder,
+    ran: u32,
+    rings: Rings,
+    peers: Peers,
+    marks: Marks,
+    demo: Recorder,
+    world: W,
+    ghost me_below: { me < players },
+    ghost few: { players ≤ 4 },
+    ghost short: { capacity ≤ 2097150 },
+    ghost ran_fits: { ran ≤ capacity },
+    // before the start nothing is run or written
+    ghost waits: { is_waiting phase ≡ true → played ≡ false },
+    ghost unrun: { played ≡ false → ran ≡ 0 },
+    ghost blank: { played ≡ false → demo.stage ≡ Blank },
+    // who gathers or has played has settings
+    ghost keyed: { phase ≡ Gathering → settings ≢ None },
+    ghost known: { played ≡ true → settings ≢ None },
+    // while it plays, the demo is open and has a row for each tic that was run
+    ghost plays: { phase ≡ Playing → played ≡ true },
+    ghost open: { phase ≡ Playing → demo.stage ≡ Open },
+    ghost seats: { phase ≡ Playing → seats_in demo.bytes ≡ seats_of players },
+    ghost size: { phase ≡ Playing → length demo.bytes ≡ header_size + command_size * (players * ran) },
+    // it has the commands of the tics that it ran, and at most twelve more of a peer, and five of its own
+    ghost ahead: { (p : ℕ) → p < players → ran ≤ (ring_at rings p).count },
+    ghost window: { (p : ℕ) → p < players → (ring_at rings p).count ≤ ran + 12 },
+    ghost near: { (ring_at rings me).count ≤ ran + 5 },
+    // no resend starts past what it made
+    ghost resends: { (p : ℕ) → p < players → (peer_at peers p).resend ≤ (ring_at rings me).count },
+}
+
+impl<W: World> Node<W> {
+    ghost use Rattle.dn_node.specs.Contents.{contents};
+
+    /// The number of its player.
+    pub fn me(&self) -> u8
+        ensures { result ≡ (contents self.now).me }
+    {
+        self.me
+    }
+
+    /// Where it stands.
+    pub fn phase(&self) -> Phase
+        ensures { result ≡ (contents self.now).phase }
+    {
+        self.phase
+    }
+
+    /// How many commands it built.
+    pub fn made(&self) -> u32
+        ensures { result ≡ count_of (contents self.now).rings (contents self.now).me }
+    {
+        self.rings.count(self.me)
+    }
+
+    /// How many tics it ran.
+    pub fn ran(&self) -> u32
+        ensures { result ≡ (contents self.now).ran }
+    {
+        self.ran
+    }
+
+    /// How many commands it has of a player, and None for a number that is no player's.
+    pub fn got(&self, player: u8) -> Option<u32>
+        ensures { result ≡ (if nat_lt player (contents self.now).players
+            then Some (count_of (contents self.now).rings player) else None) }
+    {
+        if player < self.players {
+            Some(self.rings.count(player))
+        } else {
+            None
+        }
+    }
+
+    /// The choice of game: the key player's own from the beginning, another's from the start on.
+    pub fn settings(&self) -> Option<Settings>
+        ensures { result ≡ (contents self.now).settings }
+    {
+        self.settings
+    }
+
+    /// Its world.
+    pub fn world(&self) -> &W
+        ensures { result.now ≡ (contents self.now).world }
+    {
+        &self.world
+    }
+
+    /// Its demo so far: empty before the start, and closed once it has played and ended.
+    pub fn demo(&self) -> &[u8]
+        ensures { result.now ≡ (contents self.now).demo.bytes }
+    {
+        self.demo.bytes()
+    }
+}

@@ -1,0 +1,35 @@
+//! How a node builds a command.
+
+ghost use Rattle.std.specs.Prelude.{◌≡◌};
+
+use super::Node;
+use dn_machine::{Made, Phase};
+use dn_tic::Keys;
+use dn_world::World;
+
+/// So many commands may wait to be run (`d_net.c`, NetUpdate).
+const AHEAD: u32 = 5;
+
+impl<W: World> Node<W> {
+    ghost use Rattle.dn_machine.specs.Building.{on_build};
+    ghost use Rattle.dn_node.specs.Contents.{contents};
+    ghost use Rattle.dn_node.specs.Steps.{Steps};
+
+    /// Builds the command of these keys for the next tic.
+    pub fn build(&mut self, keys: Keys) -> Made
+        ensures { Steps W.state W.physics (contents self.old) (contents self.new)
+            (λ rules me m. on_build rules me m keys) (λ made. result ≡ made) }
+    {
+        let Phase::Playing = self.phase else {
+            return Made::NotPlaying;
+        };
+        let tic = self.made();
+        if tic - self.ran >= AHEAD {
+            return Made::Full;
+        }
+        let mark = self.marks.get(self.me, tic);
+        let command = self.builder.build(keys, mark);
+        self.rings.put(self.me, command);
+        Made::Made(tic)
+    }
+}

@@ -1,0 +1,36 @@
+//! How a node ends.
+
+ghost use Rattle.std.specs.Prelude.{◌≡◌};
+ghost use Rattle.dn_machine.specs.declared.answers.Phase.TheVariants.{Playing, Ended};
+
+use super::Node;
+use dn_machine::{Cause, Phase};
+use dn_world::World;
+
+impl<W: World> Node<W> {
+    ghost use Rattle.dn_machine.specs.Running.{on_quit};
+    ghost use Rattle.dn_node.specs.Contents.{contents};
+    ghost use Rattle.dn_node.specs.Steps.{Steps, Becomes};
+
+    /// Ends a node that plays, and closes its demo.
+    pub(super) fn end(&mut self, cause: Cause)
+        requires { (contents self.old).phase ≡ Playing }
+        ensures { Becomes W.state W.physics (contents self.old) (contents self.new) (λ rules me m. record m { phase = Ended cause }) }
+    {
+        self.phase = Phase::Ended(cause);
+        self.demo.close();
+    }
+
+    /// Ends the node, and answers whether it had not ended.
+    pub fn quit(&mut self) -> bool
+        ensures { Steps W.state W.physics (contents self.old) (contents self.new)
+            (λ rules me m. on_quit m) (λ quit. result ≡ quit) }
+    {
+        match self.phase {
+            Phase::Ended(_) => return false,
+            Phase::Playing => self.end(Cause::Quit),
+            Phase::Listening | Phase::Gathering => self.phase = Phase::Ended(Cause::Quit),
+        }
+        true
+    }
+}

@@ -1,0 +1,141 @@
+//! What a node does with a datagram.
+
+ghost use Rattle.std.specs.Prelude.{◌≡◌, ◌≢◌, ◌<◌, true, Result, Ok};
+ghost use Rattle.dn_packet.specs.declared.packet.Packet.{Packet};
+ghost use Rattle.dn_packet.specs.declared.packet.PacketFault.{PacketFault};
+ghost use Rattle.dn_packet.specs.Read.{IsReadAs};
+ghost use Rattle.dn_packet.specs.Text.{text};
+ghost use Rattle.dn_setup.specs.Settings.{Settings};
+ghost use Rattle.dn_setup.specs.Setup.{IsSetupReadAs};
+ghost use Rattle.dn_setup.specs.declared.setup.SetupFault.{SetupFault};
+ghost use Rattle.dn_machine.specs.declared.answers.Phase.TheVariants.{Gathering, Playing};
+ghost use Rattle.dn_machine.specs.Flight.{Flight, packet_of, is_near};
+ghost use Rattle.dn_machine.specs.Hearing.{on_packet};
+ghost use Rattle.dn_node.specs.Near.{IsFair};
+ghost use Rattle.dn_node.specs.Rings.{count_of};
+ghost use Rattle.dn_node.specs.Received.{received, on_read, on_set_up, on_gathered, on_played, IsTold};
+
+use super::Node;
+use crate::numbers::{
+    KILLED, LENGTH, MANY, NOT_PLAYING, OUT_OF_PLACE, RANGE, SHORT, STRANGER, SUM, VERSION,
+};
+use crate::reading::has_flag;
+use dn_machine::{Cause, Heard, Phase};
+use dn_packet::{EXIT, KILL, Packet, PacketFault, SETUP, decode};
+use dn_setup::{SetupFault, from_packet};
+use dn_world::World;
+
+/// The number of the key player.
+const KEY: u8 = 0;
+
+impl<W: World> Node<W> {
+    ghost use Rattle.dn_node.specs.Contents.{contents};
+    ghost use Rattle.dn_node.specs.Steps.{Steps};
+
+    /// Hears a datagram of this player. A datagram that is dropped changes nothing.
+    pub fn receive(&mut self, from: u8, bytes: &[u8]) -> Heard
+        ensures any { (read : Result Packet PacketFault) (told : Result Settings SetupFault)
+            → IsReadAs bytes.now read → IsTold read told
+            → Steps W.state W.physics (contents self.old) (contents self.new)
+            (λ rules me m. received rules me m from told read) (λ heard. result ≡ heard) }
+        ensures near { (flight : Flight) → IsFair flight → bytes.now ≡ text (packet_of flight) → flight.from ≡ from
+            → from < (contents self.old).players → from ≢ (contents self.old).me
+            → is_near (count_of (contents self.old).rings (contents self.old).me) flight ≡ true
+            → Steps W.state W.physics (contents self.old) (contents self.new)
+            (λ rules me m. on_packet rules me m flight) (λ heard. result ≡ heard) }
+    {
+        if let Phase::Ended(_) = self.phase {
+            return Heard::Dropped(NOT_PLAYING);
+        }
+        if from >= self.players || from == self.me {
+            return Heard::Dropped(STRANGER);
+        }
+        match decode(bytes) {
+            Ok(packet) => self.hear(from, &packet),
+            Err(PacketFault::Short) => Heard::Dropped(SHORT),
+            Err(PacketFault::Many) => Heard::Dropped(MANY),
+            Err(PacketFault::Length) => Heard::Dropped(LENGTH),
+            Err(PacketFault::Sum) => Heard::Dropped(SUM),
+        }
+    }
+
+    /// Hears a peer's packet.
+    fn hear(&mut self, from: u8, packet: &Packet) -> Heard
+        requires peer { from < (contents self.old).players }
+        requires other { from ≢ (contents self.old).me }
+        ensures { (told : Result Settings SetupFault) → IsSetupReadAs packet.now told
+            → Steps W.state W.physics (contents self.old) (contents self.new)
+            (λ rules me m. on_read rules me m from told (Ok packet.now)) (λ heard. result ≡ heard) }
+    {
+        if has_flag(packet, SETUP) {
+            return self.hear_set_up(from, packet);
+        }
+        match self.phase {
+            Phase::Listening | Phase::Ended(_) => Heard::Dropped(NOT_PLAYING),
+            _ if packet.player != from => Heard::Dropped(STRANGER),
+            Phase::Gathering => self.hear_gathering(from, packet),
+            Phase::Playing => self.hear_playing(from, packet),
+        }
+    }
+
+    /// Hears a set-up packet, which only a listener takes, and only from the key player.
+    fn hear_set_up(&mut self, from: u8, packet: &Packet) -> Heard
+        ensures { (told : Result Settings SetupFault) → IsSetupReadAs packet.now told
+            → Steps W.state W.physics (contents self.old) (contents self.new)
+            (λ rules me m. on_set_up m from told m.phase) (λ heard. result ≡ heard) }
+    {
+        let Phase::Listening = self.phase else {
+            return Heard::Dropped(OUT_OF_PLACE);
+        };
+        if from != KEY {
+            return Heard::Dropped(OUT_OF_PLACE);
+        }
+        match from_packet(packet) {
+            Ok(settings) => {
+                self.start(settings);
+                Heard::Started
+            }
+            Err(SetupFault::NotSetup) => Heard::Dropped(OUT_OF_PLACE),
+            Err(SetupFault::Version) => Heard::Dropped(VERSION),
+            Err(SetupFault::Range) => Heard::Dropped(RANGE),
+        }
+    }
+
+    /// Hears a peer while gathering, and starts once every peer was heard. What the packet carries is
+    /// not kept.
+    fn hear_gathering(&mut self, from: u8, packet: &Packet) -> Heard
+        requires gathers { (contents self.old).phase ≡ Gathering }
+        requires peer { from < (contents self.old).players }
+        ensures { Steps W.state W.physics (contents self.old) (contents self.new)
+            (λ rules me m. on_gathered rules m from packet.now) (λ heard. result ≡ heard) }
+    {
+        if has_flag(packet, KILL) {
+            return Heard::Dropped(KILLED);
+        }
+        if !self.gather.hear(from) {
+            return Heard::Noted;
+        }
+        if let Some(settings) = self.settings {
+            self.start(settings);
+        }
+        Heard::Started
+    }
+
+    /// Hears a peer while playing.
+    fn hear_playing(&mut self, from: u8, packet: &Packet) -> Heard
+        requires plays { (contents self.old).phase ≡ Playing }
+        requires peer { from < (contents self.old).players }
+        requires other { from ≢ (contents self.old).me }
+        ensures { Steps W.state W.physics (contents self.old) (contents self.new)
+            (λ rules me m. on_played me m from packet.now) (λ heard. result ≡ heard) }
+    {
+        if has_flag(packet, EXIT) {
+            self.end(Cause::Left(from));
+            return Heard::Left;
+        }
+        if has_flag(packet, KILL) {
+            return Heard::Dropped(KILLED);
+        }
+        self.take(from, packet)
+    }
+}

@@ -1,0 +1,83 @@
+//! How a node is made.
+
+ghost use Rattle.std.specs.Prelude.{◌≡◌, ◌≤◌, Some, IfOk};
+ghost use Rattle.dn_node.specs.Opening.{IsAdmitted};
+
+use super::Node;
+use crate::config::{Config, NodeFault};
+use crate::marks::Marks;
+use crate::peers::Peers;
+use crate::rings::Rings;
+use dn_demo::{Recorder, RecorderFault};
+use dn_machine::Phase;
+use dn_setup::Gather;
+use dn_tic::Builder;
+use dn_world::World;
+use std::alloc::Global;
+
+/// How many bytes of a demo are not commands: the header and the marker.
+const FRAME: u32 = 14;
+
+/// How many bytes a command has in a demo.
+const COMMAND: u32 = 4;
+
+impl<W: World> Node<W> {
+    ghost use Rattle.dn_setup.specs.Settings.{Settings as Choice};
+    ghost use Rattle.dn_machine.specs.Game.{fresh};
+    ghost use Rattle.dn_machine.specs.Worlds.{rules_of};
+    ghost use Rattle.dn_node.specs.Contents.{contents};
+    ghost use Rattle.dn_node.specs.Represents.{Represents};
+
+    /// A node with no history: player 0 gathers, the others listen. All memory that it needs is taken
+    /// here; the world is given up where there is no node.
+    pub fn new(alloc: Global, config: Config, world: W) -> Result<Node<W>, NodeFault>
+        ensures admitted { IsAdmitted config result }
+        ensures opened { IfOk result (λ node. (settings : Choice)
+            → (config.me ≡ 0 → config.settings ≡ Some settings)
+            → Represents W.state (rules_of W.physics config.players config.extra config.limit) config.me
+            (contents node) (fresh settings config.me)) }
+    {
+        let Config {
+            players,
+            me,
+            extra,
+            limit,
+            settings,
+        } = config;
+        if !(2..=4).contains(&players) {
+            return Err(NodeFault::Players);
+        }
+        if me >= players {
+            return Err(NodeFault::Me);
+        }
+        if settings.is_some() != (me == 0) {
+            return Err(NodeFault::Key);
+        }
+        let demo = match Recorder::new(alloc, limit) {
+            Ok(demo) => demo,
+            Err(RecorderFault::Limit) => return Err(NodeFault::Limit),
+            Err(RecorderFault::Memory) => return Err(NodeFault::Memory),
+        };
+        Ok(Node {
+            players,
+            me,
+            extra,
+            capacity: (limit - FRAME) / (COMMAND * u32::from(players)),
+            phase: if me == 0 {
+                Phase::Gathering
+            } else {
+                Phase::Listening
+            },
+            played: false,
+            settings,
+            gather: Gather::new(players),
+            builder: Builder::new(),
+            ran: 0,
+            rings: Rings::new(),
+            peers: Peers::new(),
+            marks: Marks::new(),
+            demo,
+            world,
+        })
+    }
+}

@@ -1,0 +1,52 @@
+//! How a node runs a tic.
+
+ghost use Rattle.std.specs.Prelude.{◌≡◌};
+
+use super::Node;
+use crate::rows::{awaited, mark_of, off, row_at};
+use dn_machine::{Cause, Phase, Ran};
+use dn_world::World;
+
+impl<W: World> Node<W> {
+    ghost use Rattle.dn_machine.specs.Running.{on_run};
+    ghost use Rattle.dn_node.specs.Contents.{contents};
+    ghost use Rattle.dn_node.specs.Steps.{Steps};
+
+    /// Runs the next tic, where every player's command is there and no mark is off.
+    pub fn run(&mut self) -> Ran
+        ensures { Steps W.state W.physics (contents self.old) (contents self.new)
+            (λ rules me m. on_run rules m) (λ ran. result ≡ ran) }
+    {
+        let Phase::Playing = self.phase else {
+            return Ran::NotPlaying;
+        };
+        let tic = self.ran;
+        if let Some(player) = awaited(&self.rings, self.players, tic) {
+            return Ran::Waiting(player);
+        }
+        if let Some(player) = off(&self.rings, &self.marks, self.players, tic) {
+            let was = mark_of(&self.rings, player, tic);
+            let should = self.marks.get(player, tic);
+            self.end(Cause::Inconsistent {
+                player,
+                was,
+                should,
+            });
+            return Ran::Inconsistent {
+                player,
+                was,
+                should,
+            };
+        }
+        if tic == self.capacity {
+            self.end(Cause::Full);
+            return Ran::DemoFull;
+        }
+        let row = row_at(&self.rings, self.players, tic);
+        self.marks.stamp(&self.world, self.players, tic);
+        self.world.step(&row);
+        self.ran += 1;
+        self.demo.row(&row);
+        Ran::Ran(tic)
+    }
+}

@@ -1,0 +1,179 @@
+//! What a node gives to a peer.
+
+ghost use Rattle.std.specs.Prelude.{◌≡◌, ◌<◌, IfSome};
+ghost use Rattle.std.specs.Option.{option_map};
+ghost use Rattle.dn_setup.specs.Starts.{bit};
+ghost use Rattle.dn_machine.specs.declared.answers.Phase.TheVariants.{Ended};
+ghost use Rattle.dn_machine.specs.Flight.{Play, packet_of};
+ghost use Rattle.dn_machine.specs.Sending.{ended_by, commands_flight, request_to, on_send_in};
+ghost use Rattle.dn_node.specs.Near.{IsFair};
+ghost use Rattle.dn_node.specs.Sent.{sent_to, after_giving, aim_of, bytes_of};
+
+use super::Node;
+use crate::peers::Peer;
+use arrayvec::ArrayVec;
+use dn_machine::{Cause, Phase};
+use dn_packet::{EXIT, Packet, RETRANSMIT, SETUP, encode};
+use dn_setup::to_packet;
+use dn_world::World;
+
+/// How many commands a ring keeps (`d_net.h`, BACKUPTICS).
+const PLACES: u32 = 12;
+
+/// How many EXIT packets a peer is given (`d_net.c`, D_QuitNetGame).
+const EXITS: u8 = 4;
+
+/// The exact numbers of a packet, of which it carries the low bytes.
+#[derive(Clone, Copy, Debug, PartialEq, Eq)]
+pub struct Aim {
+    /// Bits of EXIT, RETRANSMIT and SETUP, as the packet has them.
+    pub flags: u8,
+    /// The tic from which commands are asked for again.
+    pub ask: Option<u32>,
+    /// The tic of the first command, and 0 for set-up.
+    pub start: u32,
+    /// How many commands there are.
+    pub count: u8,
+}
+
+/// Whether this player's EXIT ended a node.
+fn ended_by(cause: Cause, player: u8) -> bool
+    ensures { result ≡ ended_by cause player }
+{
+    match cause {
+        Cause::Left(leaver) => leaver == player,
+        _ => false,
+    }
+}
+
+impl<W: World> Node<W> {
+    ghost use Rattle.dn_node.specs.Contents.{contents};
+    ghost use Rattle.dn_node.specs.Steps.{Steps, Becomes};
+    ghost use Rattle.dn_node.specs.Giving.{Reaches, Gives};
+
+    /// The exact numbers of the packet that `packet` would give now.
+    pub fn aim(&self, to: u8) -> Option<Aim>
+        ensures step { Steps W.state W.physics (contents self.now) (contents self.now)
+            (λ rules me m. (m, (sent_to to rules me m).1)) (λ flight. result ≡ option_map aim_of flight) }
+        ensures reach { IfSome result (λ aim. Reaches (contents self.now) aim × Gives (contents self.now) to) }
+    {
+        if to == self.me || to >= self.players {
+            return None;
+        }
+        match self.phase {
+            Phase::Listening => None,
+            Phase::Gathering => Some(Aim {
+                flags: SETUP,
+                ask: None,
+                start: 0,
+                count: 0,
+            }),
+            Phase::Playing => Some(self.aim_of_commands(to)),
+            Phase::Ended(cause) => self.aim_of_exit(to, cause),
+        }
+    }
+
+    /// The numbers of a packet of commands.
+    fn aim_of_commands(&self, to: u8) -> Aim
+        requires below { to < (contents self.now).players }
+        ensures step { Steps W.state W.physics (contents self.now) (contents self.now)
+            (λ rules me m. (m, commands_flight rules me m to Play (request_to m to))) (λ flight. result ≡ aim_of flight) }
+        ensures reach { Reaches (contents self.now) result }
+    {
+        let made = self.made();
+        let peer = self.peers.get(to);
+        let start = if peer.resend < made.saturating_sub(PLACES) {
+            made - self.lag()
+        } else {
+            peer.resend
+        };
+        let ask = peer.want.then(|| self.rings.count(to));
+        Aim {
+            flags: if peer.want { RETRANSMIT } else { 0 },
+            ask,
+            start,
+            count: (made - start) as u8,
+        }
+    }
+
+    /// The numbers of an EXIT packet: a node that has played gives four to each peer, but none to the
+    /// one whose EXIT ended it.
+    fn aim_of_exit(&self, to: u8, cause: Cause) -> Option<Aim>
+        requires below { to < (contents self.now).players }
+        ensures step { Steps W.state W.physics (contents self.now) (contents self.now)
+            (λ rules me m. (m, (on_send_in rules me m to (Ended cause)).1)) (λ flight. result ≡ option_map aim_of flight) }
+        ensures reach { IfSome result (Reaches (contents self.now)) }
+    {
+        if self.played && self.peers.get(to).exits < EXITS && !ended_by(cause, to) {
+            Some(Aim {
+                flags: EXIT,
+                ask: None,
+                start: self.made(),
+                count: 0,
+            })
+        } else {
+            None
+        }
+    }
+
+    /// How many commands are sent again with each packet.
+    fn lag(&self) -> u32
+        ensures { result ≡ bit (contents self.now).extra }
+    {
+        u32::from(self.extra)
+    }
+
+    /// The packet that `packet` would give now.
+    fn outgoing(&self, to: u8) -> Option<Packet>
+        ensures step { Steps W.state W.physics (contents self.now) (contents self.now)
+            (λ rules me m. (m, (sent_to to rules me m).1)) (λ flight. result ≡ option_map packet_of flight) }
+        ensures flags { IfSome result (λ packet. packet.flags < 16) }
+        ensures given { IfSome result (λ packet. Gives (contents self.now) to) }
+    {
+        let aim = self.aim(to)?;
+        if let (Phase::Gathering, Some(settings)) = (self.phase, self.settings) {
+            return Some(to_packet(&settings));
+        }
+        Some(Packet {
+            flags: aim.flags,
+            ask: (aim.ask.unwrap_or(0) % 256) as u8,
+            start: (aim.start % 256) as u8,
+            player: self.me,
+            cmds: self.rings.since(self.me, aim.start),
+        })
+    }
+
+    /// Notes that a packet was given.
+    fn note_sent(&mut self, to: u8)
+        requires { Gives (contents self.old) to }
+        ensures { Becomes W.state W.physics (contents self.old) (contents self.new)
+            (λ rules me m. after_giving rules me m to m.phase) }
+    {
+        let peer = self.peers.get(to);
+        match self.phase {
+            Phase::Listening | Phase::Gathering => (),
+            Phase::Playing => {
+                let resend = self.made().saturating_sub(self.lag());
+                self.peers.put(to, Peer { resend, ..peer });
+            }
+            Phase::Ended(_) => {
+                let exits = peer.exits + 1;
+                self.peers.put(to, Peer { exits, ..peer });
+            }
+        }
+    }
+
+    /// The next packet to a peer; None for the node itself, for a number that is no player's, and where
+    /// the node has nothing to give.
+    pub fn packet(&mut self, to: u8) -> Option<ArrayVec<u8, 104>>
+        ensures step { Steps W.state W.physics (contents self.old) (contents self.new)
+            (λ rules me m. sent_to to rules me m)
+            (λ flight. option_map (λ bytes. bytes.items) result ≡ option_map bytes_of flight) }
+        ensures fair { Steps W.state W.physics (contents self.old) (contents self.new)
+            (λ rules me m. sent_to to rules me m) (λ flight. IfSome flight IsFair) }
+    {
+        let packet = self.outgoing(to)?;
+        self.note_sent(to);
+        Some(encode(&packet))
+    }
+}

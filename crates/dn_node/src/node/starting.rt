@@ -1,0 +1,30 @@
+//! How a node starts to play.
+
+ghost use Rattle.std.specs.Prelude.{◌≡◌, true};
+ghost use Rattle.dn_node.specs.Phases.{is_waiting};
+
+use super::Node;
+use crate::rows::seats;
+use dn_machine::Phase;
+use dn_setup::Settings;
+use dn_world::World;
+
+impl<W: World> Node<W> {
+    ghost use Rattle.dn_machine.specs.Hearing.{started};
+    ghost use Rattle.dn_node.specs.Contents.{contents};
+    ghost use Rattle.dn_node.specs.Steps.{Becomes};
+
+    /// Begins to play a game of these settings.
+    pub(super) fn start(&mut self, settings: Settings)
+        requires { is_waiting (contents self.old).phase ≡ true }
+        ensures { Becomes W.state W.physics (contents self.old) (contents self.new) (λ rules me m. started m settings) }
+    {
+        let start = settings.start();
+        let present = seats(self.players);
+        self.world.begin(&start, present);
+        self.phase = Phase::Playing;
+        self.played = true;
+        self.settings = Some(settings);
+        self.demo.head(&start, self.me, present);
+    }
+}

@@ -1,0 +1,101 @@
+//! What a node keeps of each peer.
+
+ghost use Rattle.std.specs.Prelude.{◌≡◌, ◌≢◌, ◌<◌, ℕ};
+ghost use Rattle.dn_node.specs.Peers.{no_peer, peer_at, after_asking};
+
+use std::marker::Model;
+
+/// Within so many packets after a request no other is heard (`d_net.c`, RESENDCOUNT).
+const HOLD: u8 = 10;
+
+/// How many commands a ring holds (`d_net.h`, BACKUPTICS).
+const PLACES: u32 = 12;
+
+/// What a node keeps of a peer.
+#[derive(Clone, Copy, Debug)]
+pub(crate) struct Peer {
+    /// The first tic of the next packet to it.
+    pub(crate) resend: u32,
+    /// Whether the next packet asks it for a resend.
+    pub(crate) want: bool,
+    /// For how many of its packets no request is heard.
+    pub(crate) hold: u8,
+    /// How many EXIT packets it was given.
+    pub(crate) exits: u8,
+}
+
+impl Peer {
+    /// A peer of which nothing is known.
+    pub(crate) fn new() -> Peer
+        ensures { result ≡ no_peer }
+    {
+        Peer {
+            resend: 0,
+            want: false,
+            hold: 0,
+            exits: 0,
+        }
+    }
+
+    /// The peer after a packet with this request, if it has one.
+    pub(crate) fn after_asking(&self, made: u32, request: Option<u32>) -> Peer
+        ensures { result ≡ after_asking self.now made request }
+    {
+        match request {
+            Some(tic) if self.hold == 0 && tic <= made && made.saturating_sub(PLACES) <= tic => {
+                Peer {
+                    resend: tic,
+                    hold: HOLD,
+                    ..*self
+                }
+            }
+            _ => Peer {
+                hold: self.hold.saturating_sub(1),
+                ..*self
+            },
+        }
+    }
+}
+
+/// Four peers, by their numbers.
+#[derive(Debug, Drop)]
+pub(crate) struct Peers {
+    peers: [Peer; 4],
+}
+
+impl Model for Peers {
+    ghost use Rattle.std.specs.Prelude.{List};
+    ghost use Rattle.dn_node.specs.declared.peers.Peer.{Peer};
+
+    ghost Value = { List Peer };
+
+    ghost view = { λ p. p.peers };
+}
+
+impl Peers {
+    /// Peers of which nothing is known.
+    pub(crate) fn new() -> Peers
+        ensures { (p : ℕ) → peer_at result p ≡ no_peer }
+    {
+        Peers {
+            peers: [Peer::new(), Peer::new(), Peer::new(), Peer::new()],
+        }
+    }
+
+    /// What is kept of the peer.
+    pub(crate) fn get(&self, player: u8) -> Peer
+        requires { player < 4 }
+        ensures { result ≡ peer_at self.now player }
+    {
+        self.peers[usize::from(player)]
+    }
+
+    /// Keeps something else of the peer.
+    pub(crate) fn put(&mut self, player: u8, peer: Peer)
+        requires { player < 4 }
+        ensures put { peer_at self.new player ≡ peer }
+        ensures others { (p : ℕ) → p ≢ player → peer_at self.new p ≡ peer_at self.old p }
+    {
+        self.peers[usize::from(player)] = peer;
+    }
+}

@@ -1,0 +1,35 @@
+//! What a playing node looks for in a packet.
+
+ghost use Rattle.std.specs.Prelude.{◌≡◌, ◌≤◌};
+ghost use Rattle.std.specs.List.{list_any};
+ghost use Rattle.dn_node.specs.Rings.{is_stop};
+ghost use Rattle.dn_node.specs.Reading.{request_in, has_flag};
+
+use dn_packet::{Packet, RETRANSMIT};
+use dn_tic::{TicCmd, expand};
+
+/// Whether a flag of the packet is set.
+pub(crate) fn has_flag(packet: &Packet, flag: u8) -> bool
+    ensures { result ≡ has_flag packet.now flag }
+{
+    packet.flags & flag != 0
+}
+
+/// Whether some command would read as the end of a demo.
+pub(crate) fn has_stop(commands: &[TicCmd]) -> bool
+    ensures { result ≡ list_any is_stop commands.now }
+{
+    commands.iter().any(|command| command.forward == -128)
+}
+
+/// The tic from which the packet asks for commands again.
+pub(crate) fn request(made: u32, packet: &Packet) -> Option<u32>
+    requires { made ≤ 1000000000 }
+    ensures { result ≡ request_in made packet.now }
+{
+    if has_flag(packet, RETRANSMIT) {
+        expand(made, packet.ask)
+    } else {
+        None
+    }
+}
