@@ -24,17 +24,15 @@ demo_with rules me m (Some settings) = demo_text (start_of settings) me (seats_o
 abbrev pub demo_of : {S : Type 0} → Rules S → ℕ → machine.Node → List ℕ
 demo_of rules me m = if m.played then demo_with rules me m m.settings else []
 
--- the node of this number, in a game of these rules
-pub record IsNodeOf {W S : Type 0} (rules : Rules S) (me : ℕ) (n : Contents W) : Type 0 where
+pub record Represents {W S : Type 0} (state : W → S) (rules : Rules S) (me : ℕ) (n : Contents W) (m : machine.Node) : Type 0 where
+  -- whose node it is, and of what game
   pub players : n.players ≡ rules.players
   pub number : n.me ≡ me
   pub extra : n.extra ≡ rules.extra
   pub limit : n.demo.limit ≡ rules.limit
   pub capacity : n.capacity ≡ running.capacity rules
   pub gathers : n.gather.players ≡ rules.players
-
-pub record Represents {W S : Type 0} (state : W → S) (rules : Rules S) (me : ℕ) (n : Contents W) (m : machine.Node) : Type 0 where
-  pub game : IsNodeOf rules me n
+  -- where it stands
   pub phase : n.phase ≡ m.phase
   pub played : n.played ≡ m.played
   pub settings : n.settings ≡ m.settings
