@@ -1,0 +1,4 @@
+pub mod After
+pub mod Counting
+pub mod Quitting
+pub mod Building

@@ -1,6 +1,6 @@
 //! The command that a list of key states makes.
 
-ghost use Rattle.std.specs.Prelude.{◌≡◌, ◌≤◌, List, ℕ, [], ◌∷◌, ◌++◌};
+ghost use Rattle.std.specs.Prelude.{◌≡◌, ◌≤◌, ◌≤ℤ◌, pos, negsuc, List, ℕ, [], ◌∷◌, ◌++◌};
 ghost use Rattle.dn_tic.specs.Pressed.{turn_hold, pressed};
 
 use crate::command::TicCmd;
@@ -59,6 +59,8 @@ impl Builder {
     /// The command of these keys, with this consistency mark.
     pub fn build(&mut self, keys: Keys, mark: i16) -> TicCmd
         ensures command { (states : List ℕ) → self.old ≡ turn_hold states → result ≡ pressed (states ++ keys ∷ []) mark }
+        ensures least { negsuc 49 ≤ℤ result.forward }
+        ensures most { result.forward ≤ℤ pos 50 }
         ensures hold { (states : List ℕ) → self.old ≡ turn_hold states → self.new ≡ turn_hold (states ++ keys ∷ []) }
     {
         self.hold = next_hold(self.hold, keys);

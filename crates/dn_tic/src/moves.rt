@@ -74,7 +74,9 @@ fn turn_amount(keys: Keys, hold: u8) -> i16
 
 /// How far the keys go forward.
 pub(crate) fn forward_move(keys: Keys) -> i8
-    ensures { result ≡ clamped (opposed keys Key.Forward Key.Back (forward_amount keys)) }
+    ensures value { result ≡ clamped (opposed keys Key.Forward Key.Back (forward_amount keys)) }
+    ensures least { negsuc 49 ≤ℤ result }
+    ensures most { result ≤ℤ pos 50 }
 {
     opposed(keys, Key::Forward, Key::Back, forward_amount(keys)).clamp(-FARTHEST, FARTHEST) as i8
 }

@@ -7,7 +7,7 @@ use Rattle.dn_tic.proofs.builder.Builder.build.Goals as goal
 pub returns-clause-command : goal.returns-clause-command
 returns-clause-command c = λ states e.
     let hold = c.next_hold-self-inside.ensures.value states (c.self.view_is ∙ e) in
-    let forward = to_z-of_z w8 c.forward_move.result (search rules) ∙ c.forward_move.ensures in
+    let forward = to_z-of_z w8 c.forward_move.result (search rules) ∙ c.forward_move.ensures.value in
     let side = to_z-of_z w8 c.side_move.result (search rules) ∙ c.side_move.ensures in
     let turn = to_z-of_z w16 c.turn.result (search rules) ∙ c.turn.ensures in
     let mark = to_z-of_z w16 c.args.mark (search rules) in
