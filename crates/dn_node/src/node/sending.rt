@@ -1,11 +1,12 @@
 //! What a node gives to a peer.
 
-ghost use Rattle.std.specs.Prelude.{◌≡◌, ◌<◌, IfSome};
+ghost use Rattle.std.specs.Prelude.{◌≡◌, ◌<◌, ◌≤◌, ◌+◌, IfSome};
 ghost use Rattle.std.specs.Option.{option_map};
 ghost use Rattle.dn_setup.specs.Starts.{bit};
 ghost use Rattle.dn_machine.specs.declared.answers.Phase.TheVariants.{Ended};
-ghost use Rattle.dn_machine.specs.Flight.{Play, packet_of};
-ghost use Rattle.dn_machine.specs.Sending.{ended_by, commands_flight, request_to, on_send_in};
+ghost use Rattle.dn_machine.specs.Flight.{Play, packet_of, request_flag};
+ghost use Rattle.dn_machine.specs.Sending.{ended_by, commands_flight, first_sent, request_to, on_send_in};
+ghost use Rattle.dn_node.specs.Rings.{count_of};
 ghost use Rattle.dn_node.specs.Near.{IsFair};
 ghost use Rattle.dn_node.specs.Sent.{sent_to, after_giving, aim_of, bytes_of};
 
@@ -46,6 +47,16 @@ fn ended_by(cause: Cause, player: u8) -> bool
     }
 }
 
+/// The flag of a packet that asks for commands again.
+fn request_flag(ask: Option<u32>) -> u8
+    ensures { result ≡ request_flag ask }
+{
+    match ask {
+        Some(_) => RETRANSMIT,
+        None => 0,
+    }
+}
+
 impl<W: World> Node<W> {
     ghost use Rattle.dn_node.specs.Contents.{contents};
     ghost use Rattle.dn_node.specs.Steps.{Steps, Becomes};
@@ -73,26 +84,50 @@ impl<W: World> Node<W> {
         }
     }
 
+    /// The first tic of the next packet to a peer, never more than twelve behind.
+    fn first_sent(&self, to: u8) -> u32
+        requires { to < (contents self.now).players }
+        ensures step { Steps W.state W.physics (contents self.now) (contents self.now)
+            (λ rules me m. (m, first_sent rules me m to)) (λ tic. result ≡ tic) }
+        ensures low { result ≤ count_of (contents self.now).rings (contents self.now).me }
+        ensures high { count_of (contents self.now).rings (contents self.now).me ≤ result + 12 }
+    {
+        let made = self.made();
+        let resend = self.peers.get(to).resend;
+        if resend < made.saturating_sub(PLACES) {
+            made - self.lag()
+        } else {
+            resend
+        }
+    }
+
+    /// The tic that the peer is asked for, if commands of it are missing.
+    fn request_to(&self, to: u8) -> Option<u32>
+        requires { to < (contents self.now).players }
+        ensures { Steps W.state W.physics (contents self.now) (contents self.now)
+            (λ rules me m. (m, request_to m to)) (λ request. result ≡ request) }
+    {
+        if self.peers.get(to).want {
+            Some(self.rings.count(to))
+        } else {
+            None
+        }
+    }
+
     /// The numbers of a packet of commands.
     fn aim_of_commands(&self, to: u8) -> Aim
-        requires below { to < (contents self.now).players }
+        requires { to < (contents self.now).players }
         ensures step { Steps W.state W.physics (contents self.now) (contents self.now)
             (λ rules me m. (m, commands_flight rules me m to Play (request_to m to))) (λ flight. result ≡ aim_of flight) }
         ensures reach { Reaches (contents self.now) result }
     {
-        let made = self.made();
-        let peer = self.peers.get(to);
-        let start = if peer.resend < made.saturating_sub(PLACES) {
-            made - self.lag()
-        } else {
-            peer.resend
-        };
-        let ask = peer.want.then(|| self.rings.count(to));
+        let start = self.first_sent(to);
+        let ask = self.request_to(to);
         Aim {
-            flags: if peer.want { RETRANSMIT } else { 0 },
+            flags: request_flag(ask),
             ask,
             start,
-            count: (made - start) as u8,
+            count: (self.made() - start) as u8,
         }
     }
 
@@ -103,6 +138,7 @@ impl<W: World> Node<W> {
         ensures step { Steps W.state W.physics (contents self.now) (contents self.now)
             (λ rules me m. (m, (on_send_in rules me m to (Ended cause)).1)) (λ flight. result ≡ option_map aim_of flight) }
         ensures reach { IfSome result (Reaches (contents self.now)) }
+        ensures few { IfSome result (λ aim. ((contents self.now).peers to).exits < 4) }
     {
         if self.played && self.peers.get(to).exits < EXITS && !ended_by(cause, to) {
             Some(Aim {

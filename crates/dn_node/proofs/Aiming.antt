@@ -1,0 +1,30 @@
+-- The numbers of what the machine's node sends.
+use Rattle.std.proofs.Common.{◌≡◌, ◌≢◌, ◌+◌, ◌-◌, ℕ, Option, Some, None, length, drop, refl, ap, sym, ◌∙◌, arith}
+use Rattle.std.specs.Option.{option_map}
+use Rattle.dn_setup.specs.Settings.{Settings}
+use Rattle.std.proofs.lemmas.List.{length-drop}
+use Rattle.dn_machine.specs.Worlds.{Rules}
+use Rattle.dn_machine.specs.Node as machine
+use Rattle.dn_machine.specs.Flight.{Play, Flight, request_flag}
+use Rattle.dn_machine.specs.Sending.{commands_flight, first_sent, request_to, set_up_flight}
+use Rattle.dn_node.specs.declared.node.sending.Aim.{Aim}
+use Rattle.dn_node.specs.Sent.{aim_of, sent_to}
+
+pub aim_is : {S : Type 0} (rules : Rules S) (me : ℕ) (m : machine.Node) (to flags : ℕ) (ask : Option ℕ) (start count made : ℕ)
+    → flags ≡ request_flag ask → ask ≡ request_to m to → start ≡ first_sent rules me m to → made ≡ machine.made me m → count ≡ made - start
+    → ◌≡◌ {A = Aim} (record { flags = flags; ask = ask; start = start; count = count }) (aim_of (commands_flight rules me m to Play (request_to m to)))
+aim_is rules me m to flags ask start count made f a s e c =
+    let flag : flags ≡ 0 + request_flag (request_to m to) = f ∙ ap request_flag a ∙ (omega arith) in
+    let long : count ≡ length (drop (first_sent rules me m to) (m.held me)) =
+    c ∙ ap (λ (k : ℕ). k - start) e ∙ ap (λ (k : ℕ). machine.made me m - k) s ∙ sym (length-drop (first_sent rules me m to) (m.held me)) in
+    λ i. record { flags = flag i; ask = a i; start = s i; count = long i }
+
+pub aim_of_set_up : (me to : ℕ) (settings : Option Settings) → settings ≢ None
+    → ◌≡◌ {A = Option Aim} (Some (record { flags = 2; ask = None; start = 0; count = 0 })) (option_map aim_of (set_up_flight me to settings))
+aim_of_set_up me to None n = absurd (n refl)
+aim_of_set_up me to (Some settings) n = refl
+
+-- the aim of what is sent, where what is sent is known
+pub aimed : {S : Type 0} (rules : Rules S) (me : ℕ) (m : machine.Node) (to : ℕ) (next : machine.Node × Option Flight) (aim : Option Aim)
+    → sent_to to rules me m ≡ next → aim ≡ option_map aim_of next.1 → aim ≡ option_map aim_of (sent_to to rules me m).1
+aimed rules me m to next aim e is = is ∙ ap (λ (x : machine.Node × Option Flight). option_map aim_of x.1) (sym e)
