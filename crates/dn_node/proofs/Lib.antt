@@ -6,3 +6,4 @@ pub mod Peering
 pub mod Giving
 pub mod Aiming
 pub mod Sending
+pub mod Opening

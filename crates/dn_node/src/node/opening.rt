@@ -1,6 +1,7 @@
 //! How a node is made.
 
-ghost use Rattle.std.specs.Prelude.{◌≡◌, ◌≤◌, Some, IfOk};
+ghost use Rattle.std.specs.Prelude.{◌≡◌, ◌==◌, if◌then◌else◌, Some, IfOk};
+ghost use Rattle.dn_machine.specs.declared.answers.Phase.TheVariants.{Listening, Gathering};
 ghost use Rattle.dn_node.specs.Opening.{IsAdmitted};
 
 use super::Node;
@@ -20,6 +21,17 @@ const FRAME: u32 = 14;
 
 /// How many bytes a command has in a demo.
 const COMMAND: u32 = 4;
+
+/// Player 0 has the settings and gathers, and the others listen.
+fn first_phase(me: u8) -> Phase
+    ensures { result ≡ (if me == 0 then Gathering else Listening) }
+{
+    if me == 0 {
+        Phase::Gathering
+    } else {
+        Phase::Listening
+    }
+}
 
 impl<W: World> Node<W> {
     ghost use Rattle.dn_setup.specs.Settings.{Settings as Choice};
@@ -63,11 +75,7 @@ impl<W: World> Node<W> {
             me,
             extra,
             capacity: (limit - FRAME) / (COMMAND * u32::from(players)),
-            phase: if me == 0 {
-                Phase::Gathering
-            } else {
-                Phase::Listening
-            },
+            phase: first_phase(me),
             played: false,
             settings,
             gather: Gather::new(players),
