@@ -1,6 +1,6 @@
 //! The consistency table: each player's marks of the last twelve tics.
 
-ghost use Rattle.std.specs.Prelude.{◌≡◌, ◌≢◌, ◌<◌, ◌≤◌, ◌%◌, ℕ, pos};
+ghost use Rattle.std.specs.Prelude.{◌≡◌, ◌≢◌, ◌<◌, ◌≤◌, ◌%◌, ℕ, pos, slice_index_or};
 ghost use Rattle.dn_node.specs.Marks.{slot};
 
 use dn_world::World;
@@ -13,6 +13,17 @@ const PLACES: u32 = 12;
 #[derive(Clone, Copy, Debug)]
 struct Slots {
     slots: [i16; 12],
+}
+
+impl Slots {
+    /// Keeps another mark.
+    fn put(&mut self, place: usize, mark: i16)
+        requires { place < 12 }
+        ensures put { slice_index_or self.new.slots place (pos 0) ≡ mark }
+        ensures others { (j : ℕ) → j ≢ place → slice_index_or self.new.slots j (pos 0) ≡ slice_index_or self.old.slots j (pos 0) }
+    {
+        self.slots[place] = mark;
+    }
 }
 
 /// Four players' marks. A contract sees them by the player and the remainder of the tic.
@@ -56,10 +67,7 @@ impl Marks {
         ensures put { slot self.new player (tic % 12) ≡ mark }
         ensures others { (p j : ℕ) → (p ≡ player → j ≢ tic % 12) → slot self.new p j ≡ slot self.old p j }
     {
-        let place = usize::from(player);
-        let mut slots = self.players[place];
-        slots.slots[(tic % PLACES) as usize] = mark;
-        self.players[place] = slots;
+        self.players[usize::from(player)].put((tic % PLACES) as usize, mark);
     }
 
     /// Keeps each player's mark in the world, for the tic twelve on.
