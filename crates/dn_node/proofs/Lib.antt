@@ -7,3 +7,4 @@ pub mod Giving
 pub mod Aiming
 pub mod Sending
 pub mod Opening
+pub mod Keeping
