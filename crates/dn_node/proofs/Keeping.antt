@@ -1,10 +1,11 @@
 -- What a ring gives of the commands that were put into it.
-use Rattle.std.proofs.Common.{◌≡◌, ◌≢◌, ◌<◌, ℕ, negsuc, Bool, true, false, cond, List, length, get_or, None, subst, inl, inr}
+use Rattle.std.proofs.Common.{take, append_assoc, ◌++◌, ◌∷◌, [], ◌+◌, ap, sym, ◌∙◌, ◌≡◌, ◌≢◌, ◌<◌, ℕ, negsuc, Bool, true, false, cond, List, length, get_or, None, subst, inl, inr}
 use Rattle.std.specs.Prelude.{slice_get, IfSome, All}
 use Rattle.std.proofs.lemmas.Option.{slice_get_cases}
-use Rattle.std.proofs.lemmas.List.{get_or_default}
+use Rattle.std.proofs.lemmas.List.{get_or_default, take_more}
 use Rattle.dn_tic.specs.declared.command.TicCmd.{TicCmd}
-use Rattle.dn_ring.specs.Ring.{Ring, empty, get}
+use Rattle.dn_ring.specs.Ring.{Ring, empty, put, get, ring_of}
+use Rattle.dn_ring.proofs.Keeping.{put-ring_of}
 use Rattle.dn_node.specs.Rings.{ring_at, HasNoStop}
 
 -- what holds of each element holds of one that is found
@@ -27,3 +28,10 @@ get_no_stop ring tic none = found_if (λ (command : TicCmd). command.forward ≢
 pub rings_no_stop : (rings : List Ring) (place : ℕ) (d : Ring) (tic : ℕ) → place < length rings → ((p : ℕ) → HasNoStop (ring_at rings p))
     → IfSome (get (get_or rings place d) tic) (λ command. command.forward ≢ negsuc 127)
 rings_no_stop rings place d tic inside none = rw (get_or_default rings place d empty inside) (get_no_stop (ring_at rings place) tic (none place))
+
+-- one more of the commands that are put one after another
+pub put_next : (held commands : List TicCmd) (k : ℕ) (d : TicCmd) (ring new : Ring) → k < length commands
+    → new ≡ put ring (get_or commands k d) → ring ≡ ring_of (held ++ take k commands) → new ≡ ring_of (held ++ take (k + 1) commands)
+put_next held commands k d ring new inside puts is =
+    puts ∙ ap (λ (r : Ring). put r (get_or commands k d)) is ∙ put-ring_of (held ++ take k commands) (get_or commands k d)
+    ∙ ap ring_of (append_assoc held (take k commands) (get_or commands k d ∷ []) ∙ ap (λ (cs : List TicCmd). held ++ cs) (sym (take_more commands k d inside)))
