@@ -1,12 +1,16 @@
 -- What a ring gives of the commands that were put into it.
-use Rattle.std.proofs.Common.{take, append_assoc, ◌++◌, ◌∷◌, [], ◌+◌, ap, sym, ◌∙◌, ◌≡◌, ◌≢◌, ◌<◌, ℕ, negsuc, Bool, true, false, cond, List, length, get_or, None, subst, inl, inr}
+use Rattle.std.proofs.Common.{refl, Some, drop, ◌-◌, ◌≤◌, arith, take, append_assoc, ◌++◌, ◌∷◌, [], ◌+◌, ap, sym, ◌∙◌, ◌≡◌, ◌≢◌, ◌<◌, ℕ, negsuc, Bool, true, false, cond, List, length, get_or, None, subst, inl, inr}
 use Rattle.std.specs.Prelude.{slice_get, IfSome, All}
-use Rattle.std.proofs.lemmas.Option.{slice_get_cases}
-use Rattle.std.proofs.lemmas.List.{get_or_default, take_more}
+use Rattle.std.proofs.lemmas.Option.{slice_get_cases, slice_get-get_or, same_Some}
+use Rattle.std.proofs.lemmas.List.Folds.{list_any-append}
+use Rattle.std.proofs.lemmas.Bool.Decides.{Decides-int_eq}
+use Rattle.std.specs.List.{list_any}
+use Rattle.dn_machine.specs.Node.{blank}
+use Rattle.std.proofs.lemmas.List.{get_or_default, get_or-drop, take_more, length-drop}
 use Rattle.dn_tic.specs.declared.command.TicCmd.{TicCmd}
 use Rattle.dn_ring.specs.Ring.{Ring, empty, put, get, ring_of}
-use Rattle.dn_ring.proofs.Keeping.{put-ring_of}
-use Rattle.dn_node.specs.Rings.{ring_at, HasNoStop}
+use Rattle.dn_ring.proofs.Keeping.{put-ring_of, get-ring_of}
+use Rattle.dn_node.specs.Rings.{ring_at, is_stop, HasNoStop}
 
 -- what holds of each element holds of one that is found
 pub found : {X : Type 0} (P : X → Type 0) (xs : List X) (j : ℕ) → All P xs → IfSome (slice_get xs j) P
@@ -35,3 +39,40 @@ pub put_next : (held commands : List TicCmd) (k : ℕ) (d : TicCmd) (ring new : 
 put_next held commands k d ring new inside puts is =
     puts ∙ ap (λ (r : Ring). put r (get_or commands k d)) is ∙ put-ring_of (held ++ take k commands) (get_or commands k d)
     ∙ ap ring_of (append_assoc held (take k commands) (get_or commands k d ∷ []) ∙ ap (λ (cs : List TicCmd). held ++ cs) (sym (take_more commands k d inside)))
+
+-- a ring has the commands that are not yet twelve behind
+pub get_kept : (held : List TicCmd) (ring : Ring) (tic : ℕ) → ring.count ≤ tic + 12 → ring ≡ ring_of held → get ring tic ≡ slice_get held tic
+get_kept held ring tic near is =
+    let count = ap (λ (r : Ring). r.count) is in
+    ap (λ (r : Ring). get r tic) is ∙ get-ring_of held tic (omega arith)
+
+pub get_some : (held : List TicCmd) (ring : Ring) (tic : ℕ) → tic < ring.count → ring.count ≤ tic + 12 → ring ≡ ring_of held
+    → get ring tic ≡ Some (get_or held tic blank)
+get_some held ring tic below near is =
+    let count = ap (λ (r : Ring). r.count) is in
+    get_kept held ring tic near is ∙ slice_get-get_or held tic blank (omega arith)
+
+-- one more of the commands from a tic on
+pub since_more : (held items new : List TicCmd) (ring : Ring) (start tic : ℕ) (command : TicCmd) → start ≤ tic → tic < ring.count → ring.count ≤ tic + 12
+    → Some command ≡ get ring tic → new ≡ items ++ command ∷ [] → ring ≡ ring_of held → items ≡ take (tic - start) (drop start held)
+    → new ≡ take (tic + 1 - start) (drop start held)
+since_more held items new ring start tic command low below near gets pushed is so_far =
+    let count = ap (λ (r : Ring). r.count) is in
+    let long = length-drop start held in
+    let this : command ≡ get_or held tic blank = same_Some _ _ (gets ∙ get_some held ring tic below near is) in
+    let place : start + (tic - start) ≡ tic = omega arith in
+    let next : tic + 1 - start ≡ tic - start + 1 = omega arith in
+    pushed ∙ (λ i. so_far i ++ this i ∷ [])
+    ∙ ap (λ (k : ℕ). take (tic - start) (drop start held) ++ get_or held k blank ∷ []) (sym place)
+    ∙ ap (λ (c : TicCmd). take (tic - start) (drop start held) ++ c ∷ []) (sym (get_or-drop start held (tic - start) blank))
+    ∙ sym (take_more (drop start held) (tic - start) blank (omega arith))
+    ∙ ap (λ (k : ℕ). take k (drop start held)) (sym next)
+
+-- a command that does not stop, behind others that do not
+pub no_stop_more : (items : List TicCmd) (command : TicCmd) → list_any is_stop items ≡ false → command.forward ≢ negsuc 127
+    → list_any is_stop (items ++ command ∷ []) ≡ false
+no_stop_more items command before this = go (is_stop command) refl
+  where
+    go : (b : Bool) → is_stop command ≡ b → list_any is_stop (items ++ command ∷ []) ≡ false
+    go true e = absurd (this ((Decides-int_eq command.forward (negsuc 127)).0 e))
+    go false e = rw (list_any-append is_stop items (command ∷ []), before, e) refl
