@@ -8,3 +8,4 @@ pub mod Aiming
 pub mod Sending
 pub mod Opening
 pub mod Keeping
+pub mod Lowest
