@@ -1,6 +1,6 @@
 //! A count of commands, and the last twelve of them.
 
-ghost use Rattle.std.specs.Prelude.{◌≡◌, ◌+◌, ◌^◌, ◌<◌};
+ghost use Rattle.std.specs.Prelude.{◌≡◌, ◌+◌, ◌^◌, ◌<◌, ◌≤◌, true, is_some};
 ghost use Rattle.dn_ring.specs.Ring.{empty, put, get};
 
 use arrayvec::ArrayVec;
@@ -63,7 +63,8 @@ impl Ring {
     /// The command of a tic, counted from the first that was put; None where it was not put yet, or
     /// more than twelve commands ago.
     pub fn get(&self, tic: u32) -> Option<TicCmd>
-        ensures { result ≡ get self.now tic }
+        ensures value { result ≡ get self.now tic }
+        ensures there { tic < self.now.count → self.now.count ≤ tic + 12 → is_some result ≡ true }
     {
         if tic < self.count && self.count - tic <= PLACES {
             let place = self.last.len() - (self.count - tic) as usize;
