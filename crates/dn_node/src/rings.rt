@@ -1,6 +1,6 @@
 //! The commands that a node has of each player.
 
-ghost use Rattle.std.specs.Prelude.{◌≡◌, ◌≢◌, ◌+◌, ◌^◌, ◌<◌, ◌≤◌, ◌++◌, ◌∷◌, [], ℕ, List, length, drop, All, false, negsuc, IfSome};
+ghost use Rattle.std.specs.Prelude.{◌≡◌, ◌≢◌, ◌+◌, ◌^◌, ◌<◌, ◌≤◌, ◌++◌, ◌∷◌, [], ℕ, List, length, drop, All, true, false, negsuc, is_some, IfSome};
 ghost use Rattle.std.specs.List.{list_any};
 ghost use Rattle.dn_tic.specs.declared.command.TicCmd.{TicCmd};
 ghost use Rattle.dn_tic.specs.Command.{IsCommand};
@@ -53,6 +53,7 @@ impl Rings {
     pub(crate) fn get(&self, player: u8, tic: u32) -> Option<TicCmd>
         requires { player < 4 }
         ensures value { result ≡ get (ring_at self.now player) tic }
+        ensures there { tic < (ring_at self.now player).count → (ring_at self.now player).count ≤ tic + 12 → is_some result ≡ true }
         ensures no_stop { IfSome result (λ command. command.forward ≢ negsuc 127) }
     {
         self.rings[usize::from(player)].get(tic)
