@@ -9,3 +9,4 @@ pub mod Sending
 pub mod Opening
 pub mod Keeping
 pub mod Lowest
+pub mod Spelling

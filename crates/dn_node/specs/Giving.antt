@@ -1,7 +1,9 @@
 -- What a node must know to give a packet.
-use Rattle.std.specs.Prelude.{◌≡◌, ◌≢◌, ◌<◌, ◌≤◌, ℕ, ◌+◌}
+use Rattle.std.specs.Prelude.{◌≡◌, ◌≢◌, ◌<◌, ◌≤◌, ◌⊎◌, ℕ, ◌+◌, drop}
 use Rattle.dn_machine.specs.declared.answers.Phase.TheVariants.{Ended}
 use Rattle.dn_machine.specs.declared.answers.Cause.{Cause}
+use Rattle.dn_machine.specs.Flight.{Play, Exit, Flight}
+use Rattle.dn_machine.specs.Node as machine
 use Rattle.dn_node.specs.declared.node.sending.Aim.{Aim}
 use Rattle.dn_node.specs.Contents.{Contents}
 use Rattle.dn_node.specs.Rings.{count_of}
@@ -11,6 +13,12 @@ pub record Reaches {W : Type 0} (n : Contents W) (aim : Aim) : Type 0 where
   pub flags : aim.flags < 16
   pub low : aim.start ≤ count_of n.rings n.me
   pub high : count_of n.rings n.me ≤ aim.start + 12
+
+-- the own commands from a start on
+pub record IsOwn (m : machine.Node) (me : ℕ) (flight : Flight) : Type 0 where
+  pub from : flight.from ≡ me
+  pub kind : (flight.kind ≡ Play) ⊎ (flight.kind ≡ Exit)
+  pub commands : flight.commands ≡ drop flight.start (m.held me)
 
 -- there is a packet for this peer, so that it is a peer who was given less than four EXIT packets
 pub record Gives {W : Type 0} (n : Contents W) (to : ℕ) : Type 0 where

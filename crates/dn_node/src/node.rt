@@ -56,7 +56,8 @@ pub struct Node<W> {
     ghost waits: { is_waiting phase ≡ true → played ≡ false },
     ghost unrun: { played ≡ false → ran ≡ 0 },
     ghost blank: { played ≡ false → demo.stage ≡ Blank },
-    // who gathers or has played has settings
+    // only player 0 gathers, and who gathers or has played has settings
+    ghost key: { phase ≡ Gathering → me ≡ 0 },
     ghost keyed: { phase ≡ Gathering → settings ≢ None },
     ghost known: { played ≡ true → settings ≢ None },
     // while it plays, the demo is open and has a row for each tic that was run

@@ -1,12 +1,14 @@
 //! What a node gives to a peer.
 
-ghost use Rattle.std.specs.Prelude.{◌≡◌, ◌<◌, ◌≤◌, ◌+◌, IfSome};
+ghost use Rattle.std.specs.Prelude.{◌≡◌, ◌<◌, ◌≤◌, ◌+◌, false, IfSome};
+ghost use Rattle.std.specs.List.{list_any};
 ghost use Rattle.std.specs.Option.{option_map};
+ghost use Rattle.dn_packet.specs.Text.{IsPacket};
 ghost use Rattle.dn_setup.specs.Starts.{bit};
 ghost use Rattle.dn_machine.specs.declared.answers.Phase.TheVariants.{Ended};
-ghost use Rattle.dn_machine.specs.Flight.{Play, packet_of, request_flag};
+ghost use Rattle.dn_machine.specs.Flight.{Play, Flight, packet_of, request_flag, request_byte};
 ghost use Rattle.dn_machine.specs.Sending.{ended_by, commands_flight, first_sent, request_to, on_send_in};
-ghost use Rattle.dn_node.specs.Rings.{count_of};
+ghost use Rattle.dn_node.specs.Rings.{count_of, is_stop};
 ghost use Rattle.dn_node.specs.Near.{IsFair};
 ghost use Rattle.dn_node.specs.Sent.{sent_to, after_giving, aim_of, bytes_of};
 
@@ -57,10 +59,20 @@ fn request_flag(ask: Option<u32>) -> u8
     }
 }
 
+/// The low byte of the tic that is asked for, and 0 for none.
+fn request_byte(ask: Option<u32>) -> u8
+    ensures { result ≡ request_byte ask }
+{
+    match ask {
+        Some(tic) => (tic % 256) as u8,
+        None => 0,
+    }
+}
+
 impl<W: World> Node<W> {
     ghost use Rattle.dn_node.specs.Contents.{contents};
     ghost use Rattle.dn_node.specs.Steps.{Steps, Becomes};
-    ghost use Rattle.dn_node.specs.Giving.{Reaches, Gives};
+    ghost use Rattle.dn_node.specs.Giving.{Reaches, Gives, IsOwn};
 
     /// The exact numbers of the packet that `packet` would give now.
     pub fn aim(&self, to: u8) -> Option<Aim>
@@ -159,24 +171,38 @@ impl<W: World> Node<W> {
         u32::from(self.extra)
     }
 
+    /// The packet of these numbers, with the own commands from its start on.
+    fn commands_packet(&self, aim: &Aim) -> Packet
+        requires { Reaches (contents self.now) aim.now }
+        ensures packet { Steps W.state W.physics (contents self.now) (contents self.now) (λ rules me m. (m, (m, me)))
+            (λ (m, me). (flight : Flight) → IsOwn m me flight → aim.now ≡ aim_of flight → result ≡ packet_of flight) }
+        ensures valid { IsPacket result }
+        ensures no_stop { list_any is_stop result.cmds.items ≡ false }
+    {
+        Packet {
+            flags: aim.flags,
+            ask: request_byte(aim.ask),
+            start: (aim.start % 256) as u8,
+            player: self.me,
+            cmds: self.rings.since(self.me, aim.start),
+        }
+    }
+
     /// The packet that `packet` would give now.
     fn outgoing(&self, to: u8) -> Option<Packet>
         ensures step { Steps W.state W.physics (contents self.now) (contents self.now)
             (λ rules me m. (m, (sent_to to rules me m).1)) (λ flight. result ≡ option_map packet_of flight) }
+        ensures fair { Steps W.state W.physics (contents self.now) (contents self.now)
+            (λ rules me m. (m, (sent_to to rules me m).1)) (λ flight. IfSome flight IsFair) }
         ensures flags { IfSome result (λ packet. packet.flags < 16) }
         ensures given { IfSome result (λ packet. Gives (contents self.now) to) }
     {
         let aim = self.aim(to)?;
-        if let (Phase::Gathering, Some(settings)) = (self.phase, self.settings) {
-            return Some(to_packet(&settings));
-        }
-        Some(Packet {
-            flags: aim.flags,
-            ask: (aim.ask.unwrap_or(0) % 256) as u8,
-            start: (aim.start % 256) as u8,
-            player: self.me,
-            cmds: self.rings.since(self.me, aim.start),
-        })
+        let Phase::Gathering = self.phase else {
+            return Some(self.commands_packet(&aim));
+        };
+        let settings = self.settings?;
+        Some(to_packet(&settings))
     }
 
     /// Notes that a packet was given.

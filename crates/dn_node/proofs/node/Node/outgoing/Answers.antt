@@ -1,0 +1,65 @@
+use Rattle.std.proofs.Common.{◌≡◌, ℕ, Option, ap, sym, ◌∙◌, subst}
+use Rattle.std.specs.Prelude.{IfSome}
+use Rattle.std.specs.Option.{option_map}
+use Rattle.dn_packet.specs.declared.packet.Packet.{Packet}
+use Rattle.dn_machine.specs.Flight.{Flight, packet_of}
+use Rattle.dn_machine.specs.Node as machine
+use Rattle.dn_machine.specs.Worlds.{rules_of}
+use Rattle.dn_node.specs.Near.{IsFair}
+use Rattle.dn_node.specs.Giving.{IsOwn}
+use Rattle.dn_node.specs.Sent.{sent_to}
+use Rattle.dn_node.proofs.Spelling.{sends_own, own_packet, own_fair, set_up_packet, set_up_fair}
+use Rattle.dn_node.proofs.Sending.{sends_in}
+use Rattle.dn_node.proofs.node.Node.outgoing.Goals as goal
+
+pub returns-in_default-clause-step : goal.returns-in_default-clause-step
+returns-in_default-clause-step g c players extra limit me m r =
+    let rules = rules_of g.W.World.physics players extra limit in
+    let given = c.in_ok-aim.ensures.reach.1 in
+    let sends = sends_in _ rules me _ m c.args.to _ r given.below given.other r.phase in
+    let own = sends_own rules me m c.args.to m.phase (λ e. c.in_default.not-Gathering (r.phase ∙ e)) in
+    let sent : IfSome (sent_to c.args.to rules me m).1 (IsOwn m me) =
+    subst (λ (x : machine.Node × Option Flight). IfSome x.1 (IsOwn m me)) (sym sends) own in
+    record {
+      node = r;
+      answer = own_packet m me c.in_ok-aim.aim c.commands_packet.result (c.commands_packet.ensures.packet players extra limit me m r).answer _ sent
+          (c.in_ok-aim.ensures.step players extra limit me m r).answer;
+    }
+
+pub returns-in_default-clause-fair : goal.returns-in_default-clause-fair
+returns-in_default-clause-fair g c players extra limit me m r =
+    let rules = rules_of g.W.World.physics players extra limit in
+    let given = c.in_ok-aim.ensures.reach.1 in
+    let sends = sends_in _ rules me _ m c.args.to _ r given.below given.other r.phase in
+    let own = sends_own rules me m c.args.to m.phase (λ e. c.in_default.not-Gathering (r.phase ∙ e)) in
+    let sent : IfSome (sent_to c.args.to rules me m).1 (IsOwn m me) =
+    subst (λ (x : machine.Node × Option Flight). IfSome x.1 (IsOwn m me)) (sym sends) own in
+    record {
+      node = r;
+      answer = own_fair m me c.in_ok-aim.aim c.commands_packet.result (c.commands_packet.ensures.packet players extra limit me m r).answer _ sent
+          (c.in_ok-aim.ensures.step players extra limit me m r).answer c.commands_packet.ensures.valid c.commands_packet.ensures.no_stop;
+    }
+
+pub returns-clause-step : goal.returns-clause-step
+returns-clause-step g c players extra limit me m r =
+    let rules = rules_of g.W.World.physics players extra limit in
+    let given = c.in_ok-aim.ensures.reach.1 in
+    let sends = sends_in _ rules me _ m c.args.to _ r given.below given.other c.in-Gathering.is in
+    record {
+      node = r;
+      answer = set_up_packet me c.args.to _ m.settings c.to_packet.result (sym r.settings ∙ c.in_ok-settings.was) c.to_packet.ensures.packet
+          ∙ sym (ap (λ (x : machine.Node × Option Flight). option_map packet_of x.1) sends);
+    }
+
+pub returns-clause-fair : goal.returns-clause-fair
+returns-clause-fair g c players extra limit me m r =
+    let rules = rules_of g.W.World.physics players extra limit in
+    let given = c.in_ok-aim.ensures.reach.1 in
+    let sends = sends_in _ rules me _ m c.args.to _ r given.below given.other c.in-Gathering.is in
+    let key = sym r.number ∙ c.args.self.now.key c.in-Gathering.is in
+    record {
+      node = r;
+      answer = subst (λ (x : machine.Node × Option Flight). IfSome x.1 IsFair) (sym sends)
+          (set_up_fair me c.args.to _ m.settings c.to_packet.result (sym r.settings ∙ c.in_ok-settings.was) c.to_packet.ensures.packet key
+          c.to_packet.ensures.valid c.to_packet.ensures.in_range);
+    }
