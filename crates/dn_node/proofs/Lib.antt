@@ -10,3 +10,4 @@ pub mod Opening
 pub mod Keeping
 pub mod Lowest
 pub mod Spelling
+pub mod Replaying
