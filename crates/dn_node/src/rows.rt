@@ -1,8 +1,8 @@
 //! The commands of one tic, of all players.
 
-ghost use Rattle.std.specs.Prelude.{◌≡◌, ◌<◌, ◌≤◌, ◌+◌, ◌%◌, ℕ, nat_le, nat_lt, not, None, IfSome, if◌then◌else◌};
+ghost use Rattle.std.specs.Prelude.{◌≡◌, ◌<◌, ◌≤◌, ◌+◌, ◌%◌, ℕ, nat_le, nat_lt, not, None, is_some, IfSome, if◌then◌else◌};
 ghost use Rattle.std.specs.Ordering.{int_eq};
-ghost use Rattle.dn_demo.specs.Rows.{IsRow};
+ghost use Rattle.dn_demo.specs.Rows.{IsRow, IsRecordable};
 ghost use Rattle.dn_machine.specs.Node.{lowest};
 ghost use Rattle.dn_machine.specs.Worlds.{four};
 ghost use Rattle.dn_node.specs.Rings.{ring_at};
@@ -76,8 +76,12 @@ pub(crate) fn off(rings: &Rings, marks: &Marks, players: u8, tic: u32) -> Option
 
 /// The used move of the player's command for the tic.
 fn move_of(rings: &Rings, players: u8, player: u8, tic: u32) -> Option<Move>
-    requires { player < 4 }
-    ensures { result ≡ move_at (ring_at rings.now) players tic player }
+    requires place { player < 4 }
+    requires there { player < players → tic < (ring_at rings.now player).count }
+    requires kept { player < players → (ring_at rings.now player).count ≤ tic + 12 }
+    ensures value { result ≡ move_at (ring_at rings.now) players tic player }
+    ensures seat { is_some result ≡ nat_lt player players }
+    ensures recordable { IfSome result IsRecordable }
 {
     if player < players {
         Some(round(&rings.get(player, tic)?))
