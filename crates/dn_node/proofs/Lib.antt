@@ -12,3 +12,7 @@ pub mod Lowest
 pub mod Spelling
 pub mod Replaying
 pub mod Rounding
+pub mod Running
+pub mod Finding
+pub mod Moving
+pub mod Room

@@ -60,11 +60,11 @@ pub struct Node<W> {
     ghost key: { phase ≡ Gathering → me ≡ 0 },
     ghost keyed: { phase ≡ Gathering → settings ≢ None },
     ghost known: { played ≡ true → settings ≢ None },
-    // while it plays, the demo is open and has a row for each tic that was run
+    // while it plays, the demo is open, and no longer than the rows of the tics that were run
     ghost plays: { phase ≡ Playing → played ≡ true },
     ghost open: { phase ≡ Playing → demo.stage ≡ Open },
     ghost seats: { phase ≡ Playing → seats_in demo.bytes ≡ seats_of players },
-    ghost size: { phase ≡ Playing → length demo.bytes ≡ header_size + command_size * (players * ran) },
+    ghost size: { phase ≡ Playing → length demo.bytes ≤ header_size + command_size * (players * ran) },
     // it has the commands of the tics that it ran, and at most twelve more of a peer, and five of its own
     ghost ahead: { (p : ℕ) → p < players → ran ≤ (ring_at rings p).count },
     ghost window: { (p : ℕ) → p < players → (ring_at rings p).count ≤ ran + 12 },

@@ -1,4 +1,4 @@
-use Rattle.std.proofs.Common.{◌≡◌, nat_le, ap, sym, ◌∙◌, arith}
+use Rattle.std.proofs.Common.{nat_le, sym, arith}
 use Rattle.std.proofs.lemmas.Bool.{le-leb, lt-leb}
 use Rattle.dn_node.specs.Rings.{ring_at}
 use Rattle.dn_node.proofs.Lowest.{lowest_zero, lowest_past, lowest_found}
