@@ -11,3 +11,4 @@ pub mod Keeping
 pub mod Lowest
 pub mod Spelling
 pub mod Replaying
+pub mod Starting
