@@ -11,4 +11,6 @@ pub mod Keeping
 pub mod Lowest
 pub mod Spelling
 pub mod Replaying
+pub mod Showing
 pub mod Starting
+pub mod Taking

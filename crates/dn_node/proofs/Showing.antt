@@ -1,0 +1,99 @@
+-- What a node represents after what it keeps of a peer, or of a player's commands, was written.
+use Rattle.std.proofs.Common.{◌≡◌, ◌≢◌, ℕ, List, ap, sym, ◌∙◌, inl, inr}
+use Rattle.std.proofs.lemmas.Bool.{cases_eq}
+use Rattle.dn_tic.specs.declared.command.TicCmd.{TicCmd}
+use Rattle.dn_ring.specs.Ring.{Ring, ring_of}
+use Rattle.dn_machine.specs.Worlds.{Rules}
+use Rattle.dn_machine.specs.Node as machine
+use Rattle.dn_machine.specs.Node.{put}
+use Rattle.dn_machine.proofs.Put.{put_at, put_off, same_functions}
+use Rattle.dn_node.specs.Contents.{Contents}
+use Rattle.dn_node.specs.Peers.{peer_of}
+use Rattle.dn_node.specs.Represents.{Represents}
+use Rattle.dn_node.specs.declared.peers.Peer.{Peer}
+
+-- the machine's node with this of a peer
+abbrev pub with_peer : machine.Node → ℕ → Peer → machine.Node
+with_peer m i q =
+    record m {
+      resend = put m.resend i q.resend;
+      want = put m.want i q.want;
+      hold = put m.hold i q.hold;
+      exits = put m.exits i q.exits;
+    }
+
+-- the same thing put where it was
+pub put_same : {A : Type 0} (f : ℕ → A) (i : ℕ) → f ≡ put f i (f i)
+put_same f i = same_functions (λ j. elim (cases_eq j i) [
+  | inl e ↦ ap f e ∙ sym (put_at f i j (f i) e)
+  | inr n ↦ sym (put_off f i j (f i) n)
+])
+
+peer_new : (m : machine.Node) (i p : ℕ) (q : Peer) → p ≡ i → peer_of (with_peer m i q) p ≡ q
+peer_new m i p q e =
+    let resend = put_at m.resend i p q.resend e in
+    let want = put_at m.want i p q.want e in
+    let hold = put_at m.hold i p q.hold e in
+    let exits = put_at m.exits i p q.exits e in
+    λ k. record { resend = resend k; want = want k; hold = hold k; exits = exits k }
+
+peer_old : (m : machine.Node) (i p : ℕ) (q : Peer) → p ≢ i → peer_of (with_peer m i q) p ≡ peer_of m p
+peer_old m i p q n =
+    let resend = put_off m.resend i p q.resend n in
+    let want = put_off m.want i p q.want n in
+    let hold = put_off m.hold i p q.hold n in
+    let exits = put_off m.exits i p q.exits n in
+    λ k. record { resend = resend k; want = want k; hold = hold k; exits = exits k }
+
+module _ {W S : Type 0} (state : W → S) (rules : Rules S) (me : ℕ) (n : Contents W) (m : machine.Node) (r : Represents state rules me n m) where
+  pub shows_peer : (i : ℕ) (q : Peer) (peers : ℕ → Peer) → peers i ≡ q → ((p : ℕ) → p ≢ i → peers p ≡ n.peers p)
+      → Represents state rules me (record n { peers = peers }) (with_peer m i q)
+  shows_peer i q peers is others =
+      record {
+        players = r.players;
+        number = r.number;
+        extra = r.extra;
+        limit = r.limit;
+        capacity = r.capacity;
+        gathers = r.gathers;
+        phase = r.phase;
+        played = r.played;
+        settings = r.settings;
+        hold = r.hold;
+        ran = r.ran;
+        rings = r.rings;
+        peers = λ p below. elim (cases_eq p i) [
+          | inl same ↦ ap peers same ∙ is ∙ sym (peer_new m i p q same)
+          | inr other ↦ others p other ∙ r.peers p below ∙ sym (peer_old m i p q other)
+        ];
+        noted = r.noted;
+        world = r.world;
+        marks = r.marks;
+        demo = r.demo;
+      }
+
+  pub shows_ring : (i : ℕ) (commands : List TicCmd) (rings : ℕ → Ring) → rings i ≡ ring_of commands → ((p : ℕ) → p ≢ i → rings p ≡ n.rings p)
+      → Represents state rules me (record n { rings = rings }) (record m { held = put m.held i commands })
+  shows_ring i commands rings is others =
+      record {
+        players = r.players;
+        number = r.number;
+        extra = r.extra;
+        limit = r.limit;
+        capacity = r.capacity;
+        gathers = r.gathers;
+        phase = r.phase;
+        played = r.played;
+        settings = r.settings;
+        hold = r.hold;
+        ran = r.ran;
+        rings = λ p below. elim (cases_eq p i) [
+          | inl same ↦ ap rings same ∙ is ∙ ap ring_of (sym (put_at m.held i p commands same))
+          | inr other ↦ others p other ∙ r.rings p below ∙ ap ring_of (sym (put_off m.held i p commands other))
+        ];
+        peers = r.peers;
+        noted = r.noted;
+        world = r.world;
+        marks = r.marks;
+        demo = r.demo;
+      }
