@@ -11,6 +11,7 @@ pub mod Keeping
 pub mod Lowest
 pub mod Spelling
 pub mod Replaying
+pub mod Gathering
 pub mod Showing
 pub mod Starting
 pub mod Taking
