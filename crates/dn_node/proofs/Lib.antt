@@ -12,6 +12,7 @@ pub mod Lowest
 pub mod Spelling
 pub mod Replaying
 pub mod Gathering
+pub mod Playing
 pub mod Showing
 pub mod Starting
 pub mod Taking
