@@ -13,6 +13,6 @@ pub mod Spelling
 pub mod Replaying
 pub mod Gathering
 pub mod Playing
-pub mod Showing
+pub mod Holding
 pub mod Starting
 pub mod Taking

@@ -25,7 +25,8 @@ use Rattle.dn_node.specs.Steps.{IsAfter}
 use Rattle.dn_node.specs.declared.peers.Peer.{Peer}
 use Rattle.dn_node.proofs.After.{after}
 use Rattle.dn_node.proofs.Counting.{below, got_is, made_is}
-use Rattle.dn_node.proofs.Showing.{with_peer, put_same, shows_peer, shows_ring}
+use Rattle.dn_node.proofs.Holding.{shows_ring}
+use Rattle.dn_node.proofs.Peering.{with_peer, put_same, shows_peer}
 
 -- a request changes what is kept of the peer, and nothing else
 asked_is : (me : ℕ) (m : machine.Node) (i : ℕ) (request : Option ℕ)
@@ -38,24 +39,32 @@ asked_is me m i request = go _
     go true = λ k. record m { resend = put m.resend i (requested_tic request); want = put_same m.want i k; hold = put m.hold i 10; exits = put_same m.exits i k }
     go false = λ k. record m { resend = put_same m.resend i k; want = put_same m.want i k; hold = put m.hold i (m.hold i - 1); exits = put_same m.exits i k }
 
+-- what is kept of the sender after a flight
+abbrev asked : ℕ → machine.Node → Flight → Peer
+asked me m f = after_asking (peer_of m f.from) (machine.made me m) f.request
+
+-- the node that has taken its commands
+abbrev node_taken : ℕ → machine.Node → Flight → machine.Node
+node_taken me m f =
+    record (with_peer m f.from (record (asked me m f) { want = false })) {
+      held = put m.held f.from (m.held f.from ++ drop (machine.got m f.from - f.start) f.commands);
+    }
+
 -- what a flight does, by its numbers
 module _ (me : ℕ) (m : machine.Node) (f : Flight) where
-  asked : Peer
-  asked = after_asking (peer_of m f.from) (machine.made me m) f.request
-
   over : machine.ran m + 12 < end_of f → ◌≡◌ {A = machine.Node × Heard} (on_commands me m f) (m, Heard.Dropped 12)
   over past = let much = lt-ltb (machine.ran m + 12) (end_of f) past in rw much refl
 
   module _ (room : end_of f ≤ machine.ran m + 12) where
     stale : end_of f ≤ machine.got m f.from → ◌≡◌ {A = machine.Node × Heard} (on_commands me m f)
-        (with_peer m f.from (after_asking (peer_of m f.from) (machine.made me m) f.request), Heard.Stale)
+        (with_peer m f.from (asked me m f), Heard.Stale)
     stale old =
         let fits = le-ltb (machine.ran m + 12) (end_of f) room in
         let known = le-leb (end_of f) (machine.got m f.from) old in
         rw (fits, known, asked_is me m f.from f.request) refl
 
     gap : machine.got m f.from < end_of f → machine.got m f.from < f.start → ◌≡◌ {A = machine.Node × Heard} (on_commands me m f)
-        (with_peer m f.from (record (after_asking (peer_of m f.from) (machine.made me m) f.request) { want = true }), Heard.Gap)
+        (with_peer m f.from (record (asked me m f) { want = true }), Heard.Gap)
     gap new far =
         let fits = le-ltb (machine.ran m + 12) (end_of f) room in
         let more = lt-leb (end_of f) (machine.got m f.from) new in
@@ -63,9 +72,7 @@ module _ (me : ℕ) (m : machine.Node) (f : Flight) where
         rw (fits, more, past, asked_is me m f.from f.request) refl
 
     taken : machine.got m f.from < end_of f → f.start ≤ machine.got m f.from → ◌≡◌ {A = machine.Node × Heard} (on_commands me m f)
-        (record (with_peer m f.from (record (after_asking (peer_of m f.from) (machine.made me m) f.request) { want = false })) {
-          held = put m.held f.from (m.held f.from ++ drop (machine.got m f.from - f.start) f.commands);
-        }, Heard.Taken (end_of f - machine.got m f.from))
+        (node_taken me m f, Heard.Taken (end_of f - machine.got m f.from))
     taken new near =
         let fits = le-ltb (machine.ran m + 12) (end_of f) room in
         let more = lt-leb (end_of f) (machine.got m f.from) new in
@@ -109,7 +116,7 @@ module _ {W S : Type 0} (state : W → S) (rules : Rules S) (me : ℕ) (n : Cont
     fits : start + length packet.cmds.items ≤ machine.ran m + 12
     fits = omega (arith, room, r.ran, same_length)
 
-    same_asked : q ≡ after_asking (peer_of m from) (machine.made me m) (request_in (machine.made me m) packet)
+    same_asked : q ≡ asked me m (flight_in from me (machine.made me m) packet start)
     same_asked =
         asks ∙ ap (λ (k : ℕ). after_asking (n.peers from) k (request_in k packet)) same_made
         ∙ ap (λ (x : Peer). after_asking x (machine.made me m) (request_in (machine.made me m) packet)) (r.peers from (below state rules me n m r from read.peer))
@@ -120,14 +127,14 @@ module _ {W S : Type 0} (state : W → S) (rules : Rules S) (me : ℕ) (n : Cont
     pub stale_shows : start + length commands ≤ got → peers from ≡ q
         → IsAfter state rules me (record n { peers = peers }) (on_numbers me m from packet) (λ heard. Heard.Stale ≡ heard)
     stale_shows old is =
-        after _ Heard.Stale (step ∙ stale me m (flight_in from me (machine.made me m) packet start) fits (omega (arith, old, had, same_length)))
-        (shows_peer state rules me n m r from _ peers (is ∙ same_asked) others) refl
+        after (with_peer m from (asked me m (flight_in from me (machine.made me m) packet start))) Heard.Stale (step ∙ stale me m (flight_in from me (machine.made me m) packet start) fits (omega (arith, old, had, same_length)))
+        (shows_peer state rules me n m from _ peers r (is ∙ same_asked) others) refl
 
     pub gap_shows : got < start + length commands → got < start → peers from ≡ record q { want = true }
         → IsAfter state rules me (record n { peers = peers }) (on_numbers me m from packet) (λ heard. Heard.Gap ≡ heard)
     gap_shows new far is =
-        after _ Heard.Gap (step ∙ gap me m (flight_in from me (machine.made me m) packet start) fits (omega (arith, new, had, same_length)) (omega (arith, far, had)))
-        (shows_peer state rules me n m r from _ peers (is ∙ ap (λ (x : Peer). record x { want = true }) same_asked) others) refl
+        after (with_peer m from (record (asked me m (flight_in from me (machine.made me m) packet start)) { want = true })) Heard.Gap (step ∙ gap me m (flight_in from me (machine.made me m) packet start) fits (omega (arith, new, had, same_length)) (omega (arith, far, had)))
+        (shows_peer state rules me n m from _ peers r (is ∙ ap (λ (x : Peer). record x { want = true }) same_asked) others) refl
 
     pub taken_shows : (rings : ℕ → Ring) → got < start + length commands → start ≤ got → peers from ≡ record q { want = false }
         → ((held : List TicCmd) → n.rings from ≡ ring_of held
@@ -143,10 +150,10 @@ module _ {W S : Type 0} (state : W → S) (rules : Rules S) (me : ℕ) (n : Cont
         ∙ ap (λ (xs : List TicCmd). ring_of (held ++ xs)) (take_rest commands (got - start))
         ∙ ap (λ (k : ℕ). ring_of (held ++ drop (k - start) commands)) had
         ∙ ap (λ (xs : List TicCmd). ring_of (held ++ drop skip xs)) read.items in
-        let first = shows_peer state rules me n m r from _ peers (is ∙ ap (λ (x : Peer). record x { want = false }) same_asked) others in
+        let first = shows_peer state rules me n m from _ peers r (is ∙ ap (λ (x : Peer). record x { want = false }) same_asked) others in
         let counts : start + length commands - got ≡ start + length packet.cmds.items - machine.got m from = omega (arith, had, same_length) in
-        after _ _ (step ∙ taken me m (flight_in from me (machine.made me m) packet start) fits (omega (arith, new, had, same_length)) (omega (arith, near, had)))
-        (shows_ring state rules me (record n { peers = peers }) (with_peer m from (record (after_asking (peer_of m from) (machine.made me m) (request_in (machine.made me m) packet)) { want = false })) first from (held ++ drop skip packet.cmds.items) rings rest apart)
+        after (node_taken me m (flight_in from me (machine.made me m) packet start)) (Heard.Taken (start + length packet.cmds.items - machine.got m from)) (step ∙ taken me m (flight_in from me (machine.made me m) packet start) fits (omega (arith, new, had, same_length)) (omega (arith, near, had)))
+        (shows_ring state rules me (record n { peers = peers }) (with_peer m from (record (asked me m (flight_in from me (machine.made me m) packet start)) { want = false })) from (held ++ drop skip packet.cmds.items) rings first rest apart)
         (ap Heard.Taken counts)
 
 no_request : (b : Bool) → (b && false) ≡ false
