@@ -12,7 +12,7 @@ pub mod Lowest
 pub mod Spelling
 pub mod Replaying
 pub mod Gathering
-pub mod Playing
+pub mod Flags
 pub mod Holding
 pub mod Starting
 pub mod Taking

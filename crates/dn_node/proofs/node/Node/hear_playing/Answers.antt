@@ -5,7 +5,7 @@ use Rattle.dn_machine.specs.declared.answers.Heard.{Heard}
 use Rattle.dn_node.specs.Contents.{contents}
 use Rattle.dn_node.specs.Steps.{IsAfter}
 use Rattle.dn_node.proofs.After.{after}
-use Rattle.dn_node.proofs.Playing.{played_leaves, played_takes}
+use Rattle.dn_node.proofs.Flags.{played_leaves, played_takes}
 use Rattle.dn_node.proofs.node.Node.hear_playing.Goals as goal
 
 pub returns-then-has_flag : goal.returns-then-has_flag
