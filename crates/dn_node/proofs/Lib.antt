@@ -2,6 +2,8 @@ pub mod After
 pub mod Counting
 pub mod Quitting
 pub mod Building
+pub mod Nearby
+pub mod Receiving
 pub mod Peering
 pub mod Giving
 pub mod Aiming
