@@ -1,6 +1,6 @@
 -- What a gathering node makes of a peer that it hears.
-use Rattle.std.proofs.Common.{◌≡◌, ◌≢◌, ◌<◌, ◌≤◌, ◌+◌, ◌-◌, ℕ, zero, suc, Bool, true, false, refl, ap, sym, ◌∙◌, subst, arith, Option, Some, inl, inr, eqb}
-use Rattle.std.specs.Prelude.{◌||◌, ◌&&◌, ◌==◌, nat_lt}
+use Rattle.std.proofs.Common.{◌≡◌, ◌<◌, ◌≤◌, ◌+◌, ◌-◌, ℕ, zero, suc, Bool, true, false, refl, ap, sym, ◌∙◌, subst, arith, Option, Some, inl, inr}
+use Rattle.std.specs.Prelude.{◌||◌, ◌&&◌, ◌==◌}
 use Rattle.std.specs.List.{list_all, range_with_len}
 use Rattle.std.proofs.lemmas.Bool.{cases_eq, eq-eqb, ne_eqb, lt-ltb, and_from, and_left, or_right}
 use Rattle.dn_packet.specs.declared.packet.Packet.{Packet}
@@ -11,7 +11,7 @@ use Rattle.dn_machine.specs.declared.answers.Phase.TheVariants.{Playing}
 use Rattle.dn_machine.specs.Worlds.{Rules}
 use Rattle.dn_machine.specs.Node as machine
 use Rattle.dn_machine.specs.Node.{put}
-use Rattle.dn_machine.specs.Hearing.{started, on_gathering}
+use Rattle.dn_machine.specs.Hearing.{started}
 use Rattle.dn_machine.proofs.Put.{put_at, put_off}
 use Rattle.dn_node.specs.Contents.{Contents}
 use Rattle.dn_node.specs.Reading.{has_flag}

@@ -1,20 +1,18 @@
 -- A fair flight that is near is read as it was sent.
-use Rattle.std.proofs.Common.{◌≡◌, ◌≢◌, ◌<◌, ◌≤◌, ◌+◌, ◌-◌, ◌%◌, ℕ, Bool, true, false, List, refl, ap, sym, ◌∙◌, arith, Option, Some, None, inl, inr, ◌⊎◌}
-use Rattle.std.specs.Prelude.{nat_lt, not, ◌&&◌, ◌||◌, ◌==◌, Result, Ok, Err}
+use Rattle.std.proofs.Common.{◌≡◌, ◌≢◌, ◌<◌, ◌≤◌, ◌+◌, ◌-◌, ◌%◌, ℕ, true, false, List, refl, ap, sym, ◌∙◌, arith, Option, Some, None, inl, inr, ◌⊎◌}
+use Rattle.std.specs.Prelude.{Result, Ok, Err}
 use Rattle.std.specs.List.{list_any}
 use Rattle.std.proofs.lemmas.Bool.{ltb-false, not-true, and_parts, eq-eqb, ne_eqb, lt-ltb, cases_Bool}
-use Rattle.dn_tic.specs.declared.command.TicCmd.{TicCmd}
 use Rattle.dn_tic.specs.Tics.{exact_tic}
 use Rattle.dn_tic.proofs.Near.{exact-near}
 use Rattle.dn_packet.specs.declared.packet.Packet.{Packet}
 use Rattle.dn_packet.specs.declared.packet.PacketFault.{PacketFault}
 use Rattle.dn_packet.specs.Read.{IsReadAs}
 use Rattle.dn_packet.specs.Text.{text}
-use Rattle.dn_setup.specs.Settings.{Settings, IsSettings}
+use Rattle.dn_setup.specs.Settings.{Settings}
 use Rattle.dn_setup.specs.Setup.{IsSetupReadAs}
 use Rattle.dn_setup.specs.declared.setup.SetupFault.{SetupFault}
 use Rattle.dn_setup.specs.declared.setup.SetupFault.TheVariants.{NotSetup}
-use Rattle.dn_machine.specs.declared.answers.Cause.{Cause}
 use Rattle.dn_machine.specs.declared.answers.Cause.TheVariants.{Left}
 use Rattle.dn_machine.specs.declared.answers.Heard.{Heard}
 use Rattle.dn_machine.specs.declared.answers.Phase.{Phase}

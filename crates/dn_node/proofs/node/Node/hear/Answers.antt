@@ -1,7 +1,6 @@
 use Rattle.std.proofs.Common.{rules, ◌≡◌, refl, sym, ◌∙◌}
 use Rattle.dn_machine.specs.Worlds.{rules_of}
 use Rattle.dn_machine.specs.declared.answers.Phase.TheVariants.{Gathering, Playing}
-use Rattle.dn_node.specs.Contents.{contents}
 use Rattle.dn_node.proofs.After.{after}
 use Rattle.dn_node.proofs.Flags.{read_set_up, read_strange, read_gathering, read_playing}
 use Rattle.dn_node.proofs.node.Node.hear.Goals as goal

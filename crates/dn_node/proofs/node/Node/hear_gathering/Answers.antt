@@ -1,4 +1,4 @@
-use Rattle.std.proofs.Common.{◌≡◌, sym, ◌∙◌}
+use Rattle.std.proofs.Common.{sym, ◌∙◌}
 use Rattle.dn_machine.specs.Worlds.{rules_of}
 use Rattle.dn_node.specs.Contents.{contents}
 use Rattle.dn_node.proofs.Gathering.{shows_noted, noted_shows, started_shows}

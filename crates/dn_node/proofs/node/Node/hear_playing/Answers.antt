@@ -1,9 +1,5 @@
-use Rattle.std.proofs.Common.{◌≡◌, refl, sym, ◌∙◌}
-use Rattle.dn_machine.specs.Node as machine
-use Rattle.dn_machine.specs.Worlds.{rules_of}
+use Rattle.std.proofs.Common.{refl, sym, ◌∙◌}
 use Rattle.dn_machine.specs.declared.answers.Heard.{Heard}
-use Rattle.dn_node.specs.Contents.{contents}
-use Rattle.dn_node.specs.Steps.{IsAfter}
 use Rattle.dn_node.proofs.After.{after}
 use Rattle.dn_node.proofs.Flags.{played_leaves, played_takes}
 use Rattle.dn_node.proofs.node.Node.hear_playing.Goals as goal

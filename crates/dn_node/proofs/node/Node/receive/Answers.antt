@@ -1,8 +1,7 @@
-use Rattle.std.proofs.Common.{rules, ◌≡◌, refl, sym, ◌∙◌, inl, inr}
+use Rattle.std.proofs.Common.{refl, inl, inr}
 use Rattle.std.specs.Prelude.{Err}
 use Rattle.dn_packet.specs.declared.packet.PacketFault.TheVariants.{Length}
 use Rattle.dn_machine.specs.declared.answers.Heard.{Heard}
-use Rattle.dn_machine.specs.Worlds.{rules_of}
 use Rattle.dn_node.specs.Contents.{contents}
 use Rattle.dn_node.proofs.Nearby.{near_from_any}
 use Rattle.dn_node.proofs.Receiving.{any_ended, any_strange, any_read}

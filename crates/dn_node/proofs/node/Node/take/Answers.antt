@@ -1,15 +1,11 @@
-use Rattle.std.proofs.Common.{◌≡◌, ◌≤◌, ℕ, ◌+◌, ◌-◌, List, ◌++◌, length, take, drop, sym, ap, ◌∙◌, subst, arith, Option}
-use Rattle.dn_ring.specs.Ring.{Ring, ring_of}
-use Rattle.dn_tic.specs.declared.command.TicCmd.{TicCmd}
-use Rattle.dn_machine.specs.declared.answers.Heard.{Heard}
+use Rattle.std.proofs.Common.{◌≡◌, ◌≤◌, ℕ, ◌+◌, ◌-◌, sym, ap, ◌∙◌, subst, arith}
+use Rattle.dn_ring.specs.Ring.{Ring}
 use Rattle.dn_machine.specs.Worlds.{rules_of}
 use Rattle.dn_node.specs.Contents.{contents}
 use Rattle.dn_node.specs.Peers.{peer_at, after_asking}
-use Rattle.dn_node.specs.Received.{on_numbers}
-use Rattle.dn_node.specs.Rings.{ring_at, count_of, is_stop}
-use Rattle.dn_node.specs.Steps.{IsAfter}
+use Rattle.dn_node.specs.Rings.{ring_at, is_stop}
 use Rattle.dn_node.specs.declared.peers.Peer.{Peer}
-use Rattle.dn_node.proofs.Taking.{IsRead, over_shows, stale_shows, gap_shows, taken_shows, resends_kept, counts_kept, rest_length, none_behind}
+use Rattle.dn_node.proofs.Taking.{over_shows, stale_shows, gap_shows, taken_shows, resends_kept, counts_kept, rest_length, none_behind}
 use Rattle.dn_node.proofs.node.Node.take.Goals as goal
 
 pub returns-then-end-self : goal.returns-then-end-self
