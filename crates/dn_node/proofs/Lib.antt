@@ -2,6 +2,8 @@ pub mod After
 pub mod Counting
 pub mod Quitting
 pub mod Building
+pub mod Nearby
+pub mod Receiving
 pub mod Peering
 pub mod Giving
 pub mod Aiming
@@ -16,3 +18,8 @@ pub mod Running
 pub mod Finding
 pub mod Moving
 pub mod Room
+pub mod Gathering
+pub mod Flags
+pub mod Holding
+pub mod Starting
+pub mod Taking

@@ -1,0 +1,68 @@
+-- What a node represents once it has started.
+use Rattle.std.proofs.Common.{◌≡◌, ◌<◌, ℕ, true, false, List, [], ◌∷◌, length, refl, ap, sym, ◌∙◌, arith, Option, Some}
+use Rattle.std.specs.Prelude.{nat_lt}
+use Rattle.std.proofs.lemmas.Bool.{cond-true, lt-ltb}
+use Rattle.dn_tic.specs.declared.command.Move.{Move}
+use Rattle.dn_setup.specs.Settings.{Settings}
+use Rattle.dn_setup.specs.Starts.{start_of}
+use Rattle.dn_setup.specs.declared.start.Start.{Start}
+use Rattle.dn_demo.specs.Recorded.{Recorded}
+use Rattle.dn_demo.specs.Text.{demo_text}
+use Rattle.dn_machine.specs.declared.answers.Phase.TheVariants.{Playing}
+use Rattle.dn_machine.specs.Worlds.{Rules, opening}
+use Rattle.dn_machine.specs.Node as machine
+use Rattle.dn_machine.specs.Node.{world_after, own_mark}
+use Rattle.dn_machine.specs.Hearing.{started}
+use Rattle.dn_node.specs.Contents.{Contents}
+use Rattle.dn_node.specs.Represents.{Represents}
+use Rattle.dn_node.specs.Rows.{seats_of}
+
+-- a list of no length
+pub none_there : {A : Type 0} (xs : List A) → length xs ≡ 0 → xs ≡ []
+none_there [] e = refl
+none_there (x ∷ xs) e = absurd (omega arith)
+
+-- how long a demo without rows is
+pub head_length : (start : Start) (view players : ℕ) → length (demo_text start view (seats_of players) [] false) ≡ 13
+unfolding demo_text
+head_length start view players = refl
+
+-- the world before any row
+pub world_at_first : {S : Type 0} (rules : Rules S) (settings : Settings) (rows : List (List (Option Move)))
+    → rows ≡ [] → world_after rules settings rows (length rows) ≡ opening rules settings
+unfolding world_after
+world_at_first rules settings rows e = ap (λ (rs : List (List (Option Move))). world_after rules settings rs (length rs)) e
+
+-- the mark of an early tic is 0 by any node
+pub early_mark : {S : Type 0} (rules : Rules S) (m other : machine.Node) (p tic : ℕ) → tic < 12
+    → own_mark rules m p tic ≡ own_mark rules other p tic
+early_mark rules m other p tic low =
+    cond-true (nat_lt tic 12) _ _ (lt-ltb tic 12 low) ∙ sym (cond-true (nat_lt tic 12) _ _ (lt-ltb tic 12 low))
+
+pub shows_start : {W S : Type 0} (state : W → S) (rules : Rules S) (me : ℕ) (n : Contents W) (m : machine.Node) (settings : Settings) (world : W) (demo : Recorded)
+    → Represents state rules me n m → n.ran ≡ 0
+    → state world ≡ opening rules settings
+    → demo.bytes ≡ demo_text (start_of settings) me (seats_of rules.players) [] false → demo.limit ≡ n.demo.limit
+    → Represents state rules me (record n { phase = Playing; played = true; settings = Some settings; world = world; demo = demo }) (started m settings)
+shows_start {W} {S} state rules me n m settings world demo r unrun begun written limit =
+    let none : m.rows ≡ [] = none_there m.rows (sym r.ran ∙ unrun) in
+    let zero : length m.rows ≡ 0 = sym r.ran ∙ unrun in
+    record {
+      players = r.players;
+      number = r.number;
+      extra = r.extra;
+      limit = limit ∙ r.limit;
+      capacity = r.capacity;
+      gathers = r.gathers;
+      phase = refl;
+      played = refl;
+      settings = refl;
+      hold = r.hold;
+      ran = r.ran;
+      rings = r.rings;
+      peers = r.peers;
+      noted = r.noted;
+      world = λ e. ap (λ (s : S). Some s) (begun ∙ sym (world_at_first rules settings m.rows none));
+      marks = λ p tic below low high. r.marks p tic below low high ∙ early_mark rules m (started m settings) p tic (omega (arith, zero, high));
+      demo = written ∙ ap (λ (rs : List (List (Option Move))). demo_text (start_of settings) me (seats_of rules.players) rs false) (sym none);
+    }
