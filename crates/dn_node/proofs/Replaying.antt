@@ -1,5 +1,5 @@
 -- The demo and the world of a node that has played.
-use Rattle.std.proofs.Common.{◌≡◌, ℕ, Bool, true, List, [], length, take, Option, Some, fold, ap, sym, ◌∙◌}
+use Rattle.std.proofs.Common.{◌≡◌, ℕ, Bool, true, List, [], length, Option, Some, fold, ap, ◌∙◌}
 use Rattle.std.specs.Prelude.{if◌then◌else◌}
 use Rattle.std.specs.Option.{option_map}
 use Rattle.std.proofs.lemmas.Option.{same_Some}

@@ -1,5 +1,5 @@
 -- The flights that a node hears exactly: it reads in their packets the numbers that they were sent with.
-use Rattle.std.specs.Prelude.{◌≡◌, false, ℕ}
+use Rattle.std.specs.Prelude.{◌≡◌, false}
 use Rattle.std.specs.List.{list_any}
 use Rattle.dn_packet.specs.Text.{IsPacket}
 use Rattle.dn_setup.specs.Settings.{IsSettings}

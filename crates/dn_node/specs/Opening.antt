@@ -1,5 +1,5 @@
 -- What a node is made as, by its configuration.
-use Rattle.std.specs.Prelude.{◌≡◌, ◌<◌, ◌≤◌, ℕ, Bool, ◌==◌, Option, is_some, Result, Ok, Err}
+use Rattle.std.specs.Prelude.{◌≡◌, ◌<◌, ◌≤◌, ℕ, ◌==◌, is_some, Result, Ok, Err}
 use Rattle.dn_demo.specs.Recorded.{IsLimit}
 use Rattle.dn_node.specs.declared.config.Config.{Config}
 use Rattle.dn_node.specs.declared.config.NodeFault.{NodeFault}

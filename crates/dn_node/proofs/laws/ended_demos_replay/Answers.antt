@@ -1,4 +1,4 @@
-use Rattle.std.proofs.Common.{◌≡◌, ℕ, List, Ok, sym, subst}
+use Rattle.std.proofs.Common.{ℕ, List, Ok, sym, subst}
 use Rattle.dn_setup.specs.Starts.{start_of}
 use Rattle.dn_demo.specs.Reading.{IsReadAs}
 use Rattle.dn_demo.proofs.ReadBack.{read_back}

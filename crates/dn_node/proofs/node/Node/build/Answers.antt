@@ -1,4 +1,4 @@
-use Rattle.std.proofs.Common.{refl, sym, ◌∙◌, ap, arith, ◌≡◌, ℕ, ◌∷◌, [], ◌++◌, rules, inl, inr}
+use Rattle.std.proofs.Common.{refl, sym, ◌∙◌, ap, arith, rules, inl, inr}
 use Rattle.std.specs.Int.{w16}
 use Rattle.std.proofs.lemmas.Int.{ints, to_z-of_z}
 use Rattle.dn_ring.specs.Ring.{Ring}

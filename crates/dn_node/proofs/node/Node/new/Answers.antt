@@ -1,4 +1,4 @@
-use Rattle.std.proofs.Common.{rules, ◌≡◌, ◌+◌, ◌-◌, ◌*◌, ◌/◌, ℕ, refl, ap, sym, ◌∙◌, arith}
+use Rattle.std.proofs.Common.{rules, ◌-◌, ◌*◌, ◌/◌, ℕ, refl, ap, ◌∙◌}
 use Rattle.dn_demo.specs.Recorded.{Recorded}
 use Rattle.dn_machine.specs.Worlds.{rules_of}
 use Rattle.dn_machine.specs.Game.{fresh}

@@ -1,10 +1,9 @@
-use Rattle.std.proofs.Common.{◌≡◌, ◌+◌, ◌-◌, ℕ, ap, sym, ◌∙◌, subst}
+use Rattle.std.proofs.Common.{◌≡◌, ◌+◌, ◌-◌, ℕ, ap, sym, ◌∙◌}
 use Rattle.dn_setup.specs.Starts.{bit}
 use Rattle.dn_machine.specs.Node as machine
 use Rattle.dn_machine.specs.Worlds.{rules_of}
 use Rattle.dn_machine.specs.Sending.{lag}
 use Rattle.dn_node.specs.declared.peers.Peer.{Peer}
-use Rattle.dn_node.specs.Contents.{contents}
 use Rattle.dn_node.specs.Sent.{after_giving}
 use Rattle.dn_node.proofs.After.{along}
 use Rattle.dn_node.proofs.Counting.{made_is, below}

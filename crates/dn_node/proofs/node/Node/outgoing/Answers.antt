@@ -1,7 +1,6 @@
-use Rattle.std.proofs.Common.{◌≡◌, ℕ, Option, ap, sym, ◌∙◌, subst}
+use Rattle.std.proofs.Common.{Option, ap, sym, ◌∙◌, subst}
 use Rattle.std.specs.Prelude.{IfSome}
 use Rattle.std.specs.Option.{option_map}
-use Rattle.dn_packet.specs.declared.packet.Packet.{Packet}
 use Rattle.dn_machine.specs.Flight.{Flight, packet_of}
 use Rattle.dn_machine.specs.Node as machine
 use Rattle.dn_machine.specs.Worlds.{rules_of}

@@ -1,12 +1,10 @@
-use Rattle.std.proofs.Common.{rules, ◌≡◌, ℕ, List, Option, Some, None, ap, sym, ◌∙◌, subst}
-use Rattle.std.specs.Prelude.{IfSome}
+use Rattle.std.proofs.Common.{rules, ◌≡◌, Option, Some, None, ap, sym, ◌∙◌}
 use Rattle.std.specs.Option.{option_map}
-use Rattle.dn_packet.specs.declared.packet.Packet.{Packet}
 use Rattle.dn_packet.specs.Text.{text}
 use Rattle.dn_machine.specs.Flight.{Flight, packet_of}
 use Rattle.dn_machine.specs.Node as machine
 use Rattle.dn_machine.specs.Worlds.{rules_of}
-use Rattle.dn_node.specs.Sent.{sent_to, bytes_of}
+use Rattle.dn_node.specs.Sent.{bytes_of}
 use Rattle.dn_node.proofs.After.{along}
 use Rattle.dn_node.proofs.Sending.{sends_in}
 use Rattle.dn_node.proofs.Giving.{some_in, none_sent, no_flight, some_flight}

@@ -1,4 +1,4 @@
-use Rattle.std.proofs.Common.{◌≡◌, ◌⊎◌, false, true, inl, inr, refl, ap, sym, ◌∙◌}
+use Rattle.std.proofs.Common.{◌≡◌, ◌⊎◌, true, inl, inr, refl, ap, sym, ◌∙◌}
 use Rattle.dn_machine.specs.declared.answers.Phase.TheVariants.{Listening, Gathering}
 use Rattle.dn_machine.specs.declared.answers.Phase.{Phase}
 use Rattle.dn_node.specs.Contents.{contents}
