@@ -1,19 +1,21 @@
 -- What a ring gives of the commands that were put into it.
-use Rattle.std.proofs.Common.{refl, Some, drop, ◌-◌, ◌≤◌, arith, take, append_assoc, ◌++◌, ◌∷◌, [], ◌+◌, ap, sym, ◌∙◌, ◌≡◌, ◌≢◌, ◌<◌, ℕ, negsuc, Bool, true, false, cond, List, length, get_or, None, subst, inl, inr}
+use Rattle.std.proofs.Common.{set, refl, Some, drop, ◌-◌, ◌≤◌, arith, take, append_assoc, ◌++◌, ◌∷◌, [], ◌+◌, ap, sym, ◌∙◌, ◌≡◌, ◌≢◌, ◌<◌, ℕ, negsuc, Bool, true, false, cond, List, length, get_or, None, subst, inl, inr}
 use Rattle.std.specs.Prelude.{slice_get, IfSome, All}
 use Rattle.std.proofs.lemmas.Option.{slice_get_cases, slice_get-get_or, same_Some}
+use Rattle.std.proofs.lemmas.Bool.{cases_eq}
+use Rattle.std.proofs.lemmas.List.Elements.{All-drop, All-push}
 use Rattle.std.proofs.lemmas.List.Folds.{list_any-append}
 use Rattle.std.proofs.lemmas.Bool.Decides.{Decides-int_eq}
 use Rattle.std.specs.List.{list_any}
 use Rattle.dn_machine.specs.Node.{blank}
-use Rattle.std.proofs.lemmas.List.{get_or_default, get_or-drop, take_more, length-drop}
+use Rattle.std.proofs.lemmas.List.{get_or-set_same, get_or-set_other, get_or_default, get_or-drop, take_more, length-drop}
 use Rattle.dn_tic.specs.declared.command.TicCmd.{TicCmd}
 use Rattle.dn_ring.specs.Ring.{Ring, empty, put, get, ring_of}
 use Rattle.dn_ring.proofs.Keeping.{put-ring_of, get-ring_of}
 use Rattle.dn_node.specs.Rings.{ring_at, is_stop, HasNoStop}
 
 -- what holds of each element holds of one that is found
-pub found : {X : Type 0} (P : X → Type 0) (xs : List X) (j : ℕ) → All P xs → IfSome (slice_get xs j) P
+found : {X : Type 0} (P : X → Type 0) (xs : List X) (j : ℕ) → All P xs → IfSome (slice_get xs j) P
 found P xs j all =
     elim ((slice_get_cases xs j).1) [
       | inl at ↦ rw at.2 (subst P at.3 (all j at.0 at.1))
@@ -25,7 +27,7 @@ found_if : {X : Type 0} (P : X → Type 0) (b : Bool) (xs : List X) (j : ℕ) �
 found_if P true xs j all = found P xs j all
 found_if P false xs j all = tt
 
-pub get_no_stop : (ring : Ring) (tic : ℕ) → HasNoStop ring → IfSome (get ring tic) (λ command. command.forward ≢ negsuc 127)
+get_no_stop : (ring : Ring) (tic : ℕ) → HasNoStop ring → IfSome (get ring tic) (λ command. command.forward ≢ negsuc 127)
 get_no_stop ring tic none = found_if (λ (command : TicCmd). command.forward ≢ negsuc 127) _ ring.last _ none
 
 -- of several rings of which none has a stop
@@ -76,3 +78,20 @@ no_stop_more items command before this = go (is_stop command) refl
     go : (b : Bool) → is_stop command ≡ b → list_any is_stop (items ++ command ∷ []) ≡ false
     go true e = absurd (this ((Decides-int_eq command.forward (negsuc 127)).0 e))
     go false e = rw (list_any-append is_stop items (command ∷ []), before, e) refl
+
+-- a ring that has no stop, with one command more that is none
+put_no_stop : (ring : Ring) (command : TicCmd) → HasNoStop ring → command.forward ≢ negsuc 127 → HasNoStop (put ring command)
+put_no_stop ring command none this =
+    let P = λ (c : TicCmd). c.forward ≢ negsuc 127 in
+    All-drop P (length (ring.last ++ command ∷ []) - 12) (ring.last ++ command ∷ []) (All-push P ring.last command none this)
+
+-- and so several rings, one of which was written
+pub rings_put_no_stop : (rings : List Ring) (place : ℕ) (d new : Ring) (command : TicCmd) → place < length rings → ((p : ℕ) → HasNoStop (ring_at rings p))
+    → command.forward ≢ negsuc 127 → new ≡ put (get_or rings place d) command → (p : ℕ) → HasNoStop (ring_at (set rings place new) p)
+rings_put_no_stop rings place d new command inside none this puts p = elim (cases_eq p place) [
+  | inl e ↦
+      let ring : new ≡ put (ring_at rings place) command = puts ∙ ap (λ (r : Ring). put r command) (get_or_default rings place d empty inside) in
+      let at : ring_at (set rings place new) p ≡ put (ring_at rings place) command = ap (ring_at (set rings place new)) e ∙ get_or-set_same rings place new empty inside ∙ ring in
+      subst HasNoStop (sym at) (put_no_stop (ring_at rings place) command (none place) this)
+  | inr other ↦ subst HasNoStop (sym (get_or-set_other rings place p new empty other)) (none p)
+]
