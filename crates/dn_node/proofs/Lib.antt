@@ -22,4 +22,6 @@ pub mod Gathering
 pub mod Flags
 pub mod Holding
 pub mod Starting
+pub mod Rests
+pub mod Asking
 pub mod Taking

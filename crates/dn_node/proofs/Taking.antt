@@ -1,10 +1,8 @@
 -- What a playing node makes of a packet of commands.
-use Rattle.std.proofs.Common.{◌≡◌, ◌≢◌, ◌<◌, ◌≤◌, ◌+◌, ◌-◌, ℕ, Bool, true, false, cond, List, ◌++◌, length, take, drop, refl, ap, sym, ◌∙◌, subst, arith, Option, Some, None, inl, inr}
-use Rattle.std.specs.Prelude.{◌||◌, ◌&&◌, ◌==◌}
+use Rattle.std.proofs.Common.{◌≡◌, ◌≢◌, ◌<◌, ◌≤◌, ◌+◌, ◌-◌, ℕ, Bool, true, false, cond, List, ◌++◌, length, take, drop, refl, ap, sym, ◌∙◌, arith, Option, Some}
 use Rattle.std.specs.List.{list_any}
-use Rattle.std.proofs.lemmas.Bool.{le-ltb, lt-ltb, le-leb, lt-leb, leb-true, and_parts, cases_eq}
-use Rattle.std.proofs.lemmas.List.{take_rest, take-append-drop, length-drop}
-use Rattle.std.proofs.lemmas.List.Folds.{list_any-append}
+use Rattle.std.proofs.lemmas.Bool.{le-ltb, lt-ltb, le-leb, lt-leb}
+use Rattle.std.proofs.lemmas.List.{take_rest}
 use Rattle.dn_tic.specs.declared.command.TicCmd.{TicCmd}
 use Rattle.dn_tic.specs.Tics.{exact_tic}
 use Rattle.dn_packet.specs.declared.packet.Packet.{Packet}
@@ -14,7 +12,7 @@ use Rattle.dn_machine.specs.Worlds.{Rules}
 use Rattle.dn_machine.specs.Flight.{Flight, end_of}
 use Rattle.dn_machine.specs.Node as machine
 use Rattle.dn_machine.specs.Node.{put}
-use Rattle.dn_machine.specs.Hearing.{on_commands, after_request, requested_tic, is_within}
+use Rattle.dn_machine.specs.Hearing.{on_commands, after_request, requested_tic}
 use Rattle.dn_node.specs.Contents.{Contents}
 use Rattle.dn_node.specs.Peers.{peer_of, after_asking}
 use Rattle.dn_node.specs.Reading.{request_in, flight_in}
@@ -155,54 +153,3 @@ module _ {W S : Type 0} (state : W → S) (rules : Rules S) (me : ℕ) (n : Cont
         after (node_taken me m (flight_in from me (machine.made me m) packet start)) (Heard.Taken (start + length packet.cmds.items - machine.got m from)) (step ∙ taken me m (flight_in from me (machine.made me m) packet start) fits (omega (arith, new, had, same_length)) (omega (arith, near, had)))
         (shows_ring state rules me (record n { peers = peers }) (with_peer m from (record (asked me m (flight_in from me (machine.made me m) packet start)) { want = false })) from (held ++ drop skip packet.cmds.items) rings first rest apart)
         (ap Heard.Taken counts)
-
-no_request : (b : Bool) → (b && false) ≡ false
-no_request true = refl
-no_request false = refl
-
--- a resend is of no tic past what was made
-pub asked_low : (peer : Peer) (made : ℕ) (request : Option ℕ) → peer.resend ≤ made → (after_asking peer made request).resend ≤ made
-asked_low peer made None low = rw (no_request (peer.hold == 0)) low
-asked_low peer made (Some tic) low = go _ refl
-  where
-    go : (test : Bool) → (peer.hold == 0 && is_within made (Some tic)) ≡ test
-        → (cond test (record peer { resend = tic; hold = 10 }) (record peer { hold = peer.hold - 1 })).resend ≤ made
-    go true e = leb-true tic made (and_parts _ _ (and_parts _ _ e).1).0
-    go false e = low
-
-or_right : (a b : Bool) → (a || b) ≡ false → b ≡ false
-or_right true b e = absurd (cc)
-or_right false b e = e
-
--- a test that no element passes, none of the rest does
-pub none_behind : {A : Type 0} (test : A → Bool) (xs : List A) (skip : ℕ) → list_any test xs ≡ false → list_any test (take (length xs - skip) (drop skip xs)) ≡ false
-none_behind test xs skip e =
-    ap (list_any test) (take_rest xs skip)
-    ∙ or_right (list_any test (take skip xs)) _ (sym (list_any-append test (take skip xs) (drop skip xs)) ∙ ap (list_any test) (take-append-drop skip xs) ∙ e)
-
-pub rest_length : {A : Type 0} (xs : List A) (skip : ℕ) → length (take (length xs - skip) (drop skip xs)) ≡ length xs - skip
-rest_length {A} xs skip = ap (length {A = A}) (take_rest xs skip) ∙ length-drop skip xs
-
--- resends after one peer has asked
-pub resends_kept : (old new : ℕ → Peer) (from players made : ℕ) (request : Option ℕ) (q : Peer) → from < players
-    → ((p : ℕ) → p < players → (old p).resend ≤ made) → q ≡ after_asking (old from) made request
-    → ((p : ℕ) → p ≢ from → new p ≡ old p) → (new from).resend ≡ q.resend
-    → (p : ℕ) → p < players → (new p).resend ≤ made
-resends_kept old new from players made request q below low asks others is p h =
-    elim (cases_eq p from) [
-      | inl same ↦
-          let P : ℕ → Type 0 = λ k. k ≤ made in
-          subst P (sym (ap (λ (x : ℕ). (new x).resend) same ∙ is ∙ ap (λ (x : Peer). x.resend) asks)) (asked_low (old from) made request (low from below))
-      | inr other ↦
-          let P : Peer → Type 0 = λ x. x.resend ≤ made in
-          subst P (sym (others p other)) (low p h)
-    ]
-
--- what holds of each count, after one ring was written
-pub counts_kept : (P : ℕ → Type 0) (old new : ℕ → Ring) (from : ℕ) → P (count_of new from) → ((p : ℕ) → p ≢ from → new p ≡ old p)
-    → (p : ℕ) → P (count_of old p) → P (count_of new p)
-counts_kept P old new from here others p h =
-    elim (cases_eq p from) [
-      | inl same ↦ subst (λ (x : ℕ). P (count_of new x)) (sym same) here
-      | inr other ↦ subst (λ (x : Ring). P x.count) (sym (others p other)) h
-    ]
