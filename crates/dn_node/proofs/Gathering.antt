@@ -38,14 +38,13 @@ noted_same : (players : ℕ) (one other : ℕ → Bool) → ((p : ℕ) → is_pe
     → all_noted players one ≡ all_noted players other
 noted_same players one other same =
     all_same one other 1 (players - 1) (λ p low high.
-      let some : 0 < p = omega arith in
-      let below : p < players = omega arith in
-      same p (and_from _ _ (lt-ltb 0 p some) (lt-ltb p players below)))
+    let some : 0 < p = omega arith in
+    let below : p < players = omega arith in
+    same p (and_from _ _ (lt-ltb 0 p some) (lt-ltb p players below)))
 
 module _ {W S : Type 0} (state : W → S) (rules : Rules S) (me : ℕ) (n : Contents W) (m : machine.Node) (r : Represents state rules me n m)
     (from : ℕ) (gather : Gathered) (players : gather.players ≡ n.gather.players)
     (heard : (p : ℕ) → is_noted gather p ≡ (is_noted n.gather p || (p == from && is_peer n.gather.players p))) where
-
   now_noted : (p : ℕ) → is_peer rules.players p ≡ true → is_noted gather p ≡ put m.noted from true p
   now_noted p peer =
       let counted : is_peer n.gather.players p ≡ true = ap (λ (k : ℕ). is_peer k p) r.gathers ∙ peer in
@@ -83,7 +82,7 @@ module _ {W S : Type 0} (state : W → S) (rules : Rules S) (me : ℕ) (n : Cont
   all_heard : (complete : Bool) → complete ≡ all_noted gather.players (is_noted gather) → all_noted rules.players (put m.noted from true) ≡ complete
   all_heard complete is =
       sym (is ∙ ap (λ (k : ℕ). all_noted k (is_noted gather)) (players ∙ r.gathers)
-        ∙ noted_same rules.players (is_noted gather) (put m.noted from true) now_noted)
+      ∙ noted_same rules.players (is_noted gather) (put m.noted from true) now_noted)
 
   pub noted_shows : (packet : Packet) → has_flag packet 1 ≡ false → false ≡ all_noted gather.players (is_noted gather)
       → IsAfter state rules me (record n { gather = gather }) (on_gathered rules m from packet) (λ answer. Heard.Noted ≡ answer)

@@ -172,7 +172,7 @@ module _ {S : Type 0} (rules : Rules S) (me : ℕ) (m : machine.Node) where
 -- hence who hears any bytes by the tests hears a near flight as the machine does
 pub near_from_any : {W S : Type 0} (state : W → S) (physics : Physics S) (old new : Contents W) (from : ℕ) (bytes : List ℕ) (answer : Heard)
     → ((read : Result Packet PacketFault) (told : Result Settings SetupFault) → IsReadAs bytes read → IsTold read told
-      → Steps state physics old new (λ rules me m. received rules me m from told read) (λ heard. answer ≡ heard))
+    → Steps state physics old new (λ rules me m. received rules me m from told read) (λ heard. answer ≡ heard))
     → old.me < old.players
     → (flight : Flight) → IsFair flight → bytes ≡ text (packet_of flight) → flight.from ≡ from → from < old.players → from ≢ old.me
     → is_near (count_of old.rings old.me) flight ≡ true

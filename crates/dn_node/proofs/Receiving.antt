@@ -65,10 +65,10 @@ module _ {W S : Type 0} (state : W → S) (physics : Physics S) (old : Contents 
         → Steps state physics old old (λ rules me m. received rules me m from told read) (λ heard. Heard.Dropped 5 ≡ heard)
     any_strange (inl past) read told is tells players extra limit me m r =
         after m (Heard.Dropped 5) (received_strange (rules_of physics players extra limit) me m from told read (goes_on (rules_of physics players extra limit) me m r)
-          (inl (omega (arith, past, r.players)))) r refl
+        (inl (omega (arith, past, r.players)))) r refl
     any_strange (inr own) read told is tells players extra limit me m r =
         after m (Heard.Dropped 5) (received_strange (rules_of physics players extra limit) me m from told read (goes_on (rules_of physics players extra limit) me m r)
-          (inr (own ∙ r.number))) r refl
+        (inr (own ∙ r.number))) r refl
 
     -- a peer's bytes are heard as what they are read as
     pub any_read : (new : Contents W) (answer : Heard) (found : Result Packet PacketFault) → from < old.players → from ≢ old.me

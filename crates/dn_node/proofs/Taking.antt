@@ -88,7 +88,6 @@ pub record IsRead {W : Type 0} (n : Contents W) (from : ℕ) (packet : Packet) (
 
 module _ {W S : Type 0} (state : W → S) (rules : Rules S) (me : ℕ) (n : Contents W) (m : machine.Node) (r : Represents state rules me n m)
     (from : ℕ) (packet : Packet) (made start : ℕ) (commands : List TicCmd) (read : IsRead n from packet made start commands) where
-
   same_made : made ≡ machine.made me m
   same_made = read.count ∙ made_is state rules me n m r read.own
 
@@ -110,7 +109,6 @@ module _ {W S : Type 0} (state : W → S) (rules : Rules S) (me : ℕ) (n : Cont
 
   module _ (room : start + length commands ≤ n.ran + 12) (q : Peer) (asks : q ≡ after_asking (n.peers from) made (request_in made packet)) (got : ℕ) (counted : got ≡ count_of n.rings from) (peers : ℕ → Peer)
       (others : (p : ℕ) → p ≢ from → peers p ≡ n.peers p) where
-
     fits : start + length packet.cmds.items ≤ machine.ran m + 12
     fits = omega (arith, room, r.ran, same_length)
 
@@ -136,10 +134,10 @@ module _ {W S : Type 0} (state : W → S) (rules : Rules S) (me : ℕ) (n : Cont
 
     pub taken_shows : (rings : ℕ → Ring) → got < start + length commands → start ≤ got → peers from ≡ record q { want = false }
         → ((held : List TicCmd) → n.rings from ≡ ring_of held
-          → rings from ≡ ring_of (held ++ take (length commands - (got - start)) (drop (got - start) commands)))
+        → rings from ≡ ring_of (held ++ take (length commands - (got - start)) (drop (got - start) commands)))
         → ((p : ℕ) → p ≢ from → rings p ≡ n.rings p)
         → IsAfter state rules me (record n { peers = peers; rings = rings }) (on_numbers me m from packet)
-            (λ heard. Heard.Taken (start + length commands - got) ≡ heard)
+        (λ heard. Heard.Taken (start + length commands - got) ≡ heard)
     taken_shows rings new near is kept apart =
         let held = m.held from in
         let skip : ℕ = machine.got m from - start in

@@ -55,7 +55,8 @@ impl<W: World> Node<W> {
             ..peer
         };
         self.peers.put(from, peer);
-        self.rings.put_all(from, &commands[(got - start) as usize..]);
+        self.rings
+            .put_all(from, &commands[(got - start) as usize..]);
         Heard::Taken(end - got)
     }
 }

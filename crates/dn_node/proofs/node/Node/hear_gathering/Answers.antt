@@ -15,5 +15,5 @@ returns-in-Some g c players extra limit me m r =
     c.hear.new.self c.hear.ensures.players c.hear.ensures.noted c.args.packet.now c.in-Some.settings (contents c.start.new.self)
     (sym c.has_flag.ensures ∙ c.if-has_flag.false) (sym c.if-not-hear.false ∙ c.hear.ensures.complete) c.in-Some.is
     (c.start.ensures players extra limit me _
-      (shows_noted g.W.World.state (rules_of g.W.World.physics players extra limit) me (contents c.args.self.now) m r c.args.from
-        c.hear.new.self c.hear.ensures.players c.hear.ensures.noted))
+    (shows_noted g.W.World.state (rules_of g.W.World.physics players extra limit) me (contents c.args.self.now) m r c.args.from
+    c.hear.new.self c.hear.ensures.players c.hear.ensures.noted))

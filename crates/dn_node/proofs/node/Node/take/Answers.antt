@@ -96,8 +96,8 @@ invariant_of-self-2-clause-resends g c =
     c.put_all.ensures.others c.args.self.now.me (λ e. c.requires.other (sym e)) in
     subst (λ (x : Ring). (p : ℕ) → p < c.args.self.now.players → (peer_at c.put-2.new.self p).resend ≤ x.count) (sym own)
     (resends_kept (peer_at c.args.self.now.peers) (peer_at c.put-2.new.self) c.args.from c.args.self.now.players c.made-made.result _ _ c.after_asking-peer.result
-      c.requires.peer c.made-made.ensures c.args.self.now.resends (asked g (goal.at.invariant_of-self-2-clause-resends g c).After-after_asking-peer)
-      c.put-2.ensures.others (ap (λ (x : Peer). x.resend) c.put-2.ensures.put))
+    c.requires.peer c.made-made.ensures c.args.self.now.resends (asked g (goal.at.invariant_of-self-2-clause-resends g c).After-after_asking-peer)
+    c.put-2.ensures.others (ap (λ (x : Peer). x.resend) c.put-2.ensures.put))
 
 pub returns : goal.returns
 returns g c players extra limit me m r =
