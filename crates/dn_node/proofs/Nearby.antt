@@ -1,8 +1,8 @@
 -- A fair flight that is near is read as it was sent.
-use Rattle.std.proofs.Common.{◌≡◌, ◌≢◌, ◌<◌, ◌≤◌, ◌+◌, ◌-◌, ◌%◌, ℕ, true, false, List, refl, ap, sym, ◌∙◌, arith, Option, Some, None, inl, inr, ◌⊎◌}
-use Rattle.std.specs.Prelude.{Result, Ok, Err}
+use Rattle.std.proofs.Common.{◌≡◌, ◌≢◌, ◌<◌, ◌≤◌, ◌+◌, ◌-◌, ◌%◌, ℕ, true, false, List, refl, ap, sym, ◌∙◌, arith, Option, Some, None, inl, inr}
+use Rattle.std.specs.Prelude.{bit_and, Result, Ok, Err}
 use Rattle.std.specs.List.{list_any}
-use Rattle.std.proofs.lemmas.Bool.{ltb-false, not-true, and_parts, eq-eqb, ne_eqb, lt-ltb, cases_Bool}
+use Rattle.std.proofs.lemmas.Bool.{ltb-false, eqb-true, not-true, not-false, and_parts, eq-eqb, ne_eqb, lt-ltb, cases_Bool}
 use Rattle.dn_tic.specs.Tics.{exact_tic}
 use Rattle.dn_tic.proofs.Near.{exact-near}
 use Rattle.dn_packet.specs.declared.packet.Packet.{Packet}
@@ -13,7 +13,6 @@ use Rattle.dn_setup.specs.Settings.{Settings}
 use Rattle.dn_setup.specs.Setup.{IsSetupReadAs}
 use Rattle.dn_setup.specs.declared.setup.SetupFault.{SetupFault}
 use Rattle.dn_setup.specs.declared.setup.SetupFault.TheVariants.{NotSetup}
-use Rattle.dn_machine.specs.declared.answers.Cause.TheVariants.{Left}
 use Rattle.dn_machine.specs.declared.answers.Heard.{Heard}
 use Rattle.dn_machine.specs.declared.answers.Phase.{Phase}
 use Rattle.dn_machine.specs.declared.answers.Phase.TheVariants.{Listening, Gathering, Playing, Ended}
@@ -25,12 +24,13 @@ use Rattle.dn_machine.specs.Node.{made}
 use Rattle.dn_machine.specs.Hearing.{on_packet, on_packet_in, on_gathering, on_commands}
 use Rattle.dn_node.specs.Near.{IsFair, IsFairKind}
 use Rattle.dn_node.specs.Phases.{is_ended}
-use Rattle.dn_node.specs.Reading.{request_in}
-use Rattle.dn_node.specs.Received.{received, IsTold, on_read, on_set_up, on_other, on_gathered, on_played, on_start, on_numbers}
+use Rattle.dn_node.specs.Reading.{has_flag, request_in}
+use Rattle.dn_node.specs.Received.{received, IsTold, on_read, on_set_up, on_other, on_start, on_numbers}
 use Rattle.dn_node.specs.Rings.{is_stop, count_of}
 use Rattle.dn_node.specs.Contents.{Contents}
 use Rattle.dn_node.specs.Steps.{Steps}
 use Rattle.dn_node.proofs.After.{after}
+use Rattle.dn_node.proofs.Flags.{read_other, read_gathering, read_playing, played_takes, played_leaves}
 use Rattle.dn_node.proofs.Counting.{made_is}
 
 -- a close tic is read from its low byte
@@ -48,125 +48,106 @@ read_request made flight close = go flight.request close
     go None close = refl
     go (Some tic) close = read_close made tic close
 
+-- flags that a packet of commands has not, whether it asks or not
+module _ (flight : Flight) where
+  unset : (flags flag : ℕ) → bit_and (flags + 0) flag ≡ 0 → bit_and (flags + 4) flag ≡ 0 → has_flag (commands_packet flags flight) flag ≡ false
+  unset flags flag plain asks = go flight.request
+    where
+      go : (request : Option ℕ) → has_flag (commands_packet flags (record flight { request = request })) flag ≡ false
+      go None = rw plain refl
+      go (Some tic) = rw asks refl
+
+  set_exit : has_flag (commands_packet 8 flight) 8 ≡ true
+  set_exit = go flight.request
+    where
+      go : (request : Option ℕ) → has_flag (commands_packet 8 (record flight { request = request })) 8 ≡ true
+      go None = refl
+      go (Some tic) = refl
+
 -- what a kind tells as a set-up packet
 abbrev told_by : Kind → Result Settings SetupFault
 told_by (SetUp settings) = Ok settings
 told_by Play = Err NotSetup
 told_by Exit = Err NotSetup
 
+-- a test of a bit, as a fact
+no_bit : (packet : Packet) → has_flag packet 2 ≡ false → IsSetupReadAs packet (Err NotSetup)
+no_bit packet off set = set (eqb-true (bit_and packet.flags 2) 0 (not-false _ off))
+
 told_is : (flight : Flight) (kind : Kind) → IsFairKind flight kind → IsSetupReadAs (packet_of (record flight { kind = kind })) (told_by kind)
 told_is flight (SetUp settings) fair = (λ e. absurd (omega arith), refl, record { in_range = fair.1; ask = refl; start = refl })
-told_is flight Play fair = go flight.request
-  where
-    go : (request : Option ℕ) → IsSetupReadAs (packet_of (record flight { kind = Play; request = request })) (Err NotSetup)
-    go None = λ set. set refl
-    go (Some tic) = λ set. set refl
-told_is flight Exit fair = go flight.request
-  where
-    go : (request : Option ℕ) → IsSetupReadAs (packet_of (record flight { kind = Exit; request = request })) (Err NotSetup)
-    go None = λ set. set refl
-    go (Some tic) = λ set. set refl
+told_is flight Play fair = no_bit (commands_packet 0 flight) (unset flight 0 2 refl refl)
+told_is flight Exit fair = no_bit (commands_packet 8 flight) (unset flight 8 2 refl refl)
 
-module _ {S : Type 0} (rules : Rules S) (me : ℕ) (m : machine.Node) where
+module _ {S : Type 0} (rules : Rules S) (me : ℕ) (m : machine.Node) (flight : Flight) where
   -- a set-up packet
-  set_up_heard : (flight : Flight) (settings : Settings) (phase : Phase) → flight.from ≡ 0 → is_ended phase ≡ false
+  set_up_heard : (settings : Settings) (phase : Phase) → flight.from ≡ 0 → is_ended phase ≡ false
       → ◌≡◌ {A = machine.Node × Heard} (on_set_up m flight.from (Ok settings) phase) (on_packet_in rules me m flight phase (SetUp settings))
-  set_up_heard flight settings Listening key on = let first = eq-eqb flight.from 0 key in rw first refl
-  set_up_heard flight settings Gathering key on = refl
-  set_up_heard flight settings Playing key on = refl
-  set_up_heard flight settings (Ended cause) key on = absurd (cc)
+  set_up_heard settings Listening key on = let first = eq-eqb flight.from 0 key in rw first refl
+  set_up_heard settings Gathering key on = refl
+  set_up_heard settings Playing key on = refl
+  set_up_heard settings (Ended cause) key on = absurd (cc)
 
   -- commands
-  numbers_heard : (flight : Flight) → is_close (made me m) flight.start ≡ true → is_request_close (made me m) flight.request ≡ true
-      → list_any is_stop flight.commands ≡ false
+  numbers_heard : is_close (made me m) flight.start ≡ true → is_request_close (made me m) flight.request ≡ true → list_any is_stop flight.commands ≡ false
       → ◌≡◌ {A = machine.Node × Heard} (on_numbers me m flight.from (commands_packet 0 flight)) (on_commands me m flight)
-  numbers_heard flight start request fine =
+  numbers_heard start request fine =
       ap (on_start me m flight.from (commands_packet 0 flight)) (read_close (made me m) flight.start start) ∙ rw fine
       (ap (λ (asked : Option ℕ). on_commands me m (record flight { request = asked })) (read_request (made me m) flight request))
 
-  -- a packet of commands
-  play_heard : (flight : Flight) (phase : Phase) → list_any is_stop flight.commands ≡ false
-      → is_close (made me m) flight.start ≡ true → is_request_close (made me m) flight.request ≡ true → is_ended phase ≡ false
-      → ◌≡◌ {A = machine.Node × Heard} (on_other rules me m flight.from (commands_packet 0 flight) phase) (on_packet_in rules me m flight phase Play)
-  play_heard flight Listening fine start request on = refl
-  play_heard flight Gathering fine start request on =
-      let own = eq-eqb flight.from flight.from refl in
-      rw own (go flight.request)
-    where
-      go : (request : Option ℕ) → ◌≡◌ {A = machine.Node × Heard} (on_gathered rules m flight.from (commands_packet 0 (record flight { request = request }))) (on_gathering rules m flight.from)
-      go None = refl
-      go (Some tic) = refl
-  play_heard flight Playing fine start request on =
-      let own = eq-eqb flight.from flight.from refl in
-      rw own (go flight.request ∙ numbers_heard flight start request fine)
-    where
-      go : (request : Option ℕ) → ◌≡◌ {A = machine.Node × Heard} (on_played me m flight.from (commands_packet 0 (record flight { request = request })))
-          (on_numbers me m flight.from (commands_packet 0 (record flight { request = request })))
-      go None = refl
-      go (Some tic) = refl
-  play_heard flight (Ended cause) fine start request on = absurd (cc)
+  -- a node that gathers hears any packet that does not end the game
+  gathering_heard : (flags : ℕ) → has_flag (commands_packet flags flight) 2 ≡ false → has_flag (commands_packet flags flight) 1 ≡ false → m.phase ≡ Gathering
+      → ◌≡◌ {A = machine.Node × Heard} (on_read rules me m flight.from (Err NotSetup) (Ok (commands_packet flags flight))) (on_gathering rules m flight.from)
+  gathering_heard flags plain alive on = read_gathering rules me m flight.from (Err NotSetup) (commands_packet flags flight) plain refl on ∙ rw alive refl
 
-  -- a packet with EXIT
-  exit_heard : (flight : Flight) (phase : Phase) → is_ended phase ≡ false
-      → ◌≡◌ {A = machine.Node × Heard} (on_other rules me m flight.from (commands_packet 8 flight) phase) (on_packet_in rules me m flight phase Exit)
-  exit_heard flight Listening on = refl
-  exit_heard flight Gathering on =
-      let own = eq-eqb flight.from flight.from refl in
-      rw own (go flight.request)
-    where
-      go : (request : Option ℕ) → ◌≡◌ {A = machine.Node × Heard} (on_gathered rules m flight.from (commands_packet 8 (record flight { request = request }))) (on_gathering rules m flight.from)
-      go None = refl
-      go (Some tic) = refl
-  exit_heard flight Playing on =
-      let own = eq-eqb flight.from flight.from refl in
-      rw own (go flight.request)
-    where
-      go : (request : Option ℕ) → ◌≡◌ {A = machine.Node × Heard} (on_played me m flight.from (commands_packet 8 (record flight { request = request })))
-          (record m { phase = Ended (Left flight.from) }, Heard.Left)
-      go None = refl
-      go (Some tic) = refl
-  exit_heard flight (Ended cause) on = absurd (cc)
+  play_heard : (phase : Phase) → m.phase ≡ phase → is_ended phase ≡ false
+      → is_close (made me m) flight.start ≡ true → is_request_close (made me m) flight.request ≡ true → list_any is_stop flight.commands ≡ false
+      → ◌≡◌ {A = machine.Node × Heard} (on_read rules me m flight.from (Err NotSetup) (Ok (commands_packet 0 flight))) (on_packet_in rules me m flight phase Play)
+  play_heard Listening at on start request fine =
+      read_other rules me m flight.from (Err NotSetup) (commands_packet 0 flight) (unset flight 0 2 refl refl)
+      ∙ ap (on_other rules me m flight.from (commands_packet 0 flight)) at
+  play_heard Gathering at on start request fine = gathering_heard 0 (unset flight 0 2 refl refl) (unset flight 0 1 refl refl) at
+  play_heard Playing at on start request fine =
+      read_playing rules me m flight.from (Err NotSetup) (commands_packet 0 flight) (unset flight 0 2 refl refl) refl at
+      ∙ played_takes me m flight.from (commands_packet 0 flight) (unset flight 0 8 refl refl) (unset flight 0 1 refl refl)
+      ∙ numbers_heard start request fine
+  play_heard (Ended cause) at on start request fine = absurd (cc)
 
-  -- a flag of the packet tells whether it is a set-up
-  plain_read : (flight : Flight) (flags : ℕ) (told : Result Settings SetupFault) → (flags ≡ 0) ⊎ (flags ≡ 8)
-      → ◌≡◌ {A = machine.Node × Heard} (on_read rules me m flight.from told (Ok (commands_packet flags flight))) (on_other rules me m flight.from (commands_packet flags flight) m.phase)
-  plain_read flight flags told (inl e) = go flags flight.request e
-    where
-      go : (flags : ℕ) (request : Option ℕ) → flags ≡ 0
-          → ◌≡◌ {A = machine.Node × Heard} (on_read rules me m flight.from told (Ok (commands_packet flags (record flight { request = request })))) (on_other rules me m flight.from (commands_packet flags (record flight { request = request })) m.phase)
-      go flags None e = rw e refl
-      go flags (Some tic) e = rw e refl
-  plain_read flight flags told (inr e) = go flags flight.request e
-    where
-      go : (flags : ℕ) (request : Option ℕ) → flags ≡ 8
-          → ◌≡◌ {A = machine.Node × Heard} (on_read rules me m flight.from told (Ok (commands_packet flags (record flight { request = request })))) (on_other rules me m flight.from (commands_packet flags (record flight { request = request })) m.phase)
-      go flags None e = rw e refl
-      go flags (Some tic) e = rw e refl
+  exit_heard : (phase : Phase) → m.phase ≡ phase → is_ended phase ≡ false
+      → ◌≡◌ {A = machine.Node × Heard} (on_read rules me m flight.from (Err NotSetup) (Ok (commands_packet 8 flight))) (on_packet_in rules me m flight phase Exit)
+  exit_heard Listening at on =
+      read_other rules me m flight.from (Err NotSetup) (commands_packet 8 flight) (unset flight 8 2 refl refl)
+      ∙ ap (on_other rules me m flight.from (commands_packet 8 flight)) at
+  exit_heard Gathering at on = gathering_heard 8 (unset flight 8 2 refl refl) (unset flight 8 1 refl refl) at
+  exit_heard Playing at on =
+      read_playing rules me m flight.from (Err NotSetup) (commands_packet 8 flight) (unset flight 8 2 refl refl) refl at
+      ∙ played_leaves me m flight.from (commands_packet 8 flight) (set_exit flight)
+  exit_heard (Ended cause) at on = absurd (cc)
 
-  near_read : (flight : Flight) (kind : Kind) → IsFairKind flight kind → is_near (made me m) (record flight { kind = kind }) ≡ true → is_ended m.phase ≡ false
+  near_read : (kind : Kind) → IsFairKind flight kind → is_near (made me m) (record flight { kind = kind }) ≡ true → is_ended m.phase ≡ false
       → ◌≡◌ {A = machine.Node × Heard} (on_read rules me m flight.from (told_by kind) (Ok (packet_of (record flight { kind = kind })))) (on_packet_in rules me m flight m.phase kind)
-  near_read flight (SetUp settings) fair near on = set_up_heard flight settings m.phase fair.0 on
-  near_read flight Play fair near on =
+  near_read (SetUp settings) fair near on = set_up_heard settings m.phase fair.0 on
+  near_read Play fair near on =
       let close = and_parts _ _ near in
-      plain_read flight 0 (Err NotSetup) (inl refl) ∙ play_heard flight m.phase fair close.0 close.1 on
-  near_read flight Exit fair near on = plain_read flight 8 (Err NotSetup) (inr refl) ∙ exit_heard flight m.phase on
+      play_heard m.phase refl on close.0 close.1 fair
+  near_read Exit fair near on = exit_heard m.phase refl on
 
-  ended_heard : (flight : Flight) (phase : Phase) (kind : Kind) → is_ended phase ≡ true
+  ended_heard : (phase : Phase) (kind : Kind) → is_ended phase ≡ true
       → ◌≡◌ {A = machine.Node × Heard} (m, Heard.Dropped 13) (on_packet_in rules me m flight phase kind)
-  ended_heard flight (Ended cause) kind done = refl
-  ended_heard flight Listening kind done = absurd (cc)
-  ended_heard flight Gathering kind done = absurd (cc)
-  ended_heard flight Playing kind done = absurd (cc)
+  ended_heard (Ended cause) kind done = refl
+  ended_heard Listening kind done = absurd (cc)
+  ended_heard Gathering kind done = absurd (cc)
+  ended_heard Playing kind done = absurd (cc)
 
-  pub near_received : (flight : Flight) → IsFair flight → flight.from < rules.players → flight.from ≢ me → is_near (made me m) flight ≡ true
+  pub near_received : IsFair flight → flight.from < rules.players → flight.from ≢ me → is_near (made me m) flight ≡ true
       → ◌≡◌ {A = machine.Node × Heard} (received rules me m flight.from (told_by flight.kind) (Ok (packet_of flight))) (on_packet rules me m flight)
   unfolding on_packet
-  near_received flight fair below other near = elim (cases_Bool (is_ended m.phase)) [
-    | inl done ↦ rw done (ended_heard flight m.phase flight.kind done)
+  near_received fair below other near = elim (cases_Bool (is_ended m.phase)) [
+    | inl done ↦ rw done (ended_heard m.phase flight.kind done)
     | inr on ↦
         let there = lt-ltb flight.from rules.players below in
         let apart = ne_eqb flight.from me other in
-        rw (on, there, apart) (near_read flight flight.kind fair.kind near on)
+        rw (on, there, apart) (near_read flight.kind fair.kind near on)
   ]
 
 -- hence who hears any bytes by the tests hears a near flight as the machine does

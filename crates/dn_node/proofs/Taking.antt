@@ -105,10 +105,11 @@ module _ {W S : Type 0} (state : W → S) (rules : Rules S) (me : ℕ) (n : Cont
 
   pub over_shows : n.ran + 12 < start + length commands → IsAfter state rules me n (on_numbers me m from packet) (λ heard. Heard.Dropped 12 ≡ heard)
   over_shows past =
-      after m (Heard.Dropped 12) (step ∙ over me m (flight_in from me (machine.made me m) packet start) (omega (arith, past, r.ran, same_length))) r refl
+      let f = flight_in from me (machine.made me m) packet start in
+      after m (Heard.Dropped 12) (step ∙ over me m f (omega (arith, past, r.ran, same_length))) r refl
 
-  module _ (room : start + length commands ≤ n.ran + 12) (q : Peer) (asks : q ≡ after_asking (n.peers from) made (request_in made packet)) (got : ℕ) (counted : got ≡ count_of n.rings from) (peers : ℕ → Peer)
-      (others : (p : ℕ) → p ≢ from → peers p ≡ n.peers p) where
+  module _ (room : start + length commands ≤ n.ran + 12) (q : Peer) (asks : q ≡ after_asking (n.peers from) made (request_in made packet))
+      (got : ℕ) (counted : got ≡ count_of n.rings from) (peers : ℕ → Peer) (others : (p : ℕ) → p ≢ from → peers p ≡ n.peers p) where
     fits : start + length packet.cmds.items ≤ machine.ran m + 12
     fits = omega (arith, room, r.ran, same_length)
 
@@ -123,13 +124,15 @@ module _ {W S : Type 0} (state : W → S) (rules : Rules S) (me : ℕ) (n : Cont
     pub stale_shows : start + length commands ≤ got → peers from ≡ q
         → IsAfter state rules me (record n { peers = peers }) (on_numbers me m from packet) (λ heard. Heard.Stale ≡ heard)
     stale_shows old is =
-        after (with_peer m from (asked me m (flight_in from me (machine.made me m) packet start))) Heard.Stale (step ∙ stale me m (flight_in from me (machine.made me m) packet start) fits (omega (arith, old, had, same_length)))
+        let f = flight_in from me (machine.made me m) packet start in
+        after (with_peer m from (asked me m f)) Heard.Stale (step ∙ stale me m f fits (omega (arith, old, had, same_length)))
         (shows_peer state rules me n m from _ peers r (is ∙ same_asked) others) refl
 
     pub gap_shows : got < start + length commands → got < start → peers from ≡ record q { want = true }
         → IsAfter state rules me (record n { peers = peers }) (on_numbers me m from packet) (λ heard. Heard.Gap ≡ heard)
     gap_shows new far is =
-        after (with_peer m from (record (asked me m (flight_in from me (machine.made me m) packet start)) { want = true })) Heard.Gap (step ∙ gap me m (flight_in from me (machine.made me m) packet start) fits (omega (arith, new, had, same_length)) (omega (arith, far, had)))
+        let f = flight_in from me (machine.made me m) packet start in
+        after (with_peer m from (record (asked me m f) { want = true })) Heard.Gap (step ∙ gap me m f fits (omega (arith, new, had, same_length)) (omega (arith, far, had)))
         (shows_peer state rules me n m from _ peers r (is ∙ ap (λ (x : Peer). record x { want = true }) same_asked) others) refl
 
     pub taken_shows : (rings : ℕ → Ring) → got < start + length commands → start ≤ got → peers from ≡ record q { want = false }
@@ -139,6 +142,7 @@ module _ {W S : Type 0} (state : W → S) (rules : Rules S) (me : ℕ) (n : Cont
         → IsAfter state rules me (record n { peers = peers; rings = rings }) (on_numbers me m from packet)
         (λ heard. Heard.Taken (start + length commands - got) ≡ heard)
     taken_shows rings new near is kept apart =
+        let f = flight_in from me (machine.made me m) packet start in
         let held = m.held from in
         let skip : ℕ = machine.got m from - start in
         let rest : rings from ≡ ring_of (held ++ drop skip packet.cmds.items) =
@@ -148,6 +152,6 @@ module _ {W S : Type 0} (state : W → S) (rules : Rules S) (me : ℕ) (n : Cont
         ∙ ap (λ (xs : List TicCmd). ring_of (held ++ drop skip xs)) read.items in
         let first = shows_peer state rules me n m from _ peers r (is ∙ ap (λ (x : Peer). record x { want = false }) same_asked) others in
         let counts : start + length commands - got ≡ start + length packet.cmds.items - machine.got m from = omega (arith, had, same_length) in
-        after (node_taken me m (flight_in from me (machine.made me m) packet start)) (Heard.Taken (start + length packet.cmds.items - machine.got m from)) (step ∙ taken me m (flight_in from me (machine.made me m) packet start) fits (omega (arith, new, had, same_length)) (omega (arith, near, had)))
-        (shows_ring state rules me (record n { peers = peers }) (with_peer m from (record (asked me m (flight_in from me (machine.made me m) packet start)) { want = false })) from (held ++ drop skip packet.cmds.items) rings first rest apart)
+        after (node_taken me m f) (Heard.Taken (start + length packet.cmds.items - machine.got m from)) (step ∙ taken me m f fits (omega (arith, new, had, same_length)) (omega (arith, near, had)))
+        (shows_ring state rules me (record n { peers = peers }) (with_peer m from (record (asked me m f) { want = false })) from (held ++ drop skip packet.cmds.items) rings first rest apart)
         (ap Heard.Taken counts)
