@@ -40,12 +40,12 @@ one_reading bytes d p (Err NoMarker) q = absurd (q.1 p.1.0 p.1.1.marked)
 one_reading bytes d p (Err Memory) q = inr (inr refl)
 
 -- a demo that keeps these bytes
-pub read_of_front : (bytes front : List ℕ) (k : ℕ) → HasHeader bytes → EndsBehind bytes k → front ≡ take (place k) bytes
-    → IsReadAs bytes (Ok (recording front (commands_in front) (length bytes - length (take (place k) bytes) - 1)))
-read_of_front bytes front k head behind e =
+pub read_of_front : (bytes front : List ℕ) (k after : ℕ) → HasHeader bytes → EndsBehind bytes k → front ≡ take (place k) bytes
+    → after ≡ length bytes - place k - 1 → IsReadAs bytes (Ok (recording front (commands_in front) after))
+read_of_front bytes front k after head behind e f =
     let inside = slice_get_within bytes (place k) marker behind.marked in
     let len : length (take (place k) bytes) ≡ place k = length-take-le (place k) bytes (omega arith) in
     let commands : commands_in front ≡ k = omega (arith, ap length e) in
-    let after : length bytes - length (take (place k) bytes) - 1 ≡ length bytes - (place k + 1) = omega arith in
-    let same = (λ i. recording (e i) (commands i) (after i)) ∙ recording-take k bytes (length bytes - (place k + 1)) in
+    let left : after ≡ length bytes - (place k + 1) = omega arith in
+    let same = (λ i. recording (e i) (commands i) (left i)) ∙ recording-take k bytes (length bytes - (place k + 1)) in
     (head, (k, behind, same))

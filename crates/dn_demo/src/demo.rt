@@ -1,7 +1,10 @@
 //! A demo that was read.
 
-ghost use Rattle.std.specs.Prelude.{◌≡◌, length, slice_get, Result};
+ghost use Rattle.std.specs.Prelude.{◌≡◌, ◌≢◌, length, slice_get, Result, Err, IfOk, IfErr};
+ghost use Rattle.dn_demo.specs.Places.{EndsBehind};
+ghost use Rattle.dn_demo.specs.Reading.{Recording, HasHeader, IsReadAs, IsSameButMemory};
 ghost use Rattle.dn_demo.specs.declared.demo.DemoFault.{DemoFault};
+ghost use Rattle.dn_demo.specs.declared.demo.DemoFault.TheVariants.{Memory};
 
 use crate::layout::{COMMAND, HEADER, VERSION};
 use crate::reading;
@@ -47,31 +50,51 @@ impl Model for Demo {
     ghost invariant = { λ d. (header_size ≤ length d.bytes.items) × (0 < player_count (seats_in d.bytes.items)) };
 }
 
-impl Demo {
-    ghost use Rattle.dn_demo.specs.Reading.{Recording, IsReadAs, IsSameButMemory};
+/// How many commands stand before the marker, or the first fault of the bytes.
+fn measure(bytes: &[u8]) -> Result<usize, DemoFault>
+    ensures found { IfOk result (λ commands. HasHeader bytes.now × EndsBehind bytes.now commands) }
+    ensures refused { IfErr result (λ fault. IsReadAs bytes.now (Err fault)) }
+    ensures only { IfErr result (λ fault. (r : Result Recording DemoFault)
+        → IsReadAs bytes.now r → IsSameButMemory (Err fault) r) }
+    ensures no_memory { result ≢ Err Memory }
+{
+    if bytes.len() < HEADER {
+        return Err(DemoFault::Short);
+    }
+    if bytes[0] != VERSION {
+        return Err(DemoFault::Version);
+    }
+    if reading::players(reading::seats(bytes)) == 0 {
+        return Err(DemoFault::NoPlayers);
+    }
+    reading::commands_before_marker(bytes).ok_or(DemoFault::NoMarker)
+}
 
+impl Demo {
     /// Reads a demo, up to its marker.
     pub fn read(alloc: Global, bytes: &[u8]) -> Result<Demo, DemoFault>
         ensures reads { IsReadAs bytes.now result }
         ensures only { (r : Result Recording DemoFault) → IsReadAs bytes.now r → IsSameButMemory result r }
     {
-        if bytes.len() < HEADER {
-            return Err(DemoFault::Short);
-        }
-        if bytes[0] != VERSION {
-            return Err(DemoFault::Version);
-        }
-        if reading::players(reading::seats(bytes)) == 0 {
-            return Err(DemoFault::NoPlayers);
-        }
-        let Some(commands) = reading::commands_before_marker(bytes) else {
-            return Err(DemoFault::NoMarker);
-        };
-        let front = &bytes[..HEADER + COMMAND * commands];
-        let after = bytes.len() - front.len() - 1;
-        let Ok(bytes) = Vec::from_slice(alloc, front) else {
+        let commands = measure(bytes)?;
+        let front = HEADER + COMMAND * commands;
+        let after = bytes.len() - front - 1;
+        let Ok(bytes) = Vec::from_slice(alloc, &bytes[..front]) else {
             return Err(DemoFault::Memory);
         };
+        Ok(Demo { bytes, after })
+    }
+
+    /// Reads a demo like `read`, and keeps it in the room that its bytes have.
+    pub fn from_vec(mut bytes: Vec<u8>) -> Result<Demo, DemoFault>
+        ensures reads { IsReadAs bytes.items result }
+        ensures only { (r : Result Recording DemoFault) → IsReadAs bytes.items r → IsSameButMemory result r }
+        ensures no_memory { result ≢ Err Memory }
+    {
+        let commands = measure(&bytes)?;
+        let front = HEADER + COMMAND * commands;
+        let after = bytes.len() - front - 1;
+        bytes.truncate(front);
         Ok(Demo { bytes, after })
     }
 

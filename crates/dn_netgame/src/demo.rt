@@ -130,14 +130,14 @@ fn text_of_demo(alloc: Global, demo: &Demo) -> Result<String, AllocError>
 }
 
 /// The lines of what the bytes are read as, and the exit status.
-fn text_of(alloc: Global, bytes: &[u8]) -> Result<(String, u8), RunFault>
-    ensures shown { IfOk result (λ shown. IsDemo bytes.now (string_bytes shown.0) shown.1) }
+fn text_of(alloc: Global, bytes: Vec<u8>) -> Result<(String, u8), RunFault>
+    ensures shown { IfOk result (λ shown. IsDemo bytes.items (string_bytes shown.0) shown.1) }
     ensures fault { IfErr result (λ fault. fault ≡ RunFault.Memory) }
 {
     let refusal = if bytes.len() > DEMO_LIMIT {
         "demo: too long\n"
     } else {
-        match Demo::read(alloc, bytes) {
+        match Demo::from_vec(bytes) {
             Ok(demo) => return Ok((text_of_demo(alloc, &demo)?, 0)),
             Err(DemoFault::Short) => "demo: short\n",
             Err(DemoFault::Version) => "demo: version\n",
@@ -180,7 +180,7 @@ pub fn run_demo<R: Read, W: Write>(
     ensures unwritten { IfErr result (λ fault. fault ≢ RunFault.Write → output.new ≡ output.old) }
 {
     let bytes = gather(alloc, input, DEMO_LIMIT + 1)?;
-    let (text, status) = text_of(alloc, &bytes)?;
+    let (text, status) = text_of(alloc, bytes)?;
     put(output, text.as_bytes())?;
     Ok(status)
 }

@@ -31,6 +31,9 @@ fn demos_are_read_and_played(rt: HostRuntime) -> Result<(), Fail> {
         assert_eq!(rt; demo.tics(), tics);
         assert_eq!(rt; demo.cut(), cut);
         assert_eq!(rt; demo.after(), after);
+        let kept = Demo::from_vec(Vec::from_slice(rt.alloc(), bytes)?)?;
+        assert_eq!(rt; kept.row(1), demo.row(1));
+        assert_eq!(rt; kept.after(), after);
         let mut walk = Walk::new();
         assert_eq!(rt; play(&demo, &mut walk), tics);
         for (player, (x, y, angle, mark)) in [(0, places[0]), (1, places[1])] {
@@ -152,7 +155,7 @@ fn absent_players_have_no_command(rt: HostRuntime) -> Result<(), Fail> {
 }
 
 #[test]
-fn bytes_are_refused_in_order(rt: HostRuntime) {
+fn bytes_are_refused_in_order(rt: HostRuntime) -> Result<(), Fail> {
     let mut other = PLAYED;
     other[0] = 110;
     let mut later = PLAYED;
@@ -177,7 +180,10 @@ fn bytes_are_refused_in_order(rt: HostRuntime) {
     ] {
         let read = Demo::read(rt.alloc(), bytes);
         assert_eq!(rt; read.err(), Some(fault), "{bytes:?}");
+        let kept = Demo::from_vec(Vec::from_slice(rt.alloc(), bytes)?);
+        assert_eq!(rt; kept.err(), Some(fault), "{bytes:?}");
     }
+    Ok(())
 }
 
 #[test]

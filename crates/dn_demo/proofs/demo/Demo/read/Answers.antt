@@ -1,12 +1,13 @@
-use Rattle.std.proofs.Common.{rules}
+use Rattle.std.proofs.Common.{arith, rules}
+use Rattle.dn_demo.specs.Places.{EndsBehind}
 use Rattle.dn_demo.specs.Reading.{HasHeader}
 use Rattle.dn_demo.proofs.OneReading.{one_reading, read_of_front}
 use Rattle.dn_demo.proofs.demo.Demo.read.Goals as goal
 
 pub returns-clause-reads : goal.returns-clause-reads
 returns-clause-reads c =
-    let head : HasHeader c.args.bytes.now = search rules in
-    read_of_front _ _ _ head c.in-Some.ensures.found c.in-Ok.ensures.items
+    let found : HasHeader c.args.bytes.now × EndsBehind c.args.bytes.now c.in_ok-commands.commands = search rules in
+    read_of_front _ _ _ _ found.0 found.1 c.in-Ok.ensures.items (omega arith)
 
 pub returns-clause-only : goal.returns-clause-only
 returns-clause-only c = one_reading _ _ (returns-clause-reads c)
