@@ -116,6 +116,26 @@ fn a_writer_that_takes_no_bytes_fails(rt: HostRuntime) {
     assert_eq!(rt; shown, Err(RunFault::Write));
 }
 
+/// Each request for memory may be refused: then the answer says so, and nothing is written.
+#[test]
+fn want_of_memory_is_told(rt: HostRuntime) {
+    let mut room = [0; 256];
+    let mut rest = room.as_mut_slice();
+    let shown = run_show(rt.alloc(), &mut ONE.as_slice(), &mut rest);
+    let left = rest.len();
+    let written = &room[..256_usize.saturating_sub(left)];
+    match shown {
+        Ok(status) => {
+            assert_eq!(rt; status, 0);
+            assert_eq!(rt; written, ONE_SHOWN.as_bytes());
+        }
+        Err(fault) => {
+            assert_eq!(rt; fault, RunFault::Memory);
+            assert!(rt; written.is_empty());
+        }
+    }
+}
+
 #[test]
 fn twelve_commands_are_shown(rt: HostRuntime) -> Result<(), Fail> {
     let mut text = String::from_str(rt.alloc(), "flags 0 ask 0 start 0 player 0 count 12\n")?;

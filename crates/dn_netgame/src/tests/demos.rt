@@ -145,6 +145,27 @@ fn a_failing_writer_has_a_front(rt: HostRuntime) -> Result<(), Fail> {
     Ok(())
 }
 
+/// Each request for memory may be refused: then the answer says so, and nothing is written.
+#[test]
+fn want_of_memory_is_told(rt: HostRuntime) {
+    let mut room = [0; 256];
+    let mut rest = room.as_mut_slice();
+    let shown = run_demo(rt.alloc(), &mut TWO.as_slice(), &mut rest);
+    let left = rest.len();
+    let written = &room[..256_usize.saturating_sub(left)];
+    match shown {
+        Ok(status) => {
+            assert_eq!(rt; status, 0);
+            assert!(rt; written.starts_with(HEADER_SHOWN.as_bytes()));
+            assert!(rt; written.ends_with(PLAYERS_SHOWN.as_bytes()));
+        }
+        Err(fault) => {
+            assert_eq!(rt; fault, RunFault::Memory);
+            assert!(rt; written.is_empty());
+        }
+    }
+}
+
 /// Gives so many bytes 0.
 #[derive(Drop)]
 struct Zeros {
