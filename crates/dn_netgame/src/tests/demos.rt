@@ -1,9 +1,7 @@
 //! Demos shown, through readers and writers that are slow, full or failing.
 
-use super::streams::{NEVER, Sink, Source, WHOLE};
+use super::streams::{NEVER, Sink, Source, WHOLE, Zeros};
 use crate::{RunFault, run_demo};
-use std::io;
-use std::io::Read;
 use std::test::Fail;
 
 /// Two tics of the players 0 and 1.
@@ -145,6 +143,14 @@ fn a_failing_writer_has_a_front(rt: HostRuntime) -> Result<(), Fail> {
     Ok(())
 }
 
+#[test]
+fn a_writer_that_takes_no_bytes_fails(rt: HostRuntime) {
+    let mut output = Sink::new(rt.alloc(), 0, NEVER);
+    let shown = run_demo(rt.alloc(), &mut TWO.as_slice(), &mut output);
+    assert_eq!(rt; shown, Err(RunFault::Write));
+    assert!(rt; output.taken.is_empty());
+}
+
 /// Each request for memory may be refused: then the answer says so, and nothing is written.
 #[test]
 fn want_of_memory_is_told(rt: HostRuntime) {
@@ -163,21 +169,6 @@ fn want_of_memory_is_told(rt: HostRuntime) {
             assert_eq!(rt; fault, RunFault::Memory);
             assert!(rt; written.is_empty());
         }
-    }
-}
-
-/// Gives so many bytes 0.
-#[derive(Drop)]
-struct Zeros {
-    rest: usize,
-}
-
-impl Read for Zeros {
-    fn read(&mut self, buf: &mut [u8]) -> io::Result<usize> {
-        let count = self.rest.min(buf.len());
-        buf[..count].fill(0);
-        self.rest -= count;
-        Ok(count)
     }
 }
 

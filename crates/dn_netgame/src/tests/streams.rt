@@ -43,6 +43,21 @@ impl Read for Source<'_> {
     }
 }
 
+/// Gives so many bytes 0.
+#[derive(Drop)]
+pub(crate) struct Zeros {
+    pub(crate) rest: usize,
+}
+
+impl Read for Zeros {
+    fn read(&mut self, buf: &mut [u8]) -> io::Result<usize> {
+        let count = self.rest.min(buf.len());
+        buf[..count].fill(0);
+        self.rest -= count;
+        Ok(count)
+    }
+}
+
 /// Keeps what it takes, at most so many bytes a call, and fails at one call.
 #[derive(Drop)]
 pub(crate) struct Sink {
