@@ -1,0 +1,4 @@
+pub mod Contents
+pub mod Represents
+pub mod Opening
+pub mod Applied

@@ -1,0 +1,15 @@
+-- What a game is made as.
+use Rattle.std.specs.Prelude.{ℕ, Result, Ok, Err}
+use Rattle.dn_demo.specs.Recorded.{IsLimit}
+use Rattle.dn_node.specs.Opening.{IsGame}
+use Rattle.dn_game.specs.declared.config.GameConfig.{GameConfig}
+use Rattle.dn_game.specs.declared.config.GameFault.{GameFault}
+use Rattle.dn_game.specs.declared.config.GameFault.TheVariants.{Players, Limit, Memory}
+
+-- a game of so many worlds is made where nothing is wrong, and else refused for the first thing that is; memory can be
+-- wanted only where nothing is
+abbrev pub IsAdmitted : {A : Type 0} → GameConfig → ℕ → Result A GameFault → Type 0
+IsAdmitted config worlds (Ok game) = IsGame worlds × IsLimit config.limit
+IsAdmitted config worlds (Err Players) = ¬ IsGame worlds
+IsAdmitted config worlds (Err Limit) = IsGame worlds × ¬ IsLimit config.limit
+IsAdmitted config worlds (Err Memory) = IsGame worlds × IsLimit config.limit

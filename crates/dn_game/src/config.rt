@@ -1,0 +1,29 @@
+//! What a game is made of, and why there is none.
+
+use dn_setup::Settings;
+use thiserror::Error;
+
+/// What all nodes of a game have in common.
+#[derive(Clone, Copy, Debug, PartialEq, Eq)]
+pub struct GameConfig {
+    /// The choice of game.
+    pub settings: Settings,
+    /// Whether each packet repeats the last command, against losses.
+    pub extra: bool,
+    /// How many bytes each demo may have: 1,024 to 16,777,216.
+    pub limit: u32,
+}
+
+/// Why there is no game: the first of these that is so.
+#[derive(Clone, Copy, Debug, PartialEq, Eq, Error)]
+pub enum GameFault {
+    /// There are not 2 to 4 worlds.
+    #[error("players")]
+    Players,
+    /// The demos' limit is out of range.
+    #[error("limit")]
+    Limit,
+    /// There was no room for the nodes or their demos.
+    #[error("out of memory")]
+    Memory,
+}

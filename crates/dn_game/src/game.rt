@@ -1,0 +1,56 @@
+//! All nodes of a game, and the packets that they sent.
+
+ghost use Rattle.std.specs.Prelude.{◌≡◌, ◌<◌, ◌≤◌, All, length, false, slice_get, slice_index_or, Option};
+ghost use Rattle.std.specs.Option.{option_copied};
+
+mod applying;
+mod opening;
+
+use crate::flight::Flight;
+use dn_node::Node;
+use dn_world::World;
+
+/// All nodes of a game, who of them has stopped, and every packet that was ever sent, in order.
+#[derive(Drop)]
+pub struct Game<W> {
+    nodes: Vec<Node<W>>,
+    stopped: [bool; 4],
+    flights: Vec<Flight>,
+    ghost few: { length nodes.items ≤ 4 },
+    ghost receivers: { All (λ flight. flight.to < length nodes.items) flights.items },
+}
+
+impl<W: World> Game<W> {
+    ghost use Rattle.dn_game.specs.Contents.{contents};
+
+    /// The node of this number.
+    pub fn node(&self, node: u32) -> Option<&Node<W>>
+        ensures { option_copied result ≡ slice_get (contents self.now).nodes node }
+    {
+        self.nodes.get(node as usize)
+    }
+
+    /// Whether the node of this number has stopped.
+    pub fn stopped(&self, node: u32) -> bool
+        ensures { result ≡ slice_index_or (contents self.now).stopped node false }
+    {
+        match self.stopped.get(node as usize) {
+            Some(stopped) => *stopped,
+            None => false,
+        }
+    }
+
+    /// How many packets were sent.
+    pub fn flights(&self) -> usize
+        ensures { result ≡ length (contents self.now).flights }
+    {
+        self.flights.len()
+    }
+
+    /// The packet that was sent as this one, counted from 0.
+    pub fn flight(&self, which: usize) -> Option<&Flight>
+        ensures { option_copied result ≡ slice_get (contents self.now).flights which }
+    {
+        self.flights.get(which)
+    }
+}

@@ -1,0 +1,135 @@
+//! What an event does to a game.
+
+ghost use Rattle.std.specs.Prelude.{◌≡◌, ◌<◌, ◌⊎◌, None, Ok, length, nat_lt, slice_get, OnErr};
+ghost use Rattle.dn_machine.specs.declared.events.Event.TheVariants.{Send, Deliver};
+ghost use Rattle.dn_machine.specs.declared.events.Done.{Done};
+ghost use Rattle.dn_machine.specs.Game.{refused, refused_at, refused_flight, on_event};
+
+use super::Game;
+use crate::flight::{Flight, is_far};
+use dn_machine::{Done, Event, Heard, Refusal};
+use dn_world::World;
+
+impl<W: World> Game<W> {
+    ghost use Rattle.dn_game.specs.Contents.{contents};
+    ghost use Rattle.dn_game.specs.Applied.{Tells, IsAfter, IsLeftOut, IsApplied, IsAddressed};
+
+    /// Whether this is the number of a player.
+    fn is_player(&self, node: u32) -> bool
+        ensures { result ≡ nat_lt node (length (contents self.now).nodes) }
+    {
+        (node as usize) < self.nodes.len()
+    }
+
+    /// Why an event of one node is refused, if it is.
+    fn refused_at(&self, node: u32) -> Option<Refusal>
+        ensures told { Tells W.state W.physics (contents self.now) (λ rules m. result ≡ refused_at rules.players m node) }
+        ensures there { result ≡ None → node < length (contents self.now).nodes }
+    {
+        if !self.is_player(node) {
+            Some(Refusal::NoNode)
+        } else if self.stopped(node) {
+            Some(Refusal::Stopped)
+        } else {
+            None
+        }
+    }
+
+    /// Why a delivery is refused, if it is.
+    fn refused_flight(&self, which: u32) -> Option<Refusal>
+        ensures told { Tells W.state W.physics (contents self.now) (λ rules m. result ≡ refused_flight m (slice_get m.flights which)) }
+        ensures there { result ≡ None → which < length (contents self.now).flights }
+    {
+        let Some(flight) = self.flights.get(which as usize) else {
+            return Some(Refusal::NoPacket);
+        };
+        let receiver = &self.nodes[usize::from(flight.to)];
+        if is_far(&flight.aim, receiver.made()) {
+            Some(Refusal::Far)
+        } else if self.stopped(u32::from(flight.to)) {
+            Some(Refusal::Stopped)
+        } else {
+            None
+        }
+    }
+
+    /// Why an event is refused, if it is; want of memory is not looked at here.
+    fn refused(&self, event: Event) -> Option<Refusal>
+        ensures told { Tells W.state W.physics (contents self.now) (λ rules m. result ≡ refused rules.players m event) }
+        ensures there { result ≡ None → IsAddressed (contents self.now) event }
+    {
+        match event {
+            Event::Build { node, .. } | Event::Run(node) | Event::Quit(node) | Event::Stop(node) => {
+                self.refused_at(node)
+            }
+            Event::Send { to, .. } if !self.is_player(to) => Some(Refusal::NoNode),
+            Event::Send { node, .. } => self.refused_at(node),
+            Event::Deliver(which) => self.refused_flight(which),
+        }
+    }
+
+    /// Asks a node for a packet, which joins those that were sent. Room for it is made first.
+    fn send(&mut self, node: u32, to: u32) -> Result<Done, Refusal>
+        requires node { node < length (contents self.old).nodes }
+        requires to { to < length (contents self.old).nodes }
+        ensures sent { Tells W.state W.physics (contents self.old) (λ rules m.
+            ((done : Done) × (result ≡ Ok done) × IsAfter W.state rules (contents self.new) (on_event rules m (Send node to)) done)
+            ⊎ IsLeftOut (contents self.old) (contents self.new) (Send node to) result) }
+        ensures unchanged { OnErr result (contents self.new ≡ contents self.old) }
+    {
+        let Ok(()) = self.flights.reserve(1) else {
+            return Err(Refusal::Memory);
+        };
+        let sender = &mut self.nodes[node as usize];
+        let to = to as u8;
+        let Some(aim) = sender.aim(to) else {
+            return Ok(Done::Silent);
+        };
+        let Some(bytes) = sender.packet(to) else {
+            return Ok(Done::Silent);
+        };
+        let which = self.flights.len();
+        self.flights
+            .push(Flight {
+                from: node as u8,
+                to,
+                aim,
+                bytes,
+            })
+            .unwrap();
+        Ok(Done::Sent(which))
+    }
+
+    /// Hands a packet to its receiver.
+    fn deliver(&mut self, which: u32) -> Heard
+        requires { which < length (contents self.old).flights }
+        ensures { Tells W.state W.physics (contents self.old) (λ rules m.
+            refused_flight m (slice_get m.flights which) ≡ None
+            → IsAfter W.state rules (contents self.new) (on_event rules m (Deliver which)) (Done.Heard result)) }
+    {
+        let flight = &self.flights[which as usize];
+        self.nodes[usize::from(flight.to)].receive(flight.from, flight.bytes.as_slice())
+    }
+
+    /// Applies one event, or says why it is refused; a refused event changes nothing.
+    pub fn apply(&mut self, event: Event) -> Result<Done, Refusal>
+        ensures applied { Tells W.state W.physics (contents self.old)
+            (λ rules m. IsApplied W.state rules (contents self.old) (contents self.new) m event result) }
+        ensures unchanged { OnErr result (contents self.new ≡ contents self.old) }
+    {
+        if let Some(refusal) = self.refused(event) {
+            return Err(refusal);
+        }
+        Ok(match event {
+            Event::Build { node, keys } => Done::Built(self.nodes[node as usize].build(keys)),
+            Event::Send { node, to } => return self.send(node, to),
+            Event::Deliver(which) => Done::Heard(self.deliver(which)),
+            Event::Run(node) => Done::Ran(self.nodes[node as usize].run()),
+            Event::Quit(node) => Done::Quit(self.nodes[node as usize].quit()),
+            Event::Stop(node) => {
+                self.stopped[node as usize] = true;
+                Done::Stopped
+            }
+        })
+    }
+}

@@ -1,0 +1,73 @@
+//! How a game is made.
+
+ghost use Rattle.std.specs.Prelude.{◌≡◌, length, IfOk};
+ghost use Rattle.dn_game.specs.Opening.{IsAdmitted};
+
+use super::Game;
+use crate::config::{GameConfig, GameFault};
+use dn_node::{Config, Node};
+use dn_world::World;
+use std::alloc::Global;
+
+impl<W: World> Game<W> {
+    ghost use Rattle.dn_machine.specs.Worlds.{rules_of};
+    ghost use Rattle.dn_machine.specs.Game.{opening_game};
+    ghost use Rattle.dn_game.specs.Contents.{contents};
+    ghost use Rattle.dn_game.specs.Represents.{Represents};
+
+    /// A game with a node for each world, in the players' order. The worlds are given up where there is
+    /// no game.
+    pub fn new(
+        alloc: Global,
+        config: GameConfig,
+        worlds: Vec<W>,
+    ) -> Result<Game<W>, GameFault>
+        ensures admitted { IsAdmitted config (length worlds.items) result }
+        ensures opened { IfOk result (λ game. Represents W.state
+            (rules_of W.physics (length worlds.items) config.extra config.limit) (contents game) (opening_game config.settings)) }
+    {
+        if !(2..=4).contains(&worlds.len()) {
+            return Err(GameFault::Players);
+        }
+        if !(1024..=16_777_216).contains(&config.limit) {
+            return Err(GameFault::Limit);
+        }
+        let nodes = nodes_of(alloc, config, worlds)?;
+        Ok(Game {
+            nodes,
+            stopped: [false; 4],
+            flights: Vec::new(alloc),
+        })
+    }
+}
+
+/// A node for each world.
+fn nodes_of<W: World>(
+    alloc: Global,
+    config: GameConfig,
+    worlds: Vec<W>,
+) -> Result<Vec<Node<W>>, GameFault> {
+    let players = worlds.len() as u8;
+    let Ok(mut nodes) = Vec::with_capacity(alloc, worlds.len()) else {
+        return Err(GameFault::Memory);
+    };
+    for world in worlds {
+        let me = nodes.len() as u8;
+        let own = Config {
+            players,
+            me,
+            extra: config.extra,
+            limit: config.limit,
+            settings: if me == 0 {
+                Some(config.settings)
+            } else {
+                None
+            },
+        };
+        let Ok(node) = Node::new(alloc, own, world) else {
+            return Err(GameFault::Memory);
+        };
+        nodes.push(node).unwrap();
+    }
+    Ok(nodes)
+}

@@ -1,0 +1,13 @@
+//! All nodes of a game, under one list of events.
+#![tactic(auto)]
+
+mod config;
+mod flight;
+mod game;
+mod playing;
+
+pub use config::{GameConfig, GameFault};
+pub use dn_machine::{Done, Event, Refusal};
+pub use flight::Flight;
+pub use game::Game;
+pub use playing::Played;
