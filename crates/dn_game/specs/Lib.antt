@@ -2,3 +2,6 @@ pub mod Contents
 pub mod Represents
 pub mod Opening
 pub mod Applied
+pub mod Played
+pub mod Promised
+pub mod Agreed

@@ -4,10 +4,12 @@
 mod config;
 mod flight;
 mod game;
+mod played;
 mod playing;
 
 pub use config::{GameConfig, GameFault};
 pub use dn_machine::{Done, Event, Refusal};
 pub use flight::Flight;
 pub use game::Game;
-pub use playing::Played;
+pub use played::Played;
+pub use playing::play;

@@ -1,0 +1,56 @@
+-- What holds between the nodes of a game, said of what each tells of itself.
+use Rattle.std.specs.Prelude.{◌≡◌, ◌≢◌, ◌<◌, ◌≤◌, ◌⊎◌, ℕ, ◌+◌, ◌-◌, List, [], length, take, drop, slice_get, Some, ℤ, if◌then◌else◌}
+use Rattle.dn_setup.specs.Settings.{Settings}
+use Rattle.dn_demo.specs.Text.{header_size}
+use Rattle.dn_machine.specs.declared.answers.Cause.TheVariants as Cause
+use Rattle.dn_machine.specs.declared.answers.Phase.TheVariants.{Ended}
+use Rattle.dn_machine.specs.Promise.{IsPrefixOf}
+use Rattle.dn_machine.specs.Worlds.{Rules, world}
+use Rattle.dn_node.specs.declared.node.Node.{Node}
+use Rattle.dn_node.specs.Contents as node
+use Rattle.dn_node.specs.Phases.{is_ended}
+use Rattle.dn_node.specs.Rings.{count_of}
+use Rattle.dn_game.specs.Contents.{Contents}
+
+-- a node that has started has a demo
+abbrev pub HasStarted : {W : Type 0} → node.Contents W → Type 0
+HasStarted n = n.demo.bytes ≢ []
+
+-- the commands of a node's demo: what stands behind its header, without the marker
+abbrev pub recorded : {W : Type 0} → node.Contents W → List ℕ
+recorded n =
+    if is_ended n.phase
+    then take (length n.demo.bytes - (header_size + 1)) (drop header_size n.demo.bytes)
+    else drop header_size n.demo.bytes
+
+-- how many commands a node has of a player, and how many it made
+abbrev pub got : {W : Type 0} → node.Contents W → ℕ → ℕ
+got n player = count_of n.rings player
+
+abbrev pub made : {W : Type 0} → node.Contents W → ℕ
+made n = count_of n.rings n.me
+
+-- a game has this node in this place
+abbrev pub HasNode : {W : Type 0} → Contents W → ℕ → node.Contents W → Type 0
+HasNode {W} g place n = (one : Node W) × (slice_get g.nodes place ≡ Some one) × (n ≡ node.contents one)
+
+-- the nodes agree, on a game of these settings
+pub record AreAgreed {W S : Type 0} (state : W → S) (rules : Rules S) (settings : Settings) (g : Contents W) : Type 0 where
+  -- the key states of each player, by which every started node's world is the same
+  pub keys : ℕ → List ℕ
+  pub worlds : (i : ℕ) (n : node.Contents W) → HasNode g i n → HasStarted n → state n.world ≡ world rules settings keys n.ran
+  pub settings_same : (i : ℕ) (n : node.Contents W) → HasNode g i n → HasStarted n → n.settings ≡ Some settings
+  -- of any two demos the commands of one are a prefix of those of the other
+  pub demos : (i j : ℕ) (n k : node.Contents W) → HasNode g i n → HasNode g j k
+      → IsPrefixOf (recorded n) (recorded k) ⊎ IsPrefixOf (recorded k) (recorded n)
+  pub consistent : (i player : ℕ) (was should : ℤ) (n : node.Contents W) → HasNode g i n
+      → n.phase ≢ Ended (Cause.Inconsistent player was should)
+  -- a node has the commands of the tics that it ran, and at most ten that it has not run
+  pub run : (i player : ℕ) (n : node.Contents W) → HasNode g i n → player < rules.players → n.ran ≤ got n player
+  pub unread : (i player : ℕ) (n : node.Contents W) → HasNode g i n → player < rules.players → got n player ≤ n.ran + 10
+  -- none that its player did not make, and at most ten of those are missing
+  pub held : (i j : ℕ) (n k : node.Contents W) → HasNode g i n → HasNode g j k → got n j ≤ made k
+  pub unheard : (i j : ℕ) (n k : node.Contents W) → HasNode g i n → HasNode g j k → made k ≤ got n j + 10
+  -- no player is more than five commands ahead of the tics run, nor of another player
+  pub ahead : (i : ℕ) (n : node.Contents W) → HasNode g i n → made n ≤ n.ran + 5
+  pub close : (i j : ℕ) (n k : node.Contents W) → HasNode g i n → HasNode g j k → made n ≤ made k + 5

@@ -1,0 +1,36 @@
+-- A game that has played a list of events.
+use Rattle.std.specs.Prelude.{◌≡◌, ◌⊎◌, ℕ, List, [], ◌∷◌, count_by, IsTrue, Result, Ok, Err, is_ok, is_err}
+use Rattle.dn_setup.specs.Settings.{Settings}
+use Rattle.dn_machine.specs.declared.events.Done.{Done}
+use Rattle.dn_machine.specs.declared.events.Event.{Event}
+use Rattle.dn_machine.specs.declared.events.Refusal.{Refusal}
+use Rattle.dn_machine.specs.Game as machine
+use Rattle.dn_machine.specs.Game.{applied, opening_game}
+use Rattle.dn_machine.specs.Runs.{is_send}
+use Rattle.dn_machine.specs.Worlds.{Rules}
+use Rattle.dn_game.specs.declared.played.Played.{Played}
+use Rattle.dn_game.specs.Contents.{contents}
+use Rattle.dn_game.specs.Represents.{Represents}
+
+-- an event leads from a game to the next with this answer; a send may be left out, for want of memory
+abbrev pub Answers : {S : Type 0} → Rules S → machine.Game → Event → Result Done Refusal → machine.Game → Type 0
+Answers rules game event answer next =
+    ((next ≡ (applied rules game event).0) × (answer ≡ (applied rules game event).1))
+    ⊎ (IsTrue (is_send event) × (next ≡ game) × (answer ≡ Err Refusal.Memory))
+
+-- a list of events leads from a game to another, and each event has its answer
+abbrev pub Plays : {S : Type 0} → Rules S → machine.Game → List Event → List (Result Done Refusal) → machine.Game → Type 0
+Plays rules game [] [] last = last ≡ game
+Plays rules game (event ∷ events) (answer ∷ answers) last =
+    (next : machine.Game) × Answers rules game event answer next × Plays rules next events answers last
+Plays rules game [] (answer ∷ answers) last = ⊥
+Plays rules game (event ∷ events) [] last = ⊥
+
+-- the game that is left represents one that the events lead to, and the answers are counted
+pub record IsPlayed {W S : Type 0} (state : W → S) (rules : Rules S) (settings : Settings) (events : List Event) (played : Played W) : Type 0 where
+  pub last : machine.Game
+  pub answers : List (Result Done Refusal)
+  pub plays : Plays rules (opening_game settings) events answers last
+  pub game : Represents state rules (contents played.game) last
+  pub done : played.done ≡ count_by is_ok answers
+  pub refused : played.refused ≡ count_by is_err answers
