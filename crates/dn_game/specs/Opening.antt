@@ -1,6 +1,7 @@
 -- What a game is made as.
-use Rattle.std.specs.Prelude.{ℕ, Result, Ok, Err}
+use Rattle.std.specs.Prelude.{ℕ, ◌==◌, if◌then◌else◌, Some, None, Result, Ok, Err}
 use Rattle.dn_demo.specs.Recorded.{IsLimit}
+use Rattle.dn_node.specs.declared.config.Config.{Config}
 use Rattle.dn_node.specs.Opening.{IsGame}
 use Rattle.dn_game.specs.declared.config.GameConfig.{GameConfig}
 use Rattle.dn_game.specs.declared.config.GameFault.{GameFault}
@@ -13,3 +14,14 @@ IsAdmitted config worlds (Ok game) = IsGame worlds × IsLimit config.limit
 IsAdmitted config worlds (Err Players) = ¬ IsGame worlds
 IsAdmitted config worlds (Err Limit) = IsGame worlds × ¬ IsLimit config.limit
 IsAdmitted config worlds (Err Memory) = IsGame worlds × IsLimit config.limit
+
+-- the configuration of a player's node: player 0 has the settings
+abbrev pub config_of : GameConfig → ℕ → ℕ → Config
+config_of config players me =
+    record {
+      players = players;
+      me = me;
+      extra = config.extra;
+      limit = config.limit;
+      settings = if me == 0 then Some config.settings else None;
+    }

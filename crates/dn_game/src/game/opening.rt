@@ -1,7 +1,10 @@
 //! How a game is made.
 
-ghost use Rattle.std.specs.Prelude.{◌≡◌, length, IfOk};
-ghost use Rattle.dn_game.specs.Opening.{IsAdmitted};
+ghost use Rattle.std.specs.Prelude.{◌≡◌, length, IfOk, IfErr};
+ghost use Rattle.dn_node.specs.Opening.{IsGame};
+ghost use Rattle.dn_machine.specs.Worlds.{rules_of};
+ghost use Rattle.dn_game.specs.Opening.{IsAdmitted, config_of};
+ghost use Rattle.dn_game.specs.Fresh.{AreFresh};
 
 use super::Game;
 use crate::config::{GameConfig, GameFault};
@@ -10,7 +13,6 @@ use dn_world::World;
 use std::alloc::Global;
 
 impl<W: World> Game<W> {
-    ghost use Rattle.dn_machine.specs.Worlds.{rules_of};
     ghost use Rattle.dn_machine.specs.Game.{opening_game};
     ghost use Rattle.dn_game.specs.Contents.{contents};
     ghost use Rattle.dn_game.specs.Represents.{Represents};
@@ -32,7 +34,7 @@ impl<W: World> Game<W> {
         if !(1024..=16_777_216).contains(&config.limit) {
             return Err(GameFault::Limit);
         }
-        let nodes = nodes_of(alloc, config, worlds)?;
+        let nodes = nodes_of(alloc, &config, worlds)?;
         Ok(Game {
             nodes,
             stopped: [false; 4],
@@ -41,33 +43,47 @@ impl<W: World> Game<W> {
     }
 }
 
+/// The configuration of a player's node.
+fn config_of(config: &GameConfig, players: u8, me: u8) -> Config
+    ensures { result ≡ config_of config.now players me }
+{
+    Config {
+        players,
+        me,
+        extra: config.extra,
+        limit: config.limit,
+        settings: if me == 0 {
+            Some(config.settings)
+        } else {
+            None
+        },
+    }
+}
+
 /// A node for each world.
 fn nodes_of<W: World>(
     alloc: Global,
-    config: GameConfig,
+    config: &GameConfig,
     worlds: Vec<W>,
-) -> Result<Vec<Node<W>>, GameFault> {
+) -> Result<Vec<Node<W>>, GameFault>
+    requires { IsGame (length worlds.items) }
+    ensures opened { IfOk result (λ nodes. AreFresh W.state
+        (rules_of W.physics (length worlds.items) config.now.extra config.now.limit) config.now.settings nodes.items) }
+    ensures one_each { IfOk result (λ nodes. length nodes.items ≡ length worlds.items) }
+    ensures memory { IfErr result (λ fault. fault ≡ GameFault.Memory) }
+{
     let players = worlds.len() as u8;
     let Ok(mut nodes) = Vec::with_capacity(alloc, worlds.len()) else {
         return Err(GameFault::Memory);
     };
     for world in worlds {
-        let me = nodes.len() as u8;
-        let own = Config {
-            players,
-            me,
-            extra: config.extra,
-            limit: config.limit,
-            settings: if me == 0 {
-                Some(config.settings)
-            } else {
-                None
-            },
-        };
+        let own = config_of(config, players, nodes.len() as u8);
         let Ok(node) = Node::new(alloc, own, world) else {
             return Err(GameFault::Memory);
         };
-        nodes.push(node).unwrap();
+        if nodes.push(node).is_err() {
+            return Err(GameFault::Memory);
+        }
     }
     Ok(nodes)
 }

@@ -1,0 +1,33 @@
+-- One node more in a game that opens.
+use Rattle.std.proofs.Common.{◌≡◌, ℕ, zero, suc, ◌⊎◌, List, [], ◌∷◌, ◌++◌, length, Some, None, ap, sym, ◌∙◌, refl, subst, inl, inr}
+use Rattle.std.specs.Prelude.{slice_get}
+use Rattle.std.proofs.lemmas.Option.{same_Some}
+use Rattle.dn_setup.specs.Settings.{Settings}
+use Rattle.dn_machine.specs.Game.{fresh}
+use Rattle.dn_machine.specs.Worlds.{Rules}
+use Rattle.dn_node.specs.declared.node.Node.{Node}
+use Rattle.dn_node.specs.Contents.{contents}
+use Rattle.dn_node.specs.Represents.{Represents}
+use Rattle.dn_game.specs.Fresh.{AreFresh}
+
+-- what stands in a list with one more: it stood there before, or it is the last
+pub slice_get-more : {A : Type 0} (xs : List A) (y : A) (k : ℕ) (x : A) → slice_get (xs ++ y ∷ []) k ≡ Some x
+    → (slice_get xs k ≡ Some x) ⊎ ((k ≡ length xs) × (x ≡ y))
+slice_get-more [] y zero x h = inr (refl, sym (same_Some _ _ h))
+slice_get-more [] y (suc k) x h = absurd (cc)
+slice_get-more (z ∷ xs) y zero x h = inl h
+slice_get-more (z ∷ xs) y (suc k) x h = elim (slice_get-more xs y k x h) [
+  | inl before ↦ inl before
+  | inr (at, last) ↦ inr (ap suc at, last)
+]
+
+pub fresh_more : {W S : Type 0} (state : W → S) (rules : Rules S) (settings : Settings) (nodes : List (Node W)) (node : Node W)
+    → AreFresh state rules settings nodes → Represents state rules (length nodes) (contents node) (fresh settings (length nodes))
+    → AreFresh state rules settings (nodes ++ node ∷ [])
+fresh_more {W} {S} state rules settings nodes node before one i n there = elim (slice_get-more nodes node i n there) [
+  | inl old ↦ before i n old
+  | inr (at, last) ↦
+      let P : Node W → Type 0 = λ x. Represents state rules i (contents x) (fresh settings i) in
+      let Q : ℕ → Type 0 = λ k. Represents state rules k (contents node) (fresh settings k) in
+      subst P (sym last) (subst Q (sym at) one)
+]

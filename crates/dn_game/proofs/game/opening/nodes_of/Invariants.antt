@@ -1,0 +1,11 @@
+use Rattle.std.proofs.Common.{◌≡◌, ◌≤◌, ◌+◌, ℕ, length}
+use Rattle.dn_machine.specs.Worlds.{rules_of}
+use Rattle.dn_game.specs.Fresh.{AreFresh}
+use Rattle.dn_game.proofs.game.opening.nodes_of.Given as goal
+
+abbrev pub invariant-loop-world : goal.invariant-loop-world
+invariant-loop-world g l =
+    (goal.iterator-loop-world g).can_next l.world-iterator
+    × (goal.iterator-loop-world g).is_finite l.world-iterator
+    × (length l.nodes.items + (goal.iterator-loop-world g).remaining l.world-iterator ≡ (goal.iterator-loop-world g).remaining l.initial.world-iterator)
+    × AreFresh g.W.World.state (rules_of g.W.World.physics (length l.fn.worlds.items) l.config.extra l.config.limit) l.config.settings l.nodes.items

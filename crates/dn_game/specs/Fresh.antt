@@ -1,0 +1,13 @@
+-- The nodes of a game that opens.
+use Rattle.std.specs.Prelude.{◌≡◌, ℕ, List, Some, slice_get}
+use Rattle.dn_setup.specs.Settings.{Settings}
+use Rattle.dn_machine.specs.Game.{fresh}
+use Rattle.dn_machine.specs.Worlds.{Rules}
+use Rattle.dn_node.specs.declared.node.Node.{Node}
+use Rattle.dn_node.specs.Contents.{contents}
+use Rattle.dn_node.specs.Represents.{Represents}
+
+-- each represents a node of no history
+abbrev pub AreFresh : {W S : Type 0} → (W → S) → Rules S → Settings → List (Node W) → Type 0
+AreFresh {W} state rules settings nodes =
+    (i : ℕ) (n : Node W) → slice_get nodes i ≡ Some n → Represents state rules i (contents n) (fresh settings i)
