@@ -1,14 +1,16 @@
 -- One node more in a game that opens.
-use Rattle.std.proofs.Common.{◌≡◌, ℕ, zero, suc, ◌⊎◌, List, [], ◌∷◌, ◌++◌, length, Some, None, ap, sym, ◌∙◌, refl, subst, inl, inr}
-use Rattle.std.specs.Prelude.{slice_get}
+use Rattle.std.proofs.Common.{◌≡◌, ℕ, zero, suc, ◌⊎◌, false, List, [], ◌∷◌, ◌++◌, length, Some, None, ap, sym, ◌∙◌, refl, subst, inl, inr, arith}
+use Rattle.std.specs.Prelude.{slice_get, slice_index_or}
 use Rattle.std.proofs.lemmas.Option.{same_Some}
 use Rattle.dn_setup.specs.Settings.{Settings}
-use Rattle.dn_machine.specs.Game.{fresh}
+use Rattle.dn_machine.specs.Game.{fresh, opening_game}
 use Rattle.dn_machine.specs.Worlds.{Rules}
 use Rattle.dn_node.specs.declared.node.Node.{Node}
 use Rattle.dn_node.specs.Contents.{contents}
 use Rattle.dn_node.specs.Represents.{Represents}
 use Rattle.dn_game.specs.Fresh.{AreFresh}
+use Rattle.dn_game.specs.Represents as represents
+use Rattle.dn_game.specs.declared.flight.Flight.{Flight}
 
 -- what stands in a list with one more: it stood there before, or it is the last
 pub slice_get-more : {A : Type 0} (xs : List A) (y : A) (k : ℕ) (x : A) → slice_get (xs ++ y ∷ []) k ≡ Some x
@@ -31,3 +33,17 @@ fresh_more {W} {S} state rules settings nodes node before one i n there = elim (
       let Q : ℕ → Type 0 = λ k. Represents state rules k (contents node) (fresh settings k) in
       subst P (sym last) (subst Q (sym at) one)
 ]
+
+nobody : (i : ℕ) → slice_index_or (false ∷ false ∷ false ∷ false ∷ []) i false ≡ false
+nobody zero = refl
+nobody (suc zero) = refl
+nobody (suc (suc zero)) = refl
+nobody (suc (suc (suc zero))) = refl
+nobody (suc (suc (suc (suc i)))) = refl
+
+pub opens : {W S : Type 0} (state : W → S) (rules : Rules S) (settings : Settings) (nodes : List (Node W)) (flights : List Flight)
+    → length nodes ≡ rules.players → AreFresh state rules settings nodes → flights ≡ []
+    → represents.Represents state rules (record { nodes = nodes; stopped = false ∷ false ∷ false ∷ false ∷ []; flights = flights }) (opening_game settings)
+unfolding opening_game
+opens state rules settings nodes flights count nodes_fresh none =
+    record { players = count; nodes = nodes_fresh; stopped = λ i below. nobody i; flights = none; carried = λ k d far. absurd (omega arith) }

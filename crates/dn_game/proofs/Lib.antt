@@ -1,1 +1,2 @@
 pub mod Freshening
+pub mod Answering
