@@ -1,12 +1,19 @@
 -- One event more in a list that was played.
-use Rattle.std.proofs.Common.{◌≡◌, ℕ, List, [], ◌∷◌, ◌++◌, Result, refl, sym, subst, inl, inr}
+use Rattle.std.proofs.Common.{◌≡◌, ◌+◌, ℕ, cond, List, [], ◌∷◌, ◌++◌, Result, refl, ap, sym, ◌∙◌, subst, inl, inr}
+use Rattle.std.specs.Prelude.{count_by, is_ok, is_err}
+use Rattle.std.proofs.lemmas.List.Sums.{sum_by-append}
+use Rattle.dn_setup.specs.Settings.{Settings}
 use Rattle.dn_machine.specs.declared.events.Done.{Done}
 use Rattle.dn_machine.specs.declared.events.Event.{Event}
 use Rattle.dn_machine.specs.declared.events.Refusal.{Refusal}
-use Rattle.dn_machine.specs.Game.{Game}
+use Rattle.dn_machine.specs.Game.{Game, applied, opening_game}
 use Rattle.dn_machine.specs.Runs.{Leads}
 use Rattle.dn_machine.specs.Worlds.{Rules}
-use Rattle.dn_game.specs.Played.{Answers, Plays}
+use Rattle.dn_game.specs.Applied.{IsApplied}
+use Rattle.dn_game.specs.Contents.{Contents, contents}
+use Rattle.dn_game.specs.Played.{Answers, Plays, IsPlayed}
+use Rattle.dn_game.specs.Represents.{Represents}
+use Rattle.dn_game.specs.declared.played.Played.{Played}
 
 module _ {S : Type 0} (rules : Rules S) where
   pub plays_more : (events : List Event) (answers : List (Result Done Refusal)) (event : Event) (answer : Result Done Refusal) (game mid last : Game)
@@ -29,3 +36,28 @@ module _ {S : Type 0} (rules : Rules S) where
       (next, inl same, plays_leads events answers next last rest)
   plays_leads (e ∷ events) (a ∷ answers) game last (next, inr (send, same, answered), rest) =
       (next, inr (send, same), plays_leads events answers next last rest)
+
+-- an event that was applied has its answer
+pub answers_one : {W S : Type 0} (state : W → S) (rules : Rules S) (old new : Contents W) (m : Game) (event : Event) (answer : Result Done Refusal)
+    → Represents state rules old m → IsApplied state rules old new m event answer
+    → (next : Game) × Answers rules m event answer next × Represents state rules new next
+answers_one {W} {S} state rules old new m event answer r (inl after) = ((applied rules m event).0, inl (refl, after.answered), after.game)
+answers_one {W} {S} state rules old new m event answer r (inr left) =
+    let P : Contents W → Type 0 = λ g. Represents state rules g m in
+    (m, inr (left.send, refl, left.answered), subst P (sym left.same) r)
+
+pub played_more : {W S : Type 0} (state : W → S) (rules : Rules S) (settings : Settings) (events : List Event) (event : Event) (answer : Result Done Refusal) (played next : Played W)
+    → (r : IsPlayed state rules settings events played)
+    → IsApplied state rules (contents played.game) (contents next.game) r.last event answer
+    → next.done ≡ played.done + count_by is_ok (answer ∷ []) → next.refused ≡ played.refused + count_by is_err (answer ∷ [])
+    → IsPlayed state rules settings (events ++ event ∷ []) next
+played_more state rules settings events event answer played next r is done refused =
+    let one = answers_one state rules (contents played.game) (contents next.game) r.last event answer r.game is in
+    record {
+      last = one.0;
+      answers = r.answers ++ answer ∷ [];
+      plays = plays_more rules events r.answers event answer (opening_game settings) r.last one.0 r.plays one.1;
+      game = one.2;
+      done = done ∙ ap (λ (k : ℕ). k + count_by is_ok (answer ∷ [])) r.done ∙ sym (sum_by-append (λ a. cond (is_ok a) 1 0) r.answers (answer ∷ []));
+      refused = refused ∙ ap (λ (k : ℕ). k + count_by is_err (answer ∷ [])) r.refused ∙ sym (sum_by-append (λ a. cond (is_err a) 1 0) r.answers (answer ∷ []));
+    }

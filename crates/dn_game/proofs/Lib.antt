@@ -1,2 +1,4 @@
 pub mod Freshening
 pub mod Answering
+pub mod Promising
+pub mod Agreeing

@@ -1,5 +1,5 @@
 -- What holds between the nodes of a game, said of what each tells of itself.
-use Rattle.std.specs.Prelude.{◌≡◌, ◌≢◌, ◌<◌, ◌≤◌, ◌⊎◌, ℕ, ◌+◌, ◌-◌, List, [], length, take, drop, slice_get, Some, ℤ, if◌then◌else◌}
+use Rattle.std.specs.Prelude.{◌≡◌, ◌≢◌, ◌<◌, ◌≤◌, ◌⊎◌, ℕ, ◌+◌, ◌-◌, Bool, List, [], length, take, drop, slice_get, Some, ℤ, if◌then◌else◌}
 use Rattle.dn_setup.specs.Settings.{Settings}
 use Rattle.dn_demo.specs.Text.{header_size}
 use Rattle.dn_machine.specs.declared.answers.Cause.TheVariants as Cause
@@ -16,12 +16,14 @@ use Rattle.dn_game.specs.Contents.{Contents}
 abbrev pub HasStarted : {W : Type 0} → node.Contents W → Type 0
 HasStarted n = n.demo.bytes ≢ []
 
--- the commands of a node's demo: what stands behind its header, without the marker
+-- the commands of a demo's bytes: what stands behind the header, without the marker that ends a closed one
+abbrev pub commands_in : Bool → List ℕ → List ℕ
+commands_in closed bytes =
+    if closed then take (length bytes - (header_size + 1)) (drop header_size bytes) else drop header_size bytes
+
+-- the commands of a node's demo, which is closed once the node has ended
 abbrev pub recorded : {W : Type 0} → node.Contents W → List ℕ
-recorded n =
-    if is_ended n.phase
-    then take (length n.demo.bytes - (header_size + 1)) (drop header_size n.demo.bytes)
-    else drop header_size n.demo.bytes
+recorded n = commands_in (is_ended n.phase) n.demo.bytes
 
 -- how many commands a node has of a player, and how many it made
 abbrev pub got : {W : Type 0} → node.Contents W → ℕ → ℕ

@@ -4,6 +4,7 @@
 mod config;
 mod flight;
 mod game;
+mod laws;
 mod played;
 mod playing;
 
@@ -11,5 +12,6 @@ pub use config::{GameConfig, GameFault};
 pub use dn_machine::{Done, Event, Refusal};
 pub use flight::Flight;
 pub use game::Game;
+pub use laws::reached_games_agree;
 pub use played::Played;
 pub use playing::play;

@@ -1,0 +1,161 @@
+-- What the nodes of a game tell of themselves agrees, since the machine's nodes that they represent do.
+use Rattle.std.proofs.Common.{◌≡◌, ◌≢◌, ◌<◌, ◌≤◌, ◌⊎◌, ℕ, zero, suc, ◌+◌, ◌-◌, Bool, true, false, List, [], ◌∷◌, ◌++◌, length, take, drop, Option, Some, None, refl, ap, sym, ◌∙◌, subst, inl, inr, arith, length-append, append-nil, append_assoc}
+use Rattle.std.specs.Prelude.{slice_get, if◌then◌else◌}
+use Rattle.std.specs.Option.{option_map}
+use Rattle.std.specs.List.{flat_map}
+use Rattle.std.proofs.lemmas.Option.{same_Some, slice_get_within}
+use Rattle.std.proofs.lemmas.Grind.{flat_map-append}
+use Rattle.std.proofs.Math.Seq.{take-append_seam}
+use Rattle.dn_tic.specs.declared.command.Move.{Move}
+use Rattle.dn_setup.specs.Settings.{Settings}
+use Rattle.dn_setup.specs.Starts.{start_of}
+use Rattle.dn_setup.specs.declared.start.Start.{Start}
+use Rattle.dn_demo.specs.Text.{demo_text, header_size, marker, header, row_bytes, commands_of}
+use Rattle.dn_machine.specs.declared.answers.Phase.{Phase}
+use Rattle.dn_machine.specs.Worlds.{Rules, world}
+use Rattle.dn_machine.specs.Node as machine
+use Rattle.dn_machine.specs.Node.{world_after}
+use Rattle.dn_machine.specs.Game as game
+use Rattle.dn_machine.specs.Promise.{Agree, Fits, Steady, IsPrefixOf, keys_of}
+use Rattle.dn_node.specs.declared.node.Node.{Node}
+use Rattle.dn_node.specs.Contents as node
+use Rattle.dn_node.specs.Phases.{is_ended}
+use Rattle.dn_node.specs.Represents as node_to
+use Rattle.dn_node.specs.Represents.{demo_with}
+use Rattle.dn_node.specs.Rows.{seats_of}
+use Rattle.dn_node.proofs.Counting as counting
+use Rattle.dn_machine.specs.declared.events.Event.{Event}
+use Rattle.dn_game.specs.Agreed.{HasStarted, HasNode, AreAgreed, commands_in, recorded, got, made}
+use Rattle.dn_game.specs.Promised.{IsReached}
+use Rattle.dn_game.proofs.Promising.{reached_promised}
+use Rattle.dn_game.specs.Contents.{Contents}
+use Rattle.dn_game.specs.Represents.{Represents}
+
+-- the commands of a demo's text are those of its rows
+before_marker : (xs : List ℕ) (count : ℕ) → count ≡ length xs → take count (xs ++ marker ∷ []) ≡ xs
+before_marker xs count e = ap (λ (k : ℕ). take k (xs ++ marker ∷ [])) e ∙ take-append_seam xs (marker ∷ [])
+
+recorded_rows : (closed : Bool) (start : Start) (view players : ℕ) (rows : List (List (Option Move)))
+    → commands_in closed (demo_text start view (seats_of players) rows closed) ≡ commands_of rows
+unfolding demo_text
+recorded_rows false start view players rows = append-nil (commands_of rows)
+recorded_rows true start view players rows =
+    before_marker (commands_of rows) _ (omega (arith, length-append (commands_of rows) (marker ∷ [])))
+
+-- a list of rows that goes on has commands that go on
+commands_prefix : (rows more : List (List (Option Move))) → IsPrefixOf rows more → IsPrefixOf (commands_of rows) (commands_of more)
+commands_prefix rows more (rest, whole) =
+    (commands_of rest, sym (flat_map-append row_bytes rows rest) ∙ ap commands_of whole)
+
+-- one node
+module _ {W S : Type 0} (state : W → S) (rules : Rules S) (settings : Settings) (me : ℕ) (n : node.Contents W) (m : machine.Node)
+    (r : node_to.Represents state rules me n m) where
+  unplayed : m.played ≡ false → n.demo.bytes ≡ []
+  unplayed not = r.demo ∙ ap (λ (b : Bool). if b then demo_with rules me m m.settings else []) not
+
+  started : HasStarted n → m.played ≡ true
+  started has = go m.played refl
+    where
+      go : (b : Bool) → m.played ≡ b → b ≡ true
+      go true e = refl
+      go false e = absurd (has (unplayed e))
+
+  played_bytes : m.played ≡ true → m.settings ≡ Some settings
+      → n.demo.bytes ≡ demo_text (start_of settings) me (seats_of rules.players) m.rows (is_ended m.phase)
+  played_bytes played known =
+      r.demo ∙ ap (λ (b : Bool). if b then demo_with rules me m m.settings else []) played ∙ ap (demo_with rules me m) known
+
+  world_is : m.played ≡ true → m.settings ≡ Some settings → state n.world ≡ world_after rules settings m.rows (machine.ran m)
+  world_is played known =
+      same_Some _ _ (r.world played ∙ ap (option_map (λ (s : Settings). world_after rules s m.rows (machine.ran m))) known)
+
+  -- the demo's commands are those of the rows that it ran, and none before the start
+  recorded_is : (m.played ≡ true → m.settings ≡ Some settings)
+      → ((recorded n ≡ []) ⊎ (recorded n ≡ commands_of m.rows))
+  recorded_is known = go m.played refl
+    where
+      closed : is_ended n.phase ≡ is_ended m.phase
+      closed = ap is_ended r.phase
+      none : (b : Bool) → commands_in b [] ≡ []
+      none true = refl
+      none false = refl
+      go : (b : Bool) → m.played ≡ b → ((recorded n ≡ []) ⊎ (recorded n ≡ commands_of m.rows))
+      go false e = inl (ap (commands_in (is_ended n.phase)) (unplayed e) ∙ none (is_ended n.phase))
+      go true e =
+        inr (ap (commands_in (is_ended n.phase)) (played_bytes e (known e))
+        ∙ ap (λ (b : Bool). commands_in b (demo_text (start_of settings) me (seats_of rules.players) m.rows (is_ended m.phase))) closed
+        ∙ recorded_rows (is_ended m.phase) (start_of settings) me rules.players m.rows)
+
+-- two nodes' demos
+two_demos : (xs ys : List ℕ) (rows more : List (List (Option Move)))
+    → ((xs ≡ []) ⊎ (xs ≡ commands_of rows)) → ((ys ≡ []) ⊎ (ys ≡ commands_of more))
+    → (IsPrefixOf rows more ⊎ IsPrefixOf more rows) → IsPrefixOf xs ys ⊎ IsPrefixOf ys xs
+two_demos xs ys rows more (inl e) other way = inl (ys, ap (λ (z : List ℕ). z ++ ys) e)
+two_demos xs ys rows more (inr e) (inl f) way = inr (xs, ap (λ (z : List ℕ). z ++ xs) f)
+two_demos xs ys rows more (inr e) (inr f) (inl first) =
+    let P : List ℕ → Type 0 = λ z. IsPrefixOf z ys in
+    let Q : List ℕ → Type 0 = λ z. IsPrefixOf (commands_of rows) z in
+    inl (subst P (sym e) (subst Q (sym f) (commands_prefix rows more first)))
+two_demos xs ys rows more (inr e) (inr f) (inr first) =
+    let P : List ℕ → Type 0 = λ z. IsPrefixOf ys z in
+    let Q : List ℕ → Type 0 = λ z. IsPrefixOf z (commands_of rows) in
+    inr (subst P (sym e) (subst Q (sym f) (commands_prefix more rows first)))
+
+-- all nodes
+module _ {W S : Type 0} (state : W → S) (rules : Rules S) (settings : Settings) (g : Contents W) (m : game.Game)
+    (r : Represents state rules g m) where
+  inside : (i : ℕ) (n : node.Contents W) → HasNode g i n → i < rules.players
+  inside i n (one, there, is) = let within = slice_get_within g.nodes i one there in omega (arith, within, r.players)
+
+  shown : (i : ℕ) (n : node.Contents W) → HasNode g i n → node_to.Represents state rules i n (m.nodes i)
+  shown i n (one, there, is) =
+      let P : node.Contents W → Type 0 = λ x. node_to.Represents state rules i x (m.nodes i) in
+      subst P (sym is) (r.nodes i one there)
+
+  has : (i player : ℕ) (n : node.Contents W) → HasNode g i n → player < rules.players → got n player ≡ machine.got (m.nodes i) player
+  has i player n at below =
+      let s = shown i n at in
+      counting.got_is state rules i n (m.nodes i) s player (omega (arith, below, s.players))
+
+  makes : (i : ℕ) (n : node.Contents W) → HasNode g i n → made n ≡ machine.made i (m.nodes i)
+  makes i n at = let s = shown i n at in ap (got n) s.number ∙ has i i n at (inside i n at)
+
+  pub agreed_by : Agree rules settings m → Fits rules m → Steady rules m → AreAgreed state rules settings g
+  agreed_by agree fits steady =
+      record {
+        keys = keys_of m;
+        worlds = λ i n at has_started.
+            let s = shown i n at in
+            let played = started state rules settings i n (m.nodes i) s has_started in
+            let below = inside i n at in
+            world_is state rules settings i n (m.nodes i) s played (agree.settings_same i below played)
+            ∙ agree.worlds i below ∙ ap (world rules settings (keys_of m)) (sym s.ran);
+        settings_same = λ i n at has_started.
+            let s = shown i n at in
+            s.settings ∙ agree.settings_same i (inside i n at) (started state rules settings i n (m.nodes i) s has_started);
+        demos = λ i j n k at to.
+            two_demos _ _ (m.nodes i).rows (m.nodes j).rows
+            (recorded_is state rules settings i n (m.nodes i) (shown i n at) (agree.settings_same i (inside i n at)))
+            (recorded_is state rules settings j k (m.nodes j) (shown j k to) (agree.settings_same j (inside j k to)))
+            (agree.demos i j (inside i n at) (inside j k to));
+        consistent = λ i player was should n at e.
+            steady.consistent i player was should (inside i n at) (sym (shown i n at).phase ∙ e);
+        run = λ i player n at below.
+            let s = (shown i n at).ran in let h = has i player n at below in let f = fits.run i player (inside i n at) below in omega (arith, s, h, f);
+        unread = λ i player n at below.
+            let s = (shown i n at).ran in let h = has i player n at below in let f = fits.unread i player (inside i n at) below in omega (arith, s, h, f);
+        held = λ i j n k at to.
+            let h = has i j n at (inside j k to) in let b = makes j k to in let f = fits.held i j (inside i n at) (inside j k to) in omega (arith, h, b, f);
+        unheard = λ i j n k at to.
+            let h = has i j n at (inside j k to) in let b = makes j k to in let f = fits.unheard i j (inside i n at) (inside j k to) in omega (arith, h, b, f);
+        ahead = λ i n at.
+            let s = (shown i n at).ran in let b = makes i n at in let f = fits.ahead i (inside i n at) in omega (arith, s, b, f);
+        close = λ i j n k at to.
+            let a = makes i n at in let b = makes j k to in let f = fits.close i j (inside i n at) (inside j k to) in omega (arith, a, b, f);
+      }
+
+pub agreed : {W S : Type 0} (state : W → S) (rules : Rules S) (settings : Settings) (events : List Event) (g : Contents W)
+    → IsReached state rules settings events g → AreAgreed state rules settings g
+agreed state rules settings events g r =
+    let kept = reached_promised state rules settings events g r in
+    agreed_by state rules settings g kept.reached.last kept.reached.game kept.agree kept.fits kept.steady

@@ -1,0 +1,11 @@
+use Rattle.dn_machine.specs.Worlds.{rules_of}
+use Rattle.dn_game.proofs.Promising.{reached_promised}
+use Rattle.dn_game.proofs.Agreeing.{agreed}
+use Rattle.dn_game.proofs.laws.reached_games_agree.Goals as goal
+
+pub returns-clause-promised : goal.returns-clause-promised
+returns-clause-promised g c players extra limit settings events =
+    reached_promised _ (rules_of g.W.World.physics players extra limit) settings events
+
+pub returns-clause-agreed : goal.returns-clause-agreed
+returns-clause-agreed g c players extra limit settings events = agreed _ (rules_of g.W.World.physics players extra limit) settings events
