@@ -1,0 +1,10 @@
+use Rattle.std.proofs.Common.{◌≡◌, ◌+◌, length, take}
+use Rattle.dn_machine.specs.Worlds.{rules_of}
+use Rattle.dn_game.specs.Played.{IsPlayed}
+use Rattle.dn_game.proofs.playing.play.Given as goal
+
+abbrev pub invariant-loop-event : goal.invariant-loop-event
+invariant-loop-event g l =
+    (l.played.done + l.played.refused ≡ l.event-index)
+    × IsPlayed g.W.World.state (rules_of g.W.World.physics (length l.fn.worlds.items) l.fn.config.extra l.fn.config.limit)
+        l.fn.config.settings (take l.event-index l.events) l.played
