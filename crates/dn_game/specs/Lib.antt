@@ -6,3 +6,4 @@ pub mod Applied
 pub mod Played
 pub mod Promised
 pub mod Agreed
+pub mod Schedule

@@ -1,6 +1,7 @@
 -- A game that has played a list of events.
-use Rattle.std.specs.Prelude.{◌≡◌, ◌⊎◌, ℕ, List, [], ◌∷◌, count_by, IsTrue, Result, Ok, Err, is_ok, is_err}
+use Rattle.std.specs.Prelude.{◌≡◌, ◌⊎◌, ℕ, ◌+◌, List, [], ◌∷◌, count_by, IsTrue, Result, Ok, Err, is_ok, is_err}
 use Rattle.dn_setup.specs.Settings.{Settings}
+use Rattle.dn_world.specs.Physics.{Physics}
 use Rattle.dn_machine.specs.declared.events.Done.{Done}
 use Rattle.dn_machine.specs.declared.events.Event.{Event}
 use Rattle.dn_machine.specs.declared.events.Refusal.{Refusal}
@@ -9,6 +10,7 @@ use Rattle.dn_machine.specs.Game.{applied, opening_game}
 use Rattle.dn_machine.specs.Runs.{is_send}
 use Rattle.dn_machine.specs.Worlds.{Rules}
 use Rattle.dn_game.specs.declared.played.Played.{Played}
+use Rattle.dn_game.specs.Applied.{Tells, IsApplied}
 use Rattle.dn_game.specs.Contents.{contents}
 use Rattle.dn_game.specs.Represents.{Represents}
 
@@ -34,3 +36,10 @@ pub record IsPlayed {W S : Type 0} (state : W → S) (rules : Rules S) (settings
   pub game : Represents state rules (contents played.game) last
   pub done : played.done ≡ count_by is_ok answers
   pub refused : played.refused ≡ count_by is_err answers
+
+-- one event more was applied, and counted by its answer
+pub record AppliesOne {W S : Type 0} (state : W → S) (physics : Physics S) (old new : Played W) (event : Event) : Type 0 where
+  pub answer : Result Done Refusal
+  pub applied : Tells state physics (contents old.game) (λ rules m. IsApplied state rules (contents old.game) (contents new.game) m event answer)
+  pub done : new.done ≡ old.done + count_by is_ok (answer ∷ [])
+  pub refused : new.refused ≡ old.refused + count_by is_err (answer ∷ [])

@@ -23,6 +23,13 @@ pub struct Game<W> {
 impl<W: World> Game<W> {
     ghost use Rattle.dn_game.specs.Contents.{contents};
 
+    /// How many nodes there are.
+    pub(crate) fn players(&self) -> u32
+        ensures { result ≡ length (contents self.now).nodes }
+    {
+        self.nodes.len() as u32
+    }
+
     /// The node of this number.
     pub fn node(&self, node: u32) -> Option<&Node<W>>
         ensures { option_copied result ≡ slice_get (contents self.now).nodes node }

@@ -7,6 +7,7 @@ mod game;
 mod laws;
 mod played;
 mod playing;
+mod schedule;
 
 pub use config::{GameConfig, GameFault};
 pub use dn_machine::{Done, Event, Refusal};
@@ -15,3 +16,4 @@ pub use game::Game;
 pub use laws::reached_games_agree;
 pub use played::Played;
 pub use playing::play;
+pub use schedule::Schedule;
