@@ -2,3 +2,9 @@ pub mod Freshening
 pub mod Answering
 pub mod Promising
 pub mod Agreeing
+pub mod ScriptNumbers
+pub mod ScriptKeys
+pub mod ScriptLines
+pub mod ScriptOneEvent
+pub mod ScriptEvents
+pub mod ScriptReading

@@ -7,3 +7,6 @@ pub mod Played
 pub mod Promised
 pub mod Agreed
 pub mod Schedule
+pub mod ScriptWords
+pub mod ScriptLines
+pub mod Script

@@ -8,6 +8,7 @@ mod laws;
 mod played;
 mod playing;
 mod schedule;
+mod script;
 
 pub use config::{GameConfig, GameFault};
 pub use dn_machine::{Done, Event, Refusal};
@@ -17,3 +18,4 @@ pub use laws::reached_games_agree;
 pub use played::Played;
 pub use playing::play;
 pub use schedule::Schedule;
+pub use script::{ScriptFault, read_script};

@@ -36,7 +36,7 @@ impl<W: World> Game<W> {
     }
 
     /// Why a delivery is refused, if it is.
-    fn refused_flight(&self, which: u32) -> Option<Refusal>
+    pub(crate) fn refused_flight(&self, which: u32) -> Option<Refusal>
         ensures told { Tells W.state W.physics (contents self.now) (λ rules m. result ≡ refused_flight m (slice_get m.flights which)) }
         ensures there { result ≡ None → which < length (contents self.now).flights }
     {

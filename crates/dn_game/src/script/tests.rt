@@ -1,0 +1,4 @@
+//! Tests of scripts.
+
+mod faults;
+mod lines;
