@@ -8,3 +8,6 @@ pub mod ScriptLines
 pub mod ScriptOneEvent
 pub mod ScriptEvents
 pub mod ScriptReading
+pub mod Places
+pub mod Standing
+pub mod Refusing

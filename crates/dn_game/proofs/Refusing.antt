@@ -1,0 +1,77 @@
+-- Why the machine refuses an event, by what was looked at.
+use Rattle.std.proofs.Common.{◌≡◌, ◌<◌, ℕ, Bool, true, false, List, length, Option, Some, None, refl, ap, sym, ◌∙◌, arith}
+use Rattle.std.specs.Prelude.{not, ◌&&◌, if◌then◌else◌, nat_lt, slice_get, slice_index_or}
+use Rattle.dn_machine.specs.Flight as exact
+use Rattle.dn_machine.specs.Flight.{is_near}
+use Rattle.dn_machine.specs.Node.{made}
+use Rattle.dn_machine.specs.Game as machine
+use Rattle.dn_machine.specs.Game.{refused_at, refused, refused_flight}
+use Rattle.dn_machine.specs.Worlds.{Rules}
+use Rattle.dn_machine.specs.declared.events.Event.TheVariants.{Send}
+use Rattle.dn_machine.specs.declared.events.Refusal.{Refusal}
+use Rattle.dn_node.specs.declared.node.Node.{Node}
+use Rattle.dn_node.specs.Contents as node
+use Rattle.dn_node.specs.Rings.{count_of}
+use Rattle.dn_node.specs.Sent.{aim_of}
+use Rattle.dn_game.specs.declared.flight.Flight.{Flight}
+use Rattle.dn_game.specs.Contents.{Contents}
+use Rattle.dn_game.specs.Represents.{Represents}
+use Rattle.dn_game.proofs.Standing.{made_at, flight_at}
+
+-- a send to a player is refused as any event of its node is
+both_there : (node to stopped : Bool) → to ≡ true
+    → ◌≡◌ {A = Option Refusal} (if not node then Some Refusal.NoNode else (if stopped then Some Refusal.Stopped else None))
+    (if not (node && to) then Some Refusal.NoNode else (if stopped then Some Refusal.Stopped else None))
+both_there true to stopped is = rw is refl
+both_there false to stopped is = refl
+
+pub refused_send : (players : ℕ) (m : machine.Game) (node to : ℕ) → nat_lt to players ≡ true
+    → refused_at players m node ≡ refused players m (Send node to)
+refused_send players m node to is = both_there (nat_lt node players) (nat_lt to players) (m.stopped node) is
+
+-- a delivery, by what was found of the flight
+module _ (m : machine.Game) (which : ℕ) (flight : exact.Flight) (there : slice_get m.flights which ≡ Some flight) (far : Bool)
+    (is_far : far ≡ not (is_near (made flight.to (m.nodes flight.to)) flight)) where
+  is_refused : (refusal : Option Refusal)
+      → refusal ≡ (if far then Some Refusal.Far else (if m.stopped flight.to then Some Refusal.Stopped else None))
+      → refusal ≡ refused_flight m (slice_get m.flights which)
+  is_refused refusal is =
+      is ∙ ap (λ (b : Bool). if b then Some Refusal.Far else (if m.stopped flight.to then Some Refusal.Stopped else None)) is_far
+      ∙ ap (refused_flight m) (sym there)
+
+  is_refused_far : far ≡ true → Some Refusal.Far ≡ refused_flight m (slice_get m.flights which)
+  is_refused_far so = is_refused (Some Refusal.Far) (rw so refl)
+
+  is_refused_near : far ≡ false → (refusal : Option Refusal) → refusal ≡ (if m.stopped flight.to then Some Refusal.Stopped else None)
+      → refusal ≡ refused_flight m (slice_get m.flights which)
+  is_refused_near so refusal is = is_refused refusal (rw so is)
+
+-- the same of a game that represents it, whose receiver was asked how many commands it made
+module _ {W S : Type 0} (state : W → S) (rules : Rules S) (g : Contents W) (m : machine.Game) (r : Represents state rules g m)
+    (which : ℕ) (f : Flight) (below : which < length g.flights) (read : f ≡ slice_index_or g.flights which f)
+    (to : ℕ) (n : Node W) (is_to : to ≡ f.to) (is_n : n ≡ slice_index_or g.nodes to n)
+    (count : ℕ) (counted : count ≡ count_of (node.contents n).rings (node.contents n).me)
+    (far : Bool) (tested : (flight : exact.Flight) → f.aim ≡ aim_of flight → far ≡ not (is_near count flight)) where
+  goes_to : to ≡ (flight_at state rules g m r which f below read).0.to
+  goes_to = is_to ∙ ap (λ (x : Flight). x.to) (flight_at state rules g m r which f below read).1.is
+
+  there_is : to < rules.players
+  there_is = let inside = (flight_at state rules g m r which f below read).1.carried.to in omega (arith, inside, goes_to)
+
+  tells_far : far ≡ not (is_near (made (flight_at state rules g m r which f below read).0.to (m.nodes (flight_at state rules g m r which f below read).0.to)) (flight_at state rules g m r which f below read).0)
+  tells_far =
+      let at = flight_at state rules g m r which f below read in
+      let known = made_at state rules g m r to count n (omega (arith, there_is, r.players)) is_n counted ∙ ap (λ (k : ℕ). made k (m.nodes k)) goes_to in
+      tested at.0 (ap (λ (x : Flight). x.aim) at.1.is) ∙ ap (λ (k : ℕ). not (is_near k at.0)) known
+
+  pub told_far : far ≡ true → Some Refusal.Far ≡ refused_flight m (slice_get m.flights which)
+  told_far so =
+      let at = flight_at state rules g m r which f below read in is_refused_far m which at.0 at.1.there far tells_far so
+
+  pub told_near : far ≡ false → (place : ℕ) (stopped : Bool) → place ≡ f.to → stopped ≡ slice_index_or g.stopped place false
+      → (if stopped then Some Refusal.Stopped else None) ≡ refused_flight m (slice_get m.flights which)
+  told_near so place stopped there is =
+      let at = flight_at state rules g m r which f below read in
+      let same = ap (λ (k : ℕ). slice_index_or g.stopped k false) (there ∙ sym is_to) in
+      is_refused_near m which at.0 at.1.there far tells_far so (if stopped then Some Refusal.Stopped else None)
+      (ap (λ (b : Bool). if b then Some Refusal.Stopped else None) (is ∙ same ∙ r.stopped to there_is ∙ ap m.stopped goes_to))

@@ -1,0 +1,45 @@
+-- What stands where in a game that represents one of the machine.
+use Rattle.std.proofs.Common.{◌≡◌, ◌<◌, ℕ, Option, Some, List, length, refl, ap, sym, ◌∙◌, arith}
+use Rattle.std.specs.Prelude.{slice_get, slice_index_or}
+use Rattle.std.proofs.lemmas.Option.{slice_get-map, slice_get_read}
+use Rattle.dn_machine.specs.Flight as exact
+use Rattle.dn_machine.specs.Game as machine
+use Rattle.dn_machine.specs.Node.{made}
+use Rattle.dn_machine.specs.Worlds.{Rules}
+use Rattle.dn_node.specs.declared.node.Node.{Node}
+use Rattle.dn_node.specs.Contents as node
+use Rattle.dn_node.specs.Represents as node_to
+use Rattle.dn_node.specs.Rings.{count_of}
+use Rattle.dn_node.proofs.Counting.{made_is}
+use Rattle.dn_node.proofs.Giving.{some_flight}
+use Rattle.dn_game.specs.declared.flight.Flight.{Flight}
+use Rattle.dn_game.specs.Contents.{Contents}
+use Rattle.dn_game.specs.Represents.{Represents, IsCarried, flight_of}
+use Rattle.dn_game.proofs.Places.{all_at}
+
+-- the machine's flight of a packet
+pub record IsFlight (m : machine.Game) (players which : ℕ) (f : Flight) (flight : exact.Flight) : Type 0 where
+  pub there : slice_get m.flights which ≡ Some flight
+  pub is : f ≡ flight_of flight
+  pub carried : IsCarried players flight
+
+module _ {W S : Type 0} (state : W → S) (rules : Rules S) (g : Contents W) (m : machine.Game) (r : Represents state rules g m) where
+  -- the node at a place represents the machine's
+  pub node_at : (i : ℕ) (n : Node W) → i < length g.nodes → n ≡ slice_index_or g.nodes i n
+      → node_to.Represents state rules i (node.contents n) (m.nodes i)
+  node_at i n h is = let same : length g.nodes ≡ length g.nodes = refl in r.nodes i n (slice_get_read g.nodes (length g.nodes) i n same h is)
+
+  -- and has made as many commands
+  pub made_at : (i count : ℕ) (n : Node W) → i < length g.nodes → n ≡ slice_index_or g.nodes i n
+      → count ≡ count_of (node.contents n).rings (node.contents n).me → count ≡ made i (m.nodes i)
+  made_at i count n h is c = c ∙ made_is state rules i (node.contents n) (m.nodes i) (node_at i n h is) n.me_below
+
+  -- a packet that was sent is that of a flight
+  pub flight_at : (which : ℕ) (f : Flight) → which < length g.flights → f ≡ slice_index_or g.flights which f
+      → (flight : exact.Flight) × IsFlight m rules.players which f flight
+  flight_at which f h read =
+      let same : length g.flights ≡ length g.flights = refl in
+      let at = slice_get_read g.flights (length g.flights) which f same h read in
+      let found = some_flight flight_of f (slice_get m.flights which)
+          (sym at ∙ ap (λ (fs : List Flight). slice_get fs which) r.flights ∙ slice_get-map flight_of m.flights which) in
+      (found.0, record { there = found.1; is = found.2; carried = all_at (IsCarried rules.players) m.flights which found.0 r.carried found.1 })
