@@ -1,5 +1,5 @@
 -- Why the machine refuses an event, by what was looked at.
-use Rattle.std.proofs.Common.{◌≡◌, ◌<◌, ℕ, Bool, true, false, List, length, Option, Some, None, refl, ap, sym, ◌∙◌, arith}
+use Rattle.std.proofs.Common.{◌≡◌, ◌<◌, ◌⊎◌, inl, inr, ℕ, Bool, true, false, List, length, Option, Some, None, refl, ap, sym, ◌∙◌, arith}
 use Rattle.std.specs.Prelude.{not, ◌&&◌, if◌then◌else◌, nat_lt, slice_get, slice_index_or}
 use Rattle.dn_machine.specs.Flight as exact
 use Rattle.dn_machine.specs.Flight.{is_near}
@@ -7,7 +7,9 @@ use Rattle.dn_machine.specs.Node.{made}
 use Rattle.dn_machine.specs.Game as machine
 use Rattle.dn_machine.specs.Game.{refused_at, refused, refused_flight}
 use Rattle.dn_machine.specs.Worlds.{Rules}
-use Rattle.dn_machine.specs.declared.events.Event.TheVariants.{Send}
+use Rattle.dn_tic.specs.declared.keys.Keys.{Keys}
+use Rattle.dn_machine.specs.declared.events.Event.{Event}
+use Rattle.dn_machine.specs.declared.events.Event.TheVariants.{Build, Send, Run, Quit, Stop}
 use Rattle.dn_machine.specs.declared.events.Refusal.{Refusal}
 use Rattle.dn_node.specs.declared.node.Node.{Node}
 use Rattle.dn_node.specs.Contents as node
@@ -75,3 +77,14 @@ module _ {W S : Type 0} (state : W → S) (rules : Rules S) (g : Contents W) (m 
       let same = ap (λ (k : ℕ). slice_index_or g.stopped k false) (there ∙ sym is_to) in
       is_refused_near m which at.0 at.1.there far tells_far so (if stopped then Some Refusal.Stopped else None)
       (ap (λ (b : Bool). if b then Some Refusal.Stopped else None) (is ∙ same ∙ r.stopped to there_is ∙ ap m.stopped goes_to))
+
+-- an event of one node
+abbrev pub IsOfNode : ℕ → Event → Type 0
+IsOfNode node event = ((keys : Keys) × (event ≡ Build node keys)) ⊎ ((event ≡ Run node) ⊎ ((event ≡ Quit node) ⊎ (event ≡ Stop node)))
+
+pub refused_own : (players : ℕ) (m : machine.Game) (node place : ℕ) (event : Event) → place ≡ node → IsOfNode node event
+    → refused_at players m place ≡ refused players m event
+refused_own players m node place event e (inl (keys, is)) = ap (refused_at players m) e ∙ ap (refused players m) (sym is)
+refused_own players m node place event e (inr (inl is)) = ap (refused_at players m) e ∙ ap (refused players m) (sym is)
+refused_own players m node place event e (inr (inr (inl is))) = ap (refused_at players m) e ∙ ap (refused players m) (sym is)
+refused_own players m node place event e (inr (inr (inr is))) = ap (refused_at players m) e ∙ ap (refused players m) (sym is)
