@@ -11,3 +11,5 @@ pub mod ScriptReading
 pub mod Places
 pub mod Standing
 pub mod Refusing
+pub mod Moving
+pub mod Delivering

@@ -16,6 +16,7 @@ pub struct Game<W> {
     nodes: Vec<Node<W>>,
     stopped: [bool; 4],
     flights: Vec<Flight>,
+    ghost two: { 2 ≤ length nodes.items },
     ghost few: { length nodes.items ≤ 4 },
     ghost receivers: { All (λ flight. flight.to < length nodes.items) flights.items },
 }
@@ -25,7 +26,9 @@ impl<W: World> Game<W> {
 
     /// How many nodes there are.
     pub(crate) fn players(&self) -> u32
-        ensures { result ≡ length (contents self.now).nodes }
+        ensures value { result ≡ length (contents self.now).nodes }
+        ensures two { 2 ≤ result }
+        ensures few { result ≤ 4 }
     {
         self.nodes.len() as u32
     }

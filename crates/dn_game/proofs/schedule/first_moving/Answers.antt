@@ -1,0 +1,25 @@
+use Rattle.std.proofs.Common.{◌≡◌, ℕ, Bool, false, Option, Some, None, ap, sym, ◌∙◌, subst, arith}
+use Rattle.std.specs.Prelude.{slice_index_or}
+use Rattle.dn_node.proofs.Lowest.{lowest_zero}
+use Rattle.dn_game.specs.Schedule.{first_moving}
+use Rattle.dn_game.proofs.Moving.{goes_past, moving_found, moving_none}
+use Rattle.dn_game.proofs.schedule.first_moving.Goals as goal
+
+pub loop-step-init : goal.loop-step-init
+loop-step-init g c = lowest_zero _
+
+pub loop-step-preserved : goal.loop-step-preserved
+loop-step-preserved g c =
+    goes_past _ _ (λ (p : ℕ). slice_index_or c.args.game.now.stopped p false) c.loop-step.step c.loop-step.invariant (sym c.stopped.ensures ∙ c.if-not-stopped.false)
+
+pub returns-then-not-stopped-clause-value : goal.returns-then-not-stopped-clause-value
+returns-then-not-stopped-clause-value g c =
+    let stopped : ℕ → Bool = λ p. slice_index_or c.args.game.now.stopped p false in
+    moving_found _ _ stopped c.loop-step.step c.loop-step-test.true c.loop-step.invariant (sym c.stopped.ensures ∙ c.if-not-stopped.true)
+    ∙ ap (λ (k : ℕ). first_moving k stopped c.args.from) c.players-players.ensures.value
+
+pub returns-clause-value : goal.returns-clause-value
+returns-clause-value g c =
+    let stopped : ℕ → Bool = λ p. slice_index_or c.args.game.now.stopped p false in
+    moving_none _ _ stopped c.loop-step.step (omega (arith, c.loop-step-test.false, c.loop-step.auto.step-end)) c.loop-step.invariant
+    ∙ ap (λ (k : ℕ). first_moving k stopped c.args.from) c.players-players.ensures.value
