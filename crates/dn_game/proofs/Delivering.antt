@@ -10,7 +10,7 @@ use Rattle.std.proofs.lemmas.List.{length-map}
 use Rattle.dn_machine.specs.Worlds.{Rules}
 use Rattle.dn_game.specs.Contents.{Contents}
 use Rattle.dn_game.specs.Represents.{Represents, flight_of}
-use Rattle.dn_game.specs.Schedule.{recent, delivery_or_run}
+use Rattle.dn_game.specs.Schedule.{recent, delivery_or_run, event_of}
 
 module _ (m : Game) (node c : ℕ) where
   pub runs_without : length m.flights ≡ 0 → Run node ≡ delivery_or_run m node c
@@ -57,3 +57,12 @@ flights_are state rules g m r = ap length r.flights ∙ length-map m.flights fli
 pub place_is : (count flights least which c : ℕ) → count ≡ flights → least ≡ min count 32 → which ≡ count - 1 - c % least → which ≡ recent flights c
 place_is count flights least which c counted smaller is =
     is ∙ ap (λ (k : ℕ). count - 1 - c % k) smaller ∙ ap (λ (k : ℕ). recent k c) counted
+
+-- by the words that choose it
+pub chooses : (players : ℕ) (m : Game) (a c node : ℕ) → 5 ≤ a % 16 → 9 ≤ a % 16 → a % 16 < 14
+    → delivery_or_run m node c ≡ event_of players m a c node
+chooses players m a c node five nine fourteen =
+    let build = le-ltb (a % 16) 5 five in
+    let send = le-ltb (a % 16) 9 nine in
+    let deliver = lt-ltb (a % 16) 14 fourteen in
+    rw (build, send, deliver) refl

@@ -13,3 +13,4 @@ pub mod Standing
 pub mod Refusing
 pub mod Moving
 pub mod Delivering
+pub mod Scheduling

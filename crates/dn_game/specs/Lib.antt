@@ -6,6 +6,7 @@ pub mod Applied
 pub mod Played
 pub mod Promised
 pub mod Agreed
+pub mod Stopped
 pub mod Schedule
 pub mod ScriptWords
 pub mod ScriptLines

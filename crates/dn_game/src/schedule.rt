@@ -1,10 +1,11 @@
 //! A network that loses, repeats and reorders: events drawn from a seed.
 
-ghost use Rattle.std.specs.Prelude.{◌≡◌, ◌<◌, ◌≤◌, ℕ, None, IfSome, length, true, false, slice_index_or};
+ghost use Rattle.std.specs.Prelude.{◌≡◌, ◌↔◌, ◌<◌, None, IfSome, length, false, slice_index_or};
 ghost use Rattle.dn_machine.specs.Game.{refused};
 ghost use Rattle.dn_game.specs.Applied.{Tells};
 ghost use Rattle.dn_game.specs.Contents.{contents};
-ghost use Rattle.dn_game.specs.Schedule.{generator_of, behind_three, scheduled, first_moving, delivery_or_run};
+ghost use Rattle.dn_game.specs.Stopped.{IsMoving, AllStopped};
+ghost use Rattle.dn_game.specs.Schedule.{generator_of, behind_three, scheduled, first_moving, delivery_or_run, event_of};
 
 use crate::game::Game;
 use dn_machine::Event;
@@ -39,7 +40,8 @@ fn first_moving<W: World>(game: &Game<W>, from: u32) -> Option<u32>
     requires { from < length (contents game.now).nodes }
     ensures value { result ≡ first_moving (length (contents game.now).nodes)
         (λ p. slice_index_or (contents game.now).stopped p false) from }
-    ensures below { IfSome result (λ node. node < length (contents game.now).nodes) }
+    ensures moving { IfSome result (IsMoving (contents game.now)) }
+    ensures none { result ≡ None → AllStopped (contents game.now) }
 {
     let players = game.players();
     for step in 0..players {
@@ -53,7 +55,9 @@ fn first_moving<W: World>(game: &Game<W>, from: u32) -> Option<u32>
 
 /// The delivery of a recent packet, where it can be delivered, and else a run.
 fn delivery_or_run<W: World>(game: &Game<W>, node: u32, word: u32) -> Event
-    ensures { Tells W.state W.physics (contents game.now) (λ rules m. result ≡ delivery_or_run m node word) }
+    requires { IsMoving (contents game.now) node }
+    ensures told { Tells W.state W.physics (contents game.now) (λ rules m. result ≡ delivery_or_run m node word) }
+    ensures allowed { Tells W.state W.physics (contents game.now) (λ rules m. refused rules.players m result ≡ None) }
 {
     let count = game.flights();
     if count == 0 {
@@ -67,6 +71,27 @@ fn delivery_or_run<W: World>(game: &Game<W>, node: u32, word: u32) -> Event
         return Event::Run(node);
     }
     Event::Deliver(which)
+}
+
+/// The event of a node that has not stopped, by two words.
+fn event_of<W: World>(game: &Game<W>, node: u32, a: u32, c: u32) -> Event
+    requires { IsMoving (contents game.now) node }
+    ensures told { Tells W.state W.physics (contents game.now) (λ rules m. result ≡ event_of rules.players m a c node) }
+    ensures allowed { Tells W.state W.physics (contents game.now) (λ rules m. refused rules.players m result ≡ None) }
+{
+    let players = game.players();
+    let kind = a % 16;
+    if kind < 5 {
+        let keys = Keys::from_bits(c);
+        Event::Build { node, keys }
+    } else if kind < 9 {
+        let to = (node + 1 + c % (players - 1)) % players;
+        Event::Send { node, to }
+    } else if kind < 14 {
+        delivery_or_run(game, node, c)
+    } else {
+        Event::Run(node)
+    }
 }
 
 impl Schedule {
@@ -86,25 +111,12 @@ impl Schedule {
         ensures drawn { self.new ≡ behind_three self.old }
         ensures allowed { Tells W.state W.physics (contents game.now)
             (λ rules m. IfSome result (λ event. refused rules.players m event ≡ None)) }
-        ensures stopped { (result ≡ None)
-            ↔ ((p : ℕ) → p < length (contents game.now).nodes → slice_index_or (contents game.now).stopped p false ≡ true) }
+        ensures stopped { (result ≡ None) ↔ AllStopped (contents game.now) }
     {
         let a = self.words.next_word();
         let b = self.words.next_word();
         let c = self.words.next_word();
-        let players = game.players();
-        let node = first_moving(game, b % players)?;
-        Some(match a % 16 {
-            0..=4 => Event::Build {
-                node,
-                keys: Keys::from_bits(c),
-            },
-            5..=8 => Event::Send {
-                node,
-                to: (node + 1 + c % (players - 1)) % players,
-            },
-            9..=13 => delivery_or_run(game, node, c),
-            _ => Event::Run(node),
-        })
+        let node = first_moving(game, b % game.players())?;
+        Some(event_of(game, node, a, c))
     }
 }

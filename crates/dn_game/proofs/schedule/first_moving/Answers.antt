@@ -1,8 +1,9 @@
 use Rattle.std.proofs.Common.{◌≡◌, ℕ, Bool, false, Option, Some, None, ap, sym, ◌∙◌, subst, arith}
 use Rattle.std.specs.Prelude.{slice_index_or}
+use Rattle.dn_machine.specs.Node.{lowest}
 use Rattle.dn_node.proofs.Lowest.{lowest_zero}
 use Rattle.dn_game.specs.Schedule.{first_moving}
-use Rattle.dn_game.proofs.Moving.{goes_past, moving_found, moving_none}
+use Rattle.dn_game.proofs.Moving.{moves, goes_past, moving_found, moving_none, all_stopped}
 use Rattle.dn_game.proofs.schedule.first_moving.Goals as goal
 
 pub loop-step-init : goal.loop-step-init
@@ -23,3 +24,11 @@ returns-clause-value g c =
     let stopped : ℕ → Bool = λ p. slice_index_or c.args.game.now.stopped p false in
     moving_none _ _ stopped c.loop-step.step (omega (arith, c.loop-step-test.false, c.loop-step.auto.step-end)) c.loop-step.invariant
     ∙ ap (λ (k : ℕ). first_moving k stopped c.args.from) c.players-players.ensures.value
+
+pub returns-clause-none : goal.returns-clause-none
+returns-clause-none g c none =
+    let stopped : ℕ → Bool = λ p. slice_index_or c.args.game.now.stopped p false in
+    let all : c.loop-step.step ≡ c.players-players.result = omega (arith, c.loop-step-test.false, c.loop-step.auto.step-end) in
+    let every = ap (λ (k : ℕ). lowest k (moves c.players-players.result c.args.from stopped)) (sym all) ∙ c.loop-step.invariant in
+    let seen = all_stopped c.players-players.result c.args.from stopped (omega (arith, c.requires, c.players-players.ensures.value)) every in
+    λ node below. seen node (omega (arith, below, c.players-players.ensures.value))

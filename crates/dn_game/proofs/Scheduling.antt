@@ -1,0 +1,41 @@
+-- The event of three words.
+use Rattle.std.proofs.Common.{◌≡◌, ◌<◌, ◌%◌, ℕ, false, length, Option, Some, None, ap, sym, ◌∙◌, arith}
+use Rattle.std.specs.Prelude.{slice_index_or}
+use Rattle.std.specs.Option.{option_map}
+use Rattle.std.proofs.Math.Nat.{mod-lt}
+use Rattle.rand_pcg.specs.Lcg.{Lcg}
+use Rattle.rand_pcg.specs.Pcg.{pcg32}
+use Rattle.dn_machine.specs.declared.events.Event.{Event}
+use Rattle.dn_machine.specs.Game.{Game}
+use Rattle.dn_machine.specs.Worlds.{Rules}
+use Rattle.dn_game.specs.Contents.{Contents}
+use Rattle.dn_game.specs.Represents.{Represents}
+use Rattle.dn_game.specs.Schedule.{word, behind, first_moving, event_of, next_event, scheduled}
+use Rattle.dn_game.proofs.Moving.{same_moving}
+
+module _ (players : ℕ) (m : Game) (g g1 g2 g3 : Lcg) (a b c : ℕ)
+    (first : ◌≡◌ {A = ℕ × Lcg} (a, g1) (pcg32 g)) (second : ◌≡◌ {A = ℕ × Lcg} (b, g2) (pcg32 g1)) (third : ◌≡◌ {A = ℕ × Lcg} (c, g3) (pcg32 g2)) where
+  a_is : a ≡ word g
+  a_is = ap (λ (p : ℕ × Lcg). p.0) first
+
+  b_is : b ≡ word (behind g)
+  b_is = ap (λ (p : ℕ × Lcg). p.0) second ∙ ap word (ap (λ (p : ℕ × Lcg). p.1) first)
+
+  c_is : c ≡ word (behind (behind g))
+  c_is = ap (λ (p : ℕ × Lcg). p.0) third ∙ ap word (ap (λ (p : ℕ × Lcg). p.1) second ∙ ap behind (ap (λ (p : ℕ × Lcg). p.1) first))
+
+  pub of_words : next_event players m a b c ≡ scheduled players m g
+  of_words =
+      ap (λ (k : ℕ). next_event players m k b c) a_is ∙ ap (λ (k : ℕ). next_event players m (word g) k c) b_is
+      ∙ ap (next_event players m (word g) (word (behind g))) c_is
+
+-- by the player who moves
+module _ {W S : Type 0} (state : W → S) (rules : Rules S) (g : Contents W) (m : Game) (r : Represents state rules g m) (a b c count : ℕ)
+    (counted : count ≡ length g.nodes) (some : 0 < count) (moving : Option ℕ)
+    (found : moving ≡ first_moving (length g.nodes) (λ p. slice_index_or g.stopped p false) (b % count)) where
+  pub event_by : option_map (event_of rules.players m a c) moving ≡ next_event rules.players m a b c
+  event_by =
+      let below : b % count < length g.nodes = let l = mod-lt b some in omega (arith, l, counted) in
+      let from : b % count ≡ b % rules.players = ap (λ (k : ℕ). b % k) (counted ∙ r.players) in
+      ap (option_map (event_of rules.players m a c))
+      (found ∙ same_moving state rules g m r (b % count) below ∙ ap (first_moving rules.players m.stopped) from)
