@@ -11,6 +11,6 @@ pub mod ScriptReading
 pub mod Places
 pub mod Standing
 pub mod Refusing
-pub mod Moving
-pub mod Delivering
+pub mod GoingRound
+pub mod Recent
 pub mod Scheduling

@@ -11,7 +11,7 @@ use Rattle.dn_machine.specs.Worlds.{Rules}
 use Rattle.dn_game.specs.Contents.{Contents}
 use Rattle.dn_game.specs.Represents.{Represents}
 use Rattle.dn_game.specs.Schedule.{word, behind, first_moving, event_of, next_event, scheduled}
-use Rattle.dn_game.proofs.Moving.{same_moving}
+use Rattle.dn_game.proofs.GoingRound.{same_moving}
 
 module _ (players : ℕ) (m : Game) (g g1 g2 g3 : Lcg) (a b c : ℕ)
     (first : ◌≡◌ {A = ℕ × Lcg} (a, g1) (pcg32 g)) (second : ◌≡◌ {A = ℕ × Lcg} (b, g2) (pcg32 g1)) (third : ◌≡◌ {A = ℕ × Lcg} (c, g3) (pcg32 g2)) where

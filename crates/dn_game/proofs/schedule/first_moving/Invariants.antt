@@ -1,7 +1,7 @@
 use Rattle.std.proofs.Common.{◌≡◌, ℕ, false, None}
 use Rattle.std.specs.Prelude.{slice_index_or}
 use Rattle.dn_machine.specs.Node.{lowest}
-use Rattle.dn_game.proofs.Moving.{moves}
+use Rattle.dn_game.proofs.GoingRound.{moves}
 use Rattle.dn_game.proofs.schedule.first_moving.Given as goal
 
 abbrev pub invariant-loop-step : goal.invariant-loop-step
