@@ -14,3 +14,7 @@ pub mod Refusing
 pub mod GoingRound
 pub mod Recent
 pub mod Scheduling
+pub mod Moving
+pub mod Posting
+pub mod Applying
+pub mod Delivering

@@ -88,3 +88,13 @@ refused_own players m node place event e (inl (keys, is)) = ap (refused_at playe
 refused_own players m node place event e (inr (inl is)) = ap (refused_at players m) e ∙ ap (refused players m) (sym is)
 refused_own players m node place event e (inr (inr (inl is))) = ap (refused_at players m) e ∙ ap (refused players m) (sym is)
 refused_own players m node place event e (inr (inr (inr is))) = ap (refused_at players m) e ∙ ap (refused players m) (sym is)
+
+not_far : (near stopped : Bool)
+    → ◌≡◌ {A = Option Refusal} (if not near then Some Refusal.Far else (if stopped then Some Refusal.Stopped else None)) None → near ≡ true
+not_far true stopped e = refl
+not_far false stopped e = absurd (cc)
+
+-- what is not refused is near
+pub near_unless : (m : machine.Game) (which : ℕ) (flight : exact.Flight) → slice_get m.flights which ≡ Some flight
+    → refused_flight m (slice_get m.flights which) ≡ None → is_near (made flight.to (m.nodes flight.to)) flight ≡ true
+near_unless m which flight there free = not_far _ _ (ap (refused_flight m) (sym there) ∙ free)

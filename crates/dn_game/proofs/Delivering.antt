@@ -1,0 +1,67 @@
+-- A packet comes to its receiver.
+use Rattle.std.proofs.Common.{◌≡◌, ◌≢◌, ◌<◌, ℕ, Bool, true, None, List, length, set, Some, Option, refl, ap, sym, ◌∙◌, subst, arith}
+use Rattle.std.specs.Prelude.{slice_get, slice_index_or}
+use Rattle.dn_packet.specs.Text.{text}
+use Rattle.dn_world.specs.Physics.{Physics}
+use Rattle.dn_machine.specs.declared.answers.Heard.{Heard}
+use Rattle.dn_machine.specs.declared.events.Done.{Done}
+use Rattle.dn_machine.specs.Flight as exact
+use Rattle.dn_machine.specs.Flight.{packet_of, is_near}
+use Rattle.dn_machine.specs.Game as machine
+use Rattle.dn_machine.specs.Game.{delivered, refused_flight}
+use Rattle.dn_machine.specs.Hearing.{on_packet}
+use Rattle.dn_machine.specs.Node.{made}
+use Rattle.dn_machine.specs.Worlds.{Rules, rules_of}
+use Rattle.dn_node.specs.declared.node.Node.{Node}
+use Rattle.dn_node.specs.Contents as node
+use Rattle.dn_node.specs.Near.{IsFair}
+use Rattle.dn_node.specs.Rings.{count_of}
+use Rattle.dn_node.specs.Steps as step
+use Rattle.dn_node.specs.Steps.{Steps}
+use Rattle.dn_game.specs.declared.flight.Flight.{Flight}
+use Rattle.dn_game.specs.Applied.{IsAfter}
+use Rattle.dn_game.specs.Contents.{Contents}
+use Rattle.dn_game.specs.Represents.{Represents}
+use Rattle.dn_game.proofs.Moving.{places}
+use Rattle.dn_game.proofs.Refusing.{near_unless}
+use Rattle.dn_game.proofs.Standing.{flight_at, node_at, made_at}
+
+delivers_to : {W S : Type 0} (state : W → S) (rules : Rules S) (g : Contents W) (m : machine.Game) (which : ℕ) (flight : exact.Flight) (to : ℕ) (n : Node W) (heard : Heard)
+    → Represents state rules g m → slice_get m.flights which ≡ Some flight → to ≡ flight.to → to < length g.nodes
+    → step.IsAfter state rules to (node.contents n) (on_packet rules to (m.nodes to) flight) (λ x. heard ≡ x)
+    → IsAfter state rules (record g { nodes = set g.nodes to n }) (delivered rules m (slice_get m.flights which)) (Done.Heard heard)
+delivers_to {W} {S} state rules g m which flight to n heard r there is below after =
+    let P : Option exact.Flight → Type 0 = λ x. IsAfter state rules (record g { nodes = set g.nodes to n }) (delivered rules m x) (Done.Heard heard) in
+    let Q : ℕ → Type 0 = λ k. IsAfter state rules (record g { nodes = set g.nodes to n })
+        (machine.with_node m k (on_packet rules k (m.nodes k) flight).0, Done.Heard (on_packet rules k (m.nodes k) flight).1) (Done.Heard heard) in
+    subst P (sym there) (subst Q is (record { game = places state rules g m to n _ r below after.node; answered = ap Done.Heard after.answer }))
+
+-- a node hears the packets of near flights exactly
+abbrev pub Hears : {W S : Type 0} → (W → S) → Physics S → Node W → Node W → ℕ → List ℕ → Heard → Type 0
+Hears state physics old new from bytes heard =
+    (flight : exact.Flight) → IsFair flight → bytes ≡ text (packet_of flight) → flight.from ≡ from → from < old.players → from ≢ old.me
+    → is_near (count_of (node.contents old).rings old.me) flight ≡ true
+    → Steps state physics (node.contents old) (node.contents new) (λ rules me m. on_packet rules me m flight) (λ x. heard ≡ x)
+
+pub delivers : {W S : Type 0} (state : W → S) (physics : Physics S) (players : ℕ) (extra : Bool) (limit : ℕ) (g : Contents W) (m : machine.Game)
+    (r : Represents state (rules_of physics players extra limit) g m) (which : ℕ) (f : Flight) → which < length g.flights → f ≡ slice_index_or g.flights which f
+    → refused_flight m (slice_get m.flights which) ≡ None
+    → (to : ℕ) (old new : Node W) (bytes : List ℕ) (heard : Heard) → to ≡ f.to → old ≡ slice_index_or g.nodes to old → bytes ≡ f.bytes.items
+    → Hears state physics old new f.from bytes heard
+    → IsAfter state (rules_of physics players extra limit) (record g { nodes = set g.nodes to new })
+    (delivered (rules_of physics players extra limit) m (slice_get m.flights which)) (Done.Heard heard)
+delivers state physics players extra limit g m r which f below read free to old new bytes heard is_to is_old is_bytes hears =
+    let rules = rules_of physics players extra limit in
+    let at = flight_at state rules g m r which f below read in
+    let flight = at.0 in
+    let goes : to ≡ flight.to = is_to ∙ ap (λ (x : Flight). x.to) at.1.is in
+    let comes : f.from ≡ flight.from = ap (λ (x : Flight). x.from) at.1.is in
+    let inside : to < length g.nodes = let a = at.1.carried.to in omega (arith, a, goes, r.players) in
+    let shown = node_at state rules g m r to old inside is_old in
+    let same : count_of (node.contents old).rings old.me ≡ count_of (node.contents old).rings old.me = refl in
+    let count = made_at state rules g m r to _ old inside is_old same ∙ ap (λ (k : ℕ). made k (m.nodes k)) goes in
+    delivers_to state rules g m which flight to new heard r at.1.there goes inside
+    (hears flight at.1.carried.fair (is_bytes ∙ ap (λ (x : Flight). x.bytes.items) at.1.is) (sym comes)
+    (let a = at.1.carried.from in omega (arith, a, comes, shown.players)) (λ e. at.1.carried.apart (sym comes ∙ e ∙ shown.number ∙ goes))
+    (ap (λ (k : ℕ). is_near k flight) count ∙ near_unless m which flight at.1.there free)
+    players extra limit to (m.nodes to) shown)
