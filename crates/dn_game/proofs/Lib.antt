@@ -18,3 +18,4 @@ pub mod Moving
 pub mod Posting
 pub mod Applying
 pub mod Delivering
+pub mod Sending
