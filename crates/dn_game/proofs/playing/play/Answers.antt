@@ -1,11 +1,28 @@
-use Rattle.std.proofs.Common.{List, take, length, subst, arith}
-use Rattle.std.proofs.lemmas.List.{take_all}
+use Rattle.std.proofs.Common.{List, [], ◌∷◌, ◌++◌, take, length, ap, sym, ◌∙◌, subst, arith}
+use Rattle.std.proofs.lemmas.List.{take_all, take_more}
 use Rattle.dn_machine.specs.declared.events.Event.{Event}
 use Rattle.dn_machine.specs.Worlds.{rules_of}
 use Rattle.dn_game.specs.Played.{IsPlayed}
+use Rattle.dn_game.proofs.Answering.{played_more}
 use Rattle.dn_game.proofs.Agreeing.{agreed}
 use Rattle.dn_game.proofs.Promising.{played_reached, reached_promised}
 use Rattle.dn_game.proofs.playing.play.Goals as goal
+
+pub loop-event-preserved : goal.loop-event-preserved
+loop-event-preserved g c =
+    let before = c.loop-event.invariant in
+    let config = c.args.config in
+    let events = c.args.events.now in
+    let done = c.loop-event.event-index in
+    let one = c.apply.ensures.applied in
+    let longer = take_more events done c.event-item.result c.loop-event-test.true
+        ∙ ap (λ (event : Event). take done events ++ event ∷ []) (sym c.event-item.is) in
+    let P : List Event → Type 0 = λ es. IsPlayed g.W.World.state (rules_of g.W.World.physics (length c.args.worlds.items) config.extra config.limit) config.settings es c.apply.new.self in (
+      omega (arith, c.apply.ensures.counted, before.0),
+      subst P (sym longer)
+      (played_more _ _ config.settings (take done events) _ one.answer c.loop-event.played c.apply.new.self before.1
+      (one.applied _ _ _ before.1.last before.1.game) one.done one.refused)
+    )
 
 whole : (g : _) (c : goal.After-loop-event g)
     → IsPlayed g.W.World.state (rules_of g.W.World.physics (length c.args.worlds.items) c.args.config.extra c.args.config.limit)

@@ -1,4 +1,4 @@
-use Rattle.std.proofs.Common.{◌≡◌, ◌++◌, ◌∷◌, [], ◌⊎◌, ◌<◌, length, inl, inr, refl, ap, sym, ◌∙◌, List, All}
+use Rattle.std.proofs.Common.{◌≡◌, ◌++◌, ◌∷◌, [], ◌⊎◌, ◌<◌, length, inl, inr, refl, ap, sym, ◌∙◌, List, All, ◌≤◌, arith}
 use Rattle.std.specs.Prelude.{is_ok}
 use Rattle.std.proofs.lemmas.List.{length-set}
 use Rattle.dn_machine.specs.declared.events.Done.{Done}
@@ -29,6 +29,11 @@ pub invariant_of-self-2-clause-receivers : goal.invariant_of-self-2-clause-recei
 invariant_of-self-2-clause-receivers g c =
     let n = c.args.self.now in
     still_below _ (length n.nodes.items) _ _ _ _ _ c.push.ensures.items c.in-Ok.ensures.items n.receivers c.requires.to (length-set n.nodes.items c.args.node c.packet.new.self)
+
+pub invariant_of-self-2-clause-few : goal.invariant_of-self-2-clause-few
+invariant_of-self-2-clause-few g c =
+    let n = c.args.self.now in
+    omega (arith, length-set n.nodes.items c.args.node c.packet.new.self, n.few)
 
 pub returns-clause-sent : goal.returns-clause-sent
 returns-clause-sent g c players extra limit m r =
