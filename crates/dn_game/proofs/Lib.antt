@@ -19,3 +19,5 @@ pub mod Posting
 pub mod Applying
 pub mod Delivering
 pub mod Sending
+pub mod Following
+pub mod NeverStopping

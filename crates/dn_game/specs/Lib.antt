@@ -11,3 +11,4 @@ pub mod Schedule
 pub mod ScriptWords
 pub mod ScriptLines
 pub mod Script
+pub mod Stormed

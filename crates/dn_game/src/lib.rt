@@ -9,6 +9,7 @@ mod played;
 mod playing;
 mod schedule;
 mod script;
+mod storming;
 
 pub use config::{GameConfig, GameFault};
 pub use dn_machine::{Done, Event, Refusal};
@@ -19,3 +20,4 @@ pub use played::Played;
 pub use playing::play;
 pub use schedule::Schedule;
 pub use script::{ScriptFault, read_script};
+pub use storming::storm;

@@ -1,0 +1,75 @@
+-- A schedule stops nobody.
+use Rattle.std.proofs.Common.{◌≡◌, ◌≢◌, ℕ, Bool, true, false, cond, List, [], ◌∷◌, Option, Some, None, Result, refl, ap, sym, ◌∙◌, subst, inl, inr}
+use Rattle.std.specs.Prelude.{nat_lt, slice_get}
+use Rattle.std.specs.Option.{option_map}
+use Rattle.std.proofs.lemmas.Option.{same_Some}
+use Rattle.rand_pcg.specs.Lcg.{Lcg}
+use Rattle.dn_machine.specs.declared.events.Done.{Done}
+use Rattle.dn_machine.specs.declared.events.Event.{Event}
+use Rattle.dn_machine.specs.declared.events.Event.TheVariants.{Build, Send, Deliver, Run, Quit, Stop}
+use Rattle.dn_machine.specs.declared.events.Refusal.{Refusal}
+use Rattle.dn_machine.specs.Flight.{Flight}
+use Rattle.dn_machine.specs.Game.{Game, refused, posted, delivered, on_event, applied, applied_if}
+use Rattle.dn_machine.specs.Worlds.{Rules}
+use Rattle.dn_game.specs.Played.{Answers}
+use Rattle.dn_game.specs.Schedule.{behind_three, event_of, scheduled}
+use Rattle.dn_game.specs.Stormed.{Follows}
+
+-- an event that stops a node
+abbrev stops : Event → Bool
+stops (Stop node) = true
+stops _ = false
+
+-- no event of three words is one
+choice : (b : Bool) (e f : Event) → stops e ≡ false → stops f ≡ false → stops (cond b e f) ≡ false
+choice true e f one other = one
+choice false e f one other = other
+
+event_moves : (players : ℕ) (game : Game) (a c node : ℕ) → stops (event_of players game a c node) ≡ false
+event_moves players game a c node =
+    choice _ _ _ refl (choice _ _ _ refl (choice _ _ _ (choice _ _ _ refl refl) refl))
+
+given_moves : (players : ℕ) (game : Game) (a c : ℕ) (node : Option ℕ) (event : Event)
+    → option_map (event_of players game a c) node ≡ Some event → stops event ≡ false
+given_moves players game a c None event e = absurd (cc)
+given_moves players game a c (Some node) event e = ap stops (sym (same_Some _ _ e)) ∙ event_moves players game a c node
+
+module _ {S : Type 0} (rules : Rules S) where
+  posts : (game : Game) (flight : Option Flight) → (posted game flight).0.stopped ≡ game.stopped
+  posts game None = refl
+  posts game (Some flight) = refl
+
+  delivers : (game : Game) (flight : Option Flight) → (delivered rules game flight).0.stopped ≡ game.stopped
+  delivers game None = refl
+  delivers game (Some flight) = refl
+
+  happens : (game : Game) (event : Event) → stops event ≡ false → (on_event rules game event).0.stopped ≡ game.stopped
+  happens game (Build node keys) e = refl
+  happens game (Send node to) e = posts _ _
+  happens game (Deliver which) e = delivers game (slice_get game.flights which)
+  happens game (Run node) e = refl
+  happens game (Quit node) e = refl
+  happens game (Stop node) e = absurd (cc)
+
+  applies : (game : Game) (event : Event) (refusal : Option Refusal) → stops event ≡ false
+      → (applied_if rules game event refusal).0.stopped ≡ game.stopped
+  applies game event (Some refusal) e = refl
+  applies game event None e = happens game event e
+
+  one_more : (game : Game) (event : Event) → stops event ≡ false → (applied rules game event).0.stopped ≡ game.stopped
+  unfolding applied
+  one_more game event e = applies game event (refused rules.players game event) e
+
+  answered : (game next : Game) (event : Event) (answer : Result Done Refusal) → stops event ≡ false → Answers rules game event answer next
+      → next.stopped ≡ game.stopped
+  answered game next event answer e (inl (same, told)) = ap (λ (g : Game). g.stopped) same ∙ one_more game event e
+  answered game next event answer e (inr (send, same, told)) = ap (λ (g : Game). g.stopped) same
+
+  pub nobody_stops : (generator : Lcg) (events : List Event) (answers : List (Result Done Refusal)) (rest : Lcg) (game last : Game)
+      → Follows rules generator game events answers rest last → last.stopped ≡ game.stopped
+  nobody_stops generator [] [] rest game last (left, same) = ap (λ (g : Game). g.stopped) same
+  nobody_stops generator [] (a ∷ answers) rest game last way = absurd way
+  nobody_stops generator (e ∷ events) [] rest game last way = absurd way
+  nobody_stops generator (e ∷ events) (a ∷ answers) rest game last (first, then, one, way) =
+      nobody_stops (behind_three generator) events answers rest then last way
+      ∙ answered game then e a (given_moves rules.players game _ _ _ e first) one

@@ -1,0 +1,10 @@
+use Rattle.std.proofs.Common.{◌≡◌, ◌+◌, ◌≤◌, length}
+use Rattle.dn_machine.specs.Worlds.{rules_of}
+use Rattle.dn_game.specs.Stormed.{IsStormed}
+use Rattle.dn_game.proofs.storming.storm.Given as goal
+
+abbrev pub invariant-loop : goal.invariant-loop
+invariant-loop g l =
+    (l.played.done + l.played.refused ≡ l.counter)
+    × ((s : IsStormed g.W.World.state (rules_of g.W.World.physics (length l.fn.worlds.items) l.fn.config.extra l.fn.config.limit)
+        l.fn.config.settings l.seed l.counter l.played) × (s.rest ≡ l.schedule))

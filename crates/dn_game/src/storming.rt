@@ -1,0 +1,49 @@
+//! A storm: a game under the events of a schedule.
+
+ghost use Rattle.std.specs.Prelude.{◌≡◌, List, length, IfOk};
+ghost use Rattle.dn_machine.specs.declared.events.Event.{Event};
+ghost use Rattle.dn_machine.specs.Worlds.{rules_of};
+ghost use Rattle.dn_game.specs.Agreed.{AreAgreed};
+ghost use Rattle.dn_game.specs.Contents.{contents};
+ghost use Rattle.dn_game.specs.Opening.{IsAdmitted};
+ghost use Rattle.dn_game.specs.Promised.{IsPromised};
+ghost use Rattle.dn_game.specs.Stormed.{IsStormed};
+
+use crate::config::{GameConfig, GameFault};
+use crate::game::Game;
+use crate::played::Played;
+use crate::schedule::Schedule;
+use dn_world::World;
+use std::alloc::Global;
+
+/// Applies the first `count` events that the schedule of the seed gives, each for the game so far.
+/// What is promised of `play` holds here too.
+pub fn storm<W: World>(
+    alloc: Global,
+    config: GameConfig,
+    worlds: Vec<W>,
+    seed: u64,
+    count: u32,
+) -> Result<Played<W>, GameFault>
+    ensures admitted { IsAdmitted config (length worlds.items) result }
+    ensures stormed { IfOk result (λ played. IsStormed W.state
+        (rules_of W.physics (length worlds.items) config.extra config.limit) config.settings seed count played) }
+    ensures promised { IfOk result (λ played. (events : List Event) × IsPromised W.state
+        (rules_of W.physics (length worlds.items) config.extra config.limit) config.settings events (contents played.game)) }
+    ensures agreed { IfOk result (λ played. AreAgreed W.state
+        (rules_of W.physics (length worlds.items) config.extra config.limit) config.settings (contents played.game)) }
+{
+    let game = Game::new(alloc, config, worlds)?;
+    let mut played = Played {
+        game,
+        done: 0,
+        refused: 0,
+    };
+    let mut schedule = Schedule::new(seed);
+    for _ in 0..count {
+        if let Some(event) = schedule.next(&played.game) {
+            played.apply(event);
+        }
+    }
+    Ok(played)
+}
