@@ -33,7 +33,7 @@ delivers_to : {W S : Type 0} (state : W → S) (rules : Rules S) (g : Contents W
 delivers_to {W} {S} state rules g m which flight to n heard r there is below after =
     let P : Option exact.Flight → Type 0 = λ x. IsAfter state rules (record g { nodes = set g.nodes to n }) (delivered rules m x) (Done.Heard heard) in
     let Q : ℕ → Type 0 = λ k. IsAfter state rules (record g { nodes = set g.nodes to n })
-        (machine.with_node m k (on_packet rules k (m.nodes k) flight).0, Done.Heard (on_packet rules k (m.nodes k) flight).1) (Done.Heard heard) in
+    (machine.with_node m k (on_packet rules k (m.nodes k) flight).0, Done.Heard (on_packet rules k (m.nodes k) flight).1) (Done.Heard heard) in
     subst P (sym there) (subst Q is (record { game = places state rules g m to n _ r below after.node; answered = ap Done.Heard after.answer }))
 
 -- a node hears the packets of near flights exactly
@@ -52,7 +52,8 @@ pub delivers : {W S : Type 0} (state : W → S) (physics : Physics S) (players :
     (delivered (rules_of physics players extra limit) m (slice_get m.flights which)) (Done.Heard heard)
 delivers state physics players extra limit g m r which f below read free to old new bytes heard is_to is_old is_bytes hears =
     let rules = rules_of physics players extra limit in
-    let at = flight_at state rules g m r which f below read in
+    let they : g.flights ≡ g.flights = refl in
+    let at = flight_at state rules g m r g.flights they which f below read in
     let flight = at.0 in
     let goes : to ≡ flight.to = is_to ∙ ap (λ (x : Flight). x.to) at.1.is in
     let comes : f.from ≡ flight.from = ap (λ (x : Flight). x.from) at.1.is in

@@ -1,5 +1,5 @@
 -- A step of one node, in its place.
-use Rattle.std.proofs.Common.{◌≡◌, ◌<◌, ℕ, List, length, set, Some, Option, refl, ap, sym, ◌∙◌, subst, inl, inr}
+use Rattle.std.proofs.Common.{◌≡◌, ◌<◌, ℕ, length, set, Some, ap, sym, ◌∙◌, subst, inl, inr}
 use Rattle.std.specs.Prelude.{slice_get}
 use Rattle.std.proofs.lemmas.Bool.{cases_eq}
 use Rattle.std.proofs.lemmas.List.{length-set}

@@ -18,7 +18,7 @@ use Rattle.dn_node.specs.Sent.{aim_of}
 use Rattle.dn_game.specs.declared.flight.Flight.{Flight}
 use Rattle.dn_game.specs.Contents.{Contents}
 use Rattle.dn_game.specs.Represents.{Represents}
-use Rattle.dn_game.proofs.Standing.{made_at, flight_at}
+use Rattle.dn_game.proofs.Standing.{IsFlight, made_at, flight_at}
 
 -- a send to a player is refused as any event of its node is
 both_there : (node to stopped : Bool) → to ≡ true
@@ -50,32 +50,32 @@ module _ (m : machine.Game) (which : ℕ) (flight : exact.Flight) (there : slice
 
 -- the same of a game that represents it, whose receiver was asked how many commands it made
 module _ {W S : Type 0} (state : W → S) (rules : Rules S) (g : Contents W) (m : machine.Game) (r : Represents state rules g m)
-    (which : ℕ) (f : Flight) (below : which < length g.flights) (read : f ≡ slice_index_or g.flights which f)
+    (flights : List Flight) (they : flights ≡ g.flights) (which : ℕ) (f : Flight) (below : which < length flights) (read : f ≡ slice_index_or flights which f)
     (to : ℕ) (n : Node W) (is_to : to ≡ f.to) (is_n : n ≡ slice_index_or g.nodes to n)
     (count : ℕ) (counted : count ≡ count_of (node.contents n).rings (node.contents n).me)
     (far : Bool) (tested : (flight : exact.Flight) → f.aim ≡ aim_of flight → far ≡ not (is_near count flight)) where
-  goes_to : to ≡ (flight_at state rules g m r which f below read).0.to
-  goes_to = is_to ∙ ap (λ (x : Flight). x.to) (flight_at state rules g m r which f below read).1.is
+  sent : (flight : exact.Flight) × IsFlight m rules.players which f flight
+  sent = flight_at state rules g m r flights they which f below read
+
+  goes_to : to ≡ sent.0.to
+  goes_to = is_to ∙ ap (λ (x : Flight). x.to) sent.1.is
 
   there_is : to < rules.players
-  there_is = let inside = (flight_at state rules g m r which f below read).1.carried.to in omega (arith, inside, goes_to)
+  there_is = let inside = sent.1.carried.to in omega (arith, inside, goes_to)
 
-  tells_far : far ≡ not (is_near (made (flight_at state rules g m r which f below read).0.to (m.nodes (flight_at state rules g m r which f below read).0.to)) (flight_at state rules g m r which f below read).0)
+  tells_far : far ≡ not (is_near (made sent.0.to (m.nodes sent.0.to)) sent.0)
   tells_far =
-      let at = flight_at state rules g m r which f below read in
       let known = made_at state rules g m r to count n (omega (arith, there_is, r.players)) is_n counted ∙ ap (λ (k : ℕ). made k (m.nodes k)) goes_to in
-      tested at.0 (ap (λ (x : Flight). x.aim) at.1.is) ∙ ap (λ (k : ℕ). not (is_near k at.0)) known
+      tested sent.0 (ap (λ (x : Flight). x.aim) sent.1.is) ∙ ap (λ (k : ℕ). not (is_near k sent.0)) known
 
   pub told_far : far ≡ true → Some Refusal.Far ≡ refused_flight m (slice_get m.flights which)
-  told_far so =
-      let at = flight_at state rules g m r which f below read in is_refused_far m which at.0 at.1.there far tells_far so
+  told_far so = is_refused_far m which sent.0 sent.1.there far tells_far so
 
   pub told_near : far ≡ false → (place : ℕ) (stopped : Bool) → place ≡ f.to → stopped ≡ slice_index_or g.stopped place false
       → (if stopped then Some Refusal.Stopped else None) ≡ refused_flight m (slice_get m.flights which)
   told_near so place stopped there is =
-      let at = flight_at state rules g m r which f below read in
       let same = ap (λ (k : ℕ). slice_index_or g.stopped k false) (there ∙ sym is_to) in
-      is_refused_near m which at.0 at.1.there far tells_far so (if stopped then Some Refusal.Stopped else None)
+      is_refused_near m which sent.0 sent.1.there far tells_far so (if stopped then Some Refusal.Stopped else None)
       (ap (λ (b : Bool). if b then Some Refusal.Stopped else None) (is ∙ same ∙ r.stopped to there_is ∙ ap m.stopped goes_to))
 
 -- an event of one node

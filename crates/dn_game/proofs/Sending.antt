@@ -1,13 +1,11 @@
 -- What a node gives, and what joins the packets.
-use Rattle.std.proofs.Common.{◌≡◌, ◌≢◌, ◌<◌, ◌++◌, ◌∷◌, [], ℕ, Bool, true, false, cond, List, length, set, Option, Some, None, refl, ap, sym, ◌∙◌, subst, arith}
-use Rattle.std.specs.Prelude.{All, IfSome, nat_lt, if◌then◌else◌, slice_index_or}
+use Rattle.std.proofs.Common.{◌≡◌, ◌<◌, ◌++◌, ◌∷◌, [], ℕ, Bool, true, false, cond, List, length, set, Option, Some, None, refl, ap, sym, ◌∙◌, subst, arith}
+use Rattle.std.specs.Prelude.{All, IfSome, nat_lt, if◌then◌else◌}
 use Rattle.std.specs.Option.{option_map}
 use Rattle.std.proofs.lemmas.Bool.{lt-ltb, cond-true}
-use Rattle.std.proofs.lemmas.List.{length-set}
 use Rattle.std.proofs.lemmas.Option.{same_Some}
 use Rattle.arrayvec.specs.ArrayVec.{ArrayVec}
 use Rattle.dn_setup.specs.Settings.{Settings}
-use Rattle.dn_world.specs.Physics.{Physics}
 use Rattle.dn_machine.specs.declared.answers.Phase.{Phase}
 use Rattle.dn_machine.specs.declared.answers.Phase.TheVariants.{Listening, Gathering, Playing, Ended}
 use Rattle.dn_machine.specs.declared.events.Done.{Done}
@@ -17,7 +15,7 @@ use Rattle.dn_machine.specs.Game as machine
 use Rattle.dn_machine.specs.Game.{on_event, posted, with_node}
 use Rattle.dn_machine.specs.Node as machine_node
 use Rattle.dn_machine.specs.Sending.{on_send, on_send_in, set_up_flight}
-use Rattle.dn_machine.specs.Worlds.{Rules, rules_of}
+use Rattle.dn_machine.specs.Worlds.{Rules}
 use Rattle.dn_node.specs.declared.node.Node.{Node}
 use Rattle.dn_node.specs.declared.node.sending.Aim.{Aim}
 use Rattle.dn_node.specs.Contents as node
@@ -26,8 +24,7 @@ use Rattle.dn_node.specs.Near.{IsFair}
 use Rattle.dn_node.specs.Represents as node_to
 use Rattle.dn_node.specs.Sent.{sent_to, aim_of, bytes_of}
 use Rattle.dn_node.specs.Steps as step
-use Rattle.dn_node.proofs.After.{along}
-use Rattle.dn_node.proofs.Giving.{none_sent, no_flight, some_flight}
+use Rattle.dn_node.proofs.Giving.{some_flight}
 use Rattle.dn_node.proofs.Sending.{sends_in}
 use Rattle.dn_game.specs.declared.flight.Flight.{Flight}
 use Rattle.dn_game.specs.Applied.{IsAfter}
@@ -90,7 +87,7 @@ module _ {W S : Type 0} (state : W → S) (rules : Rules S) (g : Contents W) (m 
       → IsAfter state rules (record g { nodes = set g.nodes me new; flights = flights }) (on_event rules m (Send me to)) done
   sends_if done is =
       let P : machine_node.Node × Option exact.Flight → Type 0 =
-          λ x. IsAfter state rules (record g { nodes = set g.nodes me new; flights = flights }) (posted (with_node m me x.0) x.1) done in
+      λ x. IsAfter state rules (record g { nodes = set g.nodes me new; flights = flights }) (posted (with_node m me x.0) x.1) done in
       subst P asked is
 
   pub sends_none : node_to.Represents state rules me (node.contents new) (sent_to to rules me (m.nodes me)).0
@@ -118,7 +115,7 @@ module _ {W S : Type 0} (state : W → S) (rules : Rules S) (g : Contents W) (m 
       let carried = carries state rules me to old (m.nodes me) shown gives flight some.1 (omega (arith, below, r.players)) (subst P some.1 fair) in
       let ends = given_between state rules me to old (m.nodes me) shown gives flight some.1 in
       let is : ◌≡◌ {A = Flight} (record { from = me; to = to; aim = aim; bytes = bytes }) (flight_of flight) =
-          λ k. record { from = sym ends.0 k; to = sym ends.1 k; aim = numbers k; bytes = record { items = some.2 k } } in
+      λ k. record { from = sym ends.0 k; to = sym ends.1 k; aim = numbers k; bytes = record { items = some.2 k } } in
       sends_if (Done.Sent which) (posts_some state rules (record g { nodes = set g.nodes me new }) (with_node m me sent.0)
       (places state rules g m me new sent.0 r below after.node) sent.1 flights flight some.1 _ is carried more which last)
 

@@ -1,5 +1,5 @@
 -- What stands where in a game that represents one of the machine.
-use Rattle.std.proofs.Common.{◌≡◌, ◌<◌, ℕ, Option, Some, List, length, refl, ap, sym, ◌∙◌, arith}
+use Rattle.std.proofs.Common.{◌≡◌, ◌<◌, ℕ, Some, List, length, refl, ap, sym, ◌∙◌}
 use Rattle.std.specs.Prelude.{slice_get, slice_index_or}
 use Rattle.std.proofs.lemmas.Option.{slice_get-map, slice_get_read}
 use Rattle.dn_machine.specs.Flight as exact
@@ -35,11 +35,11 @@ module _ {W S : Type 0} (state : W → S) (rules : Rules S) (g : Contents W) (m 
   made_at i count n h is c = c ∙ made_is state rules i (node.contents n) (m.nodes i) (node_at i n h is) n.me_below
 
   -- a packet that was sent is that of a flight
-  pub flight_at : (which : ℕ) (f : Flight) → which < length g.flights → f ≡ slice_index_or g.flights which f
+  pub flight_at : (flights : List Flight) → flights ≡ g.flights → (which : ℕ) (f : Flight) → which < length flights → f ≡ slice_index_or flights which f
       → (flight : exact.Flight) × IsFlight m rules.players which f flight
-  flight_at which f h read =
-      let same : length g.flights ≡ length g.flights = refl in
-      let at = slice_get_read g.flights (length g.flights) which f same h read in
+  flight_at flights they which f h read =
+      let same : length flights ≡ length flights = refl in
+      let at = slice_get_read flights (length flights) which f same h read in
       let found = some_flight flight_of f (slice_get m.flights which)
-          (sym at ∙ ap (λ (fs : List Flight). slice_get fs which) r.flights ∙ slice_get-map flight_of m.flights which) in
+      (sym at ∙ ap (λ (fs : List Flight). slice_get fs which) (they ∙ r.flights) ∙ slice_get-map flight_of m.flights which) in
       (found.0, record { there = found.1; is = found.2; carried = all_at (IsCarried rules.players) m.flights which found.0 r.carried found.1 })

@@ -59,9 +59,8 @@ impl<W: World> Game<W> {
         ensures there { result ≡ None → IsAddressed (contents self.now) event }
     {
         match event {
-            Event::Build { node, .. } | Event::Run(node) | Event::Quit(node) | Event::Stop(node) => {
-                self.refused_at(node)
-            }
+            Event::Build { node, .. } | Event::Run(node) | Event::Quit(node) | Event::Stop(node) =>
+                { self.refused_at(node) }
             Event::Send { to, .. } if !self.is_player(to) => Some(Refusal::NoNode),
             Event::Send { node, .. } => self.refused_at(node),
             Event::Deliver(which) => self.refused_flight(which),

@@ -1,7 +1,5 @@
 use Rattle.std.proofs.Common.{◌≡◌, true, ℕ, ap, sym, ◌∙◌}
 use Rattle.std.specs.Prelude.{nat_lt}
-use Rattle.dn_machine.specs.declared.events.Event.{Event}
-use Rattle.dn_machine.specs.declared.events.Event.TheVariants.{Send}
 use Rattle.dn_machine.specs.Game.{refused}
 use Rattle.dn_game.proofs.Refusing.{refused_send, refused_own}
 use Rattle.dn_game.proofs.game.Game.refused.Goals as goal
@@ -11,7 +9,7 @@ pub returns-in-Send-2-clause-told : goal.returns-in-Send-2-clause-told
 returns-in-Send-2-clause-told g c players extra limit m r =
     let same : c.in-Send.to ≡ c.in-Send-2.to = cc in
     let there : nat_lt c.in-Send-2.to players ≡ true =
-        ap (λ (k : ℕ). nat_lt k players) (sym same) ∙ sym (ap (nat_lt c.in-Send.to) r.players) ∙ sym c.is_player.ensures ∙ c.if-not-is_player.false in
+    ap (λ (k : ℕ). nat_lt k players) (sym same) ∙ sym (ap (nat_lt c.in-Send.to) r.players) ∙ sym c.is_player.ensures ∙ c.if-not-is_player.false in
     c.refused_at.ensures.told players extra limit m r ∙ refused_send players m _ _ there ∙ ap (refused players m) (sym c.in-Send-2.is)
 
 pub returns-in-Deliver-clause-told : goal.returns-in-Deliver-clause-told

@@ -1,4 +1,4 @@
-use Rattle.std.proofs.Common.{◌≡◌, ◌++◌, ◌∷◌, [], ◌⊎◌, ◌<◌, length, inl, inr, refl, ap, sym, ◌∙◌, List, All, ◌≤◌, arith}
+use Rattle.std.proofs.Common.{length, inl, refl, ap, ◌∙◌, arith}
 use Rattle.std.specs.Prelude.{is_ok}
 use Rattle.std.proofs.lemmas.List.{length-set}
 use Rattle.dn_machine.specs.declared.events.Done.{Done}
@@ -6,7 +6,6 @@ use Rattle.dn_machine.specs.Worlds.{rules_of}
 use Rattle.dn_node.specs.Sent.{aim_of, bytes_of}
 use Rattle.dn_node.proofs.After.{along}
 use Rattle.dn_node.proofs.Giving.{none_sent, no_flight}
-use Rattle.dn_game.specs.declared.flight.Flight.{Flight}
 use Rattle.dn_game.proofs.Sending.{sends_none, sends_packet, still_below, took_one}
 use Rattle.dn_game.proofs.Standing.{node_at}
 use Rattle.dn_game.proofs.game.Game.send.Goals as goal
@@ -40,7 +39,11 @@ returns-clause-sent g c players extra limit m r =
     let rules = rules_of g.W.World.physics players extra limit in
     let shown = node_at _ rules _ m r _ _ c.requires.node c.index_mut-sender.ensures.value in
     let after = c.in-Some-packet.ensures.step players extra limit _ _ shown in
-    inl (Done.Sent c.len-which.result, refl, sends_packet _ rules _ m r _ _ c.requires.node c.requires.to _ _ _ _ _ _ shown c.in-Some.ensures.reach.1
-    (c.in-Some.ensures.step players extra limit _ _ shown).answer after (c.in-Some-packet.ensures.fair players extra limit _ _ shown).answer
-    (took_one _ _ _ _ _ c.push.ensures.items (ap is_ok c.unwrap.ensures) c.in-Ok.ensures.items)
-    (c.len-which.ensures ∙ c.in-Ok.ensures.len ∙ c.args.self.now.flights.ok.0))
+    inl (
+      Done.Sent c.len-which.result,
+      refl,
+      sends_packet _ rules _ m r _ _ c.requires.node c.requires.to _ _ _ _ _ _ shown c.in-Some.ensures.reach.1
+          (c.in-Some.ensures.step players extra limit _ _ shown).answer after (c.in-Some-packet.ensures.fair players extra limit _ _ shown).answer
+          (took_one _ _ _ _ _ c.push.ensures.items (ap is_ok c.unwrap.ensures) c.in-Ok.ensures.items)
+          (c.len-which.ensures ∙ c.in-Ok.ensures.len ∙ c.args.self.now.flights.ok.0),
+    )
