@@ -1,8 +1,7 @@
 -- What the nodes of a game tell of themselves agrees, since the machine's nodes that they represent do.
-use Rattle.std.proofs.Common.{◌≡◌, ◌≢◌, ◌<◌, ◌≤◌, ◌⊎◌, ℕ, zero, suc, ◌+◌, ◌-◌, Bool, true, false, List, [], ◌∷◌, ◌++◌, length, take, drop, Option, Some, None, refl, ap, sym, ◌∙◌, subst, inl, inr, arith, length-append, append-nil, append_assoc}
-use Rattle.std.specs.Prelude.{slice_get, if◌then◌else◌}
+use Rattle.std.proofs.Common.{◌≡◌, ◌<◌, ◌⊎◌, ℕ, Bool, true, false, List, [], ◌∷◌, ◌++◌, length, take, Option, Some, refl, ap, sym, ◌∙◌, subst, inl, inr, arith, length-append, append-nil}
+use Rattle.std.specs.Prelude.{if◌then◌else◌}
 use Rattle.std.specs.Option.{option_map}
-use Rattle.std.specs.List.{flat_map}
 use Rattle.std.proofs.lemmas.Option.{same_Some, slice_get_within}
 use Rattle.std.proofs.lemmas.Grind.{flat_map-append}
 use Rattle.std.proofs.Math.Seq.{take-append_seam}
@@ -10,14 +9,12 @@ use Rattle.dn_tic.specs.declared.command.Move.{Move}
 use Rattle.dn_setup.specs.Settings.{Settings}
 use Rattle.dn_setup.specs.Starts.{start_of}
 use Rattle.dn_setup.specs.declared.start.Start.{Start}
-use Rattle.dn_demo.specs.Text.{demo_text, header_size, marker, header, row_bytes, commands_of}
-use Rattle.dn_machine.specs.declared.answers.Phase.{Phase}
+use Rattle.dn_demo.specs.Text.{demo_text, marker, row_bytes, commands_of}
 use Rattle.dn_machine.specs.Worlds.{Rules, world}
 use Rattle.dn_machine.specs.Node as machine
 use Rattle.dn_machine.specs.Node.{world_after}
 use Rattle.dn_machine.specs.Game as game
 use Rattle.dn_machine.specs.Promise.{Agree, Fits, Steady, IsPrefixOf, keys_of}
-use Rattle.dn_node.specs.declared.node.Node.{Node}
 use Rattle.dn_node.specs.Contents as node
 use Rattle.dn_node.specs.Phases.{is_ended}
 use Rattle.dn_node.specs.Represents as node_to

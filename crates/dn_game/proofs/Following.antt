@@ -1,23 +1,18 @@
 -- One event more of a schedule.
-use Rattle.std.proofs.Common.{◌≡◌, ◌≢◌, ◌<◌, ◌≤◌, ◌+◌, ◌%◌, ◌^◌, ℕ, Bool, true, false, cond, List, [], ◌∷◌, ◌++◌, length, Option, Some, None, Result, Ok, Err, refl, ap, sym, ◌∙◌, subst, inl, inr, arith, length-append}
-use Rattle.std.specs.Prelude.{count_by, is_ok, is_err, nat_lt, slice_get, slice_index_or, ◌&&◌, is_none}
-use Rattle.std.specs.Option.{option_map}
+use Rattle.std.proofs.Common.{◌≡◌, ◌+◌, ℕ, cond, List, [], ◌∷◌, ◌++◌, length, Some, Result, refl, ap, sym, ◌∙◌, subst, length-append}
+use Rattle.std.specs.Prelude.{count_by, is_ok, is_err}
 use Rattle.std.proofs.lemmas.List.Sums.{sum_by-append}
 use Rattle.rand_pcg.specs.Lcg.{Lcg}
 use Rattle.dn_setup.specs.Settings.{Settings}
 use Rattle.dn_machine.specs.declared.events.Done.{Done}
 use Rattle.dn_machine.specs.declared.events.Event.{Event}
-use Rattle.dn_machine.specs.declared.events.Event.TheVariants.{Build, Send, Deliver, Run, Quit, Stop}
 use Rattle.dn_machine.specs.declared.events.Refusal.{Refusal}
-use Rattle.dn_machine.specs.Flight.{Flight}
-use Rattle.dn_machine.specs.Game.{Game, opening_game, refused, refused_flight, posted, delivered, on_event, applied, applied_if}
+use Rattle.dn_machine.specs.Game.{Game, opening_game, refused}
 use Rattle.dn_machine.specs.Worlds.{Rules}
 use Rattle.dn_game.specs.Applied.{IsApplied}
-use Rattle.dn_game.specs.Contents.{Contents, contents}
+use Rattle.dn_game.specs.Contents.{contents}
 use Rattle.dn_game.specs.Played.{Answers, Plays, IsPlayed}
-use Rattle.dn_game.specs.Represents.{Represents}
-use Rattle.dn_game.specs.Schedule.{behind_three, generator_of, first_moving, event_of, delivery_or_run, recent, scheduled}
-use Rattle.dn_game.specs.Stopped.{AllStopped}
+use Rattle.dn_game.specs.Schedule.{behind_three, generator_of, scheduled}
 use Rattle.dn_game.specs.Stormed.{Follows, IsStormed}
 use Rattle.dn_game.specs.declared.played.Played.{Played}
 use Rattle.dn_game.proofs.Answering.{answers_one}
@@ -29,18 +24,18 @@ module _ {S : Type 0} (rules : Rules S) where
   follows_more generator [] [] event answer rest game mid last (left, same) given next =
       let P : Game → Type 0 = λ g. Answers rules g event answer last in
       let Q : Game → Type 0 = λ g. scheduled rules.players g generator ≡ Some event in
-      (subst Q same (ap (scheduled rules.players mid) (sym left) ∙ given), last, subst P same next, ap behind_three left, refl)
+      (subst Q same (ap (scheduled rules.players mid) (sym left) ∙ given), (last, subst P same next, (ap behind_three left, refl)))
   follows_more generator [] (a ∷ answers) event answer rest game mid last way given next = absurd way
   follows_more generator (e ∷ events) [] event answer rest game mid last way given next = absurd way
-  follows_more generator (e ∷ events) (a ∷ answers) event answer rest game mid last (first, then, one, way) given next =
-      (first, then, one, follows_more (behind_three generator) events answers event answer rest then mid last way given next)
+  follows_more generator (e ∷ events) (a ∷ answers) event answer rest game mid last (first, (then, one, way)) given next =
+      (first, (then, one, follows_more (behind_three generator) events answers event answer rest then mid last way given next))
 
   pub follows_plays : (generator : Lcg) (events : List Event) (answers : List (Result Done Refusal)) (rest : Lcg) (game last : Game)
       → Follows rules generator game events answers rest last → Plays rules game events answers last
   follows_plays generator [] [] rest game last (left, same) = same
   follows_plays generator [] (a ∷ answers) rest game last way = absurd way
   follows_plays generator (e ∷ events) [] rest game last way = absurd way
-  follows_plays generator (e ∷ events) (a ∷ answers) rest game last (first, then, one, way) =
+  follows_plays generator (e ∷ events) (a ∷ answers) rest game last (first, (then, one, way)) =
       (then, one, follows_plays (behind_three generator) events answers rest then last way)
 
 pub stormed_played : {W S : Type 0} (state : W → S) (rules : Rules S) (settings : Settings) (seed count : ℕ) (played : Played W)

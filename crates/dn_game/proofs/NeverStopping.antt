@@ -1,6 +1,6 @@
 -- A schedule stops nobody.
-use Rattle.std.proofs.Common.{◌≡◌, ◌≢◌, ℕ, Bool, true, false, cond, List, [], ◌∷◌, Option, Some, None, Result, refl, ap, sym, ◌∙◌, subst, inl, inr}
-use Rattle.std.specs.Prelude.{nat_lt, slice_get}
+use Rattle.std.proofs.Common.{◌≡◌, ◌≤◌, ◌+◌, ◌-◌, ◌%◌, ◌^◌, length, arith, ℕ, Bool, true, false, cond, List, [], ◌∷◌, Option, Some, None, Result, refl, ap, sym, ◌∙◌, inl, inr}
+use Rattle.std.specs.Prelude.{nat_lt, slice_get, ◌&&◌, is_none}
 use Rattle.std.specs.Option.{option_map}
 use Rattle.std.proofs.lemmas.Option.{same_Some}
 use Rattle.rand_pcg.specs.Lcg.{Lcg}
@@ -9,11 +9,15 @@ use Rattle.dn_machine.specs.declared.events.Event.{Event}
 use Rattle.dn_machine.specs.declared.events.Event.TheVariants.{Build, Send, Deliver, Run, Quit, Stop}
 use Rattle.dn_machine.specs.declared.events.Refusal.{Refusal}
 use Rattle.dn_machine.specs.Flight.{Flight}
-use Rattle.dn_machine.specs.Game.{Game, refused, posted, delivered, on_event, applied, applied_if}
+use Rattle.dn_machine.specs.Game.{Game, opening_game, refused, refused_flight, posted, delivered, on_event, applied, applied_if}
 use Rattle.dn_machine.specs.Worlds.{Rules}
 use Rattle.dn_game.specs.Played.{Answers}
-use Rattle.dn_game.specs.Schedule.{behind_three, event_of, scheduled}
-use Rattle.dn_game.specs.Stormed.{Follows}
+use Rattle.dn_game.specs.Schedule.{word, behind, behind_three, generator_of, event_of, recent}
+use Rattle.dn_setup.specs.Settings.{Settings}
+use Rattle.dn_game.specs.Contents.{contents}
+use Rattle.dn_game.specs.Stopped.{AllStopped}
+use Rattle.dn_game.specs.Stormed.{Follows, IsStormed}
+use Rattle.dn_game.specs.declared.played.Played.{Played}
 
 -- an event that stops a node
 abbrev stops : Event → Bool
@@ -21,13 +25,20 @@ stops (Stop node) = true
 stops _ = false
 
 -- no event of three words is one
-choice : (b : Bool) (e f : Event) → stops e ≡ false → stops f ≡ false → stops (cond b e f) ≡ false
-choice true e f one other = one
-choice false e f one other = other
+any_of : (p q r s : Bool) (node keys to which : ℕ)
+    → stops (cond p (Build node keys) (cond q (Send node to) (cond r (cond s (Deliver which) (Run node)) (Run node)))) ≡ false
+any_of true q r s node keys to which = refl
+any_of false true r s node keys to which = refl
+any_of false false true true node keys to which = refl
+any_of false false true false node keys to which = refl
+any_of false false false s node keys to which = refl
 
 event_moves : (players : ℕ) (game : Game) (a c node : ℕ) → stops (event_of players game a c node) ≡ false
 event_moves players game a c node =
-    choice _ _ _ refl (choice _ _ _ refl (choice _ _ _ (choice _ _ _ refl refl) refl))
+    let count = length game.flights in
+    any_of (nat_lt (a % 16) 5) (nat_lt (a % 16) 9) (nat_lt (a % 16) 14)
+    (nat_lt 0 count && (nat_lt (recent count c) (2 ^ 32) && is_none (refused_flight game (slice_get game.flights (recent count c)))))
+    node (c % 2 ^ 18) ((node + 1 + c % (players - 1)) % players) (recent count c)
 
 given_moves : (players : ℕ) (game : Game) (a c : ℕ) (node : Option ℕ) (event : Event)
     → option_map (event_of players game a c) node ≡ Some event → stops event ≡ false
@@ -70,6 +81,23 @@ module _ {S : Type 0} (rules : Rules S) where
   nobody_stops generator [] [] rest game last (left, same) = ap (λ (g : Game). g.stopped) same
   nobody_stops generator [] (a ∷ answers) rest game last way = absurd way
   nobody_stops generator (e ∷ events) [] rest game last way = absurd way
-  nobody_stops generator (e ∷ events) (a ∷ answers) rest game last (first, then, one, way) =
+  nobody_stops generator (e ∷ events) (a ∷ answers) rest game last (first, (then, one, way)) =
       nobody_stops (behind_three generator) events answers rest then last way
-      ∙ answered game then e a (given_moves rules.players game _ _ _ e first) one
+      ∙ answered game then e a (given_moves rules.players game (word generator) (word (behind (behind generator))) _ e first) one
+
+opening_moves : (settings : Settings) (node : ℕ) → (opening_game settings).stopped node ≡ false
+unfolding opening_game
+opening_moves settings node = refl
+
+-- so after a storm not all have stopped
+pub storm_goes_on : {W S : Type 0} (state : W → S) (rules : Rules S) (settings : Settings) (seed count : ℕ) (played : Played W)
+    → IsStormed state rules settings seed count played → 2 ≤ length (contents played.game).nodes → AllStopped (contents played.game) → ⊥
+storm_goes_on state rules settings seed count played s two all =
+    let still = ap (λ (f : ℕ → Bool). f 0) (nobody_stops rules (generator_of seed) s.events s.answers s.rest (opening_game settings) s.last s.follows)
+        ∙ opening_moves settings 0 in
+    let stopped = all 0 (omega (arith, two)) in
+    let shown = s.game.stopped 0 (omega (arith, two, s.game.players)) in
+    no_both _ stopped (shown ∙ still)
+  where
+    no_both : (b : Bool) → b ≡ true → b ≡ false → ⊥
+    no_both b true_is false_is = let e : true ≡ false = sym true_is ∙ false_is in absurd (cc)

@@ -1,5 +1,5 @@
 -- When a game represents a game of the machine.
-use Rattle.std.specs.Prelude.{◌≡◌, ◌≢◌, ◌<◌, ℕ, false, List, length, map, All, slice_get, slice_index_or, Some}
+use Rattle.std.specs.Prelude.{◌≡◌, ◌≢◌, ◌<◌, ℕ, false, length, map, All, slice_get, slice_index_or, Some}
 use Rattle.dn_machine.specs.Flight as exact
 use Rattle.dn_machine.specs.Game as machine
 use Rattle.dn_machine.specs.Worlds.{Rules}

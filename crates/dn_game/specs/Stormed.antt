@@ -1,5 +1,5 @@
 -- A game that has played the events of a schedule.
-use Rattle.std.specs.Prelude.{◌≡◌, ℕ, List, [], ◌∷◌, length, count_by, Option, Some, Result, is_ok, is_err}
+use Rattle.std.specs.Prelude.{◌≡◌, ℕ, List, [], ◌∷◌, length, count_by, Some, Result, is_ok, is_err}
 use Rattle.rand_pcg.specs.Lcg.{Lcg}
 use Rattle.dn_setup.specs.Settings.{Settings}
 use Rattle.dn_machine.specs.declared.events.Done.{Done}

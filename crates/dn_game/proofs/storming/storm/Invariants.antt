@@ -1,4 +1,4 @@
-use Rattle.std.proofs.Common.{◌≡◌, ◌+◌, ◌≤◌, length}
+use Rattle.std.proofs.Common.{◌≡◌, ◌+◌, length}
 use Rattle.dn_machine.specs.Worlds.{rules_of}
 use Rattle.dn_game.specs.Stormed.{IsStormed}
 use Rattle.dn_game.proofs.storming.storm.Given as goal

@@ -1,4 +1,4 @@
-use Rattle.std.proofs.Common.{◌≡◌, ◌≤◌, ◌+◌, ℕ, length}
+use Rattle.std.proofs.Common.{◌≡◌, ◌+◌, length}
 use Rattle.dn_machine.specs.Worlds.{rules_of}
 use Rattle.dn_game.specs.Fresh.{AreFresh}
 use Rattle.dn_game.proofs.game.opening.nodes_of.Given as goal

@@ -1,8 +1,6 @@
-use Rattle.std.proofs.Common.{◌≡◌, ◌%◌, ℕ, Option, Some, None, ap, sym, ◌∙◌, arith}
-use Rattle.std.specs.Option.{option_map}
-use Rattle.rand_pcg.specs.Lcg.{Lcg}
+use Rattle.std.proofs.Common.{Some, None, ap, ◌∙◌, arith}
 use Rattle.dn_machine.specs.Worlds.{rules_of}
-use Rattle.dn_game.specs.Schedule.{event_of, scheduled}
+use Rattle.dn_game.specs.Schedule.{scheduled}
 use Rattle.dn_game.proofs.Scheduling.{of_words, event_by}
 use Rattle.dn_game.proofs.schedule.Schedule.next.Goals as goal
 
