@@ -1,0 +1,206 @@
+//! Tests of requests for commands, and of what packets carry again.
+
+use super::{IDLE, LIMIT, NO_KEYS, STILL, datagram, opened, pair, pass, tics};
+use crate::{Aim, Heard, Made, Node};
+use dn_packet::RETRANSMIT;
+use dn_tic::{Keys, TicCmd};
+use dn_world::Walk;
+use std::alloc::Global;
+use std::process::Abort;
+use std::test::Fail;
+
+/// Two nodes that built and ran so many tics.
+fn at_tic(alloc: Global, count: u32) -> Result<(Node<Walk>, Node<Walk>), Fail> {
+    let (mut key, mut other) = pair(alloc, false)?;
+    tics(&mut key, &mut other, count, IDLE);
+    Ok((key, other))
+}
+
+/// Hands a node a request of player 1, in a packet with nothing new.
+fn ask(node: &mut Node<Walk>, tic: u8) -> Heard {
+    let start = (node.got(1).unwrap_or(0) % 256) as u8;
+    node.receive(1, datagram(RETRANSMIT, (tic, start, 1), &[]).as_slice())
+}
+
+/// Compares the start and the count of the next packet to player 1, by its numbers and by its bytes.
+fn sends(rt: &impl Abort, node: &mut Node<Walk>, start: u32, count: u8) {
+    let aim = Aim {
+        flags: 0,
+        ask: None,
+        start,
+        count,
+    };
+    assert_eq!(rt; node.aim(1), Some(aim));
+    match node.packet(1) {
+        Some(bytes) => {
+            assert_eq!(rt; bytes.len(), 8 + 8 * usize::from(count));
+            assert!(rt; bytes.len() >= 8);
+            let bytes = bytes.as_slice();
+            assert_eq!(rt; (bytes[4], u32::from(bytes[5]), bytes[7]), (0, start % 256, count));
+        }
+        None => panic!(rt; "no packet"),
+    }
+}
+
+#[test]
+fn requests_within_the_last_twelve_are_met(rt: HostRuntime) -> Result<(), Fail> {
+    // commands made, the ask byte, and the first command of the next packet
+    for (made, byte, start) in [
+        (30, 17, 30),
+        (30, 18, 18),
+        (30, 29, 29),
+        (30, 30, 30),
+        (30, 31, 30),
+        (30, 94, 30),
+        (30, 222, 30),
+        (5, 0, 0),
+        (5, 5, 5),
+        (5, 6, 5),
+        (5, 255, 5),
+        (260, 254, 254),
+        (260, 248, 248),
+        (260, 247, 260),
+        (260, 4, 260),
+        (260, 5, 260),
+    ] {
+        let (mut key, _) = at_tic(rt.alloc(), made)?;
+        assert_eq!(rt; key.made(), made);
+        assert_eq!(rt; ask(&mut key, byte), Heard::Stale, "made {made}, ask {byte}");
+        let count = (made.saturating_sub(start) % 256) as u8;
+        sends(&rt, &mut key, start, count);
+        // then the next packet has nothing to repeat
+        sends(&rt, &mut key, made, 0);
+    }
+    Ok(())
+}
+
+#[test]
+fn a_met_request_stands_for_ten_packets(rt: HostRuntime) -> Result<(), Fail> {
+    let (mut key, _) = at_tic(rt.alloc(), 30)?;
+    assert_eq!(rt; ask(&mut key, 18), Heard::Stale);
+    sends(&rt, &mut key, 18, 12);
+    for _ in 0..10 {
+        assert_eq!(rt; ask(&mut key, 20), Heard::Stale);
+        sends(&rt, &mut key, 30, 0);
+    }
+    assert_eq!(rt; ask(&mut key, 20), Heard::Stale);
+    sends(&rt, &mut key, 20, 10);
+    assert_eq!(rt; ask(&mut key, 20), Heard::Stale);
+    sends(&rt, &mut key, 30, 0);
+    Ok(())
+}
+
+/// A hold falls with every packet that is not dropped, and with no other.
+#[test]
+fn dropped_packets_do_not_count(rt: HostRuntime) -> Result<(), Fail> {
+    let (mut key, _) = at_tic(rt.alloc(), 30)?;
+    assert_eq!(rt; ask(&mut key, 18), Heard::Stale);
+    sends(&rt, &mut key, 18, 12);
+    let stop = TicCmd {
+        forward: -128,
+        ..STILL
+    };
+    let strange = datagram(0, (0, 30, 0), &[]);
+    let late = datagram(0, (0, 31, 1), &[STILL; 12]);
+    let stops = datagram(RETRANSMIT, (18, 30, 1), &[stop]);
+    for _ in 0..12 {
+        assert_eq!(rt; key.receive(1, strange.as_slice()), Heard::Dropped(5));
+        assert_eq!(rt; key.receive(1, late.as_slice()), Heard::Dropped(12));
+        assert_eq!(rt; key.receive(1, stops.as_slice()), Heard::Dropped(11));
+    }
+    assert_eq!(rt; ask(&mut key, 20), Heard::Stale);
+    sends(&rt, &mut key, 30, 0);
+    // one more was heard just now; eight are stale, of a gap, or new, and the next is met
+    let stale = datagram(0, (0, 20, 1), &[STILL; 4]);
+    let gap = datagram(0, (0, 35, 1), &[]);
+    for _ in 0..4 {
+        assert_eq!(rt; key.receive(1, stale.as_slice()), Heard::Stale);
+        assert_eq!(rt; key.receive(1, gap.as_slice()), Heard::Gap);
+    }
+    let new = datagram(RETRANSMIT, (20, 30, 1), &[STILL]);
+    assert_eq!(rt; key.receive(1, new.as_slice()), Heard::Taken(1));
+    sends(&rt, &mut key, 30, 0);
+    let met = datagram(RETRANSMIT, (20, 31, 1), &[STILL]);
+    assert_eq!(rt; key.receive(1, met.as_slice()), Heard::Taken(1));
+    sends(&rt, &mut key, 20, 10);
+    Ok(())
+}
+
+#[test]
+fn a_packet_may_repeat_the_last_command(rt: HostRuntime) -> Result<(), Fail> {
+    let (mut key, _) = pair(rt.alloc(), true)?;
+    sends(&rt, &mut key, 0, 0);
+    for (built, start, count) in [(1, 0, 1), (1, 0, 2), (0, 1, 1), (0, 1, 1), (2, 1, 3), (0, 3, 1)] {
+        for _ in 0..built {
+            let _ = key.build(Keys::from_bits(NO_KEYS));
+        }
+        sends(&rt, &mut key, start, count);
+    }
+    Ok(())
+}
+
+#[test]
+fn each_command_goes_out_once(rt: HostRuntime) -> Result<(), Fail> {
+    let (mut key, _) = pair(rt.alloc(), false)?;
+    sends(&rt, &mut key, 0, 0);
+    for (built, start, count) in [(1, 0, 1), (1, 1, 1), (0, 2, 0), (3, 2, 3), (0, 5, 0)] {
+        for _ in 0..built {
+            let _ = key.build(Keys::from_bits(NO_KEYS));
+        }
+        sends(&rt, &mut key, start, count);
+    }
+    Ok(())
+}
+
+/// A peer that was given nothing for more than twelve commands is given the newest alone.
+#[test]
+fn what_is_too_old_is_not_sent(rt: HostRuntime) -> Result<(), Fail> {
+    for (extra, behind, start, count) in [
+        (false, 12, 0, 12),
+        (false, 13, 13, 0),
+        (false, 20, 20, 0),
+        (true, 12, 0, 12),
+        (true, 13, 12, 1),
+        (true, 20, 19, 1),
+    ] {
+        let mut key = opened(rt.alloc(), (2, 0), extra, LIMIT, Walk::new())?;
+        assert_eq!(rt; key.receive(1, datagram(0, (0, 0, 1), &[]).as_slice()), Heard::Started);
+        for tic in 0..behind {
+            let low = (tic % 256) as u8;
+            let bytes = datagram(0, (0, low, 1), &[STILL]);
+            assert_eq!(rt; key.build(Keys::from_bits(NO_KEYS)), Made::Made(tic));
+            assert_eq!(rt; key.receive(1, bytes.as_slice()), Heard::Taken(1));
+            let _ = key.run();
+        }
+        sends(&rt, &mut key, start, count);
+    }
+    Ok(())
+}
+
+/// A node that misses commands asks for them until they come.
+#[test]
+fn a_gap_is_asked_for(rt: HostRuntime) -> Result<(), Fail> {
+    let (mut key, mut other) = at_tic(rt.alloc(), 3)?;
+    let _ = other.build(Keys::from_bits(NO_KEYS));
+    let lost = other.packet(0).ok_or("no packet")?;
+    assert_eq!(rt; lost.len(), 16);
+    let _ = other.build(Keys::from_bits(NO_KEYS));
+    assert_eq!(rt; pass(&mut other, &mut key), Some(Heard::Gap));
+    let asks = Aim {
+        flags: RETRANSMIT,
+        ask: Some(3),
+        start: 3,
+        count: 0,
+    };
+    assert_eq!(rt; key.aim(1), Some(asks));
+    assert_eq!(rt; pass(&mut key, &mut other), Some(Heard::Stale));
+    assert_eq!(rt; key.aim(1), Some(asks));
+    assert_eq!(rt; pass(&mut other, &mut key), Some(Heard::Taken(2)));
+    let quiet = Aim {
+        flags: 0,
+        ask: None,
+        ..asks
+    };
+    assert_eq!(rt; key.aim(1), Some(quiet));
+    Ok(())
+}
