@@ -1,57 +1,11 @@
 //! Tests of what a node answers to datagrams: each test that a datagram meets, and which comes first.
 
-use super::{LIMIT, STILL, datagram, opened};
-use crate::{Heard, Node};
+use super::stages::{STOP, Stage, at};
+use super::{STILL, datagram};
+use crate::Heard;
 use dn_packet::{EXIT, KILL, RETRANSMIT, SETUP};
 use dn_tic::TicCmd;
-use dn_world::Walk;
-use std::alloc::Global;
 use std::test::Fail;
-
-/// Where a node of three players stands.
-#[derive(Clone, Copy, Debug, PartialEq, Eq)]
-pub(super) enum Stage {
-    /// Player 1 listens.
-    Listener,
-    /// Player 0 gathers.
-    Key,
-    /// Player 0 plays, and has built and heard nothing.
-    First,
-    /// Player 1 does.
-    Second,
-    /// Player 1 quit before the start.
-    Quitter,
-    /// Player 1 quit after it.
-    Leaver,
-}
-
-/// A command that a demo could not tell from its end.
-pub(super) const STOP: TicCmd = TicCmd {
-    forward: -128,
-    ..STILL
-};
-
-/// A node that stands so.
-pub(super) fn at(alloc: Global, stage: Stage) -> Result<Node<Walk>, Fail> {
-    let me = u8::from(stage != Stage::Key && stage != Stage::First);
-    let mut node = opened(alloc, (3, me), false, LIMIT, Walk::new())?;
-    match stage {
-        Stage::Listener | Stage::Key => (),
-        Stage::First => {
-            for from in [1, 2] {
-                let _ = node.receive(from, datagram(0, (0, 0, from), &[]).as_slice());
-            }
-        }
-        Stage::Second | Stage::Leaver => {
-            let _ = node.receive(0, datagram(SETUP, (2, 65, 109), &[]).as_slice());
-        }
-        Stage::Quitter => (),
-    }
-    if stage == Stage::Quitter || stage == Stage::Leaver {
-        node.quit();
-    }
-    Ok(node)
-}
 
 #[test]
 fn who_is_no_peer_is_a_stranger(rt: HostRuntime) -> Result<(), Fail> {
@@ -61,7 +15,11 @@ fn who_is_no_peer_is_a_stranger(rt: HostRuntime) -> Result<(), Fail> {
             let plain = datagram(0, (0, 0, from), &[]);
             let choice = datagram(SETUP, (2, 65, 109), &[]);
             for bytes in [&[], plain.as_slice(), choice.as_slice()] {
-                assert_eq!(rt; node.receive(from, bytes), Heard::Dropped(5), "{stage:?}, {from}");
+                assert_eq!(rt;
+                    node.receive(from, bytes),
+                    Heard::Dropped(5),
+                    "{stage:?}, {from}"
+                );
             }
         }
     }
@@ -77,7 +35,11 @@ fn an_ended_node_hears_nothing(rt: HostRuntime) -> Result<(), Fail> {
         let exit = datagram(EXIT, (0, 0, 0), &[]);
         for bytes in [&[], plain.as_slice(), choice.as_slice(), exit.as_slice()] {
             for from in [0, 1, 2, 3, 255] {
-                assert_eq!(rt; node.receive(from, bytes), Heard::Dropped(13), "{stage:?}, {from}");
+                assert_eq!(rt;
+                    node.receive(from, bytes),
+                    Heard::Dropped(13),
+                    "{stage:?}, {from}"
+                );
             }
         }
     }
@@ -110,7 +72,11 @@ fn bytes_that_are_no_packet_are_told_apart(rt: HostRuntime) -> Result<(), Fail> 
             (sum.as_slice(), 4),
         ] {
             let mut node = at(rt.alloc(), stage)?;
-            assert_eq!(rt; node.receive(2, bytes), Heard::Dropped(number), "{stage:?}, {bytes:?}");
+            assert_eq!(rt;
+                node.receive(2, bytes),
+                Heard::Dropped(number),
+                "{stage:?}, {bytes:?}"
+            );
         }
     }
     Ok(())

@@ -23,7 +23,7 @@ fn ask(node: &mut Node<Walk>, tic: u8) -> Heard {
 }
 
 /// Compares the start and the count of the next packet to player 1, by its numbers and by its bytes.
-fn sends(rt: &impl Abort, node: &mut Node<Walk>, start: u32, count: u8) {
+pub(super) fn sends(rt: &impl Abort, node: &mut Node<Walk>, start: u32, count: u8) {
     let aim = Aim {
         flags: 0,
         ask: None,
@@ -36,7 +36,10 @@ fn sends(rt: &impl Abort, node: &mut Node<Walk>, start: u32, count: u8) {
             assert_eq!(rt; bytes.len(), 8 + 8 * usize::from(count));
             assert!(rt; bytes.len() >= 8);
             let bytes = bytes.as_slice();
-            assert_eq!(rt; (bytes[4], u32::from(bytes[5]), bytes[7]), (0, start % 256, count));
+            assert_eq!(rt;
+                (bytes[4], u32::from(bytes[5]), bytes[7]),
+                (0, start % 256, count)
+            );
         }
         None => panic!(rt; "no packet"),
     }
@@ -65,7 +68,11 @@ fn requests_within_the_last_twelve_are_met(rt: HostRuntime) -> Result<(), Fail> 
     ] {
         let (mut key, _) = at_tic(rt.alloc(), made)?;
         assert_eq!(rt; key.made(), made);
-        assert_eq!(rt; ask(&mut key, byte), Heard::Stale, "made {made}, ask {byte}");
+        assert_eq!(rt;
+            ask(&mut key, byte),
+            Heard::Stale,
+            "made {made}, ask {byte}"
+        );
         let count = (made.saturating_sub(start) % 256) as u8;
         sends(&rt, &mut key, start, count);
         // then the next packet has nothing to repeat
@@ -123,57 +130,6 @@ fn dropped_packets_do_not_count(rt: HostRuntime) -> Result<(), Fail> {
     let met = datagram(RETRANSMIT, (20, 31, 1), &[STILL]);
     assert_eq!(rt; key.receive(1, met.as_slice()), Heard::Taken(1));
     sends(&rt, &mut key, 20, 10);
-    Ok(())
-}
-
-#[test]
-fn a_packet_may_repeat_the_last_command(rt: HostRuntime) -> Result<(), Fail> {
-    let (mut key, _) = pair(rt.alloc(), true)?;
-    sends(&rt, &mut key, 0, 0);
-    for (built, start, count) in [(1, 0, 1), (1, 0, 2), (0, 1, 1), (0, 1, 1), (2, 1, 3), (0, 3, 1)] {
-        for _ in 0..built {
-            let _ = key.build(Keys::from_bits(NO_KEYS));
-        }
-        sends(&rt, &mut key, start, count);
-    }
-    Ok(())
-}
-
-#[test]
-fn each_command_goes_out_once(rt: HostRuntime) -> Result<(), Fail> {
-    let (mut key, _) = pair(rt.alloc(), false)?;
-    sends(&rt, &mut key, 0, 0);
-    for (built, start, count) in [(1, 0, 1), (1, 1, 1), (0, 2, 0), (3, 2, 3), (0, 5, 0)] {
-        for _ in 0..built {
-            let _ = key.build(Keys::from_bits(NO_KEYS));
-        }
-        sends(&rt, &mut key, start, count);
-    }
-    Ok(())
-}
-
-/// A peer that was given nothing for more than twelve commands is given the newest alone.
-#[test]
-fn what_is_too_old_is_not_sent(rt: HostRuntime) -> Result<(), Fail> {
-    for (extra, behind, start, count) in [
-        (false, 12, 0, 12),
-        (false, 13, 13, 0),
-        (false, 20, 20, 0),
-        (true, 12, 0, 12),
-        (true, 13, 12, 1),
-        (true, 20, 19, 1),
-    ] {
-        let mut key = opened(rt.alloc(), (2, 0), extra, LIMIT, Walk::new())?;
-        assert_eq!(rt; key.receive(1, datagram(0, (0, 0, 1), &[]).as_slice()), Heard::Started);
-        for tic in 0..behind {
-            let low = (tic % 256) as u8;
-            let bytes = datagram(0, (0, low, 1), &[STILL]);
-            assert_eq!(rt; key.build(Keys::from_bits(NO_KEYS)), Made::Made(tic));
-            assert_eq!(rt; key.receive(1, bytes.as_slice()), Heard::Taken(1));
-            let _ = key.run();
-        }
-        sends(&rt, &mut key, start, count);
-    }
     Ok(())
 }
 

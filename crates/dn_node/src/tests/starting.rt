@@ -60,7 +60,11 @@ fn any_valid_choice_starts_a_listener(rt: HostRuntime) -> Result<(), Fail> {
         let mut node = listener(rt.alloc())?;
         assert!(rt; flags < 16);
         let bytes = datagram(flags, (99, 71, 109), &[STILL]);
-        assert_eq!(rt; node.receive(0, bytes.as_slice()), Heard::Started, "flags {flags}");
+        assert_eq!(rt;
+            node.receive(0, bytes.as_slice()),
+            Heard::Started,
+            "flags {flags}"
+        );
         assert_eq!(rt; (node.made(), node.got(0)), (0, Some(0)), "flags {flags}");
     }
     Ok(())
@@ -79,7 +83,12 @@ fn the_key_player_waits_for_all(rt: HostRuntime) -> Result<(), Fail> {
         ),
         (
             [2, 0, 1, 3],
-            [Heard::Noted, Heard::Dropped(5), Heard::Noted, Heard::Started],
+            [
+                Heard::Noted,
+                Heard::Dropped(5),
+                Heard::Noted,
+                Heard::Started,
+            ],
         ),
     ] {
         let mut key = opened(rt.alloc(), (4, 0), false, LIMIT, Walk::new())?;

@@ -1,6 +1,6 @@
 //! Tests of the commands that a playing node takes.
 
-use super::answers::{Stage, at};
+use super::stages::{Stage, at};
 use super::{NO_KEYS, STILL, datagram, pair};
 use crate::{Heard, Made, Phase, Ran};
 use dn_tic::{Keys, TicCmd};
