@@ -10,6 +10,15 @@ use std::alloc::Global;
 use std::process::Abort;
 use std::test::Fail;
 
+/// A node has ended since its demo was full, and stays so.
+fn is_full(rt: &impl Abort, node: &mut Node<Walk>, ran: u32, size: usize) {
+    assert_eq!(rt; node.phase(), Phase::Ended(Cause::Full));
+    assert_eq!(rt; (node.ran(), node.demo().len()), (ran, size));
+    assert_eq!(rt; node.demo().last(), Some(&0x80));
+    assert_eq!(rt; node.run(), Ran::NotPlaying);
+    assert!(rt; !node.quit());
+}
+
 #[test]
 fn a_full_demo_ends_a_node(rt: HostRuntime) -> Result<(), Fail> {
     for (limit, ran, size) in [
@@ -28,17 +37,8 @@ fn a_full_demo_ends_a_node(rt: HostRuntime) -> Result<(), Fail> {
         }
         let full = (Ran::DemoFull, Ran::DemoFull);
         assert_eq!(rt; tic(&mut key, &mut other, IDLE), full, "limit {limit}");
-        for node in [&mut key, &mut other] {
-            assert_eq!(rt; node.phase(), Phase::Ended(Cause::Full));
-            assert_eq!(rt;
-                (node.ran(), node.demo().len()),
-                (ran, size),
-                "limit {limit}"
-            );
-            assert_eq!(rt; node.demo().last(), Some(&0x80));
-            assert_eq!(rt; node.run(), Ran::NotPlaying);
-            assert!(rt; !node.quit());
-        }
+        is_full(&rt, &mut key, ran, size);
+        is_full(&rt, &mut other, ran, size);
         // it tells its peer, which has ended too
         let aim = key.aim(1).ok_or("no packet")?;
         assert_eq!(rt; (aim.flags, aim.start), (EXIT, ran.saturating_add(1)));
@@ -100,11 +100,22 @@ fn demos_of_ended_nodes_are_played_again(rt: HostRuntime) -> Result<(), Fail> {
         assert_eq!(rt; other.phase(), Phase::Ended(Cause::Left(0)));
         replays(&rt, rt.alloc(), &key)?;
         replays(&rt, rt.alloc(), &other)?;
-        assert!(rt; key.demo().len() > 13 && other.demo().len() > 13);
         // the same rows behind headers that differ in their views
-        assert_eq!(rt; &key.demo()[13..], &other.demo()[13..], "{count} tics");
+        let (one, two) = (key.demo(), other.demo());
+        assert!(rt; one.len() > 13);
+        assert!(rt; two.len() > 13);
+        assert_eq!(rt; &one[13..], &two[13..], "{count} tics");
     }
     Ok(())
+}
+
+/// A node has written one row, and closes its demo.
+fn wrote(rt: &impl Abort, node: &mut Node<Walk>, row: [u8; 8]) {
+    assert_eq!(rt; node.demo().len(), 21);
+    assert!(rt; node.demo().ends_with(&row));
+    assert!(rt; node.quit());
+    assert_eq!(rt; node.demo().len(), 22);
+    assert_eq!(rt; node.demo().last(), Some(&0x80));
 }
 
 /// What one tic of two players writes.
@@ -117,11 +128,7 @@ fn a_row_has_the_used_moves(rt: HostRuntime) -> Result<(), Fail> {
     let keys = (0x81, 0x1124);
     assert_eq!(rt; tic(&mut key, &mut other, keys), (Ran::Ran(0), Ran::Ran(0)));
     let row = [50, 0, 0, 0, 0, 24, 1, 21];
-    for node in [&mut key, &mut other] {
-        assert_eq!(rt; node.demo().len(), 21);
-        assert!(rt; node.demo().ends_with(&row));
-        assert!(rt; node.quit());
-        assert_eq!(rt; node.demo().len(), 22);
-    }
+    wrote(&rt, &mut key, row);
+    wrote(&rt, &mut other, row);
     Ok(())
 }

@@ -122,9 +122,8 @@ fn in_the_game_nothing_is_changed(rt: HostRuntime) -> Result<(), Fail> {
 fn the_next_packet_is_the_same(rt: HostRuntime) -> Result<(), Fail> {
     let (mut key, mut other) = pair(rt.alloc(), true)?;
     let (mut key_again, mut other_again) = pair(rt.alloc(), true)?;
-    for (one, two) in [(&mut key, &mut other), (&mut key_again, &mut other_again)] {
-        tics(one, two, 14, (1, 4));
-    }
+    tics(&mut key, &mut other, 14, (1, 4));
+    tics(&mut key_again, &mut other_again, 14, (1, 4));
     let mut wrong: ArrayVec<u8, 104> = datagram(0, (0, 14, 1), &[STILL]);
     for byte in wrong.as_mut_slice() {
         *byte ^= 1;

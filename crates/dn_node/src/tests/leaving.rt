@@ -95,22 +95,25 @@ fn who_leaves_tells_each_peer_four_times(rt: HostRuntime) -> Result<(), Fail> {
     Ok(())
 }
 
+/// A node has ended since player 2 left, and says nothing to that one.
+fn has_left(rt: &impl Abort, node: &mut Node<Walk>, ran: u32, size: usize) {
+    assert_eq!(rt; node.phase(), Phase::Ended(Cause::Left(2)));
+    assert_eq!(rt; (node.ran(), node.demo().len()), (ran, size));
+    assert_eq!(rt; node.demo().last(), Some(&0x80));
+    assert_eq!(rt; node.receive(2, &LEAVES), Heard::Dropped(13));
+    assert!(rt; !node.quit());
+    assert_eq!(rt; node.aim(2), None);
+    assert!(rt; node.packet(2).is_none());
+}
+
 #[test]
 fn who_hears_of_it_leaves(rt: HostRuntime) -> Result<(), Fail> {
     let (mut a, mut b, mut c) = three(&rt, rt.alloc())?;
     assert!(rt; c.quit());
     assert_eq!(rt; pass(&mut c, &mut a), Some(Heard::Left));
     assert_eq!(rt; pass(&mut c, &mut b), Some(Heard::Left));
-    for (node, ran, size) in [(&mut a, 30, 374), (&mut b, 33, 410)] {
-        assert_eq!(rt; node.phase(), Phase::Ended(Cause::Left(2)));
-        assert_eq!(rt; node.ran(), ran);
-        assert_eq!(rt; node.demo().len(), size);
-        assert_eq!(rt; node.demo().last(), Some(&0x80));
-        assert_eq!(rt; node.receive(2, &LEAVES), Heard::Dropped(13));
-        assert!(rt; !node.quit());
-        assert_eq!(rt; node.aim(2), None);
-        assert!(rt; node.packet(2).is_none());
-    }
+    has_left(&rt, &mut a, 30, 374);
+    has_left(&rt, &mut b, 33, 410);
     // the thirty tics begin the thirty-three, behind headers that differ in their views
     let (short, long) = (a.demo(), b.demo());
     assert_eq!(rt; (short.len(), long.len()), (374, 410));
@@ -121,6 +124,13 @@ fn who_hears_of_it_leaves(rt: HostRuntime) -> Result<(), Fail> {
     let leaves = [0x67, 0x66, 0x23, 0x81, 0x00, 0x21, 0x00, 0x00];
     gives_four(&rt, &mut a, 1, &leaves);
     Ok(())
+}
+
+/// A node that ran 35 tics plays on, and waits for player 2.
+fn waits(rt: &impl Abort, node: &mut Node<Walk>) {
+    assert_eq!(rt; node.run(), Ran::Waiting(2));
+    assert_eq!(rt; node.ran(), 35);
+    assert_eq!(rt; node.phase(), Phase::Playing);
 }
 
 #[test]
@@ -136,11 +146,8 @@ fn who_is_silent_is_waited_for(rt: HostRuntime) -> Result<(), Fail> {
     }
     build(&mut a, (&mut b, &mut c), 1);
     build(&mut b, (&mut a, &mut c), 1);
-    for node in [&mut a, &mut b] {
-        assert_eq!(rt; node.run(), Ran::Waiting(2));
-        assert_eq!(rt; node.ran(), 35);
-        assert_eq!(rt; node.phase(), Phase::Playing);
-    }
+    waits(&rt, &mut a);
+    waits(&rt, &mut b);
     Ok(())
 }
 
