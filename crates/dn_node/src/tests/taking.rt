@@ -1,7 +1,7 @@
 //! Tests of the commands that a playing node takes.
 
 use super::stages::{Stage, at};
-use super::{NO_KEYS, STILL, datagram, pair};
+use super::{IDLE, NO_KEYS, STILL, datagram, pair, pass, tics};
 use crate::{Heard, Made, Phase, Ran};
 use dn_tic::{Keys, TicCmd};
 use std::test::Fail;
@@ -92,6 +92,26 @@ fn what_is_there_is_not_taken_again(rt: HostRuntime) -> Result<(), Fail> {
     }
     // 1, 2 and 3 forward, 2048 each
     assert_eq!(rt; key.world().x(1), Some(4_194_304 + 12_288));
+    Ok(())
+}
+
+/// A packet more than 64 tics away is read as another one.
+#[test]
+fn far_packets_are_mistaken(rt: HostRuntime) -> Result<(), Fail> {
+    let old = datagram(0, (0, 0, 1), &[STILL; 2]);
+    for (ran, answer) in [
+        (63, Heard::Stale),
+        (64, Heard::Dropped(12)),
+        (255, Heard::Taken(2)),
+    ] {
+        let (mut key, mut other) = pair(rt.alloc(), false)?;
+        tics(&mut key, &mut other, ran, IDLE);
+        let _ = key.build(Keys::from_bits(NO_KEYS));
+        let _ = other.build(Keys::from_bits(NO_KEYS));
+        assert_eq!(rt; pass(&mut other, &mut key), Some(Heard::Taken(1)));
+        assert_eq!(rt; (key.ran(), key.made()), (ran, ran.saturating_add(1)));
+        assert_eq!(rt; key.receive(1, old.as_slice()), answer, "{ran} tics");
+    }
     Ok(())
 }
 
