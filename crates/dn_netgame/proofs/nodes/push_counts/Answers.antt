@@ -1,0 +1,12 @@
+use Rattle.std.proofs.Common.{rules, ◌≡◌, pos, [], ◌++◌, codes}
+use Rattle.std.specs.Fmt.{signed_decimal}
+use Rattle.std.specs.String.{string_bytes}
+use Rattle.dn_node.specs.Contents.{contents}
+use Rattle.dn_netgame.proofs.Counts.{counts_more}
+use Rattle.dn_netgame.proofs.nodes.push_counts.Goals as goal
+
+pub loop-count-preserved : goal.loop-count-preserved
+loop-count-preserved g c =
+    let put : string_bytes c.push_fields.new.text
+    ≡ string_bytes c.loop-count.text ++ (codes " " ++ (signed_decimal (pos c.in-Some.count) ++ [])) = search rules in
+    counts_more _ _ _ (contents c.args.node.now).rings _ _ _ c.in-Some.ensures c.loop-count.invariant put
