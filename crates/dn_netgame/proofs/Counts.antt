@@ -1,11 +1,10 @@
 -- The counts of a node's line, one after another.
 use Rattle.std.specs.Prelude.{nat_lt, if◌then◌else◌}
-use Rattle.std.proofs.Common.{◌≡◌, ◌<◌, ◌≤◌, ◌+◌, ◌-◌, ℕ, pos, suc, Bool, true, false, Option, Some, None, List, [], ◌∷◌, ◌++◌, append_assoc, append-nil, refl, codes, arith}
+use Rattle.std.proofs.Common.{◌≡◌, ◌<◌, ◌≤◌, ◌+◌, ◌-◌, ℕ, pos, suc, Bool, true, false, Some, None, List, [], ◌++◌, append_assoc, append-nil, refl, codes, arith}
 use Rattle.std.specs.Fmt.{signed_decimal}
 use borrow.Author.Tests.{ltb-true}
 use Rattle.dn_ring.specs.Ring.{Ring}
 use Rattle.dn_node.specs.Rings.{count_of}
-use Rattle.dn_netgame.specs.Fields.{labelled}
 use Rattle.dn_netgame.specs.NodeLines.{counts_from}
 
 -- the count of the first player, and those of the others

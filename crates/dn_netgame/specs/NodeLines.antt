@@ -2,7 +2,6 @@
 use Rattle.std.specs.Prelude.{ℕ, pos, Bool, if◌then◌else◌, List, [], ◌∷◌, ◌++◌, length, map, codes}
 use Rattle.std.specs.List.{range_with_len}
 use Rattle.dn_ring.specs.Ring.{Ring}
-use Rattle.dn_machine.specs.declared.answers.Cause.{Cause}
 use Rattle.dn_machine.specs.declared.answers.Cause.TheVariants.{Quit, Left, Full, Inconsistent}
 use Rattle.dn_machine.specs.declared.answers.Phase.{Phase}
 use Rattle.dn_machine.specs.declared.answers.Phase.TheVariants.{Listening, Gathering, Playing, Ended}
