@@ -1,0 +1,116 @@
+//! Playing a script: the lines of its game, or why it is none.
+
+ghost use Rattle.std.specs.Prelude.{◌≡◌, ◌≢◌, ◌+◌, ◌++◌, Err, IfOk, IfErr, MatchResult};
+ghost use Rattle.std.specs.String.{string_bytes};
+ghost use Rattle.dn_demo.specs.Recorded.{IsLimit};
+ghost use Rattle.dn_node.specs.Opening.{IsGame};
+ghost use Rattle.dn_game.specs.Script.{size_limit};
+ghost use Rattle.dn_netgame.specs.Shown.{Shows, ShowsFront};
+ghost use Rattle.dn_netgame.specs.SimLines.{IsGameShown, WalksBy, IsSim, bad_line};
+ghost use Rattle.dn_netgame.specs.Transfer.{TakesFewer, TakesAtMost};
+ghost use Rattle.dn_netgame.specs.declared.fault.RunFault.{RunFault};
+
+use crate::fault::RunFault;
+use crate::fields::push_line;
+use crate::games::{new_walks, text_of_game};
+use crate::transfer::{gather, put};
+use dn_game::{Event, GameConfig, GameFault, ScriptFault, play, read_script};
+use std::alloc::{AllocError, Global};
+use std::io::{Read, Write};
+
+/// A script has at most so many bytes.
+const SCRIPT_LIMIT: usize = 1 << 20;
+
+#[tactic(auto, unfolding(crate::specs::SimLines::bad_line))]
+fn text_of_bad_line(alloc: Global, number: usize) -> Result<String, AllocError>
+    ensures { IfOk result (λ text. string_bytes text ≡ bad_line number) }
+{
+    let mut text = String::new(alloc);
+    push_line(&mut text, &[("script: line ", number as i128)])?;
+    Ok(text)
+}
+
+/// The lines of a game of walks that has played these events.
+fn text_of_events(
+    alloc: Global,
+    config: GameConfig,
+    players: u8,
+    events: &[Event],
+) -> Result<String, AllocError>
+    requires players { IsGame players }
+    requires limit { IsLimit config.limit }
+    ensures { IfOk result (λ text. IsGameShown (WalksBy config players events.now) (string_bytes text) 0) }
+{
+    let walks = new_walks(alloc, players)?;
+    match play(alloc, config, walks, events) {
+        Ok(played) => text_of_game(alloc, &played),
+        Err(GameFault::Memory) => Err(AllocError),
+        Err(GameFault::Players | GameFault::Limit) => unreachable!(),
+    }
+}
+
+/// The lines of what a script's bytes are read as, and the exit status.
+fn text_of(
+    alloc: Global,
+    config: GameConfig,
+    players: u8,
+    bytes: &[u8],
+) -> Result<(String, u8), RunFault>
+    requires players { IsGame players }
+    requires limit { IsLimit config.limit }
+    ensures shown { IfOk result (λ shown. IsSim config players bytes.now (string_bytes shown.0) shown.1) }
+    ensures fault { IfErr result (λ fault. fault ≡ RunFault.Memory) }
+{
+    match read_script(alloc, bytes) {
+        Ok(events) => Ok((
+            text_of_events(alloc, config, players, events.as_slice())?,
+            0,
+        )),
+        Err(ScriptFault::TooLong) => Ok((String::from_str(alloc, "script: too long\n")?, 1)),
+        Err(ScriptFault::Line(number)) => Ok((text_of_bad_line(alloc, number)?, 1)),
+        Err(ScriptFault::Memory) => Err(RunFault::Memory),
+    }
+}
+
+/// Reads a script of at most 1,048,576 bytes, plays its events in a game of so many new walks, and
+/// writes the lines of the game. The answer is the exit status: 0 for a script, 1 for bytes that are
+/// none.
+///
+/// A read that fails is the fault `Read`, a write that fails or takes no bytes is `Write`, and
+/// `Memory` is answered where memory for the script, the game or the lines was refused. Each ends
+/// the run at once. A packet that found no room is no fault: its event counts as refused.
+pub fn run_sim<R: Read, W: Write>(
+    alloc: Global,
+    config: GameConfig,
+    players: u8,
+    input: &mut R,
+    output: &mut W,
+) -> Result<u8, RunFault>
+    requires players { IsGame players }
+    requires limit { IsLimit config.limit }
+
+    // All lines of the game were written, and the status is theirs. A byte more than a script can
+    // have is taken, so that a longer input is not read as its front.
+    ensures shown { IfOk result (λ status. Shows (size_limit + 1) (IsSim config players)
+        (R.remaining input.old) (R.remaining input.new)
+        (W.contents output.old) (W.contents output.new) status) }
+
+    // A read fault comes before the last byte is there.
+    ensures read { result ≡ Err RunFault.Read
+        → TakesFewer (size_limit + 1) (R.remaining input.old) (R.remaining input.new) }
+    // Memory can run out before that, too.
+    ensures memory { result ≡ Err RunFault.Memory
+        → TakesAtMost (size_limit + 1) (R.remaining input.old) (R.remaining input.new) }
+    // A write fault comes before the last byte of the lines is written.
+    ensures write { result ≡ Err RunFault.Write
+        → ShowsFront (size_limit + 1) (IsSim config players)
+        (R.remaining input.old) (R.remaining input.new)
+        (W.contents output.old) (W.contents output.new) }
+    // Any other fault leaves the output as it was.
+    ensures unwritten { IfErr result (λ fault. fault ≢ RunFault.Write → output.new ≡ output.old) }
+{
+    let bytes = gather(alloc, input, SCRIPT_LIMIT + 1)?;
+    let (text, status) = text_of(alloc, config, players, bytes.as_slice())?;
+    put(output, text.as_bytes())?;
+    Ok(status)
+}
