@@ -1,0 +1,110 @@
+//! The options of the command line, with their ranges and defaults.
+
+ghost use Rattle.std.specs.Prelude.{IfSome};
+ghost use Rattle.dn_demo.specs.Recorded.{IsLimit};
+ghost use Rattle.dn_node.specs.Opening.{IsGame};
+
+use clap::{Arg, ArgAction, ArgMatches, Command, value_parser};
+use dn_game::GameConfig;
+use dn_setup::Settings;
+use std::alloc::{AllocError, Global};
+
+/// The options of a game that are numbers: name, least and greatest value, default, meaning.
+const NUMBERS: [(&str, i64, i64, &str, &str); 6] = [
+    ("players", 2, 4, "2", "How many players there are"),
+    ("skill", 0, 4, "2", "How hard it is, from 0 for the easiest"),
+    ("episode", 1, 3, "1", "Which episode is played"),
+    ("map", 1, 32, "1", "Which map is played"),
+    (
+        "deathmatch",
+        0,
+        2,
+        "0",
+        "Which kind of deathmatch, or 0 for none",
+    ),
+    (
+        "limit",
+        1024,
+        16_777_216,
+        "131072",
+        "How many bytes a demo may have",
+    ),
+];
+
+/// The options of a game that are flags: name, meaning.
+const FLAGS: [(&str, &str); 3] = [
+    ("respawn", "Monsters come back"),
+    ("nomonsters", "There are no monsters"),
+    ("extra", "Each packet repeats the last command"),
+];
+
+/// An option with a number as its value.
+fn number<'a>(
+    alloc: Global,
+    name: &'a str,
+    least: i64,
+    greatest: i64,
+    default: &'a str,
+    about: &'a str,
+) -> Arg<'a> {
+    Arg::new(alloc, name)
+        .long(name)
+        .value_parser(value_parser!(u32).range(least..=greatest))
+        .default_value(default)
+        .help(about)
+}
+
+/// Adds the options of a game.
+pub(crate) fn with_game<'a>(
+    alloc: Global,
+    command: Command<'a>,
+) -> Result<Command<'a>, AllocError> {
+    let mut command = command;
+    for (name, least, greatest, default, about) in NUMBERS {
+        command = command.arg(number(alloc, name, least, greatest, default, about))?;
+    }
+    for (name, about) in FLAGS {
+        let flag = Arg::new(alloc, name)
+            .long(name)
+            .action(ArgAction::SetTrue)
+            .help(about);
+        command = command.arg(flag)?;
+    }
+    Ok(command)
+}
+
+/// The value of an option, if it is no more than a byte holds.
+fn byte(matches: &ArgMatches<'_>, name: &str) -> Option<u8> {
+    u8::try_from(matches.get_one::<u32>(name)?).ok()
+}
+
+/// The choice of game.
+fn settings(matches: &ArgMatches<'_>) -> Option<Settings> {
+    let made = Settings::new(
+        byte(matches, "skill")?,
+        byte(matches, "deathmatch")?,
+        matches.get_flag("nomonsters"),
+        matches.get_flag("respawn"),
+        byte(matches, "episode")?,
+        byte(matches, "map")?,
+    );
+    made.ok()
+}
+
+/// The rules of a game, and how many players it has. None is missing, since the parser has read each
+/// value and kept it to its range.
+pub(crate) fn game(matches: &ArgMatches<'_>) -> Option<(GameConfig, u8)>
+    ensures { IfSome result (λ game. IsLimit game.0.limit × IsGame game.1) }
+{
+    let players = byte(matches, "players")?;
+    let limit = matches.get_one::<u32>("limit")?;
+    if !(2..=4).contains(&players) || !(1024..=16_777_216).contains(&limit) {
+        return None;
+    }
+    let config = GameConfig {
+        settings: settings(matches)?,
+        extra: matches.get_flag("extra"),
+        limit,
+    };
+    Some((config, players))
+}
