@@ -1,5 +1,6 @@
 -- The lines of a game that was played.
-use Rattle.std.specs.Prelude.{ℕ, pos, ◌+◌, Bool, false, List, [], ◌∷◌, ◌++◌, length, slice_index_or, codes}
+use Rattle.std.specs.Prelude.{◌≡◌, ℕ, pos, ◌+◌, Bool, false, List, [], ◌∷◌, ◌++◌, length, slice_index_or, codes}
+use Rattle.dn_world.specs.Plane.{Spots}
 use Rattle.dn_node.specs.declared.node.Node.{Node}
 use Rattle.dn_node.specs.Contents as node
 use Rattle.dn_game.specs.declared.played.Played.{Played}
@@ -24,3 +25,7 @@ events_line p = labelled (
 -- the lines of all nodes, and of the events
 abbrev pub game_lines : {W : Type 0} → Played W → List ℕ
 game_lines p = node_lines (contents p.game).stopped 0 (contents p.game).nodes ++ events_line p
+
+-- the lines and the exit status are those of a game of walks that came about so
+abbrev pub IsGameShown : (Played Spots → Type 0) → List ℕ → ℕ → Type 0
+IsGameShown CameAbout lines status = (played : Played Spots) × CameAbout played × (lines ≡ game_lines played) × (status ≡ 0)

@@ -10,11 +10,7 @@ use Rattle.dn_game.specs.declared.script.ScriptFault.TheVariants.{TooLong, Line,
 use Rattle.dn_game.specs.Played.{IsPlayed}
 use Rattle.dn_game.specs.Script.{IsReadAs}
 use Rattle.dn_netgame.specs.Fields.{labelled}
-use Rattle.dn_netgame.specs.GameLines.{game_lines}
-
--- the lines and the exit status are those of a game that came about so
-abbrev pub IsGameShown : (Played Spots → Type 0) → List ℕ → ℕ → Type 0
-IsGameShown CameAbout lines status = (played : Played Spots) × CameAbout played × (lines ≡ game_lines played) × (status ≡ 0)
+use Rattle.dn_netgame.specs.GameLines.{IsGameShown}
 
 -- a game of so many players, who walk, has played these events
 abbrev pub WalksBy : GameConfig → ℕ → List Event → Played Spots → Type 0

@@ -5,8 +5,9 @@ ghost use Rattle.std.specs.String.{string_bytes};
 ghost use Rattle.dn_demo.specs.Recorded.{IsLimit};
 ghost use Rattle.dn_node.specs.Opening.{IsGame};
 ghost use Rattle.dn_game.specs.Script.{size_limit};
+ghost use Rattle.dn_netgame.specs.GameLines.{IsGameShown};
 ghost use Rattle.dn_netgame.specs.Shown.{Shows, ShowsFront};
-ghost use Rattle.dn_netgame.specs.SimLines.{IsGameShown, WalksBy, IsSim, bad_line};
+ghost use Rattle.dn_netgame.specs.SimLines.{WalksBy, IsSim, bad_line};
 ghost use Rattle.dn_netgame.specs.Transfer.{TakesFewer, TakesAtMost};
 ghost use Rattle.dn_netgame.specs.declared.fault.RunFault.{RunFault};
 

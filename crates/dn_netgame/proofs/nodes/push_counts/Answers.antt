@@ -2,6 +2,7 @@ use Rattle.std.proofs.Common.{rules, ◌≡◌, pos, [], ◌++◌, codes}
 use Rattle.std.specs.Fmt.{signed_decimal}
 use Rattle.std.specs.String.{string_bytes}
 use Rattle.dn_node.specs.Contents.{contents}
+use Rattle.dn_netgame.specs.NodeLines.{counts}
 use Rattle.dn_netgame.proofs.Counts.{counts_more}
 use Rattle.dn_netgame.proofs.nodes.push_counts.Goals as goal
 
@@ -9,4 +10,6 @@ pub loop-count-preserved : goal.loop-count-preserved
 loop-count-preserved g c =
     let put : string_bytes c.push_fields.new.text
     ≡ string_bytes c.loop-count.text ++ (codes " " ++ (signed_decimal (pos c.in-Some.count) ++ [])) = search rules in
-    counts_more _ _ _ (contents c.args.node.now).rings _ _ _ c.in-Some.ensures c.loop-count.invariant put
+    let n = contents c.args.node.now in
+    counts_more c.loop-count.player n.players c.in-Some.count n.rings (string_bytes c.loop-count.text) (string_bytes c.push_fields.new.text)
+    (string_bytes c.args.text.now ++ counts n.players n.rings) c.in-Some.ensures c.loop-count.invariant put
