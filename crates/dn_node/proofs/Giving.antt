@@ -68,9 +68,9 @@ module _ {S : Type 0} (rules : Rules S) (me : ℕ) (m : machine.Node) (to : ℕ)
   none_sent = elim (cases_lt to rules.players) [
     | inr past ↦ through (m, None) (to_nobody rules me m to past) (λ e. refl)
     | inl below ↦ elim (cases_eq me to) [
-        | inl same ↦ through (m, None) (to_itself rules me m to same) (λ e. refl)
-        | inr apart ↦ through _ (to_peer rules me m to below apart) (none_in m.phase)
-      ]
+      | inl same ↦ through (m, None) (to_itself rules me m to same) (λ e. refl)
+      | inr apart ↦ through _ (to_peer rules me m to below apart) (none_in m.phase)
+    ]
   ]
 
 -- nothing comes of nothing

@@ -1,6 +1,7 @@
 //! How a node builds a command.
 
-ghost use Rattle.std.specs.Prelude.{◌≡◌};
+ghost use Rattle.std.specs.Prelude.{◌≡◌, ◌⊎◌};
+ghost use Rattle.dn_machine.specs.declared.answers.Made.TheVariants.{Full, NotPlaying};
 
 use super::Node;
 use dn_machine::{Made, Phase};
@@ -17,8 +18,9 @@ impl<W: World> Node<W> {
 
     /// Builds the command of these keys for the next tic.
     pub fn build(&mut self, keys: Keys) -> Made
-        ensures { Steps W.state W.physics (contents self.old) (contents self.new)
+        ensures step { Steps W.state W.physics (contents self.old) (contents self.new)
             (λ rules me m. on_build rules me m keys) (λ made. result ≡ made) }
+        ensures idle { (result ≡ Full) ⊎ (result ≡ NotPlaying) → contents self.new ≡ contents self.old }
     {
         let Phase::Playing = self.phase else {
             return Made::NotPlaying;

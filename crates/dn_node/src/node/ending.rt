@@ -1,6 +1,6 @@
 //! How a node ends.
 
-ghost use Rattle.std.specs.Prelude.{◌≡◌};
+ghost use Rattle.std.specs.Prelude.{◌≡◌, false};
 ghost use Rattle.dn_machine.specs.declared.answers.Phase.TheVariants.{Playing, Ended};
 
 use super::Node;
@@ -23,8 +23,9 @@ impl<W: World> Node<W> {
 
     /// Ends the node, and answers whether it had not ended.
     pub fn quit(&mut self) -> bool
-        ensures { Steps W.state W.physics (contents self.old) (contents self.new)
+        ensures step { Steps W.state W.physics (contents self.old) (contents self.new)
             (λ rules me m. on_quit m) (λ quit. result ≡ quit) }
+        ensures idle { result ≡ false → contents self.new ≡ contents self.old }
     {
         match self.phase {
             Phase::Ended(_) => return false,

@@ -1,6 +1,6 @@
 //! What a node does with a datagram.
 
-ghost use Rattle.std.specs.Prelude.{◌≡◌, ◌≢◌, ◌<◌, true, Result, Ok};
+ghost use Rattle.std.specs.Prelude.{◌≡◌, ◌≢◌, ◌<◌, ℕ, true, Result, Ok};
 ghost use Rattle.dn_packet.specs.declared.packet.Packet.{Packet};
 ghost use Rattle.dn_packet.specs.declared.packet.PacketFault.{PacketFault};
 ghost use Rattle.dn_packet.specs.Read.{IsReadAs};
@@ -8,6 +8,7 @@ ghost use Rattle.dn_packet.specs.Text.{text};
 ghost use Rattle.dn_setup.specs.Settings.{Settings};
 ghost use Rattle.dn_setup.specs.Setup.{IsSetupReadAs};
 ghost use Rattle.dn_setup.specs.declared.setup.SetupFault.{SetupFault};
+ghost use Rattle.dn_machine.specs.declared.answers.Heard.TheVariants.{Dropped};
 ghost use Rattle.dn_machine.specs.declared.answers.Phase.TheVariants.{Gathering, Playing};
 ghost use Rattle.dn_machine.specs.Flight.{Flight, packet_of, is_near};
 ghost use Rattle.dn_machine.specs.Hearing.{on_packet};
@@ -43,6 +44,7 @@ impl<W: World> Node<W> {
             → is_near (count_of (contents self.old).rings (contents self.old).me) flight ≡ true
             → Steps W.state W.physics (contents self.old) (contents self.new)
             (λ rules me m. on_packet rules me m flight) (λ heard. result ≡ heard) }
+        ensures dropped { (number : ℕ) → result ≡ Dropped number → contents self.new ≡ contents self.old }
     {
         if let Phase::Ended(_) = self.phase {
             return Heard::Dropped(NOT_PLAYING);
@@ -63,9 +65,10 @@ impl<W: World> Node<W> {
     fn hear(&mut self, from: u8, packet: &Packet) -> Heard
         requires peer { from < (contents self.old).players }
         requires other { from ≢ (contents self.old).me }
-        ensures { (told : Result Settings SetupFault) → IsSetupReadAs packet.now told
+        ensures step { (told : Result Settings SetupFault) → IsSetupReadAs packet.now told
             → Steps W.state W.physics (contents self.old) (contents self.new)
             (λ rules me m. on_read rules me m from told (Ok packet.now)) (λ heard. result ≡ heard) }
+        ensures dropped { (number : ℕ) → result ≡ Dropped number → contents self.new ≡ contents self.old }
     {
         if has_flag(packet, SETUP) {
             return self.hear_set_up(from, packet);
@@ -80,9 +83,10 @@ impl<W: World> Node<W> {
 
     /// Hears a set-up packet, which only a listener takes, and only from the key player.
     fn hear_set_up(&mut self, from: u8, packet: &Packet) -> Heard
-        ensures { (told : Result Settings SetupFault) → IsSetupReadAs packet.now told
+        ensures step { (told : Result Settings SetupFault) → IsSetupReadAs packet.now told
             → Steps W.state W.physics (contents self.old) (contents self.new)
             (λ rules me m. on_set_up m from told m.phase) (λ heard. result ≡ heard) }
+        ensures dropped { (number : ℕ) → result ≡ Dropped number → contents self.new ≡ contents self.old }
     {
         let Phase::Listening = self.phase else {
             return Heard::Dropped(OUT_OF_PLACE);
@@ -106,8 +110,9 @@ impl<W: World> Node<W> {
     fn hear_gathering(&mut self, from: u8, packet: &Packet) -> Heard
         requires gathers { (contents self.old).phase ≡ Gathering }
         requires peer { from < (contents self.old).players }
-        ensures { Steps W.state W.physics (contents self.old) (contents self.new)
+        ensures step { Steps W.state W.physics (contents self.old) (contents self.new)
             (λ rules me m. on_gathered rules m from packet.now) (λ heard. result ≡ heard) }
+        ensures dropped { (number : ℕ) → result ≡ Dropped number → contents self.new ≡ contents self.old }
     {
         if has_flag(packet, KILL) {
             return Heard::Dropped(KILLED);
@@ -126,8 +131,9 @@ impl<W: World> Node<W> {
         requires plays { (contents self.old).phase ≡ Playing }
         requires peer { from < (contents self.old).players }
         requires other { from ≢ (contents self.old).me }
-        ensures { Steps W.state W.physics (contents self.old) (contents self.new)
+        ensures step { Steps W.state W.physics (contents self.old) (contents self.new)
             (λ rules me m. on_played me m from packet.now) (λ heard. result ≡ heard) }
+        ensures dropped { (number : ℕ) → result ≡ Dropped number → contents self.new ≡ contents self.old }
     {
         if has_flag(packet, EXIT) {
             self.end(Cause::Left(from));

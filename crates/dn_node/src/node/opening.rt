@@ -48,6 +48,7 @@ impl<W: World> Node<W> {
             → (config.me ≡ 0 → config.settings ≡ Some settings)
             → Represents W.state (rules_of W.physics config.players config.extra config.limit) config.me
             (contents node) (fresh settings config.me)) }
+        ensures given { IfOk result (λ node. (contents node).world ≡ world) }
     {
         let Config {
             players,

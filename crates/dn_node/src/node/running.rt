@@ -1,6 +1,7 @@
 //! How a node runs a tic.
 
-ghost use Rattle.std.specs.Prelude.{◌≡◌};
+ghost use Rattle.std.specs.Prelude.{◌≡◌, ℕ};
+ghost use Rattle.dn_machine.specs.declared.answers.Ran.TheVariants.{Waiting, NotPlaying};
 
 use super::Node;
 use crate::rows::{awaited, mark_of, off, row_at};
@@ -14,8 +15,10 @@ impl<W: World> Node<W> {
 
     /// Runs the next tic, where every player's command is there and no mark is off.
     pub fn run(&mut self) -> Ran
-        ensures { Steps W.state W.physics (contents self.old) (contents self.new)
+        ensures step { Steps W.state W.physics (contents self.old) (contents self.new)
             (λ rules me m. on_run rules m) (λ ran. result ≡ ran) }
+        ensures waits { (player : ℕ) → result ≡ Waiting player → contents self.new ≡ contents self.old }
+        ensures idle { result ≡ NotPlaying → contents self.new ≡ contents self.old }
     {
         let Phase::Playing = self.phase else {
             return Ran::NotPlaying;

@@ -1,6 +1,6 @@
 //! What a node gives to a peer.
 
-ghost use Rattle.std.specs.Prelude.{◌≡◌, ◌<◌, ◌≤◌, ◌+◌, false, IfSome};
+ghost use Rattle.std.specs.Prelude.{◌≡◌, ◌<◌, ◌≤◌, ◌+◌, false, None, IfSome};
 ghost use Rattle.std.specs.List.{list_any};
 ghost use Rattle.std.specs.Option.{option_map};
 ghost use Rattle.dn_packet.specs.Text.{IsPacket};
@@ -233,6 +233,7 @@ impl<W: World> Node<W> {
             (λ flight. option_map (λ bytes. bytes.items) result ≡ option_map bytes_of flight) }
         ensures fair { Steps W.state W.physics (contents self.old) (contents self.new)
             (λ rules me m. sent_to to rules me m) (λ flight. IfSome flight IsFair) }
+        ensures idle { result ≡ None → contents self.new ≡ contents self.old }
     {
         let packet = self.outgoing(to)?;
         self.note_sent(to);

@@ -1,7 +1,7 @@
 //! What a playing node does with the commands of a packet.
 
-ghost use Rattle.std.specs.Prelude.{◌≡◌, ◌≢◌, ◌<◌};
-ghost use Rattle.dn_machine.specs.declared.answers.Phase.TheVariants.{Playing};
+ghost use Rattle.std.specs.Prelude.{◌≡◌, ◌≢◌, ◌<◌, ℕ};
+ghost use Rattle.dn_machine.specs.declared.answers.Heard.TheVariants.{Dropped};
 ghost use Rattle.dn_node.specs.Received.{on_numbers};
 
 use super::Node;
@@ -24,8 +24,9 @@ impl<W: World> Node<W> {
     pub(super) fn take(&mut self, from: u8, packet: &Packet) -> Heard
         requires peer { from < (contents self.old).players }
         requires other { from ≢ (contents self.old).me }
-        ensures { Steps W.state W.physics (contents self.old) (contents self.new)
+        ensures step { Steps W.state W.physics (contents self.old) (contents self.new)
             (λ rules me m. on_numbers me m from packet.now) (λ heard. result ≡ heard) }
+        ensures dropped { (number : ℕ) → result ≡ Dropped number → contents self.new ≡ contents self.old }
     {
         let made = self.made();
         let Some(start) = expand(made, packet.start) else {

@@ -4,13 +4,13 @@ use Rattle.dn_node.proofs.After.{after}
 use Rattle.dn_node.proofs.Flags.{played_leaves, played_takes}
 use Rattle.dn_node.proofs.node.Node.hear_playing.Goals as goal
 
-pub returns-then-has_flag : goal.returns-then-has_flag
-returns-then-has_flag g c players extra limit me m r =
+pub returns-then-has_flag-clause-step : goal.returns-then-has_flag-clause-step
+returns-then-has_flag-clause-step g c players extra limit me m r =
     after _ Heard.Left (played_leaves me m c.args.from c.args.packet.now (sym c.has_flag.ensures ∙ c.if-has_flag.true))
     (c.end.ensures players extra limit me m r) refl
 
-pub returns : goal.returns
-returns g c players extra limit me m r =
+pub returns-clause-step : goal.returns-clause-step
+returns-clause-step g c players extra limit me m r =
     let step = played_takes me m c.args.from c.args.packet.now (sym c.has_flag.ensures ∙ c.if-has_flag.false) (sym c.has_flag-2.ensures ∙ c.if-has_flag-2.false) in
-    let taken = c.take.ensures players extra limit me m r in
+    let taken = c.take.ensures.step players extra limit me m r in
     after _ _ step taken.node taken.answer

@@ -22,7 +22,7 @@ returns-in-Playing g c players extra limit me m r =
     c.saturating_sub-resend.ensures ∙ ap (λ (k : ℕ). k - c.lag.result) made ∙ ap (λ (k : ℕ). machine.made me m - k) lags in
     let peer = c.put.ensures.put ∙ ap (λ (x : Peer). record x { resend = c.saturating_sub-resend.result }) kept in
     let step = ap (after_giving rules me m c.args.to) (sym r.phase ∙ c.in-Playing.is)
-        ∙ ap (λ (k : ℕ). record m { resend = machine.put m.resend c.args.to k }) (sym tic) ∙ resent m c.args.to c.saturating_sub-resend.result in
+    ∙ ap (λ (k : ℕ). record m { resend = machine.put m.resend c.args.to k }) (sym tic) ∙ resent m c.args.to c.saturating_sub-resend.result in
     along step (shows_peer _ _ me _ m c.args.to _ _ r peer c.put.ensures.others)
 
 pub returns-in-Ended : goal.returns-in-Ended

@@ -30,7 +30,7 @@ returns-clause-step g c players extra limit me m r =
     let some = some_flight packet_of _ _ (c.in_ok-packet.ensures.step players extra limit me m r).answer in
     let sends = sends_in _ game me _ m c.args.to _ r given.below given.other r.phase in
     let noted = ap (λ (x : machine.Node × Option Flight). x.0) sends
-        ∙ some_in game me m c.args.to m.phase some.0 (sym (ap (λ (x : machine.Node × Option Flight). x.1) sends) ∙ some.1) in
+    ∙ some_in game me m c.args.to m.phase some.0 (sym (ap (λ (x : machine.Node × Option Flight). x.1) sends) ∙ some.1) in
     record {
       node = along noted (c.note_sent.ensures players extra limit me m r);
       answer = ap Some (c.encode.ensures ∙ ap text some.2) ∙ sym (ap (option_map bytes_of) some.1);
@@ -43,5 +43,5 @@ returns-clause-fair g c players extra limit me m r =
     let some = some_flight packet_of _ _ (c.in_ok-packet.ensures.step players extra limit me m r).answer in
     let sends = sends_in _ game me _ m c.args.to _ r given.below given.other r.phase in
     let noted = ap (λ (x : machine.Node × Option Flight). x.0) sends
-        ∙ some_in game me m c.args.to m.phase some.0 (sym (ap (λ (x : machine.Node × Option Flight). x.1) sends) ∙ some.1) in
+    ∙ some_in game me m c.args.to m.phase some.0 (sym (ap (λ (x : machine.Node × Option Flight). x.1) sends) ∙ some.1) in
     record { node = along noted (c.note_sent.ensures players extra limit me m r); answer = (c.in_ok-packet.ensures.fair players extra limit me m r).answer }

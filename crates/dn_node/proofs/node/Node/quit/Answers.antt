@@ -7,11 +7,11 @@ use Rattle.dn_node.proofs.After.{after}
 use Rattle.dn_node.proofs.Quitting.{quit_ended, quit_playing, quit_waiting, shows_unplayed}
 use Rattle.dn_node.proofs.node.Node.quit.Goals as goal
 
-pub returns-in-Ended : goal.returns-in-Ended
-returns-in-Ended g c players extra limit me m r = after _ _ (quit_ended m _ (sym r.phase ∙ c.in-Ended.is)) r refl
+pub returns-in-Ended-clause-step : goal.returns-in-Ended-clause-step
+returns-in-Ended-clause-step g c players extra limit me m r = after _ _ (quit_ended m _ (sym r.phase ∙ c.in-Ended.is)) r refl
 
-pub returns-in-Playing : goal.returns-in-Playing
-returns-in-Playing g c players extra limit me m r =
+pub returns-in-Playing-clause-step : goal.returns-in-Playing-clause-step
+returns-in-Playing-clause-step g c players extra limit me m r =
     after _ _ (quit_playing m (sym r.phase ∙ c.in-Playing.is)) (c.end.ensures players extra limit me m r) refl
 
 either : (p q : Phase) → p ≡ q → (p ≡ Listening) ⊎ (p ≡ Gathering) → (q ≡ Listening) ⊎ (q ≡ Gathering)
@@ -22,8 +22,8 @@ waits : (p : Phase) → (p ≡ Listening) ⊎ (p ≡ Gathering) → is_waiting p
 waits p (inl e) = ap is_waiting e
 waits p (inr e) = ap is_waiting e
 
-pub returns-in-Listening : goal.returns-in-Listening
-returns-in-Listening g c players extra limit me m r =
+pub returns-in-Listening-clause-step : goal.returns-in-Listening-clause-step
+returns-in-Listening-clause-step g c players extra limit me m r =
     let n = c.args.self.now in
     after _ _ (quit_waiting m (either n.phase m.phase r.phase c.in-Listening.is))
     (shows_unplayed _ _ me (contents n) m _ r (n.waits (waits n.phase c.in-Listening.is))) refl

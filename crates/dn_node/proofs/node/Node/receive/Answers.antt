@@ -24,10 +24,11 @@ returns-then-from-self-clause-any g c =
 pub returns-in-Ok : goal.returns-in-Ok
 returns-in-Ok g c =
     let any = any_read g.W.World.state g.W.World.physics (contents c.args.self.now) c.args.from c.args.bytes.now c.in_default.not-Ended
-    (contents c.hear.new.self) c.hear.result _ c.if-from-self.false c.if-from-self-2.false c.in-Ok.ensures.only c.hear.ensures in
+    (contents c.hear.new.self) c.hear.result _ c.if-from-self.false c.if-from-self-2.false c.in-Ok.ensures.only c.hear.ensures.step in
     record {
       any = any;
       near = near_from_any g.W.World.state g.W.World.physics (contents c.args.self.now) (contents c.hear.new.self) c.args.from c.args.bytes.now c.hear.result any c.args.self.now.me_below;
+      dropped = c.hear.ensures.dropped;
     }
 
 pub returns-in-Err-Length : goal.returns-in-Err-Length
@@ -39,4 +40,5 @@ returns-in-Err-Length g c =
     record {
       any = any;
       near = near_from_any g.W.World.state g.W.World.physics (contents c.args.self.now) (contents c.args.self.now) c.args.from c.args.bytes.now (Heard.Dropped 3) any c.args.self.now.me_below;
+      dropped = λ number e. refl;
     }

@@ -12,15 +12,15 @@ use Rattle.dn_node.proofs.Room.{row_length, size_more, row_fits}
 use Rattle.dn_node.proofs.Running.{run_not, run_waits, run_off, run_full, run_moves}
 use Rattle.dn_node.proofs.node.Node.run.Goals as goal
 
-pub returns-in_default : goal.returns-in_default
-returns-in_default g c players extra limit me m r = after _ _ (run_not _ m (λ e. c.in_default.not-Playing (r.phase ∙ e))) r refl
+pub returns-in_default-clause-step : goal.returns-in_default-clause-step
+returns-in_default-clause-step g c players extra limit me m r = after _ _ (run_not _ m (λ e. c.in_default.not-Playing (r.phase ∙ e))) r refl
 
-pub returns-in-Some : goal.returns-in-Some
-returns-in-Some g c players extra limit me m r =
+pub returns-in-Some-clause-step : goal.returns-in-Some-clause-step
+returns-in-Some-clause-step g c players extra limit me m r =
     after _ _ (run_waits _ m _ (sym r.phase ∙ c.in-Playing.is) (finds_awaited _ _ me _ m r _ c.in-Some.ensures)) r refl
 
-pub returns-in-Some-off : goal.returns-in-Some-off
-returns-in-Some-off g c players extra limit me m r =
+pub returns-in-Some-off-clause-step : goal.returns-in-Some-off-clause-step
+returns-in-Some-off-clause-step g c players extra limit me m r =
     let n = c.args.self.now in
     let p = c.in-Some-off.player in
     let below = c.in-Some-off.ensures.below in
@@ -29,8 +29,8 @@ returns-in-Some-off g c players extra limit me m r =
     after _ _ (run_off _ m p _ _ (sym r.phase ∙ c.in-Playing.is) (finds_awaited _ _ me _ m r _ c.in_default-awaited.ensures)
     (finds_off _ _ me _ m r n.window _ c.in-Some-off.ensures.lowest) was should) (c.end.ensures players extra limit me m r) refl
 
-pub returns-then-tic-self : goal.returns-then-tic-self
-returns-then-tic-self g c players extra limit me m r =
+pub returns-then-tic-self-clause-step : goal.returns-then-tic-self-clause-step
+returns-then-tic-self-clause-step g c players extra limit me m r =
     after _ _ (run_full _ m (sym r.phase ∙ c.in-Playing.is) (finds_awaited _ _ me _ m r _ c.in_default-awaited.ensures)
     (finds_off _ _ me _ m r c.args.self.now.window _ c.in_default-off.ensures.lowest) (sym r.ran ∙ c.if-tic-self.true ∙ r.capacity))
     (c.end-then-tic-self.ensures players extra limit me m r) refl
@@ -52,8 +52,8 @@ invariant_of-self-2-clause-size g c on =
     size_more c.row.result n.demo c.row.new.self _ n.players n.ran c.row.ensures.written c.row.ensures.kept
     (row_length _ _ n.players c.row.ensures.size (n.seats on) n.few) (n.size on)
 
-pub returns : goal.returns
-returns g c players extra limit me m r =
+pub returns-clause-step : goal.returns-clause-step
+returns-clause-step g c players extra limit me m r =
     let n = c.args.self.now in
     let on = c.in-Playing.is in
     let there = all_there n.players n.ran (λ p. (ring_at n.rings p).count) (sym c.in_default-awaited.ensures) in

@@ -34,10 +34,10 @@ asked g c =
     c.after_asking-peer.ensures ∙ ap (λ (x : Peer). after_asking x c.made-made.result c.request.result) c.get-peer.ensures
     ∙ ap (after_asking (peer_at c.args.self.now.peers c.args.from) c.made-made.result) c.request.ensures
 
-pub returns-then-end-self : goal.returns-then-end-self
-returns-then-end-self g c players extra limit me m r =
+pub returns-then-end-self-clause-step : goal.returns-then-end-self-clause-step
+returns-then-end-self-clause-step g c players extra limit me m r =
     over_shows g.W.World.state (rules_of g.W.World.physics players extra limit) me (contents c.args.self.now) m r c.args.from c.args.packet.now
-    c.made-made.result c.in-Some.start c.as_slice-commands.result.now (read g (goal.at.returns-then-end-self g c).Else-has_stop) c.if-end-self.true
+    c.made-made.result c.in-Some.start c.as_slice-commands.result.now (read g (goal.at.returns-then-end-self-clause-step g c).Else-has_stop) c.if-end-self.true
 
 pub invariant_of-self-clause-resends : goal.invariant_of-self-clause-resends
 invariant_of-self-clause-resends g c =
@@ -45,11 +45,11 @@ invariant_of-self-clause-resends g c =
     c.requires.peer c.made-made.ensures c.args.self.now.resends (asked g (goal.at.invariant_of-self-clause-resends g c).After-after_asking-peer)
     c.put.ensures.others (ap (λ (x : Peer). x.resend) c.put.ensures.put)
 
-pub returns-then-end-got : goal.returns-then-end-got
-returns-then-end-got g c players extra limit me m r =
+pub returns-then-end-got-clause-step : goal.returns-then-end-got-clause-step
+returns-then-end-got-clause-step g c players extra limit me m r =
     stale_shows g.W.World.state (rules_of g.W.World.physics players extra limit) me (contents c.args.self.now) m r c.args.from c.args.packet.now
-    c.made-made.result c.in-Some.start c.as_slice-commands.result.now (read g (goal.at.returns-then-end-got g c).Else-has_stop)
-    c.if-end-self.false c.after_asking-peer.result (asked g (goal.at.returns-then-end-got g c).After-after_asking-peer)
+    c.made-made.result c.in-Some.start c.as_slice-commands.result.now (read g (goal.at.returns-then-end-got-clause-step g c).Else-has_stop)
+    c.if-end-self.false c.after_asking-peer.result (asked g (goal.at.returns-then-end-got-clause-step g c).After-after_asking-peer)
     c.count-got.result c.count-got.ensures (peer_at c.put.new.self) c.put.ensures.others c.if-end-got.true c.put.ensures.put
 
 pub invariant_of-self-then-start-got-clause-resends : goal.invariant_of-self-then-start-got-clause-resends
@@ -58,11 +58,11 @@ invariant_of-self-then-start-got-clause-resends g c =
     c.requires.peer c.made-made.ensures c.args.self.now.resends (asked g (goal.at.invariant_of-self-then-start-got-clause-resends g c).After-after_asking-peer)
     c.put-then-start-got.ensures.others (ap (λ (x : Peer). x.resend) c.put-then-start-got.ensures.put)
 
-pub returns-then-start-got : goal.returns-then-start-got
-returns-then-start-got g c players extra limit me m r =
+pub returns-then-start-got-clause-step : goal.returns-then-start-got-clause-step
+returns-then-start-got-clause-step g c players extra limit me m r =
     gap_shows g.W.World.state (rules_of g.W.World.physics players extra limit) me (contents c.args.self.now) m r c.args.from c.args.packet.now
-    c.made-made.result c.in-Some.start c.as_slice-commands.result.now (read g (goal.at.returns-then-start-got g c).Else-has_stop)
-    c.if-end-self.false c.after_asking-peer.result (asked g (goal.at.returns-then-start-got g c).After-after_asking-peer)
+    c.made-made.result c.in-Some.start c.as_slice-commands.result.now (read g (goal.at.returns-then-start-got-clause-step g c).Else-has_stop)
+    c.if-end-self.false c.after_asking-peer.result (asked g (goal.at.returns-then-start-got-clause-step g c).After-after_asking-peer)
     c.count-got.result c.count-got.ensures (peer_at c.put-then-start-got.new.self) c.put-then-start-got.ensures.others
     c.if-end-got.false c.if-start-got.true c.put-then-start-got.ensures.put
 
@@ -99,10 +99,10 @@ invariant_of-self-2-clause-resends g c =
     c.requires.peer c.made-made.ensures c.args.self.now.resends (asked g (goal.at.invariant_of-self-2-clause-resends g c).After-after_asking-peer)
     c.put-2.ensures.others (ap (λ (x : Peer). x.resend) c.put-2.ensures.put))
 
-pub returns : goal.returns
-returns g c players extra limit me m r =
+pub returns-clause-step : goal.returns-clause-step
+returns-clause-step g c players extra limit me m r =
     taken_shows g.W.World.state (rules_of g.W.World.physics players extra limit) me (contents c.args.self.now) m r c.args.from c.args.packet.now
-    c.made-made.result c.in-Some.start c.as_slice-commands.result.now (read g (goal.at.returns g c).Else-has_stop)
-    c.if-end-self.false c.after_asking-peer.result (asked g (goal.at.returns g c).After-after_asking-peer)
+    c.made-made.result c.in-Some.start c.as_slice-commands.result.now (read g (goal.at.returns-clause-step g c).Else-has_stop)
+    c.if-end-self.false c.after_asking-peer.result (asked g (goal.at.returns-clause-step g c).After-after_asking-peer)
     c.count-got.result c.count-got.ensures (peer_at c.put-2.new.self) c.put-2.ensures.others
     (ring_at c.put_all.new.self) c.if-end-got.false c.if-start-got.false c.put-2.ensures.put c.put_all.ensures.kept c.put_all.ensures.others
