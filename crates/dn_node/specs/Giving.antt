@@ -20,7 +20,7 @@ pub record IsOwn (m : machine.Node) (me : ℕ) (flight : Flight) : Type 0 where
   pub kind : (flight.kind ≡ Play) ⊎ (flight.kind ≡ Exit)
   pub commands : flight.commands ≡ drop flight.start (m.held me)
 
--- there is a packet for this peer, so that it is a peer who was given less than four EXIT packets
+-- who can be given a packet: another player, and once the node has ended one who was given fewer than four EXIT packets
 pub record Gives {W : Type 0} (n : Contents W) (to : ℕ) : Type 0 where
   pub below : to < n.players
   pub other : to ≢ n.me

@@ -1,5 +1,5 @@
--- What a datagram does to a node: the tests that it meets, in their order. The first that it fails is the number of its
--- drop, and a dropped datagram changes nothing.
+-- What a datagram does to a node: the tests that it meets, in their order. The first that it fails tells
+-- the number of its drop, and a dropped datagram changes nothing.
 use Rattle.std.specs.Prelude.{ℕ, not, ◌||◌, ◌==◌, nat_lt, if◌then◌else◌, Option, Some, None, Result, Ok, Err}
 use Rattle.std.specs.List.{list_any}
 use Rattle.dn_tic.specs.Tics.{exact_tic}

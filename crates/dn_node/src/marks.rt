@@ -3,11 +3,9 @@
 ghost use Rattle.std.specs.Prelude.{◌≡◌, ◌≢◌, ◌<◌, ◌≤◌, ◌%◌, ℕ, pos, slice_index_or};
 ghost use Rattle.dn_node.specs.Marks.{slot};
 
+use crate::rings::PLACES;
 use dn_world::World;
 use std::marker::Model;
-
-/// How many tics a player's marks are kept (`d_net.h`, BACKUPTICS).
-const PLACES: u32 = 12;
 
 /// A player's marks, by the remainders of tics.
 #[derive(Clone, Copy, Debug)]

@@ -12,6 +12,7 @@ ghost use Rattle.dn_node.specs.Rows.{seats_of};
 
 mod building;
 mod ending;
+mod giving;
 mod hearing;
 mod opening;
 mod running;

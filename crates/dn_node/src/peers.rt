@@ -3,13 +3,11 @@
 ghost use Rattle.std.specs.Prelude.{◌≡◌, ◌≢◌, ◌<◌, ℕ};
 ghost use Rattle.dn_node.specs.Peers.{no_peer, peer_at, after_asking};
 
+use crate::rings::PLACES;
 use std::marker::Model;
 
 /// Within so many packets after a request no other is heard (`d_net.c`, RESENDCOUNT).
 const HOLD: u8 = 10;
-
-/// How many commands a ring holds (`d_net.h`, BACKUPTICS).
-const PLACES: u32 = 12;
 
 /// What a node keeps of a peer.
 #[derive(Clone, Copy, Debug)]

@@ -12,6 +12,9 @@ use dn_ring::Ring;
 use dn_tic::TicCmd;
 use std::marker::Model;
 
+/// For how many tics a player's commands and marks are kept (`d_net.h`, BACKUPTICS).
+pub(crate) const PLACES: u32 = 12;
+
 /// A ring for each of four players. A contract sees the rings by the players' numbers. No command in
 /// them goes forward by -128, which a demo cannot tell from its marker.
 #[derive(Debug, Drop)]

@@ -13,7 +13,7 @@ use crate::marks::Marks;
 use crate::rings::Rings;
 use dn_tic::{Move, round};
 
-/// The first tic whose marks are not compared is 12, since command 12 is the first with a mark.
+/// The last tic whose marks are not compared (`g_game.c`, G_Ticker).
 const LAST_UNCHECKED: u32 = 12;
 
 /// Which seats are taken.
@@ -61,7 +61,8 @@ fn differing(rings: &Rings, marks: &Marks, players: u8, tic: u32) -> Option<u8>
     None
 }
 
-/// The same, where marks are compared.
+/// The lowest player whose command is off: it carries another mark than the table has, for a tic whose
+/// marks are compared.
 pub(crate) fn off(rings: &Rings, marks: &Marks, players: u8, tic: u32) -> Option<u8>
     requires { players ≤ 4 }
     ensures below { IfSome result (λ p. p < players) }

@@ -120,6 +120,7 @@ impl<W: World> Node<W> {
         if !self.gather.hear(from) {
             return Heard::Noted;
         }
+        // a node that gathers has settings
         if let Some(settings) = self.settings {
             self.start(settings);
         }

@@ -13,7 +13,7 @@ impl<W: World> Node<W> {
     ghost use Rattle.dn_node.specs.Contents.{contents};
     ghost use Rattle.dn_node.specs.Steps.{Steps};
 
-    /// Runs the next tic, where every player's command is there and no mark is off.
+    /// Runs the next tic, where every player's command is there, no mark is off, and the demo has room.
     pub fn run(&mut self) -> Ran
         ensures step { Steps W.state W.physics (contents self.old) (contents self.new)
             (λ rules me m. on_run rules m) (λ ran. result ≡ ran) }
@@ -49,6 +49,7 @@ impl<W: World> Node<W> {
         self.marks.stamp(&self.world, self.players, tic);
         self.world.step(&row);
         self.ran += 1;
+        // this fits, since the tic is below the capacity
         self.demo.row(&row);
         Ran::Ran(tic)
     }

@@ -8,13 +8,11 @@ use super::Node;
 use crate::numbers::{OVERRUN, STOPPER, STRANGE_TIC};
 use crate::peers::Peer;
 use crate::reading::{has_stop, request};
+use crate::rings::PLACES;
 use dn_machine::Heard;
 use dn_packet::Packet;
 use dn_tic::expand;
 use dn_world::World;
-
-/// How many commands a ring keeps (`d_net.h`, BACKUPTICS).
-const PLACES: u32 = 12;
 
 impl<W: World> Node<W> {
     ghost use Rattle.dn_node.specs.Contents.{contents};
