@@ -6,14 +6,19 @@ use Rattle.std.proofs.lemmas.Option.{same_Some}
 use Rattle.dn_machine.specs.declared.answers.Phase.{Phase}
 use Rattle.dn_machine.specs.declared.answers.Phase.TheVariants.{Listening, Gathering, Playing, Ended}
 use Rattle.dn_machine.specs.Worlds.{Rules}
-use Rattle.dn_machine.specs.Flight.{Flight}
+use Rattle.dn_machine.specs.Flight.{Flight, packet_of}
 use Rattle.dn_machine.specs.Sending.{on_send_in}
 use Rattle.dn_machine.specs.Node as machine
 use Rattle.dn_machine.specs.Node.{put}
+use Rattle.dn_packet.specs.declared.packet.Packet.{Packet}
+use Rattle.dn_node.specs.Contents.{Contents}
+use Rattle.dn_node.specs.Giving.{Gives}
 use Rattle.dn_node.specs.Peers.{peer_of}
+use Rattle.dn_node.specs.Represents.{Represents}
 use Rattle.dn_node.specs.Sent.{sent_to, after_giving}
+use Rattle.dn_node.proofs.After.{along}
 use Rattle.dn_node.proofs.Peering.{with_peer, put_same}
-use Rattle.dn_node.proofs.Sending.{to_itself, to_nobody, to_peer}
+use Rattle.dn_node.proofs.Sending.{to_itself, to_nobody, to_peer, sends_in}
 
 module _ (m : machine.Node) (to tic : ℕ) where
   pub resent : record m { resend = put m.resend to tic } ≡ with_peer m to (record (peer_of m to) { resend = tic })
@@ -52,7 +57,7 @@ module _ {S : Type 0} (rules : Rules S) (me : ℕ) (m : machine.Node) (to : ℕ)
   none_in Playing e = absurd (cc)
   none_in (Ended cause) e = ended_none _ _ _ e
 
-  pub some_in : (phase : Phase) (given : Flight) → (on_send_in rules me m to phase).1 ≡ Some given
+  some_in : (phase : Phase) (given : Flight) → (on_send_in rules me m to phase).1 ≡ Some given
       → (on_send_in rules me m to phase).0 ≡ after_giving rules me m to phase
   some_in Listening given e = refl
   some_in Gathering given e = refl
@@ -82,3 +87,13 @@ pub some_flight : {A : Type 0} (view : Flight → A) (a : A) (sent : Option Flig
     → (flight : Flight) × (sent ≡ Some flight) × (a ≡ view flight)
 some_flight view a None e = absurd (cc)
 some_flight view a (Some flight) e = (flight, refl, same_Some _ _ e)
+
+-- a node that gave a packet, and noted it
+pub given_shows : {W S : Type 0} (state : W → S) (rules : Rules S) (me : ℕ) (n new : Contents W) (m : machine.Node) (to : ℕ) (packet : Packet)
+    → Represents state rules me n m → Gives n to → Some packet ≡ option_map packet_of (sent_to to rules me m).1
+    → Represents state rules me new (after_giving rules me m to m.phase) → Represents state rules me new (sent_to to rules me m).0
+given_shows state rules me n new m to packet r given is shows =
+    let some = some_flight packet_of packet _ is in
+    let sends = sends_in state rules me n m to _ r given.below given.other r.phase in
+    along (ap (λ (x : machine.Node × Option Flight). x.0) sends
+    ∙ some_in rules me m to m.phase some.0 (sym (ap (λ (x : machine.Node × Option Flight). x.1) sends) ∙ some.1)) shows

@@ -1,7 +1,6 @@
 -- What a node represents after a tic.
-use Rattle.std.proofs.Common.{◌≡◌, ◌≢◌, ◌<◌, ◌≤◌, ◌+◌, ◌-◌, ◌%◌, ℕ, ℤ, Bool, true, false, List, [], ◌∷◌, ◌++◌, length, take, refl, ap, sym, ◌∙◌, arith, inl, inr, Option, Some, None, fold}
-use Rattle.std.specs.Prelude.{nat_lt, if◌then◌else◌}
-use Rattle.std.specs.Option.{option_map}
+use Rattle.std.proofs.Common.{◌≡◌, ◌≢◌, ◌<◌, ◌≤◌, ◌+◌, ◌-◌, ◌%◌, ℕ, ℤ, true, List, [], ◌∷◌, ◌++◌, length, take, refl, ap, sym, ◌∙◌, arith, inl, inr, Option, Some, None, fold}
+use Rattle.std.specs.Prelude.{nat_lt}
 use Rattle.std.proofs.lemmas.Bool.{cases_lt, cases_eq, lt-ltb, le-ltb, cond-true, cond-false}
 use Rattle.std.proofs.lemmas.Option.{same_Some}
 use Rattle.std.proofs.lemmas.List.{length_push, take-append-le}
@@ -10,17 +9,15 @@ use Rattle.std.proofs.Math.Seq.{take-length}
 use Rattle.dn_tic.specs.declared.command.Move.{Move}
 use Rattle.dn_setup.specs.Settings.{Settings}
 use Rattle.dn_setup.specs.Starts.{start_of}
-use Rattle.dn_demo.specs.Text.{demo_text}
 use Rattle.dn_demo.specs.Recorded.{Recorded, AddsRow}
-use Rattle.dn_machine.specs.declared.answers.Phase.{Phase}
 use Rattle.dn_machine.specs.declared.answers.Phase.TheVariants.{Playing}
 use Rattle.dn_machine.specs.Worlds.{Rules, mark_in, opening}
 use Rattle.dn_machine.specs.Node as machine
 use Rattle.dn_machine.specs.Node.{own_mark, own_world, world_after}
 use Rattle.dn_node.specs.Contents.{Contents}
-use Rattle.dn_node.specs.Phases.{is_ended}
-use Rattle.dn_node.specs.Represents.{Represents, demo_of, demo_with}
+use Rattle.dn_node.specs.Represents.{Represents}
 use Rattle.dn_node.specs.Rows.{seats_of}
+use Rattle.dn_node.proofs.Replaying.{own_world_is, demo_is}
 
 -- the machine's node after one row more
 abbrev pub moved : machine.Node → List (Option Move) → machine.Node
@@ -39,16 +36,6 @@ module _ {S : Type 0} (rules : Rules S) (settings : Settings) (rows : List (List
   world_before : (tic : ℕ) → tic ≤ length rows → world_after rules settings (rows ++ row ∷ []) tic ≡ world_after rules settings rows tic
   unfolding world_after
   world_before tic low = ap (fold rules.physics.step (opening rules settings)) (take-append-le tic rows (row ∷ []) low)
-
-module _ {S : Type 0} (rules : Rules S) (m : machine.Node) (settings : Settings) (known : m.settings ≡ Some settings) where
-  own_world_is : (tic : ℕ) → own_world rules m tic ≡ Some (world_after rules settings m.rows tic)
-  own_world_is tic = ap (option_map (λ (s : Settings). world_after rules s m.rows tic)) known
-
-  demo_is : (me : ℕ) → m.played ≡ true → m.phase ≡ Playing → demo_of rules me m ≡ demo_text (start_of settings) me (seats_of rules.players) m.rows false
-  demo_is me played on =
-      ap (λ (b : Bool). if b then demo_with rules me m m.settings else []) played
-      ∙ ap (demo_with rules me m) known
-      ∙ ap (λ (p : Phase). demo_text (start_of settings) me (seats_of rules.players) m.rows (is_ended p)) on
 
 module _ {S : Type 0} (rules : Rules S) (m : machine.Node) (settings : Settings) (known : m.settings ≡ Some settings) (row : List (Option Move)) where
   own_world_before : (tic : ℕ) → tic ≤ machine.ran m → own_world rules (moved m row) tic ≡ own_world rules m tic
@@ -123,6 +110,6 @@ shows_moved {W} {S} state rules me n m row marks demo world r on has_played has_
             let apart : tic % 12 ≢ n.ran % 12 = λ h. absurd (omega arith) in
             others p (tic % 12) apart ∙ r.marks p tic below (omega arith) (omega arith) ∙ sym (own_mark_before rules m settings known row p tic (omega arith))
       ];
-      demo = text (start_of settings) me (seats_of rules.players) m.rows (r.demo ∙ demo_is rules m settings known me played playing)
-          ∙ sym (demo_is rules (moved m row) settings known me played playing);
+      demo = text (start_of settings) me (seats_of rules.players) m.rows (r.demo ∙ demo_is rules m settings known me Playing played playing)
+          ∙ sym (demo_is rules (moved m row) settings known me Playing played playing);
     }

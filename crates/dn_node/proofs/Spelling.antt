@@ -17,9 +17,12 @@ use Rattle.dn_machine.specs.Flight.{Kind, Play, Exit, Flight, packet_of, packet_
 use Rattle.dn_machine.specs.Sending.{on_send_in, exit_flight, set_up_flight}
 use Rattle.dn_node.specs.declared.node.sending.Aim.{Aim}
 use Rattle.dn_node.specs.Rings.{is_stop}
-use Rattle.dn_node.specs.Sent.{aim_of}
-use Rattle.dn_node.specs.Giving.{IsOwn}
+use Rattle.dn_node.specs.Contents.{Contents}
+use Rattle.dn_node.specs.Represents.{Represents}
+use Rattle.dn_node.specs.Sent.{sent_to, aim_of}
+use Rattle.dn_node.specs.Giving.{IsOwn, Gives}
 use Rattle.dn_node.specs.Near.{IsFair, IsFairKind}
+use Rattle.dn_node.proofs.Sending.{sends_in}
 
 -- only a gathering node sends anything but its own commands
 module _ {S : Type 0} (rules : Rules S) (me : ℕ) (m : machine.Node) (to : ℕ) where
@@ -28,11 +31,18 @@ module _ {S : Type 0} (rules : Rules S) (me : ℕ) (m : machine.Node) (to : ℕ)
   exits true next = record { from = refl; kind = inr refl; commands = sym (drop-length (m.held me)) }
   exits false next = tt
 
-  pub sends_own : (phase : Phase) → phase ≢ Gathering → IfSome (on_send_in rules me m to phase).1 (IsOwn m me)
+  sends_own : (phase : Phase) → phase ≢ Gathering → IfSome (on_send_in rules me m to phase).1 (IsOwn m me)
   sends_own Listening n = tt
   sends_own Gathering n = absurd (n refl)
   sends_own Playing n = record { from = refl; kind = inl refl; commands = refl }
   sends_own (Ended cause) n = exits _ _
+
+-- so does a node that represents it
+pub own_sent : {W S : Type 0} (state : W → S) (rules : Rules S) (me : ℕ) (n : Contents W) (m : machine.Node) (to : ℕ)
+    → Represents state rules me n m → Gives n to → n.phase ≢ Gathering → IfSome (sent_to to rules me m).1 (IsOwn m me)
+own_sent state rules me n m to r given on =
+    let P : machine.Node × Option Flight → Type 0 = λ x. IfSome x.1 (IsOwn m me) in
+    subst P (sym (sends_in state rules me n m to _ r given.below given.other r.phase)) (sends_own rules me m to m.phase (λ e. on (r.phase ∙ e)))
 
 module _ (m : machine.Node) (me : ℕ) (aim : Aim) (packet : Packet) (spelled : (flight : Flight) → IsOwn m me flight → aim ≡ aim_of flight → packet ≡ packet_of flight) where
   -- the packet of its numbers is the flight's
@@ -41,13 +51,14 @@ module _ (m : machine.Node) (me : ℕ) (aim : Aim) (packet : Packet) (spelled : 
   own_packet None own e = absurd (cc)
   own_packet (Some flight) own e = ap Some (spelled flight own (same_Some _ _ e))
 
+  no_stop_in : (flight : Flight) (kind : Kind) → flight.kind ≡ kind → packet ≡ packet_of flight → list_any is_stop packet.cmds.items ≡ false
+      → list_any is_stop (packet_of_kind flight kind).cmds.items ≡ false
+  no_stop_in flight kind is e fine =
+      ap (λ (k : Kind). list_any is_stop (packet_of_kind flight k).cmds.items) (sym is) ∙ ap (λ (p : Packet). list_any is_stop p.cmds.items) (sym e) ∙ fine
+
   kind_fair : (flight : Flight) → packet ≡ packet_of flight → list_any is_stop packet.cmds.items ≡ false → (flight.kind ≡ Play) ⊎ (flight.kind ≡ Exit) → IsFairKind flight flight.kind
-  kind_fair flight e fine (inl is) =
-      let P : Kind → Type 0 = IsFairKind flight in
-      subst P (sym is) (ap (λ (k : Kind). list_any is_stop (packet_of_kind flight k).cmds.items) (sym is) ∙ ap (λ (p : Packet). list_any is_stop p.cmds.items) (sym e) ∙ fine)
-  kind_fair flight e fine (inr is) =
-      let P : Kind → Type 0 = IsFairKind flight in
-      subst P (sym is) (ap (λ (k : Kind). list_any is_stop (packet_of_kind flight k).cmds.items) (sym is) ∙ ap (λ (p : Packet). list_any is_stop p.cmds.items) (sym e) ∙ fine)
+  kind_fair flight e fine (inl is) = let P : Kind → Type 0 = IsFairKind flight in subst P (sym is) (no_stop_in flight Play is e fine)
+  kind_fair flight e fine (inr is) = let P : Kind → Type 0 = IsFairKind flight in subst P (sym is) (no_stop_in flight Exit is e fine)
 
   -- and a fair one
   pub own_fair : (sent : Option Flight) → IfSome sent (IsOwn m me) → ◌≡◌ {A = Option Aim} (Some aim) (option_map aim_of sent)

@@ -5,20 +5,13 @@ use Rattle.dn_machine.specs.Flight.{Flight, packet_of}
 use Rattle.dn_machine.specs.Node as machine
 use Rattle.dn_machine.specs.Worlds.{rules_of}
 use Rattle.dn_node.specs.Near.{IsFair}
-use Rattle.dn_node.specs.Giving.{IsOwn}
-use Rattle.dn_node.specs.Sent.{sent_to}
-use Rattle.dn_node.proofs.Spelling.{sends_own, own_packet, own_fair, set_up_packet, set_up_fair}
+use Rattle.dn_node.proofs.Spelling.{own_sent, own_packet, own_fair, set_up_packet, set_up_fair}
 use Rattle.dn_node.proofs.Sending.{sends_in}
 use Rattle.dn_node.proofs.node.Node.outgoing.Goals as goal
 
 pub returns-in_default-clause-step : goal.returns-in_default-clause-step
 returns-in_default-clause-step g c players extra limit me m r =
-    let rules = rules_of g.W.World.physics players extra limit in
-    let given = c.in_ok-aim.ensures.reach.1 in
-    let sends = sends_in _ rules me _ m c.args.to _ r given.below given.other r.phase in
-    let own = sends_own rules me m c.args.to m.phase (λ e. c.in_default.not-Gathering (r.phase ∙ e)) in
-    let sent : IfSome (sent_to c.args.to rules me m).1 (IsOwn m me) =
-    subst (λ (x : machine.Node × Option Flight). IfSome x.1 (IsOwn m me)) (sym sends) own in
+    let sent = own_sent _ (rules_of g.W.World.physics players extra limit) me _ m c.args.to r c.in_ok-aim.ensures.reach.1 c.in_default.not-Gathering in
     record {
       node = r;
       answer = own_packet m me c.in_ok-aim.aim c.commands_packet.result (c.commands_packet.ensures.packet players extra limit me m r).answer _ sent
@@ -27,12 +20,7 @@ returns-in_default-clause-step g c players extra limit me m r =
 
 pub returns-in_default-clause-fair : goal.returns-in_default-clause-fair
 returns-in_default-clause-fair g c players extra limit me m r =
-    let rules = rules_of g.W.World.physics players extra limit in
-    let given = c.in_ok-aim.ensures.reach.1 in
-    let sends = sends_in _ rules me _ m c.args.to _ r given.below given.other r.phase in
-    let own = sends_own rules me m c.args.to m.phase (λ e. c.in_default.not-Gathering (r.phase ∙ e)) in
-    let sent : IfSome (sent_to c.args.to rules me m).1 (IsOwn m me) =
-    subst (λ (x : machine.Node × Option Flight). IfSome x.1 (IsOwn m me)) (sym sends) own in
+    let sent = own_sent _ (rules_of g.W.World.physics players extra limit) me _ m c.args.to r c.in_ok-aim.ensures.reach.1 c.in_default.not-Gathering in
     record {
       node = r;
       answer = own_fair m me c.in_ok-aim.aim c.commands_packet.result (c.commands_packet.ensures.packet players extra limit me m r).answer _ sent

@@ -1,13 +1,11 @@
-use Rattle.std.proofs.Common.{rules, ◌≡◌, Option, Some, None, ap, sym, ◌∙◌}
+use Rattle.std.proofs.Common.{rules, ◌≡◌, Some, None, ap, sym, ◌∙◌}
 use Rattle.std.specs.Option.{option_map}
 use Rattle.dn_packet.specs.Text.{text}
-use Rattle.dn_machine.specs.Flight.{Flight, packet_of}
-use Rattle.dn_machine.specs.Node as machine
+use Rattle.dn_machine.specs.Flight.{packet_of}
 use Rattle.dn_machine.specs.Worlds.{rules_of}
 use Rattle.dn_node.specs.Sent.{bytes_of}
 use Rattle.dn_node.proofs.After.{along}
-use Rattle.dn_node.proofs.Sending.{sends_in}
-use Rattle.dn_node.proofs.Giving.{some_in, none_sent, no_flight, some_flight}
+use Rattle.dn_node.proofs.Giving.{none_sent, no_flight, some_flight, given_shows}
 use Rattle.dn_node.proofs.node.Node.packet.Goals as goal
 
 pub returns-in_err-packet-clause-step : goal.returns-in_err-packet-clause-step
@@ -26,22 +24,18 @@ returns-in_err-packet-clause-fair g c players extra limit me m r =
 pub returns-clause-step : goal.returns-clause-step
 returns-clause-step g c players extra limit me m r =
     let game = rules_of g.W.World.physics players extra limit in
-    let given = c.in_ok-packet.ensures.given in
-    let some = some_flight packet_of _ _ (c.in_ok-packet.ensures.step players extra limit me m r).answer in
-    let sends = sends_in _ game me _ m c.args.to _ r given.below given.other r.phase in
-    let noted = ap (λ (x : machine.Node × Option Flight). x.0) sends
-    ∙ some_in game me m c.args.to m.phase some.0 (sym (ap (λ (x : machine.Node × Option Flight). x.1) sends) ∙ some.1) in
+    let sent = (c.in_ok-packet.ensures.step players extra limit me m r).answer in
+    let some = some_flight packet_of _ _ sent in
     record {
-      node = along noted (c.note_sent.ensures players extra limit me m r);
+      node = given_shows _ game me _ _ m c.args.to _ r c.in_ok-packet.ensures.given sent (c.note_sent.ensures players extra limit me m r);
       answer = ap Some (c.encode.ensures ∙ ap text some.2) ∙ sym (ap (option_map bytes_of) some.1);
     }
 
 pub returns-clause-fair : goal.returns-clause-fair
 returns-clause-fair g c players extra limit me m r =
     let game = rules_of g.W.World.physics players extra limit in
-    let given = c.in_ok-packet.ensures.given in
-    let some = some_flight packet_of _ _ (c.in_ok-packet.ensures.step players extra limit me m r).answer in
-    let sends = sends_in _ game me _ m c.args.to _ r given.below given.other r.phase in
-    let noted = ap (λ (x : machine.Node × Option Flight). x.0) sends
-    ∙ some_in game me m c.args.to m.phase some.0 (sym (ap (λ (x : machine.Node × Option Flight). x.1) sends) ∙ some.1) in
-    record { node = along noted (c.note_sent.ensures players extra limit me m r); answer = (c.in_ok-packet.ensures.fair players extra limit me m r).answer }
+    let sent = (c.in_ok-packet.ensures.step players extra limit me m r).answer in
+    record {
+      node = given_shows _ game me _ _ m c.args.to _ r c.in_ok-packet.ensures.given sent (c.note_sent.ensures players extra limit me m r);
+      answer = (c.in_ok-packet.ensures.fair players extra limit me m r).answer;
+    }
