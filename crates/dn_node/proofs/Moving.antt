@@ -1,7 +1,7 @@
 -- What a node represents after a tic.
 use Rattle.std.proofs.Common.{◌≡◌, ◌≢◌, ◌<◌, ◌≤◌, ◌+◌, ◌-◌, ◌%◌, ℕ, ℤ, true, List, [], ◌∷◌, ◌++◌, length, take, refl, ap, sym, ◌∙◌, arith, inl, inr, Option, Some, None, fold}
 use Rattle.std.specs.Prelude.{nat_lt}
-use Rattle.std.proofs.lemmas.Bool.{cases_lt, cases_eq, lt-ltb, le-ltb, cond-true, cond-false}
+use Rattle.std.proofs.lemmas.Bool.{cases_lt, cases_eq, le-ltb, cond-false}
 use Rattle.std.proofs.lemmas.Option.{same_Some}
 use Rattle.std.proofs.lemmas.List.{length_push, take-append-le}
 use Rattle.std.proofs.lemmas.List.Sums.{fold-append}
@@ -18,6 +18,7 @@ use Rattle.dn_node.specs.Contents.{Contents}
 use Rattle.dn_node.specs.Represents.{Represents}
 use Rattle.dn_node.specs.Rows.{seats_of}
 use Rattle.dn_node.proofs.Replaying.{own_world_is, demo_is}
+use Rattle.dn_node.proofs.Starting.{early_mark}
 
 -- the machine's node after one row more
 abbrev pub moved : machine.Node → List (Option Move) → machine.Node
@@ -46,7 +47,7 @@ module _ {S : Type 0} (rules : Rules S) (m : machine.Node) (settings : Settings)
   -- up to twelve tics on the marks are as before
   own_mark_before : (p tic : ℕ) → tic ≤ machine.ran m + 12 → own_mark rules (moved m row) p tic ≡ own_mark rules m p tic
   own_mark_before p tic low = elim (cases_lt tic 12) [
-    | inl early ↦ cond-true (nat_lt tic 12) _ _ (lt-ltb tic 12 early) ∙ sym (cond-true (nat_lt tic 12) _ _ (lt-ltb tic 12 early))
+    | inl early ↦ early_mark rules (moved m row) m p tic early
     | inr late ↦
         cond-false (nat_lt tic 12) _ _ (le-ltb tic 12 late)
         ∙ ap (λ (w : Option S). mark_in rules.physics w p) (own_world_before (tic - 12) (omega arith))

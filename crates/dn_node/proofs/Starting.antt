@@ -1,7 +1,5 @@
 -- What a node represents once it has started.
 use Rattle.std.proofs.Common.{◌≡◌, ◌<◌, ℕ, true, false, List, [], ◌∷◌, length, refl, ap, sym, ◌∙◌, arith, Option, Some}
-use Rattle.std.specs.Prelude.{nat_lt}
-use Rattle.std.proofs.lemmas.Bool.{cond-true, lt-ltb}
 use Rattle.dn_tic.specs.declared.command.Move.{Move}
 use Rattle.dn_setup.specs.Settings.{Settings}
 use Rattle.dn_setup.specs.Starts.{start_of}
@@ -16,6 +14,7 @@ use Rattle.dn_machine.specs.Hearing.{started}
 use Rattle.dn_node.specs.Contents.{Contents}
 use Rattle.dn_node.specs.Represents.{Represents}
 use Rattle.dn_node.specs.Rows.{seats_of}
+use Rattle.dn_node.proofs.Opening.{first_marks}
 
 -- a list of no length
 pub none_there : {A : Type 0} (xs : List A) → length xs ≡ 0 → xs ≡ []
@@ -36,8 +35,7 @@ world_at_first rules settings rows e = ap (λ (rs : List (List (Option Move))). 
 -- the mark of an early tic is 0 by any node
 pub early_mark : {S : Type 0} (rules : Rules S) (m other : machine.Node) (p tic : ℕ) → tic < 12
     → own_mark rules m p tic ≡ own_mark rules other p tic
-early_mark rules m other p tic low =
-    cond-true (nat_lt tic 12) _ _ (lt-ltb tic 12 low) ∙ sym (cond-true (nat_lt tic 12) _ _ (lt-ltb tic 12 low))
+early_mark rules m other p tic low = sym (first_marks rules m p tic low) ∙ first_marks rules other p tic low
 
 pub shows_start : {W S : Type 0} (state : W → S) (rules : Rules S) (me : ℕ) (n : Contents W) (m : machine.Node) (settings : Settings) (world : W) (demo : Recorded)
     → Represents state rules me n m → n.ran ≡ 0

@@ -63,7 +63,7 @@ fn differing(rings: &Rings, marks: &Marks, players: u8, tic: u32) -> Option<u8>
 
 /// The lowest player whose command is off: it carries another mark than the table has, for a tic whose
 /// marks are compared.
-pub(crate) fn off(rings: &Rings, marks: &Marks, players: u8, tic: u32) -> Option<u8>
+pub(crate) fn first_off(rings: &Rings, marks: &Marks, players: u8, tic: u32) -> Option<u8>
     requires { players ≤ 4 }
     ensures below { IfSome result (λ p. p < players) }
     ensures lowest { result ≡ (if nat_lt 12 tic then lowest players (differs (ring_at rings.now) (slot marks.now) tic) else None) }

@@ -4,7 +4,7 @@ ghost use Rattle.std.specs.Prelude.{◌≡◌, ℕ};
 ghost use Rattle.dn_machine.specs.declared.answers.Ran.TheVariants.{Waiting, NotPlaying};
 
 use super::Node;
-use crate::rows::{awaited, mark_of, off, row_at};
+use crate::rows::{awaited, first_off, mark_of, row_at};
 use dn_machine::{Cause, Phase, Ran};
 use dn_world::World;
 
@@ -27,7 +27,7 @@ impl<W: World> Node<W> {
         if let Some(player) = awaited(&self.rings, self.players, tic) {
             return Ran::Waiting(player);
         }
-        if let Some(player) = off(&self.rings, &self.marks, self.players, tic) {
+        if let Some(player) = first_off(&self.rings, &self.marks, self.players, tic) {
             let was = mark_of(&self.rings, player, tic);
             let should = self.marks.get(player, tic);
             self.end(Cause::Inconsistent {

@@ -19,20 +19,20 @@ pub returns-in-Some-clause-step : goal.returns-in-Some-clause-step
 returns-in-Some-clause-step g c players extra limit me m r =
     after _ _ (run_waits _ m _ (sym r.phase ∙ c.in-Playing.is) (finds_awaited _ _ me _ m r _ c.in-Some.ensures)) r refl
 
-pub returns-in-Some-off-clause-step : goal.returns-in-Some-off-clause-step
-returns-in-Some-off-clause-step g c players extra limit me m r =
+pub returns-in-Some-first_off-clause-step : goal.returns-in-Some-first_off-clause-step
+returns-in-Some-first_off-clause-step g c players extra limit me m r =
     let n = c.args.self.now in
-    let p = c.in-Some-off.player in
-    let below = c.in-Some-off.ensures.below in
+    let p = c.in-Some-first_off.player in
+    let below = c.in-Some-first_off.ensures.below in
     let was = to_z-of_z w16 c.mark_of-was.result (search rules) ∙ c.mark_of-was.ensures ∙ mark_is _ _ me _ m r n.window p below in
     let should = to_z-of_z w16 c.get-should.result (search rules) ∙ c.get-should.ensures ∙ should_is _ _ me _ m r n.window p below in
     after _ _ (run_off _ m p _ _ (sym r.phase ∙ c.in-Playing.is) (finds_awaited _ _ me _ m r _ c.in_default-awaited.ensures)
-    (finds_off _ _ me _ m r n.window _ c.in-Some-off.ensures.lowest) was should) (c.end.ensures players extra limit me m r) refl
+    (finds_off _ _ me _ m r n.window _ c.in-Some-first_off.ensures.lowest) was should) (c.end.ensures players extra limit me m r) refl
 
 pub returns-then-tic-self-clause-step : goal.returns-then-tic-self-clause-step
 returns-then-tic-self-clause-step g c players extra limit me m r =
     after _ _ (run_full _ m (sym r.phase ∙ c.in-Playing.is) (finds_awaited _ _ me _ m r _ c.in_default-awaited.ensures)
-    (finds_off _ _ me _ m r c.args.self.now.window _ c.in_default-off.ensures.lowest) (sym r.ran ∙ c.if-tic-self.true ∙ r.capacity))
+    (finds_off _ _ me _ m r c.args.self.now.window _ c.in_default-first_off.ensures.lowest) (sym r.ran ∙ c.if-tic-self.true ∙ r.capacity))
     (c.end-then-tic-self.ensures players extra limit me m r) refl
 
 pub row_at-row-requires-clause-there : goal.row_at-row-requires-clause-there
@@ -61,7 +61,7 @@ returns-clause-step g c players extra limit me m r =
     let long = row_length _ _ n.players c.row.ensures.size (n.seats on) n.few in
     let wrote = c.row.ensures.fits ∙ row_fits _ _ me _ m _ r (omega (arith, n.me_below)) (omega (arith, n.ran_fits, c.if-tic-self.false)) (n.size on) long in
     after _ _ (run_moves _ m (sym r.phase ∙ on) (finds_awaited _ _ me _ m r _ c.in_default-awaited.ensures)
-    (finds_off _ _ me _ m r n.window _ c.in_default-off.ensures.lowest) (λ e. c.if-tic-self.false (r.ran ∙ e ∙ sym r.capacity)))
+    (finds_off _ _ me _ m r n.window _ c.in_default-first_off.ensures.lowest) (λ e. c.if-tic-self.false (r.ran ∙ e ∙ sym r.capacity)))
     (shows_moved _ _ me _ m _ _ _ _ r on (n.plays on) (n.known (n.plays on)) c.stamp.ensures.marks c.stamp.ensures.others
     (subst (AddsRow n.demo.bytes c.row.new.self.bytes) row (c.row.ensures.text wrote)) (ap (λ (d : Recorded). d.limit) (c.row.ensures.written wrote))
     (c.step.ensures ∙ ap (g.W.World.physics.step (g.W.World.state n.world)) row))
