@@ -1,6 +1,6 @@
 //! How a node builds a command.
 
-ghost use Rattle.std.specs.Prelude.{◌≡◌, ◌⊎◌};
+ghost use Rattle.std.specs.Prelude.{◌≡◌};
 ghost use Rattle.dn_machine.specs.declared.answers.Made.TheVariants.{Full, NotPlaying};
 
 use super::Node;
@@ -16,11 +16,12 @@ impl<W: World> Node<W> {
     ghost use Rattle.dn_node.specs.Contents.{contents};
     ghost use Rattle.dn_node.specs.Steps.{Steps};
 
-    /// Builds the command of these keys for the next tic.
+    /// Builds the command of these keys for the next tic. A node that builds none stays as it is.
     pub fn build(&mut self, keys: Keys) -> Made
         ensures step { Steps W.state W.physics (contents self.old) (contents self.new)
             (λ rules me m. on_build rules me m keys) (λ made. result ≡ made) }
-        ensures idle { (result ≡ Full) ⊎ (result ≡ NotPlaying) → contents self.new ≡ contents self.old }
+        ensures full { result ≡ Full → contents self.new ≡ contents self.old }
+        ensures idle { result ≡ NotPlaying → contents self.new ≡ contents self.old }
     {
         let Phase::Playing = self.phase else {
             return Made::NotPlaying;

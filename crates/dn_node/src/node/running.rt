@@ -14,6 +14,7 @@ impl<W: World> Node<W> {
     ghost use Rattle.dn_node.specs.Steps.{Steps};
 
     /// Runs the next tic, where every player's command is there, no mark is off, and the demo has room.
+    /// A node that waits stays as it is.
     pub fn run(&mut self) -> Ran
         ensures step { Steps W.state W.physics (contents self.old) (contents self.new)
             (λ rules me m. on_run rules m) (λ ran. result ≡ ran) }
