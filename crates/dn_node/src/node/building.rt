@@ -22,6 +22,7 @@ impl<W: World> Node<W> {
             (λ rules me m. on_build rules me m keys) (λ made. result ≡ made) }
         ensures full { result ≡ Full → contents self.new ≡ contents self.old }
         ensures idle { result ≡ NotPlaying → contents self.new ≡ contents self.old }
+        ensures world { (contents self.new).world ≡ (contents self.old).world }
     {
         let Phase::Playing = self.phase else {
             return Made::NotPlaying;

@@ -15,7 +15,8 @@ impl<W: World> Node<W> {
     /// Ends a node that plays, and closes its demo.
     pub(super) fn end(&mut self, cause: Cause)
         requires { (contents self.old).phase ≡ Playing }
-        ensures { Becomes W.state W.physics (contents self.old) (contents self.new) (λ rules me m. record m { phase = Ended cause }) }
+        ensures step { Becomes W.state W.physics (contents self.old) (contents self.new) (λ rules me m. record m { phase = Ended cause }) }
+        ensures world { (contents self.new).world ≡ (contents self.old).world }
     {
         self.phase = Phase::Ended(cause);
         self.demo.close();
@@ -26,6 +27,7 @@ impl<W: World> Node<W> {
         ensures step { Steps W.state W.physics (contents self.old) (contents self.new)
             (λ rules me m. on_quit m) (λ quit. result ≡ quit) }
         ensures idle { result ≡ false → contents self.new ≡ contents self.old }
+        ensures world { (contents self.new).world ≡ (contents self.old).world }
     {
         match self.phase {
             Phase::Ended(_) => return false,

@@ -60,8 +60,9 @@ impl<W: World> Node<W> {
     /// Notes that a packet was given.
     fn note_sent(&mut self, to: u8)
         requires { Gives (contents self.old) to }
-        ensures { Becomes W.state W.physics (contents self.old) (contents self.new)
+        ensures step { Becomes W.state W.physics (contents self.old) (contents self.new)
             (λ rules me m. after_giving rules me m to m.phase) }
+        ensures world { (contents self.new).world ≡ (contents self.old).world }
     {
         let peer = self.peers.get(to);
         match self.phase {
@@ -86,6 +87,7 @@ impl<W: World> Node<W> {
         ensures fair { Steps W.state W.physics (contents self.old) (contents self.new)
             (λ rules me m. sent_to to rules me m) (λ flight. IfSome flight IsFair) }
         ensures idle { result ≡ None → contents self.new ≡ contents self.old }
+        ensures world { (contents self.new).world ≡ (contents self.old).world }
     {
         let packet = self.outgoing(to)?;
         self.note_sent(to);

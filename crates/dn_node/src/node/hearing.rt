@@ -8,7 +8,7 @@ ghost use Rattle.dn_packet.specs.Text.{text};
 ghost use Rattle.dn_setup.specs.Settings.{Settings};
 ghost use Rattle.dn_setup.specs.Setup.{IsSetupReadAs};
 ghost use Rattle.dn_setup.specs.declared.setup.SetupFault.{SetupFault};
-ghost use Rattle.dn_machine.specs.declared.answers.Heard.TheVariants.{Dropped};
+ghost use Rattle.dn_machine.specs.declared.answers.Heard.TheVariants.{Started, Dropped};
 ghost use Rattle.dn_machine.specs.declared.answers.Phase.TheVariants.{Gathering, Playing};
 ghost use Rattle.dn_machine.specs.Flight.{Flight, packet_of, is_near};
 ghost use Rattle.dn_machine.specs.Hearing.{on_packet};
@@ -45,6 +45,7 @@ impl<W: World> Node<W> {
             → Steps W.state W.physics (contents self.old) (contents self.new)
             (λ rules me m. on_packet rules me m flight) (λ heard. result ≡ heard) }
         ensures dropped { (number : ℕ) → result ≡ Dropped number → contents self.new ≡ contents self.old }
+        ensures world { result ≢ Started → (contents self.new).world ≡ (contents self.old).world }
     {
         if let Phase::Ended(_) = self.phase {
             return Heard::Dropped(NOT_PLAYING);
@@ -69,6 +70,7 @@ impl<W: World> Node<W> {
             → Steps W.state W.physics (contents self.old) (contents self.new)
             (λ rules me m. on_read rules me m from told (Ok packet.now)) (λ heard. result ≡ heard) }
         ensures dropped { (number : ℕ) → result ≡ Dropped number → contents self.new ≡ contents self.old }
+        ensures world { result ≢ Started → (contents self.new).world ≡ (contents self.old).world }
     {
         if has_flag(packet, SETUP) {
             return self.hear_set_up(from, packet);
@@ -87,6 +89,7 @@ impl<W: World> Node<W> {
             → Steps W.state W.physics (contents self.old) (contents self.new)
             (λ rules me m. on_set_up m from told m.phase) (λ heard. result ≡ heard) }
         ensures dropped { (number : ℕ) → result ≡ Dropped number → contents self.new ≡ contents self.old }
+        ensures world { result ≢ Started → (contents self.new).world ≡ (contents self.old).world }
     {
         let Phase::Listening = self.phase else {
             return Heard::Dropped(OUT_OF_PLACE);
@@ -113,6 +116,7 @@ impl<W: World> Node<W> {
         ensures step { Steps W.state W.physics (contents self.old) (contents self.new)
             (λ rules me m. on_gathered rules m from packet.now) (λ heard. result ≡ heard) }
         ensures dropped { (number : ℕ) → result ≡ Dropped number → contents self.new ≡ contents self.old }
+        ensures world { result ≢ Started → (contents self.new).world ≡ (contents self.old).world }
     {
         if has_flag(packet, KILL) {
             return Heard::Dropped(KILLED);
@@ -135,6 +139,7 @@ impl<W: World> Node<W> {
         ensures step { Steps W.state W.physics (contents self.old) (contents self.new)
             (λ rules me m. on_played me m from packet.now) (λ heard. result ≡ heard) }
         ensures dropped { (number : ℕ) → result ≡ Dropped number → contents self.new ≡ contents self.old }
+        ensures world { result ≢ Started → (contents self.new).world ≡ (contents self.old).world }
     {
         if has_flag(packet, EXIT) {
             self.end(Cause::Left(from));

@@ -25,6 +25,7 @@ impl<W: World> Node<W> {
         ensures step { Steps W.state W.physics (contents self.old) (contents self.new)
             (λ rules me m. on_numbers me m from packet.now) (λ heard. result ≡ heard) }
         ensures dropped { (number : ℕ) → result ≡ Dropped number → contents self.new ≡ contents self.old }
+        ensures world { (contents self.new).world ≡ (contents self.old).world }
     {
         let made = self.made();
         let Some(start) = expand(made, packet.start) else {

@@ -7,7 +7,7 @@ use Rattle.dn_node.proofs.node.Node.hear_playing.Goals as goal
 pub returns-then-has_flag-clause-step : goal.returns-then-has_flag-clause-step
 returns-then-has_flag-clause-step g c players extra limit me m r =
     after _ Heard.Left (played_leaves me m c.args.from c.args.packet.now (sym c.has_flag.ensures ∙ c.if-has_flag.true))
-    (c.end.ensures players extra limit me m r) refl
+    (c.end.ensures.step players extra limit me m r) refl
 
 pub returns-clause-step : goal.returns-clause-step
 returns-clause-step g c players extra limit me m r =

@@ -11,8 +11,8 @@ use Rattle.dn_node.proofs.Peering.{shows_peer}
 use Rattle.dn_node.proofs.Giving.{resent, exited}
 use Rattle.dn_node.proofs.node.Node.note_sent.Goals as goal
 
-pub returns-in-Playing : goal.returns-in-Playing
-returns-in-Playing g c players extra limit me m r =
+pub returns-in-Playing-clause-step : goal.returns-in-Playing-clause-step
+returns-in-Playing-clause-step g c players extra limit me m r =
     let n = c.args.self.now in
     let rules = rules_of g.W.World.physics players extra limit in
     let kept = c.get-peer.ensures ∙ r.peers c.args.to (below _ _ me _ m r c.args.to c.requires.below) in
@@ -25,8 +25,8 @@ returns-in-Playing g c players extra limit me m r =
     ∙ ap (λ (k : ℕ). record m { resend = machine.put m.resend c.args.to k }) (sym tic) ∙ resent m c.args.to c.saturating_sub-resend.result in
     along step (shows_peer _ _ me _ m c.args.to _ _ r peer c.put.ensures.others)
 
-pub returns-in-Ended : goal.returns-in-Ended
-returns-in-Ended g c players extra limit me m r =
+pub returns-in-Ended-clause-step : goal.returns-in-Ended-clause-step
+returns-in-Ended-clause-step g c players extra limit me m r =
     let n = c.args.self.now in
     let rules = rules_of g.W.World.physics players extra limit in
     let kept = c.get-peer.ensures ∙ r.peers c.args.to (below _ _ me _ m r c.args.to c.requires.below) in

@@ -27,7 +27,7 @@ returns-clause-step g c players extra limit me m r =
     let sent = (c.in_ok-packet.ensures.step players extra limit me m r).answer in
     let some = some_flight packet_of _ _ sent in
     record {
-      node = given_shows _ game me _ _ m c.args.to _ r c.in_ok-packet.ensures.given sent (c.note_sent.ensures players extra limit me m r);
+      node = given_shows _ game me _ _ m c.args.to _ r c.in_ok-packet.ensures.given sent (c.note_sent.ensures.step players extra limit me m r);
       answer = ap Some (c.encode.ensures ∙ ap text some.2) ∙ sym (ap (option_map bytes_of) some.1);
     }
 
@@ -36,6 +36,6 @@ returns-clause-fair g c players extra limit me m r =
     let game = rules_of g.W.World.physics players extra limit in
     let sent = (c.in_ok-packet.ensures.step players extra limit me m r).answer in
     record {
-      node = given_shows _ game me _ _ m c.args.to _ r c.in_ok-packet.ensures.given sent (c.note_sent.ensures players extra limit me m r);
+      node = given_shows _ game me _ _ m c.args.to _ r c.in_ok-packet.ensures.given sent (c.note_sent.ensures.step players extra limit me m r);
       answer = (c.in_ok-packet.ensures.fair players extra limit me m r).answer;
     }

@@ -29,6 +29,7 @@ returns-in-Ok g c =
       any = any;
       near = near_from_any g.W.World.state g.W.World.physics (contents c.args.self.now) (contents c.hear.new.self) c.args.from c.args.bytes.now c.hear.result any c.args.self.now.me_below;
       dropped = c.hear.ensures.dropped;
+      world = c.hear.ensures.world;
     }
 
 pub returns-in-Err-Length : goal.returns-in-Err-Length
@@ -41,4 +42,5 @@ returns-in-Err-Length g c =
       any = any;
       near = near_from_any g.W.World.state g.W.World.physics (contents c.args.self.now) (contents c.args.self.now) c.args.from c.args.bytes.now (Heard.Dropped 3) any c.args.self.now.me_below;
       dropped = λ number e. refl;
+      world = λ other. refl;
     }

@@ -27,13 +27,13 @@ returns-in-Some-first_off-clause-step g c players extra limit me m r =
     let was = to_z-of_z w16 c.mark_of-was.result (search rules) ∙ c.mark_of-was.ensures ∙ mark_is _ _ me _ m r n.window p below in
     let should = to_z-of_z w16 c.get-should.result (search rules) ∙ c.get-should.ensures ∙ should_is _ _ me _ m r n.window p below in
     after _ _ (run_off _ m p _ _ (sym r.phase ∙ c.in-Playing.is) (finds_awaited _ _ me _ m r _ c.in_default-awaited.ensures)
-    (finds_off _ _ me _ m r n.window _ c.in-Some-first_off.ensures.lowest) was should) (c.end.ensures players extra limit me m r) refl
+    (finds_off _ _ me _ m r n.window _ c.in-Some-first_off.ensures.lowest) was should) (c.end.ensures.step players extra limit me m r) refl
 
 pub returns-then-tic-self-clause-step : goal.returns-then-tic-self-clause-step
 returns-then-tic-self-clause-step g c players extra limit me m r =
     after _ _ (run_full _ m (sym r.phase ∙ c.in-Playing.is) (finds_awaited _ _ me _ m r _ c.in_default-awaited.ensures)
     (finds_off _ _ me _ m r c.args.self.now.window _ c.in_default-first_off.ensures.lowest) (sym r.ran ∙ c.if-tic-self.true ∙ r.capacity))
-    (c.end-then-tic-self.ensures players extra limit me m r) refl
+    (c.end-then-tic-self.ensures.step players extra limit me m r) refl
 
 pub row_at-row-requires-clause-there : goal.row_at-row-requires-clause-there
 row_at-row-requires-clause-there g c =
