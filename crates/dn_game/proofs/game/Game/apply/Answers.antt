@@ -24,7 +24,7 @@ returns-in-Build-clause-applied g c players extra limit m r =
     let below = subst (IsAddressed (contents c.args.self.now)) c.in-Build.is (c.in_default.ensures.there refl) in
     let shown = node_at _ rules _ m r _ _ below c.index_mut.ensures.value in
     inl (after_event _ rules _ m _ _ c.in-Build.is _ (c.in_default.ensures.told players extra limit m r)
-    (after_step _ rules _ m _ _ _ _ Done.Built r below (c.build.ensures players extra limit _ _ shown)))
+    (after_step _ rules _ m _ _ _ _ Done.Built r below (c.build.ensures.step players extra limit _ _ shown)))
 
 pub returns-in-Deliver-clause-applied : goal.returns-in-Deliver-clause-applied
 returns-in-Deliver-clause-applied g c players extra limit m r =
@@ -39,7 +39,7 @@ returns-in-Run-clause-applied g c players extra limit m r =
     let below = subst (IsAddressed (contents c.args.self.now)) c.in-Run.is (c.in_default.ensures.there refl) in
     let shown = node_at _ rules _ m r _ _ below c.index_mut-in-Run.ensures.value in
     inl (after_event _ rules _ m _ _ c.in-Run.is _ (c.in_default.ensures.told players extra limit m r)
-    (after_step _ rules _ m _ _ _ _ Done.Ran r below (c.run.ensures players extra limit _ _ shown)))
+    (after_step _ rules _ m _ _ _ _ Done.Ran r below (c.run.ensures.step players extra limit _ _ shown)))
 
 pub returns-in-Quit-clause-applied : goal.returns-in-Quit-clause-applied
 returns-in-Quit-clause-applied g c players extra limit m r =
@@ -47,7 +47,7 @@ returns-in-Quit-clause-applied g c players extra limit m r =
     let below = subst (IsAddressed (contents c.args.self.now)) c.in-Quit.is (c.in_default.ensures.there refl) in
     let shown = node_at _ rules _ m r _ _ below c.index_mut-in-Quit.ensures.value in
     inl (after_event _ rules _ m _ _ c.in-Quit.is _ (c.in_default.ensures.told players extra limit m r)
-    (after_step _ rules _ m _ _ _ _ Done.Quit r below (c.quit.ensures players extra limit _ _ shown)))
+    (after_step _ rules _ m _ _ _ _ Done.Quit r below (c.quit.ensures.step players extra limit _ _ shown)))
 
 pub returns-in-Stop-clause-applied : goal.returns-in-Stop-clause-applied
 returns-in-Stop-clause-applied g c players extra limit m r =
