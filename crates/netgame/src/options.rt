@@ -73,6 +73,30 @@ pub(crate) fn with_game<'a>(
     Ok(command)
 }
 
+/// Adds the options of a storm, a game's among them.
+pub(crate) fn with_storm<'a>(
+    alloc: Global,
+    command: Command<'a>,
+) -> Result<Command<'a>, AllocError> {
+    let seed = number(
+        alloc,
+        "seed",
+        0,
+        4_294_967_295,
+        "1",
+        "What the events are drawn from",
+    );
+    let count = number(
+        alloc,
+        "count",
+        1,
+        1_000_000,
+        "1000",
+        "How many events there are",
+    );
+    with_game(alloc, command)?.arg(seed)?.arg(count)
+}
+
 /// The value of an option, if it is no more than a byte holds.
 fn byte(matches: &ArgMatches<'_>, name: &str) -> Option<u8> {
     u8::try_from(matches.get_one::<u32>(name)?).ok()
@@ -107,4 +131,10 @@ pub(crate) fn game(matches: &ArgMatches<'_>) -> Option<(GameConfig, u8)>
         limit,
     };
     Some((config, players))
+}
+
+/// The seed of a storm, and how many events it has.
+pub(crate) fn storm(matches: &ArgMatches<'_>) -> Option<(u64, u32)> {
+    let seed = matches.get_one::<u32>("seed")?;
+    Some((u64::from(seed), matches.get_one::<u32>("count")?))
 }
