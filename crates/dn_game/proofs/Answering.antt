@@ -34,7 +34,7 @@ module _ {S : Type 0} (rules : Rules S) where
   plays_leads (e ∷ events) [] game last way = absurd way
   plays_leads (e ∷ events) (a ∷ answers) game last (next, inl (same, answered), rest) =
       (next, inl same, plays_leads events answers next last rest)
-  plays_leads (e ∷ events) (a ∷ answers) game last (next, inr (send, same, answered), rest) =
+  plays_leads (e ∷ events) (a ∷ answers) game last (next, inr (free, send, same, answered), rest) =
       (next, inr (send, same), plays_leads events answers next last rest)
 
 -- an event that was applied has its answer
@@ -42,9 +42,9 @@ pub answers_one : {W S : Type 0} (state : W → S) (rules : Rules S) (old new : 
     → Represents state rules old m → IsApplied state rules old new m event answer
     → (next : Game) × Answers rules m event answer next × Represents state rules new next
 answers_one {W} {S} state rules old new m event answer r (inl after) = ((applied rules m event).0, inl (refl, after.answered), after.game)
-answers_one {W} {S} state rules old new m event answer r (inr left) =
+answers_one {W} {S} state rules old new m event answer r (inr (free, left)) =
     let P : Contents W → Type 0 = λ g. Represents state rules g m in
-    (m, inr (left.send, refl, left.answered), subst P (sym left.same) r)
+    (m, inr (free, left.send, refl, left.answered), subst P (sym left.same) r)
 
 pub played_more : {W S : Type 0} (state : W → S) (rules : Rules S) (settings : Settings) (events : List Event) (event : Event) (answer : Result Done Refusal) (played next : Played W)
     → (r : IsPlayed state rules settings events played)

@@ -52,7 +52,7 @@ after_send state rules old m new event node to answer same is (inl (done, answer
     inl (subst P (sym answered) (after_event state rules new m event (Send node to) same done is after))
 after_send state rules old m new event node to answer same is (inr left) =
     let P : Event → Type 0 = λ e. IsLeftOut old new e answer in
-    inr (subst P (sym same) left)
+    inr (sym is, subst P (sym same) left)
 
 -- an event of one node, by the step of that node
 pub after_step : {W S A : Type 0} (state : W → S) (rules : Rules S) (g : Contents W) (m : machine.Game) (place : ℕ) (n : Node W) (next : machine_node.Node × A) (answer : A) (done : A → Done)

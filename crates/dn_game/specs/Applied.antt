@@ -1,12 +1,12 @@
 -- An event on a game is a step of the machine.
-use Rattle.std.specs.Prelude.{◌≡◌, ◌<◌, ◌⊎◌, ℕ, Bool, IsTrue, length, Result, Err}
+use Rattle.std.specs.Prelude.{◌≡◌, ◌<◌, ◌⊎◌, ℕ, Bool, IsTrue, length, None, Result, Err}
 use Rattle.dn_world.specs.Physics.{Physics}
 use Rattle.dn_machine.specs.declared.events.Done.{Done}
 use Rattle.dn_machine.specs.declared.events.Event.{Event}
 use Rattle.dn_machine.specs.declared.events.Event.TheVariants.{Build, Send, Deliver, Run, Quit, Stop}
 use Rattle.dn_machine.specs.declared.events.Refusal.{Refusal}
 use Rattle.dn_machine.specs.Game as machine
-use Rattle.dn_machine.specs.Game.{applied}
+use Rattle.dn_machine.specs.Game.{applied, refused}
 use Rattle.dn_machine.specs.Runs.{is_send}
 use Rattle.dn_machine.specs.Worlds.{Rules, rules_of}
 use Rattle.dn_game.specs.Contents.{Contents}
@@ -29,9 +29,10 @@ pub record IsLeftOut {W : Type 0} (old new : Contents W) (event : Event) (answer
   pub same : new ≡ old
   pub answered : answer ≡ Err Refusal.Memory
 
--- an event is applied as the machine applies it, or it is a send that is left out
+-- an event is applied as the machine applies it, or it is a send that is left out, which nothing else refuses
 abbrev pub IsApplied : {W S : Type 0} → (W → S) → Rules S → Contents W → Contents W → machine.Game → Event → Result Done Refusal → Type 0
-IsApplied state rules old new m event answer = IsAfter state rules new (applied rules m event) answer ⊎ IsLeftOut old new event answer
+IsApplied state rules old new m event answer =
+    IsAfter state rules new (applied rules m event) answer ⊎ ((refused rules.players m event ≡ None) × IsLeftOut old new event answer)
 
 -- the nodes and the packet that the event names are there
 abbrev pub IsAddressed : {W : Type 0} → Contents W → Event → Type 0

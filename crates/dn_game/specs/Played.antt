@@ -1,12 +1,12 @@
 -- A game that has played a list of events.
-use Rattle.std.specs.Prelude.{◌≡◌, ◌⊎◌, ◌+◌, List, [], ◌∷◌, count_by, IsTrue, Result, Err, is_ok, is_err}
+use Rattle.std.specs.Prelude.{◌≡◌, ◌⊎◌, ◌+◌, List, [], ◌∷◌, count_by, IsTrue, None, Result, Err, is_ok, is_err}
 use Rattle.dn_setup.specs.Settings.{Settings}
 use Rattle.dn_world.specs.Physics.{Physics}
 use Rattle.dn_machine.specs.declared.events.Done.{Done}
 use Rattle.dn_machine.specs.declared.events.Event.{Event}
 use Rattle.dn_machine.specs.declared.events.Refusal.{Refusal}
 use Rattle.dn_machine.specs.Game as machine
-use Rattle.dn_machine.specs.Game.{applied, opening_game}
+use Rattle.dn_machine.specs.Game.{applied, opening_game, refused}
 use Rattle.dn_machine.specs.Runs.{is_send}
 use Rattle.dn_machine.specs.Worlds.{Rules}
 use Rattle.dn_game.specs.declared.played.Played.{Played}
@@ -14,11 +14,11 @@ use Rattle.dn_game.specs.Applied.{Tells, IsApplied}
 use Rattle.dn_game.specs.Contents.{contents}
 use Rattle.dn_game.specs.Represents.{Represents}
 
--- an event leads from a game to the next with this answer; a send may be left out, for want of memory
+-- an event leads from a game to the next with this answer; a send that nothing else refuses may be left out, for want of memory
 abbrev pub Answers : {S : Type 0} → Rules S → machine.Game → Event → Result Done Refusal → machine.Game → Type 0
 Answers rules game event answer next =
     ((next ≡ (applied rules game event).0) × (answer ≡ (applied rules game event).1))
-    ⊎ (IsTrue (is_send event) × (next ≡ game) × (answer ≡ Err Refusal.Memory))
+    ⊎ ((refused rules.players game event ≡ None) × IsTrue (is_send event) × (next ≡ game) × (answer ≡ Err Refusal.Memory))
 
 -- a list of events leads from a game to another, and each event has its answer
 abbrev pub Plays : {S : Type 0} → Rules S → machine.Game → List Event → List (Result Done Refusal) → machine.Game → Type 0
