@@ -1,12 +1,12 @@
 //! A demo that is written tic by tic.
 
-ghost use Rattle.std.specs.Prelude.{◌≡◌, ◌<◌, ◌+◌, ◌*◌, true, false, [], ◌∷◌, ◌++◌, length, nat_le};
+ghost use Rattle.std.specs.Prelude.{◌≡◌, ◌<◌, ◌≤◌, ◌+◌, ◌*◌, true, false, [], ◌∷◌, ◌++◌, length, nat_le};
 ghost use Rattle.dn_demo.specs.Rows.{IsRow, player_count};
-ghost use Rattle.dn_demo.specs.Text.{row_bytes, demo_text, command_size, marker};
+ghost use Rattle.dn_demo.specs.Text.{move_bytes, row_bytes, demo_text, command_size, marker};
 ghost use Rattle.dn_demo.specs.declared.recorder.Stage.TheVariants.{Blank, Open, Closed};
 
 use crate::layout::MARKER;
-use crate::writing::{header_bytes, row_text};
+use crate::writing::{command_bytes, header_bytes, row_size};
 use dn_setup::Start;
 use dn_tic::Move;
 use std::alloc::Global;
@@ -95,6 +95,30 @@ impl Recorder {
             .unwrap();
     }
 
+    /// Writes the move of a player who is present.
+    fn add(&mut self, step: Option<Move>)
+        requires open { self.old.stage ≡ Open }
+        requires room { length self.old.bytes + length (move_bytes step) + 1 ≤ self.old.limit }
+        ensures { self.new ≡ record self.old { bytes = self.old.bytes ++ move_bytes step } }
+    {
+        if let Some(step) = step {
+            self.bytes.extend_from_slice(&command_bytes(step)).unwrap();
+        }
+    }
+
+    /// Writes the moves of a tic.
+    fn add_all(&mut self, moves: &[Option<Move>; 4])
+        requires open { self.old.stage ≡ Open }
+        requires room { length self.old.bytes + length (row_bytes moves.now) + 1 ≤ self.old.limit }
+        ensures { self.new ≡ record self.old { bytes = self.old.bytes ++ row_bytes moves.now } }
+    {
+        let [a, b, c, d] = *moves;
+        self.add(a);
+        self.add(b);
+        self.add(c);
+        self.add(d);
+    }
+
     /// Writes the moves of a tic, where these and the marker fit into the limit.
     pub fn row(&mut self, moves: &[Option<Move>; 4]) -> bool
         requires open { self.old.stage ≡ Open }
@@ -106,11 +130,10 @@ impl Recorder {
         ensures seats { seats_in self.new.bytes ≡ seats_in self.old.bytes }
         ensures kept { result ≡ false → self.new ≡ self.old }
     {
-        let text = row_text(moves);
-        if self.bytes.len() + text.len() + 1 > self.limit as usize {
+        if self.bytes.len() + row_size(moves) + 1 > self.limit as usize {
             return false;
         }
-        self.bytes.extend_from_slice(text.as_slice()).unwrap();
+        self.add_all(moves);
         true
     }
 

@@ -1,10 +1,9 @@
 //! The bytes of a header and of a row.
 
-ghost use Rattle.std.specs.Prelude.{◌≡◌, ◌≤◌, ◌+◌, ◌++◌, length};
+ghost use Rattle.std.specs.Prelude.{◌≡◌, ◌≤◌, length, Some};
 ghost use Rattle.dn_demo.specs.Text.{header, move_bytes, row_bytes, command_size};
 
 use crate::layout::VERSION;
-use arrayvec::ArrayVec;
 use dn_setup::Start;
 use dn_tic::Move;
 
@@ -30,29 +29,34 @@ pub(crate) fn header_bytes(start: &Start, view: u8, present: [bool; 4]) -> [u8; 
     ]
 }
 
-/// Adds the command of a player who is present.
-fn add(text: &mut ArrayVec<u8, 16>, step: Option<Move>)
-    requires { length text.old.items + command_size ≤ 16 }
-    ensures text { text.new.items ≡ text.old.items ++ move_bytes step }
-    ensures len { length text.new.items ≤ length text.old.items + command_size }
+/// The bytes of a move.
+pub(crate) fn command_bytes(step: Move) -> [u8; 4]
+    ensures { result ≡ move_bytes (Some step) }
 {
-    if let Some(step) = step {
-        text.push(step.forward.cast_unsigned());
-        text.push(step.side.cast_unsigned());
-        text.push((step.turn.cast_unsigned() / 256) as u8);
-        text.push(step.buttons);
+    [
+        step.forward.cast_unsigned(),
+        step.side.cast_unsigned(),
+        (step.turn.cast_unsigned() / 256) as u8,
+        step.buttons,
+    ]
+}
+
+/// How many bytes a move has.
+fn size(step: Option<Move>) -> usize
+    ensures value { result ≡ length (move_bytes step) }
+    ensures most { result ≤ command_size }
+{
+    match step {
+        Some(_) => 4,
+        None => 0,
     }
 }
 
-/// The commands of a tic, in the order of the players.
-pub(crate) fn row_text(moves: &[Option<Move>; 4]) -> ArrayVec<u8, 16>
-    ensures { result.items ≡ row_bytes moves.now }
+/// How many bytes the commands of a tic have.
+pub(crate) fn row_size(moves: &[Option<Move>; 4]) -> usize
+    ensures value { result ≡ length (row_bytes moves.now) }
+    ensures most { result ≤ 16 }
 {
     let [a, b, c, d] = *moves;
-    let mut text = ArrayVec::new();
-    add(&mut text, a);
-    add(&mut text, b);
-    add(&mut text, c);
-    add(&mut text, d);
-    text
+    size(a) + size(b) + size(c) + size(d)
 }

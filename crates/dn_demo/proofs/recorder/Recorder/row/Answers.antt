@@ -2,8 +2,8 @@ use Rattle.std.proofs.Common.{rules}
 use Rattle.dn_demo.proofs.Text.{text-row, length-row_bytes}
 use Rattle.dn_demo.proofs.recorder.Recorder.row.Goals as goal
 
-pub returns-then-len-self-clause-size : goal.returns-then-len-self-clause-size
-returns-then-len-self-clause-size c = length-row_bytes _ _ c.requires.row.seats
+pub returns-then-len-row_size-clause-size : goal.returns-then-len-row_size-clause-size
+returns-then-len-row_size-clause-size c = length-row_bytes _ _ c.requires.row.seats
 
 pub returns-clause-size : goal.returns-clause-size
 returns-clause-size c = length-row_bytes _ _ c.requires.row.seats
