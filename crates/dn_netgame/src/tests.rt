@@ -1,6 +1,9 @@
 //! Datagrams shown, through readers and writers that are slow, full or failing.
 
 mod demos;
+mod games;
+mod scripts;
+mod storms;
 mod streams;
 
 use super::*;
