@@ -1,5 +1,5 @@
 -- What the nodes of a game tell of themselves agrees, since the machine's nodes that they represent do.
-use Rattle.std.proofs.Common.{◌≡◌, ◌<◌, ◌⊎◌, ℕ, Bool, true, false, List, [], ◌∷◌, ◌++◌, length, take, Option, Some, refl, ap, sym, ◌∙◌, subst, inl, inr, arith, length-append, append-nil}
+use Rattle.std.proofs.Common.{◌≡◌, ◌<◌, ◌⊎◌, ℕ, Bool, true, false, List, [], ◌∷◌, ◌++◌, length, take, Option, Some, Result, refl, ap, sym, ◌∙◌, subst, inl, inr, arith, length-append, append-nil}
 use Rattle.std.specs.Prelude.{if◌then◌else◌}
 use Rattle.std.specs.Option.{option_map}
 use Rattle.std.proofs.lemmas.Option.{same_Some, slice_get_within}
@@ -14,6 +14,9 @@ use Rattle.dn_machine.specs.Worlds.{Rules, world}
 use Rattle.dn_machine.specs.Node as machine
 use Rattle.dn_machine.specs.Node.{world_after}
 use Rattle.dn_machine.specs.Game as game
+use Rattle.dn_machine.specs.Game.{opening_game}
+use Rattle.dn_machine.proofs.Games.{always}
+use Rattle.dn_machine.proofs.Promises
 use Rattle.dn_machine.specs.Promise.{Agree, Fits, Steady, IsPrefixOf, keys_of}
 use Rattle.dn_node.specs.Contents as node
 use Rattle.dn_node.specs.Phases.{is_ended}
@@ -21,11 +24,16 @@ use Rattle.dn_node.specs.Represents as node_to
 use Rattle.dn_node.specs.Represents.{demo_with}
 use Rattle.dn_node.specs.Rows.{seats_of}
 use Rattle.dn_node.proofs.Counting as counting
+use Rattle.dn_machine.specs.declared.events.Done.{Done}
 use Rattle.dn_machine.specs.declared.events.Event.{Event}
+use Rattle.dn_machine.specs.declared.events.Refusal.{Refusal}
 use Rattle.dn_game.specs.Agreed.{HasStarted, HasNode, AreAgreed, commands_in, recorded, got, made}
 use Rattle.dn_game.specs.Promised.{IsReached}
-use Rattle.dn_game.proofs.Promising.{reached_promised}
+use Rattle.dn_game.proofs.KeysMade.{keys_played}
+use Rattle.dn_game.proofs.Answering.{plays_leads}
 use Rattle.dn_game.specs.Contents.{Contents}
+use Rattle.dn_game.specs.KeysMade.{keys_made}
+use Rattle.dn_game.specs.Played.{Plays}
 use Rattle.dn_game.specs.Represents.{Represents}
 
 -- the commands of a demo's text are those of its rows
@@ -117,10 +125,9 @@ module _ {W S : Type 0} (state : W → S) (rules : Rules S) (settings : Settings
   makes : (i : ℕ) (n : node.Contents W) → HasNode g i n → made n ≡ machine.made i (m.nodes i)
   makes i n at = let s = shown i n at in ap (got n) s.number ∙ has i i n at (inside i n at)
 
-  pub agreed_by : Agree rules settings m → Fits rules m → Steady rules m → AreAgreed state rules settings g
+  pub agreed_by : Agree rules settings m → Fits rules m → Steady rules m → AreAgreed state rules settings (keys_of m) g
   agreed_by agree fits steady =
       record {
-        keys = keys_of m;
         worlds = λ i n at has_started.
             let s = shown i n at in
             let played = started state rules settings i n (m.nodes i) s has_started in
@@ -152,7 +159,18 @@ module _ {W S : Type 0} (state : W → S) (rules : Rules S) (settings : Settings
       }
 
 pub agreed : {W S : Type 0} (state : W → S) (rules : Rules S) (settings : Settings) (events : List Event) (g : Contents W)
-    → IsReached state rules settings events g → AreAgreed state rules settings g
+    → (r : IsReached state rules settings events g) → AreAgreed state rules settings (keys_of r.last) g
 agreed state rules settings events g r =
-    let kept = reached_promised state rules settings events g r in
-    agreed_by state rules settings g kept.reached.last kept.reached.game kept.agree kept.fits kept.steady
+    let kept = always rules settings events r.last r.run in
+    agreed_by state rules settings g r.last r.game (Promises.agree rules settings r.last kept) (Promises.fits rules settings r.last kept)
+    (Promises.steady rules settings r.last kept)
+
+-- the keys are those of the builds that made a command
+pub agreed_on_keys : {W S : Type 0} (state : W → S) (rules : Rules S) (settings : Settings) (events : List Event) (answers : List (Result Done Refusal)) (last : game.Game) (g : Contents W)
+    → Plays rules (opening_game settings) events answers last → Represents state rules g last
+    → AreAgreed state rules settings (keys_made events answers) g
+agreed_on_keys state rules settings events answers last g plays shows =
+    let P : (ℕ → List ℕ) → Type 0 = λ keys. AreAgreed state rules settings keys g in
+    let run = plays_leads rules events answers (opening_game settings) last plays in
+    subst P (keys_played rules settings events answers last plays)
+    (agreed state rules settings events g (record { last = last; run = run; game = shows }))

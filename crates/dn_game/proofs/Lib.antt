@@ -1,5 +1,6 @@
 pub mod Freshening
 pub mod Answering
+pub mod KeysMade
 pub mod Promising
 pub mod Agreeing
 pub mod ScriptNumbers

@@ -74,7 +74,7 @@ module _ {S : Type 0} (rules : Rules S) where
   answered : (game next : Game) (event : Event) (answer : Result Done Refusal) → stops event ≡ false → Answers rules game event answer next
       → next.stopped ≡ game.stopped
   answered game next event answer e (inl (same, told)) = ap (λ (g : Game). g.stopped) same ∙ one_more game event e
-  answered game next event answer e (inr (send, same, told)) = ap (λ (g : Game). g.stopped) same
+  answered game next event answer e (inr (free, send, same, told)) = ap (λ (g : Game). g.stopped) same
 
   pub nobody_stops : (generator : Lcg) (events : List Event) (answers : List (Result Done Refusal)) (rest : Lcg) (game last : Game)
       → Follows rules generator game events answers rest last → last.stopped ≡ game.stopped

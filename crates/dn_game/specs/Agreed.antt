@@ -36,10 +36,9 @@ made n = count_of n.rings n.me
 abbrev pub HasNode : {W : Type 0} → Contents W → ℕ → node.Contents W → Type 0
 HasNode {W} g place n = (one : Node W) × (slice_get g.nodes place ≡ Some one) × (n ≡ node.contents one)
 
--- the nodes agree, on a game of these settings
-pub record AreAgreed {W S : Type 0} (state : W → S) (rules : Rules S) (settings : Settings) (g : Contents W) : Type 0 where
-  -- the key states of each player, by which every started node's world is the same
-  pub keys : ℕ → List ℕ
+-- the nodes agree, on a game of these settings in which the players' builds took these key states
+pub record AreAgreed {W S : Type 0} (state : W → S) (rules : Rules S) (settings : Settings) (keys : ℕ → List ℕ) (g : Contents W) : Type 0 where
+  -- every started node's world is the one that the keys lead to
   pub worlds : (i : ℕ) (n : node.Contents W) → HasNode g i n → HasStarted n → state n.world ≡ world rules settings keys n.ran
   pub settings_same : (i : ℕ) (n : node.Contents W) → HasNode g i n → HasStarted n → n.settings ≡ Some settings
   -- of any two demos the commands of one are a prefix of those of the other

@@ -4,6 +4,7 @@ pub mod Opening
 pub mod Fresh
 pub mod Applied
 pub mod Played
+pub mod KeysMade
 pub mod Promised
 pub mod Agreed
 pub mod Stopped

@@ -1,8 +1,9 @@
 //! What holds of every game.
 
-ghost use Rattle.std.specs.Prelude.{ℕ, Bool, List};
+ghost use Rattle.std.specs.Prelude.{◌≡◌, ℕ, Bool, List};
 ghost use Rattle.dn_setup.specs.Settings.{Settings};
 ghost use Rattle.dn_machine.specs.declared.events.Event.{Event};
+ghost use Rattle.dn_machine.specs.Promise.{keys_of};
 ghost use Rattle.dn_machine.specs.Worlds.{rules_of};
 ghost use Rattle.dn_game.specs.Agreed.{AreAgreed};
 ghost use Rattle.dn_game.specs.Contents.{Contents};
@@ -10,13 +11,13 @@ ghost use Rattle.dn_game.specs.Promised.{IsReached, IsPromised};
 
 use dn_world::World;
 
-/// A game that represents one which a list of events may leave has all that is promised, and its nodes
-/// agree in what they tell of themselves.
+/// Whatever game of the machine a game represents: if a list of events may leave it, it has all that is
+/// promised, and the nodes agree in what they tell of themselves.
 pub fn reached_games_agree<W: World>()
     ensures promised { (players : ℕ) (extra : Bool) (limit : ℕ) (settings : Settings) (events : List Event) (g : Contents W)
-        → IsReached W.state (rules_of W.physics players extra limit) settings events g
-        → IsPromised W.state (rules_of W.physics players extra limit) settings events g }
+        → (reached : IsReached W.state (rules_of W.physics players extra limit) settings events g)
+        → (p : IsPromised W.state (rules_of W.physics players extra limit) settings events g) × (p.reached ≡ reached) }
     ensures agreed { (players : ℕ) (extra : Bool) (limit : ℕ) (settings : Settings) (events : List Event) (g : Contents W)
-        → IsReached W.state (rules_of W.physics players extra limit) settings events g
-        → AreAgreed W.state (rules_of W.physics players extra limit) settings g }
+        → (reached : IsReached W.state (rules_of W.physics players extra limit) settings events g)
+        → AreAgreed W.state (rules_of W.physics players extra limit) settings (keys_of reached.last) g }
 {}

@@ -4,6 +4,7 @@ ghost use Rattle.std.specs.Prelude.{◌≡◌, length, IfOk};
 ghost use Rattle.dn_machine.specs.Worlds.{rules_of};
 ghost use Rattle.dn_game.specs.Agreed.{AreAgreed};
 ghost use Rattle.dn_game.specs.Contents.{contents};
+ghost use Rattle.dn_game.specs.KeysMade.{keys_made};
 ghost use Rattle.dn_game.specs.Opening.{IsAdmitted};
 ghost use Rattle.dn_game.specs.Played.{IsPlayed};
 ghost use Rattle.dn_game.specs.Promised.{IsPromised};
@@ -33,8 +34,12 @@ pub fn play<W: World>(
     // other's.
     ensures promised { IfOk result (λ played. IsPromised W.state
         (rules_of W.physics (length worlds.items) config.extra config.limit) config.settings events.now (contents played.game)) }
-    ensures agreed { IfOk result (λ played. AreAgreed W.state
-        (rules_of W.physics (length worlds.items) config.extra config.limit) config.settings (contents played.game)) }
+    // The same, of what the nodes tell of themselves; the keys are those of the builds that made a
+    // command.
+    ensures agreed { IfOk result (λ played. (p : IsPlayed W.state
+        (rules_of W.physics (length worlds.items) config.extra config.limit) config.settings events.now played)
+        × AreAgreed W.state (rules_of W.physics (length worlds.items) config.extra config.limit) config.settings
+        (keys_made events.now p.answers) (contents played.game)) }
 {
     let game = Game::new(alloc, config, worlds)?;
     let mut played = Played {

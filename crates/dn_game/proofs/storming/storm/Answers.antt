@@ -1,10 +1,11 @@
 use Rattle.std.proofs.Common.{◌≡◌, ◌+◌, ℕ, [], length, refl, ap, sym, ◌∙◌, subst, arith}
+use Rattle.dn_machine.specs.Game.{opening_game}
 use Rattle.dn_machine.specs.Worlds.{rules_of}
-use Rattle.dn_game.specs.Schedule.{behind_three, scheduled}
+use Rattle.dn_game.specs.Schedule.{behind_three, generator_of, scheduled}
 use Rattle.dn_game.specs.Stormed.{IsStormed}
 use Rattle.dn_game.specs.declared.played.Played.{Played}
-use Rattle.dn_game.proofs.Agreeing.{agreed}
-use Rattle.dn_game.proofs.Following.{stormed_played, stormed_more}
+use Rattle.dn_game.proofs.Agreeing.{agreed_on_keys}
+use Rattle.dn_game.proofs.Following.{follows_plays, stormed_played, stormed_more}
 use Rattle.dn_game.proofs.NeverStopping.{storm_goes_on}
 use Rattle.dn_game.proofs.Promising.{played_reached, reached_promised}
 use Rattle.dn_game.proofs.storming.storm.Goals as goal
@@ -52,10 +53,11 @@ pub returns-clause-promised : goal.returns-clause-promised
 returns-clause-promised g c =
     let s = whole g c in
     let played = stormed_played _ _ _ _ _ _ s in
-    (s.events, reached_promised _ _ c.args.config.settings s.events _ (played_reached _ _ c.args.config.settings s.events c.loop.played played))
+    (s, (reached_promised _ _ c.args.config.settings s.events _ (played_reached _ _ c.args.config.settings s.events c.loop.played played)).0)
 
 pub returns-clause-agreed : goal.returns-clause-agreed
 returns-clause-agreed g c =
     let s = whole g c in
-    let played = stormed_played _ _ _ _ _ _ s in
-    agreed _ _ c.args.config.settings s.events _ (played_reached _ _ c.args.config.settings s.events c.loop.played played)
+    let game = rules_of g.W.World.physics (length c.args.worlds.items) c.args.config.extra c.args.config.limit in
+    let plays = follows_plays game (generator_of c.args.seed) s.events s.answers s.rest (opening_game c.args.config.settings) s.last s.follows in
+    (s, agreed_on_keys _ game c.args.config.settings s.events s.answers s.last _ plays s.game)
