@@ -81,15 +81,17 @@ module _ {W S : Type 0} (state : W → S) (rules : Rules S) (settings : Settings
     where
       closed : is_ended n.phase ≡ is_ended m.phase
       closed = ap is_ended r.phase
+
       none : (b : Bool) → commands_in b [] ≡ []
       none true = refl
       none false = refl
+
       go : (b : Bool) → m.played ≡ b → ((recorded n ≡ []) ⊎ (recorded n ≡ commands_of m.rows))
       go false e = inl (ap (commands_in (is_ended n.phase)) (unplayed e) ∙ none (is_ended n.phase))
       go true e =
-        inr (ap (commands_in (is_ended n.phase)) (played_bytes e (known e))
-        ∙ ap (λ (b : Bool). commands_in b (demo_text (start_of settings) me (seats_of rules.players) m.rows (is_ended m.phase))) closed
-        ∙ recorded_rows (is_ended m.phase) (start_of settings) me rules.players m.rows)
+          inr (ap (commands_in (is_ended n.phase)) (played_bytes e (known e))
+          ∙ ap (λ (b : Bool). commands_in b (demo_text (start_of settings) me (seats_of rules.players) m.rows (is_ended m.phase))) closed
+          ∙ recorded_rows (is_ended m.phase) (start_of settings) me rules.players m.rows)
 
 -- two nodes' demos
 two_demos : (xs ys : List ℕ) (rows more : List (List (Option Move)))

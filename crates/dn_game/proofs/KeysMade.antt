@@ -1,5 +1,5 @@
 -- The key states that the machine's nodes took are those of the builds that made a command.
-use Rattle.std.proofs.Common.{◌≡◌, ℕ, ◌+◌, ◌-◌, Bool, true, ◌&&◌, not, List, [], ◌∷◌, ◌++◌, Option, Some, None, Result, Ok, Err, ltb, leb, eqb, refl, ap, sym, ◌∙◌, subst, inl, inr, append-nil}
+use Rattle.std.proofs.Common.{◌≡◌, ℕ, ◌+◌, ◌-◌, Bool, true, ◌&&◌, not, List, [], ◌∷◌, ◌++◌, Option, Some, None, Result, Ok, Err, ltb, leb, eqb, refl, ap, sym, ◌∙◌, inl, inr, append-nil}
 use Rattle.std.specs.Prelude.{if◌then◌else◌, slice_get}
 use Rattle.std.proofs.lemmas.List.{append_assoc}
 use Rattle.std.proofs.lemmas.Bool.{cases_eq, cond_both, eq-eqb, ne_eqb}
@@ -38,8 +38,8 @@ module _ {S : Type 0} (rules : Rules S) (me : ℕ) (node : Node) where
       go Gathering = refl
       go Playing = refl
       go (Ended cause) =
-        cond_both (node.played && (ltb (node.exits to) 4 && not (ended_by cause to))) _ _ (λ (r : Node × Option Flight). r.0.keys ≡ node.keys)
-        (λ gives. refl) (λ silent. refl)
+          cond_both (node.played && (ltb (node.exits to) 4 && not (ended_by cause to))) _ _ (λ (r : Node × Option Flight). r.0.keys ≡ node.keys)
+          (λ gives. refl) (λ silent. refl)
 
   request_keeps : (peer : ℕ) (request : Option ℕ) → (after_request me node peer request).keys ≡ node.keys
   request_keeps peer request =
@@ -59,7 +59,8 @@ module _ {S : Type 0} (rules : Rules S) (me : ℕ) (node : Node) where
     where
       gathers : (on_gathering rules node flight.from).0.keys ≡ node.keys
       gathers =
-        cond_both (all_noted rules.players (put node.noted flight.from true)) _ _ (λ (r : Node × Heard). r.0.keys ≡ node.keys) (λ all. refl) (λ some. refl)
+          cond_both (all_noted rules.players (put node.noted flight.from true)) _ _ (λ (r : Node × Heard). r.0.keys ≡ node.keys) (λ all. refl) (λ some. refl)
+
       go : (phase : Phase) (kind : Kind) → (on_packet_in rules me node flight phase kind).0.keys ≡ node.keys
       go (Ended cause) kind = refl
       go Listening (SetUp settings) = refl
@@ -80,7 +81,8 @@ module _ {S : Type 0} (rules : Rules S) (me : ℕ) (node : Node) where
       playing (Some player) off = refl
       playing None (Some player) = refl
       playing None None =
-        cond_both (eqb (ran node) (capacity rules)) _ _ (λ (r : Node × Ran). r.0.keys ≡ node.keys) (λ full. refl) (λ runs. refl)
+          cond_both (eqb (ran node) (capacity rules)) _ _ (λ (r : Node × Ran). r.0.keys ≡ node.keys) (λ full. refl) (λ runs. refl)
+
       go : (phase : Phase) → (on_run_in rules node phase).0.keys ≡ node.keys
       go Listening = refl
       go Gathering = refl
@@ -124,6 +126,7 @@ module _ {S : Type 0} (rules : Rules S) (game : Game) (player : ℕ) where
     where
       P : Node × Made → Type 0
       P r = (put game.nodes node r.0 player).keys ≡ (game.nodes player).keys ++ keys_by (Build node state) (Ok (Done.Built r.1)) player
+
       more : (new : Node) → new.keys ≡ (game.nodes node).keys ++ state ∷ []
           → (put game.nodes node new player).keys ≡ (game.nodes player).keys ++ (if eqb player node then state ∷ [] else [])
       more new is = elim (cases_eq player node) [
@@ -134,12 +137,13 @@ module _ {S : Type 0} (rules : Rules S) (game : Game) (player : ℕ) where
             ap (λ (n : Node). n.keys) (put_off game.nodes node player new other) ∙ sym (append-nil (game.nodes player).keys)
             ∙ ap (λ (b : Bool). (game.nodes player).keys ++ (if b then state ∷ [] else [])) (sym (ne_eqb player node other))
       ]
+
       go : (phase : Phase) → P (on_build_in rules node (game.nodes node) state phase)
       go Listening = stays node (game.nodes node) refl
       go Gathering = stays node (game.nodes node) refl
       go (Ended cause) = stays node (game.nodes node) refl
       go Playing =
-        cond_both (leb 5 (made node (game.nodes node) - ran (game.nodes node))) _ _ P (λ full. stays node (game.nodes node) refl) (λ free. more _ refl)
+          cond_both (leb 5 (made node (game.nodes node) - ran (game.nodes node))) _ _ P (λ full. stays node (game.nodes node) refl) (λ free. more _ refl)
 
   posts : (node : ℕ) (after : Node × Option Flight) → after.0.keys ≡ (game.nodes node).keys
       → ((posted (with_node game node after.0) after.1).0.nodes player).keys ≡ (game.nodes player).keys ++ []

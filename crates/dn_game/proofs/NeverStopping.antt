@@ -94,7 +94,7 @@ pub storm_goes_on : {W S : Type 0} (state : W → S) (rules : Rules S) (settings
     → IsStormed state rules settings seed count played → 2 ≤ length (contents played.game).nodes → AllStopped (contents played.game) → ⊥
 storm_goes_on state rules settings seed count played s two all =
     let still = ap (λ (f : ℕ → Bool). f 0) (nobody_stops rules (generator_of seed) s.events s.answers s.rest (opening_game settings) s.last s.follows)
-        ∙ opening_moves settings 0 in
+    ∙ opening_moves settings 0 in
     let stopped = all 0 (omega (arith, two)) in
     let shown = s.game.stopped 0 (omega (arith, two, s.game.players)) in
     no_both _ stopped (shown ∙ still)

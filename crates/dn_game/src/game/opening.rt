@@ -19,11 +19,7 @@ impl<W: World> Game<W> {
 
     /// A game with a node for each world, in the players' order. The worlds are given up where there is
     /// no game.
-    pub fn new(
-        alloc: Global,
-        config: GameConfig,
-        worlds: Vec<W>,
-    ) -> Result<Game<W>, GameFault>
+    pub fn new(alloc: Global, config: GameConfig, worlds: Vec<W>) -> Result<Game<W>, GameFault>
         ensures admitted { IsAdmitted config (length worlds.items) result }
         ensures opened { IfOk result (λ game. Represents W.state
             (rules_of W.physics (length worlds.items) config.extra config.limit) (contents game) (opening_game config.settings)) }
@@ -52,11 +48,7 @@ fn config_of(config: &GameConfig, players: u8, me: u8) -> Config
         me,
         extra: config.extra,
         limit: config.limit,
-        settings: if me == 0 {
-            Some(config.settings)
-        } else {
-            None
-        },
+        settings: if me == 0 { Some(config.settings) } else { None },
     }
 }
 

@@ -16,20 +16,20 @@ loop-event-preserved g c =
     let done = c.loop-event.event-index in
     let one = c.apply.ensures.applied in
     let longer = take_more events done c.event-item.result c.loop-event-test.true
-        ∙ ap (λ (event : Event). take done events ++ event ∷ []) (sym c.event-item.is) in
+    ∙ ap (λ (event : Event). take done events ++ event ∷ []) (sym c.event-item.is) in
     let P : List Event → Type 0 = λ es. IsPlayed g.W.World.state (rules_of g.W.World.physics (length c.args.worlds.items) config.extra config.limit) config.settings es c.apply.new.self in (
       omega (arith, c.apply.ensures.counted, before.0),
       subst P (sym longer)
-      (played_more _ _ config.settings (take done events) _ one.answer c.loop-event.played c.apply.new.self before.1
-      (one.applied _ _ _ before.1.last before.1.game) one.done one.refused)
+          (played_more _ _ config.settings (take done events) _ one.answer c.loop-event.played c.apply.new.self before.1
+          (one.applied _ _ _ before.1.last before.1.game) one.done one.refused),
     )
 
 whole : (g : _) (c : goal.After-loop-event g)
     → IsPlayed g.W.World.state (rules_of g.W.World.physics (length c.args.worlds.items) c.args.config.extra c.args.config.limit)
-        c.args.config.settings c.args.events.now c.loop-event.played
+    c.args.config.settings c.args.events.now c.loop-event.played
 whole g c =
     let P : List Event → Type 0 = λ events. IsPlayed g.W.World.state (rules_of g.W.World.physics (length c.args.worlds.items) c.args.config.extra c.args.config.limit)
-        c.args.config.settings events c.loop-event.played in
+    c.args.config.settings events c.loop-event.played in
     subst P (take_all c.loop-event.event-index c.args.events.now c.loop-event-test.false) c.loop-event.invariant.1
 
 pub returns-clause-played : goal.returns-clause-played

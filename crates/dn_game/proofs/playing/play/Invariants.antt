@@ -7,4 +7,4 @@ abbrev pub invariant-loop-event : goal.invariant-loop-event
 invariant-loop-event g l =
     (l.played.done + l.played.refused ≡ l.event-index)
     × IsPlayed g.W.World.state (rules_of g.W.World.physics (length l.fn.worlds.items) l.fn.config.extra l.fn.config.limit)
-        l.fn.config.settings (take l.event-index l.events) l.played
+    l.fn.config.settings (take l.event-index l.events) l.played

@@ -7,4 +7,4 @@ abbrev pub invariant-loop : goal.invariant-loop
 invariant-loop g l =
     (l.played.done + l.played.refused ≡ l.counter)
     × ((s : IsStormed g.W.World.state (rules_of g.W.World.physics (length l.fn.worlds.items) l.fn.config.extra l.fn.config.limit)
-        l.fn.config.settings l.seed l.counter l.played) × (s.rest ≡ l.schedule))
+    l.fn.config.settings l.seed l.counter l.played) × (s.rest ≡ l.schedule))

@@ -22,9 +22,9 @@ loop-world-preserved g c =
     let players : c.len-players.result ≡ length c.args.worlds.items = search rules in
     let me : c.len-in-loop-world.result ≡ length c.loop-world.nodes.items = search rules in
     let P : Config → Type 0 = λ own. (settings : Settings) → (own.me ≡ 0 → own.settings ≡ Some settings)
-        → Represents g.W.World.state (rules_of g.W.World.physics own.players own.extra own.limit) own.me (contents c.in-Ok-new.node) (fresh settings own.me) in
+    → Represents g.W.World.state (rules_of g.W.World.physics own.players own.extra own.limit) own.me (contents c.in-Ok-new.node) (fresh settings own.me) in
     let opened = subst P c.config_of-own.ensures c.in-Ok-new.ensures.opened config.settings
-        (λ zero. cond-true (c.len-in-loop-world.result == 0) _ _ (eq-eqb _ 0 zero)) in
+    (λ zero. cond-true (c.len-in-loop-world.result == 0) _ _ (eq-eqb _ 0 zero)) in
     let Q : ℕ → Type 0 = λ k. Represents g.W.World.state (rules_of g.W.World.physics k config.extra config.limit) c.len-in-loop-world.result (contents c.in-Ok-new.node) (fresh config.settings c.len-in-loop-world.result) in
     let R : ℕ → Type 0 = λ k. Represents g.W.World.state (rules_of g.W.World.physics (length c.args.worlds.items) config.extra config.limit) k (contents c.in-Ok-new.node) (fresh config.settings k) in
     let one = subst R me (subst Q players opened) in
