@@ -10,6 +10,7 @@ use Rattle.dn_setup.specs.Settings.{Settings}
 use Rattle.dn_setup.specs.Starts.{start_of}
 use Rattle.dn_setup.specs.declared.start.Start.{Start}
 use Rattle.dn_demo.specs.Text.{demo_text, marker, row_bytes, commands_of}
+use Rattle.dn_machine.specs.declared.answers.Phase.TheVariants.{Playing}
 use Rattle.dn_machine.specs.Worlds.{Rules, world}
 use Rattle.dn_machine.specs.Node as machine
 use Rattle.dn_machine.specs.Node.{world_after}
@@ -70,6 +71,12 @@ module _ {W S : Type 0} (state : W → S) (rules : Rules S) (settings : Settings
   played_bytes played known =
       r.demo ∙ ap (λ (b : Bool). if b then demo_with rules me m m.settings else []) played ∙ ap (demo_with rules me m) known
 
+  starts : m.played ≡ true → m.settings ≡ Some settings → HasStarted n
+  unfolding demo_text
+  starts played known none =
+      let text : demo_text (start_of settings) me (seats_of rules.players) m.rows (is_ended m.phase) ≡ [] = sym (played_bytes played known) ∙ none in
+      absurd (cc)
+
   world_is : m.played ≡ true → m.settings ≡ Some settings → state n.world ≡ world_after rules settings m.rows (machine.ran m)
   world_is played known =
       same_Some _ _ (r.world played ∙ ap (option_map (λ (s : Settings). world_after rules s m.rows (machine.ran m))) known)
@@ -127,9 +134,18 @@ module _ {W S : Type 0} (state : W → S) (rules : Rules S) (settings : Settings
   makes : (i : ℕ) (n : node.Contents W) → HasNode g i n → made n ≡ machine.made i (m.nodes i)
   makes i n at = let s = shown i n at in ap (got n) s.number ∙ has i i n at (inside i n at)
 
+  plays : (i : ℕ) (n : node.Contents W) → HasNode g i n → n.phase ≡ Playing → n.played ≡ true
+  plays i n (one, there, is) phase =
+      let P : node.Contents W → Type 0 = λ x. x.phase ≡ Playing → x.played ≡ true in
+      subst P (sym is) one.plays phase
+
   pub agreed_by : Agree rules settings m → Fits rules m → Steady rules m → AreAgreed state rules settings (keys_of m) g
   agreed_by agree fits steady =
       record {
+        playing = λ i n at phase.
+            let s = shown i n at in
+            let played = sym s.played ∙ plays i n at phase in
+            starts state rules settings i n (m.nodes i) s played (agree.settings_same i (inside i n at) played);
         worlds = λ i n at has_started.
             let s = shown i n at in
             let played = started state rules settings i n (m.nodes i) s has_started in

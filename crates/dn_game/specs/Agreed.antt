@@ -3,7 +3,7 @@ use Rattle.std.specs.Prelude.{◌≡◌, ◌≢◌, ◌<◌, ◌≤◌, ◌⊎�
 use Rattle.dn_setup.specs.Settings.{Settings}
 use Rattle.dn_demo.specs.Text.{header_size}
 use Rattle.dn_machine.specs.declared.answers.Cause.TheVariants as Cause
-use Rattle.dn_machine.specs.declared.answers.Phase.TheVariants.{Ended}
+use Rattle.dn_machine.specs.declared.answers.Phase.TheVariants.{Playing, Ended}
 use Rattle.dn_machine.specs.Promise.{IsPrefixOf}
 use Rattle.dn_machine.specs.Worlds.{Rules, world}
 use Rattle.dn_node.specs.declared.node.Node.{Node}
@@ -38,6 +38,8 @@ HasNode {W} g place n = (one : Node W) × (slice_get g.nodes place ≡ Some one)
 
 -- the nodes agree, on a game of these settings in which the players' builds took these key states
 pub record AreAgreed {W S : Type 0} (state : W → S) (rules : Rules S) (settings : Settings) (keys : ℕ → List ℕ) (g : Contents W) : Type 0 where
+  -- a node that plays has started
+  pub playing : (i : ℕ) (n : node.Contents W) → HasNode g i n → n.phase ≡ Playing → HasStarted n
   -- every started node's world is the one that the keys lead to
   pub worlds : (i : ℕ) (n : node.Contents W) → HasNode g i n → HasStarted n → state n.world ≡ world rules settings keys n.ran
   pub settings_same : (i : ℕ) (n : node.Contents W) → HasNode g i n → HasStarted n → n.settings ≡ Some settings

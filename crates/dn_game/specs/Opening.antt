@@ -1,6 +1,8 @@
 -- What a game is made as.
 use Rattle.std.specs.Prelude.{ℕ, ◌==◌, if◌then◌else◌, Some, None, Result, Ok, Err}
 use Rattle.dn_demo.specs.Recorded.{IsLimit}
+use Rattle.dn_world.specs.Physics.{Physics}
+use Rattle.dn_machine.specs.Worlds.{Rules, rules_of}
 use Rattle.dn_node.specs.declared.config.Config.{Config}
 use Rattle.dn_node.specs.Opening.{IsGame}
 use Rattle.dn_game.specs.declared.config.GameConfig.{GameConfig}
@@ -14,6 +16,10 @@ IsAdmitted config worlds (Ok game) = IsGame worlds × IsLimit config.limit
 IsAdmitted config worlds (Err Players) = ¬ IsGame worlds
 IsAdmitted config worlds (Err Limit) = IsGame worlds × ¬ IsLimit config.limit
 IsAdmitted config worlds (Err Memory) = IsGame worlds × IsLimit config.limit
+
+-- what never changes in a game of so many worlds
+abbrev pub rules_in : {S : Type 0} → Physics S → GameConfig → ℕ → Rules S
+rules_in physics config worlds = rules_of physics worlds config.extra config.limit
 
 -- the configuration of a player's node: player 0 has the settings
 abbrev pub config_of : GameConfig → ℕ → ℕ → Config

@@ -1,11 +1,10 @@
 //! Playing a list of events: what the whole project promises.
 
 ghost use Rattle.std.specs.Prelude.{◌≡◌, length, IfOk};
-ghost use Rattle.dn_machine.specs.Worlds.{rules_of};
 ghost use Rattle.dn_game.specs.Agreed.{AreAgreed};
 ghost use Rattle.dn_game.specs.Contents.{contents};
 ghost use Rattle.dn_game.specs.KeysMade.{keys_made};
-ghost use Rattle.dn_game.specs.Opening.{IsAdmitted};
+ghost use Rattle.dn_game.specs.Opening.{IsAdmitted, rules_in};
 ghost use Rattle.dn_game.specs.Played.{IsPlayed};
 ghost use Rattle.dn_game.specs.Promised.{IsPromised};
 
@@ -28,17 +27,17 @@ pub fn play<W: World>(
     // Each event is applied as the machine applies it, but for sends that are left out for want of
     // memory, and each is counted by its answer.
     ensures played { IfOk result (λ played. IsPlayed W.state
-        (rules_of W.physics (length worlds.items) config.extra config.limit) config.settings events.now played) }
+        (rules_in W.physics config (length worlds.items)) config.settings events.now played) }
     // Any two nodes that ran a tic used the same command of every player, no ring overwrote an unread
     // command, no consistency check failed, and of any two demos one's commands are a prefix of the
     // other's.
     ensures promised { IfOk result (λ played. IsPromised W.state
-        (rules_of W.physics (length worlds.items) config.extra config.limit) config.settings events.now (contents played.game)) }
+        (rules_in W.physics config (length worlds.items)) config.settings events.now (contents played.game)) }
     // The same, of what the nodes tell of themselves; the keys are those of the builds that made a
     // command.
     ensures agreed { IfOk result (λ played. (p : IsPlayed W.state
-        (rules_of W.physics (length worlds.items) config.extra config.limit) config.settings events.now played)
-        × AreAgreed W.state (rules_of W.physics (length worlds.items) config.extra config.limit) config.settings
+        (rules_in W.physics config (length worlds.items)) config.settings events.now played)
+        × AreAgreed W.state (rules_in W.physics config (length worlds.items)) config.settings
         (keys_made events.now p.answers) (contents played.game)) }
 {
     let game = Game::new(alloc, config, worlds)?;

@@ -1,11 +1,10 @@
 //! A storm: a game under the events of a schedule.
 
 ghost use Rattle.std.specs.Prelude.{◌≡◌, length, IfOk};
-ghost use Rattle.dn_machine.specs.Worlds.{rules_of};
 ghost use Rattle.dn_game.specs.Agreed.{AreAgreed};
 ghost use Rattle.dn_game.specs.Contents.{contents};
 ghost use Rattle.dn_game.specs.KeysMade.{keys_made};
-ghost use Rattle.dn_game.specs.Opening.{IsAdmitted};
+ghost use Rattle.dn_game.specs.Opening.{IsAdmitted, rules_in};
 ghost use Rattle.dn_game.specs.Promised.{IsPromised};
 ghost use Rattle.dn_game.specs.Stormed.{IsStormed};
 
@@ -27,15 +26,15 @@ pub fn storm<W: World>(
 ) -> Result<Played<W>, GameFault>
     ensures admitted { IsAdmitted config (length worlds.items) result }
     ensures stormed { IfOk result (λ played. IsStormed W.state
-        (rules_of W.physics (length worlds.items) config.extra config.limit) config.settings seed count played) }
+        (rules_in W.physics config (length worlds.items)) config.settings seed count played) }
     // What is promised of `play` is so after these events.
     ensures promised { IfOk result (λ played. (s : IsStormed W.state
-        (rules_of W.physics (length worlds.items) config.extra config.limit) config.settings seed count played)
-        × IsPromised W.state (rules_of W.physics (length worlds.items) config.extra config.limit) config.settings
+        (rules_in W.physics config (length worlds.items)) config.settings seed count played)
+        × IsPromised W.state (rules_in W.physics config (length worlds.items)) config.settings
         s.events (contents played.game)) }
     ensures agreed { IfOk result (λ played. (s : IsStormed W.state
-        (rules_of W.physics (length worlds.items) config.extra config.limit) config.settings seed count played)
-        × AreAgreed W.state (rules_of W.physics (length worlds.items) config.extra config.limit) config.settings
+        (rules_in W.physics config (length worlds.items)) config.settings seed count played)
+        × AreAgreed W.state (rules_in W.physics config (length worlds.items)) config.settings
         (keys_made s.events s.answers) (contents played.game)) }
 {
     let game = Game::new(alloc, config, worlds)?;

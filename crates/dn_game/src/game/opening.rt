@@ -2,8 +2,7 @@
 
 ghost use Rattle.std.specs.Prelude.{◌≡◌, length, IfOk, IfErr};
 ghost use Rattle.dn_node.specs.Opening.{IsGame};
-ghost use Rattle.dn_machine.specs.Worlds.{rules_of};
-ghost use Rattle.dn_game.specs.Opening.{IsAdmitted, config_of};
+ghost use Rattle.dn_game.specs.Opening.{IsAdmitted, config_of, rules_in};
 ghost use Rattle.dn_game.specs.Fresh.{AreFresh};
 
 use super::Game;
@@ -22,7 +21,7 @@ impl<W: World> Game<W> {
     pub fn new(alloc: Global, config: GameConfig, worlds: Vec<W>) -> Result<Game<W>, GameFault>
         ensures admitted { IsAdmitted config (length worlds.items) result }
         ensures opened { IfOk result (λ game. Represents W.state
-            (rules_of W.physics (length worlds.items) config.extra config.limit) (contents game) (opening_game config.settings)) }
+            (rules_in W.physics config (length worlds.items)) (contents game) (opening_game config.settings)) }
     {
         if !(2..=4).contains(&worlds.len()) {
             return Err(GameFault::Players);
@@ -60,7 +59,7 @@ fn nodes_of<W: World>(
 ) -> Result<Vec<Node<W>>, GameFault>
     requires { IsGame (length worlds.items) }
     ensures opened { IfOk result (λ nodes. AreFresh W.state
-        (rules_of W.physics (length worlds.items) config.now.extra config.now.limit) config.now.settings nodes.items) }
+        (rules_in W.physics config.now (length worlds.items)) config.now.settings nodes.items) }
     ensures one_each { IfOk result (λ nodes. length nodes.items ≡ length worlds.items) }
     ensures memory { IfErr result (λ fault. fault ≡ GameFault.Memory) }
 {
