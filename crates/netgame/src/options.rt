@@ -15,20 +15,8 @@ const NUMBERS: [(&str, i64, i64, &str, &str); 6] = [
     ("skill", 0, 4, "2", "How hard it is, from 0 for the easiest"),
     ("episode", 1, 3, "1", "Which episode is played"),
     ("map", 1, 32, "1", "Which map is played"),
-    (
-        "deathmatch",
-        0,
-        2,
-        "0",
-        "Which kind of deathmatch, or 0 for none",
-    ),
-    (
-        "limit",
-        1024,
-        16_777_216,
-        "131072",
-        "How many bytes a demo may have",
-    ),
+    ("deathmatch", 0, 2, "0", "Which deathmatch, or 0 for none"),
+    ("limit", 1024, 16_777_216, "131072", "Most bytes of a demo"),
 ];
 
 /// The options of a game that are flags: name, meaning.
