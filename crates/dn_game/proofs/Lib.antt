@@ -2,6 +2,7 @@ pub mod Freshening
 pub mod Answering
 pub mod KeysMade
 pub mod Promising
+pub mod SteadyAnswers
 pub mod Agreeing
 pub mod ScriptNumbers
 pub mod ScriptKeys

@@ -3,11 +3,12 @@
 ghost use Rattle.std.specs.Prelude.{◌≡◌, ℕ, Bool, List};
 ghost use Rattle.dn_setup.specs.Settings.{Settings};
 ghost use Rattle.dn_machine.specs.declared.events.Event.{Event};
+ghost use Rattle.dn_machine.specs.Game.{applied};
 ghost use Rattle.dn_machine.specs.Promise.{keys_of};
 ghost use Rattle.dn_machine.specs.Worlds.{rules_of};
 ghost use Rattle.dn_game.specs.Agreed.{AreAgreed};
 ghost use Rattle.dn_game.specs.Contents.{Contents};
-ghost use Rattle.dn_game.specs.Promised.{IsReached, IsPromised};
+ghost use Rattle.dn_game.specs.Promised.{IsReached, IsPromised, IsSteady};
 
 use dn_world::World;
 
@@ -20,4 +21,8 @@ pub fn reached_games_agree<W: World>()
     ensures agreed { (players : ℕ) (extra : Bool) (limit : ℕ) (settings : Settings) (events : List Event) (g : Contents W)
         → (reached : IsReached W.state (rules_of W.physics players extra limit) settings events g)
         → AreAgreed W.state (rules_of W.physics players extra limit) settings (keys_of reached.last) g }
+    // No event more is answered by a failed check.
+    ensures steady { (players : ℕ) (extra : Bool) (limit : ℕ) (settings : Settings) (events : List Event) (g : Contents W)
+        → (reached : IsReached W.state (rules_of W.physics players extra limit) settings events g)
+        → (event : Event) → IsSteady (applied (rules_of W.physics players extra limit) reached.last event).1 }
 {}

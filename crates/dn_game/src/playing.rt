@@ -1,12 +1,12 @@
 //! Playing a list of events: what the whole project promises.
 
-ghost use Rattle.std.specs.Prelude.{◌≡◌, length, IfOk};
+ghost use Rattle.std.specs.Prelude.{◌≡◌, All, length, IfOk};
 ghost use Rattle.dn_game.specs.Agreed.{AreAgreed};
 ghost use Rattle.dn_game.specs.Contents.{contents};
 ghost use Rattle.dn_game.specs.KeysMade.{keys_made};
 ghost use Rattle.dn_game.specs.Opening.{IsAdmitted, rules_in};
 ghost use Rattle.dn_game.specs.Played.{IsPlayed};
-ghost use Rattle.dn_game.specs.Promised.{IsPromised};
+ghost use Rattle.dn_game.specs.Promised.{IsPromised, IsSteady};
 
 use crate::config::{GameConfig, GameFault};
 use crate::game::Game;
@@ -33,7 +33,11 @@ pub fn play<W: World>(
     // other's.
     ensures promised { IfOk result (λ played. IsPromised W.state
         (rules_in W.physics config (length worlds.items)) config.settings events.now (contents played.game)) }
-    // The same, of what the nodes tell of themselves; the keys are those of the builds that made a
+    // No answer told of a failed check.
+    ensures steady { IfOk result (λ played. (p : IsPlayed W.state
+        (rules_in W.physics config (length worlds.items)) config.settings events.now played)
+        × All IsSteady p.answers) }
+    // The nodes agree in what they tell of themselves; the keys are those of the builds that made a
     // command.
     ensures agreed { IfOk result (λ played. (p : IsPlayed W.state
         (rules_in W.physics config (length worlds.items)) config.settings events.now played)

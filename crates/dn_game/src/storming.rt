@@ -1,11 +1,11 @@
 //! A storm: a game under the events of a schedule.
 
-ghost use Rattle.std.specs.Prelude.{◌≡◌, length, IfOk};
+ghost use Rattle.std.specs.Prelude.{◌≡◌, All, length, IfOk};
 ghost use Rattle.dn_game.specs.Agreed.{AreAgreed};
 ghost use Rattle.dn_game.specs.Contents.{contents};
 ghost use Rattle.dn_game.specs.KeysMade.{keys_made};
 ghost use Rattle.dn_game.specs.Opening.{IsAdmitted, rules_in};
-ghost use Rattle.dn_game.specs.Promised.{IsPromised};
+ghost use Rattle.dn_game.specs.Promised.{IsPromised, IsSteady};
 ghost use Rattle.dn_game.specs.Stormed.{IsStormed};
 
 use crate::config::{GameConfig, GameFault};
@@ -32,6 +32,9 @@ pub fn storm<W: World>(
         (rules_in W.physics config (length worlds.items)) config.settings seed count played)
         × IsPromised W.state (rules_in W.physics config (length worlds.items)) config.settings
         s.events (contents played.game)) }
+    ensures steady { IfOk result (λ played. (s : IsStormed W.state
+        (rules_in W.physics config (length worlds.items)) config.settings seed count played)
+        × All IsSteady s.answers) }
     ensures agreed { IfOk result (λ played. (s : IsStormed W.state
         (rules_in W.physics config (length worlds.items)) config.settings seed count played)
         × AreAgreed W.state (rules_in W.physics config (length worlds.items)) config.settings

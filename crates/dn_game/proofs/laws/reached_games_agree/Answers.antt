@@ -1,5 +1,7 @@
 use Rattle.dn_machine.specs.Worlds.{rules_of}
+use Rattle.dn_machine.proofs.Games.{always}
 use Rattle.dn_game.proofs.Promising.{reached_promised}
+use Rattle.dn_game.proofs.SteadyAnswers.{applied_steady}
 use Rattle.dn_game.proofs.Agreeing.{agreed}
 use Rattle.dn_game.proofs.laws.reached_games_agree.Goals as goal
 
@@ -9,3 +11,8 @@ returns-clause-promised g c players extra limit settings events =
 
 pub returns-clause-agreed : goal.returns-clause-agreed
 returns-clause-agreed g c players extra limit settings events = agreed _ (rules_of g.W.World.physics players extra limit) settings events
+
+pub returns-clause-steady : goal.returns-clause-steady
+returns-clause-steady g c players extra limit settings events contents reached =
+    let rules = rules_of g.W.World.physics players extra limit in
+    applied_steady rules settings reached.last (always rules settings events reached.last reached.run)

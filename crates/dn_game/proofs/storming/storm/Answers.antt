@@ -7,6 +7,7 @@ use Rattle.dn_game.specs.declared.played.Played.{Played}
 use Rattle.dn_game.proofs.Agreeing.{agreed_on_keys}
 use Rattle.dn_game.proofs.Following.{follows_plays, stormed_played, stormed_more}
 use Rattle.dn_game.proofs.NeverStopping.{storm_goes_on}
+use Rattle.dn_game.proofs.SteadyAnswers.{steady_answers}
 use Rattle.dn_game.proofs.Promising.{played_reached, reached_promised}
 use Rattle.dn_game.proofs.storming.storm.Goals as goal
 use Rattle.dn_game.proofs.storming.storm.Goals.{in-Some, in_default}
@@ -55,9 +56,14 @@ returns-clause-promised g c =
     let played = stormed_played _ _ _ _ _ _ s in
     (s, (reached_promised _ _ c.args.config.settings s.events _ (played_reached _ _ c.args.config.settings s.events c.loop.played played)).0)
 
+pub returns-clause-steady : goal.returns-clause-steady
+returns-clause-steady g c =
+    let s = whole g c in
+    let plays = follows_plays _ (generator_of c.args.seed) s.events s.answers s.rest (opening_game c.args.config.settings) s.last s.follows in
+    (s, steady_answers _ c.args.config.settings s.events s.answers s.last plays)
+
 pub returns-clause-agreed : goal.returns-clause-agreed
 returns-clause-agreed g c =
     let s = whole g c in
-    let game = rules_of g.W.World.physics (length c.args.worlds.items) c.args.config.extra c.args.config.limit in
-    let plays = follows_plays game (generator_of c.args.seed) s.events s.answers s.rest (opening_game c.args.config.settings) s.last s.follows in
-    (s, agreed_on_keys _ game c.args.config.settings s.events s.answers s.last _ plays s.game)
+    let plays = follows_plays _ (generator_of c.args.seed) s.events s.answers s.rest (opening_game c.args.config.settings) s.last s.follows in
+    (s, agreed_on_keys _ _ c.args.config.settings s.events s.answers s.last _ plays s.game)

@@ -1,0 +1,115 @@
+-- No event of a game that a list of events may leave is answered by a failed check.
+use Rattle.std.proofs.Common.{◌≡◌, ℕ, ℤ, Bool, true, false, not, List, [], ◌∷◌, cond, Option, Some, None, Result, Ok, Err, eqb, ltb, refl, ap, sym, ◌∙◌, subst, inl, inr}
+use Rattle.std.specs.Prelude.{All, slice_get}
+use Rattle.std.proofs.lemmas.List.Elements.{All-cons, All-nil}
+use Rattle.std.proofs.lemmas.Bool.{cond_both, ltb-true}
+use Rattle.dn_setup.specs.Settings.{Settings}
+use Rattle.dn_machine.specs.declared.answers.Cause.TheVariants as Cause
+use Rattle.dn_machine.specs.declared.answers.Phase.{Phase}
+use Rattle.dn_machine.specs.declared.answers.Phase.TheVariants.{Listening, Gathering, Playing, Ended}
+use Rattle.dn_machine.specs.declared.answers.Ran.{Ran}
+use Rattle.dn_machine.specs.declared.events.Done.{Done}
+use Rattle.dn_machine.specs.declared.events.Event.{Event}
+use Rattle.dn_machine.specs.declared.events.Event.TheVariants.{Build, Send, Deliver, Run, Quit, Stop}
+use Rattle.dn_machine.specs.declared.events.Refusal.{Refusal}
+use Rattle.dn_machine.specs.Worlds.{Rules}
+use Rattle.dn_machine.specs.Flight.{Flight}
+use Rattle.dn_machine.specs.Node.{Node, ran, lowest}
+use Rattle.dn_machine.specs.Running.{is_awaited, first_off, capacity, on_run, on_run_in, on_run_playing}
+use Rattle.dn_machine.specs.Game.{Game, opening_game, posted, delivered, refused_flight, refused, on_event, applied_if, applied}
+use Rattle.dn_machine.specs.Invariant.{IsKept}
+use Rattle.dn_machine.proofs.Games.{opens, happens_keeps, applied_keeps}
+use Rattle.dn_machine.proofs.Promises
+use Rattle.dn_machine.proofs.Put.{put_at}
+use Rattle.dn_game.specs.Played.{Plays}
+use Rattle.dn_game.specs.Promised.{IsSteady}
+
+-- a run that is answered by a mark that is off ends the node for it
+module _ {S : Type 0} (rules : Rules S) (node : Node) (player : ℕ) (was should : ℤ) where
+  abbrev EndsFor : Node × Ran → Type 0
+  EndsFor r = r.1 ≡ Ran.Inconsistent player was should → r.0.phase ≡ Ended (Cause.Inconsistent player was should)
+
+  off_ends : EndsFor (on_run rules node)
+  unfolding on_run
+  off_ends = go node.phase
+    where
+      playing : (awaited off : Option ℕ) → EndsFor (on_run_playing rules node awaited off)
+      playing (Some other) off = λ e. absurd (cc)
+      playing None (Some other) = λ e. cc
+      playing None None = cond_both (eqb (ran node) (capacity rules)) _ _ EndsFor (λ full e. absurd (cc)) (λ runs e. absurd (cc))
+
+      go : (phase : Phase) → EndsFor (on_run_in rules node phase)
+      go Listening = λ e. absurd (cc)
+      go Gathering = λ e. absurd (cc)
+      go (Ended cause) = λ e. absurd (cc)
+      go Playing = playing (lowest rules.players (is_awaited node)) (first_off rules node)
+
+refused_steady : (refusal : Refusal) → IsSteady (Err refusal)
+refused_steady refusal = record { consistent = λ player was should e. absurd (cc); kept = λ number e. absurd (cc) }
+
+-- an event of a number that is not refused is one of a player
+passes : (b : Bool) (x : Refusal) (rest : Option Refusal) → cond (not b) (Some x) rest ≡ None → b ≡ true
+passes true x rest free = refl
+passes false x rest free = absurd (cc)
+
+module _ {S : Type 0} (rules : Rules S) (settings : Settings) (game : Game) (kept : IsKept rules settings game) where
+  sends : (game : Game) (flight : Option Flight) → IsSteady (Ok (posted game flight).1)
+  sends game None = record { consistent = λ player was should e. absurd (cc); kept = λ number e. absurd (cc) }
+  sends game (Some flight) = record { consistent = λ player was should e. absurd (cc); kept = λ number e. absurd (cc) }
+
+  delivers : (which : ℕ) (flight : Option Flight) → slice_get game.flights which ≡ flight → refused_flight game flight ≡ None
+      → IsSteady (Ok (delivered rules game flight).1)
+  delivers which None there free = absurd (cc)
+  delivers which (Some flight) there free =
+      record {
+        consistent = λ player was should e. absurd (cc);
+        kept = λ number e. (Promises.steady rules settings game kept).kept which flight number there free (cc);
+      }
+
+  runs : (node : ℕ) → refused rules.players game (Run node) ≡ None → IsSteady (Ok (on_event rules game (Run node)).1)
+  runs node free =
+      let next = happens_keeps rules settings game kept (Run node) free in
+      let below = ltb-true node rules.players (passes (ltb node rules.players) _ _ free) in
+      record {
+        consistent = λ player was should e.
+            let ends = off_ends rules (game.nodes node) player was should (cc) in
+            (Promises.steady rules settings _ next).consistent node player was should below
+            (ap (λ (n : Node). n.phase) (put_at game.nodes node node _ refl) ∙ ends);
+        kept = λ number e. absurd (cc);
+      }
+
+  happens : (event : Event) → refused rules.players game event ≡ None → IsSteady (Ok (on_event rules game event).1)
+  happens (Build node keys) free = record { consistent = λ player was should e. absurd (cc); kept = λ number e. absurd (cc) }
+  happens (Send node to) free = sends _ _
+  happens (Deliver which) free = delivers which (slice_get game.flights which) refl free
+  happens (Run node) free = runs node free
+  happens (Quit node) free = record { consistent = λ player was should e. absurd (cc); kept = λ number e. absurd (cc) }
+  happens (Stop node) free = record { consistent = λ player was should e. absurd (cc); kept = λ number e. absurd (cc) }
+
+  pub applied_steady : (event : Event) → IsSteady (applied rules game event).1
+  unfolding applied
+  applied_steady event = go (refused rules.players game event) refl
+    where
+      go : (o : Option Refusal) → refused rules.players game event ≡ o → IsSteady (applied_if rules game event o).1
+      go (Some refusal) e = refused_steady refusal
+      go None e = happens event e
+
+-- nor is one of a list
+steady_from : {S : Type 0} (rules : Rules S) (settings : Settings) (events : List Event) (answers : List (Result Done Refusal)) (game last : Game)
+    → IsKept rules settings game → Plays rules game events answers last → All IsSteady answers
+steady_from rules settings [] [] game last kept way = All-nil IsSteady
+steady_from rules settings [] (a ∷ answers) game last kept way = absurd way
+steady_from rules settings (e ∷ events) [] game last kept way = absurd way
+steady_from rules settings (e ∷ events) (a ∷ answers) game last kept (next, inl (same, answered), rest) =
+    let P : Game → Type 0 = λ g. IsKept rules settings g in
+    All-cons IsSteady a answers (subst IsSteady (sym answered) (applied_steady rules settings game kept e))
+    (steady_from rules settings events answers next last (subst P (sym same) (applied_keeps rules settings game kept e)) rest)
+steady_from rules settings (e ∷ events) (a ∷ answers) game last kept (next, inr (free, send, same, answered), rest) =
+    let P : Game → Type 0 = λ g. IsKept rules settings g in
+    All-cons IsSteady a answers (subst IsSteady (sym answered) (refused_steady Refusal.Memory))
+    (steady_from rules settings events answers next last (subst P (sym same) kept) rest)
+
+pub steady_answers : {S : Type 0} (rules : Rules S) (settings : Settings) (events : List Event) (answers : List (Result Done Refusal)) (last : Game)
+    → Plays rules (opening_game settings) events answers last → All IsSteady answers
+steady_answers rules settings events answers last way =
+    steady_from rules settings events answers (opening_game settings) last (opens rules settings) way
