@@ -69,9 +69,9 @@ stops state rules g m place r below =
       game = record {
         players = r.players;
         nodes = r.nodes;
-        stopped = λ i h. elim (cases_eq i place) [
+        stopped = λ i. elim (cases_eq i place) [
           | inl e ↦ ap (λ (k : ℕ). get_or (set g.stopped place true) k false) e ∙ get_or-set_same g.stopped place true false below ∙ sym (put_at m.stopped place i true e)
-          | inr apart ↦ get_or-set_other g.stopped place i true false apart ∙ r.stopped i h ∙ sym (put_off m.stopped place i true apart)
+          | inr apart ↦ get_or-set_other g.stopped place i true false apart ∙ r.stopped i ∙ sym (put_off m.stopped place i true apart)
         ];
         flights = r.flights;
         carried = r.carried;

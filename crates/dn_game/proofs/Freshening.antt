@@ -46,4 +46,4 @@ pub opens : {W S : Type 0} (state : W → S) (rules : Rules S) (settings : Setti
     → represents.Represents state rules (record { nodes = nodes; stopped = false ∷ false ∷ false ∷ false ∷ []; flights = flights }) (opening_game settings)
 unfolding opening_game
 opens state rules settings nodes flights count nodes_fresh none =
-    record { players = count; nodes = nodes_fresh; stopped = λ i below. nobody i; flights = none; carried = λ k d far. absurd (omega arith) }
+    record { players = count; nodes = nodes_fresh; stopped = nobody; flights = none; carried = λ k d far. absurd (omega arith) }

@@ -2,7 +2,7 @@
 use Rattle.std.proofs.Common.{◌≡◌, ◌<◌, ◌+◌, ◌-◌, ◌%◌, ℕ, Bool, true, false, not, length, Some, None, ap, sym, ◌∙◌, inl, inr, arith}
 use Rattle.std.specs.Prelude.{slice_index_or}
 use Rattle.std.proofs.lemmas.Bool.{cases_lt}
-use Rattle.std.proofs.Math.Nat.{mod-lt, mod-eq_of_lt, add-mod_right}
+use Rattle.std.proofs.Math.Nat.{mod-eq_of_lt, add-mod_right}
 use Rattle.dn_machine.specs.Game.{Game}
 use Rattle.dn_machine.specs.Worlds.{Rules}
 use Rattle.dn_machine.proofs.Marks.{lowest_none_each}
@@ -62,4 +62,4 @@ pub same_moving : {W S : Type 0} (state : W → S) (rules : Rules S) (g : Conten
 same_moving state rules g m r from below =
     ap (λ (k : ℕ). first_moving k (λ p. slice_index_or g.stopped p false) from) r.players
     ∙ ap (option_map (λ (i : ℕ). (from + i) % rules.players))
-    (lowest_same rules.players _ _ (λ i inside. ap not (r.stopped ((from + i) % rules.players) (mod-lt (from + i) (omega (arith, below, r.players))))))
+    (lowest_same rules.players _ _ (λ i inside. ap not (r.stopped ((from + i) % rules.players))))

@@ -96,7 +96,7 @@ storm_goes_on state rules settings seed count played s two all =
     let still = ap (λ (f : ℕ → Bool). f 0) (nobody_stops rules (generator_of seed) s.events s.answers s.rest (opening_game settings) s.last s.follows)
     ∙ opening_moves settings 0 in
     let stopped = all 0 (omega (arith, two)) in
-    let shown = s.game.stopped 0 (omega (arith, two, s.game.players)) in
+    let shown = s.game.stopped 0 in
     no_both _ stopped (shown ∙ still)
   where
     no_both : (b : Bool) → b ≡ true → b ≡ false → ⊥

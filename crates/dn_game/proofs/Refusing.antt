@@ -76,7 +76,7 @@ module _ {W S : Type 0} (state : W → S) (rules : Rules S) (g : Contents W) (m 
   told_near so place stopped there is =
       let same = ap (λ (k : ℕ). slice_index_or g.stopped k false) (there ∙ sym is_to) in
       is_refused_near m which sent.0 sent.1.there far tells_far so (if stopped then Some Refusal.Stopped else None)
-      (ap (λ (b : Bool). if b then Some Refusal.Stopped else None) (is ∙ same ∙ r.stopped to there_is ∙ ap m.stopped goes_to))
+      (ap (λ (b : Bool). if b then Some Refusal.Stopped else None) (is ∙ same ∙ r.stopped to ∙ ap m.stopped goes_to))
 
 -- an event of one node
 abbrev pub IsOfNode : ℕ → Event → Type 0

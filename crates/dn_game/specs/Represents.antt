@@ -28,7 +28,8 @@ pub record Represents {W S : Type 0} (state : W → S) (rules : Rules S) (g : Co
   -- each node represents the machine's node of its number
   pub nodes : (i : ℕ) (n : Node W) → slice_get g.nodes i ≡ Some n
       → node_to.Represents state rules i (node.contents n) (m.nodes i)
-  pub stopped : (i : ℕ) → i < rules.players → slice_index_or g.stopped i false ≡ m.stopped i
+  -- the same have stopped
+  pub stopped : (i : ℕ) → slice_index_or g.stopped i false ≡ m.stopped i
   -- the packets are those of the machine's flights, in the same order
   pub flights : g.flights ≡ map flight_of m.flights
   pub carried : All (IsCarried rules.players) m.flights
