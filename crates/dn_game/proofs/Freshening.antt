@@ -1,6 +1,7 @@
 -- One node more in a game that opens.
-use Rattle.std.proofs.Common.{◌≡◌, ℕ, zero, suc, ◌⊎◌, false, List, [], ◌∷◌, ◌++◌, length, Some, ap, sym, refl, subst, inl, inr, arith}
+use Rattle.std.proofs.Common.{◌≡◌, ℕ, zero, suc, ◌⊎◌, false, List, [], ◌∷◌, ◌++◌, length, map, append-nil, Some, ap, sym, ◌∙◌, refl, subst, inl, inr, arith}
 use Rattle.std.specs.Prelude.{slice_get, slice_index_or}
+use Rattle.std.proofs.lemmas.List.{append_assoc}
 use Rattle.std.proofs.lemmas.Option.{same_Some}
 use Rattle.dn_setup.specs.Settings.{Settings}
 use Rattle.dn_machine.specs.Game.{fresh, opening_game}
@@ -9,6 +10,7 @@ use Rattle.dn_node.specs.declared.node.Node.{Node}
 use Rattle.dn_node.specs.Contents.{contents}
 use Rattle.dn_node.specs.Represents.{Represents}
 use Rattle.dn_game.specs.Fresh.{AreFresh}
+use Rattle.dn_game.proofs.Places.{map_more}
 use Rattle.dn_game.specs.Represents as represents
 use Rattle.dn_game.specs.declared.flight.Flight.{Flight}
 
@@ -47,3 +49,18 @@ pub opens : {W S : Type 0} (state : W → S) (rules : Rules S) (settings : Setti
 unfolding opening_game
 opens state rules settings nodes flights count nodes_fresh none =
     record { players = count; nodes = nodes_fresh; stopped = nobody; flights = none; carried = λ k d far. absurd (omega arith) }
+
+-- each node has the world that was given for it: those so far, and those that are left
+module _ {X W : Type 0} (view : X → W) (xs : List X) (rest whole : List W) (so_far : map view xs ++ rest ≡ whole) where
+  pub given_more : (more : List X) (x : X) (w : W) (left : List W) → more ≡ xs ++ x ∷ [] → view x ≡ w → rest ≡ w ∷ left → map view more ++ left ≡ whole
+  given_more more x w left pushed is first =
+      ap (λ (ys : List X). map view ys ++ left) pushed ∙ ap (λ (ws : List W). ws ++ left) (map_more view xs x)
+      ∙ append_assoc (map view xs) (view x ∷ []) left
+      ∙ ap (λ (v : W). map view xs ++ v ∷ left) is ∙ ap (λ (ws : List W). map view xs ++ ws) (sym first) ∙ so_far
+
+  pub given_all : length rest ≡ 0 → map view xs ≡ whole
+  given_all none = go rest so_far none
+    where
+      go : (ws : List W) → map view xs ++ ws ≡ whole → length ws ≡ 0 → map view xs ≡ whole
+      go [] all zero_is = sym (append-nil (map view xs)) ∙ all
+      go (w ∷ ws) all zero_is = absurd (cc)

@@ -1,5 +1,5 @@
 -- The nodes of a game that opens.
-use Rattle.std.specs.Prelude.{◌≡◌, ℕ, List, Some, slice_get}
+use Rattle.std.specs.Prelude.{◌≡◌, ℕ, List, map, Some, slice_get}
 use Rattle.dn_setup.specs.Settings.{Settings}
 use Rattle.dn_machine.specs.Game.{fresh}
 use Rattle.dn_machine.specs.Worlds.{Rules}
@@ -11,3 +11,7 @@ use Rattle.dn_node.specs.Represents.{Represents}
 abbrev pub AreFresh : {W S : Type 0} → (W → S) → Rules S → Settings → List (Node W) → Type 0
 AreFresh {W} state rules settings nodes =
     (i : ℕ) (n : Node W) → slice_get nodes i ≡ Some n → Represents state rules i (contents n) (fresh settings i)
+
+-- the worlds of nodes, in order
+abbrev pub worlds_of : {W : Type 0} → List (Node W) → List W
+worlds_of nodes = map (λ n. (contents n).world) nodes

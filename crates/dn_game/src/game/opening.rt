@@ -3,7 +3,7 @@
 ghost use Rattle.std.specs.Prelude.{◌≡◌, length, IfOk, IfErr};
 ghost use Rattle.dn_node.specs.Opening.{IsGame};
 ghost use Rattle.dn_game.specs.Opening.{IsAdmitted, config_of, rules_in};
-ghost use Rattle.dn_game.specs.Fresh.{AreFresh};
+ghost use Rattle.dn_game.specs.Fresh.{AreFresh, worlds_of};
 
 use super::Game;
 use crate::config::{GameConfig, GameFault};
@@ -22,6 +22,7 @@ impl<W: World> Game<W> {
         ensures admitted { IsAdmitted config (length worlds.items) result }
         ensures opened { IfOk result (λ game. Represents W.state
             (rules_in W.physics config (length worlds.items)) (contents game) (opening_game config.settings)) }
+        ensures given { IfOk result (λ game. worlds_of (contents game).nodes ≡ worlds.items) }
     {
         if !(2..=4).contains(&worlds.len()) {
             return Err(GameFault::Players);
@@ -60,6 +61,7 @@ fn nodes_of<W: World>(
     requires { IsGame (length worlds.items) }
     ensures opened { IfOk result (λ nodes. AreFresh W.state
         (rules_in W.physics config.now (length worlds.items)) config.now.settings nodes.items) }
+    ensures given { IfOk result (λ nodes. worlds_of nodes.items ≡ worlds.items) }
     ensures one_each { IfOk result (λ nodes. length nodes.items ≡ length worlds.items) }
     ensures memory { IfErr result (λ fault. fault ≡ GameFault.Memory) }
 {

@@ -9,7 +9,7 @@ use Rattle.dn_node.specs.declared.node.Node.{Node}
 use Rattle.dn_node.specs.Contents.{contents}
 use Rattle.dn_node.specs.Represents.{Represents}
 use Rattle.dn_game.specs.Fresh.{AreFresh}
-use Rattle.dn_game.proofs.Freshening.{fresh_more}
+use Rattle.dn_game.proofs.Freshening.{fresh_more, given_more, given_all}
 use Rattle.dn_game.proofs.game.opening.nodes_of.Goals as goal
 
 pub loop-world-preserved : goal.loop-world-preserved
@@ -30,4 +30,8 @@ loop-world-preserved g c =
     let one = subst R me (subst Q players opened) in
     let S : List (Node _) → Type 0 = AreFresh g.W.World.state (rules_of g.W.World.physics (length c.args.worlds.items) config.extra config.limit) config.settings in
     let all = subst S (sym pushed) (fresh_more g.W.World.state _ config.settings c.loop-world.nodes.items c.in-Ok-new.node before.3 one) in
-    (before.0, before.1, omega (arith, longer, before.2, c.in-Some.ensures.steps.1), all)
+    let worlds = given_more _ c.loop-world.nodes.items _ _ before.4 _ _ _ _ pushed c.in-Ok-new.ensures.given c.in-Some.ensures.steps.0 in
+    (before.0, before.1, omega (arith, longer, before.2, c.in-Some.ensures.steps.1), all, worlds)
+
+pub returns-clause-given : goal.returns-clause-given
+returns-clause-given g c = given_all _ c.loop-world.nodes.items _ _ c.loop-world.invariant.4 (sym c.loop-world.world-iterator.rest.ok.0 ∙ c.in-None.ensures.steps.0)
