@@ -57,9 +57,8 @@ all_stopped players from stopped f none node n =
 
 -- the machine's first player who moves is that of a game that represents it
 pub same_moving : {W S : Type 0} (state : W → S) (rules : Rules S) (g : Contents W) (m : Game) → Represents state rules g m
-    → (from : ℕ) → from < length g.nodes
-    → first_moving (length g.nodes) (λ p. slice_index_or g.stopped p false) from ≡ first_moving rules.players m.stopped from
-same_moving state rules g m r from below =
+    → (from : ℕ) → first_moving (length g.nodes) (λ p. slice_index_or g.stopped p false) from ≡ first_moving rules.players m.stopped from
+same_moving state rules g m r from =
     ap (λ (k : ℕ). first_moving k (λ p. slice_index_or g.stopped p false) from) r.players
     ∙ ap (option_map (λ (i : ℕ). (from + i) % rules.players))
     (lowest_same rules.players _ _ (λ i inside. ap not (r.stopped ((from + i) % rules.players))))

@@ -1,8 +1,7 @@
 -- The event of three words.
-use Rattle.std.proofs.Common.{◌≡◌, ◌<◌, ◌%◌, ℕ, false, length, Option, ap, ◌∙◌, arith}
+use Rattle.std.proofs.Common.{◌≡◌, ◌%◌, ℕ, false, length, Option, ap, ◌∙◌}
 use Rattle.std.specs.Prelude.{slice_index_or}
 use Rattle.std.specs.Option.{option_map}
-use Rattle.std.proofs.Math.Nat.{mod-lt}
 use Rattle.rand_pcg.specs.Lcg.{Lcg}
 use Rattle.rand_pcg.specs.Pcg.{pcg32}
 use Rattle.dn_machine.specs.Game.{Game}
@@ -30,11 +29,10 @@ module _ (players : ℕ) (m : Game) (g g1 g2 g3 : Lcg) (a b c : ℕ)
 
 -- by the player who moves
 module _ {W S : Type 0} (state : W → S) (rules : Rules S) (g : Contents W) (m : Game) (r : Represents state rules g m) (a b c count : ℕ)
-    (counted : count ≡ length g.nodes) (some : 0 < count) (moving : Option ℕ)
+    (counted : count ≡ length g.nodes) (moving : Option ℕ)
     (found : moving ≡ first_moving (length g.nodes) (λ p. slice_index_or g.stopped p false) (b % count)) where
   pub event_by : option_map (event_of rules.players m a c) moving ≡ next_event rules.players m a b c
   event_by =
-      let below : b % count < length g.nodes = let l = mod-lt b some in omega (arith, l, counted) in
       let from : b % count ≡ b % rules.players = ap (λ (k : ℕ). b % k) (counted ∙ r.players) in
       ap (option_map (event_of rules.players m a c))
-      (found ∙ same_moving state rules g m r (b % count) below ∙ ap (first_moving rules.players m.stopped) from)
+      (found ∙ same_moving state rules g m r (b % count) ∙ ap (first_moving rules.players m.stopped) from)

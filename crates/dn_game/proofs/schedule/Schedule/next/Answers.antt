@@ -1,4 +1,4 @@
-use Rattle.std.proofs.Common.{Some, None, ap, ◌∙◌, arith}
+use Rattle.std.proofs.Common.{Some, None, ap, ◌∙◌}
 use Rattle.dn_machine.specs.Worlds.{rules_of}
 use Rattle.dn_game.specs.Schedule.{scheduled}
 use Rattle.dn_game.proofs.Scheduling.{of_words, event_by}
@@ -9,7 +9,7 @@ returns-in_err-node-clause-given g c players extra limit m r =
     let game = rules_of g.W.World.physics players extra limit in
     c.from_residual.ensures
     ∙ event_by g.W.World.state game _ m r c.next_word-a.result c.next_word-b.result c.next_word-c.result _ c.players.ensures.value
-    (omega (arith, c.players.ensures.two)) None c.in_err-node.ensures.value
+    None c.in_err-node.ensures.value
     ∙ of_words players m _ _ _ _ _ _ _ c.next_word-a.ensures c.next_word-b.ensures c.next_word-c.ensures
     ∙ ap (scheduled players m) c.self.view_is
 
@@ -18,6 +18,6 @@ returns-clause-given g c players extra limit m r =
     let game = rules_of g.W.World.physics players extra limit in
     ap Some (c.event_of.ensures.told players extra limit m r)
     ∙ event_by g.W.World.state game _ m r c.next_word-a.result c.next_word-b.result c.next_word-c.result _ c.players.ensures.value
-    (omega (arith, c.players.ensures.two)) (Some c.in_ok-node.node) c.in_ok-node.ensures.value
+    (Some c.in_ok-node.node) c.in_ok-node.ensures.value
     ∙ of_words players m _ _ _ _ _ _ _ c.next_word-a.ensures c.next_word-b.ensures c.next_word-c.ensures
     ∙ ap (scheduled players m) c.self.view_is
