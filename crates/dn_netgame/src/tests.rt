@@ -2,6 +2,7 @@
 
 mod demos;
 mod games;
+mod script_faults;
 mod scripts;
 mod storms;
 mod streams;
