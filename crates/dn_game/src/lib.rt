@@ -21,3 +21,6 @@ pub use playing::play;
 pub use schedule::Schedule;
 pub use script::{ScriptFault, read_script};
 pub use storming::storm;
+
+#[cfg(test)]
+mod tests;

@@ -1,0 +1,200 @@
+//! Tests of three nodes under a list with lost, repeated and reversed deliveries.
+
+use super::belt::belts;
+use super::told::places;
+use super::{build, config, send, walks};
+use crate::{Event, Game, Played, play};
+use dn_node::Node;
+use dn_world::{Walk, World};
+use std::alloc::Global;
+use std::process::Abort;
+use std::test::Fail;
+
+/// How many rounds lose, repeat and reverse.
+const WILD: u32 = 300;
+
+/// How many rounds follow in which nothing is built or lost.
+const CALM: u32 = 24;
+
+/// Four packets start the game, and each round sends six.
+const fn first_of(round: u32) -> u32 {
+    4 + 6 * (round % 1_000)
+}
+
+/// Two packets of five are lost, without a pattern that would meet the same sender again and again.
+const fn is_lost(flight: u32) -> bool {
+    (flight % 10_000 * 40_503 % 65_536) / 256 % 5 > 2
+}
+
+/// Each node's packets to the two others, of which some are lost and the others come in reverse, and
+/// some of two rounds ago once more.
+fn add_wild(events: &mut Vec<Event>, round: u32) -> Result<(), Fail> {
+    for node in 0..3 {
+        let bits = (round % 1_000) * 7_919 + node * 5_851;
+        events.push(build(node, bits))?;
+    }
+    for (node, to) in [(0, 1), (0, 2), (1, 0), (1, 2), (2, 0), (2, 1)] {
+        events.push(send(node, to))?;
+    }
+    let first = first_of(round);
+    for place in [5, 4, 3, 2, 1, 0] {
+        let flight = first + place;
+        if !is_lost(flight) {
+            events.push(Event::Deliver(flight))?;
+        }
+        if flight % 4 == 1 {
+            events.push(Event::Deliver(flight.saturating_sub(12)))?;
+        }
+    }
+    for node in [2, 0, 1, 0, 2] {
+        events.push(Event::Run(node))?;
+    }
+    Ok(())
+}
+
+/// Each node's packets to the two others, all of which come.
+fn add_calm(events: &mut Vec<Event>, round: u32) -> Result<(), Fail> {
+    let first = first_of(round);
+    for (place, (node, to)) in [
+        (0, (0, 1)),
+        (1, (0, 2)),
+        (2, (1, 0)),
+        (3, (1, 2)),
+        (4, (2, 0)),
+        (5, (2, 1)),
+    ] {
+        events.push(send(node, to))?;
+        events.push(Event::Deliver(first + place))?;
+    }
+    for node in [0, 1, 2, 0, 1, 2] {
+        events.push(Event::Run(node))?;
+    }
+    Ok(())
+}
+
+/// The whole list: the nodes start, meet wild rounds and then calm ones.
+fn events(alloc: Global) -> Result<Vec<Event>, Fail> {
+    let mut events = Vec::new(alloc);
+    for event in [
+        send(0, 1),
+        send(0, 2),
+        Event::Deliver(1),
+        Event::Deliver(0),
+        send(1, 0),
+        send(2, 0),
+        Event::Deliver(3),
+        Event::Deliver(2),
+    ] {
+        events.push(event)?;
+    }
+    for round in 0..WILD {
+        add_wild(&mut events, round)?;
+    }
+    for round in WILD..WILD + CALM {
+        add_calm(&mut events, round)?;
+    }
+    Ok(events)
+}
+
+fn played(alloc: Global, events: &[Event]) -> Result<Played<Walk>, Fail> {
+    let worlds = walks(alloc, 3)?;
+    Ok(play(alloc, config(131_072)?, worlds, events)?)
+}
+
+/// A demo's bytes but for the view, of which each node has its own: the front and the commands.
+fn parts(demo: &[u8]) -> (&[u8], &[u8]) {
+    if demo.len() < 13 {
+        return (&[], &[]);
+    }
+    (&demo[..8], &demo[9..])
+}
+
+/// Compares two nodes of a game.
+fn compare(rt: &impl Abort, one: &Node<Walk>, other: &Node<Walk>) {
+    let (front, commands) = parts(one.demo());
+    let (other_front, others) = parts(other.demo());
+    if !front.is_empty() && !other_front.is_empty() {
+        assert_eq!(rt; front, other_front);
+    }
+    assert!(rt; commands.starts_with(others) || others.starts_with(commands));
+    if one.ran() == other.ran() && front.len() == other_front.len() {
+        assert_eq!(rt; places(one), places(other));
+        assert_eq!(rt; commands, others);
+    }
+}
+
+/// Compares each two nodes of three.
+fn compare_all(rt: &impl Abort, game: &Game<Walk>) {
+    for (one, other) in [(0, 1), (0, 2), (1, 2)] {
+        match (game.node(one), game.node(other)) {
+            (Some(one), Some(other)) => compare(rt, one, other),
+            _ => assert!(rt; false, "no node"),
+        }
+    }
+}
+
+#[test]
+fn three_nodes_agree_after_forty_tics(rt: HostRuntime) -> Result<(), Fail> {
+    let events = events(rt.alloc())?;
+    let played = played(rt.alloc(), events.as_slice())?;
+    assert_eq!(rt; played.done, events.len());
+    assert_eq!(rt; played.refused, 0);
+    compare_all(&rt, &played.game);
+    let mut newest = 0;
+    for number in 0..3 {
+        let Some(node) = played.game.node(number) else {
+            assert!(rt; false, "no node {number}");
+            continue;
+        };
+        assert!(rt; node.ran() >= 40, "{number} ran {}", node.ran());
+        assert_eq!(rt; node.demo().len(), 13 + 12 * node.ran() as usize);
+        newest = newest.max(node.ran());
+    }
+    // Nothing was lost in the end, so all have run the same tics.
+    for number in 0..3 {
+        let ran = match played.game.node(number) {
+            Some(node) => node.ran(),
+            None => 0,
+        };
+        assert_eq!(rt; ran, newest, "{number}");
+    }
+    Ok(())
+}
+
+#[test]
+fn three_nodes_agree_at_each_stage(rt: HostRuntime) -> Result<(), Fail> {
+    let events = events(rt.alloc())?;
+    let mut len = 0;
+    while len < events.len() {
+        let played = played(rt.alloc(), &events[..len])?;
+        assert_eq!(rt; played.done, len);
+        compare_all(&rt, &played.game);
+        len += 37;
+    }
+    Ok(())
+}
+
+#[test]
+fn worlds_with_vectors_agree(rt: HostRuntime) -> Result<(), Fail> {
+    let events = events(rt.alloc())?;
+    let worlds = belts(rt.alloc(), 3)?;
+    let played = play(rt.alloc(), config(131_072)?, worlds, events.as_slice())?;
+    assert_eq!(rt; played.refused, 0);
+    match (
+        played.game.node(0),
+        played.game.node(1),
+        played.game.node(2),
+    ) {
+        (Some(zero), Some(one), Some(two)) => {
+            assert!(rt; zero.ran() >= 40);
+            assert_eq!(rt; zero.ran(), one.ran());
+            assert_eq!(rt; zero.ran(), two.ran());
+            for player in 0..4 {
+                assert_eq!(rt; zero.world().mark(player), one.world().mark(player));
+                assert_eq!(rt; zero.world().mark(player), two.world().mark(player));
+            }
+        }
+        _ => assert!(rt; false, "no node"),
+    }
+    Ok(())
+}

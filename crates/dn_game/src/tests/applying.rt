@@ -1,0 +1,94 @@
+//! Tests of single events: what they answer, and why they are refused.
+
+use super::told::all_told;
+use super::{build, opened, send};
+use crate::{Done, Event, Refusal};
+use dn_node::{Heard, Made, Ran};
+use std::test::Fail;
+
+const NO_NODE: Result<Done, Refusal> = Err(Refusal::NoNode);
+
+const NO_PACKET: Result<Done, Refusal> = Err(Refusal::NoPacket);
+
+const STOPPED: Result<Done, Refusal> = Err(Refusal::Stopped);
+
+#[test]
+fn events_are_refused_in_order(rt: HostRuntime) -> Result<(), Fail> {
+    let mut game = opened(rt.alloc(), 2)?;
+    for (event, answer) in [
+        (send(0, 5), NO_NODE),
+        (send(5, 0), NO_NODE),
+        (send(2, 2), NO_NODE),
+        (build(2, 1), NO_NODE),
+        (Event::Run(2), NO_NODE),
+        (Event::Quit(256), NO_NODE),
+        (Event::Stop(u32::MAX), NO_NODE),
+        (Event::Deliver(0), NO_PACKET),
+        (Event::Deliver(u32::MAX), NO_PACKET),
+        (Event::Stop(1), Ok(Done::Stopped)),
+        (Event::Stop(1), STOPPED),
+        (build(1, 1), STOPPED),
+        (Event::Run(1), STOPPED),
+        (Event::Quit(1), STOPPED),
+        (send(1, 0), STOPPED),
+        (send(1, 1), STOPPED),
+        (send(1, 5), NO_NODE),
+        (send(0, 1), Ok(Done::Sent(0))),
+        (Event::Deliver(0), STOPPED),
+        (Event::Deliver(1), NO_PACKET),
+        (send(0, 1), Ok(Done::Sent(1))),
+        (Event::Deliver(1), STOPPED),
+        (Event::Deliver(2), NO_PACKET),
+    ] {
+        let before = all_told(&game);
+        let answered = game.apply(event);
+        assert_eq!(rt; answered, answer, "{event:?}");
+        if answered.is_err() {
+            assert_eq!(rt; all_told(&game), before, "{event:?}");
+        }
+    }
+    assert!(rt; !game.stopped(0));
+    assert!(rt; game.stopped(1));
+    assert_eq!(rt; game.flights(), 2);
+    Ok(())
+}
+
+#[test]
+fn events_answer_what_nodes_do(rt: HostRuntime) -> Result<(), Fail> {
+    let mut game = opened(rt.alloc(), 2)?;
+    for (event, answer) in [
+        (send(0, 0), Done::Silent),
+        (send(1, 0), Done::Silent),
+        (build(0, 1), Done::Built(Made::NotPlaying)),
+        (Event::Run(1), Done::Ran(Ran::NotPlaying)),
+        (send(0, 1), Done::Sent(0)),
+        (Event::Deliver(0), Done::Heard(Heard::Started)),
+        (Event::Deliver(0), Done::Heard(Heard::Dropped(6))),
+        (Event::Run(1), Done::Ran(Ran::Waiting(0))),
+        (build(1, 1), Done::Built(Made::Made(0))),
+        (build(1, 1), Done::Built(Made::Made(1))),
+        (build(1, 1), Done::Built(Made::Made(2))),
+        (build(1, 1), Done::Built(Made::Made(3))),
+        (build(1, 1), Done::Built(Made::Made(4))),
+        (build(1, 1), Done::Built(Made::Full)),
+        (Event::Quit(1), Done::Quit(true)),
+        (Event::Quit(1), Done::Quit(false)),
+        (build(1, 1), Done::Built(Made::NotPlaying)),
+        (send(1, 0), Done::Sent(1)),
+        (send(1, 0), Done::Sent(2)),
+        (send(1, 0), Done::Sent(3)),
+        (send(1, 0), Done::Sent(4)),
+        (send(1, 0), Done::Silent),
+        (Event::Deliver(0), Done::Heard(Heard::Dropped(13))),
+        // The key player still gathers, and hears an end as any other packet.
+        (Event::Deliver(3), Done::Heard(Heard::Started)),
+        (Event::Deliver(3), Done::Heard(Heard::Left)),
+        (Event::Deliver(1), Done::Heard(Heard::Dropped(13))),
+        (send(0, 1), Done::Silent),
+        (Event::Stop(0), Done::Stopped),
+        (send(1, 0), Done::Silent),
+    ] {
+        assert_eq!(rt; game.apply(event), Ok(answer), "{event:?}");
+    }
+    Ok(())
+}

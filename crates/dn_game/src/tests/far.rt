@@ -1,0 +1,220 @@
+//! Tests of packets that lie far from what their receiver has made.
+
+use super::{build, opened, send};
+use crate::{Done, Event, Game, Refusal};
+use dn_node::{Config, Heard, Made, Node, Ran};
+use dn_setup::Settings;
+use dn_world::Walk;
+use std::alloc::Global;
+use std::test::Fail;
+
+const STALE: Result<Done, Refusal> = Ok(Done::Heard(Heard::Stale));
+
+const FAR: Result<Done, Refusal> = Err(Refusal::Far);
+
+/// Applies an event, and delivers the packet that it may have sent.
+fn hand_over(game: &mut Game<Walk>, event: Event) -> Option<Heard> {
+    let Ok(Done::Sent(which)) = game.apply(event) else {
+        return None;
+    };
+    match game.apply(Event::Deliver(u32::try_from(which).ok()?)) {
+        Ok(Done::Heard(heard)) => Some(heard),
+        _ => None,
+    }
+}
+
+/// Plays rounds in which both nodes build, hear each other and run.
+fn play_rounds(game: &mut Game<Walk>, rounds: u32) {
+    for _ in 0..rounds {
+        for event in [build(0, 0), build(1, 0)] {
+            let _ = game.apply(event);
+        }
+        hand_over(game, send(0, 1));
+        hand_over(game, send(1, 0));
+        for event in [Event::Run(0), Event::Run(1)] {
+            let _ = game.apply(event);
+        }
+    }
+}
+
+/// Two nodes that play, after two packets.
+fn started(alloc: Global) -> Result<Game<Walk>, Fail> {
+    let mut game = opened(alloc, 2)?;
+    hand_over(&mut game, send(0, 1));
+    hand_over(&mut game, send(1, 0));
+    Ok(game)
+}
+
+#[test]
+fn a_start_is_near_up_to_sixty_four(rt: HostRuntime) -> Result<(), Fail> {
+    let mut game = started(rt.alloc())?;
+    play_rounds(&mut game, 64);
+    // The first packets of the rounds: each has its sender's first command.
+    for (event, answer) in [
+        (Event::Deliver(2), STALE),
+        (Event::Deliver(3), STALE),
+        (build(0, 0), Ok(Done::Built(Made::Made(64)))),
+        (Event::Deliver(3), FAR),
+        (Event::Deliver(2), STALE),
+        (build(1, 0), Ok(Done::Built(Made::Made(64)))),
+        (Event::Deliver(2), FAR),
+        // A set-up packet is never far.
+        (Event::Deliver(0), Ok(Done::Heard(Heard::Dropped(6)))),
+        (Event::Stop(0), Ok(Done::Stopped)),
+        (Event::Deliver(3), FAR),
+        (Event::Deliver(129), Err(Refusal::Stopped)),
+        (Event::Deliver(130), Err(Refusal::NoPacket)),
+    ] {
+        assert_eq!(rt; game.apply(event), answer, "{event:?}");
+    }
+    Ok(())
+}
+
+#[test]
+fn a_request_alone_may_be_far(rt: HostRuntime) -> Result<(), Fail> {
+    let mut game = opened(rt.alloc(), 2)?;
+    hand_over(&mut game, send(0, 1));
+    let _ = game.apply(build(1, 0));
+    assert_eq!(rt; hand_over(&mut game, send(1, 0)), Some(Heard::Started));
+    let _ = game.apply(build(1, 0));
+    assert_eq!(rt; hand_over(&mut game, send(1, 0)), Some(Heard::Gap));
+    for _ in 0..3 {
+        let _ = game.apply(build(0, 0));
+    }
+    // Node 0 asks for tic 0, once with its commands from tic 0 on, once from tic 3 on.
+    assert_eq!(rt; hand_over(&mut game, send(0, 1)), Some(Heard::Taken(3)));
+    assert_eq!(rt; game.apply(send(0, 1)), Ok(Done::Sent(4)));
+    let Some(flight) = game.flight(4) else {
+        assert!(rt; false, "no packet");
+        return Ok(());
+    };
+    assert_eq!(rt; (flight.aim.start, flight.aim.ask), (3, Some(0)));
+    assert_eq!(rt; hand_over(&mut game, send(1, 0)), Some(Heard::Taken(2)));
+    play_rounds(&mut game, 62);
+    for (event, answer) in [
+        (Event::Deliver(4), STALE),
+        (build(1, 0), Ok(Done::Built(Made::Made(64)))),
+        (Event::Deliver(4), FAR),
+    ] {
+        assert_eq!(rt; game.apply(event), answer, "{event:?}");
+    }
+    Ok(())
+}
+
+#[test]
+fn a_start_alone_may_be_far(rt: HostRuntime) -> Result<(), Fail> {
+    let mut game = started(rt.alloc())?;
+    for _ in 0..3 {
+        let _ = game.apply(build(1, 0));
+    }
+    assert_eq!(rt; hand_over(&mut game, send(1, 0)), Some(Heard::Taken(3)));
+    let _ = game.apply(build(1, 0));
+    assert_eq!(rt; game.apply(send(1, 0)), Ok(Done::Sent(3)));
+    let _ = game.apply(build(1, 0));
+    assert_eq!(rt; hand_over(&mut game, send(1, 0)), Some(Heard::Gap));
+    let _ = game.apply(build(0, 0));
+    // Node 0 sends from tic 0 on, and asks for tic 3.
+    assert_eq!(rt; hand_over(&mut game, send(0, 1)), Some(Heard::Taken(1)));
+    let Some(flight) = game.flight(5) else {
+        assert!(rt; false, "no packet");
+        return Ok(());
+    };
+    assert_eq!(rt; (flight.aim.start, flight.aim.ask), (0, Some(3)));
+    assert_eq!(rt; hand_over(&mut game, send(1, 0)), Some(Heard::Taken(2)));
+    for event in [Event::Run(0), Event::Run(1)] {
+        assert_eq!(rt; game.apply(event), Ok(Done::Ran(Ran::Ran(0))));
+    }
+    play_rounds(&mut game, 59);
+    for (event, answer) in [
+        (Event::Deliver(5), STALE),
+        (build(1, 0), Ok(Done::Built(Made::Made(64)))),
+        (Event::Deliver(5), FAR),
+    ] {
+        assert_eq!(rt; game.apply(event), answer, "{event:?}");
+    }
+    Ok(())
+}
+
+/// A node of two, on its own.
+fn node(alloc: Global, me: u8) -> Result<Node<Walk>, Fail> {
+    let choice = Settings::new(2, 0, false, false, 1, 1)?;
+    let config = Config {
+        players: 2,
+        me,
+        extra: false,
+        limit: 131_072,
+        settings: if me == 0 { Some(choice) } else { None },
+    };
+    Ok(Node::new(alloc, config, Walk::new())?)
+}
+
+/// Gives a packet of one node to the other.
+fn give(from: &mut Node<Walk>, to: &mut Node<Walk>) -> Option<Heard> {
+    let packet = from.packet(to.me())?;
+    Some(to.receive(from.me(), packet.as_slice()))
+}
+
+/// A node alone takes an old packet for a new one, since it sees but the low byte of its tic.
+#[test]
+fn a_node_takes_what_a_game_refuses(rt: HostRuntime) -> Result<(), Fail> {
+    let mut zero = node(rt.alloc(), 0)?;
+    let mut one = node(rt.alloc(), 1)?;
+    assert_eq!(rt; give(&mut zero, &mut one), Some(Heard::Started));
+    assert_eq!(rt; give(&mut one, &mut zero), Some(Heard::Started));
+    let keys = dn_tic::Keys::from_bits(0);
+    one.build(keys);
+    one.build(keys);
+    let Some(old) = one.packet(0) else {
+        assert!(rt; false, "no packet");
+        return Ok(());
+    };
+    assert_eq!(rt; zero.receive(1, old.as_slice()), Heard::Taken(2));
+    for tic in 0..256 {
+        assert_eq!(rt; zero.build(keys), Made::Made(tic));
+        if tic > 1 {
+            assert_eq!(rt; one.build(keys), Made::Made(tic));
+        }
+        give(&mut zero, &mut one);
+        give(&mut one, &mut zero);
+        if tic < 255 {
+            assert_eq!(rt; zero.run(), Ran::Ran(tic));
+            assert_eq!(rt; one.run(), Ran::Ran(tic));
+        }
+    }
+    assert_eq!(rt;
+        (zero.made(), zero.ran(), zero.got(1)),
+        (256, 255, Some(256))
+    );
+    assert_eq!(rt; zero.receive(1, old.as_slice()), Heard::Taken(2));
+    assert_eq!(rt; zero.got(1), Some(258));
+    Ok(())
+}
+
+#[test]
+fn a_game_refuses_what_a_node_takes(rt: HostRuntime) -> Result<(), Fail> {
+    let mut game = started(rt.alloc())?;
+    for node in [0, 1] {
+        let _ = game.apply(build(node, 0));
+        let _ = game.apply(build(node, 0));
+    }
+    assert_eq!(rt; hand_over(&mut game, send(0, 1)), Some(Heard::Taken(2)));
+    assert_eq!(rt; hand_over(&mut game, send(1, 0)), Some(Heard::Taken(2)));
+    for event in [Event::Run(0), Event::Run(1), Event::Run(0), Event::Run(1)] {
+        let _ = game.apply(event);
+    }
+    play_rounds(&mut game, 253);
+    let _ = game.apply(build(0, 0));
+    let _ = game.apply(build(1, 0));
+    hand_over(&mut game, send(0, 1));
+    hand_over(&mut game, send(1, 0));
+    let Some(zero) = game.node(0) else {
+        assert!(rt; false, "no node");
+        return Ok(());
+    };
+    assert_eq!(rt;
+        (zero.made(), zero.ran(), zero.got(1)),
+        (256, 255, Some(256))
+    );
+    assert_eq!(rt; game.apply(Event::Deliver(3)), FAR);
+    Ok(())
+}

@@ -1,0 +1,92 @@
+//! Tests of want of memory.
+
+use super::told::all_told;
+use super::{config, opened, send, walks};
+use crate::{Done, Event, Game, GameFault, Refusal, play, storm};
+use dn_world::Walk;
+use std::process::Abort;
+use std::test::Fail;
+
+fn start() -> [Event; 6] {
+    [
+        send(0, 1),
+        Event::Deliver(0),
+        send(1, 0),
+        Event::Deliver(1),
+        send(0, 1),
+        Event::Deliver(2),
+    ]
+}
+
+/// Sends a packet: it joins the others, or there is no room for it and nothing has changed.
+fn send_one(rt: &impl Abort, game: &mut Game<Walk>) {
+    let before = all_told(game);
+    let count = game.flights();
+    match game.apply(send(0, 1)) {
+        Ok(done) => assert_eq!(rt; done, Done::Sent(count)),
+        Err(refusal) => {
+            assert_eq!(rt; refusal, Refusal::Memory);
+            assert_eq!(rt; all_told(game), before);
+        }
+    }
+}
+
+/// Each request for memory may be refused: then the answer says so, and there is no other.
+#[test]
+fn want_of_memory_is_told(rt: HostRuntime) -> Result<(), Fail> {
+    if let Ok(worlds) = walks(rt.alloc(), 2) {
+        match Game::new(rt.alloc(), config(1_024)?, worlds) {
+            Ok(mut game) => {
+                for _ in 0..9 {
+                    send_one(&rt, &mut game);
+                }
+            }
+            Err(fault) => assert_eq!(rt; fault, GameFault::Memory),
+        }
+    }
+    if let Ok(worlds) = walks(rt.alloc(), 2) {
+        match play(rt.alloc(), config(1_024)?, worlds, &start()) {
+            Ok(played) => assert_eq!(rt; played.done + played.refused, 6),
+            Err(fault) => assert_eq!(rt; fault, GameFault::Memory),
+        }
+    }
+    if let Ok(worlds) = walks(rt.alloc(), 2) {
+        match storm(rt.alloc(), config(1_024)?, worlds, 1, 500) {
+            Ok(played) => assert_eq!(rt; played.done + played.refused, 500),
+            Err(fault) => assert_eq!(rt; fault, GameFault::Memory),
+        }
+    }
+    Ok(())
+}
+
+/// A send that is left out takes its delivery with it, and nothing else.
+#[test]
+fn only_sends_are_left_out(rt: HostRuntime) -> Result<(), Fail> {
+    let Ok(worlds) = walks(rt.alloc(), 2) else {
+        return Ok(());
+    };
+    let Ok(mut game) = Game::new(rt.alloc(), config(1_024)?, worlds) else {
+        return Ok(());
+    };
+    let mut left_out = 0;
+    for event in start() {
+        match (event, game.apply(event)) {
+            (_, Ok(_)) => {}
+            (Event::Send { .. }, Err(Refusal::Memory)) => left_out += 1,
+            (Event::Deliver(_), Err(Refusal::NoPacket)) => assert!(rt; left_out > 0),
+            (_, Err(refusal)) => assert!(rt; false, "{event:?} {refusal:?}"),
+        }
+    }
+    assert!(rt; game.flights() + left_out <= 3);
+    Ok(())
+}
+
+#[test]
+fn there_is_room_for_many_packets(rt: HostRuntime) -> Result<(), Fail> {
+    let mut game = opened(rt.alloc(), 2)?;
+    for which in 0..10_000 {
+        assert_eq!(rt; game.apply(send(0, 1)), Ok(Done::Sent(which)));
+    }
+    assert_eq!(rt; game.flights(), 10_000);
+    Ok(())
+}
