@@ -5,6 +5,7 @@ mod applying;
 mod belt;
 mod far;
 mod memory;
+mod old_packets;
 mod opening;
 mod playing;
 mod schedules;

@@ -38,7 +38,7 @@ fn add_wild(events: &mut Vec<Event>, round: u32) -> Result<(), Fail> {
     }
     let first = first_of(round);
     for place in [5, 4, 3, 2, 1, 0] {
-        let flight = first + place;
+        let flight = first.saturating_add(place);
         if !is_lost(flight) {
             events.push(Event::Deliver(flight))?;
         }
@@ -64,7 +64,7 @@ fn add_calm(events: &mut Vec<Event>, round: u32) -> Result<(), Fail> {
         (5, (2, 1)),
     ] {
         events.push(send(node, to))?;
-        events.push(Event::Deliver(first + place))?;
+        events.push(Event::Deliver(first.saturating_add(place)))?;
     }
     for node in [0, 1, 2, 0, 1, 2] {
         events.push(Event::Run(node))?;
@@ -164,12 +164,11 @@ fn three_nodes_agree_after_forty_tics(rt: HostRuntime) -> Result<(), Fail> {
 #[test]
 fn three_nodes_agree_at_each_stage(rt: HostRuntime) -> Result<(), Fail> {
     let events = events(rt.alloc())?;
-    let mut len = 0;
-    while len < events.len() {
+    for stage in 0..200 {
+        let len = events.len().min(stage * 37);
         let played = played(rt.alloc(), &events[..len])?;
         assert_eq!(rt; played.done, len);
         compare_all(&rt, &played.game);
-        len += 37;
     }
     Ok(())
 }

@@ -2,8 +2,7 @@
 
 use super::{build, opened, send};
 use crate::{Done, Event, Game, Refusal};
-use dn_node::{Config, Heard, Made, Node, Ran};
-use dn_setup::Settings;
+use dn_node::{Heard, Made, Ran};
 use dn_world::Walk;
 use std::alloc::Global;
 use std::test::Fail;
@@ -13,7 +12,7 @@ const STALE: Result<Done, Refusal> = Ok(Done::Heard(Heard::Stale));
 const FAR: Result<Done, Refusal> = Err(Refusal::Far);
 
 /// Applies an event, and delivers the packet that it may have sent.
-fn hand_over(game: &mut Game<Walk>, event: Event) -> Option<Heard> {
+pub(super) fn hand_over(game: &mut Game<Walk>, event: Event) -> Option<Heard> {
     let Ok(Done::Sent(which)) = game.apply(event) else {
         return None;
     };
@@ -24,7 +23,7 @@ fn hand_over(game: &mut Game<Walk>, event: Event) -> Option<Heard> {
 }
 
 /// Plays rounds in which both nodes build, hear each other and run.
-fn play_rounds(game: &mut Game<Walk>, rounds: u32) {
+pub(super) fn play_rounds(game: &mut Game<Walk>, rounds: u32) {
     for _ in 0..rounds {
         for event in [build(0, 0), build(1, 0)] {
             let _ = game.apply(event);
@@ -38,7 +37,7 @@ fn play_rounds(game: &mut Game<Walk>, rounds: u32) {
 }
 
 /// Two nodes that play, after two packets.
-fn started(alloc: Global) -> Result<Game<Walk>, Fail> {
+pub(super) fn started(alloc: Global) -> Result<Game<Walk>, Fail> {
     let mut game = opened(alloc, 2)?;
     hand_over(&mut game, send(0, 1));
     hand_over(&mut game, send(1, 0));
@@ -132,89 +131,5 @@ fn a_start_alone_may_be_far(rt: HostRuntime) -> Result<(), Fail> {
     ] {
         assert_eq!(rt; game.apply(event), answer, "{event:?}");
     }
-    Ok(())
-}
-
-/// A node of two, on its own.
-fn node(alloc: Global, me: u8) -> Result<Node<Walk>, Fail> {
-    let choice = Settings::new(2, 0, false, false, 1, 1)?;
-    let config = Config {
-        players: 2,
-        me,
-        extra: false,
-        limit: 131_072,
-        settings: if me == 0 { Some(choice) } else { None },
-    };
-    Ok(Node::new(alloc, config, Walk::new())?)
-}
-
-/// Gives a packet of one node to the other.
-fn give(from: &mut Node<Walk>, to: &mut Node<Walk>) -> Option<Heard> {
-    let packet = from.packet(to.me())?;
-    Some(to.receive(from.me(), packet.as_slice()))
-}
-
-/// A node alone takes an old packet for a new one, since it sees but the low byte of its tic.
-#[test]
-fn a_node_takes_what_a_game_refuses(rt: HostRuntime) -> Result<(), Fail> {
-    let mut zero = node(rt.alloc(), 0)?;
-    let mut one = node(rt.alloc(), 1)?;
-    assert_eq!(rt; give(&mut zero, &mut one), Some(Heard::Started));
-    assert_eq!(rt; give(&mut one, &mut zero), Some(Heard::Started));
-    let keys = dn_tic::Keys::from_bits(0);
-    one.build(keys);
-    one.build(keys);
-    let Some(old) = one.packet(0) else {
-        assert!(rt; false, "no packet");
-        return Ok(());
-    };
-    assert_eq!(rt; zero.receive(1, old.as_slice()), Heard::Taken(2));
-    for tic in 0..256 {
-        assert_eq!(rt; zero.build(keys), Made::Made(tic));
-        if tic > 1 {
-            assert_eq!(rt; one.build(keys), Made::Made(tic));
-        }
-        give(&mut zero, &mut one);
-        give(&mut one, &mut zero);
-        if tic < 255 {
-            assert_eq!(rt; zero.run(), Ran::Ran(tic));
-            assert_eq!(rt; one.run(), Ran::Ran(tic));
-        }
-    }
-    assert_eq!(rt;
-        (zero.made(), zero.ran(), zero.got(1)),
-        (256, 255, Some(256))
-    );
-    assert_eq!(rt; zero.receive(1, old.as_slice()), Heard::Taken(2));
-    assert_eq!(rt; zero.got(1), Some(258));
-    Ok(())
-}
-
-#[test]
-fn a_game_refuses_what_a_node_takes(rt: HostRuntime) -> Result<(), Fail> {
-    let mut game = started(rt.alloc())?;
-    for node in [0, 1] {
-        let _ = game.apply(build(node, 0));
-        let _ = game.apply(build(node, 0));
-    }
-    assert_eq!(rt; hand_over(&mut game, send(0, 1)), Some(Heard::Taken(2)));
-    assert_eq!(rt; hand_over(&mut game, send(1, 0)), Some(Heard::Taken(2)));
-    for event in [Event::Run(0), Event::Run(1), Event::Run(0), Event::Run(1)] {
-        let _ = game.apply(event);
-    }
-    play_rounds(&mut game, 253);
-    let _ = game.apply(build(0, 0));
-    let _ = game.apply(build(1, 0));
-    hand_over(&mut game, send(0, 1));
-    hand_over(&mut game, send(1, 0));
-    let Some(zero) = game.node(0) else {
-        assert!(rt; false, "no node");
-        return Ok(());
-    };
-    assert_eq!(rt;
-        (zero.made(), zero.ran(), zero.got(1)),
-        (256, 255, Some(256))
-    );
-    assert_eq!(rt; game.apply(Event::Deliver(3)), FAR);
     Ok(())
 }

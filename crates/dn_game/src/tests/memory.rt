@@ -46,13 +46,13 @@ fn want_of_memory_is_told(rt: HostRuntime) -> Result<(), Fail> {
     }
     if let Ok(worlds) = walks(rt.alloc(), 2) {
         match play(rt.alloc(), config(1_024)?, worlds, &start()) {
-            Ok(played) => assert_eq!(rt; played.done + played.refused, 6),
+            Ok(played) => assert_eq!(rt; played.done.checked_add(played.refused), Some(6)),
             Err(fault) => assert_eq!(rt; fault, GameFault::Memory),
         }
     }
     if let Ok(worlds) = walks(rt.alloc(), 2) {
         match storm(rt.alloc(), config(1_024)?, worlds, 1, 500) {
-            Ok(played) => assert_eq!(rt; played.done + played.refused, 500),
+            Ok(played) => assert_eq!(rt; played.done.checked_add(played.refused), Some(500)),
             Err(fault) => assert_eq!(rt; fault, GameFault::Memory),
         }
     }
@@ -68,16 +68,16 @@ fn only_sends_are_left_out(rt: HostRuntime) -> Result<(), Fail> {
     let Ok(mut game) = Game::new(rt.alloc(), config(1_024)?, worlds) else {
         return Ok(());
     };
-    let mut left_out = 0;
+    let mut left_out = false;
     for event in start() {
         match (event, game.apply(event)) {
             (_, Ok(_)) => {}
-            (Event::Send { .. }, Err(Refusal::Memory)) => left_out += 1,
-            (Event::Deliver(_), Err(Refusal::NoPacket)) => assert!(rt; left_out > 0),
+            (Event::Send { .. }, Err(Refusal::Memory)) => left_out = true,
+            (Event::Deliver(_), Err(Refusal::NoPacket)) => assert!(rt; left_out),
             (_, Err(refusal)) => assert!(rt; false, "{event:?} {refusal:?}"),
         }
     }
-    assert!(rt; game.flights() + left_out <= 3);
+    assert!(rt; left_out || game.flights() == 3);
     Ok(())
 }
 
