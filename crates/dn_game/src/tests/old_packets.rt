@@ -3,7 +3,7 @@
 use super::far::{hand_over, play_rounds, started};
 use super::schedules::draw;
 use super::{build, opened, send};
-use crate::{Done, Event, Game, Refusal};
+use crate::{Event, Game, Refusal};
 use dn_node::{Config, Heard, Made, Node, Ran};
 use dn_setup::Settings;
 use dn_tic::Keys;
@@ -97,18 +97,15 @@ fn a_game_refuses_what_a_node_takes(rt: HostRuntime) -> Result<(), Fail> {
 
 /// Builds five commands on both nodes, hands them over, and runs them.
 fn play_five(game: &mut Game<Walk>) {
-    for event in [build(0, 0), build(1, 0)] {
-        for _ in 0..5 {
+    for _ in 0..5 {
+        for event in [build(0, 0), build(1, 0)] {
             let _ = game.apply(event);
         }
     }
-    for event in [send(0, 1), send(1, 0)] {
-        if let Ok(Done::Sent(which)) = game.apply(event) {
-            let _ = game.apply(Event::Deliver(which as u32 % 1_000));
-        }
-    }
-    for event in [Event::Run(0), Event::Run(1)] {
-        for _ in 0..5 {
+    hand_over(game, send(0, 1));
+    hand_over(game, send(1, 0));
+    for _ in 0..5 {
+        for event in [Event::Run(0), Event::Run(1)] {
             let _ = game.apply(event);
         }
     }
