@@ -13,9 +13,9 @@ use Rattle.dn_machine.specs.Node.{Node, blank, lowest, world_after}
 use Rattle.dn_machine.specs.Game.{fresh, opening_game, refused, applied}
 use Rattle.dn_machine.specs.Sending.{on_send}
 use Rattle.dn_machine.specs.Hearing.{on_packet}
-use Rattle.dn_machine.specs.Running.{capacity, on_run, on_quit}
+use Rattle.dn_machine.specs.Running.{on_run, on_quit}
 use Rattle.dn_machine.proofs.TwoPlayers.{settings, counting, answers}
-use Rattle.dn_tic.specs.Rounding.{used}
+use Rattle.dn_tic.specs.Command.{used}
 
 -- a node of player 0 that made some commands, ran some tics, and holds as many of each other player
 playing : ℕ → ℕ → Node
@@ -37,13 +37,13 @@ mark_off : ((on_run counting (off 12)).1 ≡ Ran.Ran 12) × ((on_run counting (o
 unfolding off playing on_run lowest world_after row_of used
 mark_off = (refl, refl, refl)
 
--- the rows that fit into a demo, and the run after them
+-- a demo that is full, and one with room for one more tic
 at_the_end : Node
-at_the_end = record (playing 128 127) { held = λ p. replicate 128 (record blank { mark = pos 115 }) }
+at_the_end = record (playing 103 102) { held = λ p. replicate 103 (record blank { mark = pos 90 }) }
 
-full : (capacity (record counting { limit = 1030 }) ≡ 127) × (capacity (record counting { limit = 1029 }) ≡ 126) × ((on_run (record counting { limit = 1030 }) at_the_end).1 ≡ Ran.DemoFull) × ((on_run (record counting { limit = 1030 }) at_the_end).0.phase ≡ Ended Cause.Full)
-unfolding at_the_end playing on_run lowest world_after
-full = (refl, refl, refl, refl)
+full : ((on_run (record counting { capacity = 102 }) at_the_end).1 ≡ Ran.DemoFull) × ((on_run (record counting { capacity = 102 }) at_the_end).0.phase ≡ Ended Cause.Full) × ((on_run (record counting { capacity = 103 }) at_the_end).1 ≡ Ran.Ran 102)
+unfolding at_the_end playing on_run lowest world_after row_of used
+full = (refl, refl, refl)
 
 -- a node of three that has ended, asked five times for a packet to a peer
 three : Rules ℕ
@@ -104,7 +104,7 @@ unfolding packet opening_game
 far_first = refl
 
 -- the seats of three players, as the world begins and in a row
-seats : (opening (record { physics = record { begin = λ start present. present; step = λ world row. world; mark = λ world player. pos 0 }; players = 3; extra = false; limit = 131072 }) settings ≡ true ∷ true ∷ true ∷ false ∷ [])
+seats : (opening (record { physics = record { begin = λ start present. present; step = λ world row. world; mark = λ world player. pos 0 }; players = 3; extra = false; capacity = 13105 }) settings ≡ true ∷ true ∷ true ∷ false ∷ [])
     × (map is_some (row_of 3 (λ p. Some blank)) ≡ true ∷ true ∷ true ∷ false ∷ [])
 unfolding row_of
 seats = (refl, refl)

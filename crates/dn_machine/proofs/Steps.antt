@@ -27,7 +27,7 @@ use Rattle.dn_machine.specs.Sending.{lag, first_sent, set_up_flight, commands_fl
 use Rattle.dn_machine.specs.Building.{on_build, on_build_in}
 use Rattle.dn_setup.specs.Gathered.{all_noted}
 use Rattle.dn_machine.specs.Hearing.{on_gathering, is_within, requested_tic, after_request, on_commands, on_packet, on_packet_in}
-use Rattle.dn_machine.specs.Running.{is_awaited, is_off, first_off, capacity, row_held, on_run_playing, on_run_in, on_run, on_quit, on_quit_in}
+use Rattle.dn_machine.specs.Running.{is_awaited, is_off, first_off, row_held, on_run_playing, on_run_in, on_run, on_quit, on_quit_in}
 
 -- equal histories are alike
 along : {S : Type 0} (rules : Rules S) (settings : Settings) (a b : History) (flights : List Flight) → b.keys ≡ a.keys → b.held ≡ a.held → b.rows ≡ a.rows → ComesFromKeys rules settings a flights → ComesFromKeys rules settings b flights
@@ -170,7 +170,7 @@ module _ {S : Type 0} (rules : Rules S) (settings : Settings) (game : Game) (kep
       run_all : (game.nodes i).phase ≡ Playing → lowest rules.players (is_awaited (game.nodes i)) ≡ None → IsKept rules settings (with_node game i (on_run_playing rules (game.nodes i) None None).0)
       run_all e none =
           let there : (p : ℕ) → p < rules.players → length ((game.nodes i).rows) < length ((game.nodes i).held p) = λ p l. leb-false (got (game.nodes i) p) (ran (game.nodes i)) (lowest_none_each rules.players (is_awaited (game.nodes i)) none p l) in
-          cond_both (eqb (ran (game.nodes i)) (capacity rules)) _ _ (λ (r : Node × Ran). IsKept rules settings (with_node game i r.0))
+          cond_both (eqb (ran (game.nodes i)) rules.capacity) _ _ (λ (r : Node × Ran). IsKept rules settings (with_node game i r.0))
           (λ full. quiet _ refl refl refl (ended_sound Cause.Full (λ p w s h. cc)))
           (λ free.
           let new : List (Option Move) = row_held rules (game.nodes i) in
@@ -182,7 +182,7 @@ module _ {S : Type 0} (rules : Rules S) (settings : Settings) (game : Game) (kep
                 (view_kept (λ (n : Node). n.held) game.nodes i node refl)
                 (view_put (λ (n : Node). n.rows) game.nodes i node)
                 (Lists.runs rules settings (history_of game) game.flights kept.from_keys i mine there new (row_true there));
-            sound = sound_placed node (record { played = sound.played; playing = sound.playing; gathering = sound.gathering; consistent = sound.consistent; resend = sound.resend; room = let left = eqb-false (ran (game.nodes i)) (capacity rules) free in let old = sound.room in let count = length_push (game.nodes i).rows new in omega arith });
+            sound = sound_placed node (record { played = sound.played; playing = sound.playing; gathering = sound.gathering; consistent = sound.consistent; resend = sound.resend; room = let left = eqb-false (ran (game.nodes i)) rules.capacity free in let old = sound.room in let count = length_push (game.nodes i).rows new in omega arith });
           })
 
       awaited : (game.nodes i).phase ≡ Playing → (o : Option ℕ) → lowest rules.players (is_awaited (game.nodes i)) ≡ o → IsKept rules settings (with_node game i (on_run_playing rules (game.nodes i) o (first_off rules (game.nodes i))).0)

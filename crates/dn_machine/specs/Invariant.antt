@@ -8,7 +8,6 @@ use Rattle.dn_machine.specs.declared.answers.Cause.TheVariants as Cause
 use Rattle.dn_machine.specs.Worlds.{Rules, command, row}
 use Rattle.dn_machine.specs.Flight.{SetUp, Flight, end_of}
 use Rattle.dn_machine.specs.Node.{Node, blank}
-use Rattle.dn_machine.specs.Running.{capacity}
 use Rattle.dn_machine.specs.Game.{Game}
 
 -- A packet that was sent is a piece of what its sender has.
@@ -58,7 +57,7 @@ pub record IsSound {S : Type 0} (rules : Rules S) (settings : Settings) (me : �
   -- no resend starts past what was built
   pub resend : (to : ℕ) → node.resend to ≤ length (node.held me)
   -- the rows fit into the demo
-  pub room : length node.rows ≤ capacity rules
+  pub room : length node.rows ≤ rules.capacity
 
 abbrev pub history_of : Game → History
 history_of game =

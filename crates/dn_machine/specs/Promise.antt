@@ -8,7 +8,6 @@ use Rattle.dn_machine.specs.Worlds.{Rules, command, commands_of, row, world}
 use Rattle.dn_machine.specs.Flight.{Flight}
 use Rattle.dn_machine.specs.Node.{got, made, ran, held_at, world_after}
 use Rattle.dn_machine.specs.Hearing.{on_packet}
-use Rattle.dn_machine.specs.Running.{capacity}
 use Rattle.dn_machine.specs.Game.{Game, refused_flight}
 
 abbrev pub IsPrefixOf : {A : Type 0} → List A → List A → Type 0
@@ -54,7 +53,7 @@ pub record Fits {S : Type 0} (rules : Rules S) (game : Game) : Type 0 where
   pub ahead : (p : ℕ) → p < rules.players → made p (game.nodes p) ≤ ran (game.nodes p) + 5
   pub close : (p q : ℕ) → p < rules.players → q < rules.players → made p (game.nodes p) ≤ made q (game.nodes q) + 5
   -- the tics run fit into the demo
-  pub room : (q : ℕ) → q < rules.players → ran (game.nodes q) ≤ capacity rules
+  pub room : (q : ℕ) → q < rules.players → ran (game.nodes q) ≤ rules.capacity
 
 -- Steadiness: nothing that was truly sent is taken for wrong.
 pub record Steady {S : Type 0} (rules : Rules S) (game : Game) : Type 0 where

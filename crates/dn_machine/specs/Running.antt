@@ -1,5 +1,5 @@
 -- What a run and a quit do to a node (d_net.c, TryRunTics; g_game.c, G_Ticker).
-use Rattle.std.specs.Prelude.{ℕ, ◌-◌, ◌*◌, ◌/◌, Bool, true, false, not, List, [], ◌∷◌, ◌++◌, nat_lt, nat_le, ◌==◌, if◌then◌else◌, Option, Some, None}
+use Rattle.std.specs.Prelude.{ℕ, Bool, true, false, not, List, [], ◌∷◌, ◌++◌, nat_lt, nat_le, ◌==◌, if◌then◌else◌, Option, Some, None}
 use Rattle.std.specs.Ordering.{int_eq}
 use Rattle.dn_tic.specs.declared.command.Move.{Move}
 use Rattle.dn_machine.specs.declared.answers.Cause.TheVariants as Cause
@@ -8,10 +8,6 @@ use Rattle.dn_machine.specs.declared.answers.Phase.TheVariants.{Listening, Gathe
 use Rattle.dn_machine.specs.declared.answers.Ran.{Ran}
 use Rattle.dn_machine.specs.Worlds.{Rules, row_of}
 use Rattle.dn_machine.specs.Node.{Node, got, ran, held_at, own_mark, lowest}
-
--- how many tics fit into the demo, beside its header and its marker
-abbrev pub capacity : {S : Type 0} → Rules S → ℕ
-capacity rules = (rules.limit - 14) / (4 * rules.players)
 
 -- the player's command for the next tic is not there yet
 abbrev pub is_awaited : Node → ℕ → Bool
@@ -37,7 +33,7 @@ on_run_playing rules node None (Some off) =
     let should = own_mark rules node off (ran node) in
     (record node { phase = Ended (Cause.Inconsistent off was should) }, Ran.Inconsistent off was should)
 on_run_playing rules node None None =
-    if ran node == capacity rules
+    if ran node == rules.capacity
     then (record node { phase = Ended Cause.Full }, Ran.DemoFull)
     else (record node { rows = node.rows ++ row_held rules node ∷ [] }, Ran.Ran (ran node))
 

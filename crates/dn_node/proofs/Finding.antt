@@ -5,7 +5,7 @@ use Rattle.std.specs.Option.{option_map}
 use Rattle.std.specs.Ordering.{int_eq}
 use Rattle.std.proofs.lemmas.Bool.{cases_lt, lt-ltb, le-ltb}
 use Rattle.dn_tic.specs.declared.command.TicCmd.{TicCmd}
-use Rattle.dn_tic.specs.Rounding.{used}
+use Rattle.dn_tic.specs.Command.{used}
 use Rattle.dn_machine.specs.Worlds.{Rules, four, row_of}
 use Rattle.dn_machine.specs.Node as machine
 use Rattle.dn_machine.specs.Node.{blank, held_at, own_mark, lowest}

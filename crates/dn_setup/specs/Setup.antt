@@ -14,9 +14,13 @@ ask_byte s = s.skill + 16 * bit s.respawn + 32 * bit s.no_monsters + 64 * s.deat
 abbrev pub start_byte : Settings → ℕ
 start_byte s = s.map + 64 * s.episode
 
--- the packet of settings: flag SETUP alone, version 109 in the player's place, and no commands
+-- the version of the game, which its set-up packets and the demos that it records carry
+abbrev pub version : ℕ
+version = 111
+
+-- the packet of settings: flag SETUP alone, the version in the player's place, and no commands
 abbrev pub setup_packet : Settings → Packet
-setup_packet s = record { flags = 2; ask = ask_byte s; start = start_byte s; player = 109; cmds = record { items = [] } }
+setup_packet s = record { flags = 2; ask = ask_byte s; start = start_byte s; player = version; cmds = record { items = [] } }
 
 -- the flag SETUP, the second lowest, is set
 abbrev pub HasSetup : Packet → Type 0
@@ -31,7 +35,7 @@ pub record Tells (p : Packet) (s : Settings) : Type 0 where
 -- What a packet says as a set-up packet: settings, or the first fault that it has.
 -- Its other flags and its commands say nothing; out of range is what tells no settings at all.
 abbrev pub IsSetupReadAs : Packet → Result Settings SetupFault → Type 0
-IsSetupReadAs p (Ok s) = HasSetup p × (p.player ≡ 109) × Tells p s
+IsSetupReadAs p (Ok s) = HasSetup p × (p.player ≡ version) × Tells p s
 IsSetupReadAs p (Err NotSetup) = ¬ HasSetup p
-IsSetupReadAs p (Err Version) = HasSetup p × (p.player ≢ 109)
-IsSetupReadAs p (Err Range) = HasSetup p × (p.player ≡ 109) × ((s : Settings) → ¬ Tells p s)
+IsSetupReadAs p (Err Version) = HasSetup p × (p.player ≢ version)
+IsSetupReadAs p (Err Range) = HasSetup p × (p.player ≡ version) × ((s : Settings) → ¬ Tells p s)

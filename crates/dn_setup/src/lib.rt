@@ -10,7 +10,7 @@ mod start;
 pub use gather::Gather;
 pub use laws::settings_found_again;
 pub use settings::{Settings, SettingsFault};
-pub use setup::{SetupFault, from_packet, to_packet};
+pub use setup::{SetupFault, VERSION, from_packet, to_packet};
 pub use start::Start;
 
 #[cfg(test)]

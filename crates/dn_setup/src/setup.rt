@@ -11,8 +11,8 @@ use arrayvec::ArrayVec;
 use dn_packet::{Packet, SETUP};
 use thiserror::Error;
 
-/// The version of the game.
-const VERSION: u8 = 109;
+/// The version of the game: that of the 1997 release is 109, and demos of whole turns are of 111.
+pub const VERSION: u8 = 111;
 
 /// Why a packet tells no settings.
 #[derive(Clone, Copy, Debug, PartialEq, Eq, Error)]

@@ -56,7 +56,7 @@ fn settings_are_read_back(rt: HostRuntime) -> Result<(), Fail> {
 fn a_packet_tells_settings(rt: HostRuntime) -> Result<(), Fail> {
     let settings = Settings::new(3, 1, true, false, 1, 7)?;
     let packet = to_packet(&settings);
-    let bytes = [0xCA, 0x8C, 0x90, 0x21, 0x63, 0x47, 0x6D, 0];
+    let bytes = [0xCA, 0x8C, 0x92, 0x21, 0x63, 0x47, 0x6F, 0];
     assert_eq!(rt; encode(&packet).as_slice(), bytes.as_slice());
     assert_eq!(rt; from_packet(&packet), Ok(settings));
     Ok(())
@@ -66,16 +66,18 @@ fn a_packet_tells_settings(rt: HostRuntime) -> Result<(), Fail> {
 fn packets_are_refused_in_order(rt: HostRuntime) {
     for (flags, ask, start, player, fault) in [
         (0, 5, 65, 110, SetupFault::NotSetup),
-        (0, 5, 65, 109, SetupFault::NotSetup),
-        (13, 99, 71, 109, SetupFault::NotSetup),
+        (0, 5, 65, 111, SetupFault::NotSetup),
+        (13, 99, 71, 111, SetupFault::NotSetup),
         (2, 5, 65, 110, SetupFault::Version),
-        (2, 99, 71, 111, SetupFault::Version),
-        (2, 5, 65, 109, SetupFault::Range),
-        (2, 15, 65, 109, SetupFault::Range),
-        (2, 192, 65, 109, SetupFault::Range),
-        (2, 0, 1, 109, SetupFault::Range),
-        (2, 0, 64, 109, SetupFault::Range),
-        (2, 0, 97, 109, SetupFault::Range),
+        (2, 99, 71, 109, SetupFault::Version),
+        (2, 5, 65, 109, SetupFault::Version),
+        (2, 99, 71, 112, SetupFault::Version),
+        (2, 5, 65, 111, SetupFault::Range),
+        (2, 15, 65, 111, SetupFault::Range),
+        (2, 192, 65, 111, SetupFault::Range),
+        (2, 0, 1, 111, SetupFault::Range),
+        (2, 0, 64, 111, SetupFault::Range),
+        (2, 0, 97, 111, SetupFault::Range),
     ] {
         let packet = Packet {
             flags,
@@ -102,7 +104,7 @@ fn other_flags_and_commands_are_not_looked_at(rt: HostRuntime) -> Result<(), Fai
             flags,
             ask: 180,
             start: 224,
-            player: 109,
+            player: 111,
             cmds,
         };
         assert_eq!(rt; from_packet(&packet), Ok(settings), "at {flags}");

@@ -1,11 +1,9 @@
-//! What holds of all commands, turns and tics.
+//! What holds of all commands and tics.
 
-ghost use Rattle.std.specs.Prelude.{◌≡◌, ◌≤◌, ◌+◌, ◌%◌, ◌≤ℤ◌, ℕ, ℤ, pos, negsuc, List, Some, FitsSigned};
-ghost use Rattle.std.specs.Int.{w16};
+ghost use Rattle.std.specs.Prelude.{◌≡◌, ◌≤◌, ◌+◌, ◌%◌, ◌≤ℤ◌, ℕ, ℤ, pos, negsuc, List, Some};
 ghost use Rattle.dn_tic.specs.declared.command.TicCmd.{TicCmd};
 ghost use Rattle.dn_tic.specs.Command.{command_bytes, IsCommand};
 ghost use Rattle.dn_tic.specs.Pressed.{pressed};
-ghost use Rattle.dn_tic.specs.Rounding.{rounded_turn};
 ghost use Rattle.dn_tic.specs.Tics.{exact_tic};
 
 /// Eight bytes are those of one command.
@@ -16,11 +14,6 @@ pub fn one_command()
 /// A tic at most 64 from `made` is found again by its low byte.
 pub fn near_tics()
     ensures { (made tic : ℕ) → tic ≤ made + 64 → made ≤ tic + 64 → exact_tic made (tic % 256) ≡ Some tic }
-{}
-
-/// Rounding a turn twice is rounding it once.
-pub fn rounding_twice()
-    ensures { (turn : ℤ) → FitsSigned w16 turn → rounded_turn (rounded_turn turn) ≡ rounded_turn turn }
 {}
 
 /// A pressed command goes forward by -50 to 50.

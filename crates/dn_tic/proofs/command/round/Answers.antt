@@ -1,6 +1,6 @@
 use Rattle.std.proofs.Common.{rules}
-use Rattle.dn_tic.specs.Rounding.{used}
-use Rattle.dn_tic.proofs.rounding.round.Goals as goal
+use Rattle.dn_tic.specs.Command.{used}
+use Rattle.dn_tic.proofs.command.round.Goals as goal
 
 pub returns : goal.returns
 unfolding used
