@@ -62,7 +62,6 @@ shows_built state rules me n m keys hold rings r holds own others =
       players = r.players;
       number = r.number;
       extra = r.extra;
-      limit = r.limit;
       capacity = r.capacity;
       gathers = r.gathers;
       phase = r.phase;

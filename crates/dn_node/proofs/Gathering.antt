@@ -63,7 +63,6 @@ module _ {W S : Type 0} (state : W → S) (rules : Rules S) (me : ℕ) (n : Cont
         players = r.players;
         number = r.number;
         extra = r.extra;
-        limit = r.limit;
         capacity = r.capacity;
         gathers = players ∙ r.gathers;
         phase = r.phase;

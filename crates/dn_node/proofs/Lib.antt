@@ -13,7 +13,7 @@ pub mod Keeping
 pub mod Lowest
 pub mod Spelling
 pub mod Replaying
-pub mod Rounding
+pub mod Telling
 pub mod Running
 pub mod Finding
 pub mod Moving

@@ -70,10 +70,10 @@ pub shows_moved : {W S : Type 0} (state : W → S) (rules : Rules S) (me : ℕ) 
     → Represents state rules me n m → n.phase ≡ Playing → n.played ≡ true → n.settings ≢ None
     → ((p : ℕ) → p < n.players → marks p (n.ran % 12) ≡ rules.physics.mark (state n.world) p)
     → ((p j : ℕ) → j ≢ n.ran % 12 → marks p j ≡ n.marks p j)
-    → AddsRow n.demo.bytes demo.bytes row → demo.limit ≡ n.demo.limit
+    → AddsRow n.demo.bytes demo.bytes row
     → state world ≡ rules.physics.step (state n.world) row
     → Represents state rules me (record n { ran = n.ran + 1; marks = marks; demo = demo; world = world }) (moved m row)
-shows_moved {W} {S} state rules me n m row marks demo world r on has_played has_settings new others text limit steps =
+shows_moved {W} {S} state rules me n m row marks demo world r on has_played has_settings new others text steps =
     let playing : m.phase ≡ Playing = sym r.phase ∙ on in
     let played : m.played ≡ true = sym r.played ∙ has_played in
     let s = known_by m.settings (λ e. has_settings (r.settings ∙ e)) in
@@ -89,7 +89,6 @@ shows_moved {W} {S} state rules me n m row marks demo world r on has_played has_
       players = r.players;
       number = r.number;
       extra = r.extra;
-      limit = limit ∙ r.limit;
       capacity = r.capacity;
       gathers = r.gathers;
       phase = r.phase;

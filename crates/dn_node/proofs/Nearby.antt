@@ -158,11 +158,11 @@ pub near_from_any : {W S : Type 0} (state : W → S) (physics : Physics S) (old 
     → (flight : Flight) → IsFair flight → bytes ≡ text (packet_of flight) → flight.from ≡ from → from < old.players → from ≢ old.me
     → is_near (count_of old.rings old.me) flight ≡ true
     → Steps state physics old new (λ rules me m. on_packet rules me m flight) (λ heard. answer ≡ heard)
-near_from_any state physics old new from bytes answer any own flight fair spelled sent below other near players extra limit me m r =
-    let rules = rules_of physics players extra limit in
+near_from_any state physics old new from bytes answer any own flight fair spelled sent below other near players extra capacity me m r =
+    let rules = rules_of physics players extra capacity in
     let peer : flight.from < players = omega (arith, sent, below, r.players) in
     let apart : flight.from ≢ me = λ e. other (sym sent ∙ e ∙ sym r.number) in
     let close : is_near (made me m) flight ≡ true = ap (λ (k : ℕ). is_near k flight) (sym (made_is state rules me old m r own)) ∙ near in
     let step = ap (λ (k : ℕ). received rules me m k (told_by flight.kind) (Ok (packet_of flight))) (sym sent) ∙ near_received rules me m flight fair peer apart close in
-    let heard = any (Ok (packet_of flight)) (told_by flight.kind) (fair.packet, spelled) (told_is flight flight.kind fair.kind) players extra limit me m r in
+    let heard = any (Ok (packet_of flight)) (told_by flight.kind) (fair.packet, spelled) (told_is flight flight.kind fair.kind) players extra capacity me m r in
     after _ _ (sym step) heard.node heard.answer

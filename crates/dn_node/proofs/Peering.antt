@@ -51,7 +51,6 @@ shows_peer state rules me n m player peer peers r new others =
       players = r.players;
       number = r.number;
       extra = r.extra;
-      limit = r.limit;
       capacity = r.capacity;
       gathers = r.gathers;
       phase = r.phase;

@@ -35,7 +35,6 @@ shows_unplayed state rules me n m cause r unplayed =
       players = r.players;
       number = r.number;
       extra = r.extra;
-      limit = r.limit;
       capacity = r.capacity;
       gathers = r.gathers;
       phase = refl;

@@ -53,8 +53,8 @@ module _ {W S : Type 0} (state : W → S) (physics : Physics S) (old : Contents 
   -- a node that has ended drops it
   pub any_ended : (cause : Cause) → old.phase ≡ Ended cause → (read : Result Packet PacketFault) (told : Result Settings SetupFault) → IsReadAs bytes read → IsTold read told
       → Steps state physics old old (λ rules me m. received rules me m from told read) (λ heard. Heard.Dropped 13 ≡ heard)
-  any_ended cause done read told is tells players extra limit me m r =
-      after m (Heard.Dropped 13) (received_ended (rules_of physics players extra limit) me m from told read (ap is_ended (sym r.phase ∙ done))) r refl
+  any_ended cause done read told is tells players extra capacity me m r =
+      after m (Heard.Dropped 13) (received_ended (rules_of physics players extra capacity) me m from told read (ap is_ended (sym r.phase ∙ done))) r refl
 
   module _ (on : (cause : Cause) → old.phase ≢ Ended cause) where
     goes_on : (rules : Rules S) (me : ℕ) (m : machine.Node) → Represents state rules me old m → is_ended m.phase ≡ false
@@ -63,11 +63,11 @@ module _ {W S : Type 0} (state : W → S) (physics : Physics S) (old : Contents 
     -- who is no peer is not heard
     pub any_strange : (old.players ≤ from) ⊎ (from ≡ old.me) → (read : Result Packet PacketFault) (told : Result Settings SetupFault) → IsReadAs bytes read → IsTold read told
         → Steps state physics old old (λ rules me m. received rules me m from told read) (λ heard. Heard.Dropped 5 ≡ heard)
-    any_strange (inl past) read told is tells players extra limit me m r =
-        after m (Heard.Dropped 5) (received_strange (rules_of physics players extra limit) me m from told read (goes_on (rules_of physics players extra limit) me m r)
+    any_strange (inl past) read told is tells players extra capacity me m r =
+        after m (Heard.Dropped 5) (received_strange (rules_of physics players extra capacity) me m from told read (goes_on (rules_of physics players extra capacity) me m r)
         (inl (omega (arith, past, r.players)))) r refl
-    any_strange (inr own) read told is tells players extra limit me m r =
-        after m (Heard.Dropped 5) (received_strange (rules_of physics players extra limit) me m from told read (goes_on (rules_of physics players extra limit) me m r)
+    any_strange (inr own) read told is tells players extra capacity me m r =
+        after m (Heard.Dropped 5) (received_strange (rules_of physics players extra capacity) me m from told read (goes_on (rules_of physics players extra capacity) me m r)
         (inr (own ∙ r.number))) r refl
 
     -- a peer's bytes are heard as what they are read as
@@ -76,10 +76,10 @@ module _ {W S : Type 0} (state : W → S) (physics : Physics S) (old : Contents 
         → ((told : Result Settings SetupFault) → IsTold found told → Steps state physics old new (λ rules me m. on_read rules me m from told found) (λ heard. answer ≡ heard))
         → (read : Result Packet PacketFault) (told : Result Settings SetupFault) → IsReadAs bytes read → IsTold read told
         → Steps state physics old new (λ rules me m. received rules me m from told read) (λ heard. answer ≡ heard)
-    any_read new answer found below other only hears read told is tells players extra limit me m r =
+    any_read new answer found below other only hears read told is tells players extra capacity me m r =
         let P : Result Packet PacketFault → Type 0 = λ x. IsTold x told in
-        let heard = hears told (subst P (sym (only read is)) tells) players extra limit me m r in
-        let rules = rules_of physics players extra limit in
+        let heard = hears told (subst P (sym (only read is)) tells) players extra capacity me m r in
+        let rules = rules_of physics players extra capacity in
         let step = received_read rules me m from told read (goes_on rules me m r) (omega (arith, below, r.players)) (λ e. other (e ∙ sym r.number))
         ∙ ap (on_read rules me m from told) (sym (only read is)) in
         after _ _ step heard.node heard.answer

@@ -7,6 +7,7 @@ use Rattle.std.proofs.Math.Seq.{take-length}
 use Rattle.dn_tic.specs.declared.command.Move.{Move}
 use Rattle.dn_setup.specs.Settings.{Settings}
 use Rattle.dn_setup.specs.Starts.{start_of}
+use Rattle.dn_demo.specs.Layout.{long_tics}
 use Rattle.dn_demo.specs.Text.{demo_text}
 use Rattle.dn_machine.specs.declared.answers.Cause.{Cause}
 use Rattle.dn_machine.specs.declared.answers.Phase.{Phase}
@@ -30,15 +31,15 @@ module _ {S : Type 0} (rules : Rules S) (m : machine.Node) (settings : Settings)
   own_world_is tic = ap (option_map (λ (s : Settings). world_after rules s m.rows tic)) known
 
   pub demo_is : (me : ℕ) (phase : Phase) → m.played ≡ true → m.phase ≡ phase
-      → demo_of rules me m ≡ demo_text (start_of settings) me (seats_of rules.players) m.rows (is_ended phase)
+      → demo_of rules me m ≡ demo_text long_tics (start_of settings) me (seats_of rules.players) m.rows (is_ended phase)
   demo_is me phase played at =
       ap (λ (b : Bool). if b then demo_with rules me m m.settings else []) played
       ∙ ap (demo_with rules me m) known
-      ∙ ap (λ (p : Phase). demo_text (start_of settings) me (seats_of rules.players) m.rows (is_ended p)) at
+      ∙ ap (λ (p : Phase). demo_text long_tics (start_of settings) me (seats_of rules.players) m.rows (is_ended p)) at
 
 module _ {W S : Type 0} (state : W → S) (rules : Rules S) (me : ℕ) (n : Contents W) (m : machine.Node) (settings : Settings)
     (r : Represents state rules me n m) (played : m.played ≡ true) (known : m.settings ≡ Some settings) where
-  pub demo_ended : (cause : Cause) → m.phase ≡ Ended cause → n.demo.bytes ≡ demo_text (start_of settings) me (seats_of rules.players) m.rows true
+  pub demo_ended : (cause : Cause) → m.phase ≡ Ended cause → n.demo.bytes ≡ demo_text long_tics (start_of settings) me (seats_of rules.players) m.rows true
   demo_ended cause ended = r.demo ∙ demo_is rules m settings known me (Ended cause) played ended
 
   pub world_played : state n.world ≡ fold rules.physics.step (opening rules settings) m.rows

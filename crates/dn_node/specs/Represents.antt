@@ -5,11 +5,11 @@ use Rattle.dn_ring.specs.Ring.{ring_of}
 use Rattle.dn_setup.specs.Settings.{Settings}
 use Rattle.dn_setup.specs.Starts.{start_of}
 use Rattle.dn_setup.specs.Gathered.{is_noted, is_peer}
+use Rattle.dn_demo.specs.Layout.{long_tics}
 use Rattle.dn_demo.specs.Text.{demo_text}
 use Rattle.dn_machine.specs.Worlds.{Rules}
 use Rattle.dn_machine.specs.Node as machine
 use Rattle.dn_machine.specs.Node.{own_mark, own_world}
-use Rattle.dn_machine.specs.Running as running
 use Rattle.dn_node.specs.Contents.{Contents}
 use Rattle.dn_node.specs.Peers.{peer_of}
 use Rattle.dn_node.specs.Phases.{is_ended}
@@ -18,7 +18,7 @@ use Rattle.dn_node.specs.Rows.{seats_of}
 -- the demo of a node that has played with these settings: the rows that it ran, closed once it has ended
 abbrev pub demo_with : {S : Type 0} → Rules S → ℕ → machine.Node → Option Settings → List ℕ
 demo_with rules me m None = []
-demo_with rules me m (Some settings) = demo_text (start_of settings) me (seats_of rules.players) m.rows (is_ended m.phase)
+demo_with rules me m (Some settings) = demo_text long_tics (start_of settings) me (seats_of rules.players) m.rows (is_ended m.phase)
 
 -- nothing before the start
 abbrev pub demo_of : {S : Type 0} → Rules S → ℕ → machine.Node → List ℕ
@@ -29,8 +29,7 @@ pub record Represents {W S : Type 0} (state : W → S) (rules : Rules S) (me : �
   pub players : n.players ≡ rules.players
   pub number : n.me ≡ me
   pub extra : n.extra ≡ rules.extra
-  pub limit : n.demo.limit ≡ rules.limit
-  pub capacity : n.capacity ≡ running.capacity rules
+  pub capacity : n.capacity ≡ rules.capacity
   pub gathers : n.gather.players ≡ rules.players
   -- where it stands
   pub phase : n.phase ≡ m.phase

@@ -1,8 +1,9 @@
 //! One player's node, and what it tells of itself.
 
 ghost use Rattle.std.specs.Prelude.{◌≡◌, ◌≢◌, ℕ, ◌+◌, ◌*◌, ◌<◌, ◌≤◌, true, false, nat_lt, if◌then◌else◌, length, Some, None};
-ghost use Rattle.dn_demo.specs.Text.{header_size, command_size};
-ghost use Rattle.dn_demo.specs.Places.{seats_in};
+ghost use Rattle.dn_demo.specs.Layout.{long_tics};
+ghost use Rattle.dn_demo.specs.Places.{place, seats_in};
+ghost use Rattle.dn_demo.specs.Recorded.{recorded_size, most_tics};
 ghost use Rattle.dn_demo.specs.declared.recorder.Stage.TheVariants.{Blank, Open};
 ghost use Rattle.dn_machine.specs.declared.answers.Phase.TheVariants.{Gathering, Playing};
 ghost use Rattle.dn_node.specs.Phases.{is_waiting};
@@ -51,7 +52,9 @@ pub struct Node<W> {
     world: W,
     ghost me_below: { me < players },
     ghost few: { players ≤ 4 },
-    ghost short: { capacity ≤ 2097150 },
+    ghost short: { capacity ≤ most_tics },
+    // so many tics fit into the demo
+    ghost room: { recorded_size players capacity ≤ demo.limit },
     ghost ran_fits: { ran ≤ capacity },
     // before the start nothing is run or written
     ghost waits: { is_waiting phase ≡ true → played ≡ false },
@@ -65,7 +68,7 @@ pub struct Node<W> {
     ghost plays: { phase ≡ Playing → played ≡ true },
     ghost open: { phase ≡ Playing → demo.stage ≡ Open },
     ghost seats: { phase ≡ Playing → seats_in demo.bytes ≡ seats_of players },
-    ghost size: { phase ≡ Playing → length demo.bytes ≤ header_size + command_size * (players * ran) },
+    ghost size: { phase ≡ Playing → length demo.bytes ≤ place long_tics (players * ran) },
     // it has the commands of the tics that it ran, and at most twelve more of a peer, and five of its own
     ghost ahead: { (p : ℕ) → p < players → ran ≤ (ring_at rings p).count },
     ghost window: { (p : ℕ) → p < players → (ring_at rings p).count ≤ ran + 12 },

@@ -1,4 +1,4 @@
-use Rattle.dn_node.proofs.Rounding.{four_seats}
+use Rattle.dn_node.proofs.Telling.{four_seats}
 use Rattle.dn_node.proofs.rows.row_at.Goals as goal
 
 pub returns-clause-recordable : goal.returns-clause-recordable

@@ -10,10 +10,10 @@ use Rattle.dn_node.proofs.Building.{build_not, build_full, build_makes, shows_bu
 use Rattle.dn_node.proofs.node.Node.build.Goals as goal
 
 pub returns-in_default-clause-step : goal.returns-in_default-clause-step
-returns-in_default-clause-step g c players extra limit me m r = after _ _ (build_not _ me m _ (λ e. c.in_default.not-Playing (r.phase ∙ e))) r refl
+returns-in_default-clause-step g c players extra capacity me m r = after _ _ (build_not _ me m _ (λ e. c.in_default.not-Playing (r.phase ∙ e))) r refl
 
 pub returns-then-tic-self-ge-AHEAD-clause-step : goal.returns-then-tic-self-ge-AHEAD-clause-step
-returns-then-tic-self-ge-AHEAD-clause-step g c players extra limit me m r =
+returns-then-tic-self-ge-AHEAD-clause-step g c players extra capacity me m r =
     let made = c.made-tic.ensures ∙ made_is _ _ me _ m r c.args.self.now.me_below in
     after _ _ (build_full _ me m _ (sym r.phase ∙ c.in-Playing.is) (omega (arith, made, r.ran, c.if-tic-self-ge-AHEAD.true))) r refl
 
@@ -49,7 +49,7 @@ invariant_of-self-clause-resends g c p below =
     omega (arith, now, before)
 
 pub returns-clause-step : goal.returns-clause-step
-returns-clause-step g c players extra limit me m r =
+returns-clause-step g c players extra capacity me m r =
     let n = c.args.self.now in
     let made = c.made-tic.ensures ∙ made_is _ _ me _ m r n.me_below in
     let ahead = n.ahead n.me n.me_below in

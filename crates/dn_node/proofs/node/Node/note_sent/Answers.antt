@@ -12,9 +12,9 @@ use Rattle.dn_node.proofs.Giving.{resent, exited}
 use Rattle.dn_node.proofs.node.Node.note_sent.Goals as goal
 
 pub returns-in-Playing-clause-step : goal.returns-in-Playing-clause-step
-returns-in-Playing-clause-step g c players extra limit me m r =
+returns-in-Playing-clause-step g c players extra capacity me m r =
     let n = c.args.self.now in
-    let rules = rules_of g.W.World.physics players extra limit in
+    let rules = rules_of g.W.World.physics players extra capacity in
     let kept = c.get-peer.ensures ∙ r.peers c.args.to (below _ _ me _ m r c.args.to c.requires.below) in
     let made = c.made.ensures ∙ made_is _ _ me _ m r n.me_below in
     let lags : c.lag.result ≡ lag rules = c.lag.ensures ∙ ap bit r.extra in
@@ -26,9 +26,9 @@ returns-in-Playing-clause-step g c players extra limit me m r =
     along step (shows_peer _ _ me _ m c.args.to _ _ r peer c.put.ensures.others)
 
 pub returns-in-Ended-clause-step : goal.returns-in-Ended-clause-step
-returns-in-Ended-clause-step g c players extra limit me m r =
+returns-in-Ended-clause-step g c players extra capacity me m r =
     let n = c.args.self.now in
-    let rules = rules_of g.W.World.physics players extra limit in
+    let rules = rules_of g.W.World.physics players extra capacity in
     let kept = c.get-peer.ensures ∙ r.peers c.args.to (below _ _ me _ m r c.args.to c.requires.below) in
     let peer = c.put-in-Ended.ensures.put ∙ ap (λ (x : Peer). record x { exits = x.exits + 1 }) kept in
     let step = ap (after_giving rules me m c.args.to) (sym r.phase ∙ c.in-Ended.is) ∙ exited m c.args.to (m.exits c.args.to + 1) in

@@ -37,7 +37,7 @@ returns-in-Err-Length g c =
     let found = rw c.in-Err-Length.field-0-is at c.in-Err-Length.ensures in
     let any = any_read g.W.World.state g.W.World.physics (contents c.args.self.now) c.args.from c.args.bytes.now c.in_default.not-Ended
     (contents c.args.self.now) (Heard.Dropped 3) (Err Length) c.if-from-self.false c.if-from-self-2.false found.only
-    (λ told is players extra limit me m r. record { node = r; answer = refl }) in
+    (λ told is players extra capacity me m r. record { node = r; answer = refl }) in
     record {
       any = any;
       near = near_from_any g.W.World.state g.W.World.physics (contents c.args.self.now) (contents c.args.self.now) c.args.from c.args.bytes.now (Heard.Dropped 3) any c.args.self.now.me_below;

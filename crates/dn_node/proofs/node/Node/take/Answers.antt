@@ -35,8 +35,8 @@ asked g c =
     ∙ ap (after_asking (peer_at c.args.self.now.peers c.args.from) c.made-made.result) c.request.ensures
 
 pub returns-then-end-self-clause-step : goal.returns-then-end-self-clause-step
-returns-then-end-self-clause-step g c players extra limit me m r =
-    over_shows g.W.World.state (rules_of g.W.World.physics players extra limit) me (contents c.args.self.now) m r c.args.from c.args.packet.now
+returns-then-end-self-clause-step g c players extra capacity me m r =
+    over_shows g.W.World.state (rules_of g.W.World.physics players extra capacity) me (contents c.args.self.now) m r c.args.from c.args.packet.now
     c.made-made.result c.in-Some.start c.as_slice-commands.result.now (read g (goal.at.returns-then-end-self-clause-step g c).Else-has_stop) c.if-end-self.true
 
 pub invariant_of-self-clause-resends : goal.invariant_of-self-clause-resends
@@ -46,8 +46,8 @@ invariant_of-self-clause-resends g c =
     c.put.ensures.others (ap (λ (x : Peer). x.resend) c.put.ensures.put)
 
 pub returns-then-end-got-clause-step : goal.returns-then-end-got-clause-step
-returns-then-end-got-clause-step g c players extra limit me m r =
-    stale_shows g.W.World.state (rules_of g.W.World.physics players extra limit) me (contents c.args.self.now) m r c.args.from c.args.packet.now
+returns-then-end-got-clause-step g c players extra capacity me m r =
+    stale_shows g.W.World.state (rules_of g.W.World.physics players extra capacity) me (contents c.args.self.now) m r c.args.from c.args.packet.now
     c.made-made.result c.in-Some.start c.as_slice-commands.result.now (read g (goal.at.returns-then-end-got-clause-step g c).Else-has_stop)
     c.if-end-self.false c.after_asking-peer.result (asked g (goal.at.returns-then-end-got-clause-step g c).After-after_asking-peer)
     c.count-got.result c.count-got.ensures (peer_at c.put.new.self) c.put.ensures.others c.if-end-got.true c.put.ensures.put
@@ -59,8 +59,8 @@ invariant_of-self-then-start-got-clause-resends g c =
     c.put-then-start-got.ensures.others (ap (λ (x : Peer). x.resend) c.put-then-start-got.ensures.put)
 
 pub returns-then-start-got-clause-step : goal.returns-then-start-got-clause-step
-returns-then-start-got-clause-step g c players extra limit me m r =
-    gap_shows g.W.World.state (rules_of g.W.World.physics players extra limit) me (contents c.args.self.now) m r c.args.from c.args.packet.now
+returns-then-start-got-clause-step g c players extra capacity me m r =
+    gap_shows g.W.World.state (rules_of g.W.World.physics players extra capacity) me (contents c.args.self.now) m r c.args.from c.args.packet.now
     c.made-made.result c.in-Some.start c.as_slice-commands.result.now (read g (goal.at.returns-then-start-got-clause-step g c).Else-has_stop)
     c.if-end-self.false c.after_asking-peer.result (asked g (goal.at.returns-then-start-got-clause-step g c).After-after_asking-peer)
     c.count-got.result c.count-got.ensures (peer_at c.put-then-start-got.new.self) c.put-then-start-got.ensures.others
@@ -100,8 +100,8 @@ invariant_of-self-2-clause-resends g c =
     c.put-2.ensures.others (ap (λ (x : Peer). x.resend) c.put-2.ensures.put))
 
 pub returns-clause-step : goal.returns-clause-step
-returns-clause-step g c players extra limit me m r =
-    taken_shows g.W.World.state (rules_of g.W.World.physics players extra limit) me (contents c.args.self.now) m r c.args.from c.args.packet.now
+returns-clause-step g c players extra capacity me m r =
+    taken_shows g.W.World.state (rules_of g.W.World.physics players extra capacity) me (contents c.args.self.now) m r c.args.from c.args.packet.now
     c.made-made.result c.in-Some.start c.as_slice-commands.result.now (read g (goal.at.returns-clause-step g c).Else-has_stop)
     c.if-end-self.false c.after_asking-peer.result (asked g (goal.at.returns-clause-step g c).After-after_asking-peer)
     c.count-got.result c.count-got.ensures (peer_at c.put-2.new.self) c.put-2.ensures.others
