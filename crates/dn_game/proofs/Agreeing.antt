@@ -9,6 +9,7 @@ use Rattle.dn_tic.specs.declared.command.Move.{Move}
 use Rattle.dn_setup.specs.Settings.{Settings}
 use Rattle.dn_setup.specs.Starts.{start_of}
 use Rattle.dn_setup.specs.declared.start.Start.{Start}
+use Rattle.dn_demo.specs.Layout.{long_tics}
 use Rattle.dn_demo.specs.Text.{demo_text, marker, row_bytes, commands_of}
 use Rattle.dn_machine.specs.declared.answers.Phase.TheVariants.{Playing}
 use Rattle.dn_machine.specs.Worlds.{Rules, world}
@@ -42,16 +43,16 @@ before_marker : (xs : List ℕ) (count : ℕ) → count ≡ length xs → take c
 before_marker xs count e = ap (λ (k : ℕ). take k (xs ++ marker ∷ [])) e ∙ take-append_seam xs (marker ∷ [])
 
 recorded_rows : (closed : Bool) (start : Start) (view players : ℕ) (rows : List (List (Option Move)))
-    → commands_in closed (demo_text start view (seats_of players) rows closed) ≡ commands_of rows
+    → commands_in closed (demo_text long_tics start view (seats_of players) rows closed) ≡ commands_of long_tics rows
 unfolding demo_text
-recorded_rows false start view players rows = append-nil (commands_of rows)
+recorded_rows false start view players rows = append-nil (commands_of long_tics rows)
 recorded_rows true start view players rows =
-    before_marker (commands_of rows) _ (omega (arith, length-append (commands_of rows) (marker ∷ [])))
+    before_marker (commands_of long_tics rows) _ (omega (arith, length-append (commands_of long_tics rows) (marker ∷ [])))
 
 -- a list of rows that goes on has commands that go on
-commands_prefix : (rows more : List (List (Option Move))) → IsPrefixOf rows more → IsPrefixOf (commands_of rows) (commands_of more)
+commands_prefix : (rows more : List (List (Option Move))) → IsPrefixOf rows more → IsPrefixOf (commands_of long_tics rows) (commands_of long_tics more)
 commands_prefix rows more (rest, whole) =
-    (commands_of rest, sym (flat_map-append row_bytes rows rest) ∙ ap commands_of whole)
+    (commands_of long_tics rest, sym (flat_map-append (row_bytes long_tics) rows rest) ∙ ap (commands_of long_tics) whole)
 
 -- one node
 module _ {W S : Type 0} (state : W → S) (rules : Rules S) (settings : Settings) (me : ℕ) (n : node.Contents W) (m : machine.Node)
@@ -67,14 +68,14 @@ module _ {W S : Type 0} (state : W → S) (rules : Rules S) (settings : Settings
       go false e = absurd (has (unplayed e))
 
   played_bytes : m.played ≡ true → m.settings ≡ Some settings
-      → n.demo.bytes ≡ demo_text (start_of settings) me (seats_of rules.players) m.rows (is_ended m.phase)
+      → n.demo.bytes ≡ demo_text long_tics (start_of settings) me (seats_of rules.players) m.rows (is_ended m.phase)
   played_bytes played known =
       r.demo ∙ ap (λ (b : Bool). if b then demo_with rules me m m.settings else []) played ∙ ap (demo_with rules me m) known
 
   starts : m.played ≡ true → m.settings ≡ Some settings → HasStarted n
   unfolding demo_text
   starts played known none =
-      let text : demo_text (start_of settings) me (seats_of rules.players) m.rows (is_ended m.phase) ≡ [] = sym (played_bytes played known) ∙ none in
+      let text : demo_text long_tics (start_of settings) me (seats_of rules.players) m.rows (is_ended m.phase) ≡ [] = sym (played_bytes played known) ∙ none in
       absurd (cc)
 
   world_is : m.played ≡ true → m.settings ≡ Some settings → state n.world ≡ world_after rules settings m.rows (machine.ran m)
@@ -83,7 +84,7 @@ module _ {W S : Type 0} (state : W → S) (rules : Rules S) (settings : Settings
 
   -- the demo's commands are those of the rows that it ran, and none before the start
   recorded_is : (m.played ≡ true → m.settings ≡ Some settings)
-      → ((recorded n ≡ []) ⊎ (recorded n ≡ commands_of m.rows))
+      → ((recorded n ≡ []) ⊎ (recorded n ≡ commands_of long_tics m.rows))
   recorded_is known = go m.played refl
     where
       closed : is_ended n.phase ≡ is_ended m.phase
@@ -93,26 +94,26 @@ module _ {W S : Type 0} (state : W → S) (rules : Rules S) (settings : Settings
       none true = refl
       none false = refl
 
-      go : (b : Bool) → m.played ≡ b → ((recorded n ≡ []) ⊎ (recorded n ≡ commands_of m.rows))
+      go : (b : Bool) → m.played ≡ b → ((recorded n ≡ []) ⊎ (recorded n ≡ commands_of long_tics m.rows))
       go false e = inl (ap (commands_in (is_ended n.phase)) (unplayed e) ∙ none (is_ended n.phase))
       go true e =
           inr (ap (commands_in (is_ended n.phase)) (played_bytes e (known e))
-          ∙ ap (λ (b : Bool). commands_in b (demo_text (start_of settings) me (seats_of rules.players) m.rows (is_ended m.phase))) closed
+          ∙ ap (λ (b : Bool). commands_in b (demo_text long_tics (start_of settings) me (seats_of rules.players) m.rows (is_ended m.phase))) closed
           ∙ recorded_rows (is_ended m.phase) (start_of settings) me rules.players m.rows)
 
 -- two nodes' demos
 two_demos : (xs ys : List ℕ) (rows more : List (List (Option Move)))
-    → ((xs ≡ []) ⊎ (xs ≡ commands_of rows)) → ((ys ≡ []) ⊎ (ys ≡ commands_of more))
+    → ((xs ≡ []) ⊎ (xs ≡ commands_of long_tics rows)) → ((ys ≡ []) ⊎ (ys ≡ commands_of long_tics more))
     → (IsPrefixOf rows more ⊎ IsPrefixOf more rows) → IsPrefixOf xs ys ⊎ IsPrefixOf ys xs
 two_demos xs ys rows more (inl e) other way = inl (ys, ap (λ (z : List ℕ). z ++ ys) e)
 two_demos xs ys rows more (inr e) (inl f) way = inr (xs, ap (λ (z : List ℕ). z ++ xs) f)
 two_demos xs ys rows more (inr e) (inr f) (inl first) =
     let P : List ℕ → Type 0 = λ z. IsPrefixOf z ys in
-    let Q : List ℕ → Type 0 = λ z. IsPrefixOf (commands_of rows) z in
+    let Q : List ℕ → Type 0 = λ z. IsPrefixOf (commands_of long_tics rows) z in
     inl (subst P (sym e) (subst Q (sym f) (commands_prefix rows more first)))
 two_demos xs ys rows more (inr e) (inr f) (inr first) =
     let P : List ℕ → Type 0 = λ z. IsPrefixOf ys z in
-    let Q : List ℕ → Type 0 = λ z. IsPrefixOf z (commands_of rows) in
+    let Q : List ℕ → Type 0 = λ z. IsPrefixOf z (commands_of long_tics rows) in
     inr (subst P (sym e) (subst Q (sym f) (commands_prefix more rows first)))
 
 -- all nodes

@@ -43,15 +43,15 @@ Hears state physics old new from bytes heard =
     → is_near (count_of (node.contents old).rings old.me) flight ≡ true
     → Steps state physics (node.contents old) (node.contents new) (λ rules me m. on_packet rules me m flight) (λ x. heard ≡ x)
 
-pub delivers : {W S : Type 0} (state : W → S) (physics : Physics S) (players : ℕ) (extra : Bool) (limit : ℕ) (g : Contents W) (m : machine.Game)
-    (r : Represents state (rules_of physics players extra limit) g m) (which : ℕ) (f : Flight) → which < length g.flights → f ≡ slice_index_or g.flights which f
+pub delivers : {W S : Type 0} (state : W → S) (physics : Physics S) (players : ℕ) (extra : Bool) (capacity : ℕ) (g : Contents W) (m : machine.Game)
+    (r : Represents state (rules_of physics players extra capacity) g m) (which : ℕ) (f : Flight) → which < length g.flights → f ≡ slice_index_or g.flights which f
     → refused_flight m (slice_get m.flights which) ≡ None
     → (to : ℕ) (old new : Node W) (bytes : List ℕ) (heard : Heard) → to ≡ f.to → old ≡ slice_index_or g.nodes to old → bytes ≡ f.bytes.items
     → Hears state physics old new f.from bytes heard
-    → IsAfter state (rules_of physics players extra limit) (record g { nodes = set g.nodes to new })
-    (delivered (rules_of physics players extra limit) m (slice_get m.flights which)) (Done.Heard heard)
-delivers state physics players extra limit g m r which f below read free to old new bytes heard is_to is_old is_bytes hears =
-    let rules = rules_of physics players extra limit in
+    → IsAfter state (rules_of physics players extra capacity) (record g { nodes = set g.nodes to new })
+    (delivered (rules_of physics players extra capacity) m (slice_get m.flights which)) (Done.Heard heard)
+delivers state physics players extra capacity g m r which f below read free to old new bytes heard is_to is_old is_bytes hears =
+    let rules = rules_of physics players extra capacity in
     let they : g.flights ≡ g.flights = refl in
     let at = flight_at state rules g m r g.flights they which f below read in
     let flight = at.0 in
@@ -65,4 +65,4 @@ delivers state physics players extra limit g m r which f below read free to old 
     (hears flight at.1.carried.fair (is_bytes ∙ ap (λ (x : Flight). x.bytes.items) at.1.is) (sym comes)
     (let a = at.1.carried.from in omega (arith, a, comes, shown.players)) (λ e. at.1.carried.apart (sym comes ∙ e ∙ shown.number ∙ goes))
     (ap (λ (k : ℕ). is_near k flight) count ∙ near_unless m which flight at.1.there free)
-    players extra limit to (m.nodes to) shown)
+    players extra capacity to (m.nodes to) shown)

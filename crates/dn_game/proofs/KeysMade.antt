@@ -20,7 +20,7 @@ use Rattle.dn_machine.specs.Node.{Node, put, got, made, ran, lowest}
 use Rattle.dn_machine.specs.Building.{on_build, on_build_in}
 use Rattle.dn_machine.specs.Sending.{ended_by, on_send, on_send_in}
 use Rattle.dn_machine.specs.Hearing.{on_gathering, is_within, after_request, on_commands, on_packet, on_packet_in}
-use Rattle.dn_machine.specs.Running.{is_awaited, first_off, capacity, on_run, on_run_in, on_run_playing, on_quit, on_quit_in}
+use Rattle.dn_machine.specs.Running.{is_awaited, first_off, on_run, on_run_in, on_run_playing, on_quit, on_quit_in}
 use Rattle.dn_machine.specs.Game.{Game, opening_game, with_node, posted, delivered, refused, on_event, applied_if, applied}
 use Rattle.dn_machine.specs.Promise.{keys_of}
 use Rattle.dn_machine.proofs.Put.{put_at, put_off, view_kept}
@@ -81,7 +81,7 @@ module _ {S : Type 0} (rules : Rules S) (me : ℕ) (node : Node) where
       playing (Some player) off = refl
       playing None (Some player) = refl
       playing None None =
-          cond_both (eqb (ran node) (capacity rules)) _ _ (λ (r : Node × Ran). r.0.keys ≡ node.keys) (λ full. refl) (λ runs. refl)
+          cond_both (eqb (ran node) rules.capacity) _ _ (λ (r : Node × Ran). r.0.keys ≡ node.keys) (λ full. refl) (λ runs. refl)
 
       go : (phase : Phase) → (on_run_in rules node phase).0.keys ≡ node.keys
       go Listening = refl

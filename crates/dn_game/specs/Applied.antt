@@ -15,8 +15,8 @@ use Rattle.dn_game.specs.Represents.{Represents}
 -- whatever game of the machine a game represents, this holds of it
 abbrev pub Tells : {W S : Type 0} → (W → S) → Physics S → Contents W → (Rules S → machine.Game → Type 0) → Type 0
 Tells {W} {S} state physics g Fact =
-    (players : ℕ) (extra : Bool) (limit : ℕ) (m : machine.Game)
-    → Represents state (rules_of physics players extra limit) g m → Fact (rules_of physics players extra limit) m
+    (players : ℕ) (extra : Bool) (capacity : ℕ) (m : machine.Game)
+    → Represents state (rules_of physics players extra capacity) g m → Fact (rules_of physics players extra capacity) m
 
 -- the game represents this one of the machine, and this is the answer
 pub record IsAfter {W S A : Type 0} (state : W → S) (rules : Rules S) (new : Contents W) (after : machine.Game × A) (answer : A) : Type 0 where

@@ -1,6 +1,6 @@
 -- What a game is made as.
 use Rattle.std.specs.Prelude.{ℕ, ◌==◌, if◌then◌else◌, Some, None, Result, Ok, Err}
-use Rattle.dn_demo.specs.Recorded.{IsLimit}
+use Rattle.dn_demo.specs.Recorded.{IsLimit, capacity}
 use Rattle.dn_world.specs.Physics.{Physics}
 use Rattle.dn_machine.specs.Worlds.{Rules, rules_of}
 use Rattle.dn_node.specs.declared.config.Config.{Config}
@@ -19,7 +19,7 @@ IsAdmitted config worlds (Err Memory) = IsGame worlds × IsLimit config.limit
 
 -- what never changes in a game of so many worlds
 abbrev pub rules_in : {S : Type 0} → Physics S → GameConfig → ℕ → Rules S
-rules_in physics config worlds = rules_of physics worlds config.extra config.limit
+rules_in physics config worlds = rules_of physics worlds config.extra (capacity config.limit worlds)
 
 -- the configuration of a player's node: player 0 has the settings
 abbrev pub config_of : GameConfig → ℕ → ℕ → Config

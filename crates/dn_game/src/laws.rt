@@ -15,14 +15,14 @@ use dn_world::World;
 /// Whatever game of the machine a game represents: if a list of events may leave it, it has all that is
 /// promised, and the nodes agree in what they tell of themselves.
 pub fn reached_games_agree<W: World>()
-    ensures promised { (players : ℕ) (extra : Bool) (limit : ℕ) (settings : Settings) (events : List Event) (g : Contents W)
-        → (reached : IsReached W.state (rules_of W.physics players extra limit) settings events g)
-        → (p : IsPromised W.state (rules_of W.physics players extra limit) settings events g) × (p.reached ≡ reached) }
-    ensures agreed { (players : ℕ) (extra : Bool) (limit : ℕ) (settings : Settings) (events : List Event) (g : Contents W)
-        → (reached : IsReached W.state (rules_of W.physics players extra limit) settings events g)
-        → AreAgreed W.state (rules_of W.physics players extra limit) settings (keys_of reached.last) g }
+    ensures promised { (players : ℕ) (extra : Bool) (capacity : ℕ) (settings : Settings) (events : List Event) (g : Contents W)
+        → (reached : IsReached W.state (rules_of W.physics players extra capacity) settings events g)
+        → (p : IsPromised W.state (rules_of W.physics players extra capacity) settings events g) × (p.reached ≡ reached) }
+    ensures agreed { (players : ℕ) (extra : Bool) (capacity : ℕ) (settings : Settings) (events : List Event) (g : Contents W)
+        → (reached : IsReached W.state (rules_of W.physics players extra capacity) settings events g)
+        → AreAgreed W.state (rules_of W.physics players extra capacity) settings (keys_of reached.last) g }
     // No event more is answered by a failed check.
-    ensures steady { (players : ℕ) (extra : Bool) (limit : ℕ) (settings : Settings) (events : List Event) (g : Contents W)
-        → (reached : IsReached W.state (rules_of W.physics players extra limit) settings events g)
-        → (event : Event) → IsSteady (applied (rules_of W.physics players extra limit) reached.last event).1 }
+    ensures steady { (players : ℕ) (extra : Bool) (capacity : ℕ) (settings : Settings) (events : List Event) (g : Contents W)
+        → (reached : IsReached W.state (rules_of W.physics players extra capacity) settings events g)
+        → (event : Event) → IsSteady (applied (rules_of W.physics players extra capacity) reached.last event).1 }
 {}

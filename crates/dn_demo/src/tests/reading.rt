@@ -102,27 +102,44 @@ fn odd_bytes_are_kept(rt: HostRuntime) -> Result<(), Fail> {
 
 #[test]
 fn only_a_first_byte_ends_a_demo(rt: HostRuntime) -> Result<(), Fail> {
-    // One player: the version, the place of a second marker, how many bytes there are, and what is read.
-    for (version, place, len, tics, after) in [
-        (109, 14, 18, 1, 0),
-        (109, 15, 18, 1, 0),
-        (109, 16, 18, 1, 0),
-        (109, 14, 24, 1, 6),
-        (109, 13, 18, 0, 4),
-        (109, 13, 15, 0, 1),
-        (111, 14, 19, 1, 0),
-        (111, 17, 19, 1, 0),
-        (111, 13, 19, 0, 5),
-        (111, 23, 24, 1, 5),
+    // One player: the place of the marker, how many bytes there are, and what is read.
+    for (place, len, tics, after) in [
+        (14, 18, 1, 0),
+        (15, 18, 1, 0),
+        (16, 18, 1, 0),
+        (14, 24, 1, 6),
+        (13, 18, 0, 4),
+        (13, 15, 0, 1),
     ] {
         let mut bytes = [0; 24];
-        bytes[0] = version;
+        bytes[0] = 109;
         bytes[9] = 1;
         bytes[place] = 0x80;
-        bytes[if version == 109 { 17 } else { 18 }] = 0x80;
+        bytes[17] = 0x80;
         let demo = Demo::read(rt.alloc(), &bytes[..len])?;
         assert_eq!(rt; demo.tics(), tics, "at {place}");
         assert_eq!(rt; demo.cut(), 0);
+        assert_eq!(rt; demo.after(), after, "at {place}");
+    }
+    Ok(())
+}
+
+#[test]
+fn commands_of_version_111_have_five_bytes(rt: HostRuntime) -> Result<(), Fail> {
+    for (place, len, tics, after) in [
+        (14, 19, 1, 0),
+        (16, 19, 1, 0),
+        (17, 19, 1, 0),
+        (13, 19, 0, 5),
+        (23, 24, 1, 5),
+    ] {
+        let mut bytes = [0; 24];
+        bytes[0] = 111;
+        bytes[9] = 1;
+        bytes[place] = 0x80;
+        bytes[18] = 0x80;
+        let demo = Demo::read(rt.alloc(), &bytes[..len])?;
+        assert_eq!(rt; demo.tics(), tics, "at {place}");
         assert_eq!(rt; demo.after(), after, "at {place}");
     }
     Ok(())

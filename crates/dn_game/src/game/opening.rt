@@ -7,6 +7,7 @@ ghost use Rattle.dn_game.specs.Fresh.{AreFresh, worlds_of};
 
 use super::Game;
 use crate::config::{GameConfig, GameFault};
+use dn_demo::is_limit;
 use dn_node::{Config, Node};
 use dn_world::World;
 use std::alloc::Global;
@@ -27,7 +28,7 @@ impl<W: World> Game<W> {
         if !(2..=4).contains(&worlds.len()) {
             return Err(GameFault::Players);
         }
-        if !(1024..=16_777_216).contains(&config.limit) {
+        if !is_limit(config.limit) {
             return Err(GameFault::Limit);
         }
         let nodes = nodes_of(alloc, &config, worlds)?;

@@ -6,13 +6,13 @@ use Rattle.dn_game.proofs.Agreeing.{agreed}
 use Rattle.dn_game.proofs.laws.reached_games_agree.Goals as goal
 
 pub returns-clause-promised : goal.returns-clause-promised
-returns-clause-promised g c players extra limit settings events =
-    reached_promised _ (rules_of g.W.World.physics players extra limit) settings events
+returns-clause-promised g c players extra capacity settings events =
+    reached_promised _ (rules_of g.W.World.physics players extra capacity) settings events
 
 pub returns-clause-agreed : goal.returns-clause-agreed
-returns-clause-agreed g c players extra limit settings events = agreed _ (rules_of g.W.World.physics players extra limit) settings events
+returns-clause-agreed g c players extra capacity settings events = agreed _ (rules_of g.W.World.physics players extra capacity) settings events
 
 pub returns-clause-steady : goal.returns-clause-steady
-returns-clause-steady g c players extra limit settings events contents reached =
-    let rules = rules_of g.W.World.physics players extra limit in
+returns-clause-steady g c players extra capacity settings events contents reached =
+    let rules = rules_of g.W.World.physics players extra capacity in
     applied_steady rules settings reached.last (always rules settings events reached.last reached.run)

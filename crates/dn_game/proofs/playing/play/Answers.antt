@@ -1,3 +1,4 @@
+use Rattle.dn_game.specs.Opening.{rules_in}
 use Rattle.std.proofs.Common.{List, [], ◌∷◌, ◌++◌, take, length, ap, sym, ◌∙◌, subst, arith}
 use Rattle.std.proofs.lemmas.List.{take_all, take_more}
 use Rattle.dn_machine.specs.declared.events.Event.{Event}
@@ -18,7 +19,7 @@ loop-event-preserved g c =
     let one = c.apply.ensures.applied in
     let longer = take_more events done c.event-item.result c.loop-event-test.true
     ∙ ap (λ (event : Event). take done events ++ event ∷ []) (sym c.event-item.is) in
-    let P : List Event → Type 0 = λ es. IsPlayed g.W.World.state (rules_of g.W.World.physics (length c.args.worlds.items) config.extra config.limit) config.settings es c.apply.new.self in (
+    let P : List Event → Type 0 = λ es. IsPlayed g.W.World.state (rules_in g.W.World.physics config (length c.args.worlds.items)) config.settings es c.apply.new.self in (
       omega (arith, c.apply.ensures.counted, before.0),
       subst P (sym longer)
           (played_more _ _ config.settings (take done events) _ one.answer c.loop-event.played c.apply.new.self before.1
@@ -26,10 +27,10 @@ loop-event-preserved g c =
     )
 
 whole : (g : _) (c : goal.After-loop-event g)
-    → IsPlayed g.W.World.state (rules_of g.W.World.physics (length c.args.worlds.items) c.args.config.extra c.args.config.limit)
+    → IsPlayed g.W.World.state (rules_in g.W.World.physics c.args.config (length c.args.worlds.items))
     c.args.config.settings c.args.events.now c.loop-event.played
 whole g c =
-    let P : List Event → Type 0 = λ events. IsPlayed g.W.World.state (rules_of g.W.World.physics (length c.args.worlds.items) c.args.config.extra c.args.config.limit)
+    let P : List Event → Type 0 = λ events. IsPlayed g.W.World.state (rules_in g.W.World.physics c.args.config (length c.args.worlds.items))
     c.args.config.settings events c.loop-event.played in
     subst P (take_all c.loop-event.event-index c.args.events.now c.loop-event-test.false) c.loop-event.invariant.1
 

@@ -1,3 +1,4 @@
+use Rattle.dn_game.specs.Opening.{rules_in}
 use Rattle.std.proofs.Common.{◌≡◌, ◌+◌, length, take}
 use Rattle.dn_machine.specs.Worlds.{rules_of}
 use Rattle.dn_game.specs.Played.{IsPlayed}
@@ -6,5 +7,5 @@ use Rattle.dn_game.proofs.playing.play.Given as goal
 abbrev pub invariant-loop-event : goal.invariant-loop-event
 invariant-loop-event g l =
     (l.played.done + l.played.refused ≡ l.event-index)
-    × IsPlayed g.W.World.state (rules_of g.W.World.physics (length l.fn.worlds.items) l.fn.config.extra l.fn.config.limit)
+    × IsPlayed g.W.World.state (rules_in g.W.World.physics l.fn.config (length l.fn.worlds.items))
     l.fn.config.settings (take l.event-index l.events) l.played

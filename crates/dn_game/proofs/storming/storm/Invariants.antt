@@ -1,3 +1,4 @@
+use Rattle.dn_game.specs.Opening.{rules_in}
 use Rattle.std.proofs.Common.{◌≡◌, ◌+◌, length}
 use Rattle.dn_machine.specs.Worlds.{rules_of}
 use Rattle.dn_game.specs.Stormed.{IsStormed}
@@ -6,5 +7,5 @@ use Rattle.dn_game.proofs.storming.storm.Given as goal
 abbrev pub invariant-loop : goal.invariant-loop
 invariant-loop g l =
     (l.played.done + l.played.refused ≡ l.counter)
-    × ((s : IsStormed g.W.World.state (rules_of g.W.World.physics (length l.fn.worlds.items) l.fn.config.extra l.fn.config.limit)
+    × ((s : IsStormed g.W.World.state (rules_in g.W.World.physics l.fn.config (length l.fn.worlds.items))
     l.fn.config.settings l.seed l.counter l.played) × (s.rest ≡ l.schedule))

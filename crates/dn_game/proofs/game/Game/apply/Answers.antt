@@ -9,50 +9,50 @@ use Rattle.dn_game.proofs.Standing.{node_at}
 use Rattle.dn_game.proofs.game.Game.apply.Goals as goal
 
 pub returns-in-Some-clause-applied : goal.returns-in-Some-clause-applied
-returns-in-Some-clause-applied g c players extra limit m r =
-    let rules = rules_of g.W.World.physics players extra limit in
-    inl (after_refused _ rules _ m _ _ (c.in-Some.ensures.told players extra limit m r) r)
+returns-in-Some-clause-applied g c players extra capacity m r =
+    let rules = rules_of g.W.World.physics players extra capacity in
+    inl (after_refused _ rules _ m _ _ (c.in-Some.ensures.told players extra capacity m r) r)
 
 pub returns-in-Send-clause-applied : goal.returns-in-Send-clause-applied
-returns-in-Send-clause-applied g c players extra limit m r =
-    let rules = rules_of g.W.World.physics players extra limit in
-    after_send _ rules _ m _ _ _ _ _ c.in-Send.is (c.in_default.ensures.told players extra limit m r) (c.send.ensures.sent players extra limit m r)
+returns-in-Send-clause-applied g c players extra capacity m r =
+    let rules = rules_of g.W.World.physics players extra capacity in
+    after_send _ rules _ m _ _ _ _ _ c.in-Send.is (c.in_default.ensures.told players extra capacity m r) (c.send.ensures.sent players extra capacity m r)
 
 pub returns-in-Build-clause-applied : goal.returns-in-Build-clause-applied
-returns-in-Build-clause-applied g c players extra limit m r =
-    let rules = rules_of g.W.World.physics players extra limit in
+returns-in-Build-clause-applied g c players extra capacity m r =
+    let rules = rules_of g.W.World.physics players extra capacity in
     let below = subst (IsAddressed (contents c.args.self.now)) c.in-Build.is (c.in_default.ensures.there refl) in
     let shown = node_at _ rules _ m r _ _ below c.index_mut.ensures.value in
-    inl (after_event _ rules _ m _ _ c.in-Build.is _ (c.in_default.ensures.told players extra limit m r)
-    (after_step _ rules _ m _ _ _ _ Done.Built r below (c.build.ensures.step players extra limit _ _ shown)))
+    inl (after_event _ rules _ m _ _ c.in-Build.is _ (c.in_default.ensures.told players extra capacity m r)
+    (after_step _ rules _ m _ _ _ _ Done.Built r below (c.build.ensures.step players extra capacity _ _ shown)))
 
 pub returns-in-Deliver-clause-applied : goal.returns-in-Deliver-clause-applied
-returns-in-Deliver-clause-applied g c players extra limit m r =
-    let rules = rules_of g.W.World.physics players extra limit in
-    let told = c.in_default.ensures.told players extra limit m r in
+returns-in-Deliver-clause-applied g c players extra capacity m r =
+    let rules = rules_of g.W.World.physics players extra capacity in
+    let told = c.in_default.ensures.told players extra capacity m r in
     inl (after_event _ rules _ m _ _ c.in-Deliver.is _ told
-    (c.deliver.ensures players extra limit m r (sym (told ∙ ap (refused players m) c.in-Deliver.is))))
+    (c.deliver.ensures players extra capacity m r (sym (told ∙ ap (refused players m) c.in-Deliver.is))))
 
 pub returns-in-Run-clause-applied : goal.returns-in-Run-clause-applied
-returns-in-Run-clause-applied g c players extra limit m r =
-    let rules = rules_of g.W.World.physics players extra limit in
+returns-in-Run-clause-applied g c players extra capacity m r =
+    let rules = rules_of g.W.World.physics players extra capacity in
     let below = subst (IsAddressed (contents c.args.self.now)) c.in-Run.is (c.in_default.ensures.there refl) in
     let shown = node_at _ rules _ m r _ _ below c.index_mut-in-Run.ensures.value in
-    inl (after_event _ rules _ m _ _ c.in-Run.is _ (c.in_default.ensures.told players extra limit m r)
-    (after_step _ rules _ m _ _ _ _ Done.Ran r below (c.run.ensures.step players extra limit _ _ shown)))
+    inl (after_event _ rules _ m _ _ c.in-Run.is _ (c.in_default.ensures.told players extra capacity m r)
+    (after_step _ rules _ m _ _ _ _ Done.Ran r below (c.run.ensures.step players extra capacity _ _ shown)))
 
 pub returns-in-Quit-clause-applied : goal.returns-in-Quit-clause-applied
-returns-in-Quit-clause-applied g c players extra limit m r =
-    let rules = rules_of g.W.World.physics players extra limit in
+returns-in-Quit-clause-applied g c players extra capacity m r =
+    let rules = rules_of g.W.World.physics players extra capacity in
     let below = subst (IsAddressed (contents c.args.self.now)) c.in-Quit.is (c.in_default.ensures.there refl) in
     let shown = node_at _ rules _ m r _ _ below c.index_mut-in-Quit.ensures.value in
-    inl (after_event _ rules _ m _ _ c.in-Quit.is _ (c.in_default.ensures.told players extra limit m r)
-    (after_step _ rules _ m _ _ _ _ Done.Quit r below (c.quit.ensures.step players extra limit _ _ shown)))
+    inl (after_event _ rules _ m _ _ c.in-Quit.is _ (c.in_default.ensures.told players extra capacity m r)
+    (after_step _ rules _ m _ _ _ _ Done.Quit r below (c.quit.ensures.step players extra capacity _ _ shown)))
 
 pub returns-in-Stop-clause-applied : goal.returns-in-Stop-clause-applied
-returns-in-Stop-clause-applied g c players extra limit m r =
-    let rules = rules_of g.W.World.physics players extra limit in
+returns-in-Stop-clause-applied g c players extra capacity m r =
+    let rules = rules_of g.W.World.physics players extra capacity in
     let n = c.args.self.now in
     let below : c.in-Stop.node < length n.nodes.items = subst (IsAddressed (contents n)) c.in-Stop.is (c.in_default.ensures.there refl) in
     let inside : c.in-Stop.node < length n.stopped = omega (arith, n.few) in
-    inl (after_event _ rules _ m _ _ c.in-Stop.is _ (c.in_default.ensures.told players extra limit m r) (stops _ rules _ m _ r inside))
+    inl (after_event _ rules _ m _ _ c.in-Stop.is _ (c.in_default.ensures.told players extra capacity m r) (stops _ rules _ m _ r inside))

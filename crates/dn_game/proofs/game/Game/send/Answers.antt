@@ -11,17 +11,17 @@ use Rattle.dn_game.proofs.Standing.{node_at}
 use Rattle.dn_game.proofs.game.Game.send.Goals as goal
 
 pub returns-in_default-aim-clause-sent : goal.returns-in_default-aim-clause-sent
-returns-in_default-aim-clause-sent g c players extra limit m r =
-    let rules = rules_of g.W.World.physics players extra limit in
+returns-in_default-aim-clause-sent g c players extra capacity m r =
+    let rules = rules_of g.W.World.physics players extra capacity in
     let shown = node_at _ rules _ m r _ _ c.requires.node c.index_mut-sender.ensures.value in
-    let none = no_flight aim_of _ (c.in_default-aim.ensures.step players extra limit _ _ shown).answer in
+    let none = no_flight aim_of _ (c.in_default-aim.ensures.step players extra capacity _ _ shown).answer in
     inl (Done.Silent, refl, sends_none _ rules _ m r _ _ c.requires.node c.requires.to _ _ (along (none_sent rules _ _ c.args.to none) shown) none c.in-Ok.ensures.items)
 
 pub returns-in_default-packet-clause-sent : goal.returns-in_default-packet-clause-sent
-returns-in_default-packet-clause-sent g c players extra limit m r =
-    let rules = rules_of g.W.World.physics players extra limit in
+returns-in_default-packet-clause-sent g c players extra capacity m r =
+    let rules = rules_of g.W.World.physics players extra capacity in
     let shown = node_at _ rules _ m r _ _ c.requires.node c.index_mut-sender.ensures.value in
-    let after = c.in_default-packet.ensures.step players extra limit _ _ shown in
+    let after = c.in_default-packet.ensures.step players extra capacity _ _ shown in
     inl (Done.Silent, refl, sends_none _ rules _ m r _ _ c.requires.node c.requires.to _ _ after.node (no_flight bytes_of _ after.answer) c.in-Ok.ensures.items)
 
 pub invariant_of-self-2-clause-receivers : goal.invariant_of-self-2-clause-receivers
@@ -35,15 +35,15 @@ invariant_of-self-2-clause-few g c =
     omega (arith, length-set n.nodes.items c.args.node c.packet.new.self, n.few)
 
 pub returns-clause-sent : goal.returns-clause-sent
-returns-clause-sent g c players extra limit m r =
-    let rules = rules_of g.W.World.physics players extra limit in
+returns-clause-sent g c players extra capacity m r =
+    let rules = rules_of g.W.World.physics players extra capacity in
     let shown = node_at _ rules _ m r _ _ c.requires.node c.index_mut-sender.ensures.value in
-    let after = c.in-Some-packet.ensures.step players extra limit _ _ shown in
+    let after = c.in-Some-packet.ensures.step players extra capacity _ _ shown in
     inl (
       Done.Sent c.len-which.result,
       refl,
       sends_packet _ rules _ m r _ _ c.requires.node c.requires.to _ _ _ _ _ _ shown c.in-Some.ensures.reach.1
-          (c.in-Some.ensures.step players extra limit _ _ shown).answer after (c.in-Some-packet.ensures.fair players extra limit _ _ shown).answer
+          (c.in-Some.ensures.step players extra capacity _ _ shown).answer after (c.in-Some-packet.ensures.fair players extra capacity _ _ shown).answer
           (took_one _ _ _ _ _ c.push.ensures.items (ap is_ok c.unwrap.ensures) c.in-Ok.ensures.items)
           (c.len-which.ensures ∙ c.in-Ok.ensures.len ∙ c.args.self.now.flights.ok.0),
     )

@@ -1,3 +1,5 @@
+use Rattle.dn_demo.specs.Recorded.{capacity}
+use Rattle.dn_game.specs.Opening.{rules_in}
 use Rattle.std.proofs.Common.{rules, ◌≡◌, ℕ, List, [], ◌∷◌, ◌++◌, length, Some, ap, sym, ◌∙◌, subst, arith, length-append}
 use Rattle.std.specs.Prelude.{◌==◌}
 use Rattle.std.proofs.lemmas.Bool.{cond-true, eq-eqb}
@@ -22,13 +24,13 @@ loop-world-preserved g c =
     let players : c.len-players.result ≡ length c.args.worlds.items = search rules in
     let me : c.len-in-loop-world.result ≡ length c.loop-world.nodes.items = search rules in
     let P : Config → Type 0 = λ own. (settings : Settings) → (own.me ≡ 0 → own.settings ≡ Some settings)
-    → Represents g.W.World.state (rules_of g.W.World.physics own.players own.extra own.limit) own.me (contents c.in-Ok-new.node) (fresh settings own.me) in
+    → Represents g.W.World.state (rules_of g.W.World.physics own.players own.extra (capacity own.limit own.players)) own.me (contents c.in-Ok-new.node) (fresh settings own.me) in
     let opened = subst P c.config_of-own.ensures c.in-Ok-new.ensures.opened config.settings
     (λ zero. cond-true (c.len-in-loop-world.result == 0) _ _ (eq-eqb _ 0 zero)) in
-    let Q : ℕ → Type 0 = λ k. Represents g.W.World.state (rules_of g.W.World.physics k config.extra config.limit) c.len-in-loop-world.result (contents c.in-Ok-new.node) (fresh config.settings c.len-in-loop-world.result) in
-    let R : ℕ → Type 0 = λ k. Represents g.W.World.state (rules_of g.W.World.physics (length c.args.worlds.items) config.extra config.limit) k (contents c.in-Ok-new.node) (fresh config.settings k) in
+    let Q : ℕ → Type 0 = λ k. Represents g.W.World.state (rules_in g.W.World.physics config k) c.len-in-loop-world.result (contents c.in-Ok-new.node) (fresh config.settings c.len-in-loop-world.result) in
+    let R : ℕ → Type 0 = λ k. Represents g.W.World.state (rules_in g.W.World.physics config (length c.args.worlds.items)) k (contents c.in-Ok-new.node) (fresh config.settings k) in
     let one = subst R me (subst Q players opened) in
-    let S : List (Node _) → Type 0 = AreFresh g.W.World.state (rules_of g.W.World.physics (length c.args.worlds.items) config.extra config.limit) config.settings in
+    let S : List (Node _) → Type 0 = AreFresh g.W.World.state (rules_in g.W.World.physics config (length c.args.worlds.items)) config.settings in
     let all = subst S (sym pushed) (fresh_more g.W.World.state _ config.settings c.loop-world.nodes.items c.in-Ok-new.node before.3 one) in
     let worlds = given_more _ c.loop-world.nodes.items _ _ before.4 _ _ _ _ pushed c.in-Ok-new.ensures.given c.in-Some.ensures.steps.0 in
     (before.0, before.1, omega (arith, longer, before.2, c.in-Some.ensures.steps.1), all, worlds)
