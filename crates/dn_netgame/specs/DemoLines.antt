@@ -3,8 +3,7 @@ use Rattle.std.specs.Prelude.{◌≡◌, ◌≤◌, ◌<◌, ◌⊎◌, ℕ, ℤ
 use Rattle.std.specs.List.{flat_map}
 use Rattle.dn_world.specs.declared.spot.Spot.{Spot}
 use Rattle.dn_world.specs.Plane.{Spots, spot_at, mark_of, walking}
-use Rattle.dn_demo.specs.Text.{version}
-use Rattle.dn_demo.specs.Reading.{Recording, IsReadAs}
+use Rattle.dn_demo.specs.Reading.{Recording, IsReadAs, state_after}
 use Rattle.dn_demo.specs.declared.demo.DemoFault.{DemoFault}
 use Rattle.dn_demo.specs.declared.demo.DemoFault.TheVariants.{Short, Version, NoPlayers, NoMarker, Memory}
 use Rattle.dn_netgame.specs.Fields.{labelled}
@@ -18,7 +17,7 @@ players_present player (false ∷ seats) = players_present (player + 1) seats
 -- what a demo's header has, but for its players
 unfoldable pub header_fields : Recording → List ℕ
 header_fields d = labelled (
-    (codes "version ", pos version)
+    (codes "version ", pos d.version)
     ∷ (codes " skill ", pos d.start.skill)
     ∷ (codes " episode ", pos d.start.episode)
     ∷ (codes " map ", pos d.start.map)
@@ -60,29 +59,37 @@ seat_line player (Some s) = player_line player s.x s.y s.angle (mark_of (Some s)
 abbrev pub player_lines : Spots → List ℕ
 player_lines spots = flat_map (λ player. seat_line player (spot_at spots player)) (0 ∷ 1 ∷ 2 ∷ 3 ∷ [])
 
--- where the players are, once the whole demo was played
-abbrev pub spots_after : Recording → Spots
-spots_after d = fold walking.step (walking.begin d.start d.present) d.rows
-
--- the lines of a demo
+-- the lines of a demo, with the players where they are once all of it was played
 abbrev pub demo_lines : Recording → List ℕ
-demo_lines d = header_line d ++ (size_line d ++ player_lines (spots_after d))
+demo_lines d = header_line d ++ (size_line d ++ player_lines (state_after walking d))
 
--- the lines and the exit status for what a demo is read as; there are none for want of memory
-abbrev pub IsReadingShown : Result Recording DemoFault → List ℕ → ℕ → Type 0
-IsReadingShown (Ok d) lines status = (lines ≡ demo_lines d) × (status ≡ 0)
-IsReadingShown (Err Short) lines status = (lines ≡ codes "demo: short\n") × (status ≡ 1)
-IsReadingShown (Err Version) lines status = (lines ≡ codes "demo: version\n") × (status ≡ 1)
-IsReadingShown (Err NoPlayers) lines status = (lines ≡ codes "demo: no players\n") × (status ≡ 1)
-IsReadingShown (Err NoMarker) lines status = (lines ≡ codes "demo: no marker\n") × (status ≡ 1)
-IsReadingShown (Err Memory) lines status = ⊥
+-- the line of a fault; there is none for want of memory
+abbrev pub IsFaultLine : DemoFault → List ℕ → Type 0
+IsFaultLine Short line = line ≡ codes "demo: short\n"
+IsFaultLine Version line = line ≡ codes "demo: version\n"
+IsFaultLine NoPlayers line = line ≡ codes "demo: no players\n"
+IsFaultLine NoMarker line = line ≡ codes "demo: no marker\n"
+IsFaultLine Memory line = ⊥
 
 -- a demo has at most so many bytes
 abbrev pub demo_limit : ℕ
 demo_limit = 33554432
 
--- the lines and the exit status are those of what the bytes are read as, if they are not too many
+-- the bytes are read as this demo, and are not too many
+abbrev pub IsGiven : List ℕ → Recording → Type 0
+IsGiven bytes demo = (length bytes ≤ demo_limit) × IsReadAs bytes (Ok demo)
+
+-- the line of bytes that are too many, or else no demo
+abbrev pub IsRefused : List ℕ → List ℕ → Type 0
+IsRefused bytes line =
+    ((demo_limit < length bytes) × (line ≡ codes "demo: too long\n"))
+    ⊎ ((length bytes ≤ demo_limit) × ((fault : DemoFault) × IsReadAs bytes (Err fault) × IsFaultLine fault line))
+
+-- what is written for these bytes, and the exit status: what is said of the demo, or else a refusal, with status 1
+abbrev pub IsWritten : (Recording → List ℕ → ℕ → Type 0) → List ℕ → List ℕ → ℕ → Type 0
+IsWritten IsSaid bytes text status =
+    ((demo : Recording) × IsGiven bytes demo × IsSaid demo text status) ⊎ (IsRefused bytes text × (status ≡ 1))
+
+-- the lines and the exit status are those of the demo, or of a refusal
 abbrev pub IsDemo : List ℕ → List ℕ → ℕ → Type 0
-IsDemo bytes lines status =
-    ((demo_limit < length bytes) × (lines ≡ codes "demo: too long\n") × (status ≡ 1))
-    ⊎ ((length bytes ≤ demo_limit) × ((read : Result Recording DemoFault) × IsReadAs bytes read × IsReadingShown read lines status))
+IsDemo = IsWritten (λ d lines status. (lines ≡ demo_lines d) × (status ≡ 0))

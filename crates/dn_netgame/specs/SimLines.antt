@@ -2,11 +2,11 @@
 use Rattle.std.specs.Prelude.{◌≡◌, ℕ, pos, List, [], ◌∷◌, ◌++◌, codes, Result, Ok, Err}
 use Rattle.dn_world.specs.Plane.{Spots, walking}
 use Rattle.dn_machine.specs.declared.events.Event.{Event}
-use Rattle.dn_machine.specs.Worlds.{rules_of}
 use Rattle.dn_game.specs.declared.config.GameConfig.{GameConfig}
 use Rattle.dn_game.specs.declared.played.Played.{Played}
 use Rattle.dn_game.specs.declared.script.ScriptFault.{ScriptFault}
 use Rattle.dn_game.specs.declared.script.ScriptFault.TheVariants.{TooLong, Line, Memory}
+use Rattle.dn_game.specs.Opening.{rules_in}
 use Rattle.dn_game.specs.Played.{IsPlayed}
 use Rattle.dn_game.specs.Script.{IsReadAs}
 use Rattle.dn_netgame.specs.Fields.{labelled}
@@ -15,7 +15,7 @@ use Rattle.dn_netgame.specs.GameLines.{IsGameShown}
 -- a game of so many players, who walk, has played these events
 abbrev pub WalksBy : GameConfig → ℕ → List Event → Played Spots → Type 0
 WalksBy config players events played =
-    IsPlayed (λ spots. spots) (rules_of walking players config.extra config.limit) config.settings events played
+    IsPlayed (λ spots. spots) (rules_in walking config players) config.settings events played
 
 -- the line of a script's bad line, counted from 1
 unfoldable pub bad_line : ℕ → List ℕ

@@ -11,17 +11,12 @@ ghost use Rattle.dn_netgame.specs.declared.fault.RunFault.{RunFault};
 
 use crate::fault::RunFault;
 use crate::fields::{push_fields, push_line};
+use crate::input::{INPUT_LIMIT, read_demo};
 use crate::transfer::{gather, put};
-use dn_demo::{Demo, DemoFault, play};
+use dn_demo::{Demo, play};
 use dn_world::{Walk, World};
 use std::alloc::{AllocError, Global};
 use std::io::{Read, Write};
-
-/// A demo has at most so many bytes.
-const DEMO_LIMIT: usize = 33_554_432;
-
-/// The version of the demos that are read.
-const VERSION: i128 = 109;
 
 /// The numbers of the players who are present.
 fn push_present(text: &mut String, present: [bool; 4]) -> Result<(), AllocError>
@@ -52,7 +47,7 @@ fn push_header(text: &mut String, demo: &Demo) -> Result<(), AllocError>
 {
     let start = demo.start();
     let fields = [
-        ("version ", VERSION),
+        ("version ", demo.version() as i128),
         (" skill ", start.skill as i128),
         (" episode ", start.episode as i128),
         (" map ", start.map as i128),
@@ -134,19 +129,10 @@ fn text_of(alloc: Global, bytes: Vec<u8>) -> Result<(String, u8), RunFault>
     ensures shown { IfOk result (λ shown. IsDemo bytes.items (string_bytes shown.0) shown.1) }
     ensures fault { IfErr result (λ fault. fault ≡ RunFault.Memory) }
 {
-    let refusal = if bytes.len() > DEMO_LIMIT {
-        "demo: too long\n"
-    } else {
-        match Demo::from_vec(bytes) {
-            Ok(demo) => return Ok((text_of_demo(alloc, &demo)?, 0)),
-            Err(DemoFault::Short) => "demo: short\n",
-            Err(DemoFault::Version) => "demo: version\n",
-            Err(DemoFault::NoPlayers) => "demo: no players\n",
-            Err(DemoFault::NoMarker) => "demo: no marker\n",
-            Err(DemoFault::Memory) => return Err(RunFault::Memory),
-        }
-    };
-    Ok((String::from_str(alloc, refusal)?, 1))
+    match read_demo(bytes) {
+        Ok(demo) => Ok((text_of_demo(alloc, &demo)?, 0)),
+        Err(refusal) => Ok((String::from_str(alloc, refusal)?, 1)),
+    }
 }
 
 /// Reads a demo of at most 33,554,432 bytes, plays it, and writes its lines. The answer is the exit
@@ -179,7 +165,7 @@ pub fn run_demo<R: Read, W: Write>(
     // Any other fault leaves the output as it was.
     ensures unwritten { IfErr result (λ fault. fault ≢ RunFault.Write → output.new ≡ output.old) }
 {
-    let bytes = gather(alloc, input, DEMO_LIMIT + 1)?;
+    let bytes = gather(alloc, input, INPUT_LIMIT + 1)?;
     let (text, status) = text_of(alloc, bytes)?;
     put(output, text.as_bytes())?;
     Ok(status)

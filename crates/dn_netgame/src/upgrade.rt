@@ -1,0 +1,80 @@
+//! Upgrading a demo to the version that is recorded, or telling why there is none.
+
+ghost use Rattle.std.specs.Prelude.{◌≡◌, ◌≢◌, ◌+◌, Err, IfOk, IfErr};
+ghost use Rattle.dn_demo.specs.Recorded.{IsLimit};
+ghost use Rattle.dn_netgame.specs.DemoLines.{demo_limit};
+ghost use Rattle.dn_netgame.specs.UpgradeLines.{IsUpgradedTo, IsUpgrade};
+ghost use Rattle.dn_netgame.specs.Shown.{Shows, ShowsFront};
+ghost use Rattle.dn_netgame.specs.Transfer.{TakesFewer, TakesAtMost};
+ghost use Rattle.dn_netgame.specs.declared.fault.RunFault.{RunFault};
+
+use crate::fault::RunFault;
+use crate::input::{INPUT_LIMIT, read_demo};
+use crate::transfer::{gather, put};
+use dn_demo::{Demo, UpgradeFault, upgrade};
+use std::alloc::Global;
+use std::io::{Read, Write};
+
+/// What is written for the demo, and the exit status.
+fn upgraded(alloc: Global, demo: &Demo, limit: u32) -> Result<(Vec<u8>, u8), RunFault>
+    requires { IsLimit limit }
+    ensures shown { IfOk result (λ shown. IsUpgradedTo limit demo.now shown.0.items shown.1) }
+    ensures fault { IfErr result (λ fault. fault ≡ RunFault.Memory) }
+{
+    match upgrade(alloc, demo, limit) {
+        Ok(recorder) => Ok((Vec::from_slice(alloc, recorder.bytes())?, 0)),
+        Err(UpgradeFault::Memory) => Err(RunFault::Memory),
+        // the limit is in range
+        Err(UpgradeFault::Full | UpgradeFault::Limit) => {
+            Ok((Vec::from_slice(alloc, b"upgrade: full\n")?, 1))
+        }
+    }
+}
+
+/// What is written for what the bytes are read as, and the exit status.
+fn bytes_of(alloc: Global, bytes: Vec<u8>, limit: u32) -> Result<(Vec<u8>, u8), RunFault>
+    requires { IsLimit limit }
+    ensures shown { IfOk result (λ shown. IsUpgrade limit bytes.items shown.0.items shown.1) }
+    ensures fault { IfErr result (λ fault. fault ≡ RunFault.Memory) }
+{
+    match read_demo(bytes) {
+        Ok(demo) => upgraded(alloc, &demo, limit),
+        Err(refusal) => Ok((Vec::from_slice(alloc, refusal.as_bytes())?, 1)),
+    }
+}
+
+/// Reads a demo of either version, of at most 33,554,432 bytes, and writes it as a demo of the version
+/// that is recorded, of at most `limit` bytes. The answer is the exit status: 0 for a demo, 1 for
+/// bytes that are none or that do not fit.
+///
+/// The faults are those of `run_demo`.
+pub fn run_upgrade<R: Read, W: Write>(
+    alloc: Global,
+    limit: u32,
+    input: &mut R,
+    output: &mut W,
+) -> Result<u8, RunFault>
+    requires limit { IsLimit limit }
+    // All of the upgraded demo was written, or the line of a refusal, and the status is theirs.
+    ensures shown { IfOk result (λ status. Shows (demo_limit + 1) (IsUpgrade limit)
+        (R.remaining input.old) (R.remaining input.new)
+        (W.contents output.old) (W.contents output.new) status) }
+
+    // A read fault comes before the last byte is there.
+    ensures read { result ≡ Err RunFault.Read
+        → TakesFewer (demo_limit + 1) (R.remaining input.old) (R.remaining input.new) }
+    // Memory can run out before that, too.
+    ensures memory { result ≡ Err RunFault.Memory
+        → TakesAtMost (demo_limit + 1) (R.remaining input.old) (R.remaining input.new) }
+    // A write fault comes before the last byte is written.
+    ensures write { result ≡ Err RunFault.Write
+        → ShowsFront (demo_limit + 1) (IsUpgrade limit) (R.remaining input.old) (R.remaining input.new)
+        (W.contents output.old) (W.contents output.new) }
+    // Any other fault leaves the output as it was.
+    ensures unwritten { IfErr result (λ fault. fault ≢ RunFault.Write → output.new ≡ output.old) }
+{
+    let bytes = gather(alloc, input, INPUT_LIMIT + 1)?;
+    let (text, status) = bytes_of(alloc, bytes, limit)?;
+    put(output, &text)?;
+    Ok(status)
+}
