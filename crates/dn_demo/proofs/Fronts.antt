@@ -1,10 +1,12 @@
 -- What a front of a demo's bytes tells.
-use Rattle.std.proofs.Common.{◌≡◌, ◌<◌, ◌≤◌, ℕ, zero, suc, ◌+◌, ◌*◌, ◌/◌, Bool, true, false, List, [], ◌∷◌, map, take, get_or, Some, None, refl, ap, ◌∙◌, arith}
+use Rattle.std.proofs.Common.{◌≡◌, ◌<◌, ◌≤◌, ℕ, zero, suc, ◌+◌, ◌-◌, ◌*◌, ◌/◌, Bool, true, false, List, [], ◌∷◌, map, take, drop, get_or, Some, None, refl, sym, ap, ◌∙◌, arith}
 use Rattle.std.specs.List.{range_with_len}
-use Rattle.std.specs.Int.{w8, w16, cast_signed}
 use Rattle.std.proofs.Math.Nat.{mul-div-le, mul-le-mul_left}
-use Rattle.std.proofs.lemmas.List.{get_or-take}
+use Rattle.std.proofs.Math.Seq.{take-add}
+use Rattle.std.proofs.lemmas.List.{get_or-take, drop-take, drop-drop}
+use Rattle.dn_demo.specs.Layout.{Layout, command_size, tell}
 use Rattle.dn_demo.specs.Rows.{player_count}
+use Rattle.dn_demo.proofs.Layouts.{place_below}
 use Rattle.dn_demo.specs.Places.{start_in, seats_in, is_set, place, move_at, moves_from, row_in}
 
 -- the commands of a whole tic stand before the marker
@@ -36,34 +38,45 @@ seats_in-take n bytes whole =
     let d = at 12 (omega arith) in
     λ i. a i ∷ b i ∷ c i ∷ d i ∷ []
 
--- and of the commands in it
-move_at-take : (k : ℕ) (bytes : List ℕ) (command : ℕ) → command < k → move_at (take (place k) bytes) command ≡ move_at bytes command
-move_at-take k bytes command below =
-    let at : (i : ℕ) → i ≤ 3 → get_or (take (place k) bytes) (place command + i) 0 ≡ get_or bytes (place command + i) 0 =
-    λ i small. get_or-take (place k) bytes (place command + i) 0 (omega arith) in
-    let a = get_or-take (place k) bytes (place command) 0 (omega arith) in
-    let b = at 1 (omega arith) in
-    let c = at 2 (omega arith) in
-    let d = at 3 (omega arith) in
-    λ i. record { forward = cast_signed w8 (a i); side = cast_signed w8 (b i); turn = cast_signed w16 (c i * 256); buttons = d i }
+-- the first of the first
+take_take : {A : Type 0} (n m : ℕ) (xs : List A) → take n (take (n + m) xs) ≡ take n xs
+take_take zero m xs = refl
+take_take {A} (suc n) m [] =
+    let more : suc n + m ≡ suc (n + m) = omega arith in
+    ap (λ k. take {A = A} (suc n) (take k [])) more
+take_take (suc n) m (x ∷ xs) =
+    let more : suc n + m ≡ suc (n + m) = omega arith in
+    ap (λ k. take (suc n) (take k (x ∷ xs))) more ∙ ap (λ t. x ∷ t) (take_take n m xs)
 
-moves_from-take : (k : ℕ) (bytes : List ℕ) (seats : List Bool) (command : ℕ) → command + player_count seats ≤ k
-    → moves_from (take (place k) bytes) seats command ≡ moves_from bytes seats command
-moves_from-take k bytes [] command fits = refl
-moves_from-take k bytes (true ∷ seats) command fits =
-    let one = move_at-take k bytes command (omega arith) in
-    let others = moves_from-take k bytes seats (command + 1) (omega arith) in
+-- and of the commands in it
+move_at-take : (layout : Layout) (k : ℕ) (bytes : List ℕ) (command : ℕ) → command < k
+    → move_at layout (take (place layout k) bytes) command ≡ move_at layout bytes command
+move_at-take layout k bytes command below =
+    let room = place_below layout command k below in
+    let n = command_size layout in
+    let fits : place layout command + (n + (place layout k - (place layout command + n))) ≡ place layout k = omega arith in
+    let more = place layout k - (place layout command + n) in
+    let rest = ap (λ m. drop (place layout command) (take m bytes)) (sym fits) ∙ drop-take (place layout command) (n + more) bytes in
+    ap (λ t. tell layout (take n t)) rest ∙ ap (tell layout) (take_take n more (drop (place layout command) bytes))
+
+moves_from-take : (layout : Layout) (k : ℕ) (bytes : List ℕ) (seats : List Bool) (command : ℕ) → command + player_count seats ≤ k
+    → moves_from layout (take (place layout k) bytes) seats command ≡ moves_from layout bytes seats command
+moves_from-take layout k bytes [] command fits = refl
+moves_from-take layout k bytes (true ∷ seats) command fits =
+    let one = move_at-take layout k bytes command (omega arith) in
+    let others = moves_from-take layout k bytes seats (command + 1) (omega arith) in
     λ i. Some (one i) ∷ others i
-moves_from-take k bytes (false ∷ seats) command fits =
-    let others = moves_from-take k bytes seats command fits in
+moves_from-take layout k bytes (false ∷ seats) command fits =
+    let others = moves_from-take layout k bytes seats command fits in
     λ i. None ∷ others i
 
 -- and of the rows
-pub row_in-take : (k : ℕ) (bytes : List ℕ) (tic : ℕ) → tic < k / player_count (seats_in bytes) → row_in (take (place k) bytes) tic ≡ row_in bytes tic
-row_in-take k bytes tic below =
-    let seats = seats_in-take (place k) bytes (omega arith) in
-    ap (λ (s : List Bool). moves_from (take (place k) bytes) s (player_count s * tic)) seats
-    ∙ moves_from-take k bytes (seats_in bytes) (player_count (seats_in bytes) * tic) (tic_fits (player_count (seats_in bytes)) tic k below)
+pub row_in-take : (layout : Layout) (k : ℕ) (bytes : List ℕ) (tic : ℕ) → tic < k / player_count (seats_in bytes)
+    → row_in layout (take (place layout k) bytes) tic ≡ row_in layout bytes tic
+row_in-take layout k bytes tic below =
+    let seats = seats_in-take (place layout k) bytes (omega arith) in
+    ap (λ (s : List Bool). moves_from layout (take (place layout k) bytes) s (player_count s * tic)) seats
+    ∙ moves_from-take layout k bytes (seats_in bytes) (player_count (seats_in bytes) * tic) (tic_fits (player_count (seats_in bytes)) tic k below)
 
 -- two functions that agree on a range
 pub map-agree : {X : Type 0} (f g : ℕ → X) (a n : ℕ) → ((i : ℕ) → a ≤ i → i < a + n → f i ≡ g i) → map f (range_with_len a n) ≡ map g (range_with_len a n)

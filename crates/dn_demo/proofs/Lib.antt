@@ -1,3 +1,4 @@
+pub mod Layouts
 pub mod Text
 pub mod Markers
 pub mod Fronts
@@ -5,3 +6,5 @@ pub mod OneReading
 pub mod Kept
 pub mod Behind
 pub mod ReadBack
+pub mod Writable
+pub mod RecordedAnew

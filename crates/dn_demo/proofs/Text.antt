@@ -1,58 +1,62 @@
 -- The text of a demo that goes on, and how long its parts are.
-use Rattle.std.proofs.Common.{◌≡◌, ℕ, ◌*◌, Bool, true, false, List, [], ◌∷◌, ◌++◌, length, map, Option, Some, None, is_some, refl, sym, ap, ◌∙◌, arith, append_assoc, append-nil}
+use Rattle.std.proofs.Common.{◌≡◌, ℕ, ◌*◌, Bool, true, false, List, [], ◌∷◌, ◌++◌, length, map, Option, Some, None, is_some, refl, sym, ap, ◌∙◌, arith, append_assoc, append-nil, length-append}
 use Rattle.std.proofs.lemmas.List.Concat.{flat_map-append}
 use Rattle.dn_tic.specs.declared.command.Move.{Move}
 use Rattle.dn_setup.specs.declared.start.Start.{Start}
 use Rattle.dn_setup.specs.Starts.{bit}
+use Rattle.dn_demo.specs.Layout.{Layout, long_tics, command_size, spell}
 use Rattle.dn_demo.specs.Rows.{player_count}
-use Rattle.dn_demo.specs.Text.{demo_text, header, row_bytes, commands_of, marker, command_size}
+use Rattle.dn_demo.specs.Text.{demo_text, header, row_bytes, commands_of, marker}
 use Rattle.dn_demo.specs.Places.{seats_in, is_set}
 use Rattle.dn_demo.specs.Recorded.{AddsRow, Closes}
+use Rattle.dn_demo.proofs.Layouts.{IsSound, length-spell}
 
 -- one more row
-pub text-row : (old new : List ℕ) (row : List (Option Move)) → new ≡ old ++ row_bytes row → AddsRow old new row
+pub text-row : (old new : List ℕ) (row : List (Option Move)) → new ≡ old ++ row_bytes long_tics row → AddsRow old new row
 unfolding demo_text
 text-row old new row e start view present rows text =
-    let h = header start view present in
-    let more : commands_of (rows ++ row ∷ []) ≡ commands_of rows ++ row_bytes row =
-    flat_map-append row_bytes rows (row ∷ []) ∙ ap (λ (t : List ℕ). commands_of rows ++ t) (append-nil (row_bytes row)) in
-    let open_text : old ≡ h ++ commands_of rows = text ∙ append-nil (h ++ commands_of rows) in
-    e ∙ ap (λ (t : List ℕ). t ++ row_bytes row) open_text ∙ append_assoc h (commands_of rows) (row_bytes row)
-    ∙ ap (λ (t : List ℕ). h ++ t) (sym more) ∙ sym (append-nil (h ++ commands_of (rows ++ row ∷ [])))
+    let h = header long_tics start view present in
+    let bytes = row_bytes long_tics row in
+    let commands : List (List (Option Move)) → List ℕ = commands_of long_tics in
+    let more : commands (rows ++ row ∷ []) ≡ commands rows ++ bytes =
+    flat_map-append (row_bytes long_tics) rows (row ∷ []) ∙ ap (λ (t : List ℕ). commands rows ++ t) (append-nil bytes) in
+    let open_text : old ≡ h ++ commands rows = text ∙ append-nil (h ++ commands rows) in
+    e ∙ ap (λ (t : List ℕ). t ++ bytes) open_text ∙ append_assoc h (commands rows) bytes
+    ∙ ap (λ (t : List ℕ). h ++ t) (sym more) ∙ sym (append-nil (h ++ commands (rows ++ row ∷ [])))
 
 -- the marker
 pub text-closed : (old new : List ℕ) → new ≡ old ++ marker ∷ [] → Closes old new
 unfolding demo_text
 text-closed old new e start view present rows text =
-    e ∙ ap (λ (t : List ℕ). t ++ marker ∷ []) (text ∙ append-nil (header start view present ++ commands_of rows))
+    e ∙ ap (λ (t : List ℕ). t ++ marker ∷ []) (text ∙ append-nil (header long_tics start view present ++ commands_of long_tics rows))
 
 -- a command for each player who is present
-pub length-row_bytes : (present : List Bool) (row : List (Option Move)) → map is_some row ≡ present
-    → length (row_bytes row) ≡ command_size * player_count present
-length-row_bytes [] [] e = refl
-length-row_bytes (p ∷ ps) [] e = cc
-length-row_bytes [] (s ∷ row) e = cc
-length-row_bytes (true ∷ ps) (Some m ∷ row) e =
+pub length-row_bytes : (layout : Layout) (present : List Bool) (row : List (Option Move)) → IsSound layout → map is_some row ≡ present
+    → length (row_bytes layout row) ≡ command_size layout * player_count present
+length-row_bytes layout [] [] sound e = omega arith
+length-row_bytes layout (p ∷ ps) [] sound e = cc
+length-row_bytes layout [] (s ∷ row) sound e = cc
+length-row_bytes layout (true ∷ ps) (Some m ∷ row) sound e =
     let rest : map is_some row ≡ ps = cc in
-    omega (arith, length-row_bytes ps row rest)
-length-row_bytes (false ∷ ps) (None ∷ row) e =
+    omega (arith, length-append (spell layout m) (row_bytes layout row), length-spell layout m sound, length-row_bytes layout ps row sound rest)
+length-row_bytes layout (false ∷ ps) (None ∷ row) sound e =
     let rest : map is_some row ≡ ps = cc in
-    length-row_bytes ps row rest
-length-row_bytes (true ∷ ps) (None ∷ row) e = cc
-length-row_bytes (false ∷ ps) (Some m ∷ row) e = cc
+    length-row_bytes layout ps row sound rest
+length-row_bytes layout (true ∷ ps) (None ∷ row) sound e = cc
+length-row_bytes layout (false ∷ ps) (Some m ∷ row) sound e = cc
 
 -- no row yet
-pub text-none : (start : Start) (view : ℕ) (present : List Bool) → demo_text start view present [] false ≡ header start view present
+pub text-none : (layout : Layout) (start : Start) (view : ℕ) (present : List Bool) → demo_text layout start view present [] false ≡ header layout start view present
 unfolding demo_text
-text-none start view present = append-nil (header start view present ++ []) ∙ append-nil (header start view present)
+text-none layout start view present = append-nil (header layout start view present ++ []) ∙ append-nil (header layout start view present)
 
 is_set-bit : (b : Bool) → is_set (bit b) ≡ b
 is_set-bit true = refl
 is_set-bit false = refl
 
 -- the flags of a header are those of its players
-pub header-seats : (start : Start) (view : ℕ) (present : List Bool) (more : List ℕ) → length present ≡ 4
-    → seats_in (header start view present ++ more) ≡ present
-header-seats start view (a ∷ b ∷ c ∷ d ∷ []) more four =
+pub header-seats : (layout : Layout) (start : Start) (view : ℕ) (present : List Bool) (more : List ℕ) → length present ≡ 4
+    → seats_in (header layout start view present ++ more) ≡ present
+header-seats layout start view (a ∷ b ∷ c ∷ d ∷ []) more four =
     λ i. is_set-bit a i ∷ is_set-bit b i ∷ is_set-bit c i ∷ is_set-bit d i ∷ []
-header-seats start view _ more four = absurd (omega arith)
+header-seats layout start view _ more four = absurd (omega arith)

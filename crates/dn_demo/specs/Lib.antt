@@ -1,5 +1,7 @@
+pub mod Layout
 pub mod Rows
 pub mod Text
 pub mod Places
 pub mod Recorded
 pub mod Reading
+pub mod Upgraded

@@ -1,10 +1,14 @@
 -- Where things stand in the bytes of a demo (g_game.c, G_DoPlayDemo and G_ReadDemoTiccmd).
-use Rattle.std.specs.Prelude.{◌≡◌, ◌≢◌, ◌<◌, ℕ, ◌+◌, ◌-◌, ◌*◌, ◌/◌, Bool, true, false, not, ◌==◌, List, [], ◌∷◌, length, slice_get, slice_index, Option, Some, None}
-use Rattle.std.specs.Int.{w8, w16, cast_signed}
+use Rattle.std.specs.Prelude.{◌≡◌, ◌≢◌, ◌<◌, ℕ, ◌+◌, ◌-◌, ◌*◌, ◌/◌, Bool, true, false, not, ◌==◌, List, [], ◌∷◌, length, take, drop, slice_get, slice_index, Option, Some, None}
 use Rattle.dn_tic.specs.declared.command.Move.{Move}
 use Rattle.dn_setup.specs.declared.start.Start.{Start}
+use Rattle.dn_demo.specs.Layout.{Layout, layout_of_version, command_size, tell}
 use Rattle.dn_demo.specs.Rows.{player_count}
-use Rattle.dn_demo.specs.Text.{marker, header_size, command_size}
+use Rattle.dn_demo.specs.Text.{marker, header_size}
+
+-- the layout by the first byte, if demos of its version are read
+abbrev pub layout_in : List ℕ → Option Layout
+layout_in bytes = layout_of_version (slice_index bytes 0)
 
 -- what the game starts from
 abbrev pub start_in : List ℕ → Start
@@ -29,34 +33,37 @@ seats_in bytes =
     is_set (slice_index bytes 9) ∷ is_set (slice_index bytes 10) ∷ is_set (slice_index bytes 11) ∷ is_set (slice_index bytes 12) ∷ []
 
 -- the place of a command, counted from 0
-abbrev pub place : ℕ → ℕ
-place command = header_size + command_size * command
+abbrev pub place : Layout → ℕ → ℕ
+place layout command = header_size + command_size layout * command
 
--- the move that a command tells; a turn's byte counts 256ths of a full turn
-abbrev pub move_at : List ℕ → ℕ → Move
-move_at bytes command =
-    record {
-      forward = cast_signed w8 (slice_index bytes (place command));
-      side = cast_signed w8 (slice_index bytes (place command + 1));
-      turn = cast_signed w16 (slice_index bytes (place command + 2) * 256);
-      buttons = slice_index bytes (place command + 3);
-    }
+-- the bytes of a command
+abbrev pub command_in : Layout → List ℕ → ℕ → List ℕ
+command_in layout bytes command = take (command_size layout) (drop (place layout command) bytes)
 
--- a move for each player who is present, the first by this command, and each other by the next one
-abbrev pub moves_from : List ℕ → List Bool → ℕ → List (Option Move)
-moves_from bytes [] command = []
-moves_from bytes (true ∷ seats) command = Some (move_at bytes command) ∷ moves_from bytes seats (command + 1)
-moves_from bytes (false ∷ seats) command = None ∷ moves_from bytes seats command
+-- the move that a command tells
+abbrev pub move_at : Layout → List ℕ → ℕ → Move
+move_at layout bytes command = tell layout (command_in layout bytes command)
+
+-- a move for each player who is present, and each has the command after that of the one before
+abbrev pub moves_from : Layout → List ℕ → List Bool → ℕ → List (Option Move)
+moves_from layout bytes [] command = []
+moves_from layout bytes (true ∷ seats) command = Some (move_at layout bytes command) ∷ moves_from layout bytes seats (command + 1)
+moves_from layout bytes (false ∷ seats) command = None ∷ moves_from layout bytes seats command
 
 -- how many whole commands the bytes have
-abbrev pub commands_in : List ℕ → ℕ
-commands_in bytes = (length bytes - header_size) / command_size
+abbrev pub commands_in : Layout → List ℕ → ℕ
+commands_in layout bytes = (length bytes - header_size) / command_size layout
 
 -- the row of a tic, behind those of the tics before it: each has a command for each player who is present
-abbrev pub row_in : List ℕ → ℕ → List (Option Move)
-row_in bytes tic = moves_from bytes (seats_in bytes) (player_count (seats_in bytes) * tic)
+abbrev pub row_in : Layout → List ℕ → ℕ → List (Option Move)
+row_in layout bytes tic = moves_from layout bytes (seats_in bytes) (player_count (seats_in bytes) * tic)
+
+-- no marker is at the place of one of the first commands
+abbrev pub HasNoMarker : Layout → List ℕ → ℕ → Type 0
+HasNoMarker layout bytes commands =
+    (command : ℕ) → command < commands → slice_get bytes (place layout command) ≢ Some marker
 
 -- the marker stands behind so many commands: it is at the place of the next, and at no place before
-pub record EndsBehind (bytes : List ℕ) (commands : ℕ) : Type 0 where
-  pub marked : slice_get bytes (place commands) ≡ Some marker
-  pub first : (command : ℕ) → command < commands → slice_get bytes (place command) ≢ Some marker
+pub record EndsBehind (layout : Layout) (bytes : List ℕ) (commands : ℕ) : Type 0 where
+  pub marked : slice_get bytes (place layout commands) ≡ Some marker
+  pub first : HasNoMarker layout bytes commands

@@ -1,8 +1,9 @@
 -- What a recorder has written.
-use Rattle.std.specs.Prelude.{◌≡◌, ◌≤◌, ℕ, Bool, true, false, List, [], ◌∷◌, ◌++◌, Option, Result, Ok, Err}
+use Rattle.std.specs.Prelude.{◌≡◌, ◌≤◌, ℕ, ◌+◌, ◌-◌, ◌*◌, ◌/◌, Bool, true, false, List, [], ◌∷◌, ◌++◌, Option, Result, Ok, Err}
 use Rattle.dn_tic.specs.declared.command.Move.{Move}
 use Rattle.dn_setup.specs.declared.start.Start.{Start}
-use Rattle.dn_demo.specs.Text.{demo_text}
+use Rattle.dn_demo.specs.Layout.{long_tics, command_size}
+use Rattle.dn_demo.specs.Text.{header_size, demo_text}
 use Rattle.dn_demo.specs.declared.recorder.Stage.{Stage}
 use Rattle.dn_demo.specs.declared.recorder.Stage.TheVariants.{Blank}
 use Rattle.dn_demo.specs.declared.recorder.RecorderFault.{RecorderFault}
@@ -18,6 +19,14 @@ pub record Recorded : Type 0 where
 abbrev pub IsLimit : ℕ → Type 0
 IsLimit limit = (1024 ≤ limit) × (limit ≤ 16777216)
 
+-- the bytes of a recorded demo of so many players and tics: its header, a command for each player and tic, and the marker
+abbrev pub recorded_size : ℕ → ℕ → ℕ
+recorded_size players tics = header_size + command_size long_tics * (players * tics) + 1
+
+-- how many tics of so many players fit into a demo of so many bytes
+abbrev pub capacity : ℕ → ℕ → ℕ
+capacity limit players = (limit - recorded_size players 0) / (command_size long_tics * players)
+
 -- what a recorder of this limit is made as: with nothing written, or refused for the limit, or for want of memory
 abbrev pub IsMadeAs : ℕ → Result Recorded RecorderFault → Type 0
 IsMadeAs limit (Ok recorder) = IsLimit limit × (recorder ≡ record { limit = limit; stage = Blank; bytes = [] })
@@ -28,10 +37,10 @@ IsMadeAs limit (Err Memory) = IsLimit limit
 abbrev pub AddsRow : List ℕ → List ℕ → List (Option Move) → Type 0
 AddsRow old new row =
     (start : Start) (view : ℕ) (present : List Bool) (rows : List (List (Option Move)))
-    → old ≡ demo_text start view present rows false → new ≡ demo_text start view present (rows ++ row ∷ []) false
+    → old ≡ demo_text long_tics start view present rows false → new ≡ demo_text long_tics start view present (rows ++ row ∷ []) false
 
 -- the text of an open demo, closed
 abbrev pub Closes : List ℕ → List ℕ → Type 0
 Closes old new =
     (start : Start) (view : ℕ) (present : List Bool) (rows : List (List (Option Move)))
-    → old ≡ demo_text start view present rows false → new ≡ demo_text start view present rows true
+    → old ≡ demo_text long_tics start view present rows false → new ≡ demo_text long_tics start view present rows true

@@ -10,10 +10,13 @@ pub record IsMove (m : Move) : Type 0 where
   pub turn : FitsSigned w16 m.turn
   pub buttons : m.buttons < 256
 
--- a move that a demo can tell: -128 forward would read as the marker, and one byte tells only whole multiples of 256
-pub record IsRecordable (m : Move) : Type 0 where
-  pub no_marker : m.forward ≢ negsuc 127
-  pub whole_turn : int_rem m.turn (pos 256) ≡ pos 0
+-- a move that a demo can tell: -128 forward would read as the marker
+abbrev pub IsRecordable : Move → Type 0
+IsRecordable m = m.forward ≢ negsuc 127
+
+-- a move whose turn one byte can tell
+abbrev pub IsWhole : Move → Type 0
+IsWhole m = int_rem m.turn (pos 256) ≡ pos 0
 
 -- a row of these players: a recordable move for each who is present, and none for another
 pub record IsRow (present : List Bool) (row : List (Option Move)) : Type 0 where
@@ -26,9 +29,13 @@ player_count [] = zero
 player_count (true ∷ seats) = suc (player_count seats)
 player_count (false ∷ seats) = player_count seats
 
+-- a fact of every move of some rows
+abbrev pub AllMoves : (Move → Type 0) → List (List (Option Move)) → Type 0
+AllMoves Fact rows = All (All (λ step. IfSome step Fact)) rows
+
 -- rows that can be written for these players, of whom somebody is present
 pub record AreWritable (present : List Bool) (rows : List (List (Option Move))) : Type 0 where
   pub four : length present ≡ 4
   pub somebody : 0 < player_count present
   pub recordable : All (IsRow present) rows
-  pub moves : All (All (λ step. IfSome step IsMove)) rows
+  pub moves : AllMoves IsMove rows

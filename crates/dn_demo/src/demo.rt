@@ -1,12 +1,14 @@
 //! A demo that was read.
 
-ghost use Rattle.std.specs.Prelude.{◌≡◌, ◌≢◌, length, slice_get, Result, Err, IfOk, IfErr};
+ghost use Rattle.std.specs.Prelude.{◌≡◌, ◌≢◌, ◌<◌, length, slice_get, Result, Err, IfOk, IfErr};
+ghost use Rattle.dn_demo.specs.Layout.{layout_of};
+ghost use Rattle.dn_demo.specs.Rows.{player_count};
 ghost use Rattle.dn_demo.specs.Places.{EndsBehind};
 ghost use Rattle.dn_demo.specs.Reading.{Recording, HasHeader, IsReadAs, IsSameButMemory};
 ghost use Rattle.dn_demo.specs.declared.demo.DemoFault.{DemoFault};
 ghost use Rattle.dn_demo.specs.declared.demo.DemoFault.TheVariants.{Memory};
 
-use crate::layout::{COMMAND, HEADER, VERSION};
+use crate::layout::{HEADER, Layout};
 use crate::reading;
 use dn_setup::Start;
 use dn_tic::Move;
@@ -29,30 +31,31 @@ pub enum DemoFault {
     Memory,
 }
 
-/// A demo that was read: the bytes before its marker, and the number of those after it.
+/// A demo that was read: the bytes before its marker, how they are laid out, and the number of those
+/// after it.
 #[derive(Debug, Drop)]
 pub struct Demo {
+    pub(crate) layout: Layout,
     pub(crate) bytes: Vec<u8>,
     after: usize,
 }
 
 impl Model for Demo {
-    ghost use Rattle.std.specs.Prelude.{◌<◌, ◌≤◌, length};
-    ghost use Rattle.dn_demo.specs.Rows.{player_count};
-    ghost use Rattle.dn_demo.specs.Text.{header_size};
-    ghost use Rattle.dn_demo.specs.Places.{seats_in, commands_in};
-    ghost use Rattle.dn_demo.specs.Reading.{Recording, recording};
+    ghost use Rattle.dn_demo.specs.Layout.{layout_of};
+    ghost use Rattle.dn_demo.specs.Places.{commands_in, HasNoMarker};
+    ghost use Rattle.dn_demo.specs.Reading.{Recording, recording, HasHeader};
 
     ghost Value = { Recording };
 
-    ghost view = { λ d. recording d.bytes.items (commands_in d.bytes.items) d.after };
+    ghost view = { λ d. recording (layout_of d.layout) d.bytes.items (commands_in (layout_of d.layout) d.bytes.items) d.after };
 
-    ghost invariant = { λ d. (header_size ≤ length d.bytes.items) × (0 < player_count (seats_in d.bytes.items)) };
+    ghost invariant = { λ d. HasHeader (layout_of d.layout) d.bytes.items
+        × HasNoMarker (layout_of d.layout) d.bytes.items (commands_in (layout_of d.layout) d.bytes.items) };
 }
 
-/// How many commands stand before the marker, or the first fault of the bytes.
-fn measure(bytes: &[u8]) -> Result<usize, DemoFault>
-    ensures found { IfOk result (λ commands. HasHeader bytes.now × EndsBehind bytes.now commands) }
+/// How the bytes are laid out and where the marker stands, or the first fault that they have.
+fn measure(bytes: &[u8]) -> Result<(Layout, usize), DemoFault>
+    ensures found { IfOk result (λ (layout, commands). HasHeader (layout_of layout) bytes.now × EndsBehind (layout_of layout) bytes.now commands) }
     ensures refused { IfErr result (λ fault. IsReadAs bytes.now (Err fault)) }
     ensures only { IfErr result (λ fault. (r : Result Recording DemoFault)
         → IsReadAs bytes.now r → IsSameButMemory (Err fault) r) }
@@ -61,13 +64,12 @@ fn measure(bytes: &[u8]) -> Result<usize, DemoFault>
     if bytes.len() < HEADER {
         return Err(DemoFault::Short);
     }
-    if bytes[0] != VERSION {
-        return Err(DemoFault::Version);
-    }
+    let layout = Layout::of(bytes[0]).ok_or(DemoFault::Version)?;
     if reading::players(reading::seats(bytes)) == 0 {
         return Err(DemoFault::NoPlayers);
     }
-    reading::commands_before_marker(bytes).ok_or(DemoFault::NoMarker)
+    let commands = reading::commands_before_marker(bytes, layout).ok_or(DemoFault::NoMarker)?;
+    Ok((layout, commands))
 }
 
 impl Demo {
@@ -76,13 +78,17 @@ impl Demo {
         ensures reads { IsReadAs bytes.now result }
         ensures only { (r : Result Recording DemoFault) → IsReadAs bytes.now r → IsSameButMemory result r }
     {
-        let commands = measure(bytes)?;
-        let front = HEADER + COMMAND * commands;
+        let (layout, commands) = measure(bytes)?;
+        let front = layout.place(commands);
         let after = bytes.len() - front - 1;
         let Ok(bytes) = Vec::from_slice(alloc, &bytes[..front]) else {
             return Err(DemoFault::Memory);
         };
-        Ok(Demo { bytes, after })
+        Ok(Demo {
+            layout,
+            bytes,
+            after,
+        })
     }
 
     /// Reads a demo like `read`, and keeps it in the room that its bytes have.
@@ -91,11 +97,22 @@ impl Demo {
         ensures only { (r : Result Recording DemoFault) → IsReadAs bytes.items r → IsSameButMemory result r }
         ensures no_memory { result ≢ Err Memory }
     {
-        let commands = measure(&bytes)?;
-        let front = HEADER + COMMAND * commands;
+        let (layout, commands) = measure(&bytes)?;
+        let front = layout.place(commands);
         let after = bytes.len() - front - 1;
         bytes.truncate(front);
-        Ok(Demo { bytes, after })
+        Ok(Demo {
+            layout,
+            bytes,
+            after,
+        })
+    }
+
+    /// The version of the game that recorded it: 109 for the 1997 release, 111 for whole turns.
+    pub fn version(&self) -> u8
+        ensures { result ≡ self.now.version }
+    {
+        self.bytes[0]
     }
 
     /// What the game starts from, as the header has it.
@@ -112,9 +129,10 @@ impl Demo {
         self.bytes[8]
     }
 
-    /// Which players are present.
+    /// Which players are present: at least one.
     pub fn present(&self) -> [bool; 4]
-        ensures { result ≡ self.now.present }
+        ensures value { result ≡ self.now.present }
+        ensures somebody { 0 < player_count result }
     {
         reading::seats(&self.bytes)
     }
@@ -124,7 +142,7 @@ impl Demo {
         ensures { result ≡ length self.now.rows }
     {
         let players = reading::players(self.present());
-        reading::commands(&self.bytes) / players
+        reading::commands(&self.bytes, self.layout) / players
     }
 
     /// The moves of a tic.
@@ -133,7 +151,12 @@ impl Demo {
     {
         if tic < self.tics() {
             let present = self.present();
-            Some(reading::row(&self.bytes, present, reading::players(present) * tic))
+            Some(reading::row(
+                &self.bytes,
+                self.layout,
+                present,
+                reading::players(present) * tic,
+            ))
         } else {
             None
         }
@@ -144,7 +167,7 @@ impl Demo {
         ensures { result ≡ self.now.cut }
     {
         let players = reading::players(self.present());
-        reading::commands(&self.bytes) % players
+        reading::commands(&self.bytes, self.layout) % players
     }
 
     /// How many bytes stand after the marker.

@@ -1,16 +1,42 @@
 //! What holds of all demos.
 
-ghost use Rattle.std.specs.Prelude.{ℕ, Bool, true, List, Option, Ok};
+ghost use Rattle.std.specs.Prelude.{◌≡◌, ◌<◌, ℕ, Bool, true, List, All, Option, Ok};
 ghost use Rattle.dn_tic.specs.declared.command.Move.{Move};
 ghost use Rattle.dn_setup.specs.declared.start.Start.{Start};
-ghost use Rattle.dn_demo.specs.Rows.{AreWritable};
+ghost use Rattle.dn_demo.specs.Layout.{vanilla, long_tics, spell, tell};
+ghost use Rattle.dn_demo.specs.Rows.{AreWritable, AllMoves, IsMove, IsWhole};
 ghost use Rattle.dn_demo.specs.Text.{demo_text};
-ghost use Rattle.dn_demo.specs.Reading.{IsReadAs};
+ghost use Rattle.dn_demo.specs.Reading.{Recording, IsReadAs, written_demo, state_after};
+ghost use Rattle.dn_demo.specs.Recorded.{Recorded};
+ghost use Rattle.dn_demo.specs.Upgraded.{IsUpgraded};
 
-/// The closed text of rows is read as these rows, with nothing cut and nothing after the marker.
+use dn_world::World;
+
+/// What a move is spelt as tells it: in the 1997 release's layout if its turn is a whole multiple of
+/// 256, and always in that of version 111.
+pub fn spelt_moves_are_told()
+    ensures vanilla { (m : Move) → IsMove m → IsWhole m → tell vanilla (spell vanilla m) ≡ m }
+    ensures long_tics { (m : Move) → IsMove m → tell long_tics (spell long_tics m) ≡ m }
+{}
+
+/// The closed text of rows is read as these rows, with nothing cut and nothing after the marker; in the
+/// 1997 release's layout if their turns are whole multiples of 256.
 pub fn written_rows_are_read()
-    ensures { (start : Start) (view : ℕ) (present : List Bool) (rows : List (List (Option Move)))
+    ensures vanilla { (start : Start) (view : ℕ) (present : List Bool) (rows : List (List (Option Move)))
+        → AreWritable present rows → AllMoves IsWhole rows
+        → IsReadAs (demo_text vanilla start view present rows true) (Ok (written_demo vanilla start view present rows)) }
+    ensures long_tics { (start : Start) (view : ℕ) (present : List Bool) (rows : List (List (Option Move)))
         → AreWritable present rows
-        → IsReadAs (demo_text start view present rows true)
-        (Ok (record { start = start; view = view; present = present; rows = rows; cut = 0; after = 0 })) }
+        → IsReadAs (demo_text long_tics start view present rows true) (Ok (written_demo long_tics start view present rows)) }
+{}
+
+/// A demo that was read, of either version, and was upgraded is read as a demo of the version that is
+/// recorded, with the same start, view, players and rows: so it leads any world to the same state.
+pub fn upgraded_demos_play_the_same<W: World>()
+    ensures read { (bytes : List ℕ) (demo : Recording) (limit : ℕ) (recorder : Recorded) → All (λ byte. byte < 256) bytes
+        → IsReadAs bytes (Ok demo) → IsUpgraded demo limit (Ok recorder)
+        → IsReadAs recorder.bytes (Ok (written_demo long_tics demo.start demo.view demo.present demo.rows)) }
+    ensures played { (bytes : List ℕ) (demo upgraded : Recording) (limit : ℕ) (recorder : Recorded) → All (λ byte. byte < 256) bytes
+        → IsReadAs bytes (Ok demo) → IsUpgraded demo limit (Ok recorder) → IsReadAs recorder.bytes (Ok upgraded)
+        → state_after W.physics upgraded ≡ state_after W.physics demo }
 {}

@@ -4,15 +4,19 @@
 mod demo;
 mod laws;
 mod layout;
+mod limits;
 mod playing;
 mod reading;
 mod recorder;
+mod upgrading;
 mod writing;
 
 pub use demo::{Demo, DemoFault};
-pub use laws::written_rows_are_read;
+pub use laws::{spelt_moves_are_told, upgraded_demos_play_the_same, written_rows_are_read};
+pub use limits::{capacity, is_limit};
 pub use playing::play;
 pub use recorder::{Recorder, RecorderFault};
+pub use upgrading::{UpgradeFault, upgrade};
 
 #[cfg(test)]
 mod tests;

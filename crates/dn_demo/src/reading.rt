@@ -1,11 +1,12 @@
 //! Where things stand in the bytes of a demo.
 
-ghost use Rattle.std.specs.Prelude.{◌≡◌, ◌≢◌, ◌<◌, ◌≤◌, ℕ, ◌+◌, Bool, List, length, slice_get, Some, [], ◌∷◌, IfSome, IfNone};
+ghost use Rattle.std.specs.Prelude.{◌≡◌, ◌≢◌, ◌≤◌, ℕ, ◌+◌, Bool, List, length, slice_get, Some, [], ◌∷◌, IfSome, IfNone};
+ghost use Rattle.dn_demo.specs.Layout.{layout_of};
 ghost use Rattle.dn_demo.specs.Rows.{player_count};
 ghost use Rattle.dn_demo.specs.Text.{marker, header_size};
 ghost use Rattle.dn_demo.specs.Places.{start_in, seats_in, place, commands_in, move_at, moves_from, EndsBehind};
 
-use crate::layout::{COMMAND, HEADER, MARKER};
+use crate::layout::{HEADER, Layout, MARKER};
 use dn_setup::Start;
 use dn_tic::Move;
 
@@ -48,72 +49,69 @@ pub(crate) fn players(present: [bool; 4]) -> usize
 }
 
 /// How many whole commands the bytes have.
-pub(crate) fn commands(bytes: &[u8]) -> usize
+pub(crate) fn commands(bytes: &[u8], layout: Layout) -> usize
     requires { header_size ≤ length bytes.now }
-    ensures { result ≡ commands_in bytes.now }
+    ensures { result ≡ commands_in (layout_of layout) bytes.now }
 {
-    (bytes.len() - HEADER) / COMMAND
+    (bytes.len() - HEADER) / layout.size()
 }
 
 /// How many commands stand before the marker.
-pub(crate) fn commands_before_marker(bytes: &[u8]) -> Option<usize>
+pub(crate) fn commands_before_marker(bytes: &[u8], layout: Layout) -> Option<usize>
     requires { header_size ≤ length bytes.now }
-    ensures found { IfSome result (EndsBehind bytes.now) }
-    ensures none { IfNone result ((command : ℕ) → slice_get bytes.now (place command) ≢ Some marker) }
+    ensures found { IfSome result (EndsBehind (layout_of layout) bytes.now) }
+    ensures none { IfNone result ((command : ℕ) → slice_get bytes.now (place (layout_of layout) command) ≢ Some marker) }
 {
+    let size = layout.size();
     let mut rest = &bytes[HEADER..];
     let mut commands = 0;
-    while let Some((command, after)) = rest.split_first_chunk::<COMMAND>() {
-        if command[0] == MARKER {
+    while !rest.is_empty() {
+        if rest[0] == MARKER {
             return Some(commands);
         }
-        rest = after;
+        rest = &rest[size.min(rest.len())..];
         commands += 1;
     }
-    if !rest.is_empty() && rest[0] == MARKER {
-        Some(commands)
-    } else {
-        None
-    }
+    None
 }
 
 /// The move that a command tells.
-fn told(bytes: &[u8], command: usize) -> Move
-    requires { place (command + 1) ≤ length bytes.now }
-    ensures { result ≡ move_at bytes.now command }
+fn told(bytes: &[u8], layout: Layout, command: usize) -> Move
+    requires { place (layout_of layout) (command + 1) ≤ length bytes.now }
+    ensures { result ≡ move_at (layout_of layout) bytes.now command }
 {
-    let place = HEADER + COMMAND * command;
-    Move {
-        forward: bytes[place].cast_signed(),
-        side: bytes[place + 1].cast_signed(),
-        turn: (u16::from(bytes[place + 2]) * 256).cast_signed(),
-        buttons: bytes[place + 3],
-    }
+    let place = layout.place(command);
+    layout.tell(&bytes[place..place + layout.size()])
 }
 
 /// The move of a player, and the number of the command that follows.
-fn seated(bytes: &[u8], present: bool, command: usize) -> (Option<Move>, usize)
-    requires { place (command + player_count (present ∷ [])) ≤ length bytes.now }
-    ensures step { (others : List Bool)
-        → moves_from bytes.now (present ∷ others) command ≡ result.0 ∷ moves_from bytes.now others result.1 }
+fn seated(bytes: &[u8], layout: Layout, present: bool, command: usize) -> (Option<Move>, usize)
+    requires { place (layout_of layout) (command + player_count (present ∷ [])) ≤ length bytes.now }
+    ensures step { (others : List Bool) → moves_from (layout_of layout) bytes.now (present ∷ others) command
+        ≡ result.0 ∷ moves_from (layout_of layout) bytes.now others result.1 }
     ensures next { result.1 ≡ command + player_count (present ∷ []) }
 {
     if present {
-        (Some(told(bytes, command)), command + 1)
+        (Some(told(bytes, layout, command)), command + 1)
     } else {
         (None, command)
     }
 }
 
 /// The moves of the players who are present, the first by this command.
-pub(crate) fn row(bytes: &[u8], present: [bool; 4], command: usize) -> [Option<Move>; 4]
-    requires { place (command + player_count present) ≤ length bytes.now }
-    ensures { result ≡ moves_from bytes.now present command }
+pub(crate) fn row(
+    bytes: &[u8],
+    layout: Layout,
+    present: [bool; 4],
+    command: usize,
+) -> [Option<Move>; 4]
+    requires { place (layout_of layout) (command + player_count present) ≤ length bytes.now }
+    ensures { result ≡ moves_from (layout_of layout) bytes.now present command }
 {
     let [a, b, c, d] = present;
-    let (a, command) = seated(bytes, a, command);
-    let (b, command) = seated(bytes, b, command);
-    let (c, command) = seated(bytes, c, command);
-    let (d, _) = seated(bytes, d, command);
+    let (a, command) = seated(bytes, layout, a, command);
+    let (b, command) = seated(bytes, layout, b, command);
+    let (c, command) = seated(bytes, layout, c, command);
+    let (d, _) = seated(bytes, layout, d, command);
     [a, b, c, d]
 }

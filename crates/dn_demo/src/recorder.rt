@@ -2,10 +2,12 @@
 
 ghost use Rattle.std.specs.Prelude.{◌≡◌, ◌<◌, ◌≤◌, ◌+◌, ◌*◌, true, false, [], ◌∷◌, ◌++◌, length, nat_le};
 ghost use Rattle.dn_demo.specs.Rows.{IsRow, player_count};
-ghost use Rattle.dn_demo.specs.Text.{move_bytes, row_bytes, demo_text, command_size, marker};
+ghost use Rattle.dn_demo.specs.Layout.{long_tics, command_size};
+ghost use Rattle.dn_demo.specs.Text.{move_bytes, row_bytes, demo_text, marker};
 ghost use Rattle.dn_demo.specs.declared.recorder.Stage.TheVariants.{Blank, Open, Closed};
 
 use crate::layout::MARKER;
+use crate::limits::is_limit;
 use crate::writing::{command_bytes, header_bytes, row_size};
 use dn_setup::Start;
 use dn_tic::Move;
@@ -67,7 +69,7 @@ impl Recorder {
     pub fn new(alloc: Global, limit: u32) -> Result<Recorder, RecorderFault>
         ensures { IsMadeAs limit result }
     {
-        if !(1024..=16_777_216).contains(&limit) {
+        if !is_limit(limit) {
             return Err(RecorderFault::Limit);
         }
         let Ok(bytes) = Vec::with_capacity(alloc, limit as usize) else {
@@ -86,7 +88,7 @@ impl Recorder {
         requires blank { self.old.stage ≡ Blank }
         requires somebody { 0 < player_count present }
         ensures written { self.new
-            ≡ record { limit = self.old.limit; stage = Open; bytes = demo_text start.now view present [] false } }
+            ≡ record { limit = self.old.limit; stage = Open; bytes = demo_text long_tics start.now view present [] false } }
         ensures seats { seats_in self.new.bytes ≡ present }
     {
         self.stage = Stage::Open;
@@ -98,8 +100,8 @@ impl Recorder {
     /// Writes the move of a player who is present.
     fn add(&mut self, step: Option<Move>)
         requires open { self.old.stage ≡ Open }
-        requires room { length self.old.bytes + length (move_bytes step) + 1 ≤ self.old.limit }
-        ensures { self.new ≡ record self.old { bytes = self.old.bytes ++ move_bytes step } }
+        requires room { length self.old.bytes + length (move_bytes long_tics step) + 1 ≤ self.old.limit }
+        ensures { self.new ≡ record self.old { bytes = self.old.bytes ++ move_bytes long_tics step } }
     {
         if let Some(step) = step {
             self.bytes.extend_from_slice(&command_bytes(step)).unwrap();
@@ -109,8 +111,8 @@ impl Recorder {
     /// Writes the moves of a tic.
     fn add_all(&mut self, moves: &[Option<Move>; 4])
         requires open { self.old.stage ≡ Open }
-        requires room { length self.old.bytes + length (row_bytes moves.now) + 1 ≤ self.old.limit }
-        ensures { self.new ≡ record self.old { bytes = self.old.bytes ++ row_bytes moves.now } }
+        requires room { length self.old.bytes + length (row_bytes long_tics moves.now) + 1 ≤ self.old.limit }
+        ensures { self.new ≡ record self.old { bytes = self.old.bytes ++ row_bytes long_tics moves.now } }
     {
         let [a, b, c, d] = *moves;
         self.add(a);
@@ -123,9 +125,9 @@ impl Recorder {
     pub fn row(&mut self, moves: &[Option<Move>; 4]) -> bool
         requires open { self.old.stage ≡ Open }
         requires row { IsRow (seats_in self.old.bytes) moves.now }
-        ensures fits { result ≡ nat_le (length self.old.bytes + length (row_bytes moves.now) + 1) self.old.limit }
-        ensures size { length (row_bytes moves.now) ≡ command_size * player_count (seats_in self.old.bytes) }
-        ensures written { result ≡ true → self.new ≡ record self.old { bytes = self.old.bytes ++ row_bytes moves.now } }
+        ensures fits { result ≡ nat_le (length self.old.bytes + length (row_bytes long_tics moves.now) + 1) self.old.limit }
+        ensures size { length (row_bytes long_tics moves.now) ≡ command_size long_tics * player_count (seats_in self.old.bytes) }
+        ensures written { result ≡ true → self.new ≡ record self.old { bytes = self.old.bytes ++ row_bytes long_tics moves.now } }
         ensures text { result ≡ true → AddsRow self.old.bytes self.new.bytes moves.now }
         ensures seats { seats_in self.new.bytes ≡ seats_in self.old.bytes }
         ensures kept { result ≡ false → self.new ≡ self.old }

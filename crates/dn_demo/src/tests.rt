@@ -1,17 +1,24 @@
-//! Tests of recorders, read demos and their playing.
+//! Tests of recorders, of demos that are read, played and upgraded.
 
 ghost use Rattle.std.specs.Prelude.{◌≡◌, Some};
 
 mod reading;
 mod recording;
+mod upgrading;
 
 use dn_setup::Start;
 use dn_tic::Move;
 
-/// Two tics of players 0 and 1, closed.
+/// Two tics of players 0 and 1, closed, as the 1997 release records them.
 const PLAYED: [u8; 30] = [
     0x6D, 3, 1, 7, 1, 0, 0, 1, 1, 1, 1, 0, 0, 0x32, 0, 0, 0, 0, 0, 1, 0, 0xCE, 0, 0, 1, 0x19, 0x18,
     0x40, 0, 0x80,
+];
+
+/// The same tics, as they are recorded here.
+const RECORDED: [u8; 34] = [
+    0x6F, 3, 1, 7, 1, 0, 0, 1, 1, 1, 1, 0, 0, 0x32, 0, 0, 0, 0, 0, 0, 0, 1, 0, 0xCE, 0, 0, 0, 1,
+    0x19, 0x18, 0, 0x40, 0, 0x80,
 ];
 
 const START: Start = Start {

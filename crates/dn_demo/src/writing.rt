@@ -1,15 +1,16 @@
 //! The bytes of a header and of a row.
 
-ghost use Rattle.std.specs.Prelude.{◌≡◌, ◌≤◌, length, Some};
-ghost use Rattle.dn_demo.specs.Text.{header, move_bytes, row_bytes, command_size};
+ghost use Rattle.std.specs.Prelude.{◌≡◌, ◌≤◌, length};
+ghost use Rattle.dn_demo.specs.Layout.{long_tics, spell};
+ghost use Rattle.dn_demo.specs.Text.{header, move_bytes, row_bytes};
 
-use crate::layout::VERSION;
-use dn_setup::Start;
+use crate::layout::COMMAND;
+use dn_setup::{Start, VERSION};
 use dn_tic::Move;
 
 /// The bytes that a demo begins with.
 pub(crate) fn header_bytes(start: &Start, view: u8, present: [bool; 4]) -> [u8; 13]
-    ensures { result ≡ header start.now view present }
+    ensures { result ≡ header long_tics start.now view present }
 {
     let [a, b, c, d] = present;
     [
@@ -30,32 +31,34 @@ pub(crate) fn header_bytes(start: &Start, view: u8, present: [bool; 4]) -> [u8; 
 }
 
 /// The bytes of a move.
-pub(crate) fn command_bytes(step: Move) -> [u8; 4]
-    ensures { result ≡ move_bytes (Some step) }
+pub(crate) fn command_bytes(step: Move) -> [u8; 5]
+    ensures { result ≡ spell long_tics step }
 {
+    let [low, high] = step.turn.cast_unsigned().to_le_bytes();
     [
         step.forward.cast_unsigned(),
         step.side.cast_unsigned(),
-        (step.turn.cast_unsigned() / 256) as u8,
+        low,
+        high,
         step.buttons,
     ]
 }
 
 /// How many bytes a move has.
 fn size(step: Option<Move>) -> usize
-    ensures value { result ≡ length (move_bytes step) }
-    ensures most { result ≤ command_size }
+    ensures value { result ≡ length (move_bytes long_tics step) }
+    ensures most { result ≤ 5 }
 {
     match step {
-        Some(_) => 4,
+        Some(_) => COMMAND,
         None => 0,
     }
 }
 
 /// How many bytes the commands of a tic have.
 pub(crate) fn row_size(moves: &[Option<Move>; 4]) -> usize
-    ensures value { result ≡ length (row_bytes moves.now) }
-    ensures most { result ≤ 16 }
+    ensures value { result ≡ length (row_bytes long_tics moves.now) }
+    ensures most { result ≤ 20 }
 {
     let [a, b, c, d] = *moves;
     size(a) + size(b) + size(c) + size(d)

@@ -1,6 +1,6 @@
 //! Tests of read demos and their playing.
 
-use super::{PLAYED, START, moved};
+use super::{PLAYED, RECORDED, START, moved};
 use crate::{Demo, DemoFault, play};
 use dn_setup::Start;
 use dn_world::{Walk, World};
@@ -23,6 +23,7 @@ fn demos_are_read_and_played(rt: HostRuntime) -> Result<(), Fail> {
     let begun = [(0, 0, 0, 0), (4_194_304, 0, 0, 0)];
     for (bytes, tics, cut, after, places) in [
         (PLAYED.as_slice(), 2, 0, 0, PLACES),
+        (RECORDED.as_slice(), 2, 0, 0, PLACES),
         (more.as_slice(), 2, 0, 3, PLACES),
         (cut.as_slice(), 2, 1, 0, PLACES),
         (none.as_slice(), 0, 0, 0, begun),
@@ -49,23 +50,22 @@ fn demos_are_read_and_played(rt: HostRuntime) -> Result<(), Fail> {
 
 #[test]
 fn headers_and_rows_are_told(rt: HostRuntime) -> Result<(), Fail> {
-    let demo = Demo::read(rt.alloc(), &PLAYED)?;
-    assert_eq!(rt; demo.start(), START);
-    assert_eq!(rt; demo.view(), 1);
-    assert_eq!(rt; demo.present(), [true, true, false, false]);
-    for (tic, row) in [
-        (
-            0,
-            Some([moved(50, 0, 0, 0), moved(0, 0, 256, 0), None, None]),
-        ),
-        (
-            1,
-            Some([moved(-50, 0, 0, 1), moved(25, 24, 16_384, 0), None, None]),
-        ),
-        (2, None),
-        (usize::MAX, None),
-    ] {
-        assert_eq!(rt; demo.row(tic), row, "tic {tic}");
+    let first = [moved(50, 0, 0, 0), moved(0, 0, 256, 0), None, None];
+    let second = [moved(-50, 0, 0, 1), moved(25, 24, 16_384, 0), None, None];
+    for (bytes, version) in [(PLAYED.as_slice(), 109), (RECORDED.as_slice(), 111)] {
+        let demo = Demo::read(rt.alloc(), bytes)?;
+        assert_eq!(rt; demo.version(), version);
+        assert_eq!(rt; demo.start(), START);
+        assert_eq!(rt; demo.view(), 1);
+        assert_eq!(rt; demo.present(), [true, true, false, false]);
+        for (tic, row) in [
+            (0, Some(first)),
+            (1, Some(second)),
+            (2, None),
+            (usize::MAX, None),
+        ] {
+            assert_eq!(rt; demo.row(tic), row, "tic {tic} of {version}");
+        }
     }
     Ok(())
 }
@@ -102,20 +102,24 @@ fn odd_bytes_are_kept(rt: HostRuntime) -> Result<(), Fail> {
 
 #[test]
 fn only_a_first_byte_ends_a_demo(rt: HostRuntime) -> Result<(), Fail> {
-    // One player: the place of the marker, how many bytes there are, and what is read.
-    for (place, len, tics, after) in [
-        (14, 18, 1, 0),
-        (15, 18, 1, 0),
-        (16, 18, 1, 0),
-        (14, 24, 1, 6),
-        (13, 18, 0, 4),
-        (13, 15, 0, 1),
+    // One player: the version, the place of a second marker, how many bytes there are, and what is read.
+    for (version, place, len, tics, after) in [
+        (109, 14, 18, 1, 0),
+        (109, 15, 18, 1, 0),
+        (109, 16, 18, 1, 0),
+        (109, 14, 24, 1, 6),
+        (109, 13, 18, 0, 4),
+        (109, 13, 15, 0, 1),
+        (111, 14, 19, 1, 0),
+        (111, 17, 19, 1, 0),
+        (111, 13, 19, 0, 5),
+        (111, 23, 24, 1, 5),
     ] {
         let mut bytes = [0; 24];
-        bytes[0] = 109;
+        bytes[0] = version;
         bytes[9] = 1;
         bytes[place] = 0x80;
-        bytes[17] = 0x80;
+        bytes[if version == 109 { 17 } else { 18 }] = 0x80;
         let demo = Demo::read(rt.alloc(), &bytes[..len])?;
         assert_eq!(rt; demo.tics(), tics, "at {place}");
         assert_eq!(rt; demo.cut(), 0);
@@ -159,7 +163,9 @@ fn bytes_are_refused_in_order(rt: HostRuntime) -> Result<(), Fail> {
     let mut other = PLAYED;
     other[0] = 110;
     let mut later = PLAYED;
-    later[0] = 111;
+    later[0] = 112;
+    let mut earlier = PLAYED;
+    earlier[0] = 108;
     let mut nobody = PLAYED;
     nobody[9] = 0;
     nobody[10] = 0;
@@ -173,10 +179,13 @@ fn bytes_are_refused_in_order(rt: HostRuntime) -> Result<(), Fail> {
         (neither.as_slice(), DemoFault::Version),
         (other.as_slice(), DemoFault::Version),
         (later.as_slice(), DemoFault::Version),
+        (earlier.as_slice(), DemoFault::Version),
         (&nobody[..13], DemoFault::NoPlayers),
         (nobody.as_slice(), DemoFault::NoPlayers),
         (&PLAYED[..13], DemoFault::NoMarker),
         (&PLAYED[..29], DemoFault::NoMarker),
+        (&RECORDED[..12], DemoFault::Short),
+        (&RECORDED[..33], DemoFault::NoMarker),
     ] {
         let read = Demo::read(rt.alloc(), bytes);
         assert_eq!(rt; read.err(), Some(fault), "{bytes:?}");
@@ -188,13 +197,15 @@ fn bytes_are_refused_in_order(rt: HostRuntime) -> Result<(), Fail> {
 
 #[test]
 fn fronts_of_a_demo_are_none(rt: HostRuntime) {
-    for len in 0..30 {
-        let fault = if len < 13 {
-            DemoFault::Short
-        } else {
-            DemoFault::NoMarker
-        };
-        let read = Demo::read(rt.alloc(), &PLAYED[..len]);
-        assert_eq!(rt; read.err(), Some(fault), "{len} bytes");
+    for demo in [PLAYED.as_slice(), RECORDED.as_slice()] {
+        for len in 0..demo.len() {
+            let fault = if len < 13 {
+                DemoFault::Short
+            } else {
+                DemoFault::NoMarker
+            };
+            let read = Demo::read(rt.alloc(), &demo[..len]);
+            assert_eq!(rt; read.err(), Some(fault), "{len} bytes");
+        }
     }
 }

@@ -3,8 +3,8 @@
 ghost use Rattle.std.specs.Prelude.{◌≡◌};
 ghost use Rattle.dn_demo.specs.declared.recorder.Stage.TheVariants.{Blank, Open};
 
-use super::{PLAYED, START, moved};
-use crate::{Demo, DemoFault, Recorder, RecorderFault};
+use super::{RECORDED, START, moved};
+use crate::{Demo, DemoFault, Recorder, RecorderFault, UpgradeFault, capacity, is_limit, upgrade};
 use std::test::Fail;
 
 #[test]
@@ -19,6 +19,7 @@ fn limits_are_checked(rt: HostRuntime) {
     ] {
         let made = Recorder::new(rt.alloc(), limit);
         assert_eq!(rt; made.err(), fault, "limit {limit}");
+        assert_eq!(rt; is_limit(limit), fault.is_none(), "limit {limit}");
     }
 }
 
@@ -27,14 +28,14 @@ fn rows_are_written_and_read_back(rt: HostRuntime) -> Result<(), Fail> {
     let mut recorder = Recorder::new(rt.alloc(), 1_024)?;
     assert!(rt; recorder.bytes().is_empty());
     recorder.head(&START, 1, [true, true, false, false]);
-    assert_eq!(rt; recorder.bytes(), &PLAYED[..13]);
+    assert_eq!(rt; recorder.bytes(), &RECORDED[..13]);
     let first = [moved(50, 0, 0, 0), moved(0, 0, 256, 0), None, None];
     assert!(rt; recorder.row(&first));
-    assert_eq!(rt; recorder.bytes(), &PLAYED[..21]);
+    assert_eq!(rt; recorder.bytes(), &RECORDED[..23]);
     let second = [moved(-50, 0, 0, 1), moved(25, 24, 16_384, 0), None, None];
     assert!(rt; recorder.row(&second));
     recorder.close();
-    assert_eq!(rt; recorder.bytes(), PLAYED.as_slice());
+    assert_eq!(rt; recorder.bytes(), RECORDED.as_slice());
     let demo = Demo::read(rt.alloc(), recorder.bytes())?;
     assert_eq!(rt; demo.row(0), Some(first));
     assert_eq!(rt; demo.row(1), Some(second));
@@ -48,14 +49,15 @@ fn absent_players_are_not_written(rt: HostRuntime) -> Result<(), Fail> {
     recorder.head(&START, 3, [false, true, false, true]);
     let row = [
         None,
-        moved(1, -2, -256, 255),
+        moved(1, -2, -257, 255),
         None,
         moved(127, -127, -32_768, 0),
     ];
     assert!(rt; recorder.row(&row));
     recorder.close();
     let bytes = [
-        0x6D, 3, 1, 7, 1, 0, 0, 1, 3, 0, 1, 0, 1, 1, 0xFE, 0xFF, 0xFF, 0x7F, 0x81, 0x80, 0, 0x80,
+        0x6F, 3, 1, 7, 1, 0, 0, 1, 3, 0, 1, 0, 1, 1, 0xFE, 0xFF, 0xFE, 0xFF, 0x7F, 0x81, 0, 0x80,
+        0, 0x80,
     ];
     assert_eq!(rt; recorder.bytes(), bytes.as_slice());
     let demo = Demo::read(rt.alloc(), recorder.bytes())?;
@@ -80,9 +82,10 @@ fn fill(recorder: &mut Recorder) -> usize
 
 #[test]
 fn a_full_demo_takes_no_row(rt: HostRuntime) -> Result<(), Fail> {
-    for (limit, rows, len) in [(1_030, 127, 1_030), (1_029, 126, 1_022)] {
+    for (limit, rows, len) in [(1_034, 102, 1_034), (1_033, 101, 1_024)] {
         let mut recorder = Recorder::new(rt.alloc(), limit)?;
         assert_eq!(rt; fill(&mut recorder), rows, "limit {limit}");
+        assert_eq!(rt; capacity(limit, 2) as usize, rows, "limit {limit}");
         recorder.close();
         assert_eq!(rt; recorder.bytes().len(), len, "limit {limit}");
     }
@@ -96,8 +99,14 @@ fn want_of_memory_is_told(rt: HostRuntime) {
         Ok(recorder) => assert!(rt; recorder.bytes().is_empty()),
         Err(fault) => assert_eq!(rt; fault, RecorderFault::Memory),
     }
-    match Demo::read(rt.alloc(), &PLAYED) {
-        Ok(demo) => assert_eq!(rt; demo.tics(), 2),
+    match Demo::read(rt.alloc(), &RECORDED) {
+        Ok(demo) => {
+            assert_eq!(rt; demo.tics(), 2);
+            match upgrade(rt.alloc(), &demo, 1_024) {
+                Ok(recorder) => assert_eq!(rt; recorder.bytes(), RECORDED.as_slice()),
+                Err(fault) => assert_eq!(rt; fault, UpgradeFault::Memory),
+            }
+        }
         Err(fault) => assert_eq!(rt; fault, DemoFault::Memory),
     }
 }

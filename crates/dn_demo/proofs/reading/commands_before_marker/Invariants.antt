@@ -1,15 +1,14 @@
-use Rattle.std.proofs.Common.{◌≡◌, ◌≢◌, ◌<◌, ◌≤◌, ℕ, length, drop, slice_get, Some}
-use Rattle.dn_demo.specs.Text.{marker}
-use Rattle.dn_demo.specs.Places.{place}
+use Rattle.std.proofs.Common.{◌≡◌, length, drop}
+use Rattle.dn_demo.specs.Layout.{layout_of}
+use Rattle.dn_demo.specs.Places.{place, HasNoMarker}
 use Rattle.dn_demo.proofs.reading.commands_before_marker.Given as goal
 
-abbrev pub invariant-loop-command : goal.invariant-loop-command
-invariant-loop-command l =
+abbrev pub invariant-loop-rest : goal.invariant-loop-rest
+invariant-loop-rest l =
     record {
-      rest : l.rest ≡ drop (place l.commands) l.bytes;
-      within : place l.commands ≤ length l.bytes;
-      none : (command : ℕ) → command < l.commands → slice_get l.bytes (place command) ≢ Some marker;
+      rest : l.rest ≡ drop (place (layout_of l.fn.layout) l.commands) l.fn.bytes;
+      none : HasNoMarker (layout_of l.fn.layout) l.fn.bytes l.commands;
     }
 
-abbrev pub decreases-loop-command : goal.decreases-loop-command
-decreases-loop-command l = length l.rest
+abbrev pub decreases-loop-rest : goal.decreases-loop-rest
+decreases-loop-rest l = length l.rest

@@ -1,4 +1,5 @@
-use Rattle.std.proofs.Common.{arith, rules}
+use Rattle.std.proofs.Common.{take, ap, ◌∙◌, arith, rules}
+use Rattle.dn_demo.specs.Layout.{layout_of}
 use Rattle.dn_demo.specs.Places.{EndsBehind}
 use Rattle.dn_demo.specs.Reading.{HasHeader}
 use Rattle.dn_demo.proofs.OneReading.{one_reading, read_of_front}
@@ -6,8 +7,8 @@ use Rattle.dn_demo.proofs.demo.Demo.read.Goals as goal
 
 pub returns-clause-reads : goal.returns-clause-reads
 returns-clause-reads c =
-    let found : HasHeader c.args.bytes.now × EndsBehind c.args.bytes.now c.in_ok-commands.commands = search rules in
-    read_of_front _ _ _ _ found.0 found.1 c.in-Ok.ensures.items (omega arith)
+    let found : HasHeader (layout_of c.in_ok-layout.layout) c.args.bytes.now × EndsBehind (layout_of c.in_ok-layout.layout) c.args.bytes.now c.in_ok-layout.commands = search rules in
+    read_of_front (layout_of c.in_ok-layout.layout) _ _ _ _ found.0 found.1 (c.in-Ok.ensures.items ∙ ap (λ n. take n c.args.bytes.now) c.place-front.ensures) (omega arith)
 
 pub returns-clause-only : goal.returns-clause-only
 returns-clause-only c = one_reading _ _ (returns-clause-reads c)

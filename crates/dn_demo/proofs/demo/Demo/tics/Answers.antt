@@ -1,4 +1,5 @@
 use Rattle.std.proofs.Common.{◌≡◌, ◌/◌, ◌∙◌, sym, ap, rules}
+use Rattle.dn_demo.specs.Layout.{layout_of}
 use Rattle.dn_demo.specs.Rows.{player_count}
 use Rattle.dn_demo.specs.Places.{commands_in, seats_in}
 use Rattle.dn_demo.specs.Reading.{Recording}
@@ -7,7 +8,8 @@ use Rattle.dn_demo.proofs.demo.Demo.tics.Goals as goal
 
 pub returns : goal.returns
 returns c =
-    let commands : c.commands.result ≡ commands_in c.self.inside.bytes.items = search rules in
-    let seats : c.present.result ≡ seats_in c.self.inside.bytes.items = c.present.ensures ∙ sym (ap (λ (d : Recording). d.present) c.self.view_is) in
+    let demo = c.self.inside in
+    let commands : c.commands.result ≡ commands_in (layout_of demo.layout) demo.bytes.items = search rules in
+    let seats : c.present.result ≡ seats_in demo.bytes.items = c.present.ensures.value ∙ sym (ap (λ (d : Recording). d.present) c.self.view_is) in
     let players = c.players-players.ensures.value ∙ ap player_count seats in
-    (λ i. commands i / players i) ∙ sym (length-rows _ _ _ c.self.view_is)
+    (λ i. commands i / players i) ∙ sym (length-rows (layout_of demo.layout) _ _ _ c.self.view_is)

@@ -1,12 +1,14 @@
 use Rattle.std.proofs.Common.{rules}
+use Rattle.dn_demo.specs.Layout.{long_tics}
+use Rattle.dn_demo.proofs.Layouts.{long_tics_sound}
 use Rattle.dn_demo.proofs.Text.{text-row, length-row_bytes}
 use Rattle.dn_demo.proofs.recorder.Recorder.row.Goals as goal
 
 pub returns-then-len-row_size-clause-size : goal.returns-then-len-row_size-clause-size
-returns-then-len-row_size-clause-size c = length-row_bytes _ _ c.requires.row.seats
+returns-then-len-row_size-clause-size c = length-row_bytes long_tics _ _ long_tics_sound c.requires.row.seats
 
 pub returns-clause-size : goal.returns-clause-size
-returns-clause-size c = length-row_bytes _ _ c.requires.row.seats
+returns-clause-size c = length-row_bytes long_tics _ _ long_tics_sound c.requires.row.seats
 
 pub returns-clause-text : goal.returns-clause-text
 returns-clause-text c = λ done. text-row _ _ _ (search rules)

@@ -1,0 +1,49 @@
+//! A demo that was read, recorded anew.
+
+ghost use Rattle.dn_demo.specs.Upgraded.{IsUpgraded};
+
+use crate::demo::Demo;
+use crate::limits::{capacity, is_limit};
+use crate::reading;
+use crate::recorder::Recorder;
+use std::alloc::Global;
+use thiserror::Error;
+
+/// Why a demo is not upgraded: the first of these that is so.
+#[derive(Clone, Copy, Debug, PartialEq, Eq, Error)]
+pub enum UpgradeFault {
+    /// The limit is out of range.
+    #[error("limit")]
+    Limit,
+    /// The demo does not fit into the limit.
+    #[error("full")]
+    Full,
+    #[error("out of memory")]
+    Memory,
+}
+
+/// Records a demo anew, in the version that is recorded. What was cut and what follows the marker is left out.
+pub fn upgrade(alloc: Global, demo: &Demo, limit: u32) -> Result<Recorder, UpgradeFault>
+    ensures { IsUpgraded demo.now limit result }
+{
+    if !is_limit(limit) {
+        return Err(UpgradeFault::Limit);
+    }
+    let present = demo.present();
+    let players = reading::players(present);
+    let tics = demo.tics();
+    if tics > capacity(limit, players as u8) as usize {
+        return Err(UpgradeFault::Full);
+    }
+    let Ok(mut recorder) = Recorder::new(alloc, limit) else {
+        return Err(UpgradeFault::Memory);
+    };
+    recorder.head(&demo.start(), demo.view(), present);
+    let bytes = demo.bytes.as_slice();
+    for tic in 0..tics {
+        // this fits, since all tics do
+        recorder.row(&reading::row(bytes, demo.layout, present, players * tic));
+    }
+    recorder.close();
+    Ok(recorder)
+}
