@@ -14,9 +14,9 @@ nobody (Some p) e = absurd (cc)
 -- where one test is passed by somebody, so is one that fails nobody who passes it
 found_too : (bound : ℕ) (f g : ℕ → Bool) → ((p : ℕ) → p < bound → g p ≡ false → f p ≡ false) → is_some (lowest bound f) ≡ true → is_some (lowest bound g) ≡ true
 found_too bound f g less e = elim (cases_Bool (is_some (lowest bound g))) [
-  | inl yes ↦ yes
-  | inr no ↦
-      let none = lowest_none bound f (λ p l. less p l (lowest_none_each bound g (nobody (lowest bound g) no) p l)) in
+  | inl here ↦ here
+  | inr none_here ↦
+      let none = lowest_none bound f (λ p l. less p l (lowest_none_each bound g (nobody (lowest bound g) none_here) p l)) in
       absurd (true≢false (sym e ∙ ap is_some none))
 ]
 

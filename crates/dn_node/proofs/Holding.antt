@@ -18,7 +18,6 @@ shows_ring state rules me n m player commands rings r new others =
       players = r.players;
       number = r.number;
       extra = r.extra;
-      limit = r.limit;
       capacity = r.capacity;
       gathers = r.gathers;
       phase = r.phase;
@@ -35,4 +34,5 @@ shows_ring state rules me n m player commands rings r new others =
       world = r.world;
       marks = r.marks;
       demo = r.demo;
+      closed = r.closed;
     }

@@ -2,6 +2,7 @@
 
 ghost use Rattle.std.specs.Prelude.{◌≡◌, ◌==◌, if◌then◌else◌, Some, IfOk};
 ghost use Rattle.dn_machine.specs.declared.answers.Phase.TheVariants.{Listening, Gathering};
+ghost use Rattle.dn_demo.specs.Recorded.{capacity};
 ghost use Rattle.dn_node.specs.Opening.{IsAdmitted};
 
 use super::Node;
@@ -9,18 +10,12 @@ use crate::config::{Config, NodeFault};
 use crate::marks::Marks;
 use crate::peers::Peers;
 use crate::rings::Rings;
-use dn_demo::{Recorder, RecorderFault};
+use dn_demo::{Recorder, RecorderFault, capacity};
 use dn_machine::Phase;
 use dn_setup::Gather;
 use dn_tic::Builder;
 use dn_world::World;
 use std::alloc::Global;
-
-/// How many bytes of a demo are not commands: the header and the marker.
-const FRAME: u32 = 14;
-
-/// How many bytes a command has in a demo.
-const COMMAND: u32 = 4;
 
 /// Player 0 has the settings and gathers, and the others listen.
 fn first_phase(me: u8) -> Phase
@@ -46,7 +41,7 @@ impl<W: World> Node<W> {
         ensures admitted { IsAdmitted config result }
         ensures opened { IfOk result (λ node. (settings : Choice)
             → (config.me ≡ 0 → config.settings ≡ Some settings)
-            → Represents W.state (rules_of W.physics config.players config.extra config.limit) config.me
+            → Represents W.state (rules_of W.physics config.players config.extra (capacity config.limit config.players)) config.me
             (contents node) (fresh settings config.me)) }
         ensures given { IfOk result (λ node. (contents node).world ≡ world) }
     {
@@ -75,7 +70,7 @@ impl<W: World> Node<W> {
             players,
             me,
             extra,
-            capacity: (limit - FRAME) / (COMMAND * u32::from(players)),
+            capacity: capacity(limit, players),
             phase: first_phase(me),
             played: false,
             settings,

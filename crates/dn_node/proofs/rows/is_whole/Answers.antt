@@ -1,4 +1,4 @@
-use Rattle.std.proofs.Common.{◌≡◌, ℕ, Bool, true, false, not, None, Option, get_or, List, sym, ap, ◌∙◌, subst, arith, refl}
+use Rattle.std.proofs.Common.{◌≡◌, ℕ, Bool, true, false, not, None, Option, get_or, List, sym, ap, ◌∙◌, arith}
 use Rattle.std.specs.Option.{is_none, is_some}
 use Rattle.dn_machine.specs.Node.{lowest}
 use Rattle.dn_tic.specs.declared.command.Move.{Move}

@@ -6,8 +6,8 @@ use Rattle.dn_node.proofs.node.Node.aim.Goals as goal
 use Rattle.dn_node.proofs.node.Node.aim.Goals.{then-to-self-via-then-to-self, then-to-self-via-else-to-self+then-to-self-2}
 
 pub returns-then-to-self-clause-step : goal.returns-then-to-self-clause-step
-returns-then-to-self-clause-step g c players extra limit me m r =
-    let rules = rules_of g.W.World.physics players extra limit in
+returns-then-to-self-clause-step g c players extra capacity me m r =
+    let rules = rules_of g.W.World.physics players extra capacity in
     let to = c.args.to in
     record {
       node = r;
@@ -20,28 +20,28 @@ returns-then-to-self-clause-step g c players extra limit me m r =
     }
 
 pub returns-in-Listening-clause-step : goal.returns-in-Listening-clause-step
-returns-in-Listening-clause-step g c players extra limit me m r =
-    let rules = rules_of g.W.World.physics players extra limit in
+returns-in-Listening-clause-step g c players extra capacity me m r =
+    let rules = rules_of g.W.World.physics players extra capacity in
     let sends = sends_in _ rules me _ m c.args.to _ r (omega (arith, c.if-to-self-2.false)) c.if-to-self.false c.in-Listening.is in
     record { node = r; answer = aimed rules me m c.args.to _ _ sends refl }
 
 pub returns-in-Gathering-clause-step : goal.returns-in-Gathering-clause-step
-returns-in-Gathering-clause-step g c players extra limit me m r =
-    let rules = rules_of g.W.World.physics players extra limit in
+returns-in-Gathering-clause-step g c players extra capacity me m r =
+    let rules = rules_of g.W.World.physics players extra capacity in
     let sends = sends_in _ rules me _ m c.args.to _ r (omega (arith, c.if-to-self-2.false)) c.if-to-self.false c.in-Gathering.is in
     let known = aim_of_set_up me c.args.to m.settings (λ e. c.args.self.now.keyed c.in-Gathering.is (r.settings ∙ e)) in
     record { node = r; answer = aimed rules me m c.args.to _ _ sends known }
 
 pub returns-in-Playing-clause-step : goal.returns-in-Playing-clause-step
-returns-in-Playing-clause-step g c players extra limit me m r =
-    let rules = rules_of g.W.World.physics players extra limit in
+returns-in-Playing-clause-step g c players extra capacity me m r =
+    let rules = rules_of g.W.World.physics players extra capacity in
     let sends = sends_in _ rules me _ m c.args.to _ r (omega (arith, c.if-to-self-2.false)) c.if-to-self.false c.in-Playing.is in
-    let given = (c.aim_of_commands.ensures.step players extra limit me m r).answer in
+    let given = (c.aim_of_commands.ensures.step players extra capacity me m r).answer in
     record { node = r; answer = aimed rules me m c.args.to _ _ sends (ap Some given) }
 
 pub returns-in-Ended-clause-step : goal.returns-in-Ended-clause-step
-returns-in-Ended-clause-step g c players extra limit me m r =
-    let rules = rules_of g.W.World.physics players extra limit in
+returns-in-Ended-clause-step g c players extra capacity me m r =
+    let rules = rules_of g.W.World.physics players extra capacity in
     let sends = sends_in _ rules me _ m c.args.to _ r (omega (arith, c.if-to-self-2.false)) c.if-to-self.false c.in-Ended.is in
-    let given = (c.aim_of_exit.ensures.step players extra limit me m r).answer in
+    let given = (c.aim_of_exit.ensures.step c.in-Ended.field-0 players extra capacity me m r).answer in
     record { node = r; answer = aimed rules me m c.args.to _ _ sends given }

@@ -1,5 +1,5 @@
-use Rattle.std.proofs.Common.{rules, ◌-◌, ◌*◌, ◌/◌, ℕ, refl, ap, ◌∙◌}
-use Rattle.dn_demo.specs.Recorded.{Recorded}
+use Rattle.std.proofs.Common.{rules, refl, ap, ◌∙◌}
+use Rattle.dn_demo.specs.Recorded.{Recorded, capacity}
 use Rattle.dn_machine.specs.Worlds.{rules_of}
 use Rattle.dn_machine.specs.Game.{fresh}
 use Rattle.dn_node.proofs.Opening.{settings_fresh, first_marks}
@@ -8,13 +8,12 @@ use Rattle.dn_node.proofs.node.Node.new.Goals as goal
 pub returns-clause-opened : goal.returns-clause-opened
 returns-clause-opened g c settings key =
     let config = c.args.config in
-    let rule = rules_of g.W.World.physics config.players config.extra config.limit in
+    let rule = rules_of g.W.World.physics config.players config.extra (capacity config.limit config.players) in
     record {
       players = refl;
       number = refl;
       extra = refl;
-      limit = ap (λ (d : Recorded). d.limit) c.in-Ok.ensures.1;
-      capacity = ap (λ (k : ℕ). (config.limit - 14) / (4 * k)) c.from.ensures;
+      capacity = c.capacity.ensures.value;
       gathers = c.new-3.ensures.players;
       phase = c.first_phase.ensures;
       played = refl;
@@ -25,6 +24,7 @@ returns-clause-opened g c settings key =
       peers = λ p below. c.new-6.ensures p;
       noted = λ p peer. c.new-3.ensures.nobody p;
       world = λ e. absurd (cc);
-      marks = λ p tic below low high. c.new-7.ensures p _ ∙ first_marks rule (fresh settings config.me) p tic high;
+      marks = λ p tic below low high present. c.new-7.ensures p _ ∙ first_marks rule (fresh settings config.me) p tic high;
       demo = ap (λ (d : Recorded). d.bytes) c.in-Ok.ensures.1;
+      closed = λ e. absurd (cc);
     }

@@ -10,26 +10,26 @@ use Rattle.dn_node.proofs.Sending.{sends_in}
 use Rattle.dn_node.proofs.node.Node.outgoing.Goals as goal
 
 pub returns-in_default-clause-step : goal.returns-in_default-clause-step
-returns-in_default-clause-step g c players extra limit me m r =
-    let sent = own_sent _ (rules_of g.W.World.physics players extra limit) me _ m c.args.to r c.in_ok-aim.ensures.reach.1 c.in_default.not-Gathering in
+returns-in_default-clause-step g c players extra capacity me m r =
+    let sent = own_sent _ (rules_of g.W.World.physics players extra capacity) me _ m c.args.to r c.in_ok-aim.ensures.reach.1 c.in_default.not-Gathering in
     record {
       node = r;
-      answer = own_packet m me c.in_ok-aim.aim c.commands_packet.result (c.commands_packet.ensures.packet players extra limit me m r).answer _ sent
-          (c.in_ok-aim.ensures.step players extra limit me m r).answer;
+      answer = own_packet m me c.in_ok-aim.aim c.commands_packet.result (c.commands_packet.ensures.packet players extra capacity me m r).answer _ sent
+          (c.in_ok-aim.ensures.step players extra capacity me m r).answer;
     }
 
 pub returns-in_default-clause-fair : goal.returns-in_default-clause-fair
-returns-in_default-clause-fair g c players extra limit me m r =
-    let sent = own_sent _ (rules_of g.W.World.physics players extra limit) me _ m c.args.to r c.in_ok-aim.ensures.reach.1 c.in_default.not-Gathering in
+returns-in_default-clause-fair g c players extra capacity me m r =
+    let sent = own_sent _ (rules_of g.W.World.physics players extra capacity) me _ m c.args.to r c.in_ok-aim.ensures.reach.1 c.in_default.not-Gathering in
     record {
       node = r;
-      answer = own_fair m me c.in_ok-aim.aim c.commands_packet.result (c.commands_packet.ensures.packet players extra limit me m r).answer _ sent
-          (c.in_ok-aim.ensures.step players extra limit me m r).answer c.commands_packet.ensures.valid c.commands_packet.ensures.no_stop;
+      answer = own_fair m me c.in_ok-aim.aim c.commands_packet.result (c.commands_packet.ensures.packet players extra capacity me m r).answer _ sent
+          (c.in_ok-aim.ensures.step players extra capacity me m r).answer c.commands_packet.ensures.valid c.commands_packet.ensures.no_stop;
     }
 
 pub returns-clause-step : goal.returns-clause-step
-returns-clause-step g c players extra limit me m r =
-    let rules = rules_of g.W.World.physics players extra limit in
+returns-clause-step g c players extra capacity me m r =
+    let rules = rules_of g.W.World.physics players extra capacity in
     let given = c.in_ok-aim.ensures.reach.1 in
     let sends = sends_in _ rules me _ m c.args.to _ r given.below given.other c.in-Gathering.is in
     record {
@@ -39,8 +39,8 @@ returns-clause-step g c players extra limit me m r =
     }
 
 pub returns-clause-fair : goal.returns-clause-fair
-returns-clause-fair g c players extra limit me m r =
-    let rules = rules_of g.W.World.physics players extra limit in
+returns-clause-fair g c players extra capacity me m r =
+    let rules = rules_of g.W.World.physics players extra capacity in
     let given = c.in_ok-aim.ensures.reach.1 in
     let sends = sends_in _ rules me _ m c.args.to _ r given.below given.other c.in-Gathering.is in
     let key = sym r.number ∙ c.args.self.now.key c.in-Gathering.is in

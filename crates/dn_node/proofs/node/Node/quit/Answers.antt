@@ -8,11 +8,11 @@ use Rattle.dn_node.proofs.Quitting.{quit_ended, quit_playing, quit_waiting, show
 use Rattle.dn_node.proofs.node.Node.quit.Goals as goal
 
 pub returns-in-Ended-clause-step : goal.returns-in-Ended-clause-step
-returns-in-Ended-clause-step g c players extra limit me m r = after _ _ (quit_ended m _ (sym r.phase ∙ c.in-Ended.is)) r refl
+returns-in-Ended-clause-step g c players extra capacity me m r = after _ _ (quit_ended m _ (sym r.phase ∙ c.in-Ended.is)) r refl
 
 pub returns-in-Playing-clause-step : goal.returns-in-Playing-clause-step
-returns-in-Playing-clause-step g c players extra limit me m r =
-    after _ _ (quit_playing m (sym r.phase ∙ c.in-Playing.is)) (c.end.ensures.step players extra limit me m r) refl
+returns-in-Playing-clause-step g c players extra capacity me m r =
+    after _ _ (quit_playing m (sym r.phase ∙ c.in-Playing.is)) (c.finish.ensures.step players extra capacity me m r) refl
 
 either : (p q : Phase) → p ≡ q → (p ≡ Listening) ⊎ (p ≡ Gathering) → (q ≡ Listening) ⊎ (q ≡ Gathering)
 either p q e (inl is) = inl (sym e ∙ is)
@@ -23,7 +23,7 @@ waits p (inl e) = ap is_waiting e
 waits p (inr e) = ap is_waiting e
 
 pub returns-in-Listening-clause-step : goal.returns-in-Listening-clause-step
-returns-in-Listening-clause-step g c players extra limit me m r =
+returns-in-Listening-clause-step g c players extra capacity me m r =
     let n = c.args.self.now in
     after _ _ (quit_waiting m (either n.phase m.phase r.phase c.in-Listening.is))
     (shows_unplayed _ _ me (contents n) m _ r (n.waits (waits n.phase c.in-Listening.is))) refl
