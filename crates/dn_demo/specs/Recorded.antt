@@ -33,6 +33,10 @@ recorded_size players tics = header_size + command_size long_tics * (players * t
 abbrev pub capacity : ℕ → ℕ → ℕ
 capacity limit players = (limit - recorded_size players 0) / (command_size long_tics * players)
 
+-- no demo of two players or more has more tics
+abbrev pub most_tics : ℕ
+most_tics = 1677720
+
 -- what a recorder of this limit is made as: with nothing written, or refused for the limit, or for want of memory
 abbrev pub IsMadeAs : ℕ → Result Recorded RecorderFault → Type 0
 IsMadeAs limit (Ok recorder) = IsLimit limit × (recorder ≡ record { limit = limit; stage = Blank; bytes = [] })

@@ -1,7 +1,7 @@
 //! How many bytes a demo may have, and how many tics these hold.
 
 ghost use Rattle.std.specs.Prelude.{◌≡◌, ◌<◌, ◌≤◌, ℕ, true, nat_le};
-ghost use Rattle.dn_demo.specs.Recorded.{IsLimit, recorded_size, capacity};
+ghost use Rattle.dn_demo.specs.Recorded.{IsLimit, recorded_size, capacity, most_tics};
 
 use crate::layout::{COMMAND, HEADER};
 
@@ -19,7 +19,7 @@ pub fn capacity(limit: u32, players: u8) -> u32
     requires somebody { 0 < players }
     ensures value { result ≡ capacity limit players }
     ensures fits { (tics : ℕ) → nat_le (recorded_size players tics) limit ≡ nat_le tics result }
-    ensures most { 2 ≤ players → result ≤ 1677720 }
+    ensures most { 2 ≤ players → result ≤ most_tics }
 {
     (limit - HEADER as u32 - 1) / (COMMAND as u32 * u32::from(players))
 }

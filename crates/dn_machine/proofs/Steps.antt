@@ -29,7 +29,7 @@ use Rattle.dn_machine.specs.Sending.{lag, first_sent, set_up_flight, commands_fl
 use Rattle.dn_machine.specs.Building.{on_build, on_build_in}
 use Rattle.dn_setup.specs.Gathered.{all_noted}
 use Rattle.dn_machine.specs.Hearing.{on_gathering, is_within, requested_tic, after_request, is_strange_end, after_exit, on_commands, on_ended, on_packet, on_packet_in}
-use Rattle.dn_machine.specs.Running.{is_over, is_absent, is_awaited, is_off, first_off, row_held, most_tics, full_at, on_run_playing, on_run_in, on_run, on_quit, on_quit_in}
+use Rattle.dn_machine.specs.Running.{is_over, is_absent, is_awaited, is_off, first_off, row_held, tic_limit, full_at, on_run_playing, on_run_in, on_run, on_quit, on_quit_in}
 
 -- equal lists tell the same
 along : {S : Type 0} (rules : Rules S) (settings : Settings) (a b : History) (flights : List Flight) → b.keys ≡ a.keys → b.held ≡ a.held → b.rows ≡ a.rows → b.ends ≡ a.ends → b.left ≡ a.left → ComesFromKeys rules settings a flights → ComesFromKeys rules settings b flights
@@ -280,7 +280,7 @@ module _ {S : Type 0} (rules : Rules S) (settings : Settings) (game : Game) (kep
             }
         | inr lacks ↦
             let front = front_stops (is_whole rules.players) rows new lacks in
-            let most : full_at rules new ≡ most_tics = cond-false (is_whole rules.players new) _ _ lacks in
+            let most : full_at rules new ≡ tic_limit = cond-false (is_whole rules.players new) _ _ lacks in
             let old = sound.room in
             let after = ap (length {A = List (Option Move)}) front in
             record {
@@ -470,7 +470,7 @@ module _ {S : Type 0} (rules : Rules S) (settings : Settings) (game : Game) (kep
       ]) e in
       same_front new same ∙ ((kept.sound i mine).whole before ∙ sym same)
 
-  same_most : (new : Node) → new.rows ≡ (game.nodes i).rows → rules.capacity ≤ most_tics → length new.rows ≤ most_tics
+  same_most : (new : Node) → new.rows ≡ (game.nodes i).rows → rules.capacity ≤ tic_limit → length new.rows ≤ tic_limit
   same_most new same cap =
       let count = ap (length {A = List (Option Move)}) same in
       let old = (kept.sound i mine).most cap in

@@ -8,7 +8,7 @@ use Rattle.dn_machine.specs.declared.answers.Cause.TheVariants as Cause
 use Rattle.dn_machine.specs.Worlds.{Rules, command, row}
 use Rattle.dn_machine.specs.Flight.{SetUp, Exit, Flight, end_of}
 use Rattle.dn_machine.specs.Node.{Node, blank, has_left, is_whole, demo_rows}
-use Rattle.dn_machine.specs.Running.{most_tics, row_held}
+use Rattle.dn_machine.specs.Running.{tic_limit, row_held}
 use Rattle.dn_machine.specs.Game.{Game}
 
 -- A packet that was sent is a piece of what its sender has.
@@ -75,7 +75,7 @@ pub record IsSound {S : Type 0} (rules : Rules S) (settings : Settings) (me : �
   -- the demo's rows fit into it, and they are all rows while the next lacks nobody
   pub room : length (demo_rows rules node) ≤ rules.capacity
   pub whole : is_whole rules.players (row_held rules node) ≡ true → demo_rows rules node ≡ node.rows
-  pub most : rules.capacity ≤ most_tics → length node.rows ≤ most_tics
+  pub most : rules.capacity ≤ tic_limit → length node.rows ≤ tic_limit
 
 abbrev pub history_of : Game → History
 history_of game =

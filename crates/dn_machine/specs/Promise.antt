@@ -8,7 +8,7 @@ use Rattle.dn_machine.specs.Worlds.{Rules, command, commands_of, row, world}
 use Rattle.dn_machine.specs.Flight.{Flight}
 use Rattle.dn_machine.specs.Node.{got, made, ran, held_at, is_ended, has_left, known_end, world_after, lacks, demo_rows}
 use Rattle.dn_machine.specs.Hearing.{on_packet}
-use Rattle.dn_machine.specs.Running.{most_tics}
+use Rattle.dn_machine.specs.Running.{tic_limit}
 use Rattle.dn_machine.specs.Game.{Game, refused_flight}
 
 abbrev pub IsPrefixOf : {A : Type 0} → List A → List A → Type 0
@@ -79,7 +79,7 @@ pub record Fits {S : Type 0} (rules : Rules S) (game : Game) : Type 0 where
   pub least : (q p : ℕ) → q < rules.players → p < rules.players
       → length (demo_rows rules (game.nodes q)) ≤ made p (game.nodes p)
   -- no more tics are run than may be, where no demo has more
-  pub most : (q : ℕ) → q < rules.players → rules.capacity ≤ most_tics → ran (game.nodes q) ≤ most_tics
+  pub most : (q : ℕ) → q < rules.players → rules.capacity ≤ tic_limit → ran (game.nodes q) ≤ tic_limit
 
 -- Steadiness: nothing that was truly sent is taken for wrong.
 pub record Steady {S : Type 0} (rules : Rules S) (game : Game) : Type 0 where

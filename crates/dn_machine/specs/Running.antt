@@ -9,14 +9,14 @@ use Rattle.dn_machine.specs.declared.answers.Ran.{Ran}
 use Rattle.dn_machine.specs.Worlds.{Rules, row_of}
 use Rattle.dn_machine.specs.Node.{Node, got, ran, held_at, own_mark, lowest, is_whole}
 
--- so many tics are run at most: a tic that lacks a player is not run past them
-abbrev pub most_tics : ℕ
-most_tics = 2097150
+-- so many tics are run at most: the next is not run, where it lacks a player
+abbrev pub tic_limit : ℕ
+tic_limit = 2097150
 
--- the tic at which a node ends in place of running this row: where the demo is full, but for a row that lacks a player,
--- which no demo has, where no more tics are run
+-- the tic at which a node ends in place of running this row: where its demo is full, or at the limit of tics for a row that
+-- lacks a player, which no demo has
 abbrev pub full_at : {S : Type 0} → Rules S → List (Option Move) → ℕ
-full_at rules row = if is_whole rules.players row then rules.capacity else most_tics
+full_at rules row = if is_whole rules.players row then rules.capacity else tic_limit
 
 -- there is an end, and the tic is not before it
 abbrev pub is_over : Option ℕ → ℕ → Bool

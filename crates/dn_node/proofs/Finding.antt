@@ -11,7 +11,7 @@ use Rattle.dn_machine.specs.Node as machine
 use Rattle.dn_tic.specs.declared.command.Move.{Move}
 use Rattle.dn_machine.proofs.Demos.{seat_is}
 use Rattle.dn_machine.specs.Node.{blank, held_at, own_mark, lowest}
-use Rattle.dn_machine.specs.Running.{is_over, is_absent, is_awaited, is_off, first_off, row_held, most_tics, full_at}
+use Rattle.dn_machine.specs.Running.{is_over, is_absent, is_awaited, is_off, first_off, row_held, tic_limit, full_at}
 use Rattle.dn_node.specs.Contents.{Contents}
 use Rattle.dn_node.specs.Represents.{Represents}
 use Rattle.dn_node.specs.Rings.{count_of}
@@ -112,5 +112,5 @@ module _ {W S : Type 0} (state : W → S) (rules : Rules S) (me : ℕ) (n : Cont
       seat_held p h seat present = seat_is rules.players (λ q. if is_absent m q then None else Some (held_at m q (machine.ran m))) p (below state rules me n m r p h) seat ∙ rw present refl
 
       -- the tic at which it ends is that of the row by its rings
-      pub full_is : (row : List (Option Move)) (capacity full : ℕ) → row ≡ row_held rules m → capacity ≡ rules.capacity → full ≡ (if machine.is_whole n.players row then capacity else most_tics) → full ≡ full_at rules (row_held rules m)
-      full_is row capacity full is held e = e ∙ (λ i. if machine.is_whole (r.players i) (is i) then held i else most_tics)
+      pub full_is : (row : List (Option Move)) (capacity full : ℕ) → row ≡ row_held rules m → capacity ≡ rules.capacity → full ≡ (if machine.is_whole n.players row then capacity else tic_limit) → full ≡ full_at rules (row_held rules m)
+      full_is row capacity full is held e = e ∙ (λ i. if machine.is_whole (r.players i) (is i) then held i else tic_limit)

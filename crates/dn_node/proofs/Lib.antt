@@ -26,3 +26,4 @@ pub mod Rests
 pub mod Asking
 pub mod Taking
 pub mod Gone
+pub mod Telling

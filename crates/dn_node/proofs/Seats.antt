@@ -1,36 +1,19 @@
 -- The seats of a row.
-use Rattle.std.proofs.Common.{◌≡◌, ◌<◌, ◌≤◌, ◌≢◌, ℕ, zero, suc, negsuc, Bool, true, false, true≢false, not, cond, Option, Some, None, is_some, IfSome, nat_lt, List, [], ◌∷◌, ltb, leb, refl, ap, sym, ◌∙◌, arith, inl, inr}
+use Rattle.std.proofs.Common.{◌≡◌, ◌<◌, ◌≤◌, ℕ, zero, suc, Bool, true, false, true≢false, not, cond, Option, Some, None, is_some, List, [], ◌∷◌, ltb, leb, refl, ap, sym, ◌∙◌, arith, inl, inr}
 use Rattle.std.specs.Prelude.{if◌then◌else◌}
 use Rattle.std.specs.Option.{is_none, option_map}
 use Rattle.std.proofs.lemmas.Bool.{not-false, ltb-true, le-leb, and_from, cases_lt}
-use Rattle.std.proofs.lemmas.List.Elements.{All-cons, All-nil}
 use Rattle.dn_tic.specs.declared.command.TicCmd.{TicCmd}
 use Rattle.dn_tic.specs.declared.command.Move.{Move}
 use Rattle.dn_tic.specs.Command.{used}
-use Rattle.dn_demo.specs.Rows.{IsRecordable, IsRow}
 use Rattle.dn_ring.specs.Ring.{Ring}
 use Rattle.dn_machine.specs.Node.{lowest, lacks, is_whole}
 use Rattle.dn_machine.proofs.Demos.{none_is}
 use Rattle.dn_machine.proofs.Marks.{lowest_none_each}
 use Rattle.dn_node.specs.Rings.{count_of}
-use Rattle.dn_node.specs.Rows.{seats_of, is_gone, is_missing}
+use Rattle.dn_node.specs.Rows.{is_gone, is_missing}
 use Rattle.dn_node.specs.declared.peers.Peer.{Peer}
 use Rattle.dn_node.proofs.Lowest.{lowest_same}
-
-pub used_recordable : (command : TicCmd) → command.forward ≢ negsuc 127 → IsRecordable (used command)
-unfolding used
-used_recordable command no_stop = no_stop
-
--- a row of four seats
-pub four_seats : (a b c d : Option Move) (players : ℕ)
-    → is_some a ≡ nat_lt 0 players → is_some b ≡ nat_lt 1 players → is_some c ≡ nat_lt 2 players → is_some d ≡ nat_lt 3 players
-    → IfSome a IsRecordable → IfSome b IsRecordable → IfSome c IsRecordable → IfSome d IsRecordable → IsRow (seats_of players) (a ∷ b ∷ c ∷ d ∷ [])
-four_seats a b c d players e f g h j k l m =
-    let P = λ (step : Option Move). IfSome step IsRecordable in
-    record {
-      seats = λ i. e i ∷ f i ∷ g i ∷ h i ∷ [];
-      moves = All-cons P a (b ∷ c ∷ d ∷ []) j (All-cons P b (c ∷ d ∷ []) k (All-cons P c (d ∷ []) l (All-cons P d [] m (All-nil P))));
-    }
 
 -- a seat of a whole row
 pub whole_seat : (b : Bool) (a x : Option Move) → a ≡ cond b x None → (b ≡ true → is_none a ≡ false) → is_some a ≡ b

@@ -1,13 +1,12 @@
 //! One player's node, and what it tells of itself.
 
 ghost use Rattle.std.specs.Prelude.{◌≡◌, ◌≢◌, ℕ, ◌+◌, ◌*◌, ◌<◌, ◌≤◌, true, false, nat_lt, if◌then◌else◌, length, Some, None};
-ghost use Rattle.dn_demo.specs.Layout.{long_tics, command_size};
-ghost use Rattle.dn_demo.specs.Text.{header_size};
+ghost use Rattle.dn_demo.specs.Layout.{long_tics};
+ghost use Rattle.dn_demo.specs.Places.{place, seats_in};
 ghost use Rattle.dn_demo.specs.Recorded.{recorded_size};
-ghost use Rattle.dn_demo.specs.Places.{seats_in};
 ghost use Rattle.dn_demo.specs.declared.recorder.Stage.TheVariants.{Blank, Open, Closed};
 ghost use Rattle.dn_machine.specs.declared.answers.Phase.TheVariants.{Gathering, Playing};
-ghost use Rattle.dn_machine.specs.Running.{most_tics};
+ghost use Rattle.dn_machine.specs.Running.{tic_limit};
 ghost use Rattle.dn_node.specs.Phases.{is_waiting};
 ghost use Rattle.dn_node.specs.Rings.{ring_at, count_of};
 ghost use Rattle.dn_node.specs.Peers.{peer_at};
@@ -54,10 +53,10 @@ pub struct Node<W> {
     world: W,
     ghost me_below: { me < players },
     ghost few: { players ≤ 4 },
-    // as many tics as fit are in the demo's room
-    ghost holds: { recorded_size players capacity ≤ demo.limit },
-    ghost short: { capacity ≤ most_tics },
-    ghost ran_fits: { ran ≤ most_tics },
+    ghost short: { capacity ≤ tic_limit },
+    // so many tics fit into the demo
+    ghost room: { recorded_size players capacity ≤ demo.limit },
+    ghost ran_fits: { ran ≤ tic_limit },
     // it knows no end of its own
     ghost endless: { (peer_at peers me).end ≡ None },
     // before the start nothing is run or written
@@ -72,9 +71,9 @@ pub struct Node<W> {
     ghost plays: { phase ≡ Playing → played ≡ true },
     ghost begun: { phase ≡ Playing → demo.stage ≢ Blank },
     ghost gone: { phase ≡ Playing → demo.stage ≡ Closed → has_gone (peer_at peers) players ran ≡ true },
-    ghost room: { phase ≡ Playing → demo.stage ≡ Open → ran ≤ capacity },
+    ghost fits: { phase ≡ Playing → demo.stage ≡ Open → ran ≤ capacity },
     ghost seats: { phase ≡ Playing → demo.stage ≡ Open → seats_in demo.bytes ≡ seats_of players },
-    ghost size: { phase ≡ Playing → demo.stage ≡ Open → length demo.bytes ≤ header_size + command_size long_tics * (players * ran) },
+    ghost size: { phase ≡ Playing → demo.stage ≡ Open → length demo.bytes ≤ place long_tics (players * ran) },
     // it has the commands of the tics that it ran, but for players who are gone, and at most twelve more of a
     // peer, and five of its own
     ghost ahead: { (p : ℕ) → p < players → is_gone (peer_at peers) ran p ≡ false → ran ≤ (ring_at rings p).count },

@@ -4,7 +4,7 @@ ghost use Rattle.std.specs.Prelude.{◌≡◌, ◌<◌, ◌≤◌, ◌+◌, ◌%
 ghost use Rattle.std.specs.Ordering.{int_eq};
 ghost use Rattle.dn_demo.specs.Rows.{IsRow, IsRecordable};
 ghost use Rattle.dn_machine.specs.Node.{lowest, is_whole};
-ghost use Rattle.dn_machine.specs.Running.{most_tics};
+ghost use Rattle.dn_machine.specs.Running.{tic_limit};
 ghost use Rattle.dn_machine.specs.Worlds.{four};
 ghost use Rattle.dn_node.specs.Rings.{ring_at};
 ghost use Rattle.dn_node.specs.Marks.{slot};
@@ -19,8 +19,8 @@ use dn_tic::{Move, round};
 /// The last tic whose marks are not compared (`g_game.c`, G_Ticker).
 const LAST_UNCHECKED: u32 = 12;
 
-/// A tic that lacks a player is not run past so many.
-const MOST_TICS: u32 = 2_097_150;
+/// So many tics are run at most: the next is not run, where it lacks a player.
+const TIC_LIMIT: u32 = 2_097_150;
 
 /// Which seats are taken.
 pub(crate) fn seats(players: u8) -> [bool; 4]
@@ -147,11 +147,11 @@ pub(crate) fn is_whole(row: &[Option<Move>; 4], players: u8) -> bool
 /// The tic at which a node ends in place of running this row.
 pub(crate) fn full_at(row: &[Option<Move>; 4], players: u8, capacity: u32) -> u32
     requires { players ≤ 4 }
-    ensures { result ≡ (if is_whole players row.now then capacity else most_tics) }
+    ensures { result ≡ (if is_whole players row.now then capacity else tic_limit) }
 {
     if is_whole(row, players) {
         capacity
     } else {
-        MOST_TICS
+        TIC_LIMIT
     }
 }

@@ -30,6 +30,7 @@ fn first_phase(me: u8) -> Phase
 
 impl<W: World> Node<W> {
     ghost use Rattle.dn_setup.specs.Settings.{Settings as Choice};
+    ghost use Rattle.dn_demo.specs.Recorded.{capacity};
     ghost use Rattle.dn_machine.specs.Game.{fresh};
     ghost use Rattle.dn_machine.specs.Worlds.{rules_of};
     ghost use Rattle.dn_node.specs.Contents.{contents};

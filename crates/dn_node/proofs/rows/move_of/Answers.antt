@@ -1,4 +1,4 @@
-use Rattle.dn_node.proofs.Seats.{used_recordable}
+use Rattle.dn_node.proofs.Telling.{used_recordable}
 use Rattle.dn_node.proofs.rows.move_of.Goals as goal
 
 pub returns-in_ok-get-clause-recordable : goal.returns-in_ok-get-clause-recordable

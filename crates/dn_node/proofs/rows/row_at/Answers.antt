@@ -3,7 +3,8 @@ use Rattle.std.proofs.lemmas.Bool.{lt-ltb}
 use Rattle.dn_node.specs.Peers.{peer_at}
 use Rattle.dn_node.specs.Rings.{ring_at}
 use Rattle.dn_node.specs.Rows.{is_gone}
-use Rattle.dn_node.proofs.Seats.{four_seats, whole_seat, whole_each, whole_gone, seat_gone, here_all}
+use Rattle.dn_node.proofs.Seats.{whole_seat, whole_each, whole_gone, seat_gone, here_all}
+use Rattle.dn_node.proofs.Telling.{four_seats}
 use Rattle.dn_node.proofs.rows.row_at.Goals as goal
 
 pub returns-clause-recordable : goal.returns-clause-recordable

@@ -8,7 +8,7 @@ use Rattle.dn_demo.specs.declared.recorder.Stage.{Stage}
 use Rattle.dn_demo.specs.declared.recorder.Stage.TheVariants.{Blank, Open, Closed}
 use Rattle.dn_machine.specs.declared.answers.Ran.{Ran}
 use Rattle.dn_machine.specs.Node.{is_whole, lacks}
-use Rattle.dn_machine.specs.Running.{row_held, most_tics}
+use Rattle.dn_machine.specs.Running.{row_held, tic_limit}
 use Rattle.dn_machine.specs.Worlds.{rules_of}
 use Rattle.dn_node.specs.Peers.{peer_at}
 use Rattle.dn_node.specs.Rings.{ring_at}
@@ -41,8 +41,8 @@ opened g c e =
 below : (g : Over) (c : After-is_whole g) → c.is_whole.result ≡ true → c.args.self.now.ran < c.args.self.now.capacity
 below g c e =
     let n = c.args.self.now in
-    let at : c.full_at.result ≡ n.capacity = c.full_at.ensures ∙ ap (λ (b : Bool). if b then n.capacity else most_tics) (sym c.is_whole.ensures ∙ e) in
-    let room = n.room c.requires.plays (opened g c e) in
+    let at : c.full_at.result ≡ n.capacity = c.full_at.ensures ∙ ap (λ (b : Bool). if b then n.capacity else tic_limit) (sym c.is_whole.ensures ∙ e) in
+    let room = n.fits c.requires.plays (opened g c e) in
     let other = c.if-tic-full_at.false in
     omega arith
 
@@ -61,7 +61,7 @@ write-requires-clause-room g c e =
     let at = goal.at.write-requires-clause-room g c in
     let on = c.requires.plays in
     let is_open = opened g at.After-is_whole e in
-    row_fits n.demo.limit n.players n.capacity n.ran (length n.demo.bytes) _ n.holds (below g at.After-is_whole e) (n.size on is_open)
+    row_fits n.demo.limit n.players n.capacity n.ran (length n.demo.bytes) _ n.room (below g at.After-is_whole e) (n.size on is_open)
     (row_length (seats_in n.demo.bytes) n.players (n.seats on is_open) n.few)
 
 -- the demo after the tic is open where the row is whole
@@ -85,7 +85,7 @@ invariant_of-self-2-clause-ran_fits g c =
     elim (cases_Bool c.is_whole.result) [
       | inl whole ↦ let fits = below g (goal.at.invariant_of-self-2-clause-ran_fits g c).After-is_whole whole in omega arith
       | inr lacks ↦
-          let at : c.full_at.result ≡ most_tics = c.full_at.ensures ∙ ap (λ (b : Bool). if b then n.capacity else most_tics) (sym c.is_whole.ensures ∙ lacks) in
+          let at : c.full_at.result ≡ tic_limit = c.full_at.ensures ∙ ap (λ (b : Bool). if b then n.capacity else tic_limit) (sym c.is_whole.ensures ∙ lacks) in
           let other = c.if-tic-full_at.false in
           omega arith
     ]
@@ -104,9 +104,9 @@ invariant_of-self-2-clause-gone g c on closed =
     not-false-true true e = refl
     not-false-true false e = absurd (true≢false e)
 
-pub invariant_of-self-2-clause-room : goal.invariant_of-self-2-clause-room
-invariant_of-self-2-clause-room g c on is_open =
-    let fits = below g (goal.at.invariant_of-self-2-clause-room g c).After-is_whole (stage_whole c.is_whole.result _ c.write.ensures.stage is_open) in
+pub invariant_of-self-2-clause-fits : goal.invariant_of-self-2-clause-fits
+invariant_of-self-2-clause-fits g c on is_open =
+    let fits = below g (goal.at.invariant_of-self-2-clause-fits g c).After-is_whole (stage_whole c.is_whole.result _ c.write.ensures.stage is_open) in
     omega arith
 
 pub invariant_of-self-2-clause-seats : goal.invariant_of-self-2-clause-seats
