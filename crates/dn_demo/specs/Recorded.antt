@@ -5,7 +5,7 @@ use Rattle.dn_setup.specs.declared.start.Start.{Start}
 use Rattle.dn_demo.specs.Layout.{long_tics, command_size}
 use Rattle.dn_demo.specs.Text.{header_size, demo_text}
 use Rattle.dn_demo.specs.declared.recorder.Stage.{Stage}
-use Rattle.dn_demo.specs.declared.recorder.Stage.TheVariants.{Blank}
+use Rattle.dn_demo.specs.declared.recorder.Stage.TheVariants.{Blank, Open, Closed}
 use Rattle.dn_demo.specs.declared.recorder.RecorderFault.{RecorderFault}
 use Rattle.dn_demo.specs.declared.recorder.RecorderFault.TheVariants.{Limit, Memory}
 
@@ -14,6 +14,12 @@ pub record Recorded : Type 0 where
   pub limit : ℕ
   pub stage : Stage
   pub bytes : List ℕ
+
+-- the marker is written
+abbrev pub is_closed : Stage → Bool
+is_closed Blank = false
+is_closed Open = false
+is_closed Closed = true
 
 -- a demo may have 1,024 to 16,777,216 bytes
 abbrev pub IsLimit : ℕ → Type 0

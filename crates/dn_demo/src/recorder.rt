@@ -63,7 +63,7 @@ impl Model for Recorder {
 
 impl Recorder {
     ghost use Rattle.dn_demo.specs.Places.{seats_in};
-    ghost use Rattle.dn_demo.specs.Recorded.{IsMadeAs, AddsRow, Closes};
+    ghost use Rattle.dn_demo.specs.Recorded.{IsMadeAs, AddsRow, Closes, is_closed};
 
     /// A recorder with nothing written. Its room is `limit` bytes, and all of it is taken here.
     pub fn new(alloc: Global, limit: u32) -> Result<Recorder, RecorderFault>
@@ -147,6 +147,13 @@ impl Recorder {
     {
         self.stage = Stage::Closed;
         self.bytes.push(MARKER).unwrap();
+    }
+
+    /// Whether the marker is written.
+    pub fn closed(&self) -> bool
+        ensures { result ≡ is_closed self.now.stage }
+    {
+        self.stage == Stage::Closed
     }
 
     /// The text so far.

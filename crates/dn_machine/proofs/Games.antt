@@ -32,11 +32,13 @@ module _ {S : Type 0} (rules : Rules S) (settings : Settings) where
   opens = record {
     from_keys = record {
       counted = λ p l. refl;
-      run = λ q p l m. omega arith;
+      run = λ q p l m. inl (omega arith);
       got = λ q p l m. omega arith;
       ahead = λ p l. omega arith;
       commands = λ q p tic l m n. absurd (omega arith);
       moves = λ q tic l m. absurd (omega arith);
+      ended = λ q p end l m h. absurd (none-some end h);
+      unread = λ q p l m. omega arith;
       pieces = λ which flight h. absurd (none-some flight h);
     };
     sound = λ q l. record {
@@ -46,6 +48,8 @@ module _ {S : Type 0} (rules : Rules S) (settings : Settings) where
       consistent = (opening_phase settings (eqb q 0)).2;
       resend = λ to. omega arith;
       room = omega arith;
+      whole = λ e. refl;
+      most = λ cap. omega arith;
     };
   }
 

@@ -1,5 +1,5 @@
 -- A packet under way, by exact numbers.
-use Rattle.std.specs.Prelude.{ℕ, ◌+◌, ◌-◌, ◌%◌, Bool, true, not, ◌&&◌, nat_lt, List, length, Option, Some, None}
+use Rattle.std.specs.Prelude.{ℕ, ◌+◌, ◌-◌, ◌%◌, Bool, true, false, not, ◌&&◌, nat_lt, List, length, Option, Some, None}
 use Rattle.dn_tic.specs.declared.command.TicCmd.{TicCmd}
 use Rattle.dn_packet.specs.declared.packet.Packet.{Packet}
 use Rattle.dn_setup.specs.Settings.{Settings}
@@ -20,6 +20,12 @@ pub record Flight : Type 0 where
   -- the first tic that the sender asks to be sent again
   pub request : Option ℕ
   pub commands : List TicCmd
+
+-- a packet by which its sender tells that it has left (d_net.h)
+abbrev pub is_exit : Kind → Bool
+is_exit (SetUp settings) = false
+is_exit Play = false
+is_exit Exit = true
 
 -- the tic after the last command
 abbrev pub end_of : Flight → ℕ
@@ -46,7 +52,7 @@ commands_packet flags flight =
       cmds = record { items = flight.commands };
     }
 
--- the packet that a flight goes out as, with the flag EXIT where it says that its sender has ended (d_net.h)
+-- the packet that a flight goes out as; the flag EXIT is 8 (d_net.h)
 abbrev pub packet_of_kind : Flight → Kind → Packet
 packet_of_kind flight (SetUp settings) = setup_packet settings
 packet_of_kind flight Play = commands_packet 0 flight

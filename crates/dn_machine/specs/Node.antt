@@ -1,10 +1,12 @@
 -- What one node keeps, and what is read off it.
-use Rattle.std.specs.Prelude.{ℕ, zero, suc, ◌-◌, Bool, List, nat_lt, ◌==◌, ℤ, pos, if◌then◌else◌, get_or, take, length, Option, Some, None, fold}
-use Rattle.std.specs.Option.{option_or, option_map}
+use Rattle.std.specs.Prelude.{ℕ, zero, suc, ◌-◌, Bool, true, false, ◌&&◌, List, nat_lt, ◌==◌, ℤ, pos, if◌then◌else◌, get_or, take, length, Option, Some, None, fold}
+use Rattle.std.specs.List.{take_while}
+use Rattle.std.specs.Option.{option_or, option_map, is_none}
 use Rattle.dn_tic.specs.declared.command.TicCmd.{TicCmd}
 use Rattle.dn_tic.specs.declared.command.Move.{Move}
 use Rattle.dn_setup.specs.Settings.{Settings}
 use Rattle.dn_machine.specs.declared.answers.Phase.{Phase}
+use Rattle.dn_machine.specs.declared.answers.Phase.TheVariants.{Listening, Gathering, Playing, Ended}
 use Rattle.dn_machine.specs.Worlds.{Rules, opening, mark_in}
 
 pub record Node : Type 0 where
@@ -24,8 +26,8 @@ pub record Node : Type 0 where
   pub want : ℕ → Bool
   -- for how many of its packets no request is heard
   pub hold : ℕ → ℕ
-  -- how many EXIT packets it was given
-  pub exits : ℕ → ℕ
+  -- the tic after its last command, once an EXIT packet has told it
+  pub ends : ℕ → Option ℕ
   -- whether it was heard while gathering
   pub noted : ℕ → Bool
 
@@ -53,6 +55,22 @@ ran node = length node.rows
 abbrev pub held_at : Node → ℕ → ℕ → TicCmd
 held_at node player tic = get_or (node.held player) tic blank
 
+-- the node takes no further part in a game
+abbrev pub is_ended : Phase → Bool
+is_ended Listening = false
+is_ended Gathering = false
+is_ended Playing = false
+is_ended (Ended cause) = true
+
+-- a player whose node has played and ended has left
+abbrev pub has_left : Node → Bool
+has_left node = node.played && is_ended node.phase
+
+-- a player's end, the tic after the last command, as node `me` knows it: its own once it has left, another's once told
+abbrev pub known_end : ℕ → Node → ℕ → Option ℕ
+known_end me node player =
+    if player == me then (if has_left node then Some (made me node) else None) else node.ends player
+
 -- the world after the first `tic` of these rows
 unfoldable pub world_after : {S : Type 0} → Rules S → Settings → List (List (Option Move)) → ℕ → S
 world_after rules settings rows tic = fold rules.physics.step (opening rules settings) (take tic rows)
@@ -70,3 +88,15 @@ own_mark rules node player tic =
 unfoldable pub lowest : ℕ → (ℕ → Bool) → Option ℕ
 lowest zero test = None
 lowest (suc bound) test = option_or (lowest bound test) (if test bound then Some bound else None)
+
+-- the player has no move in the row
+abbrev pub lacks : List (Option Move) → ℕ → Bool
+lacks row player = is_none (get_or row player None)
+
+-- the row lacks no player of the game
+abbrev pub is_whole : ℕ → List (Option Move) → Bool
+is_whole players row = is_none (lowest players (lacks row))
+
+-- the rows of a node's demo: those before the first that lacks a player
+abbrev pub demo_rows : {S : Type 0} → Rules S → Node → List (List (Option Move))
+demo_rows rules node = take_while (is_whole rules.players) node.rows

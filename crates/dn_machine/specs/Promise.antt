@@ -1,13 +1,14 @@
 -- What holds of a game after every list of events.
-use Rattle.std.specs.Prelude.{ℕ, ◌+◌, ◌<◌, ◌≤◌, true, List, ◌++◌, ◌≡◌, ◌≢◌, ◌⊎◌, ℤ, length, Some, None, slice_get}
+use Rattle.std.specs.Prelude.{ℕ, ◌+◌, ◌<◌, ◌≤◌, min, true, false, ◌&&◌, nat_le, get_or, [], List, ◌++◌, ◌≡◌, ◌≢◌, ◌⊎◌, ℤ, length, Some, None, slice_get, if◌then◌else◌}
 use Rattle.dn_setup.specs.Settings.{Settings}
 use Rattle.dn_machine.specs.declared.answers.Phase.TheVariants.{Ended}
 use Rattle.dn_machine.specs.declared.answers.Cause.TheVariants as Cause
 use Rattle.dn_machine.specs.declared.answers.Heard.TheVariants.{Dropped}
 use Rattle.dn_machine.specs.Worlds.{Rules, command, commands_of, row, world}
 use Rattle.dn_machine.specs.Flight.{Flight}
-use Rattle.dn_machine.specs.Node.{got, made, ran, held_at, world_after}
+use Rattle.dn_machine.specs.Node.{got, made, ran, held_at, is_ended, has_left, known_end, world_after, lacks, demo_rows}
 use Rattle.dn_machine.specs.Hearing.{on_packet}
+use Rattle.dn_machine.specs.Running.{tic_limit}
 use Rattle.dn_machine.specs.Game.{Game, refused_flight}
 
 abbrev pub IsPrefixOf : {A : Type 0} → List A → List A → Type 0
@@ -25,8 +26,18 @@ pub record Agree {S : Type 0} (rules : Rules S) (settings : Settings) (game : Ga
   -- any two nodes that ran a tic ran the same row
   pub same : (q r tic : ℕ) → q < rules.players → r < rules.players → tic < ran (game.nodes q) → tic < ran (game.nodes r)
       → slice_get (game.nodes q).rows tic ≡ slice_get (game.nodes r).rows tic
-  -- every player has made a command for each tic that any node ran
-  pub whole : (q p tic : ℕ) → q < rules.players → p < rules.players → tic < ran (game.nodes q) → tic < length (keys_of game p)
+  -- a tic is run without a player from that player's end on, and never before, by every node
+  pub without : (q p tic : ℕ) → q < rules.players → p < rules.players → p < 4 → tic < ran (game.nodes q)
+      → lacks (get_or (game.nodes q).rows tic []) p ≡ (has_left (game.nodes p) && nat_le (made p (game.nodes p)) tic)
+  -- every player who has not left has made a command for each tic that any node ran
+  pub whole : (q p tic : ℕ) → q < rules.players → p < rules.players → tic < ran (game.nodes q)
+      → has_left (game.nodes p) ≡ false → tic < length (keys_of game p)
+  -- a known end is that of a player who has left, and comes right after the last command
+  pub ends : (q p end : ℕ) → q < rules.players → p < rules.players → known_end q (game.nodes q) p ≡ Some end
+      → (has_left (game.nodes p) ≡ true) × (end ≡ made p (game.nodes p))
+  -- hence any two nodes that know a player's end know the same
+  pub ends_same : (q r p a b : ℕ) → q < rules.players → r < rules.players → p < rules.players
+      → known_end q (game.nodes q) p ≡ Some a → known_end r (game.nodes r) p ≡ Some b → a ≡ b
   -- what a node has of a player are the first of the commands that the player's keys make
   pub held : (q p tic : ℕ) → q < rules.players → p < rules.players → tic < got (game.nodes q) p
       → held_at (game.nodes q) p tic ≡ command rules settings (keys_of game) p tic
@@ -36,24 +47,39 @@ pub record Agree {S : Type 0} (rules : Rules S) (settings : Settings) (game : Ga
   pub settings_same : (q : ℕ) → q < rules.players → (game.nodes q).played ≡ true → (game.nodes q).settings ≡ Some settings
   -- of the rows in any two nodes' demos one list is a prefix of the other
   pub demos : (q r : ℕ) → q < rules.players → r < rules.players
-      → IsPrefixOf (game.nodes q).rows (game.nodes r).rows ⊎ IsPrefixOf (game.nodes r).rows (game.nodes q).rows
+      → IsPrefixOf (demo_rows rules (game.nodes q)) (demo_rows rules (game.nodes r))
+      ⊎ IsPrefixOf (demo_rows rules (game.nodes r)) (demo_rows rules (game.nodes q))
+  -- and no row of a demo lacks a player
+  pub demo_whole : (q p tic : ℕ) → p < rules.players → tic < length (demo_rows rules (game.nodes q))
+      → lacks (get_or (demo_rows rules (game.nodes q)) tic []) p ≡ false
   -- a node's own world is that of the players' keys
   pub worlds : (q : ℕ) → q < rules.players
       → world_after rules settings (game.nodes q).rows (ran (game.nodes q)) ≡ world rules settings (keys_of game) (ran (game.nodes q))
 
--- Windows: no ring of twelve overwrites a command that is still needed.
+-- a player's end, and this tic for one who has not left
+abbrev pub end_or : Game → ℕ → ℕ → ℕ
+end_or game player tic = if has_left (game.nodes player) then made player (game.nodes player) else tic
+
+-- Windows: no ring of twelve overwrites a command that a node that has not ended still needs.
 pub record Fits {S : Type 0} (rules : Rules S) (game : Game) : Type 0 where
-  -- a node has every command of the tics that it ran, and at most ten that it has not run yet
-  pub run : (q p : ℕ) → q < rules.players → p < rules.players → ran (game.nodes q) ≤ got (game.nodes q) p
+  -- a node has every command of the tics that it ran, up to its player's end, and at most ten that it has not run yet
+  pub run : (q p : ℕ) → q < rules.players → p < rules.players
+      → min (ran (game.nodes q)) (end_or game p (ran (game.nodes q))) ≤ got (game.nodes q) p
   pub unread : (q p : ℕ) → q < rules.players → p < rules.players → got (game.nodes q) p ≤ ran (game.nodes q) + 10
   -- it has no command that was not made, and at most ten that were made are missing
   pub held : (q p : ℕ) → q < rules.players → p < rules.players → got (game.nodes q) p ≤ made p (game.nodes p)
-  pub unheard : (q p : ℕ) → q < rules.players → p < rules.players → made p (game.nodes p) ≤ got (game.nodes q) p + 10
-  -- no player is more than five commands ahead of the tics run, nor of another player
+  pub unheard : (q p : ℕ) → q < rules.players → p < rules.players → is_ended (game.nodes q).phase ≡ false
+      → made p (game.nodes p) ≤ got (game.nodes q) p + 10
+  -- no player is more than five commands ahead of the tics run, nor of another player who has not ended
   pub ahead : (p : ℕ) → p < rules.players → made p (game.nodes p) ≤ ran (game.nodes p) + 5
-  pub close : (p q : ℕ) → p < rules.players → q < rules.players → made p (game.nodes p) ≤ made q (game.nodes q) + 5
-  -- the tics run fit into the demo
-  pub room : (q : ℕ) → q < rules.players → ran (game.nodes q) ≤ rules.capacity
+  pub close : (p q : ℕ) → p < rules.players → q < rules.players → is_ended (game.nodes q).phase ≡ false
+      → made p (game.nodes p) ≤ made q (game.nodes q) + 5
+  -- the demo's rows fit into it, and there are no more of them than any player has commands
+  pub room : (q : ℕ) → q < rules.players → length (demo_rows rules (game.nodes q)) ≤ rules.capacity
+  pub least : (q p : ℕ) → q < rules.players → p < rules.players
+      → length (demo_rows rules (game.nodes q)) ≤ made p (game.nodes p)
+  -- no more tics are run than may be, where no demo has more
+  pub most : (q : ℕ) → q < rules.players → rules.capacity ≤ tic_limit → ran (game.nodes q) ≤ tic_limit
 
 -- Steadiness: nothing that was truly sent is taken for wrong.
 pub record Steady {S : Type 0} (rules : Rules S) (game : Game) : Type 0 where

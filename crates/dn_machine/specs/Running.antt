@@ -1,5 +1,5 @@
 -- What a run and a quit do to a node (d_net.c, TryRunTics; g_game.c, G_Ticker).
-use Rattle.std.specs.Prelude.{ℕ, Bool, true, false, not, List, [], ◌∷◌, ◌++◌, nat_lt, nat_le, ◌==◌, if◌then◌else◌, Option, Some, None}
+use Rattle.std.specs.Prelude.{ℕ, Bool, true, false, not, ◌&&◌, List, [], ◌∷◌, ◌++◌, nat_lt, nat_le, ◌==◌, if◌then◌else◌, Option, Some, None}
 use Rattle.std.specs.Ordering.{int_eq}
 use Rattle.dn_tic.specs.declared.command.Move.{Move}
 use Rattle.dn_machine.specs.declared.answers.Cause.TheVariants as Cause
@@ -7,23 +7,43 @@ use Rattle.dn_machine.specs.declared.answers.Phase.{Phase}
 use Rattle.dn_machine.specs.declared.answers.Phase.TheVariants.{Listening, Gathering, Playing, Ended}
 use Rattle.dn_machine.specs.declared.answers.Ran.{Ran}
 use Rattle.dn_machine.specs.Worlds.{Rules, row_of}
-use Rattle.dn_machine.specs.Node.{Node, got, ran, held_at, own_mark, lowest}
+use Rattle.dn_machine.specs.Node.{Node, got, ran, held_at, own_mark, lowest, is_whole}
 
--- the player's command for the next tic is not there yet
+-- so many tics are run at most: the next is not run, where it lacks a player
+abbrev pub tic_limit : ℕ
+tic_limit = 2097150
+
+-- the tic at which a node ends in place of running this row: where its demo is full, or at the limit of tics for a row that
+-- lacks a player, which no demo has
+abbrev pub full_at : {S : Type 0} → Rules S → List (Option Move) → ℕ
+full_at rules row = if is_whole rules.players row then rules.capacity else tic_limit
+
+-- there is an end, and the tic is not before it
+abbrev pub is_over : Option ℕ → ℕ → Bool
+is_over None tic = false
+is_over (Some end) tic = nat_le end tic
+
+-- the next tic is not before the player's known end, so it is run without the player
+abbrev pub is_absent : Node → ℕ → Bool
+is_absent node player = is_over (node.ends player) (ran node)
+
+-- a present player's command for the next tic is not there yet
 abbrev pub is_awaited : Node → ℕ → Bool
-is_awaited node player = nat_le (got node player) (ran node)
+is_awaited node player = not (is_absent node player) && nat_le (got node player) (ran node)
 
--- the player's command for the next tic carries another mark than the node's own world has
+-- a present player's command for the next tic carries another mark than the node's own world has
 abbrev pub is_off : {S : Type 0} → Rules S → Node → ℕ → Bool
-is_off rules node player = not (int_eq (held_at node player (ran node)).mark (own_mark rules node player (ran node)))
+is_off rules node player =
+    not (is_absent node player) && not (int_eq (held_at node player (ran node)).mark (own_mark rules node player (ran node)))
 
 -- the player whose mark is off in the next tic; none is looked at up to tic 12
 abbrev pub first_off : {S : Type 0} → Rules S → Node → Option ℕ
 first_off rules node = if nat_lt 12 (ran node) then lowest rules.players (is_off rules node) else None
 
--- the row of the commands that a node has for the next tic
+-- the row of the commands that a node has of the present players for the next tic
 abbrev pub row_held : {S : Type 0} → Rules S → Node → List (Option Move)
-row_held rules node = row_of rules.players (λ player. Some (held_at node player (ran node)))
+row_held rules node =
+    row_of rules.players (λ player. if is_absent node player then None else Some (held_at node player (ran node)))
 
 -- a playing node runs a tic, by the player that it waits for and the player whose mark is off
 abbrev pub on_run_playing : {S : Type 0} → Rules S → Node → Option ℕ → Option ℕ → Node × Ran
@@ -33,7 +53,7 @@ on_run_playing rules node None (Some off) =
     let should = own_mark rules node off (ran node) in
     (record node { phase = Ended (Cause.Inconsistent off was should) }, Ran.Inconsistent off was should)
 on_run_playing rules node None None =
-    if ran node == rules.capacity
+    if ran node == full_at rules (row_held rules node)
     then (record node { phase = Ended Cause.Full }, Ran.DemoFull)
     else (record node { rows = node.rows ++ row_held rules node ∷ [] }, Ran.Ran (ran node))
 

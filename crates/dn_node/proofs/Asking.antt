@@ -37,3 +37,13 @@ resends_kept old new from players made count request q below counted low asks ot
           let P : Peer → Type 0 = λ x. x.resend ≤ count in
           subst P (sym (others p other)) (low p h)
     ]
+
+-- resends after one peer's was put low enough
+pub resends_put : (old new : ℕ → Peer) (player players count : ℕ) → ((p : ℕ) → p < players → (old p).resend ≤ count) → ((p : ℕ) → p ≢ player → new p ≡ old p)
+    → (new player).resend ≤ count → (p : ℕ) → p < players → (new p).resend ≤ count
+resends_put old new player players count low others is p h =
+    let P : Peer → Type 0 = λ x. x.resend ≤ count in
+    elim (cases_eq p player) [
+      | inl same ↦ subst (λ (k : ℕ). (new k).resend ≤ count) (sym same) is
+      | inr other ↦ subst P (sym (others p other)) (low p h)
+    ]

@@ -1,5 +1,5 @@
 -- What a build makes of the machine's node, and of one that represents it.
-use Rattle.std.proofs.Common.{◌≡◌, ◌≢◌, ◌<◌, ◌≤◌, ◌+◌, ◌-◌, ◌%◌, ℕ, ℤ, [], ◌∷◌, ◌++◌, refl, ap, sym, ◌∙◌, inl, inr}
+use Rattle.std.proofs.Common.{◌≡◌, ◌≢◌, ◌<◌, ◌≤◌, ◌+◌, ◌-◌, ◌%◌, ℕ, ℤ, [], ◌∷◌, ◌++◌, refl, ap, sym, ◌∙◌, inl, inr, Option, None}
 use Rattle.std.proofs.lemmas.Bool.{le-leb, lt-leb, cases_eq}
 use Rattle.dn_tic.specs.Pressed.{pressed, turn_hold}
 use Rattle.dn_tic.specs.declared.command.TicCmd.{TicCmd}
@@ -9,6 +9,7 @@ use Rattle.dn_ring.proofs.Keeping.{put-ring_of}
 use Rattle.dn_machine.specs.declared.answers.Phase.{Phase}
 use Rattle.dn_machine.specs.declared.answers.Phase.TheVariants.{Listening, Gathering, Playing, Ended}
 use Rattle.dn_machine.specs.declared.answers.Made.{Made}
+use Rattle.dn_machine.specs.Running.{is_over}
 use Rattle.dn_machine.specs.Worlds.{Rules}
 use Rattle.dn_machine.specs.Node as machine
 use Rattle.dn_machine.specs.Node.{put, own_mark}
@@ -78,17 +79,18 @@ shows_built state rules me n m keys hold rings r holds own others =
       world = r.world;
       marks = r.marks;
       demo = r.demo;
+      closed = r.closed;
     }
 
 -- the own ring with the command that was built
 pub own_ring : {W S : Type 0} (state : W → S) (rules : Rules S) (me : ℕ) (n : Contents W) (m : machine.Node) (keys tic : ℕ) (mark : ℤ) (command : TicCmd) (ring : Ring)
     → Represents state rules me n m → n.me < n.players → tic ≡ machine.made me m → machine.ran m ≤ tic → tic < machine.ran m + 12
-    → mark ≡ n.marks n.me (tic % 12) → command ≡ pressed (m.keys ++ keys ∷ []) mark → ring ≡ last.put (n.rings n.me) command
+    → m.ends me ≡ None → mark ≡ n.marks n.me (tic % 12) → command ≡ pressed (m.keys ++ keys ∷ []) mark → ring ≡ last.put (n.rings n.me) command
     → ring ≡ ring_of (m.held me ++ next_command rules me m keys ∷ [])
-own_ring state rules me n m keys tic mark command ring r h made low high marked is e =
+own_ring state rules me n m keys tic mark command ring r h made low high endless marked is e =
     let below = mine state rules me n m r h in
     let own : mark ≡ own_mark rules m me (machine.made me m) =
-    marked ∙ ap (λ (p : ℕ). n.marks p (tic % 12)) r.number ∙ r.marks me tic below low high ∙ ap (own_mark rules m me) made in
+    marked ∙ ap (λ (p : ℕ). n.marks p (tic % 12)) r.number ∙ r.marks me tic below low high (ap (λ (o : Option ℕ). is_over o (tic - 12)) endless) ∙ ap (own_mark rules m me) made in
     let kept : n.rings n.me ≡ ring_of (m.held me) = ap n.rings r.number ∙ r.rings me below in
     let next : command ≡ next_command rules me m keys = is ∙ ap (pressed (m.keys ++ keys ∷ [])) own in
     e ∙ ap (λ (k : Ring). last.put k command) kept ∙ put-ring_of (m.held me) command ∙ ap (λ (c : TicCmd). ring_of (m.held me ++ c ∷ [])) next

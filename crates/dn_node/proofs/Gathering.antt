@@ -3,7 +3,6 @@ use Rattle.std.proofs.Common.{◌≡◌, ◌<◌, ◌≤◌, ◌+◌, ◌-◌, �
 use Rattle.std.specs.Prelude.{◌||◌, ◌&&◌, ◌==◌}
 use Rattle.std.specs.List.{list_all, range_with_len}
 use Rattle.std.proofs.lemmas.Bool.{cases_eq, eq-eqb, ne_eqb, lt-ltb, and_from, and_left, or_right}
-use Rattle.dn_packet.specs.declared.packet.Packet.{Packet}
 use Rattle.dn_setup.specs.Settings.{Settings}
 use Rattle.dn_setup.specs.Gathered.{Gathered, is_noted, is_peer, all_noted}
 use Rattle.dn_machine.specs.declared.answers.Heard.{Heard}
@@ -11,11 +10,9 @@ use Rattle.dn_machine.specs.declared.answers.Phase.TheVariants.{Playing}
 use Rattle.dn_machine.specs.Worlds.{Rules}
 use Rattle.dn_machine.specs.Node as machine
 use Rattle.dn_machine.specs.Node.{put}
-use Rattle.dn_machine.specs.Hearing.{started}
+use Rattle.dn_machine.specs.Hearing.{started, on_gathering}
 use Rattle.dn_machine.proofs.Put.{put_at, put_off}
 use Rattle.dn_node.specs.Contents.{Contents}
-use Rattle.dn_node.specs.Reading.{has_flag}
-use Rattle.dn_node.specs.Received.{on_gathered}
 use Rattle.dn_node.specs.Represents.{Represents}
 use Rattle.dn_node.specs.Steps.{IsAfter}
 use Rattle.dn_node.proofs.After.{after}
@@ -76,6 +73,7 @@ module _ {W S : Type 0} (state : W → S) (rules : Rules S) (me : ℕ) (n : Cont
         world = r.world;
         marks = r.marks;
         demo = r.demo;
+        closed = r.closed;
       }
 
   all_heard : (complete : Bool) → complete ≡ all_noted gather.players (is_noted gather) → all_noted rules.players (put m.noted from true) ≡ complete
@@ -83,19 +81,19 @@ module _ {W S : Type 0} (state : W → S) (rules : Rules S) (me : ℕ) (n : Cont
       sym (is ∙ ap (λ (k : ℕ). all_noted k (is_noted gather)) (players ∙ r.gathers)
       ∙ noted_same rules.players (is_noted gather) (put m.noted from true) now_noted)
 
-  pub noted_shows : (packet : Packet) → has_flag packet 1 ≡ false → false ≡ all_noted gather.players (is_noted gather)
-      → IsAfter state rules me (record n { gather = gather }) (on_gathered rules m from packet) (λ answer. Heard.Noted ≡ answer)
-  noted_shows packet alive some =
+  pub noted_shows : false ≡ all_noted gather.players (is_noted gather)
+      → IsAfter state rules me (record n { gather = gather }) (on_gathering rules m from) (λ answer. Heard.Noted ≡ answer)
+  noted_shows some =
       let more = all_heard false some in
-      after (record m { noted = put m.noted from true }) Heard.Noted (rw (alive, more) refl) shows_noted refl
+      after (record m { noted = put m.noted from true }) Heard.Noted (rw more refl) shows_noted refl
 
-  pub started_shows : (packet : Packet) (settings : Settings) (started_as : Contents W)
-      → has_flag packet 1 ≡ false → true ≡ all_noted gather.players (is_noted gather) → n.settings ≡ Some settings
+  pub started_shows : (settings : Settings) (started_as : Contents W)
+      → true ≡ all_noted gather.players (is_noted gather) → n.settings ≡ Some settings
       → Represents state rules me started_as (started (record m { noted = put m.noted from true }) settings)
-      → IsAfter state rules me started_as (on_gathered rules m from packet) (λ answer. Heard.Started ≡ answer)
-  started_shows packet settings started_as alive every known shows =
+      → IsAfter state rules me started_as (on_gathering rules m from) (λ answer. Heard.Started ≡ answer)
+  started_shows settings started_as every known shows =
       let none = all_heard true every in
       let P : Option Settings → Type 0 = λ s.
       Represents state rules me started_as (record m { phase = Playing; played = true; settings = s; noted = put m.noted from true }) in
-      after (record m { phase = Playing; played = true; noted = put m.noted from true }) Heard.Started (rw (alive, none) refl)
+      after (record m { phase = Playing; played = true; noted = put m.noted from true }) Heard.Started (rw none refl)
       (subst P (sym known ∙ r.settings) shows) refl

@@ -26,15 +26,7 @@ module _ (m : machine.Node) (to tic : ℕ) where
     resend = put m.resend to tic;
     want = put_same m.want to k;
     hold = put_same m.hold to k;
-    exits = put_same m.exits to k;
-  }
-
-  pub exited : record m { exits = put m.exits to tic } ≡ with_peer m to (record (peer_of m to) { exits = tic })
-  exited = λ k. record m {
-    resend = put_same m.resend to k;
-    want = put_same m.want to k;
-    hold = put_same m.hold to k;
-    exits = put m.exits to tic;
+    ends = put_same m.ends to k;
   }
 
 -- the machine's node once it was asked for a packet: as it was where it gave none, and else as noted

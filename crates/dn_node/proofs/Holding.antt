@@ -34,4 +34,5 @@ shows_ring state rules me n m player commands rings r new others =
       world = r.world;
       marks = r.marks;
       demo = r.demo;
+      closed = r.closed;
     }

@@ -13,7 +13,7 @@ pub mod Keeping
 pub mod Lowest
 pub mod Spelling
 pub mod Replaying
-pub mod Telling
+pub mod Seats
 pub mod Running
 pub mod Finding
 pub mod Moving
@@ -25,3 +25,5 @@ pub mod Starting
 pub mod Rests
 pub mod Asking
 pub mod Taking
+pub mod Gone
+pub mod Telling

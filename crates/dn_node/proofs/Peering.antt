@@ -1,9 +1,10 @@
 -- A node that keeps something else of a peer.
-use Rattle.std.proofs.Common.{◌≡◌, ◌≢◌, ℕ, ap, sym, ◌∙◌, inl, inr}
+use Rattle.std.proofs.Common.{◌≡◌, ◌≢◌, ℕ, ◌-◌, false, Option, ap, sym, ◌∙◌, inl, inr}
 use Rattle.std.proofs.lemmas.Bool.{cases_eq}
 use Rattle.dn_machine.specs.Worlds.{Rules}
 use Rattle.dn_machine.specs.Node as machine
 use Rattle.dn_machine.specs.Node.{put}
+use Rattle.dn_machine.specs.Running.{is_over}
 use Rattle.dn_machine.proofs.Put.{put_at, put_off, same_functions}
 use Rattle.dn_node.specs.declared.peers.Peer.{Peer}
 use Rattle.dn_node.specs.Contents.{Contents}
@@ -17,7 +18,7 @@ with_peer m player peer =
       resend = put m.resend player peer.resend;
       want = put m.want player peer.want;
       hold = put m.hold player peer.hold;
-      exits = put m.exits player peer.exits;
+      ends = put m.ends player peer.end;
     }
 
 -- what was there put in its place again
@@ -32,21 +33,21 @@ peer_new m i p q e =
     let resend = put_at m.resend i p q.resend e in
     let want = put_at m.want i p q.want e in
     let hold = put_at m.hold i p q.hold e in
-    let exits = put_at m.exits i p q.exits e in
-    λ k. record { resend = resend k; want = want k; hold = hold k; exits = exits k }
+    let ends = put_at m.ends i p q.end e in
+    λ k. record { resend = resend k; want = want k; hold = hold k; end = ends k }
 
 peer_old : (m : machine.Node) (i p : ℕ) (q : Peer) → p ≢ i → peer_of (with_peer m i q) p ≡ peer_of m p
 peer_old m i p q n =
     let resend = put_off m.resend i p q.resend n in
     let want = put_off m.want i p q.want n in
     let hold = put_off m.hold i p q.hold n in
-    let exits = put_off m.exits i p q.exits n in
-    λ k. record { resend = resend k; want = want k; hold = hold k; exits = exits k }
+    let ends = put_off m.ends i p q.end n in
+    λ k. record { resend = resend k; want = want k; hold = hold k; end = ends k }
 
 pub shows_peer : {W S : Type 0} (state : W → S) (rules : Rules S) (me : ℕ) (n : Contents W) (m : machine.Node) (player : ℕ) (peer : Peer) (peers : ℕ → Peer)
-    → Represents state rules me n m → peers player ≡ peer → ((p : ℕ) → p ≢ player → peers p ≡ n.peers p)
+    → Represents state rules me n m → ((tic : ℕ) → is_over peer.end tic ≡ false → is_over (m.ends player) tic ≡ false) → peers player ≡ peer → ((p : ℕ) → p ≢ player → peers p ≡ n.peers p)
     → Represents state rules me (record n { peers = peers }) (with_peer m player peer)
-shows_peer state rules me n m player peer peers r new others =
+shows_peer state rules me n m player peer peers r later new others =
     record {
       players = r.players;
       number = r.number;
@@ -65,6 +66,12 @@ shows_peer state rules me n m player peer peers r new others =
       ];
       noted = r.noted;
       world = r.world;
-      marks = r.marks;
+      marks = λ p tic below low high present. r.marks p tic below low high (elim (cases_eq p player) [
+        | inl same ↦
+            ap (λ (k : ℕ). is_over (m.ends k) (tic - 12)) same
+            ∙ later (tic - 12) (ap (λ (o : Option ℕ). is_over o (tic - 12)) (sym (put_at m.ends player p peer.end same)) ∙ present)
+        | inr other ↦ ap (λ (o : Option ℕ). is_over o (tic - 12)) (sym (put_off m.ends player p peer.end other)) ∙ present
+      ]);
       demo = r.demo;
+      closed = r.closed;
     }

@@ -1,5 +1,5 @@
 -- What a quit makes of the machine's node, by its phase.
-use Rattle.std.proofs.Common.{◌≡◌, ◌⊎◌, ◌∙◌, inl, inr, ℕ, true, false, Bool, [], ap, sym, refl}
+use Rattle.std.proofs.Common.{◌≡◌, ◌⊎◌, ◌∙◌, inl, inr, ℕ, true, false, true≢false, Bool, [], ap, sym, refl}
 use Rattle.std.specs.Prelude.{if◌then◌else◌}
 use Rattle.dn_machine.specs.declared.answers.Phase.TheVariants.{Listening, Gathering, Playing, Ended}
 use Rattle.dn_machine.specs.declared.answers.Cause.TheVariants.{Quit}
@@ -50,4 +50,5 @@ shows_unplayed state rules me n m cause r unplayed =
       demo = r.demo
           ∙ ap (λ (b : Bool). if b then demo_with rules me m m.settings else []) not
           ∙ sym (ap (λ (b : Bool). if b then demo_with rules me (record m { phase = Ended cause }) m.settings else []) not);
+      closed = λ e. absurd (true≢false (sym e ∙ not));
     }

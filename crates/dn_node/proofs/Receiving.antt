@@ -1,5 +1,5 @@
 -- How a node hears a datagram, by what it tests first.
-use Rattle.std.proofs.Common.{◌≡◌, ◌≢◌, ◌<◌, ◌≤◌, ◌⊎◌, ℕ, true, false, List, refl, sym, ◌∙◌, ap, subst, arith, inl, inr}
+use Rattle.std.proofs.Common.{◌≡◌, ◌≢◌, ◌<◌, ◌≤◌, ◌⊎◌, ℕ, Bool, true, false, List, refl, sym, ◌∙◌, ap, subst, arith, inl, inr}
 use Rattle.std.specs.Prelude.{Result}
 use Rattle.std.proofs.lemmas.Bool.{eq-eqb, ne_eqb, lt-ltb, le-ltb, cases_lt}
 use Rattle.dn_packet.specs.declared.packet.Packet.{Packet}
@@ -8,30 +8,22 @@ use Rattle.dn_packet.specs.Read.{IsReadAs}
 use Rattle.dn_setup.specs.Settings.{Settings}
 use Rattle.dn_setup.specs.declared.setup.SetupFault.{SetupFault}
 use Rattle.dn_world.specs.Physics.{Physics}
-use Rattle.dn_machine.specs.declared.answers.Cause.{Cause}
 use Rattle.dn_machine.specs.declared.answers.Heard.{Heard}
 use Rattle.dn_machine.specs.declared.answers.Phase.{Phase}
-use Rattle.dn_machine.specs.declared.answers.Phase.TheVariants.{Listening, Gathering, Playing, Ended}
 use Rattle.dn_machine.specs.Worlds.{Rules, rules_of}
 use Rattle.dn_machine.specs.Node as machine
 use Rattle.dn_node.specs.Contents.{Contents}
-use Rattle.dn_node.specs.Phases.{is_ended}
+use Rattle.dn_node.specs.Phases.{hears_none}
 use Rattle.dn_node.specs.Received.{received, on_read, IsTold}
 use Rattle.dn_node.specs.Represents.{Represents}
 use Rattle.dn_node.specs.Steps.{Steps}
 use Rattle.dn_node.proofs.After.{after}
 
-not_ended : (phase : Phase) → ((cause : Cause) → phase ≢ Ended cause) → is_ended phase ≡ false
-not_ended Listening on = refl
-not_ended Gathering on = refl
-not_ended Playing on = refl
-not_ended (Ended cause) on = absurd (on cause refl)
-
 module _ {S : Type 0} (rules : Rules S) (me : ℕ) (m : machine.Node) (from : ℕ) (told : Result Settings SetupFault) (read : Result Packet PacketFault) where
-  received_ended : is_ended m.phase ≡ true → ◌≡◌ {A = machine.Node × Heard} (received rules me m from told read) (m, Heard.Dropped 13)
+  received_ended : hears_none m.phase m.played ≡ true → ◌≡◌ {A = machine.Node × Heard} (received rules me m from told read) (m, Heard.Dropped 13)
   received_ended done = rw done refl
 
-  received_strange : is_ended m.phase ≡ false → (rules.players ≤ from) ⊎ (from ≡ me)
+  received_strange : hears_none m.phase m.played ≡ false → (rules.players ≤ from) ⊎ (from ≡ me)
       → ◌≡◌ {A = machine.Node × Heard} (received rules me m from told read) (m, Heard.Dropped 5)
   received_strange on (inl past) = let none = le-ltb from rules.players past in rw (on, none) refl
   received_strange on (inr own) = elim (cases_lt from rules.players) [
@@ -42,7 +34,7 @@ module _ {S : Type 0} (rules : Rules S) (me : ℕ) (m : machine.Node) (from : �
     | inr past ↦ let none = le-ltb from rules.players past in rw (on, none) refl
   ]
 
-  received_read : is_ended m.phase ≡ false → from < rules.players → from ≢ me
+  received_read : hears_none m.phase m.played ≡ false → from < rules.players → from ≢ me
       → ◌≡◌ {A = machine.Node × Heard} (received rules me m from told read) (on_read rules me m from told read)
   received_read on below other =
       let there = lt-ltb from rules.players below in
@@ -50,15 +42,15 @@ module _ {S : Type 0} (rules : Rules S) (me : ℕ) (m : machine.Node) (from : �
       rw (on, there, apart) refl
 
 module _ {W S : Type 0} (state : W → S) (physics : Physics S) (old : Contents W) (from : ℕ) (bytes : List ℕ) where
-  -- a node that has ended drops it
-  pub any_ended : (cause : Cause) → old.phase ≡ Ended cause → (read : Result Packet PacketFault) (told : Result Settings SetupFault) → IsReadAs bytes read → IsTold read told
+  -- a node that has ended without having played drops it
+  pub any_ended : hears_none old.phase old.played ≡ true → (read : Result Packet PacketFault) (told : Result Settings SetupFault) → IsReadAs bytes read → IsTold read told
       → Steps state physics old old (λ rules me m. received rules me m from told read) (λ heard. Heard.Dropped 13 ≡ heard)
-  any_ended cause done read told is tells players extra capacity me m r =
-      after m (Heard.Dropped 13) (received_ended (rules_of physics players extra capacity) me m from told read (ap is_ended (sym r.phase ∙ done))) r refl
+  any_ended done read told is tells players extra capacity me m r =
+      after m (Heard.Dropped 13) (received_ended (rules_of physics players extra capacity) me m from told read (ap (λ (p : Phase). hears_none p m.played) (sym r.phase) ∙ ap (λ (b : Bool). hears_none old.phase b) (sym r.played) ∙ done)) r refl
 
-  module _ (on : (cause : Cause) → old.phase ≢ Ended cause) where
-    goes_on : (rules : Rules S) (me : ℕ) (m : machine.Node) → Represents state rules me old m → is_ended m.phase ≡ false
-    goes_on rules me m r = ap is_ended (sym r.phase) ∙ not_ended old.phase on
+  module _ (on : hears_none old.phase old.played ≡ false) where
+    goes_on : (rules : Rules S) (me : ℕ) (m : machine.Node) → Represents state rules me old m → hears_none m.phase m.played ≡ false
+    goes_on rules me m r = ap (λ (p : Phase). hears_none p m.played) (sym r.phase) ∙ ap (λ (b : Bool). hears_none old.phase b) (sym r.played) ∙ on
 
     -- who is no peer is not heard
     pub any_strange : (old.players ≤ from) ⊎ (from ≡ old.me) → (read : Result Packet PacketFault) (told : Result Settings SetupFault) → IsReadAs bytes read → IsTold read told

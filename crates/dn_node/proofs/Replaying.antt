@@ -1,8 +1,11 @@
 -- The demo and the world of a node that has played.
-use Rattle.std.proofs.Common.{◌≡◌, ℕ, Bool, true, List, [], length, Option, Some, fold, ap, ◌∙◌}
-use Rattle.std.specs.Prelude.{if◌then◌else◌}
+use Rattle.std.proofs.Common.{◌≡◌, ℕ, Bool, true, ◌||◌, List, [], length, Option, Some, fold, ap, sym, ◌∙◌, arith}
+use Rattle.std.specs.Prelude.{if◌then◌else◌, nat_lt}
 use Rattle.std.specs.Option.{option_map}
 use Rattle.std.proofs.lemmas.Option.{same_Some}
+use Rattle.std.specs.List.{prefix_len}
+use Rattle.std.proofs.lemmas.List.{take_all}
+use Rattle.std.proofs.lemmas.List.Folds.{length-prefix_len}
 use Rattle.std.proofs.Math.Seq.{take-length}
 use Rattle.dn_tic.specs.declared.command.Move.{Move}
 use Rattle.dn_setup.specs.Settings.{Settings}
@@ -16,8 +19,8 @@ use Rattle.dn_machine.specs.Worlds.{Rules, opening}
 use Rattle.dn_machine.specs.Node as machine
 use Rattle.dn_machine.specs.Node.{own_world, world_after}
 use Rattle.dn_node.specs.Contents.{Contents}
-use Rattle.dn_node.specs.Phases.{is_ended}
-use Rattle.dn_node.specs.Represents.{Represents, demo_of, demo_with}
+use Rattle.dn_machine.specs.Node.{is_ended, is_whole, demo_rows}
+use Rattle.dn_node.specs.Represents.{Represents, demo_of, demo_with, is_demo_closed}
 use Rattle.dn_node.specs.Rows.{seats_of}
 
 -- the world after all of some rows
@@ -30,17 +33,25 @@ module _ {S : Type 0} (rules : Rules S) (m : machine.Node) (settings : Settings)
   pub own_world_is : (tic : ℕ) → own_world rules m tic ≡ Some (world_after rules settings m.rows tic)
   own_world_is tic = ap (option_map (λ (s : Settings). world_after rules s m.rows tic)) known
 
-  pub demo_is : (me : ℕ) (phase : Phase) → m.played ≡ true → m.phase ≡ phase
-      → demo_of rules me m ≡ demo_text long_tics (start_of settings) me (seats_of rules.players) m.rows (is_ended phase)
-  demo_is me phase played at =
+  -- where the demo has as many rows as were run, it has all
+  pub all_recorded : machine.ran m ≡ length (demo_rows rules m) → demo_rows rules m ≡ m.rows
+  all_recorded e = let long = length-prefix_len (is_whole rules.players) m.rows in take_all (prefix_len (is_whole rules.players) m.rows) m.rows (omega arith)
+
+  pub demo_is : (me : ℕ) → m.played ≡ true
+      → demo_of rules me m ≡ demo_text long_tics (start_of settings) me (seats_of rules.players) (demo_rows rules m) (is_demo_closed rules m)
+  demo_is me played =
       ap (λ (b : Bool). if b then demo_with rules me m m.settings else []) played
       ∙ ap (demo_with rules me m) known
-      ∙ ap (λ (p : Phase). demo_text long_tics (start_of settings) me (seats_of rules.players) m.rows (is_ended p)) at
 
 module _ {W S : Type 0} (state : W → S) (rules : Rules S) (me : ℕ) (n : Contents W) (m : machine.Node) (settings : Settings)
     (r : Represents state rules me n m) (played : m.played ≡ true) (known : m.settings ≡ Some settings) where
-  pub demo_ended : (cause : Cause) → m.phase ≡ Ended cause → n.demo.bytes ≡ demo_text long_tics (start_of settings) me (seats_of rules.players) m.rows true
-  demo_ended cause ended = r.demo ∙ demo_is rules m settings known me (Ended cause) played ended
+  pub demo_ended : (cause : Cause) → m.phase ≡ Ended cause → n.demo.bytes ≡ demo_text long_tics (start_of settings) me (seats_of rules.players) (demo_rows rules m) true
+  demo_ended cause ended =
+      r.demo ∙ demo_is rules m settings known me played
+      ∙ ap (λ (p : Phase). demo_text long_tics (start_of settings) me (seats_of rules.players) (demo_rows rules m) (is_ended p || nat_lt (length (demo_rows rules m)) (machine.ran m))) ended
 
   pub world_played : state n.world ≡ fold rules.physics.step (opening rules settings) m.rows
   world_played = same_Some _ _ (r.world played ∙ own_world_is rules m settings known (machine.ran m)) ∙ world_of rules settings m.rows
+
+  pub world_recorded : n.ran ≡ length (demo_rows rules m) → state n.world ≡ fold rules.physics.step (opening rules settings) (demo_rows rules m)
+  world_recorded e = world_played ∙ ap (fold rules.physics.step (opening rules settings)) (sym (all_recorded rules m settings known (sym r.ran ∙ e)))

@@ -4,7 +4,6 @@ use Rattle.std.specs.Prelude.{IfSome}
 use Rattle.std.specs.List.{list_any}
 use Rattle.std.specs.Option.{option_map}
 use Rattle.std.proofs.lemmas.Option.{same_Some}
-use Rattle.std.proofs.Math.Seq.{drop-length}
 use Rattle.dn_packet.specs.declared.packet.Packet.{Packet}
 use Rattle.dn_packet.specs.Text.{IsPacket}
 use Rattle.dn_setup.specs.Settings.{Settings, IsSettings}
@@ -14,7 +13,7 @@ use Rattle.dn_machine.specs.declared.answers.Phase.TheVariants.{Listening, Gathe
 use Rattle.dn_machine.specs.Worlds.{Rules}
 use Rattle.dn_machine.specs.Node as machine
 use Rattle.dn_machine.specs.Flight.{Kind, Play, Exit, Flight, packet_of, packet_of_kind}
-use Rattle.dn_machine.specs.Sending.{on_send_in, exit_flight, set_up_flight}
+use Rattle.dn_machine.specs.Sending.{on_send_in, commands_flight, set_up_flight}
 use Rattle.dn_node.specs.declared.node.sending.Aim.{Aim}
 use Rattle.dn_node.specs.Rings.{is_stop}
 use Rattle.dn_node.specs.Contents.{Contents}
@@ -27,8 +26,8 @@ use Rattle.dn_node.proofs.Sending.{sends_in}
 -- only a gathering node sends anything but its own commands
 module _ {S : Type 0} (rules : Rules S) (me : ℕ) (m : machine.Node) (to : ℕ) where
   exits : (test : Bool) (next : machine.Node)
-      → IfSome (cond {A = machine.Node × Option Flight} test (next, Some (exit_flight me m to)) (m, None)).1 (IsOwn m me)
-  exits true next = record { from = refl; kind = inr refl; commands = sym (drop-length (m.held me)) }
+      → IfSome (cond {A = machine.Node × Option Flight} test (next, Some (commands_flight rules me m to Exit None)) (m, None)).1 (IsOwn m me)
+  exits true next = record { from = refl; kind = inr refl; commands = refl }
   exits false next = tt
 
   sends_own : (phase : Phase) → phase ≢ Gathering → IfSome (on_send_in rules me m to phase).1 (IsOwn m me)

@@ -4,13 +4,16 @@ use Rattle.dn_tic.specs.declared.command.Move.{Move}
 use Rattle.dn_setup.specs.Settings.{Settings}
 use Rattle.dn_setup.specs.Starts.{start_of}
 use Rattle.dn_setup.specs.declared.start.Start.{Start}
-use Rattle.dn_demo.specs.Recorded.{Recorded}
+use Rattle.dn_demo.specs.Recorded.{Recorded, is_closed}
+use Rattle.dn_demo.specs.declared.recorder.Stage.TheVariants.{Open}
+use Rattle.std.specs.List.{take_while}
+use Rattle.std.specs.Prelude.{nat_lt}
 use Rattle.dn_demo.specs.Layout.{long_tics}
 use Rattle.dn_demo.specs.Text.{demo_text}
 use Rattle.dn_machine.specs.declared.answers.Phase.TheVariants.{Playing}
 use Rattle.dn_machine.specs.Worlds.{Rules, opening}
 use Rattle.dn_machine.specs.Node as machine
-use Rattle.dn_machine.specs.Node.{world_after, own_mark}
+use Rattle.dn_machine.specs.Node.{world_after, own_mark, is_whole}
 use Rattle.dn_machine.specs.Hearing.{started}
 use Rattle.dn_node.specs.Contents.{Contents}
 use Rattle.dn_node.specs.Represents.{Represents}
@@ -41,9 +44,9 @@ early_mark rules m other p tic low = sym (first_marks rules m p tic low) ∙ fir
 pub shows_start : {W S : Type 0} (state : W → S) (rules : Rules S) (me : ℕ) (n : Contents W) (m : machine.Node) (settings : Settings) (world : W) (demo : Recorded)
     → Represents state rules me n m → n.ran ≡ 0
     → state world ≡ opening rules settings
-    → demo.bytes ≡ demo_text long_tics (start_of settings) me (seats_of rules.players) [] false
+    → demo.stage ≡ Open → demo.bytes ≡ demo_text long_tics (start_of settings) me (seats_of rules.players) [] false
     → Represents state rules me (record n { phase = Playing; played = true; settings = Some settings; world = world; demo = demo }) (started m settings)
-shows_start {W} {S} state rules me n m settings world demo r unrun begun written =
+shows_start {W} {S} state rules me n m settings world demo r unrun begun is_open written =
     let none : m.rows ≡ [] = none_there m.rows (sym r.ran ∙ unrun) in
     let zero : length m.rows ≡ 0 = sym r.ran ∙ unrun in
     record {
@@ -61,6 +64,7 @@ shows_start {W} {S} state rules me n m settings world demo r unrun begun written
       peers = r.peers;
       noted = r.noted;
       world = λ e. ap (λ (s : S). Some s) (begun ∙ sym (world_at_first rules settings m.rows none));
-      marks = λ p tic below low high. r.marks p tic below low high ∙ early_mark rules m (started m settings) p tic (omega (arith, zero, high));
-      demo = written ∙ ap (λ (rs : List (List (Option Move))). demo_text long_tics (start_of settings) me (seats_of rules.players) rs false) (sym none);
+      marks = λ p tic below low high present. r.marks p tic below low high present ∙ early_mark rules m (started m settings) p tic (omega (arith, zero, high));
+      demo = written ∙ ap (λ (rs : List (List (Option Move))). demo_text long_tics (start_of settings) me (seats_of rules.players) (take_while (is_whole rules.players) rs) (nat_lt (length (take_while (is_whole rules.players) rs)) (length rs))) (sym none);
+      closed = λ e. ap is_closed is_open ∙ ap (λ (rs : List (List (Option Move))). nat_lt (length (take_while (is_whole rules.players) rs)) (length rs)) (sym none);
     }

@@ -1,5 +1,5 @@
 -- What a node holds.
-use Rattle.std.specs.Prelude.{ℕ, ℤ, Bool, Option}
+use Rattle.std.specs.Prelude.{ℕ, ℤ, Bool, ◌&&◌, ◌==◌, Option, Some, None, if◌then◌else◌}
 use Rattle.dn_ring.specs.Ring.{Ring}
 use Rattle.dn_setup.specs.Settings.{Settings}
 use Rattle.dn_setup.specs.Gathered.{Gathered}
@@ -7,7 +7,8 @@ use Rattle.dn_demo.specs.Recorded.{Recorded}
 use Rattle.dn_machine.specs.declared.answers.Phase.{Phase}
 use Rattle.dn_node.specs.declared.node.Node.{Node}
 use Rattle.dn_node.specs.declared.peers.Peer.{Peer}
-use Rattle.dn_node.specs.Rings.{ring_at}
+use Rattle.dn_machine.specs.Node.{is_ended}
+use Rattle.dn_node.specs.Rings.{ring_at, count_of}
 use Rattle.dn_node.specs.Peers.{peer_at}
 use Rattle.dn_node.specs.Marks.{slot}
 
@@ -52,3 +53,10 @@ contents node =
       demo = node.demo;
       world = node.world;
     }
+
+-- a player's end as the node knows it: its own once it has played and ended, another's once it was told
+abbrev pub end_in : {W : Type 0} → Contents W → ℕ → Option ℕ
+end_in n player =
+    if player == n.me
+    then (if n.played && is_ended n.phase then Some (count_of n.rings n.me) else None)
+    else (n.peers player).end

@@ -1,7 +1,5 @@
 -- What a node must know to give a packet.
 use Rattle.std.specs.Prelude.{◌≡◌, ◌≢◌, ◌<◌, ◌≤◌, ◌⊎◌, ℕ, ◌+◌, drop}
-use Rattle.dn_machine.specs.declared.answers.Phase.TheVariants.{Ended}
-use Rattle.dn_machine.specs.declared.answers.Cause.{Cause}
 use Rattle.dn_machine.specs.Flight.{Play, Exit, Flight}
 use Rattle.dn_machine.specs.Node as machine
 use Rattle.dn_node.specs.declared.node.sending.Aim.{Aim}
@@ -20,8 +18,7 @@ pub record IsOwn (m : machine.Node) (me : ℕ) (flight : Flight) : Type 0 where
   pub kind : (flight.kind ≡ Play) ⊎ (flight.kind ≡ Exit)
   pub commands : flight.commands ≡ drop flight.start (m.held me)
 
--- who can be given a packet: another player, and once the node has ended one who was given fewer than four EXIT packets
+-- who can be given a packet: another player
 pub record Gives {W : Type 0} (n : Contents W) (to : ℕ) : Type 0 where
   pub below : to < n.players
   pub other : to ≢ n.me
-  pub exits : (cause : Cause) → n.phase ≡ Ended cause → (n.peers to).exits < 4

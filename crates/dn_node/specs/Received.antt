@@ -1,8 +1,6 @@
 -- What a datagram does to a node: the tests that it meets, in their order. The first that it fails tells
 -- the number of its drop, and a dropped datagram changes nothing.
-use Rattle.std.specs.Prelude.{ℕ, not, ◌||◌, ◌==◌, nat_lt, if◌then◌else◌, Option, Some, None, Result, Ok, Err}
-use Rattle.std.specs.List.{list_any}
-use Rattle.dn_tic.specs.Tics.{exact_tic}
+use Rattle.std.specs.Prelude.{ℕ, Bool, true, false, not, ◌||◌, ◌==◌, nat_lt, if◌then◌else◌, Result, Ok, Err}
 use Rattle.dn_packet.specs.declared.packet.Packet.{Packet}
 use Rattle.dn_packet.specs.declared.packet.PacketFault.{PacketFault}
 use Rattle.dn_packet.specs.declared.packet.PacketFault.TheVariants.{Short, Many, Length, Sum}
@@ -10,48 +8,53 @@ use Rattle.dn_setup.specs.Settings.{Settings}
 use Rattle.dn_setup.specs.Setup.{IsSetupReadAs}
 use Rattle.dn_setup.specs.declared.setup.SetupFault.{SetupFault}
 use Rattle.dn_setup.specs.declared.setup.SetupFault.TheVariants.{NotSetup, Version, Range}
-use Rattle.dn_machine.specs.declared.answers.Cause.TheVariants as Cause
 use Rattle.dn_machine.specs.declared.answers.Phase.{Phase}
 use Rattle.dn_machine.specs.declared.answers.Phase.TheVariants.{Listening, Gathering, Playing, Ended}
 use Rattle.dn_machine.specs.declared.answers.Heard.{Heard}
 use Rattle.dn_machine.specs.Worlds.{Rules}
 use Rattle.dn_machine.specs.Node as machine
 use Rattle.dn_machine.specs.Node.{made}
-use Rattle.dn_machine.specs.Hearing.{started, on_gathering, on_commands}
-use Rattle.dn_node.specs.Phases.{is_ended}
-use Rattle.dn_node.specs.Reading.{has_flag, flight_in}
-use Rattle.dn_node.specs.Rings.{is_stop}
+use Rattle.dn_machine.specs.Flight.{Kind, is_exit}
+use Rattle.dn_machine.specs.Hearing.{started, on_packet_in}
+use Rattle.dn_node.specs.Phases.{is_listening, hears_none}
+use Rattle.dn_node.specs.Reading.{has_flag, kind_in, start_in, flight_in}
 
--- commands whose start is read as this tic, if as any: then as the machine takes them
-abbrev pub on_start : ℕ → machine.Node → ℕ → Packet → Option ℕ → machine.Node × Heard
-on_start me m from packet None = (m, Heard.Dropped 10)
-on_start me m from packet (Some start) =
-    if list_any is_stop packet.cmds.items
-    then (m, Heard.Dropped 11)
-    else on_commands me m (flight_in from me (made me m) packet start)
+-- a player's packet, of commands that start at this tic, is heard as the machine hears it
+abbrev pub on_flight : {S : Type 0} → Rules S → ℕ → machine.Node → ℕ → Packet → Phase → ℕ → machine.Node × Heard
+on_flight rules me m from packet phase start =
+    on_packet_in rules me m (flight_in from me (made me m) packet start) phase (kind_in packet)
 
-abbrev pub on_numbers : ℕ → machine.Node → ℕ → Packet → machine.Node × Heard
-on_numbers me m from packet = on_start me m from packet (exact_tic (made me m) packet.start)
+-- so it is where its numbers are commands'
+abbrev pub on_start : {S : Type 0} → Rules S → ℕ → machine.Node → ℕ → Packet → Phase → Result ℕ ℕ → machine.Node × Heard
+on_start rules me m from packet phase (Err number) = (m, Heard.Dropped number)
+on_start rules me m from packet phase (Ok start) = on_flight rules me m from packet phase start
 
--- a player's packet, at a node that plays: EXIT ends it, and KILL is dropped
-abbrev pub on_played : ℕ → machine.Node → ℕ → Packet → machine.Node × Heard
-on_played me m from packet =
-    if has_flag packet 8
-    then (record m { phase = Ended (Cause.Left from) }, Heard.Left)
-    else (if has_flag packet 1 then (m, Heard.Dropped 9) else on_numbers me m from packet)
+-- numbers are looked at by a node that plays, and by one that has ended in the packets of those who play on
+abbrev pub is_counted : Phase → Kind → Bool
+is_counted Playing kind = true
+is_counted (Ended cause) kind = not (is_exit kind)
+is_counted Listening kind = false
+is_counted Gathering kind = false
 
--- a player's packet, at a node that gathers: any but KILL is heard
-abbrev pub on_gathered : {S : Type 0} → Rules S → machine.Node → ℕ → Packet → machine.Node × Heard
-on_gathered rules m from packet = if has_flag packet 1 then (m, Heard.Dropped 9) else on_gathering rules m from
+-- a player's packet of commands; where its numbers are not looked at, it starts at any tic
+abbrev pub on_player : {S : Type 0} → Rules S → ℕ → machine.Node → ℕ → Packet → Phase → machine.Node × Heard
+on_player rules me m from packet phase =
+    if is_counted phase (kind_in packet)
+    then on_start rules me m from packet phase (start_in (made me m) packet)
+    else on_flight rules me m from packet phase 0
 
--- a packet that is no set-up
+-- a packet that is no set-up: a listener does not hear it, it must tell its sender's number, and KILL is dropped
 abbrev pub on_other : {S : Type 0} → Rules S → ℕ → machine.Node → ℕ → Packet → Phase → machine.Node × Heard
-on_other rules me m from packet (Ended cause) = (m, Heard.Dropped 13)
-on_other rules me m from packet Listening = (m, Heard.Dropped 13)
-on_other rules me m from packet Gathering =
-    if packet.player == from then on_gathered rules m from packet else (m, Heard.Dropped 5)
-on_other rules me m from packet Playing =
-    if packet.player == from then on_played me m from packet else (m, Heard.Dropped 5)
+on_other rules me m from packet phase =
+    if is_listening phase
+    then (m, Heard.Dropped 13)
+    else (
+    if not (packet.player == from)
+    then (m, Heard.Dropped 5)
+    else (
+    if has_flag packet 1
+    then (m, Heard.Dropped 9)
+    else on_player rules me m from packet phase))
 
 -- what a listener makes of the key player's set-up packet
 abbrev pub on_told : machine.Node → Result Settings SetupFault → machine.Node × Heard
@@ -79,7 +82,7 @@ on_read rules me m from told (Ok packet) =
 -- a datagram of this number that is read so, and tells these settings if it is a set-up packet
 abbrev pub received : {S : Type 0} → Rules S → ℕ → machine.Node → ℕ → Result Settings SetupFault → Result Packet PacketFault → machine.Node × Heard
 received rules me m from told read =
-    if is_ended m.phase
+    if hears_none m.phase m.played
     then (m, Heard.Dropped 13)
     else (
     if not (nat_lt from rules.players) || from == me

@@ -1,10 +1,9 @@
 -- The packet that a node gives to a peer.
-use Rattle.std.specs.Prelude.{ℕ, ◌+◌, nat_lt, if◌then◌else◌, List, length, Option, None}
+use Rattle.std.specs.Prelude.{ℕ, nat_lt, if◌then◌else◌, List, length, Option, None}
 use Rattle.dn_packet.specs.Text.{text}
 use Rattle.dn_machine.specs.Worlds.{Rules}
 use Rattle.dn_machine.specs.Flight.{Flight, packet_of}
 use Rattle.dn_machine.specs.Node as machine
-use Rattle.dn_machine.specs.Node.{put}
 use Rattle.dn_machine.specs.declared.answers.Phase.{Phase}
 use Rattle.dn_machine.specs.declared.answers.Phase.TheVariants.{Listening, Gathering, Playing, Ended}
 use Rattle.dn_machine.specs.Sending.{on_send, after_sent}
@@ -19,7 +18,7 @@ abbrev pub after_giving : {S : Type 0} → Rules S → ℕ → machine.Node → 
 after_giving rules me m to Listening = m
 after_giving rules me m to Gathering = m
 after_giving rules me m to Playing = after_sent rules me m to
-after_giving rules me m to (Ended cause) = record m { exits = put m.exits to (m.exits to + 1) }
+after_giving rules me m to (Ended cause) = after_sent rules me m to
 
 -- the exact numbers of a flight
 abbrev pub aim_of : Flight → Aim

@@ -1,9 +1,11 @@
 //! The consistency table: each player's marks of the last twelve tics.
 
-ghost use Rattle.std.specs.Prelude.{◌≡◌, ◌≢◌, ◌<◌, ◌≤◌, ◌%◌, ℕ, pos, slice_index_or};
+ghost use Rattle.std.specs.Prelude.{◌≡◌, ◌≢◌, ◌<◌, ◌≤◌, ◌%◌, ℕ, pos, slice_index_or, true, false};
+ghost use Rattle.dn_machine.specs.Node.{lacks};
 ghost use Rattle.dn_node.specs.Marks.{slot};
 
 use crate::rings::PLACES;
+use dn_tic::Move;
 use dn_world::World;
 use std::marker::Model;
 
@@ -68,14 +70,16 @@ impl Marks {
         self.players[usize::from(player)].put((tic % PLACES) as usize, mark);
     }
 
-    /// Keeps each player's mark in the world, for the tic twelve on.
-    pub(crate) fn stamp<W: World>(&mut self, world: &W, players: u8, tic: u32)
-        requires { players ≤ 4 }
-        ensures marks { (p : ℕ) → p < players → slot self.new p (tic % 12) ≡ W.physics.mark (W.state world.now) p }
+    /// Keeps the mark in the world, for the tic twelve on, of each player who has a move in the row.
+    pub(crate) fn stamp<W: World>(&mut self, world: &W, row: &[Option<Move>; 4], tic: u32)
+        ensures marks { (p : ℕ) → p < 4 → lacks row.now p ≡ false → slot self.new p (tic % 12) ≡ W.physics.mark (W.state world.now) p }
+        ensures absent { (p j : ℕ) → p < 4 → lacks row.now p ≡ true → slot self.new p j ≡ slot self.old p j }
         ensures others { (p j : ℕ) → j ≢ tic % 12 → slot self.new p j ≡ slot self.old p j }
     {
-        for player in 0..players {
-            self.put(player, tic, world.mark(player));
+        for player in 0..4 {
+            if row[usize::from(player)].is_some() {
+                self.put(player, tic, world.mark(player));
+            }
         }
     }
 }

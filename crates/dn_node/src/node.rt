@@ -3,13 +3,14 @@
 ghost use Rattle.std.specs.Prelude.{◌≡◌, ◌≢◌, ℕ, ◌+◌, ◌*◌, ◌<◌, ◌≤◌, true, false, nat_lt, if◌then◌else◌, length, Some, None};
 ghost use Rattle.dn_demo.specs.Layout.{long_tics};
 ghost use Rattle.dn_demo.specs.Places.{place, seats_in};
-ghost use Rattle.dn_demo.specs.Recorded.{recorded_size, most_tics};
-ghost use Rattle.dn_demo.specs.declared.recorder.Stage.TheVariants.{Blank, Open};
+ghost use Rattle.dn_demo.specs.Recorded.{recorded_size};
+ghost use Rattle.dn_demo.specs.declared.recorder.Stage.TheVariants.{Blank, Open, Closed};
 ghost use Rattle.dn_machine.specs.declared.answers.Phase.TheVariants.{Gathering, Playing};
+ghost use Rattle.dn_machine.specs.Running.{tic_limit};
 ghost use Rattle.dn_node.specs.Phases.{is_waiting};
 ghost use Rattle.dn_node.specs.Rings.{ring_at, count_of};
 ghost use Rattle.dn_node.specs.Peers.{peer_at};
-ghost use Rattle.dn_node.specs.Rows.{seats_of};
+ghost use Rattle.dn_node.specs.Rows.{seats_of, is_gone, has_gone};
 
 mod building;
 mod ending;
@@ -52,10 +53,12 @@ pub struct Node<W> {
     world: W,
     ghost me_below: { me < players },
     ghost few: { players ≤ 4 },
-    ghost short: { capacity ≤ most_tics },
+    ghost short: { capacity ≤ tic_limit },
     // so many tics fit into the demo
     ghost room: { recorded_size players capacity ≤ demo.limit },
-    ghost ran_fits: { ran ≤ capacity },
+    ghost ran_fits: { ran ≤ tic_limit },
+    // it knows no end of its own
+    ghost endless: { (peer_at peers me).end ≡ None },
     // before the start nothing is run or written
     ghost waits: { is_waiting phase ≡ true → played ≡ false },
     ghost unrun: { played ≡ false → ran ≡ 0 },
@@ -64,13 +67,16 @@ pub struct Node<W> {
     ghost key: { phase ≡ Gathering → me ≡ 0 },
     ghost keyed: { phase ≡ Gathering → settings ≢ None },
     ghost known: { played ≡ true → settings ≢ None },
-    // while it plays, the demo is open, and no longer than the rows of the tics that were run
+    // while it plays, the demo is open until a player is gone, and no longer than the rows of the tics run
     ghost plays: { phase ≡ Playing → played ≡ true },
-    ghost open: { phase ≡ Playing → demo.stage ≡ Open },
-    ghost seats: { phase ≡ Playing → seats_in demo.bytes ≡ seats_of players },
-    ghost size: { phase ≡ Playing → length demo.bytes ≤ place long_tics (players * ran) },
-    // it has the commands of the tics that it ran, and at most twelve more of a peer, and five of its own
-    ghost ahead: { (p : ℕ) → p < players → ran ≤ (ring_at rings p).count },
+    ghost begun: { phase ≡ Playing → demo.stage ≢ Blank },
+    ghost gone: { phase ≡ Playing → demo.stage ≡ Closed → has_gone (peer_at peers) players ran ≡ true },
+    ghost fits: { phase ≡ Playing → demo.stage ≡ Open → ran ≤ capacity },
+    ghost seats: { phase ≡ Playing → demo.stage ≡ Open → seats_in demo.bytes ≡ seats_of players },
+    ghost size: { phase ≡ Playing → demo.stage ≡ Open → length demo.bytes ≤ place long_tics (players * ran) },
+    // it has the commands of the tics that it ran, but for players who are gone, and at most twelve more of a
+    // peer, and five of its own
+    ghost ahead: { (p : ℕ) → p < players → is_gone (peer_at peers) ran p ≡ false → ran ≤ (ring_at rings p).count },
     ghost window: { (p : ℕ) → p < players → (ring_at rings p).count ≤ ran + 12 },
     ghost near: { (ring_at rings me).count ≤ ran + 5 },
     // no resend starts past what it made
@@ -78,7 +84,9 @@ pub struct Node<W> {
 }
 
 impl<W: World> Node<W> {
-    ghost use Rattle.dn_node.specs.Contents.{contents};
+    ghost use Rattle.dn_machine.specs.Node.{known_end};
+    ghost use Rattle.dn_node.specs.Contents.{contents, end_in};
+    ghost use Rattle.dn_node.specs.Steps.{Steps};
 
     /// The number of its player.
     pub fn me(&self) -> u8
@@ -134,7 +142,27 @@ impl<W: World> Node<W> {
         &self.world
     }
 
-    /// Its demo so far: empty before the start, and closed once it has played and ended.
+    /// The tic after a player's last command: of another player once an EXIT packet has told it, and its own
+    /// once it has played and ended. From that tic on no tic has a move of the player.
+    pub fn end(&self, player: u8) -> Option<u32>
+        ensures value { result ≡ (if nat_lt player (contents self.now).players then end_in (contents self.now) player else None) }
+        ensures step { Steps W.state W.physics (contents self.now) (contents self.now)
+            (λ rules me m. (m, if nat_lt player rules.players then known_end me m player else None)) (λ end. result ≡ end) }
+    {
+        if player >= self.players {
+            return None;
+        }
+        if player != self.me {
+            return self.peers.get(player).end;
+        }
+        match self.phase {
+            Phase::Ended(_) if self.played => Some(self.made()),
+            _ => None,
+        }
+    }
+
+    /// Its demo so far: empty before the start, and closed once a tic without some player was run, or it has
+    /// played and ended. No tic from then on is in it.
     pub fn demo(&self) -> &[u8]
         ensures { result.now ≡ (contents self.now).demo.bytes }
     {

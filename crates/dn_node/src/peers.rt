@@ -1,7 +1,8 @@
 //! What a node keeps of each peer.
 
 ghost use Rattle.std.specs.Prelude.{◌≡◌, ◌≢◌, ◌<◌, ℕ};
-ghost use Rattle.dn_node.specs.Peers.{no_peer, peer_at, after_asking};
+ghost use Rattle.dn_machine.specs.Hearing.{is_strange_end};
+ghost use Rattle.dn_node.specs.Peers.{no_peer, peer_at, after_asking, after_telling};
 
 use crate::rings::PLACES;
 use std::marker::Model;
@@ -18,8 +19,8 @@ pub(crate) struct Peer {
     pub(crate) want: bool,
     /// For how many of its packets no request is heard.
     pub(crate) hold: u8,
-    /// How many EXIT packets it was given.
-    pub(crate) exits: u8,
+    /// The tic after its last command, once an EXIT packet has told it.
+    pub(crate) end: Option<u32>,
 }
 
 impl Peer {
@@ -31,7 +32,7 @@ impl Peer {
             resend: 0,
             want: false,
             hold: 0,
-            exits: 0,
+            end: None,
         }
     }
 
@@ -51,6 +52,31 @@ impl Peer {
                 hold: self.hold.saturating_sub(1),
                 ..*self
             },
+        }
+    }
+
+    /// Whether a packet ends where it cannot, by how many commands were had of the peer and by its known
+    /// end.
+    pub(crate) fn is_strange_end(&self, exit: bool, got: u32, end: u32) -> bool
+        ensures { result ≡ is_strange_end exit got self.now.end end }
+    {
+        match self.end {
+            Some(known) => exit && end < got || known < end || exit && end != known,
+            None => exit && end < got,
+        }
+    }
+
+    /// The peer after a packet that ends at this tic, which is the peer's own end if it is an EXIT packet.
+    pub(crate) fn after_telling(&self, exit: bool, end: u32) -> Peer
+        ensures { result ≡ after_telling self.now exit end }
+    {
+        if exit {
+            Peer {
+                end: Some(end),
+                ..*self
+            }
+        } else {
+            *self
         }
     }
 }

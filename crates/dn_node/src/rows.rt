@@ -1,20 +1,26 @@
 //! The commands of one tic, of all players.
 
-ghost use Rattle.std.specs.Prelude.{◌≡◌, ◌<◌, ◌≤◌, ◌+◌, ◌%◌, ℕ, nat_le, nat_lt, not, None, is_some, IfSome, if◌then◌else◌};
+ghost use Rattle.std.specs.Prelude.{◌≡◌, ◌<◌, ◌≤◌, ◌+◌, ◌%◌, ℕ, nat_le, nat_lt, not, None, true, false, is_some, IfSome, if◌then◌else◌};
 ghost use Rattle.std.specs.Ordering.{int_eq};
 ghost use Rattle.dn_demo.specs.Rows.{IsRow, IsRecordable};
-ghost use Rattle.dn_machine.specs.Node.{lowest};
+ghost use Rattle.dn_machine.specs.Node.{lowest, is_whole};
+ghost use Rattle.dn_machine.specs.Running.{tic_limit};
 ghost use Rattle.dn_machine.specs.Worlds.{four};
 ghost use Rattle.dn_node.specs.Rings.{ring_at};
 ghost use Rattle.dn_node.specs.Marks.{slot};
-ghost use Rattle.dn_node.specs.Rows.{seats_of, mark_at, move_at, differs};
+ghost use Rattle.dn_node.specs.Peers.{peer_at};
+ghost use Rattle.dn_node.specs.Rows.{seats_of, mark_at, move_at, differs, is_missing, is_gone, has_gone};
 
 use crate::marks::Marks;
+use crate::peers::Peers;
 use crate::rings::Rings;
 use dn_tic::{Move, round};
 
 /// The last tic whose marks are not compared (`g_game.c`, G_Ticker).
 const LAST_UNCHECKED: u32 = 12;
+
+/// So many tics are run at most: the next is not run, where it lacks a player.
+const TIC_LIMIT: u32 = 2_097_150;
 
 /// Which seats are taken.
 pub(crate) fn seats(players: u8) -> [bool; 4]
@@ -23,13 +29,24 @@ pub(crate) fn seats(players: u8) -> [bool; 4]
     [0 < players, 1 < players, 2 < players, 3 < players]
 }
 
-/// The lowest player of whom no command for the tic is there.
-pub(crate) fn awaited(rings: &Rings, players: u8, tic: u32) -> Option<u8>
+/// Whether the tic is not before the player's known end.
+fn gone(peers: &Peers, player: u8, tic: u32) -> bool
+    requires { player < 4 }
+    ensures { result ≡ is_gone (peer_at peers.now) tic player }
+{
+    match peers.get(player).end {
+        Some(end) => end <= tic,
+        None => false,
+    }
+}
+
+/// The lowest player, of those who are not gone, of whom no command for the tic is there.
+pub(crate) fn awaited(rings: &Rings, peers: &Peers, players: u8, tic: u32) -> Option<u8>
     requires { players ≤ 4 }
-    ensures { result ≡ lowest players (λ p. nat_le ((ring_at rings.now p).count) tic) }
+    ensures { result ≡ lowest players (is_missing (ring_at rings.now) (peer_at peers.now) tic) }
 {
     for player in 0..players {
-        if rings.count(player) <= tic {
+        if !gone(peers, player, tic) && rings.count(player) <= tic {
             return Some(player);
         }
     }
@@ -47,14 +64,14 @@ pub(crate) fn mark_of(rings: &Rings, player: u8, tic: u32) -> i16
     }
 }
 
-/// The lowest player whose command carries another mark than the table has.
-fn differing(rings: &Rings, marks: &Marks, players: u8, tic: u32) -> Option<u8>
+/// The lowest player, of those who are not gone, whose command carries another mark than the table has.
+fn differing(rings: &Rings, peers: &Peers, marks: &Marks, players: u8, tic: u32) -> Option<u8>
     requires { players ≤ 4 }
     ensures below { IfSome result (λ p. p < players) }
-    ensures lowest { result ≡ lowest players (differs (ring_at rings.now) (slot marks.now) tic) }
+    ensures lowest { result ≡ lowest players (differs (ring_at rings.now) (peer_at peers.now) (slot marks.now) tic) }
 {
     for player in 0..players {
-        if mark_of(rings, player, tic) != marks.get(player, tic) {
+        if !gone(peers, player, tic) && mark_of(rings, player, tic) != marks.get(player, tic) {
             return Some(player);
         }
     }
@@ -63,46 +80,78 @@ fn differing(rings: &Rings, marks: &Marks, players: u8, tic: u32) -> Option<u8>
 
 /// The lowest player whose command is off: it carries another mark than the table has, for a tic whose
 /// marks are compared.
-pub(crate) fn first_off(rings: &Rings, marks: &Marks, players: u8, tic: u32) -> Option<u8>
+pub(crate) fn first_off(
+    rings: &Rings,
+    peers: &Peers,
+    marks: &Marks,
+    players: u8,
+    tic: u32,
+) -> Option<u8>
     requires { players ≤ 4 }
     ensures below { IfSome result (λ p. p < players) }
-    ensures lowest { result ≡ (if nat_lt 12 tic then lowest players (differs (ring_at rings.now) (slot marks.now) tic) else None) }
+    ensures lowest { result ≡ (if nat_lt 12 tic
+        then lowest players (differs (ring_at rings.now) (peer_at peers.now) (slot marks.now) tic) else None) }
 {
     if tic > LAST_UNCHECKED {
-        differing(rings, marks, players, tic)
+        differing(rings, peers, marks, players, tic)
     } else {
         None
     }
 }
 
-/// The used move of the player's command for the tic.
-fn move_of(rings: &Rings, players: u8, player: u8, tic: u32) -> Option<Move>
+/// The used move of the player's command for the tic, and none of one who is gone.
+fn move_of(rings: &Rings, peers: &Peers, players: u8, player: u8, tic: u32) -> Option<Move>
     requires place { player < 4 }
-    requires there { player < players → tic < (ring_at rings.now player).count }
-    requires kept { player < players → (ring_at rings.now player).count ≤ tic + 12 }
-    ensures value { result ≡ move_at (ring_at rings.now) players tic player }
-    ensures seat { is_some result ≡ nat_lt player players }
+    ensures value { result ≡ move_at (ring_at rings.now) (peer_at peers.now) players tic player }
+    ensures there { player < players → is_gone (peer_at peers.now) tic player ≡ false
+        → tic < (ring_at rings.now player).count → (ring_at rings.now player).count ≤ tic + 12 → is_some result ≡ true }
     ensures recordable { IfSome result IsRecordable }
 {
-    if player < players {
+    if player < players && !gone(peers, player, tic) {
         Some(round(&rings.get(player, tic)?))
     } else {
         None
     }
 }
 
-/// The used moves of all players' commands for the tic.
-pub(crate) fn row_at(rings: &Rings, players: u8, tic: u32) -> [Option<Move>; 4]
+/// The used moves for the tic of all players who are not gone, whose commands are there.
+pub(crate) fn row_at(rings: &Rings, peers: &Peers, players: u8, tic: u32) -> [Option<Move>; 4]
     requires few { players ≤ 4 }
-    requires there { (p : ℕ) → p < players → tic < (ring_at rings.now p).count }
+    requires there { lowest players (is_missing (ring_at rings.now) (peer_at peers.now) tic) ≡ None }
     requires kept { (p : ℕ) → p < players → (ring_at rings.now p).count ≤ tic + 12 }
-    ensures row { result ≡ four (move_at (ring_at rings.now) players tic) }
-    ensures recordable { IsRow (seats_of players) result }
+    ensures row { result ≡ four (move_at (ring_at rings.now) (peer_at peers.now) players tic) }
+    ensures whole { is_whole players result ≡ not (has_gone (peer_at peers.now) players tic) }
+    ensures recordable { is_whole players result ≡ true → IsRow (seats_of players) result }
 {
     [
-        move_of(rings, players, 0, tic),
-        move_of(rings, players, 1, tic),
-        move_of(rings, players, 2, tic),
-        move_of(rings, players, 3, tic),
+        move_of(rings, peers, players, 0, tic),
+        move_of(rings, peers, players, 1, tic),
+        move_of(rings, peers, players, 2, tic),
+        move_of(rings, peers, players, 3, tic),
     ]
+}
+
+/// Whether each player has a move in the row.
+pub(crate) fn is_whole(row: &[Option<Move>; 4], players: u8) -> bool
+    requires { players ≤ 4 }
+    ensures { result ≡ is_whole players row.now }
+{
+    for player in 0..players {
+        if row[usize::from(player)].is_none() {
+            return false;
+        }
+    }
+    true
+}
+
+/// The tic at which a node ends in place of running this row.
+pub(crate) fn full_at(row: &[Option<Move>; 4], players: u8, capacity: u32) -> u32
+    requires { players ≤ 4 }
+    ensures { result ≡ (if is_whole players row.now then capacity else tic_limit) }
+{
+    if is_whole(row, players) {
+        capacity
+    } else {
+        TIC_LIMIT
+    }
 }

@@ -27,14 +27,18 @@ fn limits_are_checked(rt: HostRuntime) {
 fn rows_are_written_and_read_back(rt: HostRuntime) -> Result<(), Fail> {
     let mut recorder = Recorder::new(rt.alloc(), 1_024)?;
     assert!(rt; recorder.bytes().is_empty());
+    assert!(rt; !recorder.closed());
     recorder.head(&START, 1, [true, true, false, false]);
     assert_eq!(rt; recorder.bytes(), &RECORDED[..13]);
+    assert!(rt; !recorder.closed());
     let first = [moved(50, 0, 0, 0), moved(0, 0, 256, 0), None, None];
     assert!(rt; recorder.row(&first));
     assert_eq!(rt; recorder.bytes(), &RECORDED[..23]);
     let second = [moved(-50, 0, 0, 1), moved(25, 24, 16_384, 0), None, None];
     assert!(rt; recorder.row(&second));
+    assert!(rt; !recorder.closed());
     recorder.close();
+    assert!(rt; recorder.closed());
     assert_eq!(rt; recorder.bytes(), RECORDED.as_slice());
     let demo = Demo::read(rt.alloc(), recorder.bytes())?;
     assert_eq!(rt; demo.row(0), Some(first));

@@ -4,6 +4,7 @@ ghost use Rattle.std.specs.Prelude.{◌≡◌, false};
 ghost use Rattle.dn_machine.specs.declared.answers.Phase.TheVariants.{Playing, Ended};
 
 use super::Node;
+use crate::recording::close;
 use dn_machine::{Cause, Phase};
 use dn_world::World;
 
@@ -12,14 +13,14 @@ impl<W: World> Node<W> {
     ghost use Rattle.dn_node.specs.Contents.{contents};
     ghost use Rattle.dn_node.specs.Steps.{Steps, Becomes};
 
-    /// Ends a node that plays, and closes its demo.
-    pub(super) fn end(&mut self, cause: Cause)
+    /// Ends a node that plays, and closes its demo where it is open.
+    pub(super) fn finish(&mut self, cause: Cause)
         requires { (contents self.old).phase ≡ Playing }
         ensures step { Becomes W.state W.physics (contents self.old) (contents self.new) (λ rules me m. record m { phase = Ended cause }) }
         ensures world { (contents self.new).world ≡ (contents self.old).world }
     {
         self.phase = Phase::Ended(cause);
-        self.demo.close();
+        close(&mut self.demo);
     }
 
     /// Ends the node, and answers whether it had not ended.
@@ -31,7 +32,7 @@ impl<W: World> Node<W> {
     {
         match self.phase {
             Phase::Ended(_) => return false,
-            Phase::Playing => self.end(Cause::Quit),
+            Phase::Playing => self.finish(Cause::Quit),
             Phase::Listening | Phase::Gathering => self.phase = Phase::Ended(Cause::Quit),
         }
         true

@@ -67,13 +67,9 @@ impl<W: World> Node<W> {
         let peer = self.peers.get(to);
         match self.phase {
             Phase::Listening | Phase::Gathering => (),
-            Phase::Playing => {
+            Phase::Playing | Phase::Ended(_) => {
                 let resend = self.made().saturating_sub(self.lag());
                 self.peers.put(to, Peer { resend, ..peer });
-            }
-            Phase::Ended(_) => {
-                let exits = peer.exits + 1;
-                self.peers.put(to, Peer { exits, ..peer });
             }
         }
     }

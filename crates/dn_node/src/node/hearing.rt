@@ -1,6 +1,6 @@
 //! What a node does with a datagram.
 
-ghost use Rattle.std.specs.Prelude.{◌≡◌, ◌≢◌, ◌<◌, ℕ, true, Result, Ok};
+ghost use Rattle.std.specs.Prelude.{◌≡◌, ◌≢◌, ◌<◌, ℕ, true, false, Result, Ok};
 ghost use Rattle.dn_packet.specs.declared.packet.Packet.{Packet};
 ghost use Rattle.dn_packet.specs.declared.packet.PacketFault.{PacketFault};
 ghost use Rattle.dn_packet.specs.Read.{IsReadAs};
@@ -9,20 +9,21 @@ ghost use Rattle.dn_setup.specs.Settings.{Settings};
 ghost use Rattle.dn_setup.specs.Setup.{IsSetupReadAs};
 ghost use Rattle.dn_setup.specs.declared.setup.SetupFault.{SetupFault};
 ghost use Rattle.dn_machine.specs.declared.answers.Heard.TheVariants.{Started, Dropped};
-ghost use Rattle.dn_machine.specs.declared.answers.Phase.TheVariants.{Gathering, Playing};
+ghost use Rattle.dn_machine.specs.declared.answers.Phase.TheVariants.{Gathering};
 ghost use Rattle.dn_machine.specs.Flight.{Flight, packet_of, is_near};
-ghost use Rattle.dn_machine.specs.Hearing.{on_packet};
+ghost use Rattle.dn_machine.specs.Hearing.{on_packet, on_gathering};
 ghost use Rattle.dn_node.specs.Near.{IsFair};
+ghost use Rattle.dn_node.specs.Phases.{hears_none};
 ghost use Rattle.dn_node.specs.Rings.{count_of};
-ghost use Rattle.dn_node.specs.Received.{received, on_read, on_set_up, on_gathered, on_played, IsTold};
+ghost use Rattle.dn_node.specs.Received.{received, on_read, on_set_up, on_player, IsTold};
 
 use super::Node;
 use crate::numbers::{
     KILLED, LENGTH, MANY, NOT_PLAYING, OUT_OF_PLACE, RANGE, SHORT, STRANGER, SUM, VERSION,
 };
 use crate::reading::has_flag;
-use dn_machine::{Cause, Heard, Phase};
-use dn_packet::{EXIT, KILL, Packet, PacketFault, SETUP, decode};
+use dn_machine::{Heard, Phase};
+use dn_packet::{KILL, Packet, PacketFault, SETUP, decode};
 use dn_setup::{SetupFault, from_packet};
 use dn_world::World;
 
@@ -32,6 +33,16 @@ const KEY: u8 = 0;
 impl<W: World> Node<W> {
     ghost use Rattle.dn_node.specs.Contents.{contents};
     ghost use Rattle.dn_node.specs.Steps.{Steps};
+
+    /// Whether it has ended without having played.
+    fn hears_none(&self) -> bool
+        ensures { result ≡ hears_none (contents self.now).phase (contents self.now).played }
+    {
+        match self.phase {
+            Phase::Ended(_) => !self.played,
+            Phase::Listening | Phase::Gathering | Phase::Playing => false,
+        }
+    }
 
     /// Hears a datagram of this player. A datagram that is dropped changes nothing.
     pub fn receive(&mut self, from: u8, bytes: &[u8]) -> Heard
@@ -47,7 +58,7 @@ impl<W: World> Node<W> {
         ensures dropped { (number : ℕ) → result ≡ Dropped number → contents self.new ≡ contents self.old }
         ensures world { result ≢ Started → (contents self.new).world ≡ (contents self.old).world }
     {
-        if let Phase::Ended(_) = self.phase {
+        if self.hears_none() {
             return Heard::Dropped(NOT_PLAYING);
         }
         if from >= self.players || from == self.me {
@@ -66,6 +77,7 @@ impl<W: World> Node<W> {
     fn hear(&mut self, from: u8, packet: &Packet) -> Heard
         requires peer { from < (contents self.old).players }
         requires other { from ≢ (contents self.old).me }
+        requires hears { hears_none (contents self.old).phase (contents self.old).played ≡ false }
         ensures step { (told : Result Settings SetupFault) → IsSetupReadAs packet.now told
             → Steps W.state W.physics (contents self.old) (contents self.new)
             (λ rules me m. on_read rules me m from told (Ok packet.now)) (λ heard. result ≡ heard) }
@@ -75,11 +87,33 @@ impl<W: World> Node<W> {
         if has_flag(packet, SETUP) {
             return self.hear_set_up(from, packet);
         }
+        if let Phase::Listening = self.phase {
+            return Heard::Dropped(NOT_PLAYING);
+        }
+        if packet.player != from {
+            return Heard::Dropped(STRANGER);
+        }
+        if has_flag(packet, KILL) {
+            return Heard::Dropped(KILLED);
+        }
+        self.hear_player(from, packet)
+    }
+
+    /// Hears a player's packet of commands, by where the node stands.
+    fn hear_player(&mut self, from: u8, packet: &Packet) -> Heard
+        requires peer { from < (contents self.old).players }
+        requires other { from ≢ (contents self.old).me }
+        requires hears { hears_none (contents self.old).phase (contents self.old).played ≡ false }
+        ensures step { Steps W.state W.physics (contents self.old) (contents self.new)
+            (λ rules me m. on_player rules me m from packet.now m.phase) (λ heard. result ≡ heard) }
+        ensures dropped { (number : ℕ) → result ≡ Dropped number → contents self.new ≡ contents self.old }
+        ensures world { result ≢ Started → (contents self.new).world ≡ (contents self.old).world }
+    {
         match self.phase {
-            Phase::Listening | Phase::Ended(_) => Heard::Dropped(NOT_PLAYING),
-            _ if packet.player != from => Heard::Dropped(STRANGER),
-            Phase::Gathering => self.hear_gathering(from, packet),
-            Phase::Playing => self.hear_playing(from, packet),
+            Phase::Listening => Heard::Dropped(NOT_PLAYING),
+            Phase::Gathering => self.hear_gathering(from),
+            Phase::Playing => self.take(from, packet),
+            Phase::Ended(_) => self.answer(from, packet),
         }
     }
 
@@ -110,17 +144,14 @@ impl<W: World> Node<W> {
 
     /// Hears a peer while gathering, and starts once every peer was heard. What the packet carries is
     /// not kept.
-    fn hear_gathering(&mut self, from: u8, packet: &Packet) -> Heard
+    fn hear_gathering(&mut self, from: u8) -> Heard
         requires gathers { (contents self.old).phase ≡ Gathering }
         requires peer { from < (contents self.old).players }
         ensures step { Steps W.state W.physics (contents self.old) (contents self.new)
-            (λ rules me m. on_gathered rules m from packet.now) (λ heard. result ≡ heard) }
+            (λ rules me m. on_gathering rules m from) (λ heard. result ≡ heard) }
         ensures dropped { (number : ℕ) → result ≡ Dropped number → contents self.new ≡ contents self.old }
         ensures world { result ≢ Started → (contents self.new).world ≡ (contents self.old).world }
     {
-        if has_flag(packet, KILL) {
-            return Heard::Dropped(KILLED);
-        }
         if !self.gather.hear(from) {
             return Heard::Noted;
         }
@@ -129,25 +160,5 @@ impl<W: World> Node<W> {
             self.start(settings);
         }
         Heard::Started
-    }
-
-    /// Hears a peer while playing.
-    fn hear_playing(&mut self, from: u8, packet: &Packet) -> Heard
-        requires plays { (contents self.old).phase ≡ Playing }
-        requires peer { from < (contents self.old).players }
-        requires other { from ≢ (contents self.old).me }
-        ensures step { Steps W.state W.physics (contents self.old) (contents self.new)
-            (λ rules me m. on_played me m from packet.now) (λ heard. result ≡ heard) }
-        ensures dropped { (number : ℕ) → result ≡ Dropped number → contents self.new ≡ contents self.old }
-        ensures world { result ≢ Started → (contents self.new).world ≡ (contents self.old).world }
-    {
-        if has_flag(packet, EXIT) {
-            self.end(Cause::Left(from));
-            return Heard::Left;
-        }
-        if has_flag(packet, KILL) {
-            return Heard::Dropped(KILLED);
-        }
-        self.take(from, packet)
     }
 }

@@ -2,6 +2,7 @@
 
 ghost use Rattle.std.specs.Prelude.{◌≡◌, ◌==◌, if◌then◌else◌, Some, IfOk};
 ghost use Rattle.dn_machine.specs.declared.answers.Phase.TheVariants.{Listening, Gathering};
+ghost use Rattle.dn_demo.specs.Recorded.{capacity};
 ghost use Rattle.dn_node.specs.Opening.{IsAdmitted};
 
 use super::Node;

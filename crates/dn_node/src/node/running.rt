@@ -1,20 +1,24 @@
 //! How a node runs a tic.
 
-ghost use Rattle.std.specs.Prelude.{◌≡◌, ℕ};
+ghost use Rattle.std.specs.Prelude.{◌≡◌, ◌≢◌, ℕ, None};
+ghost use Rattle.dn_machine.specs.declared.answers.Phase.TheVariants.{Playing};
 ghost use Rattle.dn_machine.specs.declared.answers.Ran.TheVariants.{Waiting, NotPlaying};
+ghost use Rattle.dn_machine.specs.Node.{lowest};
+ghost use Rattle.dn_node.specs.Rows.{is_missing};
 
 use super::Node;
-use crate::rows::{awaited, first_off, mark_of, row_at};
+use crate::recording::write;
+use crate::rows::{awaited, first_off, full_at, is_whole, mark_of, row_at};
 use dn_machine::{Cause, Phase, Ran};
 use dn_world::World;
 
 impl<W: World> Node<W> {
-    ghost use Rattle.dn_machine.specs.Running.{on_run};
+    ghost use Rattle.dn_machine.specs.Running.{on_run, on_run_playing};
     ghost use Rattle.dn_node.specs.Contents.{contents};
     ghost use Rattle.dn_node.specs.Steps.{Steps};
 
-    /// Runs the next tic, where every player's command is there, no mark is off, and the demo has room.
-    /// A node that waits stays as it is.
+    /// Runs the next tic (`d_net.c`, TryRunTics; `g_game.c`, G_Ticker), where no mark is off and the command of
+    /// every player is there who has not left by then. A node that waits stays as it is.
     pub fn run(&mut self) -> Ran
         ensures step { Steps W.state W.physics (contents self.old) (contents self.new)
             (λ rules me m. on_run rules m) (λ ran. result ≡ ran) }
@@ -25,13 +29,13 @@ impl<W: World> Node<W> {
             return Ran::NotPlaying;
         };
         let tic = self.ran;
-        if let Some(player) = awaited(&self.rings, self.players, tic) {
+        if let Some(player) = awaited(&self.rings, &self.peers, self.players, tic) {
             return Ran::Waiting(player);
         }
-        if let Some(player) = first_off(&self.rings, &self.marks, self.players, tic) {
+        if let Some(player) = first_off(&self.rings, &self.peers, &self.marks, self.players, tic) {
             let was = mark_of(&self.rings, player, tic);
             let should = self.marks.get(player, tic);
-            self.end(Cause::Inconsistent {
+            self.finish(Cause::Inconsistent {
                 player,
                 was,
                 should,
@@ -42,16 +46,30 @@ impl<W: World> Node<W> {
                 should,
             };
         }
-        if tic == self.capacity {
-            self.end(Cause::Full);
+        self.run_row()
+    }
+
+    /// Runs the row of the next tic, which is there. A row that lacks a player closes the demo, and only a
+    /// row that lacks nobody needs room in it.
+    fn run_row(&mut self) -> Ran
+        requires plays { (contents self.old).phase ≡ Playing }
+        requires there { lowest (contents self.old).players
+            (is_missing (contents self.old).rings (contents self.old).peers (contents self.old).ran) ≡ None }
+        ensures step { Steps W.state W.physics (contents self.old) (contents self.new)
+            (λ rules me m. on_run_playing rules m None None) (λ ran. result ≡ ran) }
+        ensures waits { (player : ℕ) → result ≢ Waiting player }
+        ensures idle { result ≢ NotPlaying }
+    {
+        let tic = self.ran;
+        let row = row_at(&self.rings, &self.peers, self.players, tic);
+        if tic == full_at(&row, self.players, self.capacity) {
+            self.finish(Cause::Full);
             return Ran::DemoFull;
         }
-        let row = row_at(&self.rings, self.players, tic);
-        self.marks.stamp(&self.world, self.players, tic);
+        self.marks.stamp(&self.world, &row, tic);
         self.world.step(&row);
         self.ran += 1;
-        // this fits, since the tic is below the capacity
-        self.demo.row(&row);
+        write(&mut self.demo, &row, is_whole(&row, self.players));
         Ran::Ran(tic)
     }
 }

@@ -4,19 +4,17 @@ ghost use Rattle.std.specs.Prelude.{◌≡◌, ◌<◌, ◌≤◌, ◌+◌, IfSo
 ghost use Rattle.std.specs.Option.{option_map};
 ghost use Rattle.dn_setup.specs.Starts.{bit};
 ghost use Rattle.dn_machine.specs.declared.answers.Phase.TheVariants.{Ended};
+ghost use Rattle.dn_machine.specs.declared.answers.Cause.{Cause};
 ghost use Rattle.dn_machine.specs.Flight.{Play, request_flag, request_byte};
-ghost use Rattle.dn_machine.specs.Sending.{ended_by, commands_flight, first_sent, request_to, on_send_in};
+ghost use Rattle.dn_machine.specs.Sending.{commands_flight, first_sent, request_to, on_send_in};
 ghost use Rattle.dn_node.specs.Rings.{count_of};
 ghost use Rattle.dn_node.specs.Sent.{sent_to, aim_of};
 
 use super::Node;
 use crate::rings::PLACES;
-use dn_machine::{Cause, Phase};
+use dn_machine::Phase;
 use dn_packet::{EXIT, RETRANSMIT, SETUP};
 use dn_world::World;
-
-/// How many EXIT packets a peer is given (`d_net.c`, D_QuitNetGame).
-const EXITS: u8 = 4;
 
 /// The exact numbers of a packet, of which it carries the low bytes.
 #[derive(Clone, Copy, Debug, PartialEq, Eq)]
@@ -29,16 +27,6 @@ pub struct Aim {
     pub start: u32,
     /// How many commands there are.
     pub count: u8,
-}
-
-/// Whether this player's EXIT ended a node.
-fn ended_by(cause: Cause, player: u8) -> bool
-    ensures { result ≡ ended_by cause player }
-{
-    match cause {
-        Cause::Left(leaver) => leaver == player,
-        _ => false,
-    }
 }
 
 /// The flag of a packet that asks for commands again.
@@ -84,7 +72,7 @@ impl<W: World> Node<W> {
                 count: 0,
             }),
             Phase::Playing => Some(self.aim_of_commands(to)),
-            Phase::Ended(cause) => self.aim_of_exit(to, cause),
+            Phase::Ended(_) => self.aim_of_exit(to),
         }
     }
 
@@ -135,25 +123,23 @@ impl<W: World> Node<W> {
         }
     }
 
-    /// The numbers of an EXIT packet: a node that has played gives four to each peer, but none to the
-    /// one whose EXIT ended it.
-    fn aim_of_exit(&self, to: u8, cause: Cause) -> Option<Aim>
+    /// The numbers of an EXIT packet: a node that has played gives its last commands.
+    fn aim_of_exit(&self, to: u8) -> Option<Aim>
         requires below { to < (contents self.now).players }
-        ensures step { Steps W.state W.physics (contents self.now) (contents self.now)
+        ensures step { (cause : Cause) → Steps W.state W.physics (contents self.now) (contents self.now)
             (λ rules me m. (m, (on_send_in rules me m to (Ended cause)).1)) (λ flight. result ≡ option_map aim_of flight) }
         ensures reach { IfSome result (Reaches (contents self.now)) }
-        ensures few { IfSome result (λ aim. ((contents self.now).peers to).exits < 4) }
     {
-        if self.played && self.peers.get(to).exits < EXITS && !ended_by(cause, to) {
-            Some(Aim {
-                flags: EXIT,
-                ask: None,
-                start: self.made(),
-                count: 0,
-            })
-        } else {
-            None
+        if !self.played {
+            return None;
         }
+        let start = self.first_sent(to);
+        Some(Aim {
+            flags: EXIT,
+            ask: None,
+            start,
+            count: (self.made() - start) as u8,
+        })
     }
 
     /// How many commands are sent again with each packet.

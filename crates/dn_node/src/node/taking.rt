@@ -1,62 +1,96 @@
-//! What a playing node does with the commands of a packet.
+//! What a node does with a player's packet of commands: it takes them while it plays, and hears
+//! requests alone once it has played and ended.
 
-ghost use Rattle.std.specs.Prelude.{◌≡◌, ◌≢◌, ◌<◌, ℕ};
+ghost use Rattle.std.specs.Prelude.{◌≡◌, ◌≢◌, ◌<◌, ℕ, true};
+ghost use Rattle.dn_machine.specs.declared.answers.Cause.{Cause};
 ghost use Rattle.dn_machine.specs.declared.answers.Heard.TheVariants.{Dropped};
-ghost use Rattle.dn_node.specs.Received.{on_numbers};
+ghost use Rattle.dn_machine.specs.declared.answers.Phase.TheVariants.{Playing, Ended};
+ghost use Rattle.dn_machine.specs.Hearing.{left_or};
+ghost use Rattle.dn_node.specs.Received.{on_player};
 
 use super::Node;
-use crate::numbers::{OVERRUN, STOPPER, STRANGE_TIC};
+use crate::numbers::{NOT_PLAYING, OVERRUN, STRANGE_END};
 use crate::peers::Peer;
-use crate::reading::{has_stop, request};
+use crate::reading::{has_flag, request, start};
 use crate::rings::PLACES;
 use dn_machine::Heard;
-use dn_packet::Packet;
-use dn_tic::expand;
+use dn_packet::{EXIT, Packet};
 use dn_world::World;
+
+/// The answer to a packet up to whose end nothing is missing.
+fn left_or(exit: bool, heard: Heard) -> Heard
+    ensures { result ≡ left_or exit heard }
+{
+    if exit { Heard::Left } else { heard }
+}
 
 impl<W: World> Node<W> {
     ghost use Rattle.dn_node.specs.Contents.{contents};
     ghost use Rattle.dn_node.specs.Steps.{Steps};
 
-    /// Takes the commands of a peer's packet.
+    /// Takes the commands of a player's packet while it plays (`d_net.c`, GetPackets), and the end that
+    /// an EXIT packet tells.
     pub(super) fn take(&mut self, from: u8, packet: &Packet) -> Heard
         requires peer { from < (contents self.old).players }
         requires other { from ≢ (contents self.old).me }
         ensures step { Steps W.state W.physics (contents self.old) (contents self.new)
-            (λ rules me m. on_numbers me m from packet.now) (λ heard. result ≡ heard) }
+            (λ rules me m. on_player rules me m from packet.now Playing) (λ heard. result ≡ heard) }
         ensures dropped { (number : ℕ) → result ≡ Dropped number → contents self.new ≡ contents self.old }
         ensures world { (contents self.new).world ≡ (contents self.old).world }
     {
         let made = self.made();
-        let Some(start) = expand(made, packet.start) else {
-            return Heard::Dropped(STRANGE_TIC);
+        let start = match start(made, packet) {
+            Ok(start) => start,
+            Err(number) => return Heard::Dropped(number),
         };
         let commands = packet.cmds.as_slice();
-        if has_stop(commands) {
-            return Heard::Dropped(STOPPER);
-        }
         let end = start + commands.len() as u32;
         if end > self.ran + PLACES {
             return Heard::Dropped(OVERRUN);
         }
-        let peer = self.peers.get(from);
-        let peer = peer.after_asking(made, request(made, packet));
+        let exit = has_flag(packet, EXIT);
         let got = self.rings.count(from);
+        let peer = self.peers.get(from);
+        if peer.is_strange_end(exit, got, end) {
+            return Heard::Dropped(STRANGE_END);
+        }
+        let peer = peer.after_asking(made, request(made, packet));
+        let peer = peer.after_telling(exit, end);
         if end <= got {
             self.peers.put(from, peer);
-            return Heard::Stale;
+            return left_or(exit, Heard::Stale);
         }
         if start > got {
             self.peers.put(from, Peer { want: true, ..peer });
             return Heard::Gap;
         }
-        let peer = Peer {
-            want: false,
-            ..peer
-        };
-        self.peers.put(from, peer);
+        let want = false;
+        self.peers.put(from, Peer { want, ..peer });
         self.rings
             .put_all(from, &commands[(got - start) as usize..]);
-        Heard::Taken(end - got)
+        left_or(exit, Heard::Taken(end - got))
+    }
+
+    /// Hears the request of a player who plays on, once it has played and ended.
+    pub(super) fn answer(&mut self, from: u8, packet: &Packet) -> Heard
+        requires peer { from < (contents self.old).players }
+        requires other { from ≢ (contents self.old).me }
+        requires played { (contents self.old).played ≡ true }
+        ensures step { (cause : Cause) → Steps W.state W.physics (contents self.old) (contents self.new)
+            (λ rules me m. on_player rules me m from packet.now (Ended cause)) (λ heard. result ≡ heard) }
+        ensures dropped { (number : ℕ) → result ≡ Dropped number → contents self.new ≡ contents self.old }
+        ensures world { (contents self.new).world ≡ (contents self.old).world }
+    {
+        if has_flag(packet, EXIT) {
+            return Heard::Dropped(NOT_PLAYING);
+        }
+        let made = self.made();
+        if let Err(number) = start(made, packet) {
+            return Heard::Dropped(number);
+        }
+        let peer = self.peers.get(from);
+        self.peers
+            .put(from, peer.after_asking(made, request(made, packet)));
+        Heard::Noted
     }
 }

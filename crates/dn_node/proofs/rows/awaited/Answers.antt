@@ -1,7 +1,10 @@
-use Rattle.std.proofs.Common.{nat_le, sym, arith}
-use Rattle.std.proofs.lemmas.Bool.{le-leb, lt-leb}
+use Rattle.std.proofs.Common.{sym, ap, ◌∙◌, not, arith}
+use Rattle.std.proofs.lemmas.Bool.{le-leb, lt-leb, and_left, and_right, and_from}
 use Rattle.dn_node.specs.Rings.{ring_at}
+use Rattle.dn_node.specs.Peers.{peer_at}
+use Rattle.dn_node.specs.Rows.{is_missing, is_gone}
 use Rattle.dn_node.proofs.Lowest.{lowest_zero, lowest_past, lowest_found}
+use Rattle.dn_node.proofs.rows.awaited.Goals.{else-not-gone-via-then-not-gone+else-count-tic, else-not-gone-via-else-not-gone}
 use Rattle.dn_node.proofs.rows.awaited.Goals as goal
 
 pub loop-player-init : goal.loop-player-init
@@ -9,10 +12,15 @@ loop-player-init c = lowest_zero _
 
 pub returns-then-count-tic : goal.returns-then-count-tic
 returns-then-count-tic c =
-    let passes = le-leb (ring_at c.args.rings.now c.loop-player.player).count c.args.tic (omega arith) in
-    sym (lowest_found c.args.players c.loop-player.player (λ p. nat_le ((ring_at c.args.rings.now p).count) c.args.tic) (omega arith) c.loop-player.invariant passes)
+    let late = le-leb (ring_at c.args.rings.now c.loop-player.player).count c.args.tic (omega arith) in
+    let stays = ap not (sym c.gone.ensures ∙ c.if-not-gone.true) in
+    let passes = and_from (not (is_gone (peer_at c.args.peers.now) c.args.tic c.loop-player.player)) _ stays late in
+    sym (lowest_found c.args.players c.loop-player.player (is_missing (ring_at c.args.rings.now) (peer_at c.args.peers.now) c.args.tic) (omega arith) c.loop-player.invariant passes)
 
 pub loop-player-preserved : goal.loop-player-preserved
 loop-player-preserved c =
-    let fails = lt-leb (ring_at c.args.rings.now c.loop-player.player).count c.args.tic (omega arith) in
-    lowest_past c.loop-player.player (λ p. nat_le ((ring_at c.args.rings.now p).count) c.args.tic) c.loop-player.invariant fails
+    lowest_past c.loop-player.player (is_missing (ring_at c.args.rings.now) (peer_at c.args.peers.now) c.args.tic) c.loop-player.invariant
+    (elim c.else-not-gone.branch [
+      | else-not-gone-via-then-not-gone+else-count-tic w ↦ and_right (not (is_gone (peer_at c.args.peers.now) c.args.tic c.loop-player.player)) _ (lt-leb (ring_at c.args.rings.now c.loop-player.player).count c.args.tic (omega (arith, w.count.ensures, w.if-count-tic)))
+      | else-not-gone-via-else-not-gone w ↦ and_left (not (is_gone (peer_at c.args.peers.now) c.args.tic c.loop-player.player)) _ (ap not (sym c.gone.ensures ∙ w.if-not-gone.false))
+    ])

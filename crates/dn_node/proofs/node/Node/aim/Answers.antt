@@ -43,5 +43,5 @@ pub returns-in-Ended-clause-step : goal.returns-in-Ended-clause-step
 returns-in-Ended-clause-step g c players extra capacity me m r =
     let rules = rules_of g.W.World.physics players extra capacity in
     let sends = sends_in _ rules me _ m c.args.to _ r (omega (arith, c.if-to-self-2.false)) c.if-to-self.false c.in-Ended.is in
-    let given = (c.aim_of_exit.ensures.step players extra capacity me m r).answer in
+    let given = (c.aim_of_exit.ensures.step c.in-Ended.field-0 players extra capacity me m r).answer in
     record { node = r; answer = aimed rules me m c.args.to _ _ sends given }

@@ -1,11 +1,14 @@
-use Rattle.std.proofs.Common.{refl, sym, ◌∙◌, ap, arith, rules, inl, inr}
+use Rattle.std.proofs.Common.{refl, sym, ◌∙◌, ap, arith, rules, inl, inr, Option, None, ℕ, ◌≡◌}
+use Rattle.dn_machine.specs.Running.{is_over}
+use Rattle.dn_node.specs.Peers.{peer_at}
+use Rattle.dn_node.specs.declared.peers.Peer.{Peer}
 use Rattle.std.specs.Int.{w16}
 use Rattle.std.proofs.lemmas.Int.{ints, to_z-of_z}
 use Rattle.dn_ring.specs.Ring.{Ring}
 use Rattle.dn_machine.specs.declared.answers.Made.{Made}
 use Rattle.dn_node.specs.Rings.{ring_at}
 use Rattle.dn_node.proofs.After.{after}
-use Rattle.dn_node.proofs.Counting.{made_is, changed}
+use Rattle.dn_node.proofs.Counting.{mine, made_is, changed}
 use Rattle.dn_node.proofs.Building.{build_not, build_full, build_makes, shows_built, own_ring}
 use Rattle.dn_node.proofs.node.Node.build.Goals as goal
 
@@ -24,11 +27,11 @@ pub invariant_of-self-clause-me_below : goal.invariant_of-self-clause-me_below
 invariant_of-self-clause-me_below g c = c.args.self.now.me_below
 
 pub invariant_of-self-clause-ahead : goal.invariant_of-self-clause-ahead
-invariant_of-self-clause-ahead g c p below =
+invariant_of-self-clause-ahead g c p below present =
     let n = c.args.self.now in
-    let before = n.ahead p below in
+    let before = n.ahead p below present in
     elim (changed (ring_at n.rings) (ring_at c.put.new.self) n.me _ (ap (λ (k : Ring). k.count) c.put.ensures.put) c.put.ensures.others p) [
-      | inl (same, now) ↦ let own = n.ahead n.me n.me_below in omega (arith, now, own)
+      | inl (same, now) ↦ let own = n.ahead n.me n.me_below (ap (λ (o : Option ℕ). is_over o n.ran) n.endless) in omega (arith, now, own)
       | inr now ↦ omega (arith, now, before)
     ]
 
@@ -52,10 +55,11 @@ pub returns-clause-step : goal.returns-clause-step
 returns-clause-step g c players extra capacity me m r =
     let n = c.args.self.now in
     let made = c.made-tic.ensures ∙ made_is _ _ me _ m r n.me_below in
-    let ahead = n.ahead n.me n.me_below in
+    let endless : m.ends me ≡ None = sym (ap (λ (x : Peer). x.end) (r.peers me (mine _ _ me _ m r n.me_below))) ∙ ap (λ (p : ℕ). (peer_at n.peers p).end) (sym r.number) ∙ n.endless in
+    let ahead = n.ahead n.me n.me_below (ap (λ (o : Option ℕ). is_over o n.ran) n.endless) in
     let marked = to_z-of_z w16 c.get-mark.result (search rules) in
     let ring = own_ring _ _ me _ m c.args.keys c.made-tic.result _ _ _ r n.me_below made (omega (arith, c.made-tic.ensures, r.ran, ahead))
-    (omega (arith, c.made-tic.ensures, r.ran, n.near)) (marked ∙ c.get-mark.ensures) (c.build-command.ensures.command m.keys r.hold) c.put.ensures.put in
+    (omega (arith, c.made-tic.ensures, r.ran, n.near)) endless (marked ∙ c.get-mark.ensures) (c.build-command.ensures.command m.keys r.hold) c.put.ensures.put in
     after _ _ (build_makes _ me m _ (sym r.phase ∙ c.in-Playing.is) (omega (arith, made, r.ran, c.if-tic-self-ge-AHEAD.false)))
     (shows_built _ _ me _ m _ _ _ r (c.build-command.ensures.hold m.keys r.hold) (ap (ring_at c.put.new.self) (sym r.number) ∙ ring)
     (λ p apart. c.put.ensures.others p (λ e. apart (e ∙ r.number)))) (ap Made.Made made)

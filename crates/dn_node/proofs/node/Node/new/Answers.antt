@@ -1,4 +1,4 @@
-use Rattle.std.proofs.Common.{rules, ◌-◌, ◌*◌, ◌/◌, ℕ, refl, ap, ◌∙◌}
+use Rattle.std.proofs.Common.{rules, refl, ap, ◌∙◌}
 use Rattle.dn_demo.specs.Recorded.{Recorded, capacity}
 use Rattle.dn_machine.specs.Worlds.{rules_of}
 use Rattle.dn_machine.specs.Game.{fresh}
@@ -24,6 +24,7 @@ returns-clause-opened g c settings key =
       peers = λ p below. c.new-6.ensures p;
       noted = λ p peer. c.new-3.ensures.nobody p;
       world = λ e. absurd (cc);
-      marks = λ p tic below low high. c.new-7.ensures p _ ∙ first_marks rule (fresh settings config.me) p tic high;
+      marks = λ p tic below low high present. c.new-7.ensures p _ ∙ first_marks rule (fresh settings config.me) p tic high;
       demo = ap (λ (d : Recorded). d.bytes) c.in-Ok.ensures.1;
+      closed = λ e. absurd (cc);
     }

@@ -12,7 +12,7 @@ returns-in-Ended-clause-step g c players extra capacity me m r = after _ _ (quit
 
 pub returns-in-Playing-clause-step : goal.returns-in-Playing-clause-step
 returns-in-Playing-clause-step g c players extra capacity me m r =
-    after _ _ (quit_playing m (sym r.phase ∙ c.in-Playing.is)) (c.end.ensures.step players extra capacity me m r) refl
+    after _ _ (quit_playing m (sym r.phase ∙ c.in-Playing.is)) (c.finish.ensures.step players extra capacity me m r) refl
 
 either : (p q : Phase) → p ≡ q → (p ≡ Listening) ⊎ (p ≡ Gathering) → (q ≡ Listening) ⊎ (q ≡ Gathering)
 either p q e (inl is) = inl (sym e ∙ is)

@@ -13,7 +13,7 @@ use Rattle.dn_node.proofs.node.Node.start.Goals as goal
 pub invariant_of-self-clause-size : goal.invariant_of-self-clause-size
 invariant_of-self-clause-size g c plays =
     let zero : c.args.self.now.ran ≡ 0 = c.args.self.now.unrun (c.args.self.now.waits c.requires) in
-    let none : 13 + 5 * (c.args.self.now.players * c.args.self.now.ran) ≡ 13 = rw zero (omega arith) in
+    let none : 13 + 4 * (c.args.self.now.players * c.args.self.now.ran) ≡ 13 = rw zero (omega arith) in
     let text : c.head.new.self.bytes ≡ demo_text long_tics c.start-start.result c.args.self.now.me (seats_of c.args.self.now.players) [] false =
     ap (λ (d : Recorded). d.bytes) c.head.ensures.written ∙ ap (λ (seats : List Bool). demo_text long_tics c.start-start.result c.args.self.now.me seats [] false) c.seats-present.ensures in
     let long : length c.head.new.self.bytes ≡ 13 = ap (length {A = ℕ}) text ∙ head_length c.start-start.result c.args.self.now.me c.args.self.now.players in
@@ -25,6 +25,7 @@ returns g c players extra capacity me m r =
     (c.args.self.now.unrun (c.args.self.now.waits c.requires))
     (c.begin.ensures ∙ ap (λ (start : Start). g.W.World.physics.begin start c.seats-present.result) c.start-start.ensures.value
     ∙ ap (g.W.World.physics.begin (start_of c.args.settings)) (c.seats-present.ensures ∙ ap seats_of r.players))
+    (ap (λ (d : Recorded). d.stage) c.head.ensures.written)
     (ap (λ (d : Recorded). d.bytes) c.head.ensures.written
     ∙ ap (λ (start : Start). demo_text long_tics start c.args.self.now.me c.seats-present.result [] false) c.start-start.ensures.value
     ∙ ap (λ (view : ℕ). demo_text long_tics (start_of c.args.settings) view c.seats-present.result [] false) r.number
