@@ -4,6 +4,7 @@ mod agreeing;
 mod applying;
 mod belt;
 mod far;
+mod leaving;
 mod memory;
 mod old_packets;
 mod opening;

@@ -73,7 +73,7 @@ fn add_calm(events: &mut Vec<Event>, round: u32) -> Result<(), Fail> {
 }
 
 /// The whole list: the nodes start, meet wild rounds and then calm ones.
-fn events(alloc: Global) -> Result<Vec<Event>, Fail> {
+pub(super) fn events(alloc: Global) -> Result<Vec<Event>, Fail> {
     let mut events = Vec::new(alloc);
     for event in [
         send(0, 1),
@@ -147,7 +147,7 @@ fn three_nodes_agree_after_forty_tics(rt: HostRuntime) -> Result<(), Fail> {
             continue;
         };
         assert!(rt; node.ran() >= 40, "{number} ran {}", node.ran());
-        assert_eq!(rt; node.demo().len(), 13 + 12 * node.ran() as usize);
+        assert_eq!(rt; node.demo().len(), 13 + 15 * node.ran() as usize);
         newest = newest.max(node.ran());
     }
     // Nothing was lost in the end, so all have run the same tics.

@@ -78,15 +78,22 @@ fn events_answer_what_nodes_do(rt: HostRuntime) -> Result<(), Fail> {
         (send(1, 0), Done::Sent(2)),
         (send(1, 0), Done::Sent(3)),
         (send(1, 0), Done::Sent(4)),
-        (send(1, 0), Done::Silent),
-        (Event::Deliver(0), Done::Heard(Heard::Dropped(13))),
-        // The key player still gathers, and hears an end as any other packet.
+        (send(1, 0), Done::Sent(5)),
+        (Event::Deliver(0), Done::Heard(Heard::Dropped(6))),
+        // The key player still gathers, and hears EXIT as any other packet.
         (Event::Deliver(3), Done::Heard(Heard::Started)),
-        (Event::Deliver(3), Done::Heard(Heard::Left)),
-        (Event::Deliver(1), Done::Heard(Heard::Dropped(13))),
-        (send(0, 1), Done::Silent),
+        // Then it learns the end of the other, whose commands it does not have.
+        (Event::Deliver(3), Done::Heard(Heard::Gap)),
+        (Event::Deliver(1), Done::Heard(Heard::Left)),
+        (Event::Deliver(5), Done::Heard(Heard::Left)),
+        (send(0, 1), Done::Sent(6)),
+        (Event::Deliver(6), Done::Heard(Heard::Noted)),
+        (Event::Run(0), Done::Ran(Ran::Waiting(0))),
+        (build(0, 1), Done::Built(Made::Made(0))),
+        (Event::Run(0), Done::Ran(Ran::Ran(0))),
         (Event::Stop(0), Done::Stopped),
-        (send(1, 0), Done::Silent),
+        (send(1, 0), Done::Sent(7)),
+        (send(1, 1), Done::Silent),
     ] {
         assert_eq!(rt; game.apply(event), Ok(answer), "{event:?}");
     }

@@ -20,7 +20,7 @@ const FLIGHTS: [(u8, u8, u8, Option<u32>, u32, u8, [u8; 8]); 5] = [
         None,
         0,
         0,
-        [0x69, 0x86, 0x90, 0x21, 0x02, 0x41, 0x6D, 0x00],
+        [0x69, 0x86, 0x92, 0x21, 0x02, 0x41, 0x6F, 0x00],
     ),
     (
         1,
@@ -114,29 +114,9 @@ fn look(rt: &impl Abort, game: &Game<Walk>) {
         assert_eq!(rt; node.ran(), 1, "{number}");
         assert_eq!(rt; node.got(0), Some(1), "{number}");
         assert_eq!(rt; node.got(1), Some(2), "{number}");
-        let demo = [
-            0x6D,
-            2,
-            1,
-            1,
-            0,
-            0,
-            0,
-            0,
-            number as u8,
-            1,
-            1,
-            0,
-            0,
-            0,
-            0,
-            0,
-            0,
-            0,
-            0,
-            0,
-            0,
-        ];
+        // The header, and for both players a command without a key.
+        let mut demo = [0; 23];
+        demo[..11].copy_from_slice(&[0x6F, 2, 1, 1, 0, 0, 0, 0, number as u8, 1, 1]);
         assert_eq!(rt; node.demo(), demo.as_slice(), "{number}");
     }
 }
