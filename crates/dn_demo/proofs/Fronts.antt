@@ -2,8 +2,7 @@
 use Rattle.std.proofs.Common.{◌≡◌, ◌<◌, ◌≤◌, ℕ, zero, suc, ◌+◌, ◌-◌, ◌*◌, ◌/◌, Bool, true, false, List, [], ◌∷◌, map, take, drop, get_or, Some, None, refl, sym, ap, ◌∙◌, arith}
 use Rattle.std.specs.List.{range_with_len}
 use Rattle.std.proofs.Math.Nat.{mul-div-le, mul-le-mul_left}
-use Rattle.std.proofs.Math.Seq.{take-add}
-use Rattle.std.proofs.lemmas.List.{get_or-take, drop-take, drop-drop}
+use Rattle.std.proofs.lemmas.List.{get_or-take, drop-take}
 use Rattle.dn_demo.specs.Layout.{Layout, command_size, tell}
 use Rattle.dn_demo.specs.Rows.{player_count}
 use Rattle.dn_demo.proofs.Layouts.{place_below}

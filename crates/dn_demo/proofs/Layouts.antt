@@ -1,5 +1,5 @@
 -- What holds of both layouts.
-use Rattle.std.proofs.Common.{◌≡◌, ◌<◌, ◌≤◌, ℕ, suc, ◌+◌, ◌-◌, ◌*◌, ◌/◌, ◌%◌, ◌^◌, ℤ, pos, negsuc, int_rem, List, [], ◌∷◌, ◌++◌, length, take, Option, Some, None, FitsSigned, refl, sym, ap, ◌∙◌, arith, inl, inr, w8, length-append}
+use Rattle.std.proofs.Common.{◌≡◌, ◌<◌, ◌≤◌, ℕ, suc, ◌+◌, ◌-◌, ◌*◌, ◌/◌, ◌%◌, ◌^◌, ℤ, pos, negsuc, int_rem, [], ◌∷◌, ◌++◌, length, take, Some, FitsSigned, refl, sym, ap, ◌∙◌, arith, w8, length-append}
 use Rattle.std.specs.Int.{w16, cast_signed, cast_unsigned}
 use Rattle.std.proofs.Math.Nat.{mul-le-mul_left}
 use Rattle.std.proofs.Math.Seq.{take-append_seam}

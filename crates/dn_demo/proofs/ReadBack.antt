@@ -8,7 +8,7 @@ use Rattle.std.proofs.lemmas.Option.{slice_get-get_or}
 use Rattle.dn_tic.specs.declared.command.Move.{Move}
 use Rattle.dn_setup.specs.declared.start.Start.{Start}
 use Rattle.dn_setup.specs.Starts.{bit}
-use Rattle.dn_demo.specs.Layout.{Layout, vanilla, long_tics, layout_of_version, command_size}
+use Rattle.dn_demo.specs.Layout.{Layout, vanilla, long_tics, layout_of_version}
 use Rattle.dn_demo.specs.Rows.{AreWritable, AllMoves, IsMove, IsWhole, player_count}
 use Rattle.dn_demo.specs.Text.{marker, header, commands_of, demo_text}
 use Rattle.dn_demo.specs.Places.{start_in, seats_in, place, moves_from, EndsBehind}

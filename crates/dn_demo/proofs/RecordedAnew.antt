@@ -1,5 +1,5 @@
 -- A demo that was read, recorded row by row.
-use Rattle.std.proofs.Common.{◌≡◌, ◌<◌, ◌≤◌, ℕ, ◌+◌, ◌-◌, ◌*◌, ◌/◌, Bool, true, false, List, [], ◌∷◌, ◌++◌, length, nat_le, take, fold, get_or, slice_get, Option, Some, Ok, refl, sym, ap, ◌∙◌, subst, arith, inl, inr, length-append}
+use Rattle.std.proofs.Common.{◌≡◌, ◌<◌, ◌≤◌, ℕ, ◌+◌, ◌-◌, ◌*◌, ◌/◌, Bool, true, false, List, [], ◌∷◌, ◌++◌, length, nat_le, take, slice_get, Option, Some, Ok, sym, ap, ◌∙◌, subst, arith}
 use Rattle.std.proofs.lemmas.List.{take_more, length-map}
 use Rattle.std.proofs.lemmas.Option.{slice_get_within, get_or_from_slice_get}
 use Rattle.dn_tic.specs.declared.command.Move.{Move}
@@ -11,7 +11,7 @@ use Rattle.std.proofs.lemmas.Bool.{le-leb}
 use Rattle.dn_demo.specs.Layout.{Layout, long_tics, command_size}
 use Rattle.dn_demo.specs.Rows.{IsRow, player_count}
 use Rattle.dn_demo.specs.Places.{place, seats_in, moves_from, commands_in, HasNoMarker}
-use Rattle.dn_demo.specs.Text.{header, demo_text}
+use Rattle.dn_demo.specs.Text.{demo_text}
 use Rattle.dn_demo.specs.Reading.{Recording, recording, IsReadAs, written_demo, state_after}
 use Rattle.dn_demo.specs.Recorded.{Recorded, AddsRow, recorded_size}
 use Rattle.dn_demo.specs.Upgraded.{IsUpgraded}

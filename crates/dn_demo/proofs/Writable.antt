@@ -1,5 +1,5 @@
 -- The rows of a demo that was read can be written again.
-use Rattle.std.proofs.Common.{◌≡◌, ◌≢◌, ◌<◌, ◌≤◌, ◌⊎◌, ℕ, zero, suc, ◌+◌, ◌-◌, ◌*◌, ◌/◌, ◌^◌, negsuc, Bool, true, false, List, [], ◌∷◌, length, map, take, drop, get_or, slice_get, All, Option, Some, None, Ok, IfSome, is_some, FitsSigned, refl, sym, ap, ◌∙◌, subst, arith, inl, inr, w8}
+use Rattle.std.proofs.Common.{◌≡◌, ◌≢◌, ◌<◌, ◌≤◌, ℕ, zero, suc, ◌+◌, ◌*◌, ◌/◌, Bool, true, false, List, [], ◌∷◌, length, map, take, drop, get_or, slice_get, All, Some, None, Ok, IfSome, is_some, FitsSigned, refl, sym, ap, ◌∙◌, subst, arith, inl, inr, w8}
 use Rattle.std.specs.Int.{w16, cast_signed, cast_unsigned, from_le_bytes}
 use Rattle.std.specs.List.{range_with_len}
 use Rattle.std.proofs.lemmas.Int.{ints, of_z-to_z}
@@ -9,7 +9,7 @@ use Rattle.std.proofs.lemmas.List.Elements.{All-nil, All-cons, All-get_or}
 use Rattle.std.proofs.lemmas.Option.{slice_get-get_or, slice_get_within}
 use Rattle.dn_tic.specs.declared.command.Move.{Move}
 use Rattle.dn_demo.specs.Layout.{Layout, vanilla, long_tics, layout_of_version, command_size}
-use Rattle.dn_demo.specs.Rows.{IsMove, IsRecordable, IsRow, AllMoves, AreWritable, player_count}
+use Rattle.dn_demo.specs.Rows.{IsMove, IsRecordable, IsRow, AreWritable, player_count}
 use Rattle.dn_demo.specs.Text.{marker}
 use Rattle.dn_demo.specs.Places.{seats_in, place, move_at, moves_from, row_in, HasNoMarker}
 use Rattle.dn_demo.specs.Reading.{Recording, IsReadAs}
@@ -52,20 +52,20 @@ long_turn bytes fits =
 turn_fits : (version : ℕ) (layout : Layout) → layout_of_version version ≡ Some layout → (bytes : List ℕ) → AreBytes bytes
     → FitsSigned w16 (layout.turn_told bytes)
 turn_fits version layout e bytes fits =
-    elim (cases_eq version 109) [
+    elim (cases_eq version vanilla.version) [
       | inl is ↦
-          let test = eq-eqb version 109 is in
+          let test = eq-eqb version vanilla.version is in
           let same : vanilla ≡ layout = let known : Some vanilla ≡ Some layout = (rw test at e) in cc in
           subst (λ (l : Layout). FitsSigned w16 (l.turn_told bytes)) same (vanilla_turn bytes fits)
       | inr not ↦
-          let test = ne_eqb version 109 not in
-          elim (cases_eq version 111) [
+          let test = ne_eqb version vanilla.version not in
+          elim (cases_eq version long_tics.version) [
             | inl is ↦
-                let long = eq-eqb version 111 is in
+                let long = eq-eqb version long_tics.version is in
                 let same : long_tics ≡ layout = let known : Some long_tics ≡ Some layout = (rw (test, long) at e) in cc in
                 subst (λ (l : Layout). FitsSigned w16 (l.turn_told bytes)) same (long_turn bytes fits)
             | inr neither ↦
-                let other = ne_eqb version 111 neither in
+                let other = ne_eqb version long_tics.version neither in
                 let none : None ≡ Some layout = (rw (test, other) at e) in cc
           ]
     ]

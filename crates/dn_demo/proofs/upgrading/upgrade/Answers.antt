@@ -1,15 +1,14 @@
 use Rattle.std.proofs.lemmas.Bool.Decides.{nat_tests}
-use Rattle.std.proofs.Common.{◌≡◌, ◌<◌, ◌≤◌, ◌+◌, ◌*◌, ◌∙◌, [], false, true, length, nat_le, Some, sym, ap, arith, rules, take, length-append, ℕ, List, Option}
+use Rattle.std.proofs.Common.{◌≡◌, ◌<◌, ◌+◌, ◌*◌, ◌∙◌, [], false, true, length, nat_le, Some, sym, ap, arith, rules, take, length-append, ℕ, List, Option}
 use Rattle.std.proofs.Math.Seq.{take-length}
 use Rattle.std.proofs.lemmas.Bool.{le-leb}
 use Rattle.dn_tic.specs.declared.command.Move.{Move}
 use Rattle.dn_demo.specs.Layout.{layout_of, long_tics, command_size}
-use Rattle.dn_demo.specs.Rows.{player_count, IsRow}
-use Rattle.dn_demo.specs.Places.{place, seats_in, moves_from}
+use Rattle.dn_demo.specs.Rows.{player_count}
+use Rattle.dn_demo.specs.Places.{seats_in}
 use Rattle.dn_demo.specs.Text.{demo_text, row_bytes}
 use Rattle.dn_demo.specs.Recorded.{Recorded, recorded_size}
 use Rattle.dn_demo.specs.Upgraded.{upgraded_size}
-use Rattle.dn_demo.specs.declared.recorder.Stage.TheVariants.{Open}
 use Rattle.dn_demo.proofs.Kept.{row_kept}
 use Rattle.dn_demo.proofs.RecordedAnew.{one_more, length-none, row_fits, row_recordable}
 use Rattle.dn_demo.proofs.upgrading.upgrade.Goals as goal
