@@ -8,6 +8,8 @@ mod belt;
 mod building;
 mod demos;
 mod dropping;
+mod ending;
+mod leavers;
 mod leaving;
 mod marks;
 mod opening;

@@ -106,17 +106,22 @@ fn numbers_are_exact(rt: HostRuntime) -> Result<(), Fail> {
     Ok(())
 }
 
+/// Who has left gives the commands that its peer may miss, asks for none, and never stops.
 #[test]
-fn who_left_is_told_of_four_times(rt: HostRuntime) -> Result<(), Fail> {
-    let (mut key, mut other) = pair(rt.alloc(), true)?;
-    tics(&mut key, &mut other, 300, (FORWARD, NO_KEYS));
-    assert!(rt; key.quit());
-    for _ in 0..4 {
-        agree(&rt, &mut key, 1, numbers(EXIT, None, 300, 0));
-    }
-    for _ in 0..2 {
-        assert_eq!(rt; key.aim(1), None);
-        assert!(rt; key.packet(1).is_none());
+fn who_left_tells_it_with_each_packet(rt: HostRuntime) -> Result<(), Fail> {
+    for (extra, first, next) in [(true, (299, 4), (302, 1)), (false, (300, 3), (303, 0))] {
+        let (mut key, mut other) = pair(rt.alloc(), extra)?;
+        tics(&mut key, &mut other, 300, (FORWARD, NO_KEYS));
+        for _ in 0..3 {
+            let _ = key.build(Keys::from_bits(FORWARD));
+        }
+        let gap = datagram(0, (0, 45, 1), &[]);
+        assert_eq!(rt; key.receive(1, gap.as_slice()), Heard::Gap);
+        assert!(rt; key.quit());
+        agree(&rt, &mut key, 1, numbers(EXIT, None, first.0, first.1));
+        for _ in 0..20 {
+            agree(&rt, &mut key, 1, numbers(EXIT, None, next.0, next.1));
+        }
     }
     Ok(())
 }

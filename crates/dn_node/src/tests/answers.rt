@@ -7,37 +7,26 @@ use dn_packet::{EXIT, KILL, RETRANSMIT, SETUP};
 use dn_tic::TicCmd;
 use std::test::Fail;
 
+/// Where a node looks at who sends.
+const PEERS: [Stage; 5] = [
+    Stage::Listener,
+    Stage::Key,
+    Stage::First,
+    Stage::Second,
+    Stage::Leaver,
+];
+
 #[test]
 fn who_is_no_peer_is_a_stranger(rt: HostRuntime) -> Result<(), Fail> {
-    for stage in [Stage::Listener, Stage::Key, Stage::First, Stage::Second] {
+    for stage in PEERS {
         let mut node = at(rt.alloc(), stage)?;
         for from in [node.me(), 3, 4, 255] {
             let plain = datagram(0, (0, 0, from), &[]);
-            let choice = datagram(SETUP, (2, 65, 109), &[]);
+            let choice = datagram(SETUP, (2, 65, 111), &[]);
             for bytes in [&[], plain.as_slice(), choice.as_slice()] {
                 assert_eq!(rt;
                     node.receive(from, bytes),
                     Heard::Dropped(5),
-                    "{stage:?}, {from}"
-                );
-            }
-        }
-    }
-    Ok(())
-}
-
-#[test]
-fn an_ended_node_hears_nothing(rt: HostRuntime) -> Result<(), Fail> {
-    for stage in [Stage::Quitter, Stage::Leaver] {
-        let mut node = at(rt.alloc(), stage)?;
-        let plain = datagram(0, (0, 0, 0), &[STILL]);
-        let choice = datagram(SETUP, (2, 65, 109), &[]);
-        let exit = datagram(EXIT, (0, 0, 0), &[]);
-        for bytes in [&[], plain.as_slice(), choice.as_slice(), exit.as_slice()] {
-            for from in [0, 1, 2, 3, 255] {
-                assert_eq!(rt;
-                    node.receive(from, bytes),
-                    Heard::Dropped(13),
                     "{stage:?}, {from}"
                 );
             }
@@ -60,7 +49,7 @@ fn bytes_that_are_no_packet_are_told_apart(rt: HostRuntime) -> Result<(), Fail> 
     long[7] = 12;
     let mut longer = long;
     longer[7] = 13;
-    for stage in [Stage::Listener, Stage::Key, Stage::First, Stage::Second] {
+    for stage in PEERS {
         for (bytes, number) in [
             (&one[..0], 1),
             (&one[..7], 1),
@@ -85,18 +74,18 @@ fn bytes_that_are_no_packet_are_told_apart(rt: HostRuntime) -> Result<(), Fail> 
 #[test]
 fn set_up_is_for_listeners(rt: HostRuntime) -> Result<(), Fail> {
     let rows = [
-        (Stage::Listener, 0, (2, 65, 109), Heard::Started),
+        (Stage::Listener, 0, (2, 65, 111), Heard::Started),
         (Stage::Listener, 0, (2, 65, 110), Heard::Dropped(7)),
         (Stage::Listener, 0, (5, 65, 110), Heard::Dropped(7)),
-        (Stage::Listener, 0, (5, 65, 109), Heard::Dropped(8)),
-        (Stage::Listener, 0, (2, 0, 109), Heard::Dropped(8)),
-        (Stage::Listener, 2, (2, 65, 109), Heard::Dropped(6)),
+        (Stage::Listener, 0, (5, 65, 111), Heard::Dropped(8)),
+        (Stage::Listener, 0, (2, 0, 111), Heard::Dropped(8)),
+        (Stage::Listener, 2, (2, 65, 111), Heard::Dropped(6)),
         (Stage::Listener, 2, (5, 65, 110), Heard::Dropped(6)),
-        (Stage::Key, 1, (2, 65, 109), Heard::Dropped(6)),
+        (Stage::Key, 1, (2, 65, 111), Heard::Dropped(6)),
         (Stage::Key, 2, (5, 65, 1), Heard::Dropped(6)),
-        (Stage::First, 1, (2, 65, 109), Heard::Dropped(6)),
+        (Stage::First, 1, (2, 65, 111), Heard::Dropped(6)),
         (Stage::First, 1, (0, 0, 1), Heard::Dropped(6)),
-        (Stage::Second, 0, (2, 65, 109), Heard::Dropped(6)),
+        (Stage::Second, 0, (2, 65, 111), Heard::Dropped(6)),
         (Stage::Second, 2, (5, 65, 110), Heard::Dropped(6)),
     ];
     for (stage, from, numbers, answer) in rows {
@@ -150,15 +139,21 @@ fn before_the_game_nothing_is_taken(rt: HostRuntime) -> Result<(), Fail> {
 fn a_playing_node_takes_what_comes_next(rt: HostRuntime) -> Result<(), Fail> {
     let stop = [STOP; 12];
     let still = [STILL; 12];
-    let rows: [(u8, (u8, u8, u8), &[TicCmd], Heard); 25] = [
+    let rows: [(u8, (u8, u8, u8), &[TicCmd], Heard); 31] = [
         (0, (0, 0, 0), &[], Heard::Dropped(5)),
         (0, (0, 0, 1), &[], Heard::Dropped(5)),
         (0, (0, 0, 0x82), &[], Heard::Dropped(5)),
         (KILL, (0, 0, 1), &[], Heard::Dropped(5)),
         (EXIT, (0, 0, 1), &[], Heard::Dropped(5)),
         (EXIT, (0, 0, 2), &[], Heard::Left),
-        (EXIT + KILL, (0, 0, 2), &[], Heard::Left),
-        (EXIT + RETRANSMIT, (9, 255, 2), &stop, Heard::Left),
+        (EXIT, (0, 0, 2), &still[..3], Heard::Left),
+        (EXIT + RETRANSMIT, (77, 0, 2), &still, Heard::Left),
+        (EXIT, (0, 12, 2), &[], Heard::Gap),
+        (EXIT, (0, 1, 2), &still[..1], Heard::Gap),
+        (EXIT + KILL, (0, 0, 2), &[], Heard::Dropped(9)),
+        (EXIT + RETRANSMIT, (9, 255, 2), &stop, Heard::Dropped(10)),
+        (EXIT, (0, 0, 2), &stop[..1], Heard::Dropped(11)),
+        (EXIT, (0, 13, 2), &[], Heard::Dropped(12)),
         (KILL, (0, 0, 2), &[], Heard::Dropped(9)),
         (KILL + RETRANSMIT, (0, 255, 2), &stop, Heard::Dropped(9)),
         (0, (0, 255, 2), &[], Heard::Dropped(10)),

@@ -133,16 +133,17 @@ fn turn_of([_, _, low, high, ..]: [u8; 8]) -> i16 {
 #[test]
 fn turns_are_fast_from_the_sixth_on(rt: HostRuntime) -> Result<(), Fail> {
     for (keys, slow, fast, angle) in [
-        (RIGHT, (-320, 0xFF), (-640, 0xFE), 63_232),
-        (LEFT, (320, 1), (640, 3), 2_816),
-        (LEFT | SPEED, (320, 1), (1_280, 5), 3_840),
-        (RIGHT | SPEED, (-320, 0xFF), (-1_280, 0xFB), 61_696),
-        (LEFT | RIGHT, (0, 0), (0, 0), 0),
+        (RIGHT, -320, -640, 62_656),
+        (LEFT, 320, 640, 2_880),
+        (LEFT | SPEED, 320, 1_280, 4_160),
+        (RIGHT | SPEED, -320, -1_280, 61_376),
+        (LEFT | RIGHT, 0, 0, 0),
     ] {
         let (mut key, _) = pair(rt.alloc(), false)?;
-        for (turn, byte) in [slow, slow, slow, slow, slow, fast, fast] {
+        for turn in [slow, slow, slow, slow, slow, fast, fast] {
             assert_eq!(rt; turn_of(alone(&rt, &mut key, keys)?), turn, "keys {keys}");
-            let row = [0, 0, byte, 0, 0, 0, 0, 0];
+            let [low, high] = turn.to_le_bytes();
+            let row = [0, 0, low, high, 0, 0, 0, 0, 0, 0];
             assert!(rt; key.demo().ends_with(&row), "keys {keys}, turn {turn}");
         }
         assert_eq!(rt; key.world().angle(0), Some(angle), "keys {keys}");

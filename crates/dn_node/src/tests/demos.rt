@@ -1,7 +1,7 @@
 //! Tests of the demos that nodes record, and of demos of ended nodes played again.
 
 use super::{FORWARD, IDLE, LEFT, RIGHT, SPEED, pair, pair_of, pass, tic, tics};
-use crate::{Cause, Made, Node, Phase, Ran};
+use crate::{Cause, Heard, Made, Node, Phase, Ran};
 use dn_demo::{Demo, play};
 use dn_packet::EXIT;
 use dn_tic::Keys;
@@ -22,12 +22,12 @@ fn is_full(rt: &impl Abort, node: &mut Node<Walk>, ran: u32, size: usize) {
 #[test]
 fn a_full_demo_ends_a_node(rt: HostRuntime) -> Result<(), Fail> {
     for (limit, ran, size) in [
-        (1_030, 127, 1_030),
-        (1_029, 126, 1_022),
-        (1_024, 126, 1_022),
-        (1_031, 127, 1_030),
-        (1_037, 127, 1_030),
-        (1_038, 128, 1_038),
+        (1_034, 102, 1_034),
+        (1_033, 101, 1_024),
+        (1_024, 101, 1_024),
+        (1_035, 102, 1_034),
+        (1_043, 102, 1_034),
+        (1_044, 103, 1_044),
     ] {
         let walks = (Walk::new(), Walk::new());
         let (mut key, mut other) = pair_of(rt.alloc(), false, limit, walks)?;
@@ -39,7 +39,7 @@ fn a_full_demo_ends_a_node(rt: HostRuntime) -> Result<(), Fail> {
         assert_eq!(rt; tic(&mut key, &mut other, IDLE), full, "limit {limit}");
         is_full(&rt, &mut key, ran, size);
         is_full(&rt, &mut other, ran, size);
-        // it tells its peer, which has ended too
+        // it tells its peer, which has all its commands
         let aim = key.aim(1).ok_or("no packet")?;
         assert_eq!(rt; (aim.flags, aim.start), (EXIT, ran.saturating_add(1)));
     }
@@ -50,10 +50,10 @@ fn a_full_demo_ends_a_node(rt: HostRuntime) -> Result<(), Fail> {
 #[test]
 fn a_full_demo_waits_for_commands(rt: HostRuntime) -> Result<(), Fail> {
     let walks = (Walk::new(), Walk::new());
-    let (mut key, mut other) = pair_of(rt.alloc(), false, 1_030, walks)?;
-    tics(&mut key, &mut other, 127, IDLE);
+    let (mut key, mut other) = pair_of(rt.alloc(), false, 1_034, walks)?;
+    tics(&mut key, &mut other, 102, IDLE);
     assert_eq!(rt; key.run(), Ran::Waiting(0));
-    assert_eq!(rt; key.build(Keys::from_bits(0)), Made::Made(127));
+    assert_eq!(rt; key.build(Keys::from_bits(0)), Made::Made(102));
     assert_eq!(rt; key.run(), Ran::Waiting(1));
     assert_eq!(rt; key.phase(), Phase::Playing);
     let _ = other.build(Keys::from_bits(0));
@@ -96,8 +96,9 @@ fn demos_of_ended_nodes_are_played_again(rt: HostRuntime) -> Result<(), Fail> {
         }
         assert_eq!(rt; (key.ran(), other.ran()), (count, count));
         assert!(rt; key.quit());
-        let _ = pass(&mut key, &mut other);
-        assert_eq!(rt; other.phase(), Phase::Ended(Cause::Left(0)));
+        assert_eq!(rt; pass(&mut key, &mut other), Some(Heard::Left));
+        assert_eq!(rt; other.phase(), Phase::Playing);
+        assert!(rt; other.quit());
         replays(&rt, rt.alloc(), &key)?;
         replays(&rt, rt.alloc(), &other)?;
         // the same rows behind headers that differ in their views
@@ -109,12 +110,49 @@ fn demos_of_ended_nodes_are_played_again(rt: HostRuntime) -> Result<(), Fail> {
     Ok(())
 }
 
+/// The tics that a node runs alone, after the other has left, are not in its demo.
+#[test]
+fn tics_without_a_player_are_not_recorded(rt: HostRuntime) -> Result<(), Fail> {
+    let (mut key, mut other) = pair(rt.alloc(), false)?;
+    let keys = (FORWARD, FORWARD | LEFT);
+    tics(&mut key, &mut other, 20, keys);
+    assert!(rt; key.quit());
+    assert_eq!(rt; pass(&mut key, &mut other), Some(Heard::Left));
+    // what the demo is played to, before and after the tics that the node runs alone
+    let mut before = Walk::new();
+    let closed = key.demo();
+    let _ = play(&Demo::read(rt.alloc(), closed)?, &mut before);
+    for tic in 20..25 {
+        assert_eq!(rt;
+            other.build(Keys::from_bits(FORWARD | SPEED)),
+            Made::Made(tic)
+        );
+        assert_eq!(rt; other.run(), Ran::Ran(tic));
+        assert_eq!(rt; other.demo().len(), 13 + 20 * 10 + 1);
+    }
+    let demo = Demo::read(rt.alloc(), other.demo())?;
+    let mut after = Walk::new();
+    assert_eq!(rt; play(&demo, &mut after), 20);
+    for player in 0..2 {
+        assert_eq!(rt; after.x(player), before.x(player), "player {player}");
+        assert_eq!(rt;
+            after.angle(player),
+            before.angle(player),
+            "player {player}"
+        );
+    }
+    // who left stands still, and the other has gone on
+    assert_eq!(rt; other.world().x(0), before.x(0));
+    assert!(rt; other.world().x(1) != before.x(1));
+    Ok(())
+}
+
 /// A node has written one row, and closes its demo.
-fn wrote(rt: &impl Abort, node: &mut Node<Walk>, row: [u8; 8]) {
-    assert_eq!(rt; node.demo().len(), 21);
+fn wrote(rt: &impl Abort, node: &mut Node<Walk>, row: [u8; 10]) {
+    assert_eq!(rt; node.demo().len(), 23);
     assert!(rt; node.demo().ends_with(&row));
     assert!(rt; node.quit());
-    assert_eq!(rt; node.demo().len(), 22);
+    assert_eq!(rt; node.demo().len(), 24);
     assert_eq!(rt; node.demo().last(), Some(&0x80));
 }
 
@@ -122,12 +160,12 @@ fn wrote(rt: &impl Abort, node: &mut Node<Walk>, row: [u8; 8]) {
 #[test]
 fn a_row_has_the_used_moves(rt: HostRuntime) -> Result<(), Fail> {
     let (mut key, mut other) = pair(rt.alloc(), false)?;
-    let header = [0x6D, 2, 1, 1, 0, 0, 0, 0, 1, 1, 1, 0, 0];
+    let header = [0x6F, 2, 1, 1, 0, 0, 0, 0, 1, 1, 1, 0, 0];
     assert_eq!(rt; other.demo(), header.as_slice());
     // forward and speed; left, strafe right, attack and the third weapon
     let keys = (0x81, 0x1124);
     assert_eq!(rt; tic(&mut key, &mut other, keys), (Ran::Ran(0), Ran::Ran(0)));
-    let row = [50, 0, 0, 0, 0, 24, 1, 21];
+    let row = [50, 0, 0, 0, 0, 0, 24, 64, 1, 21];
     wrote(&rt, &mut key, row);
     wrote(&rt, &mut other, row);
     Ok(())

@@ -21,6 +21,7 @@ struct Readings {
     written: usize,
     places: [Option<i32>; 4],
     aims: [Option<Aim>; 4],
+    ends: [Option<u32>; 4],
 }
 
 fn told(node: &Node<Walk>) -> Readings {
@@ -33,6 +34,7 @@ fn told(node: &Node<Walk>) -> Readings {
         written: node.demo().len(),
         places: [walk.x(0), walk.x(1), walk.x(2), walk.x(3)],
         aims: [node.aim(0), node.aim(1), node.aim(2), node.aim(3)],
+        ends: [node.end(0), node.end(1), node.end(2), node.end(3)],
     }
 }
 
@@ -49,17 +51,23 @@ fn drops(rt: &impl Abort, node: &mut Node<Walk>, from: u8, bytes: &[u8], number:
 
 #[test]
 fn before_the_game_nothing_is_changed(rt: HostRuntime) -> Result<(), Fail> {
-    let rows: [(Stage, u8, u8, (u8, u8, u8), u8); 10] = [
-        (Stage::Listener, 1, SETUP, (2, 65, 109), 5),
+    let rows: [(Stage, u8, u8, (u8, u8, u8), u8); 16] = [
+        (Stage::Listener, 1, SETUP, (2, 65, 111), 5),
         (Stage::Listener, 0, SETUP, (2, 65, 110), 7),
-        (Stage::Listener, 0, SETUP, (5, 65, 109), 8),
-        (Stage::Listener, 2, SETUP, (2, 65, 109), 6),
+        (Stage::Listener, 0, SETUP, (5, 65, 111), 8),
+        (Stage::Listener, 2, SETUP, (2, 65, 111), 6),
         (Stage::Listener, 0, 0, (0, 0, 0), 13),
-        (Stage::Key, 1, SETUP, (2, 65, 109), 6),
+        (Stage::Key, 1, SETUP, (2, 65, 111), 6),
         (Stage::Key, 1, KILL, (0, 0, 1), 9),
         (Stage::Key, 1, 0, (0, 0, 2), 5),
-        (Stage::Quitter, 0, SETUP, (2, 65, 109), 13),
+        (Stage::Quitter, 0, SETUP, (2, 65, 111), 13),
         (Stage::Leaver, 0, EXIT, (0, 0, 0), 13),
+        (Stage::Leaver, 0, EXIT + RETRANSMIT, (0, 255, 0), 13),
+        (Stage::Leaver, 0, SETUP, (2, 65, 111), 6),
+        (Stage::Leaver, 0, KILL + EXIT, (0, 0, 0), 9),
+        (Stage::Leaver, 0, RETRANSMIT, (0, 0, 2), 5),
+        (Stage::Leaver, 0, RETRANSMIT, (0, 255, 0), 10),
+        (Stage::Leaver, 3, 0, (0, 0, 3), 5),
     ];
     for (stage, from, flags, numbers, number) in rows {
         assert!(rt; flags < 16);
@@ -75,7 +83,7 @@ fn before_the_game_nothing_is_changed(rt: HostRuntime) -> Result<(), Fail> {
 #[test]
 fn who_was_dropped_is_not_noted(rt: HostRuntime) -> Result<(), Fail> {
     let mut key = at(rt.alloc(), Stage::Key)?;
-    for (from, flags, player, number) in [(1, KILL, 1, 9), (1, 0, 2, 5), (2, SETUP, 109, 6)] {
+    for (from, flags, player, number) in [(1, KILL, 1, 9), (1, 0, 2, 5), (2, SETUP, 111, 6)] {
         assert!(rt; flags < 16);
         let bytes = datagram(flags, (2, 65, player), &[]);
         drops(&rt, &mut key, from, bytes.as_slice(), number);
@@ -92,16 +100,22 @@ fn who_was_dropped_is_not_noted(rt: HostRuntime) -> Result<(), Fail> {
 fn in_the_game_nothing_is_changed(rt: HostRuntime) -> Result<(), Fail> {
     let stop = [STOP; 1];
     let still = [STILL; 12];
-    let rows: [(u8, u8, (u8, u8, u8), &[TicCmd], u8); 9] = [
+    let rows: [(u8, u8, (u8, u8, u8), &[TicCmd], u8); 14] = [
         (0, 0, (0, 4, 0), &[], 5),
         (2, 0, (0, 4, 2), &[], 5),
         (1, 0, (0, 4, 0), &[], 5),
         (1, EXIT, (0, 4, 0x81), &[], 5),
-        (1, SETUP, (2, 65, 109), &[], 6),
+        (1, SETUP, (2, 65, 111), &[], 6),
         (1, KILL, (0, 4, 1), &[], 9),
         (1, RETRANSMIT, (0, 200, 1), &[], 10),
         (1, RETRANSMIT, (0, 4, 1), &stop, 11),
         (1, RETRANSMIT, (0, 5, 1), &still, 12),
+        // packets that would tell an end
+        (1, EXIT + KILL, (0, 4, 1), &[], 9),
+        (1, EXIT, (0, 200, 1), &[], 10),
+        (1, EXIT, (0, 4, 1), &stop, 11),
+        (1, EXIT, (0, 17, 1), &[], 12),
+        (1, EXIT + RETRANSMIT, (0, 3, 1), &[], 14),
     ];
     let (mut key, mut other) = pair(rt.alloc(), false)?;
     tics(&mut key, &mut other, 4, IDLE);

@@ -1,6 +1,6 @@
 //! Tests of consistency marks, which commands carry and runs compare.
 
-use super::{FORWARD, NO_KEYS, SPEED, datagram, pair, pass, tic, tics};
+use super::{FORWARD, NO_KEYS, SPEED, STILL, datagram, pair, pass, tic, tics};
 use crate::{Cause, Heard, Node, Phase, Ran};
 use arrayvec::ArrayVec;
 use dn_packet::{EXIT, decode};
@@ -103,13 +103,13 @@ fn another_mark_ends_a_node(rt: HostRuntime) -> Result<(), Fail> {
     };
     assert_eq!(rt; other.phase(), Phase::Ended(cause));
     assert_eq!(rt; other.ran(), 13);
-    assert_eq!(rt; other.demo().len(), 13 + 8 * 13 + 1);
+    assert_eq!(rt; other.demo().len(), 13 + 10 * 13 + 1);
     assert_eq!(rt; other.demo().last(), Some(&0x80));
     assert_eq!(rt; other.run(), Ran::NotPlaying);
     assert!(rt; !other.quit());
     assert_eq!(rt; other.phase(), Phase::Ended(cause));
-    // it tells the others
-    let exit = datagram(EXIT, (0, 14, 1), &[]);
+    // it tells the others, with the last command
+    let exit = datagram(EXIT, (0, 13, 1), &[STILL]);
     let told: ArrayVec<u8, 104> = other.packet(0).ok_or("no packet")?;
     assert_eq!(rt; told.as_slice(), exit.as_slice());
     Ok(())

@@ -2,7 +2,7 @@
 
 use super::{IDLE, LIMIT, NO_KEYS, STILL, datagram, opened, pair, pass, tics};
 use crate::{Aim, Heard, Made, Node};
-use dn_packet::RETRANSMIT;
+use dn_packet::{EXIT, RETRANSMIT};
 use dn_tic::{Keys, TicCmd};
 use dn_world::Walk;
 use std::alloc::Global;
@@ -110,10 +110,12 @@ fn dropped_packets_do_not_count(rt: HostRuntime) -> Result<(), Fail> {
     let strange = datagram(0, (0, 30, 0), &[]);
     let late = datagram(0, (0, 31, 1), &[STILL; 12]);
     let stops = datagram(RETRANSMIT, (18, 30, 1), &[stop]);
+    let ends = datagram(EXIT | RETRANSMIT, (18, 29, 1), &[]);
     for _ in 0..12 {
         assert_eq!(rt; key.receive(1, strange.as_slice()), Heard::Dropped(5));
         assert_eq!(rt; key.receive(1, late.as_slice()), Heard::Dropped(12));
         assert_eq!(rt; key.receive(1, stops.as_slice()), Heard::Dropped(11));
+        assert_eq!(rt; key.receive(1, ends.as_slice()), Heard::Dropped(14));
     }
     assert_eq!(rt; ask(&mut key, 20), Heard::Stale);
     sends(&rt, &mut key, 30, 0);

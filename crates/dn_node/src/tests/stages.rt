@@ -43,7 +43,7 @@ pub(super) fn at(alloc: Global, stage: Stage) -> Result<Node<Walk>, Fail> {
             }
         }
         Stage::Second | Stage::Leaver => {
-            let _ = node.receive(0, datagram(SETUP, (2, 65, 109), &[]).as_slice());
+            let _ = node.receive(0, datagram(SETUP, (2, 65, 111), &[]).as_slice());
         }
         Stage::Quitter => (),
     }

@@ -12,10 +12,13 @@ use std::process::Abort;
 use std::test::Fail;
 
 /// Skill 3, deathmatch 1, no monsters, episode 1, map 7.
-const CHOICE: [u8; 8] = [0xCA, 0x8C, 0x90, 0x21, 0x63, 0x47, 0x6D, 0x00];
+const CHOICE: [u8; 8] = [0xCA, 0x8C, 0x92, 0x21, 0x63, 0x47, 0x6F, 0x00];
 
-/// The same of version 110.
-const OTHER_VERSION: [u8; 8] = [0xCA, 0x8C, 0x91, 0x21, 0x63, 0x47, 0x6E, 0x00];
+/// The same of version 109, and of version 110.
+const OTHER_VERSIONS: [[u8; 8]; 2] = [
+    [0xCA, 0x8C, 0x90, 0x21, 0x63, 0x47, 0x6D, 0x00],
+    [0xCA, 0x8C, 0x91, 0x21, 0x63, 0x47, 0x6E, 0x00],
+];
 
 fn listener(alloc: Global) -> Result<Node<Walk>, Fail> {
     opened(alloc, (2, 1), false, LIMIT, Walk::new())
@@ -30,7 +33,7 @@ fn a_listener_starts_once(rt: HostRuntime) -> Result<(), Fail> {
     let settings = Settings::new(3, 1, true, false, 1, 7)?;
     assert_eq!(rt; node.settings(), Some(settings));
     assert_eq!(rt; node.phase(), Phase::Playing);
-    let header = [0x6D, 3, 1, 7, 1, 0, 0, 1, 1, 1, 1, 0, 0];
+    let header = [0x6F, 3, 1, 7, 1, 0, 0, 1, 1, 1, 1, 0, 0];
     assert_eq!(rt; node.demo(), header.as_slice());
     assert_eq!(rt; node.world().x(1), Some(4_194_304));
     assert_eq!(rt; node.world().x(2), None);
@@ -41,7 +44,9 @@ fn a_listener_starts_once(rt: HostRuntime) -> Result<(), Fail> {
 #[test]
 fn a_listener_takes_no_other_version(rt: HostRuntime) -> Result<(), Fail> {
     let mut node = listener(rt.alloc())?;
-    assert_eq!(rt; node.receive(0, &OTHER_VERSION), Heard::Dropped(7));
+    for other in OTHER_VERSIONS {
+        assert_eq!(rt; node.receive(0, &other), Heard::Dropped(7), "{other:?}");
+    }
     assert_eq!(rt; node.phase(), Phase::Listening);
     assert_eq!(rt; node.receive(0, &CHOICE), Heard::Started);
     Ok(())
@@ -59,7 +64,7 @@ fn any_valid_choice_starts_a_listener(rt: HostRuntime) -> Result<(), Fail> {
     ] {
         let mut node = listener(rt.alloc())?;
         assert!(rt; flags < 16);
-        let bytes = datagram(flags, (99, 71, 109), &[STILL]);
+        let bytes = datagram(flags, (99, 71, 111), &[STILL]);
         assert_eq!(rt;
             node.receive(0, bytes.as_slice()),
             Heard::Started,
@@ -100,7 +105,7 @@ fn the_key_player_waits_for_all(rt: HostRuntime) -> Result<(), Fail> {
         assert_eq!(rt; key.phase(), Phase::Playing, "{heard:?}");
         // what the packets carried is not kept
         assert_eq!(rt; key.got(3), Some(0), "{heard:?}");
-        let header = [0x6D, 2, 1, 1, 0, 0, 0, 0, 0, 1, 1, 1, 1];
+        let header = [0x6F, 2, 1, 1, 0, 0, 0, 0, 0, 1, 1, 1, 1];
         assert_eq!(rt; key.demo(), header.as_slice(), "{heard:?}");
     }
     Ok(())
@@ -116,7 +121,7 @@ fn stands(rt: &impl Abort, node: &Node<Walk>, made: u32, got: (u32, u32)) {
     assert_eq!(rt; node.phase(), Phase::Playing);
     assert_eq!(rt; (node.made(), node.ran()), (made, 1));
     assert_eq!(rt; (node.got(0), node.got(1)), (Some(got.0), Some(got.1)));
-    assert_eq!(rt; node.demo().len(), 21);
+    assert_eq!(rt; node.demo().len(), 23);
 }
 
 #[test]
@@ -124,7 +129,7 @@ fn two_nodes_start_and_run_a_tic(rt: HostRuntime) -> Result<(), Fail> {
     let keys = Keys::from_bits(NO_KEYS);
     let mut key = opened(rt.alloc(), (2, 0), false, LIMIT, Walk::new())?;
     let mut other = listener(rt.alloc())?;
-    let choice_bytes = [0x69, 0x86, 0x90, 0x21, 0x02, 0x41, 0x6D, 0x00];
+    let choice_bytes = [0x69, 0x86, 0x92, 0x21, 0x02, 0x41, 0x6F, 0x00];
     let set_up = given(&mut key, 1)?;
     assert_eq!(rt; set_up.as_slice(), choice_bytes.as_slice());
     assert_eq!(rt; other.receive(0, set_up.as_slice()), Heard::Started);

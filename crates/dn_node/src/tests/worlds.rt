@@ -54,11 +54,20 @@ fn one_tic<W: World>(node: &mut Node<W>, other: &mut Node<W>, tic: u32) -> Answe
     }
 }
 
-/// Two nodes of a world have run, and end.
+/// Two nodes of a world have run, and end: one tells the other, which may ask for lost commands first. A
+/// request is heard within eleven packets.
 fn end<W: World>(rt: &impl Abort, node: &mut Node<W>, other: &mut Node<W>) {
     assert!(rt; node.ran() >= 30 && other.ran() >= 30);
     assert!(rt; node.quit());
-    assert_eq!(rt; pass(node, other), Some(Heard::Left));
+    for _ in 0..11 {
+        if pass(node, other) == Some(Heard::Left) {
+            break;
+        }
+        assert_eq!(rt; pass(other, node), Some(Heard::Noted));
+    }
+    assert_eq!(rt; other.end(node.me()), Some(node.made()));
+    assert_eq!(rt; other.got(node.me()), Some(node.made()));
+    assert!(rt; other.quit());
 }
 
 #[test]
