@@ -1,6 +1,6 @@
 -- What the nodes of a game tell of themselves agrees, since the machine's nodes that they represent do.
 use Rattle.std.proofs.Common.{◌≡◌, ◌<◌, ◌⊎◌, ℕ, Bool, true, false, List, [], ◌∷◌, ◌++◌, length, take, Option, Some, Result, refl, ap, sym, ◌∙◌, subst, inl, inr, arith, length-append, append-nil}
-use Rattle.std.specs.Prelude.{if◌then◌else◌}
+use Rattle.std.specs.Prelude.{if◌then◌else◌, unwrap_or, ◌==◌, ◌&&◌, ◌≤◌, None}
 use Rattle.std.specs.Option.{option_map}
 use Rattle.std.proofs.lemmas.Option.{same_Some, slice_get_within}
 use Rattle.std.proofs.lemmas.Grind.{flat_map-append}
@@ -10,20 +10,23 @@ use Rattle.dn_setup.specs.Settings.{Settings}
 use Rattle.dn_setup.specs.Starts.{start_of}
 use Rattle.dn_setup.specs.declared.start.Start.{Start}
 use Rattle.dn_demo.specs.Layout.{long_tics}
+use Rattle.dn_demo.specs.Recorded.{is_closed}
 use Rattle.dn_demo.specs.Text.{demo_text, marker, row_bytes, commands_of}
 use Rattle.dn_machine.specs.declared.answers.Phase.TheVariants.{Playing}
 use Rattle.dn_machine.specs.Worlds.{Rules, world}
 use Rattle.dn_machine.specs.Node as machine
-use Rattle.dn_machine.specs.Node.{world_after}
+use Rattle.dn_machine.specs.Node.{world_after, is_ended, has_left, known_end, demo_rows}
 use Rattle.dn_machine.specs.Game as game
 use Rattle.dn_machine.specs.Game.{opening_game}
 use Rattle.dn_machine.proofs.Games.{always}
 use Rattle.dn_machine.proofs.Promises
-use Rattle.dn_machine.specs.Promise.{Agree, Fits, Steady, IsPrefixOf, keys_of}
+use Rattle.dn_machine.specs.Promise.{Agree, Fits, Steady, IsPrefixOf, keys_of, end_or}
+use Rattle.dn_machine.specs.Running.{tic_limit}
+use Rattle.std.proofs.lemmas.Bool.{eq-eqb}
 use Rattle.dn_node.specs.Contents as node
-use Rattle.dn_node.specs.Phases.{is_ended}
+use Rattle.dn_node.specs.Contents.{end_in}
 use Rattle.dn_node.specs.Represents as node_to
-use Rattle.dn_node.specs.Represents.{demo_with}
+use Rattle.dn_node.specs.Represents.{demo_with, is_demo_closed}
 use Rattle.dn_node.specs.Rows.{seats_of}
 use Rattle.dn_node.proofs.Counting as counting
 use Rattle.dn_machine.specs.declared.events.Done.{Done}
@@ -68,38 +71,35 @@ module _ {W S : Type 0} (state : W → S) (rules : Rules S) (settings : Settings
       go false e = absurd (has (unplayed e))
 
   played_bytes : m.played ≡ true → m.settings ≡ Some settings
-      → n.demo.bytes ≡ demo_text long_tics (start_of settings) me (seats_of rules.players) m.rows (is_ended m.phase)
+      → n.demo.bytes ≡ demo_text long_tics (start_of settings) me (seats_of rules.players) (demo_rows rules m) (is_demo_closed rules m)
   played_bytes played known =
       r.demo ∙ ap (λ (b : Bool). if b then demo_with rules me m m.settings else []) played ∙ ap (demo_with rules me m) known
 
   starts : m.played ≡ true → m.settings ≡ Some settings → HasStarted n
   unfolding demo_text
   starts played known none =
-      let text : demo_text long_tics (start_of settings) me (seats_of rules.players) m.rows (is_ended m.phase) ≡ [] = sym (played_bytes played known) ∙ none in
+      let text : demo_text long_tics (start_of settings) me (seats_of rules.players) (demo_rows rules m) (is_demo_closed rules m) ≡ [] = sym (played_bytes played known) ∙ none in
       absurd (cc)
 
   world_is : m.played ≡ true → m.settings ≡ Some settings → state n.world ≡ world_after rules settings m.rows (machine.ran m)
   world_is played known =
       same_Some _ _ (r.world played ∙ ap (option_map (λ (s : Settings). world_after rules s m.rows (machine.ran m))) known)
 
-  -- the demo's commands are those of the rows that it ran, and none before the start
+  -- the demo's commands are those of the rows that it recorded, and none before the start
   recorded_is : (m.played ≡ true → m.settings ≡ Some settings)
-      → ((recorded n ≡ []) ⊎ (recorded n ≡ commands_of long_tics m.rows))
+      → ((recorded n ≡ []) ⊎ (recorded n ≡ commands_of long_tics (demo_rows rules m)))
   recorded_is known = go m.played refl
     where
-      closed : is_ended n.phase ≡ is_ended m.phase
-      closed = ap is_ended r.phase
-
       none : (b : Bool) → commands_in b [] ≡ []
       none true = refl
       none false = refl
 
-      go : (b : Bool) → m.played ≡ b → ((recorded n ≡ []) ⊎ (recorded n ≡ commands_of long_tics m.rows))
-      go false e = inl (ap (commands_in (is_ended n.phase)) (unplayed e) ∙ none (is_ended n.phase))
+      go : (b : Bool) → m.played ≡ b → ((recorded n ≡ []) ⊎ (recorded n ≡ commands_of long_tics (demo_rows rules m)))
+      go false e = inl (ap (commands_in (is_closed n.demo.stage)) (unplayed e) ∙ none (is_closed n.demo.stage))
       go true e =
-          inr (ap (commands_in (is_ended n.phase)) (played_bytes e (known e))
-          ∙ ap (λ (b : Bool). commands_in b (demo_text long_tics (start_of settings) me (seats_of rules.players) m.rows (is_ended m.phase))) closed
-          ∙ recorded_rows (is_ended m.phase) (start_of settings) me rules.players m.rows)
+          inr (ap (commands_in (is_closed n.demo.stage)) (played_bytes e (known e))
+          ∙ ap (λ (b : Bool). commands_in b (demo_text long_tics (start_of settings) me (seats_of rules.players) (demo_rows rules m) (is_demo_closed rules m))) (r.closed e)
+          ∙ recorded_rows (is_demo_closed rules m) (start_of settings) me rules.players (demo_rows rules m))
 
 -- two nodes' demos
 two_demos : (xs ys : List ℕ) (rows more : List (List (Option Move)))
@@ -140,6 +140,39 @@ module _ {W S : Type 0} (state : W → S) (rules : Rules S) (settings : Settings
       let P : node.Contents W → Type 0 = λ x. x.phase ≡ Playing → x.played ≡ true in
       subst P (sym is) one.plays phase
 
+  most_run : (i : ℕ) (n : node.Contents W) → HasNode g i n → n.ran ≤ tic_limit
+  most_run i n (one, there, is) =
+      let P : node.Contents W → Type 0 = λ x. x.ran ≤ tic_limit in
+      subst P (sym is) one.ran_fits
+
+  -- who has not ended
+  playing_on : (i : ℕ) (n : node.Contents W) → HasNode g i n → is_ended n.phase ≡ false → is_ended (m.nodes i).phase ≡ false
+  playing_on i n at on = ap is_ended (sym (shown i n at).phase) ∙ on
+
+  -- a player's end as a node knows it
+  end_is : (i player : ℕ) (n : node.Contents W) → HasNode g i n → player < rules.players → end_in n player ≡ known_end i (m.nodes i) player
+  end_is i player n at below =
+      let s = shown i n at in
+      let made_is = makes i n at in
+      let peer = s.peers player below in
+      λ k. if player == s.number k then (if s.played k && is_ended (s.phase k) then Some (made_is k) else None) else (peer k).end
+
+  -- and as the player's own node does
+  own : (j : ℕ) (left : Bool) → has_left (m.nodes j) ≡ left → known_end j (m.nodes j) j ≡ (if left then Some (machine.made j (m.nodes j)) else None)
+  own j left e =
+      ap (λ (b : Bool). if b then (if has_left (m.nodes j) then Some (machine.made j (m.nodes j)) else None) else (m.nodes j).ends j) (eq-eqb j j refl)
+      ∙ ap (λ (b : Bool). if b then Some (machine.made j (m.nodes j)) else None) e
+
+  own_end : (j : ℕ) (k : node.Contents W) → HasNode g j k → has_left (m.nodes j) ≡ true → end_in k j ≡ Some (machine.made j (m.nodes j))
+  own_end j k at left = end_is j j k at (inside j k at) ∙ own j true left
+
+  end_until : (j : ℕ) (k : node.Contents W) → HasNode g j k → (tic : ℕ) → unwrap_or (end_in k j) tic ≡ end_or m j tic
+  end_until j k at tic = ap (λ (o : Option ℕ). unwrap_or o tic) (end_is j j k at (inside j k at)) ∙ go (has_left (m.nodes j)) refl
+    where
+      go : (left : Bool) → has_left (m.nodes j) ≡ left → unwrap_or (known_end j (m.nodes j) j) tic ≡ end_or m j tic
+      go true e = ap (λ (o : Option ℕ). unwrap_or o tic) (own j true e) ∙ sym (ap (λ (b : Bool). if b then machine.made j (m.nodes j) else tic) e)
+      go false e = ap (λ (o : Option ℕ). unwrap_or o tic) (own j false e) ∙ sym (ap (λ (b : Bool). if b then machine.made j (m.nodes j) else tic) e)
+
   pub agreed_by : Agree rules settings m → Fits rules m → Steady rules m → AreAgreed state rules settings (keys_of m) g
   agreed_by agree fits steady =
       record {
@@ -157,24 +190,35 @@ module _ {W S : Type 0} (state : W → S) (rules : Rules S) (settings : Settings
             let s = shown i n at in
             s.settings ∙ agree.settings_same i (inside i n at) (started state rules settings i n (m.nodes i) s has_started);
         demos = λ i j n k at to.
-            two_demos _ _ (m.nodes i).rows (m.nodes j).rows
+            two_demos _ _ (demo_rows rules (m.nodes i)) (demo_rows rules (m.nodes j))
             (recorded_is state rules settings i n (m.nodes i) (shown i n at) (agree.settings_same i (inside i n at)))
             (recorded_is state rules settings j k (m.nodes j) (shown j k to) (agree.settings_same j (inside j k to)))
             (agree.demos i j (inside i n at) (inside j k to));
         consistent = λ i player was should n at e.
             steady.consistent i player was should (inside i n at) (sym (shown i n at).phase ∙ e);
-        run = λ i player n at below.
-            let s = (shown i n at).ran in let h = has i player n at below in let f = fits.run i player (inside i n at) below in omega (arith, s, h, f);
+        ends = λ i j end n k at to e.
+            let told = agree.ends i j end (inside i n at) (inside j k to) (sym (end_is i j n at (inside j k to)) ∙ e) in
+            (own_end j k to told.0 ∙ ap (λ x. Some x) (sym told.1), told.1 ∙ sym (makes j k to));
+        ends_same = λ i j player a b n k p at to of e f.
+            agree.ends_same i j player a b (inside i n at) (inside j k to) (inside player p of)
+            (sym (end_is i player n at (inside player p of)) ∙ e) (sym (end_is j player k to (inside player p of)) ∙ f);
+        run = λ i j n k at to.
+            let s = (shown i n at).ran in
+            let h = has i j n at (inside j k to) in
+            let f = fits.run i j (inside i n at) (inside j k to) in
+            let until : unwrap_or (end_in k j) n.ran ≡ end_or m j (machine.ran (m.nodes i)) = end_until j k to n.ran ∙ ap (end_or m j) s in
+            omega (arith, s, h, f, until);
         unread = λ i player n at below.
             let s = (shown i n at).ran in let h = has i player n at below in let f = fits.unread i player (inside i n at) below in omega (arith, s, h, f);
         held = λ i j n k at to.
             let h = has i j n at (inside j k to) in let b = makes j k to in let f = fits.held i j (inside i n at) (inside j k to) in omega (arith, h, b, f);
-        unheard = λ i j n k at to.
-            let h = has i j n at (inside j k to) in let b = makes j k to in let f = fits.unheard i j (inside i n at) (inside j k to) in omega (arith, h, b, f);
+        unheard = λ i j n k at to on.
+            let h = has i j n at (inside j k to) in let b = makes j k to in let f = fits.unheard i j (inside i n at) (inside j k to) (playing_on i n at on) in omega (arith, h, b, f);
         ahead = λ i n at.
             let s = (shown i n at).ran in let b = makes i n at in let f = fits.ahead i (inside i n at) in omega (arith, s, b, f);
-        close = λ i j n k at to.
-            let a = makes i n at in let b = makes j k to in let f = fits.close i j (inside i n at) (inside j k to) in omega (arith, a, b, f);
+        close = λ i j n k at to on.
+            let a = makes i n at in let b = makes j k to in let f = fits.close i j (inside i n at) (inside j k to) (playing_on j k to on) in omega (arith, a, b, f);
+        most = λ i n at. most_run i n at;
       }
 
 pub agreed : {W S : Type 0} (state : W → S) (rules : Rules S) (settings : Settings) (events : List Event) (g : Contents W)

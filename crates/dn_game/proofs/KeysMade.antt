@@ -1,5 +1,5 @@
 -- The key states that the machine's nodes took are those of the builds that made a command.
-use Rattle.std.proofs.Common.{◌≡◌, ℕ, ◌+◌, ◌-◌, Bool, true, ◌&&◌, not, List, [], ◌∷◌, ◌++◌, Option, Some, None, Result, Ok, Err, ltb, leb, eqb, refl, ap, sym, ◌∙◌, inl, inr, append-nil}
+use Rattle.std.proofs.Common.{◌≡◌, ℕ, ◌+◌, ◌-◌, Bool, true, false, ◌&&◌, List, [], ◌∷◌, ◌++◌, Option, Some, None, Result, Ok, Err, ltb, leb, eqb, refl, ap, sym, ◌∙◌, inl, inr, append-nil}
 use Rattle.std.specs.Prelude.{if◌then◌else◌, slice_get}
 use Rattle.std.proofs.lemmas.List.{append_assoc}
 use Rattle.std.proofs.lemmas.Bool.{cases_eq, cond_both, eq-eqb, ne_eqb}
@@ -15,12 +15,12 @@ use Rattle.dn_machine.specs.declared.events.Event.{Event}
 use Rattle.dn_machine.specs.declared.events.Event.TheVariants.{Build, Send, Deliver, Run, Quit, Stop}
 use Rattle.dn_machine.specs.declared.events.Refusal.{Refusal}
 use Rattle.dn_machine.specs.Worlds.{Rules}
-use Rattle.dn_machine.specs.Flight.{Kind, SetUp, Play, Exit, Flight, end_of}
+use Rattle.dn_machine.specs.Flight.{Kind, SetUp, Play, Exit, Flight, is_exit, end_of}
 use Rattle.dn_machine.specs.Node.{Node, put, got, made, ran, lowest}
 use Rattle.dn_machine.specs.Building.{on_build, on_build_in}
-use Rattle.dn_machine.specs.Sending.{ended_by, on_send, on_send_in}
-use Rattle.dn_machine.specs.Hearing.{on_gathering, is_within, after_request, on_commands, on_packet, on_packet_in}
-use Rattle.dn_machine.specs.Running.{is_awaited, first_off, on_run, on_run_in, on_run_playing, on_quit, on_quit_in}
+use Rattle.dn_machine.specs.Sending.{on_send, on_send_in}
+use Rattle.dn_machine.specs.Hearing.{on_gathering, is_within, after_request, after_exit, is_strange_end, on_commands, on_ended, on_packet, on_packet_in}
+use Rattle.dn_machine.specs.Running.{is_awaited, first_off, row_held, full_at, on_run, on_run_in, on_run_playing, on_quit, on_quit_in}
 use Rattle.dn_machine.specs.Game.{Game, opening_game, with_node, posted, delivered, refused, on_event, applied_if, applied}
 use Rattle.dn_machine.specs.Promise.{keys_of}
 use Rattle.dn_machine.proofs.Put.{put_at, put_off, view_kept}
@@ -38,20 +38,25 @@ module _ {S : Type 0} (rules : Rules S) (me : ℕ) (node : Node) where
       go Gathering = refl
       go Playing = refl
       go (Ended cause) =
-          cond_both (node.played && (ltb (node.exits to) 4 && not (ended_by cause to))) _ _ (λ (r : Node × Option Flight). r.0.keys ≡ node.keys)
-          (λ gives. refl) (λ silent. refl)
+          cond_both node.played _ _ (λ (r : Node × Option Flight). r.0.keys ≡ node.keys) (λ gives. refl) (λ silent. refl)
 
   request_keeps : (peer : ℕ) (request : Option ℕ) → (after_request me node peer request).keys ≡ node.keys
   request_keeps peer request =
       cond_both (eqb (node.hold peer) 0 && is_within (made me node) request) _ _ (λ (n : Node). n.keys ≡ node.keys) (λ met. refl) (λ unmet. refl)
 
+  exit_keeps : (exit : Bool) (old : Node) (peer end : ℕ) → (after_exit exit old peer end).keys ≡ old.keys
+  exit_keeps true old peer end = refl
+  exit_keeps false old peer end = refl
+
   commands_keep : (flight : Flight) → (on_commands me node flight).0.keys ≡ node.keys
   commands_keep flight =
       let P : Node × Heard → Type 0 = λ r. r.0.keys ≡ node.keys in
-      let asked = request_keeps flight.from flight.request in
+      let exit = is_exit flight.kind in
+      let asked = exit_keeps exit (after_request me node flight.from flight.request) flight.from (end_of flight) ∙ request_keeps flight.from flight.request in
       cond_both (ltb (ran node + 12) (end_of flight)) _ _ P (λ over. refl)
-      (λ fits. cond_both (leb (end_of flight) (got node flight.from)) _ _ P (λ stale. asked)
-      (λ fresh. cond_both (ltb (got node flight.from) flight.start) _ _ P (λ gap. asked) (λ next. asked)))
+      (λ fits. cond_both (is_strange_end exit (got node flight.from) (node.ends flight.from) (end_of flight)) _ _ P (λ strange. refl)
+      (λ told. cond_both (leb (end_of flight) (got node flight.from)) _ _ P (λ stale. asked)
+      (λ fresh. cond_both (ltb (got node flight.from) flight.start) _ _ P (λ gap. asked) (λ next. asked))))
 
   heard_keeps : (flight : Flight) → (on_packet rules me node flight).0.keys ≡ node.keys
   unfolding on_packet
@@ -61,8 +66,14 @@ module _ {S : Type 0} (rules : Rules S) (me : ℕ) (node : Node) where
       gathers =
           cond_both (all_noted rules.players (put node.noted flight.from true)) _ _ (λ (r : Node × Heard). r.0.keys ≡ node.keys) (λ all. refl) (λ some. refl)
 
+      ended : (played : Bool) (kind : Kind) → (on_ended played me node flight kind).0.keys ≡ node.keys
+      ended false kind = refl
+      ended true (SetUp settings) = refl
+      ended true Exit = refl
+      ended true Play = request_keeps flight.from flight.request
+
       go : (phase : Phase) (kind : Kind) → (on_packet_in rules me node flight phase kind).0.keys ≡ node.keys
-      go (Ended cause) kind = refl
+      go (Ended cause) kind = ended node.played kind
       go Listening (SetUp settings) = refl
       go Gathering (SetUp settings) = refl
       go Playing (SetUp settings) = refl
@@ -70,7 +81,7 @@ module _ {S : Type 0} (rules : Rules S) (me : ℕ) (node : Node) where
       go Listening Exit = refl
       go Gathering Play = gathers
       go Gathering Exit = gathers
-      go Playing Exit = refl
+      go Playing Exit = commands_keep flight
       go Playing Play = commands_keep flight
 
   ran_keeps : (on_run rules node).0.keys ≡ node.keys
@@ -81,7 +92,7 @@ module _ {S : Type 0} (rules : Rules S) (me : ℕ) (node : Node) where
       playing (Some player) off = refl
       playing None (Some player) = refl
       playing None None =
-          cond_both (eqb (ran node) rules.capacity) _ _ (λ (r : Node × Ran). r.0.keys ≡ node.keys) (λ full. refl) (λ runs. refl)
+          cond_both (eqb (ran node) (full_at rules (row_held rules node))) _ _ (λ (r : Node × Ran). r.0.keys ≡ node.keys) (λ full. refl) (λ runs. refl)
 
       go : (phase : Phase) → (on_run_in rules node phase).0.keys ≡ node.keys
       go Listening = refl

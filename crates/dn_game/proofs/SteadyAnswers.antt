@@ -15,7 +15,7 @@ use Rattle.dn_machine.specs.declared.events.Refusal.{Refusal}
 use Rattle.dn_machine.specs.Worlds.{Rules}
 use Rattle.dn_machine.specs.Flight.{Flight}
 use Rattle.dn_machine.specs.Node.{Node, ran, lowest}
-use Rattle.dn_machine.specs.Running.{is_awaited, first_off, on_run, on_run_in, on_run_playing}
+use Rattle.dn_machine.specs.Running.{is_awaited, first_off, row_held, full_at, on_run, on_run_in, on_run_playing}
 use Rattle.dn_machine.specs.Game.{Game, opening_game, posted, delivered, refused_flight, refused, on_event, applied_if, applied}
 use Rattle.dn_machine.specs.Invariant.{IsKept}
 use Rattle.dn_machine.proofs.Games.{opens, happens_keeps, applied_keeps}
@@ -36,7 +36,7 @@ module _ {S : Type 0} (rules : Rules S) (node : Node) (player : ℕ) (was should
       playing : (awaited off : Option ℕ) → EndsFor (on_run_playing rules node awaited off)
       playing (Some other) off = λ e. absurd (cc)
       playing None (Some other) = λ e. cc
-      playing None None = cond_both (eqb (ran node) rules.capacity) _ _ EndsFor (λ full e. absurd (cc)) (λ runs e. absurd (cc))
+      playing None None = cond_both (eqb (ran node) (full_at rules (row_held rules node))) _ _ EndsFor (λ full e. absurd (cc)) (λ runs e. absurd (cc))
 
       go : (phase : Phase) → EndsFor (on_run_in rules node phase)
       go Listening = λ e. absurd (cc)
