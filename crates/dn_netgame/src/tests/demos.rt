@@ -21,7 +21,7 @@ pub(crate) const TWO_LONG: [u8; 34] = [
 ];
 
 /// What the lines of these demos have in common, behind the version.
-pub(crate) const CHOICE_SHOWN: &str =
+const CHOICE_SHOWN: &str =
     " skill 3 episode 1 map 7 deathmatch 1 respawn 0 fast 0 nomonsters 1 view 1 players 0 1\n";
 
 pub(crate) const PLAYERS_SHOWN: &str = "player 0 x 1 y 0 angle 0 mark 1\n\
