@@ -116,10 +116,11 @@ fn scripts_before_the_start_are_shown(rt: HostRuntime) -> Result<(), Fail> {
 }
 
 /// Two players build and run a tic so many times, each with the commands of both.
-fn script_of(alloc: Global, tics: u32) -> Result<String, Fail> {
+fn script_of(alloc: Global, tics: u8) -> Result<String, Fail> {
     let mut script = String::from_str(alloc, "send 0 1\ndeliver 0\nsend 1 0\ndeliver 1\n")?;
     for tic in 0..tics {
-        let (one, other) = (2 * tic + 2, 2 * tic + 3);
+        let one = 2 * u32::from(tic) + 2;
+        let other = one + 1;
         script.push_str("build 0 -\nbuild 1 -\nsend 0 1\nsend 1 0\n")?;
         writeln!(&mut script, "deliver {one}\ndeliver {other}\nrun 0\nrun 1")?;
     }
