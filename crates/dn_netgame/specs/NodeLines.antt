@@ -2,7 +2,7 @@
 use Rattle.std.specs.Prelude.{ℕ, pos, Bool, if◌then◌else◌, List, [], ◌∷◌, ◌++◌, length, map, codes}
 use Rattle.std.specs.List.{range_with_len}
 use Rattle.dn_ring.specs.Ring.{Ring}
-use Rattle.dn_machine.specs.declared.answers.Cause.TheVariants.{Quit, Left, Full, Inconsistent}
+use Rattle.dn_machine.specs.declared.answers.Cause.TheVariants.{Quit, Full, Inconsistent}
 use Rattle.dn_machine.specs.declared.answers.Phase.{Phase}
 use Rattle.dn_machine.specs.declared.answers.Phase.TheVariants.{Listening, Gathering, Playing, Ended}
 use Rattle.dn_node.specs.Contents.{Contents}
@@ -15,7 +15,6 @@ phase_text Listening = codes "listening"
 phase_text Gathering = codes "gathering"
 phase_text Playing = codes "playing"
 phase_text (Ended Quit) = codes "ended quit"
-phase_text (Ended (Left player)) = labelled ((codes "ended left ", pos player) ∷ [])
 phase_text (Ended Full) = codes "ended full"
 phase_text (Ended (Inconsistent player was should)) = labelled ((codes "ended inconsistent ", pos player) ∷ [])
 

@@ -19,7 +19,6 @@ fn push_phase(text: &mut String, phase: Phase) -> Result<(), AllocError>
         Phase::Gathering => text.push_str("gathering"),
         Phase::Playing => text.push_str("playing"),
         Phase::Ended(Cause::Quit) => text.push_str("ended quit"),
-        Phase::Ended(Cause::Left(player)) => push_fields(text, &[("ended left ", player as i128)]),
         Phase::Ended(Cause::Full) => text.push_str("ended full"),
         Phase::Ended(Cause::Inconsistent { player, .. }) => {
             push_fields(text, &[("ended inconsistent ", player as i128)])

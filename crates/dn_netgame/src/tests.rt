@@ -1,11 +1,14 @@
 //! Datagrams shown, through readers and writers that are slow, full or failing.
 
+mod demo_faults;
 mod demos;
 mod games;
+mod leaving;
 mod script_faults;
 mod scripts;
 mod storms;
 mod streams;
+mod upgrades;
 
 use super::*;
 use std::test::Fail;
@@ -36,13 +39,13 @@ fn datagrams_are_shown(rt: HostRuntime) {
     kill[3] = 0x15;
     let mut long = [0; 300];
     long[..104].copy_from_slice(&twelve());
-    let choice = [0xCA, 0x8C, 0x90, 0x21, 0x63, 0x47, 0x6D, 0x00];
+    let choice = [0xCA, 0x8C, 0x92, 0x21, 0x63, 0x47, 0x6F, 0x00];
     let empty = [0x67, 0x4A, 0x24, 0x01, 0x00, 0x05, 0x01, 0x00];
     let rows = [
         (
             choice.as_slice(),
             0,
-            "flags 2 ask 99 start 71 player 109 count 0\n",
+            "flags 2 ask 99 start 71 player 111 count 0\n",
         ),
         (
             empty.as_slice(),

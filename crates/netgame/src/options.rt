@@ -5,18 +5,18 @@ ghost use Rattle.dn_demo.specs.Recorded.{IsLimit};
 ghost use Rattle.dn_node.specs.Opening.{IsGame};
 
 use clap::{Arg, ArgAction, ArgMatches, Command, value_parser};
+use dn_demo::is_limit;
 use dn_game::GameConfig;
 use dn_setup::Settings;
 use std::alloc::{AllocError, Global};
 
-/// The options of a game that are numbers: name, least and greatest value, default, meaning.
-const NUMBERS: [(&str, i64, i64, &str, &str); 6] = [
+/// The options of a game that are numbers, but for the limit: name, least and greatest value, default, meaning.
+const NUMBERS: [(&str, i64, i64, &str, &str); 5] = [
     ("players", 2, 4, "2", "How many players there are"),
     ("skill", 0, 4, "2", "How hard it is, from 0 for the easiest"),
     ("episode", 1, 3, "1", "Which episode is played"),
     ("map", 1, 32, "1", "Which map is played"),
     ("deathmatch", 0, 2, "0", "Which deathmatch, or 0 for none"),
-    ("limit", 1024, 16_777_216, "131072", "Most bytes of a demo"),
 ];
 
 /// The options of a game that are flags: name, meaning.
@@ -42,6 +42,26 @@ fn number<'a>(
         .help(about)
 }
 
+/// The option that limits a demo.
+fn demo_limit<'a>(alloc: Global, default: &'a str) -> Arg<'a> {
+    number(
+        alloc,
+        "limit",
+        1024,
+        16_777_216,
+        default,
+        "Most bytes of a demo",
+    )
+}
+
+/// Adds the options of an upgrade.
+pub(crate) fn with_upgrade<'a>(
+    alloc: Global,
+    command: Command<'a>,
+) -> Result<Command<'a>, AllocError> {
+    command.arg(demo_limit(alloc, "16777216"))
+}
+
 /// Adds the options of a game.
 pub(crate) fn with_game<'a>(
     alloc: Global,
@@ -51,6 +71,7 @@ pub(crate) fn with_game<'a>(
     for (name, least, greatest, default, about) in NUMBERS {
         command = command.arg(number(alloc, name, least, greatest, default, about))?;
     }
+    command = command.arg(demo_limit(alloc, "131072"))?;
     for (name, about) in FLAGS {
         let flag = Arg::new(alloc, name)
             .long(name)
@@ -103,20 +124,27 @@ fn settings(matches: &ArgMatches<'_>) -> Option<Settings> {
     made.ok()
 }
 
+/// Most bytes of a demo. It is not missing, since the parser has read it and kept it to its range.
+pub(crate) fn limit(matches: &ArgMatches<'_>) -> Option<u32>
+    ensures { IfSome result IsLimit }
+{
+    let limit = matches.get_one::<u32>("limit")?;
+    if is_limit(limit) { Some(limit) } else { None }
+}
+
 /// The rules of a game, and how many players it has. None is missing, since the parser has read each
 /// value and kept it to its range.
 pub(crate) fn game(matches: &ArgMatches<'_>) -> Option<(GameConfig, u8)>
     ensures { IfSome result (λ game. IsLimit game.0.limit × IsGame game.1) }
 {
     let players = byte(matches, "players")?;
-    let limit = matches.get_one::<u32>("limit")?;
-    if !(2..=4).contains(&players) || !(1024..=16_777_216).contains(&limit) {
+    if !(2..=4).contains(&players) {
         return None;
     }
     let config = GameConfig {
         settings: settings(matches)?,
         extra: matches.get_flag("extra"),
-        limit,
+        limit: limit(matches)?,
     };
     Some((config, players))
 }

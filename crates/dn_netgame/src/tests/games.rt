@@ -57,7 +57,7 @@ fn inconsistent_nodes_are_shown(rt: HostRuntime) -> Result<(), Fail> {
         settings: None,
     };
     let mut node = Node::new(rt.alloc(), config, Walk::new())?;
-    let started = [0x69, 0x86, 0x90, 0x21, 0x02, 0x41, 0x6D, 0x00];
+    let started = [0x69, 0x86, 0x92, 0x21, 0x02, 0x41, 0x6F, 0x00];
     node.receive(0, &started);
     for tic in 0..14 {
         node.build(Keys::from_bits(0));
@@ -69,8 +69,8 @@ fn inconsistent_nodes_are_shown(rt: HostRuntime) -> Result<(), Fail> {
     push_node(&mut text, &node, true)?;
     assert_eq!(rt;
         text.as_str(),
-        "node 1 ended inconsistent 0 made 14 ran 13 got 14 14 demo 118\n\
-         node 1 ended inconsistent 0 made 14 ran 13 got 14 14 demo 118 stopped\n"
+        "node 1 ended inconsistent 0 made 14 ran 13 got 14 14 demo 144\n\
+         node 1 ended inconsistent 0 made 14 ran 13 got 14 14 demo 144 stopped\n"
     );
     Ok(())
 }

@@ -6,12 +6,12 @@ use std::alloc::Global;
 use std::test::Fail;
 
 /// Two players start, and run a tic.
-const STARTED: &str =
+pub(crate) const STARTED: &str =
     "send 0 1\ndeliver 0\nbuild 1 -\nsend 1 0\ndeliver 1\nbuild 1 -\nsend 1 0\ndeliver 2\n\
     build 0 -\nsend 0 1\ndeliver 3\nsend 1 0\ndeliver 4\nrun 0\nrun 1\n";
 
-const STARTED_SHOWN: &str = "node 0 playing made 1 ran 1 got 1 2 demo 21\n\
-    node 1 playing made 2 ran 1 got 1 2 demo 21\n\
+const STARTED_SHOWN: &str = "node 0 playing made 1 ran 1 got 1 2 demo 23\n\
+    node 1 playing made 2 ran 1 got 1 2 demo 23\n\
     events 15 refused 0 flights 5\n";
 
 /// A short script.
@@ -22,7 +22,7 @@ pub(crate) const QUIT_SHOWN: &str = "node 0 ended quit made 0 ran 0 got 0 0 demo
     events 1 refused 0 flights 0\n";
 
 /// One text behind another.
-fn joined(alloc: Global, one: &str, other: &str) -> Result<String, Fail> {
+pub(crate) fn joined(alloc: Global, one: &str, other: &str) -> Result<String, Fail> {
     let mut text = String::from_str(alloc, one)?;
     text.push_str(other)?;
     Ok(text)
@@ -35,29 +35,22 @@ fn a_started_game_is_shown(rt: HostRuntime) -> Result<(), Fail> {
         // The packet is delivered once more, and has no new command.
         (
             "deliver 4\n",
-            "node 0 playing made 1 ran 1 got 1 2 demo 21\n\
-             node 1 playing made 2 ran 1 got 1 2 demo 21\n\
+            "node 0 playing made 1 ran 1 got 1 2 demo 23\n\
+             node 1 playing made 2 ran 1 got 1 2 demo 23\n\
              events 16 refused 0 flights 5\n",
         ),
         // There is no such packet.
         (
             "deliver 9",
-            "node 0 playing made 1 ran 1 got 1 2 demo 21\n\
-             node 1 playing made 2 ran 1 got 1 2 demo 21\n\
+            "node 0 playing made 1 ran 1 got 1 2 demo 23\n\
+             node 1 playing made 2 ran 1 got 1 2 demo 23\n\
              events 15 refused 1 flights 5\n",
         ),
         (
             "stop 0\nrun 0\n",
-            "node 0 playing made 1 ran 1 got 1 2 demo 21 stopped\n\
-             node 1 playing made 2 ran 1 got 1 2 demo 21\n\
+            "node 0 playing made 1 ran 1 got 1 2 demo 23 stopped\n\
+             node 1 playing made 2 ran 1 got 1 2 demo 23\n\
              events 16 refused 1 flights 5\n",
-        ),
-        // Its packet tells the other that it has quit, and both demos get their marker.
-        (
-            "quit 1\nsend 1 0\ndeliver 5\n",
-            "node 0 ended left 1 made 1 ran 1 got 1 2 demo 22\n\
-             node 1 ended quit made 2 ran 1 got 1 2 demo 22\n\
-             events 18 refused 0 flights 6\n",
         ),
     ];
     for (more, text) in rows {
@@ -122,27 +115,44 @@ fn scripts_before_the_start_are_shown(rt: HostRuntime) -> Result<(), Fail> {
     Ok(())
 }
 
-/// A demo of 1,029 bytes has room for 126 tics of two players, and no more.
+/// Two players build and run a tic so many times, each with the commands of both.
+fn script_of(alloc: Global, tics: u8) -> Result<String, Fail> {
+    let mut script = String::from_str(alloc, "send 0 1\ndeliver 0\nsend 1 0\ndeliver 1\n")?;
+    for tic in 0..tics {
+        let one = 2 * u32::from(tic) + 2;
+        let other = one + 1;
+        script.push_str("build 0 -\nbuild 1 -\nsend 0 1\nsend 1 0\n")?;
+        writeln!(&mut script, "deliver {one}\ndeliver {other}\nrun 0\nrun 1")?;
+    }
+    Ok(script)
+}
+
+/// A demo of 1,034 bytes has room for 102 tics of two players, one of 1,033 for 101, and no more.
 #[test]
 fn full_demos_are_shown(rt: HostRuntime) -> Result<(), Fail> {
-    let mut script = String::from_str(rt.alloc(), "send 0 1\ndeliver 0\nsend 1 0\ndeliver 1\n")?;
-    for tic in 0..127_u32 {
-        script.push_str("build 0 -\nbuild 1 -\nsend 0 1\nsend 1 0\n")?;
-        writeln!(
-            &mut script,
-            "deliver {}\ndeliver {}",
-            2 * tic + 2,
-            2 * tic + 3
-        )?;
-        script.push_str("run 0\nrun 1\n")?;
+    let rows = [
+        (
+            1034,
+            103,
+            "node 0 ended full made 103 ran 102 got 103 103 demo 1034\n\
+             node 1 ended full made 103 ran 102 got 103 103 demo 1034\n\
+             events 828 refused 0 flights 208\n",
+        ),
+        (
+            1033,
+            102,
+            "node 0 ended full made 102 ran 101 got 102 102 demo 1024\n\
+             node 1 ended full made 102 ran 101 got 102 102 demo 1024\n\
+             events 820 refused 0 flights 206\n",
+        ),
+    ];
+    for (limit, tics, text) in rows {
+        let script = script_of(rt.alloc(), tics)?;
+        let mut output = Vec::new(rt.alloc());
+        let mut input = script.as_bytes();
+        let status = run_sim(rt.alloc(), rules(limit)?, 2, &mut input, &mut output);
+        assert_eq!(rt; status, Ok(0), "{limit}");
+        assert_eq!(rt; output.as_slice(), text.as_bytes(), "{limit}");
     }
-    let text = "node 0 ended full made 127 ran 126 got 127 127 demo 1022\n\
-        node 1 ended full made 127 ran 126 got 127 127 demo 1022\n\
-        events 1020 refused 0 flights 256\n";
-    let mut output = Vec::new(rt.alloc());
-    let mut input = script.as_bytes();
-    let status = run_sim(rt.alloc(), rules(1029)?, 2, &mut input, &mut output);
-    assert_eq!(rt; status, Ok(0));
-    assert_eq!(rt; output.as_slice(), text.as_bytes());
     Ok(())
 }

@@ -18,16 +18,16 @@ fn storms_are_shown(rt: HostRuntime) -> Result<(), Fail> {
             2,
             1,
             1000,
-            "node 0 playing made 39 ran 34 got 39 36 demo 285\n\
-             node 1 playing made 36 ran 32 got 37 36 demo 269\n\
+            "node 0 playing made 39 ran 34 got 39 36 demo 353\n\
+             node 1 playing made 36 ran 32 got 37 36 demo 333\n\
              events 1000 refused 0 flights 276\n",
         ),
         (
             2,
             4_294_967_295,
             1000,
-            "node 0 playing made 33 ran 28 got 33 35 demo 237\n\
-             node 1 playing made 36 ran 31 got 32 36 demo 261\n\
+            "node 0 playing made 33 ran 28 got 33 35 demo 293\n\
+             node 1 playing made 36 ran 31 got 32 36 demo 323\n\
              events 1000 refused 0 flights 259\n",
         ),
         (
@@ -36,7 +36,7 @@ fn storms_are_shown(rt: HostRuntime) -> Result<(), Fail> {
             700,
             "node 0 playing made 5 ran 0 got 5 5 0 5 demo 13\n\
              node 1 playing made 5 ran 0 got 5 5 2 0 demo 13\n\
-             node 2 playing made 9 ran 4 got 5 5 9 5 demo 77\n\
+             node 2 playing made 9 ran 4 got 5 5 9 5 demo 93\n\
              node 3 playing made 5 ran 0 got 0 5 5 5 demo 13\n\
              events 700 refused 0 flights 161\n",
         ),
@@ -58,10 +58,10 @@ fn storms_with_repeats_are_shown(rt: HostRuntime) -> Result<(), Fail> {
     config.extra = true;
     let mut output = Vec::new(rt.alloc());
     let status = run_storm(rt.alloc(), config, 3, 4_294_967_295, 20_000, &mut output);
-    let text = "node 0 ended full made 90 ran 85 got 90 89 88 demo 1034\n\
-        node 1 ended full made 90 ran 85 got 87 90 86 demo 1034\n\
-        node 2 ended left 0 made 89 ran 84 got 86 89 89 demo 1022\n\
-        events 20000 refused 0 flights 1644\n";
+    let text = "node 0 ended full made 73 ran 68 got 73 72 71 demo 1034\n\
+        node 1 ended full made 73 ran 68 got 72 73 72 demo 1034\n\
+        node 2 ended full made 73 ran 68 got 72 73 73 demo 1034\n\
+        events 20000 refused 0 flights 5065\n";
     assert_eq!(rt; status, Ok(0));
     assert_eq!(rt; output.as_slice(), text.as_bytes());
     Ok(())
