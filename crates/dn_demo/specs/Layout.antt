@@ -27,7 +27,7 @@ vanilla =
       turn_told = λ bytes. cast_signed w16 (slice_index bytes 0 * 256);
     }
 
--- of the version that is recorded: both bytes of a turn, the low one first
+-- of version 111, which is recorded here: both bytes of a turn, the low one first
 abbrev pub long_tics : Layout
 long_tics =
     record {

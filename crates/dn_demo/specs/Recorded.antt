@@ -33,7 +33,7 @@ recorded_size players tics = header_size + command_size long_tics * (players * t
 abbrev pub capacity : ℕ → ℕ → ℕ
 capacity limit players = (limit - recorded_size players 0) / (command_size long_tics * players)
 
--- no demo of two players or more has more tics
+-- no demo that is recorded for two players or more has more tics
 abbrev pub most_tics : ℕ
 most_tics = 1677720
 

@@ -16,23 +16,28 @@ use std::alloc::Global;
 use std::marker::Model;
 use thiserror::Error;
 
-/// Why bytes are no demo.
+/// Why bytes are no demo: the first of these that is so.
 #[derive(Clone, Copy, Debug, PartialEq, Eq, Error)]
 pub enum DemoFault {
+    /// There are fewer than 13 bytes.
     #[error("short")]
     Short,
+    /// The first byte is neither 109 nor 111.
     #[error("version")]
     Version,
+    /// No in-game byte is set.
     #[error("no players")]
     NoPlayers,
+    /// No command begins with 0x80.
     #[error("no marker")]
     NoMarker,
+    /// There was no room for a copy of the bytes.
     #[error("out of memory")]
     Memory,
 }
 
-/// A demo that was read: the bytes before its marker, how they are laid out, and the number of those
-/// after it.
+/// A demo that was read: the bytes before its marker, how they are laid out, and how many bytes follow
+/// the marker.
 #[derive(Debug, Drop)]
 pub struct Demo {
     pub(crate) layout: Layout,
@@ -73,7 +78,7 @@ fn measure(bytes: &[u8]) -> Result<(Layout, usize), DemoFault>
 }
 
 impl Demo {
-    /// Reads a demo, up to its marker.
+    /// Reads a demo of version 109 or 111, up to its marker (`g_game.c`, G_DoPlayDemo), and copies it.
     pub fn read(alloc: Global, bytes: &[u8]) -> Result<Demo, DemoFault>
         ensures reads { IsReadAs bytes.now result }
         ensures only { (r : Result Recording DemoFault) → IsReadAs bytes.now r → IsSameButMemory result r }
@@ -91,7 +96,7 @@ impl Demo {
         })
     }
 
-    /// Reads a demo like `read`, and keeps it in the room that its bytes have.
+    /// Reads a demo like `read`, but keeps the vector instead of a copy, so it never answers `Memory`.
     pub fn from_vec(mut bytes: Vec<u8>) -> Result<Demo, DemoFault>
         ensures reads { IsReadAs bytes.items result }
         ensures only { (r : Result Recording DemoFault) → IsReadAs bytes.items r → IsSameButMemory result r }
@@ -108,7 +113,7 @@ impl Demo {
         })
     }
 
-    /// The version of the game that recorded it: 109 for the 1997 release, 111 for whole turns.
+    /// The version, which is the demo's first byte: 109, as the 1997 release records, or 111.
     pub fn version(&self) -> u8
         ensures { result ≡ self.now.version }
     {
@@ -145,7 +150,7 @@ impl Demo {
         reading::commands(&self.bytes, self.layout) / players
     }
 
-    /// The moves of a tic.
+    /// The moves of a tic, counted from 0; None from `tics` on.
     pub fn row(&self, tic: usize) -> Option<[Option<Move>; 4]>
         ensures { result ≡ slice_get self.now.rows tic }
     {

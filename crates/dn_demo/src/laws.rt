@@ -12,15 +12,14 @@ ghost use Rattle.dn_demo.specs.Upgraded.{IsUpgraded};
 
 use dn_world::World;
 
-/// What a move is spelt as tells it: in the 1997 release's layout if its turn is a whole multiple of
-/// 256, and always in that of version 111.
+/// A move is read back from its bytes: as version 109 if its turn is a multiple of 256, and always as version 111.
 pub fn spelt_moves_are_told()
     ensures vanilla { (m : Move) → IsMove m → IsWhole m → tell vanilla (spell vanilla m) ≡ m }
     ensures long_tics { (m : Move) → IsMove m → tell long_tics (spell long_tics m) ≡ m }
 {}
 
-/// The closed text of rows is read as these rows, with nothing cut and nothing after the marker; in the
-/// 1997 release's layout if their turns are whole multiples of 256.
+/// The closed text of rows is read as these rows, with nothing cut and nothing after the marker; as
+/// version 109 if their turns are multiples of 256.
 pub fn written_rows_are_read()
     ensures vanilla { (start : Start) (view : ℕ) (present : List Bool) (rows : List (List (Option Move)))
         → AreWritable present rows → AllMoves IsWhole rows
@@ -30,8 +29,8 @@ pub fn written_rows_are_read()
         → IsReadAs (demo_text long_tics start view present rows true) (Ok (written_demo long_tics start view present rows)) }
 {}
 
-/// A demo that was read, of either version, and was upgraded is read as a demo of the version that is
-/// recorded, with the same start, view, players and rows: so it leads any world to the same state.
+/// A demo of either version that is read and upgraded is read again as version 111 with the same start, view,
+/// players and rows, nothing cut and nothing after. So it leads any world to the same state.
 pub fn upgraded_demos_play_the_same<W: World>()
     ensures read { (bytes : List ℕ) (demo : Recording) (limit : ℕ) (recorder : Recorded) → All (λ byte. byte < 256) bytes
         → IsReadAs bytes (Ok demo) → IsUpgraded demo limit (Ok recorder)

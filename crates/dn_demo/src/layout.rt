@@ -14,7 +14,7 @@ pub(crate) const MARKER: u8 = 0x80;
 /// How many bytes a header has.
 pub(crate) const HEADER: usize = 13;
 
-/// How many bytes a command has that is recorded.
+/// How many bytes a command of version 111 has.
 pub(crate) const COMMAND: usize = 5;
 
 /// The version of the 1997 release.
@@ -25,7 +25,7 @@ const VANILLA: u8 = 109;
 pub(crate) enum Layout {
     /// Of the 1997 release: a turn has one byte.
     Vanilla,
-    /// Of the version that is recorded: a turn has two bytes.
+    /// Of version 111, which is recorded here: a turn has two bytes.
     LongTics,
 }
 

@@ -1,4 +1,4 @@
-//! Demos: rows of moves that are written as bytes, and read back and played.
+//! Demos: rows of moves that are written as bytes, and read back, played and upgraded.
 #![tactic(auto)]
 
 mod demo;

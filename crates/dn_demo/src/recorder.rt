@@ -15,11 +15,13 @@ use std::alloc::Global;
 use std::marker::Model;
 use thiserror::Error;
 
-/// Why there is no recorder.
+/// Why there is no recorder: the first of these that is so.
 #[derive(Clone, Copy, Debug, PartialEq, Eq, Error)]
 pub enum RecorderFault {
+    /// The limit is not 1,024 to 16,777,216 bytes.
     #[error("limit")]
     Limit,
+    /// There was no room for `limit` bytes.
     #[error("out of memory")]
     Memory,
 }
@@ -121,7 +123,8 @@ impl Recorder {
         self.add(d);
     }
 
-    /// Writes the moves of a tic, where these and the marker fit into the limit.
+    /// Writes the moves of a tic (`g_game.c`, G_WriteDemoTiccmd), and answers whether they and the marker fit into
+    /// the limit. Where they do not, nothing changes. There is a move for each player who is present.
     pub fn row(&mut self, moves: &[Option<Move>; 4]) -> bool
         requires open { self.old.stage ≡ Open }
         requires row { IsRow (seats_in self.old.bytes) moves.now }

@@ -1,4 +1,4 @@
-//! A demo that was read, recorded anew.
+//! Upgrading a demo: recording its tics anew as version 111.
 
 ghost use Rattle.dn_demo.specs.Upgraded.{IsUpgraded};
 
@@ -12,17 +12,19 @@ use thiserror::Error;
 /// Why a demo is not upgraded: the first of these that is so.
 #[derive(Clone, Copy, Debug, PartialEq, Eq, Error)]
 pub enum UpgradeFault {
-    /// The limit is out of range.
+    /// The limit is not 1,024 to 16,777,216 bytes.
     #[error("limit")]
     Limit,
-    /// The demo does not fit into the limit.
+    /// The upgraded demo has more bytes than the limit.
     #[error("full")]
     Full,
+    /// There was no room for `limit` bytes.
     #[error("out of memory")]
     Memory,
 }
 
-/// Records a demo anew, in the version that is recorded. What was cut and what follows the marker is left out.
+/// Records the whole tics of a demo anew as version 111, within `limit` bytes, and closes it. The start, the view and
+/// the players stay; commands of a cut tic, and what follows the marker, are left out.
 pub fn upgrade(alloc: Global, demo: &Demo, limit: u32) -> Result<Recorder, UpgradeFault>
     ensures { IsUpgraded demo.now limit result }
 {

@@ -1,4 +1,4 @@
-//! Upgrading a demo to the version that is recorded, or telling why there is none.
+//! Upgrading a demo to version 111, or telling why there is none.
 
 ghost use Rattle.std.specs.Prelude.{◌≡◌, ◌≢◌, ◌+◌, Err, IfOk, IfErr};
 ghost use Rattle.dn_demo.specs.Recorded.{IsLimit};
@@ -43,8 +43,8 @@ fn bytes_of(alloc: Global, bytes: Vec<u8>, limit: u32) -> Result<(Vec<u8>, u8), 
     }
 }
 
-/// Reads a demo of either version, of at most 33,554,432 bytes, and writes it as a demo of the version
-/// that is recorded, of at most `limit` bytes. The answer is the exit status: 0 for a demo, 1 for
+/// Reads a demo of version 109 or 111, of at most 33,554,432 bytes, and writes it as a demo of version
+/// 111, of at most `limit` bytes. The answer is the exit status: 0 for a demo, 1 for
 /// bytes that are none or that do not fit.
 ///
 /// The faults are those of `run_demo`.

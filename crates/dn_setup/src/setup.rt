@@ -11,7 +11,7 @@ use arrayvec::ArrayVec;
 use dn_packet::{Packet, SETUP};
 use thiserror::Error;
 
-/// The version of the game: that of the 1997 release is 109, and demos of whole turns are of 111.
+/// The version of the game, which set-up packets and recorded demos carry; that of the 1997 release is 109.
 pub const VERSION: u8 = 111;
 
 /// Why a packet tells no settings.
@@ -43,7 +43,8 @@ pub fn to_packet(settings: &Settings) -> Packet
     }
 }
 
-/// The settings that the packet tells.
+/// The settings that the packet tells. It is refused where SETUP is absent, then for another version than 111, then
+/// where its ask and start bytes are those of no choice (`d_net.c`, D_ArbitrateNetStart).
 pub fn from_packet(packet: &Packet) -> Result<Settings, SetupFault>
     ensures reads { IsSetupReadAs packet.now result }
     ensures only { (r : Result Settings SetupFault) → IsSetupReadAs packet.now r → result ≡ r }
