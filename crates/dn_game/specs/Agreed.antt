@@ -24,7 +24,7 @@ abbrev pub commands_in : Bool → List ℕ → List ℕ
 commands_in closed bytes =
     if closed then take (length bytes - (header_size + 1)) (drop header_size bytes) else drop header_size bytes
 
--- the commands of a node's demo
+-- the commands of a node's demo, which is closed where its recorder says so
 abbrev pub recorded : {W : Type 0} → node.Contents W → List ℕ
 recorded n = commands_in (is_closed n.demo.stage) n.demo.bytes
 

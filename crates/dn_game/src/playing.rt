@@ -16,7 +16,8 @@ use dn_world::World;
 use std::alloc::Global;
 
 /// Applies all events in order, to a new game. Packets may be lost, repeated and reordered: a loss is a
-/// flight that no event delivers. Whatever the list, all nodes agree in the end.
+/// flight that no event delivers. Whatever the list, all nodes agree in the end: two that ran a tic used
+/// the same command of every player, or none of one who had left.
 pub fn play<W: World>(
     alloc: Global,
     config: GameConfig,

@@ -9,12 +9,12 @@ use Rattle.dn_machine.specs.declared.answers.Ran.{Ran}
 use Rattle.dn_machine.specs.Worlds.{Rules, row_of}
 use Rattle.dn_machine.specs.Node.{Node, got, ran, held_at, own_mark, lowest, is_whole}
 
--- so many tics are run at most: the next is not run, where it lacks a player
+-- a node runs at most so many tics; while nobody has left, its demo is full before
 abbrev pub tic_limit : ℕ
 tic_limit = 2097150
 
--- the tic at which a node ends in place of running this row: where its demo is full, or at the limit of tics for a row that
--- lacks a player, which no demo has
+-- the tic at which a node ends instead of running this row: a whole row needs room in the demo; a row that lacks a player
+-- goes into no demo, and only the limit of tics stops it
 abbrev pub full_at : {S : Type 0} → Rules S → List (Option Move) → ℕ
 full_at rules row = if is_whole rules.players row then rules.capacity else tic_limit
 
