@@ -19,31 +19,31 @@ use Rattle.dn_machine.specs.Hearing.{started, on_packet_in}
 use Rattle.dn_node.specs.Phases.{is_listening, hears_none}
 use Rattle.dn_node.specs.Reading.{has_flag, kind_in, start_in, flight_in}
 
--- a player's packet, of commands that start at this tic, is heard as the machine hears it
+-- a player's packet, of commands that start at this tic: as the machine hears it
 abbrev pub on_flight : {S : Type 0} → Rules S → ℕ → machine.Node → ℕ → Packet → Phase → ℕ → machine.Node × Heard
 on_flight rules me m from packet phase start =
     on_packet_in rules me m (flight_in from me (made me m) packet start) phase (kind_in packet)
 
--- so it is where its numbers are commands'
+-- the same by what its numbers tell: the tic of its first command, or the number of its drop
 abbrev pub on_start : {S : Type 0} → Rules S → ℕ → machine.Node → ℕ → Packet → Phase → Result ℕ ℕ → machine.Node × Heard
 on_start rules me m from packet phase (Err number) = (m, Heard.Dropped number)
 on_start rules me m from packet phase (Ok start) = on_flight rules me m from packet phase start
 
--- numbers are looked at by a node that plays, and by one that has ended in the packets of those who play on
+-- whether they are looked at: by a node that plays, and by one that has ended, in the packet of one who plays on
 abbrev pub is_counted : Phase → Kind → Bool
 is_counted Playing kind = true
 is_counted (Ended cause) kind = not (is_exit kind)
 is_counted Listening kind = false
 is_counted Gathering kind = false
 
--- a player's packet of commands; where its numbers are not looked at, it starts at any tic
+-- a player's packet of commands; where its numbers are not looked at, any start will do
 abbrev pub on_player : {S : Type 0} → Rules S → ℕ → machine.Node → ℕ → Packet → Phase → machine.Node × Heard
 on_player rules me m from packet phase =
     if is_counted phase (kind_in packet)
     then on_start rules me m from packet phase (start_in (made me m) packet)
     else on_flight rules me m from packet phase 0
 
--- a packet that is no set-up: a listener does not hear it, it must tell its sender's number, and KILL is dropped
+-- a packet that is no set-up: a listener hears none, its player byte must be its sender's, and KILL is dropped
 abbrev pub on_other : {S : Type 0} → Rules S → ℕ → machine.Node → ℕ → Packet → Phase → machine.Node × Heard
 on_other rules me m from packet phase =
     if is_listening phase

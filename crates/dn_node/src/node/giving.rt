@@ -75,7 +75,7 @@ impl<W: World> Node<W> {
     }
 
     /// The next packet to a peer; None for the node itself, for a number that is no player's, and where
-    /// the node has nothing to give.
+    /// the node has nothing to give. A node that has played and ended gives one whenever it is asked.
     pub fn packet(&mut self, to: u8) -> Option<ArrayVec<u8, 104>>
         ensures step { Steps W.state W.physics (contents self.old) (contents self.new)
             (λ rules me m. sent_to to rules me m)

@@ -49,8 +49,8 @@ impl<W: World> Node<W> {
         self.run_row()
     }
 
-    /// Runs the row of the next tic, which is there. A row that lacks a player closes the demo, and only a
-    /// row that lacks nobody needs room in it.
+    /// Runs the row of the next tic, whose commands are there. A row that lacks a player closes the demo, and
+    /// only a row that lacks nobody needs room in it.
     fn run_row(&mut self) -> Ran
         requires plays { (contents self.old).phase ≡ Playing }
         requires there { lowest (contents self.old).players

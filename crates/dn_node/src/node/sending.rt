@@ -123,7 +123,8 @@ impl<W: World> Node<W> {
         }
     }
 
-    /// The numbers of an EXIT packet: a node that has played gives its last commands.
+    /// The numbers of an EXIT packet (`d_net.c`, D_QuitNetGame), which a node gives that has played and
+    /// ended: it carries the last commands, so that the peers know all up to its end, and asks for none.
     fn aim_of_exit(&self, to: u8) -> Option<Aim>
         requires below { to < (contents self.now).players }
         ensures step { (cause : Cause) → Steps W.state W.physics (contents self.now) (contents self.now)
