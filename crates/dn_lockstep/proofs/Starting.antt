@@ -1,0 +1,62 @@
+-- What a node represents once it has started.
+use Rattle.std.proofs.Common.{◌≡◌, ◌<◌, ℕ, true, false, List, [], ◌∷◌, length, refl, ap, sym, ◌∙◌, arith, Option, Some}
+use Rattle.dn_tic.specs.declared.command.Move.{Move}
+use Rattle.dn_setup.specs.Settings.{Settings}
+use Rattle.dn_setup.specs.Starts.{start_of}
+use Rattle.dn_setup.specs.declared.start.Start.{Start}
+use Rattle.dn_demo.specs.Recorded.{Recorded, is_closed}
+use Rattle.dn_demo.specs.declared.recorder.Stage.TheVariants.{Open}
+use Rattle.std.specs.List.{take_while}
+use Rattle.std.specs.Prelude.{nat_lt}
+use Rattle.dn_demo.specs.Layout.{long_tics}
+use Rattle.dn_demo.specs.Text.{demo_text}
+use Rattle.dn_machine.specs.declared.answers.Phase.TheVariants.{Playing}
+use Rattle.dn_machine.specs.Worlds.{Rules}
+use Rattle.dn_machine.specs.Node as machine
+use Rattle.dn_machine.specs.Node.{own_mark, is_whole}
+use Rattle.dn_machine.specs.Hearing.{started}
+use Rattle.dn_lockstep.specs.Contents.{Contents}
+use Rattle.dn_lockstep.specs.Represents.{Represents}
+use Rattle.dn_lockstep.specs.Rows.{seats_of}
+use Rattle.dn_lockstep.proofs.Opening.{first_marks}
+
+-- a list of no length
+pub none_there : {A : Type 0} (xs : List A) → length xs ≡ 0 → xs ≡ []
+none_there [] e = refl
+none_there (x ∷ xs) e = absurd (omega arith)
+
+-- how long a demo without rows is
+pub head_length : (start : Start) (view players : ℕ) → length (demo_text long_tics start view (seats_of players) [] false) ≡ 13
+unfolding demo_text
+head_length start view players = refl
+
+-- the mark of an early tic is 0 by any node
+pub early_mark : {S : Type 0} (rules : Rules S) (m other : machine.Node) (p tic : ℕ) → tic < 12
+    → own_mark rules m p tic ≡ own_mark rules other p tic
+early_mark rules m other p tic low = sym (first_marks rules m p tic low) ∙ first_marks rules other p tic low
+
+pub shows_start : {S : Type 0} (rules : Rules S) (me : ℕ) (n : Contents) (m : machine.Node) (settings : Settings) (demo : Recorded)
+    → Represents rules me n m → n.ran ≡ 0
+    → demo.stage ≡ Open → demo.bytes ≡ demo_text long_tics (start_of settings) me (seats_of rules.players) [] false
+    → Represents rules me (record n { phase = Playing; played = true; settings = Some settings; demo = demo }) (started m settings)
+shows_start {S} rules me n m settings demo r unrun is_open written =
+    let none : m.rows ≡ [] = none_there m.rows (sym r.ran ∙ unrun) in
+    let zero : length m.rows ≡ 0 = sym r.ran ∙ unrun in
+    record {
+      players = r.players;
+      number = r.number;
+      extra = r.extra;
+      capacity = r.capacity;
+      gathers = r.gathers;
+      phase = refl;
+      played = refl;
+      settings = refl;
+      hold = r.hold;
+      ran = r.ran;
+      rings = r.rings;
+      peers = r.peers;
+      noted = r.noted;
+      marks = λ p tic below low high present. r.marks p tic below low high present ∙ early_mark rules m (started m settings) p tic (omega (arith, zero, high));
+      demo = written ∙ ap (λ (rs : List (List (Option Move))). demo_text long_tics (start_of settings) me (seats_of rules.players) (take_while (is_whole rules.players) rs) (nat_lt (length (take_while (is_whole rules.players) rs)) (length rs))) (sym none);
+      closed = λ e. ap is_closed is_open ∙ ap (λ (rs : List (List (Option Move))). nat_lt (length (take_while (is_whole rules.players) rs)) (length rs)) (sym none);
+    }

@@ -1,0 +1,25 @@
+use Rattle.std.proofs.Common.{sym, ap, ◌∙◌}
+use Rattle.dn_machine.specs.Worlds.{rules_of}
+use Rattle.dn_lockstep.specs.Marking.{free}
+use Rattle.dn_lockstep.specs.Received.{on_player}
+use Rattle.dn_lockstep.proofs.After.{after}
+use Rattle.dn_lockstep.proofs.Flags.{player_gathers}
+use Rattle.dn_lockstep.proofs.lockstep.Lockstep.hear_player.Goals as goal
+
+pub returns-in-Gathering-clause-step : goal.returns-in-Gathering-clause-step
+returns-in-Gathering-clause-step c marking players extra capacity me m r =
+    let rules = rules_of (free marking) players extra capacity in
+    let heard = c.hear_gathering.ensures.step marking players extra capacity me m r in
+    after _ _ (ap (on_player rules me m c.args.from c.args.packet.now) (sym r.phase ∙ c.in-Gathering.is) ∙ player_gathers rules me m c.args.from c.args.packet.now) heard.node heard.answer
+
+pub returns-in-Playing-clause-step : goal.returns-in-Playing-clause-step
+returns-in-Playing-clause-step c marking players extra capacity me m r =
+    let rules = rules_of (free marking) players extra capacity in
+    let heard = c.take.ensures.step marking players extra capacity me m r in
+    after _ _ (ap (on_player rules me m c.args.from c.args.packet.now) (sym r.phase ∙ c.in-Playing.is)) heard.node heard.answer
+
+pub returns-in-Ended-clause-step : goal.returns-in-Ended-clause-step
+returns-in-Ended-clause-step c marking players extra capacity me m r =
+    let rules = rules_of (free marking) players extra capacity in
+    let heard = c.answer.ensures.step c.in-Ended.field-0 marking players extra capacity me m r in
+    after _ _ (ap (on_player rules me m c.args.from c.args.packet.now) (sym r.phase ∙ c.in-Ended.is)) heard.node heard.answer

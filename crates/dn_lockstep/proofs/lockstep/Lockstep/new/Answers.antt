@@ -1,0 +1,30 @@
+use Rattle.std.proofs.Common.{rules, refl, ap, ◌∙◌}
+use Rattle.dn_demo.specs.Recorded.{Recorded, capacity}
+use Rattle.dn_machine.specs.Worlds.{rules_of}
+use Rattle.dn_machine.specs.Game.{fresh}
+use Rattle.dn_lockstep.specs.Marking.{free}
+use Rattle.dn_lockstep.proofs.Opening.{settings_fresh, first_marks}
+use Rattle.dn_lockstep.proofs.lockstep.Lockstep.new.Goals as goal
+
+pub returns-clause-opened : goal.returns-clause-opened
+returns-clause-opened c marking settings key =
+    let config = c.args.config in
+    let rule = rules_of (free marking) config.players config.extra (capacity config.limit config.players) in
+    record {
+      players = refl;
+      number = refl;
+      extra = refl;
+      capacity = c.capacity.ensures.value;
+      gathers = c.new-3.ensures.players;
+      phase = c.first_phase.ensures;
+      played = refl;
+      settings = settings_fresh config.me config.settings settings (search rules) key;
+      hold = c.new-4.ensures;
+      ran = refl;
+      rings = λ p below. c.new-5.ensures p;
+      peers = λ p below. c.new-6.ensures p;
+      noted = λ p peer. c.new-3.ensures.nobody p;
+      marks = λ p tic below low high present. c.new-7.ensures p _ ∙ first_marks rule (fresh settings config.me) p tic high;
+      demo = ap (λ (d : Recorded). d.bytes) c.in-Ok.ensures.1;
+      closed = λ e. absurd (cc);
+    }

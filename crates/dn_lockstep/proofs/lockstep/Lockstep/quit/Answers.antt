@@ -1,0 +1,29 @@
+use Rattle.std.proofs.Common.{◌≡◌, ◌⊎◌, true, inl, inr, refl, ap, sym, ◌∙◌}
+use Rattle.dn_machine.specs.declared.answers.Phase.TheVariants.{Listening, Gathering}
+use Rattle.dn_machine.specs.declared.answers.Phase.{Phase}
+use Rattle.dn_lockstep.specs.Contents.{contents}
+use Rattle.dn_lockstep.specs.Phases.{is_waiting}
+use Rattle.dn_lockstep.proofs.After.{after}
+use Rattle.dn_lockstep.proofs.Quitting.{quit_ended, quit_playing, quit_waiting, shows_unplayed}
+use Rattle.dn_lockstep.proofs.lockstep.Lockstep.quit.Goals as goal
+
+pub returns-in-Ended-clause-step : goal.returns-in-Ended-clause-step
+returns-in-Ended-clause-step c marking players extra capacity me m r = after _ _ (quit_ended m _ (sym r.phase ∙ c.in-Ended.is)) r refl
+
+pub returns-in-Playing-clause-step : goal.returns-in-Playing-clause-step
+returns-in-Playing-clause-step c marking players extra capacity me m r =
+    after _ _ (quit_playing m (sym r.phase ∙ c.in-Playing.is)) (c.finish.ensures marking players extra capacity me m r) refl
+
+either : (p q : Phase) → p ≡ q → (p ≡ Listening) ⊎ (p ≡ Gathering) → (q ≡ Listening) ⊎ (q ≡ Gathering)
+either p q e (inl is) = inl (sym e ∙ is)
+either p q e (inr is) = inr (sym e ∙ is)
+
+waits : (p : Phase) → (p ≡ Listening) ⊎ (p ≡ Gathering) → is_waiting p ≡ true
+waits p (inl e) = ap is_waiting e
+waits p (inr e) = ap is_waiting e
+
+pub returns-in-Listening-clause-step : goal.returns-in-Listening-clause-step
+returns-in-Listening-clause-step c marking players extra capacity me m r =
+    let n = c.args.self.now in
+    after _ _ (quit_waiting m (either n.phase m.phase r.phase c.in-Listening.is))
+    (shows_unplayed _ me (contents n) m _ r (n.waits (waits n.phase c.in-Listening.is))) refl

@@ -1,0 +1,49 @@
+use Rattle.std.proofs.Common.{refl, inl, inr, sym, ◌∙◌}
+use Rattle.std.specs.Prelude.{Err}
+use Rattle.dn_packet.specs.declared.packet.PacketFault.TheVariants.{Length}
+use Rattle.dn_machine.specs.declared.answers.Heard.{Heard}
+use Rattle.dn_lockstep.specs.Marking.{free}
+use Rattle.dn_lockstep.specs.Contents.{contents}
+use Rattle.dn_lockstep.proofs.Nearby.{near_from_any}
+use Rattle.dn_lockstep.proofs.Receiving.{any_ended, any_strange, any_read}
+use Rattle.dn_lockstep.proofs.lockstep.Lockstep.receive.Goals as goal
+use Rattle.dn_lockstep.proofs.lockstep.Lockstep.receive.Goals.{then-from-self-via-then-from-self, then-from-self-via-else-from-self+then-from-self-2}
+
+pub returns-then-hears_none-clause-any : goal.returns-then-hears_none-clause-any
+returns-then-hears_none-clause-any c =
+    any_ended (contents c.args.self.now) c.args.from c.args.bytes.now (sym c.hears_none.ensures ∙ c.if-hears_none.true)
+
+pub returns-then-hears_none-clause-near : goal.returns-then-hears_none-clause-near
+returns-then-hears_none-clause-near c =
+    near_from_any (contents c.args.self.now) (contents c.args.self.now) c.args.from c.args.bytes.now _
+    (any_ended (contents c.args.self.now) c.args.from c.args.bytes.now (sym c.hears_none.ensures ∙ c.if-hears_none.true)) c.args.self.now.me_below
+
+pub returns-then-from-self-clause-any : goal.returns-then-from-self-clause-any
+returns-then-from-self-clause-any c =
+    any_strange (contents c.args.self.now) c.args.from c.args.bytes.now (sym c.hears_none.ensures ∙ c.if-hears_none.false)
+    (elim c.then-from-self.branch [
+      | then-from-self-via-then-from-self w ↦ inl w.if-from-self.true
+      | then-from-self-via-else-from-self+then-from-self-2 w ↦ inr w.if-from-self-2.true
+    ])
+
+pub returns-in-Ok : goal.returns-in-Ok
+returns-in-Ok c =
+    let any = any_read (contents c.args.self.now) c.args.from c.args.bytes.now (sym c.hears_none.ensures ∙ c.if-hears_none.false)
+    (contents c.hear.new.self) c.hear.result _ c.if-from-self.false c.if-from-self-2.false c.in-Ok.ensures.only c.hear.ensures.step in
+    record {
+      any = any;
+      near = near_from_any (contents c.args.self.now) (contents c.hear.new.self) c.args.from c.args.bytes.now c.hear.result any c.args.self.now.me_below;
+      dropped = c.hear.ensures.dropped;
+    }
+
+pub returns-in-Err-Length : goal.returns-in-Err-Length
+returns-in-Err-Length c =
+    let found = rw c.in-Err-Length.field-0-is at c.in-Err-Length.ensures in
+    let any = any_read (contents c.args.self.now) c.args.from c.args.bytes.now (sym c.hears_none.ensures ∙ c.if-hears_none.false)
+    (contents c.args.self.now) (Heard.Dropped 3) (Err Length) c.if-from-self.false c.if-from-self-2.false found.only
+    (λ told is marking players extra capacity me m r. record { node = r; answer = refl }) in
+    record {
+      any = any;
+      near = near_from_any (contents c.args.self.now) (contents c.args.self.now) c.args.from c.args.bytes.now (Heard.Dropped 3) any c.args.self.now.me_below;
+      dropped = λ number e. refl;
+    }

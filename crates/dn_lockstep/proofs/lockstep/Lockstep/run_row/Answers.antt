@@ -1,0 +1,154 @@
+use Rattle.std.proofs.Common.{◌≡◌, ◌≢◌, ◌<◌, ◌+◌, Bool, true, false, true≢false, not, List, length, Option, Some, refl, ap, sym, ◌∙◌, subst, arith, inl, inr}
+use Rattle.std.specs.Prelude.{if◌then◌else◌}
+use Rattle.std.proofs.lemmas.Bool.{cases_Bool}
+use Rattle.dn_tic.specs.declared.command.Move.{Move}
+use Rattle.dn_demo.specs.Places.{seats_in}
+use Rattle.dn_demo.specs.Recorded.{AddsRow}
+use Rattle.dn_demo.specs.declared.recorder.Stage.{Stage}
+use Rattle.dn_demo.specs.declared.recorder.Stage.TheVariants.{Blank, Open, Closed}
+use Rattle.dn_machine.specs.declared.answers.Ran.{Ran}
+use Rattle.dn_machine.specs.Node.{is_whole, lacks}
+use Rattle.dn_machine.specs.Running.{row_held, tic_limit}
+use Rattle.dn_machine.specs.Worlds.{rules_of}
+use Rattle.dn_lockstep.specs.Marking.{free}
+use Rattle.dn_lockstep.specs.Peers.{peer_at}
+use Rattle.dn_lockstep.specs.Rings.{ring_at}
+use Rattle.dn_lockstep.specs.Rows.{has_gone}
+use Rattle.dn_lockstep.proofs.After.{after}
+use Rattle.dn_lockstep.proofs.Finding.{row_is, seat_held, full_is}
+use Rattle.dn_lockstep.proofs.Gone.{over_later, gone_later}
+use Rattle.dn_lockstep.proofs.Moving.{IsWritten, shows_moved}
+use Rattle.dn_lockstep.proofs.Room.{row_length, size_more, row_fits}
+use Rattle.dn_lockstep.proofs.Running.{row_full, row_moves}
+use Rattle.dn_lockstep.proofs.Seats.{here_all}
+use Rattle.dn_lockstep.proofs.lockstep.Lockstep.run_row.Goals.{After-full_at, After-is_whole}
+use Rattle.dn_lockstep.proofs.lockstep.Lockstep.run_row.Goals as goal
+
+-- where the row is whole, nobody is gone, and so the demo is open
+open_where : (stage : Stage) (has : Bool) → stage ≢ Blank → (stage ≡ Closed → has ≡ true) → not has ≡ true → stage ≡ Open
+open_where Blank has begun gone e = absurd (begun refl)
+open_where Open has begun gone e = refl
+open_where Closed true begun gone e = absurd (true≢false (sym e))
+open_where Closed false begun gone e = absurd (true≢false (sym (gone refl)))
+
+opened : (c : After-is_whole) → c.is_whole.result ≡ true → c.args.self.now.demo.stage ≡ Open
+opened c e =
+    let n = c.args.self.now in
+    open_where n.demo.stage (has_gone (peer_at n.peers) n.players n.ran) (n.begun c.requires.plays) (n.gone c.requires.plays)
+    (sym c.row_at-row.ensures.whole ∙ sym c.is_whole.ensures ∙ e)
+
+-- and there is room for it
+below : (c : After-is_whole) → c.is_whole.result ≡ true → c.args.self.now.ran < c.args.self.now.capacity
+below c e =
+    let n = c.args.self.now in
+    let at : c.full_at.result ≡ n.capacity = c.full_at.ensures ∙ ap (λ (b : Bool). if b then n.capacity else tic_limit) (sym c.is_whole.ensures ∙ e) in
+    let room = n.fits c.requires.plays (opened c e) in
+    let other = c.if-tic-full_at.false in
+    omega arith
+
+pub returns-then-tic-full_at-clause-step : goal.returns-then-tic-full_at-clause-step
+returns-then-tic-full_at-clause-step c marking players extra capacity me m r own =
+    let n = c.args.self.now in
+    let rules = rules_of (free marking) players extra capacity in
+    let there = here_all (ring_at n.rings) (peer_at n.peers) n.players n.ran c.requires.there in
+    let row = c.row_at-row.ensures.row ∙ row_is rules me _ m r n.window there in
+    let full = full_is rules me _ m r n.window there _ n.capacity c.full_at.result row r.capacity c.full_at.ensures in
+    after _ _ (row_full rules m (sym r.ran ∙ c.if-tic-full_at.true ∙ full)) (c.finish.ensures marking players extra capacity me m r) (refl, refl)
+
+pub write-requires-clause-room : goal.write-requires-clause-room
+write-requires-clause-room c e =
+    let n = c.args.self.now in
+    let at = goal.at.write-requires-clause-room c in
+    let on = c.requires.plays in
+    let is_open = opened at.After-is_whole e in
+    row_fits n.demo.limit n.players n.capacity n.ran (length n.demo.bytes) _ n.room (below at.After-is_whole e) (n.size on is_open)
+    (row_length (seats_in n.demo.bytes) n.players (n.seats on is_open) n.few)
+
+-- the demo after the tic is open where the row is whole
+stage_whole : (b : Bool) (stage : Stage) → stage ≡ (if b then Open else Closed) → stage ≡ Open → b ≡ true
+stage_whole true stage e o = refl
+stage_whole false stage e o = absurd (let both : Closed ≡ Open = sym e ∙ o in cc)
+
+stage_lacks : (b : Bool) (stage : Stage) → stage ≡ (if b then Open else Closed) → stage ≡ Closed → b ≡ false
+stage_lacks false stage e o = refl
+stage_lacks true stage e o = absurd (let both : Open ≡ Closed = sym e ∙ o in cc)
+
+not_begun : (b : Bool) → (if b then Open else Closed) ≢ Blank
+not_begun true e = absurd (cc)
+not_begun false e = absurd (cc)
+
+pub invariant_of-self-2-clause-ran_fits : goal.invariant_of-self-2-clause-ran_fits
+invariant_of-self-2-clause-ran_fits c =
+    let n = c.args.self.now in
+    let old = n.ran_fits in
+    let short = n.short in
+    elim (cases_Bool c.is_whole.result) [
+      | inl whole ↦ let fits = below (goal.at.invariant_of-self-2-clause-ran_fits c).After-is_whole whole in omega arith
+      | inr lacks ↦
+          let at : c.full_at.result ≡ tic_limit = c.full_at.ensures ∙ ap (λ (b : Bool). if b then n.capacity else tic_limit) (sym c.is_whole.ensures ∙ lacks) in
+          let other = c.if-tic-full_at.false in
+          omega arith
+    ]
+
+pub invariant_of-self-2-clause-begun : goal.invariant_of-self-2-clause-begun
+invariant_of-self-2-clause-begun c on e = not_begun c.is_whole.result (sym c.write.ensures.stage ∙ e)
+
+pub invariant_of-self-2-clause-gone : goal.invariant_of-self-2-clause-gone
+invariant_of-self-2-clause-gone c on closed =
+    let n = c.args.self.now in
+    let lacks = stage_lacks c.is_whole.result _ c.write.ensures.stage closed in
+    let gone = not-false-true (has_gone (peer_at n.peers) n.players n.ran) (sym c.row_at-row.ensures.whole ∙ sym c.is_whole.ensures ∙ lacks) in
+    gone_later (peer_at n.peers) n.players n.ran (n.ran + 1) (omega arith) gone
+  where
+    not-false-true : (b : Bool) → not b ≡ false → b ≡ true
+    not-false-true true e = refl
+    not-false-true false e = absurd (true≢false e)
+
+pub invariant_of-self-2-clause-fits : goal.invariant_of-self-2-clause-fits
+invariant_of-self-2-clause-fits c on is_open =
+    let fits = below (goal.at.invariant_of-self-2-clause-fits c).After-is_whole (stage_whole c.is_whole.result _ c.write.ensures.stage is_open) in
+    omega arith
+
+pub invariant_of-self-2-clause-seats : goal.invariant_of-self-2-clause-seats
+invariant_of-self-2-clause-seats c on is_open =
+    let whole = stage_whole c.is_whole.result _ c.write.ensures.stage is_open in
+    c.write.ensures.seats whole ∙ c.args.self.now.seats c.requires.plays (opened (goal.at.invariant_of-self-2-clause-seats c).After-is_whole whole)
+
+pub invariant_of-self-2-clause-size : goal.invariant_of-self-2-clause-size
+invariant_of-self-2-clause-size c on is_open =
+    let n = c.args.self.now in
+    let whole = stage_whole c.is_whole.result _ c.write.ensures.stage is_open in
+    let before = opened (goal.at.invariant_of-self-2-clause-size c).After-is_whole whole in
+    size_more (length n.demo.bytes) _ _ n.players n.ran (c.write.ensures.size whole) (row_length (seats_in n.demo.bytes) n.players (n.seats c.requires.plays before) n.few) (n.size c.requires.plays before)
+
+pub invariant_of-self-2-clause-ahead : goal.invariant_of-self-2-clause-ahead
+invariant_of-self-2-clause-ahead c p inside stays =
+    let n = c.args.self.now in
+    let present = over_later (peer_at n.peers p).end n.ran (n.ran + 1) (omega arith) stays in
+    let there = here_all (ring_at n.rings) (peer_at n.peers) n.players n.ran c.requires.there p inside present in
+    omega arith
+
+pub returns-clause-step : goal.returns-clause-step
+returns-clause-step c marking players extra capacity me m r own =
+    let n = c.args.self.now in
+    let rules = rules_of (free marking) players extra capacity in
+    let on = c.requires.plays in
+    let there = here_all (ring_at n.rings) (peer_at n.peers) n.players n.ran c.requires.there in
+    let row = c.row_at-row.ensures.row ∙ row_is rules me _ m r n.window there in
+    let full = full_is rules me _ m r n.window there _ n.capacity c.full_at.result row r.capacity c.full_at.ensures in
+    let whole : c.is_whole.result ≡ is_whole players (row_held rules m) = c.is_whole.ensures ∙ (λ i. is_whole (r.players i) (row i)) in
+    let opens = opened (goal.at.returns-clause-step c).After-is_whole in
+    let written : IsWritten rules n.demo c.write.new.demo (row_held rules m) = record {
+      begun = n.begun on;
+      open_while = λ e. opens (whole ∙ e);
+      stage = c.write.ensures.stage ∙ ap (λ (b : Bool). if b then Open else Closed) whole;
+      added = λ e. subst (AddsRow n.demo.bytes c.write.new.demo.bytes) row (c.write.ensures.text (whole ∙ e));
+      closes = λ e at. c.write.ensures.closes (whole ∙ e) at;
+      stays = λ e at. c.write.ensures.closed (whole ∙ e) at;
+    } in
+    after _ _ (row_moves rules m (λ e. c.if-tic-full_at.false (r.ran ∙ e ∙ sym full)))
+    (shows_moved rules me _ m (row_held rules m) _ _ r on (n.plays on) (n.known (n.plays on))
+    (λ p inside present. c.stamp.ensures.marks p (omega (arith, inside, n.few)) (ap (λ (x : List (Option Move)). lacks x p) row ∙ seat_held rules me _ m r n.window there p inside (omega (arith, inside, n.few)) present)
+    ∙ own (sym r.phase ∙ on) p (omega (arith, inside, r.players)) present)
+    c.stamp.ensures.others written)
+    (ap Ran.Ran r.ran, ap (λ (x : List (Option Move)). Some x) row)

@@ -1,0 +1,10 @@
+use Rattle.std.proofs.Common.{◌≡◌, None}
+use Rattle.dn_machine.specs.Node.{lowest}
+use Rattle.dn_lockstep.specs.Rings.{ring_at}
+use Rattle.dn_lockstep.specs.Marks.{slot}
+use Rattle.dn_lockstep.specs.Peers.{peer_at}
+use Rattle.dn_lockstep.specs.Rows.{differs}
+use Rattle.dn_lockstep.proofs.rows.differing.Given as goal
+
+abbrev pub invariant-loop-player : goal.invariant-loop-player
+invariant-loop-player l = lowest l.player (differs (ring_at l.rings) (peer_at l.peers) (slot l.marks) l.tic) ≡ None

@@ -1,0 +1,16 @@
+pub mod Rings
+pub mod Peers
+pub mod Marks
+pub mod Rows
+pub mod Reading
+pub mod Phases
+pub mod Contents
+pub mod Represents
+pub mod Marking
+pub mod Steps
+pub mod Runs
+pub mod Opening
+pub mod Sent
+pub mod Giving
+pub mod Received
+pub mod Near

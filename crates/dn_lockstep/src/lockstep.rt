@@ -1,0 +1,162 @@
+//! One player's lockstep, and what it tells of itself.
+
+ghost use Rattle.std.specs.Prelude.{◌≡◌, ◌≢◌, ℕ, ◌+◌, ◌*◌, ◌<◌, ◌≤◌, true, false, nat_lt, if◌then◌else◌, length, Some, None};
+ghost use Rattle.dn_demo.specs.Layout.{long_tics};
+ghost use Rattle.dn_demo.specs.Places.{place, seats_in};
+ghost use Rattle.dn_demo.specs.Recorded.{recorded_size};
+ghost use Rattle.dn_demo.specs.declared.recorder.Stage.TheVariants.{Blank, Open, Closed};
+ghost use Rattle.dn_machine.specs.declared.answers.Phase.TheVariants.{Gathering, Playing};
+ghost use Rattle.dn_machine.specs.Running.{tic_limit};
+ghost use Rattle.dn_lockstep.specs.Phases.{is_waiting};
+ghost use Rattle.dn_lockstep.specs.Rings.{ring_at, count_of};
+ghost use Rattle.dn_lockstep.specs.Peers.{peer_at};
+ghost use Rattle.dn_lockstep.specs.Rows.{seats_of, is_gone, has_gone};
+
+mod building;
+mod ending;
+mod giving;
+mod hearing;
+mod opening;
+mod running;
+pub(crate) mod sending;
+mod starting;
+mod taking;
+
+use crate::marks::Marks;
+use crate::peers::Peers;
+use crate::rings::Rings;
+use dn_demo::Recorder;
+use dn_machine::Phase;
+use dn_setup::{Gather, Settings};
+use dn_tic::Builder;
+
+/// One player's node without a world. A contract sees it as what it holds, and as the node of the machine
+/// that this represents.
+#[derive(Drop)]
+pub struct Lockstep {
+    players: u8,
+    me: u8,
+    extra: bool,
+    /// How many tics fit into the demo.
+    capacity: u32,
+    phase: Phase,
+    played: bool,
+    settings: Option<Settings>,
+    gather: Gather,
+    builder: Builder,
+    ran: u32,
+    rings: Rings,
+    peers: Peers,
+    marks: Marks,
+    demo: Recorder,
+    ghost me_below: { me < players },
+    ghost few: { players ≤ 4 },
+    ghost short: { capacity ≤ tic_limit },
+    // so many tics fit into the demo
+    ghost room: { recorded_size players capacity ≤ demo.limit },
+    ghost ran_fits: { ran ≤ tic_limit },
+    // it knows no end of its own
+    ghost endless: { (peer_at peers me).end ≡ None },
+    // before the start nothing is run or written
+    ghost waits: { is_waiting phase ≡ true → played ≡ false },
+    ghost unrun: { played ≡ false → ran ≡ 0 },
+    ghost blank: { played ≡ false → demo.stage ≡ Blank },
+    // only player 0 gathers, and who gathers or has played has settings
+    ghost key: { phase ≡ Gathering → me ≡ 0 },
+    ghost keyed: { phase ≡ Gathering → settings ≢ None },
+    ghost known: { played ≡ true → settings ≢ None },
+    // while it plays, the demo is open until a player is gone, and no longer than the rows of the tics run
+    ghost plays: { phase ≡ Playing → played ≡ true },
+    ghost begun: { phase ≡ Playing → demo.stage ≢ Blank },
+    ghost gone: { phase ≡ Playing → demo.stage ≡ Closed → has_gone (peer_at peers) players ran ≡ true },
+    ghost fits: { phase ≡ Playing → demo.stage ≡ Open → ran ≤ capacity },
+    ghost seats: { phase ≡ Playing → demo.stage ≡ Open → seats_in demo.bytes ≡ seats_of players },
+    ghost size: { phase ≡ Playing → demo.stage ≡ Open → length demo.bytes ≤ place long_tics (players * ran) },
+    // it has the commands of the tics that it ran, but for players who are gone, and at most twelve more of a
+    // peer, and five of its own
+    ghost ahead: { (p : ℕ) → p < players → is_gone (peer_at peers) ran p ≡ false → ran ≤ (ring_at rings p).count },
+    ghost window: { (p : ℕ) → p < players → (ring_at rings p).count ≤ ran + 12 },
+    ghost near: { (ring_at rings me).count ≤ ran + 5 },
+    // no resend starts past what it made
+    ghost resends: { (p : ℕ) → p < players → (peer_at peers p).resend ≤ (ring_at rings me).count },
+}
+
+impl Lockstep {
+    ghost use Rattle.dn_machine.specs.Node.{known_end};
+    ghost use Rattle.dn_lockstep.specs.Contents.{contents, end_in};
+    ghost use Rattle.dn_lockstep.specs.Steps.{Steps};
+
+    /// The number of its player.
+    pub fn me(&self) -> u8
+        ensures { result ≡ (contents self.now).me }
+    {
+        self.me
+    }
+
+    /// Where it stands.
+    pub fn phase(&self) -> Phase
+        ensures { result ≡ (contents self.now).phase }
+    {
+        self.phase
+    }
+
+    /// How many commands it built.
+    pub fn made(&self) -> u32
+        ensures { result ≡ count_of (contents self.now).rings (contents self.now).me }
+    {
+        self.rings.count(self.me)
+    }
+
+    /// How many tics it ran.
+    pub fn ran(&self) -> u32
+        ensures { result ≡ (contents self.now).ran }
+    {
+        self.ran
+    }
+
+    /// How many commands it has of a player, and None for a number that is no player's.
+    pub fn got(&self, player: u8) -> Option<u32>
+        ensures { result ≡ (if nat_lt player (contents self.now).players
+            then Some (count_of (contents self.now).rings player) else None) }
+    {
+        if player < self.players {
+            Some(self.rings.count(player))
+        } else {
+            None
+        }
+    }
+
+    /// The choice of game: the key player's own from the beginning, another's from the start on.
+    pub fn settings(&self) -> Option<Settings>
+        ensures { result ≡ (contents self.now).settings }
+    {
+        self.settings
+    }
+
+    /// The tic after a player's last command: of another player once an EXIT packet has told it, and its own
+    /// once it has played and ended. From that tic on no tic has a move of the player.
+    pub fn end(&self, player: u8) -> Option<u32>
+        ensures value { result ≡ (if nat_lt player (contents self.now).players then end_in (contents self.now) player else None) }
+        ensures step { Steps (contents self.now) (contents self.now)
+            (λ rules me m. (m, if nat_lt player rules.players then known_end me m player else None)) (λ end. result ≡ end) }
+    {
+        if player >= self.players {
+            return None;
+        }
+        if player != self.me {
+            return self.peers.get(player).end;
+        }
+        match self.phase {
+            Phase::Ended(_) if self.played => Some(self.made()),
+            _ => None,
+        }
+    }
+
+    /// Its demo so far: empty before the start, and closed once a tic without some player was run, or it has
+    /// played and ended. No tic from then on is in it.
+    pub fn demo(&self) -> &[u8]
+        ensures { result.now ≡ (contents self.now).demo.bytes }
+    {
+        self.demo.bytes()
+    }
+}

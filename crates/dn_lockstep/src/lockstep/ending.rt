@@ -1,0 +1,37 @@
+//! How a node ends.
+
+ghost use Rattle.std.specs.Prelude.{◌≡◌, false};
+ghost use Rattle.dn_machine.specs.declared.answers.Phase.TheVariants.{Playing, Ended};
+
+use super::Lockstep;
+use crate::recording::close;
+use dn_machine::{Cause, Phase};
+
+impl Lockstep {
+    ghost use Rattle.dn_machine.specs.Running.{on_quit};
+    ghost use Rattle.dn_lockstep.specs.Contents.{contents};
+    ghost use Rattle.dn_lockstep.specs.Steps.{Steps, Becomes};
+
+    /// Ends a node that plays, and closes its demo where it is open.
+    pub(super) fn finish(&mut self, cause: Cause)
+        requires { (contents self.old).phase ≡ Playing }
+        ensures { Becomes (contents self.old) (contents self.new) (λ rules me m. record m { phase = Ended cause }) }
+    {
+        self.phase = Phase::Ended(cause);
+        close(&mut self.demo);
+    }
+
+    /// Ends the node, and answers whether it had not ended.
+    pub fn quit(&mut self) -> bool
+        ensures step { Steps (contents self.old) (contents self.new)
+            (λ rules me m. on_quit m) (λ quit. result ≡ quit) }
+        ensures idle { result ≡ false → contents self.new ≡ contents self.old }
+    {
+        match self.phase {
+            Phase::Ended(_) => return false,
+            Phase::Playing => self.finish(Cause::Quit),
+            Phase::Listening | Phase::Gathering => self.phase = Phase::Ended(Cause::Quit),
+        }
+        true
+    }
+}

@@ -1,0 +1,158 @@
+//! What a node does with a datagram.
+
+ghost use Rattle.std.specs.Prelude.{◌≡◌, ◌≢◌, ◌<◌, ℕ, true, false, Result, Ok};
+ghost use Rattle.dn_packet.specs.declared.packet.Packet.{Packet};
+ghost use Rattle.dn_packet.specs.declared.packet.PacketFault.{PacketFault};
+ghost use Rattle.dn_packet.specs.Read.{IsReadAs};
+ghost use Rattle.dn_packet.specs.Text.{text};
+ghost use Rattle.dn_setup.specs.Settings.{Settings};
+ghost use Rattle.dn_setup.specs.Setup.{IsSetupReadAs};
+ghost use Rattle.dn_setup.specs.declared.setup.SetupFault.{SetupFault};
+ghost use Rattle.dn_machine.specs.declared.answers.Heard.TheVariants.{Started, Dropped};
+ghost use Rattle.dn_machine.specs.declared.answers.Phase.TheVariants.{Gathering};
+ghost use Rattle.dn_machine.specs.Flight.{Flight, packet_of, is_near};
+ghost use Rattle.dn_machine.specs.Hearing.{on_packet, on_gathering};
+ghost use Rattle.dn_lockstep.specs.Near.{IsFair};
+ghost use Rattle.dn_lockstep.specs.Phases.{hears_none};
+ghost use Rattle.dn_lockstep.specs.Rings.{count_of};
+ghost use Rattle.dn_lockstep.specs.Received.{received, on_read, on_set_up, on_player, IsTold};
+
+use super::Lockstep;
+use crate::numbers::{
+    KILLED, LENGTH, MANY, NOT_PLAYING, OUT_OF_PLACE, RANGE, SHORT, STRANGER, SUM, VERSION,
+};
+use crate::reading::has_flag;
+use dn_machine::{Heard, Phase};
+use dn_packet::{KILL, Packet, PacketFault, SETUP, decode};
+use dn_setup::{SetupFault, from_packet};
+
+/// The number of the key player.
+const KEY: u8 = 0;
+
+impl Lockstep {
+    ghost use Rattle.dn_lockstep.specs.Contents.{contents};
+    ghost use Rattle.dn_lockstep.specs.Steps.{Steps};
+
+    /// Whether it has ended without having played.
+    fn hears_none(&self) -> bool
+        ensures { result ≡ hears_none (contents self.now).phase (contents self.now).played }
+    {
+        match self.phase {
+            Phase::Ended(_) => !self.played,
+            Phase::Listening | Phase::Gathering | Phase::Playing => false,
+        }
+    }
+
+    /// Hears a datagram of this player. A datagram that is dropped changes nothing.
+    pub fn receive(&mut self, from: u8, bytes: &[u8]) -> Heard
+        ensures any { (read : Result Packet PacketFault) (told : Result Settings SetupFault)
+            → IsReadAs bytes.now read → IsTold read told
+            → Steps (contents self.old) (contents self.new)
+            (λ rules me m. received rules me m from told read) (λ heard. result ≡ heard) }
+        ensures near { (flight : Flight) → IsFair flight → bytes.now ≡ text (packet_of flight) → flight.from ≡ from
+            → from < (contents self.old).players → from ≢ (contents self.old).me
+            → is_near (count_of (contents self.old).rings (contents self.old).me) flight ≡ true
+            → Steps (contents self.old) (contents self.new)
+            (λ rules me m. on_packet rules me m flight) (λ heard. result ≡ heard) }
+        ensures dropped { (number : ℕ) → result ≡ Dropped number → contents self.new ≡ contents self.old }
+    {
+        if self.hears_none() {
+            return Heard::Dropped(NOT_PLAYING);
+        }
+        if from >= self.players || from == self.me {
+            return Heard::Dropped(STRANGER);
+        }
+        match decode(bytes) {
+            Ok(packet) => self.hear(from, &packet),
+            Err(PacketFault::Short) => Heard::Dropped(SHORT),
+            Err(PacketFault::Many) => Heard::Dropped(MANY),
+            Err(PacketFault::Length) => Heard::Dropped(LENGTH),
+            Err(PacketFault::Sum) => Heard::Dropped(SUM),
+        }
+    }
+
+    /// Hears a peer's packet.
+    fn hear(&mut self, from: u8, packet: &Packet) -> Heard
+        requires peer { from < (contents self.old).players }
+        requires other { from ≢ (contents self.old).me }
+        requires hears { hears_none (contents self.old).phase (contents self.old).played ≡ false }
+        ensures step { (told : Result Settings SetupFault) → IsSetupReadAs packet.now told
+            → Steps (contents self.old) (contents self.new)
+            (λ rules me m. on_read rules me m from told (Ok packet.now)) (λ heard. result ≡ heard) }
+        ensures dropped { (number : ℕ) → result ≡ Dropped number → contents self.new ≡ contents self.old }
+    {
+        if has_flag(packet, SETUP) {
+            return self.hear_set_up(from, packet);
+        }
+        if let Phase::Listening = self.phase {
+            return Heard::Dropped(NOT_PLAYING);
+        }
+        if packet.player != from {
+            return Heard::Dropped(STRANGER);
+        }
+        if has_flag(packet, KILL) {
+            return Heard::Dropped(KILLED);
+        }
+        self.hear_player(from, packet)
+    }
+
+    /// Hears a player's packet of commands, by where the node stands.
+    fn hear_player(&mut self, from: u8, packet: &Packet) -> Heard
+        requires peer { from < (contents self.old).players }
+        requires other { from ≢ (contents self.old).me }
+        requires hears { hears_none (contents self.old).phase (contents self.old).played ≡ false }
+        ensures step { Steps (contents self.old) (contents self.new)
+            (λ rules me m. on_player rules me m from packet.now m.phase) (λ heard. result ≡ heard) }
+        ensures dropped { (number : ℕ) → result ≡ Dropped number → contents self.new ≡ contents self.old }
+    {
+        match self.phase {
+            Phase::Listening => Heard::Dropped(NOT_PLAYING),
+            Phase::Gathering => self.hear_gathering(from),
+            Phase::Playing => self.take(from, packet),
+            Phase::Ended(_) => self.answer(from, packet),
+        }
+    }
+
+    /// Hears a set-up packet, which only a listener takes, and only from the key player.
+    fn hear_set_up(&mut self, from: u8, packet: &Packet) -> Heard
+        ensures step { (told : Result Settings SetupFault) → IsSetupReadAs packet.now told
+            → Steps (contents self.old) (contents self.new)
+            (λ rules me m. on_set_up m from told m.phase) (λ heard. result ≡ heard) }
+        ensures dropped { (number : ℕ) → result ≡ Dropped number → contents self.new ≡ contents self.old }
+    {
+        let Phase::Listening = self.phase else {
+            return Heard::Dropped(OUT_OF_PLACE);
+        };
+        if from != KEY {
+            return Heard::Dropped(OUT_OF_PLACE);
+        }
+        match from_packet(packet) {
+            Ok(settings) => {
+                self.start(settings);
+                Heard::Started
+            }
+            Err(SetupFault::NotSetup) => Heard::Dropped(OUT_OF_PLACE),
+            Err(SetupFault::Version) => Heard::Dropped(VERSION),
+            Err(SetupFault::Range) => Heard::Dropped(RANGE),
+        }
+    }
+
+    /// Hears a peer while gathering, and starts once every peer was heard. What the packet carries is
+    /// not kept.
+    fn hear_gathering(&mut self, from: u8) -> Heard
+        requires gathers { (contents self.old).phase ≡ Gathering }
+        requires peer { from < (contents self.old).players }
+        ensures step { Steps (contents self.old) (contents self.new)
+            (λ rules me m. on_gathering rules m from) (λ heard. result ≡ heard) }
+        ensures dropped { (number : ℕ) → result ≡ Dropped number → contents self.new ≡ contents self.old }
+    {
+        if !self.gather.hear(from) {
+            return Heard::Noted;
+        }
+        // a node that gathers has settings
+        if let Some(settings) = self.settings {
+            self.start(settings);
+        }
+        Heard::Started
+    }
+}

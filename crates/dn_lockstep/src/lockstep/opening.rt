@@ -1,0 +1,86 @@
+//! How a node is made.
+
+ghost use Rattle.std.specs.Prelude.{◌≡◌, ◌==◌, if◌then◌else◌, Some, IfOk};
+ghost use Rattle.dn_machine.specs.declared.answers.Phase.TheVariants.{Listening, Gathering};
+ghost use Rattle.dn_demo.specs.Recorded.{capacity};
+ghost use Rattle.dn_lockstep.specs.Opening.{IsAdmitted};
+
+use super::Lockstep;
+use crate::config::{Config, NodeFault};
+use crate::marks::Marks;
+use crate::peers::Peers;
+use crate::rings::Rings;
+use dn_demo::{Recorder, RecorderFault, capacity};
+use dn_machine::Phase;
+use dn_setup::Gather;
+use dn_tic::Builder;
+use std::alloc::Global;
+
+/// Player 0 has the settings and gathers, and the others listen.
+fn first_phase(me: u8) -> Phase
+    ensures { result ≡ (if me == 0 then Gathering else Listening) }
+{
+    if me == 0 {
+        Phase::Gathering
+    } else {
+        Phase::Listening
+    }
+}
+
+impl Lockstep {
+    ghost use Rattle.dn_setup.specs.Settings.{Settings as Choice};
+    ghost use Rattle.dn_demo.specs.Recorded.{capacity};
+    ghost use Rattle.dn_machine.specs.Game.{fresh};
+    ghost use Rattle.dn_machine.specs.Worlds.{rules_of};
+    ghost use Rattle.dn_lockstep.specs.Contents.{contents};
+    ghost use Rattle.dn_lockstep.specs.Marking.{Marking, free};
+    ghost use Rattle.dn_lockstep.specs.Represents.{Represents};
+
+    /// A lockstep with no history: player 0 gathers, the others listen. All memory that it needs is taken
+    /// here.
+    pub fn new(alloc: Global, config: Config) -> Result<Lockstep, NodeFault>
+        ensures admitted { IsAdmitted config result }
+        ensures opened { IfOk result (λ lockstep. (marking : Marking) (settings : Choice)
+            → (config.me ≡ 0 → config.settings ≡ Some settings)
+            → Represents (rules_of (free marking) config.players config.extra (capacity config.limit config.players)) config.me
+            (contents lockstep) (fresh settings config.me)) }
+    {
+        let Config {
+            players,
+            me,
+            extra,
+            limit,
+            settings,
+        } = config;
+        if !(2..=4).contains(&players) {
+            return Err(NodeFault::Players);
+        }
+        if me >= players {
+            return Err(NodeFault::Me);
+        }
+        if settings.is_some() != (me == 0) {
+            return Err(NodeFault::Key);
+        }
+        let demo = match Recorder::new(alloc, limit) {
+            Ok(demo) => demo,
+            Err(RecorderFault::Limit) => return Err(NodeFault::Limit),
+            Err(RecorderFault::Memory) => return Err(NodeFault::Memory),
+        };
+        Ok(Lockstep {
+            players,
+            me,
+            extra,
+            capacity: capacity(limit, players),
+            phase: first_phase(me),
+            played: false,
+            settings,
+            gather: Gather::new(players),
+            builder: Builder::new(),
+            ran: 0,
+            rings: Rings::new(),
+            peers: Peers::new(),
+            marks: Marks::new(),
+            demo,
+        })
+    }
+}

@@ -1,0 +1,77 @@
+//! How a lockstep runs a tic.
+
+ghost use Rattle.std.specs.Prelude.{◌≡◌, ◌≢◌, ℕ, None};
+ghost use Rattle.dn_machine.specs.declared.answers.Phase.TheVariants.{Playing};
+ghost use Rattle.dn_machine.specs.declared.answers.Ran.TheVariants.{Waiting, NotPlaying};
+ghost use Rattle.dn_machine.specs.Node.{lowest};
+ghost use Rattle.dn_lockstep.specs.Rows.{is_missing};
+
+use super::Lockstep;
+use crate::recording::write;
+use crate::rows::{awaited, first_off, full_at, is_whole, mark_of, row_at};
+use dn_machine::{Cause, Phase, Ran};
+use dn_tic::Move;
+
+impl Lockstep {
+    ghost use Rattle.dn_machine.specs.Running.{on_run, on_run_playing};
+    ghost use Rattle.dn_lockstep.specs.Contents.{contents};
+    ghost use Rattle.dn_lockstep.specs.Runs.{RunsBy};
+
+    /// Runs the next tic (`d_net.c`, TryRunTics; `g_game.c`, G_Ticker), where no mark is off and the command of
+    /// every player is there who has not left by then. It is told each player's mark in the caller's world as
+    /// it stands, and tells the row of moves by which that world goes on: one where the tic was run, and else
+    /// none. One that waits stays as it is.
+    pub fn run(&mut self, marks: &[i16; 4]) -> (Ran, Option<[Option<Move>; 4]>)
+        ensures step { RunsBy marks.now (contents self.old) (contents self.new)
+            (λ rules m. on_run rules m) (λ ran row. (result.0 ≡ ran) × (result.1 ≡ row)) }
+        ensures waits { (player : ℕ) → result.0 ≡ Waiting player → contents self.new ≡ contents self.old }
+        ensures idle { result.0 ≡ NotPlaying → contents self.new ≡ contents self.old }
+    {
+        let Phase::Playing = self.phase else {
+            return (Ran::NotPlaying, None);
+        };
+        let tic = self.ran;
+        if let Some(player) = awaited(&self.rings, &self.peers, self.players, tic) {
+            return (Ran::Waiting(player), None);
+        }
+        if let Some(player) = first_off(&self.rings, &self.peers, &self.marks, self.players, tic) {
+            let was = mark_of(&self.rings, player, tic);
+            let should = self.marks.get(player, tic);
+            self.finish(Cause::Inconsistent {
+                player,
+                was,
+                should,
+            });
+            let ran = Ran::Inconsistent {
+                player,
+                was,
+                should,
+            };
+            return (ran, None);
+        }
+        self.run_row(marks)
+    }
+
+    /// Runs the row of the next tic, whose commands are there. A row that lacks a player closes the demo, and
+    /// only a row that lacks nobody needs room in it.
+    fn run_row(&mut self, marks: &[i16; 4]) -> (Ran, Option<[Option<Move>; 4]>)
+        requires plays { (contents self.old).phase ≡ Playing }
+        requires there { lowest (contents self.old).players
+            (is_missing (contents self.old).rings (contents self.old).peers (contents self.old).ran) ≡ None }
+        ensures step { RunsBy marks.now (contents self.old) (contents self.new)
+            (λ rules m. on_run_playing rules m None None) (λ ran row. (result.0 ≡ ran) × (result.1 ≡ row)) }
+        ensures waits { (player : ℕ) → result.0 ≢ Waiting player }
+        ensures idle { result.0 ≢ NotPlaying }
+    {
+        let tic = self.ran;
+        let row = row_at(&self.rings, &self.peers, self.players, tic);
+        if tic == full_at(&row, self.players, self.capacity) {
+            self.finish(Cause::Full);
+            return (Ran::DemoFull, None);
+        }
+        self.marks.stamp(marks, &row, tic);
+        self.ran += 1;
+        write(&mut self.demo, &row, is_whole(&row, self.players));
+        (Ran::Ran(tic), Some(row))
+    }
+}

@@ -1,0 +1,93 @@
+//! What a node does with a player's packet of commands: it takes them while it plays, and hears
+//! requests alone once it has played and ended.
+
+ghost use Rattle.std.specs.Prelude.{◌≡◌, ◌≢◌, ◌<◌, ℕ, true};
+ghost use Rattle.dn_machine.specs.declared.answers.Cause.{Cause};
+ghost use Rattle.dn_machine.specs.declared.answers.Heard.TheVariants.{Dropped};
+ghost use Rattle.dn_machine.specs.declared.answers.Phase.TheVariants.{Playing, Ended};
+ghost use Rattle.dn_machine.specs.Hearing.{left_or};
+ghost use Rattle.dn_lockstep.specs.Received.{on_player};
+
+use super::Lockstep;
+use crate::numbers::{NOT_PLAYING, OVERRUN, STRANGE_END};
+use crate::peers::Peer;
+use crate::reading::{has_flag, request, start};
+use crate::rings::PLACES;
+use dn_machine::Heard;
+use dn_packet::{EXIT, Packet};
+
+/// The answer to a packet up to whose end nothing is missing.
+fn left_or(exit: bool, heard: Heard) -> Heard
+    ensures { result ≡ left_or exit heard }
+{
+    if exit { Heard::Left } else { heard }
+}
+
+impl Lockstep {
+    ghost use Rattle.dn_lockstep.specs.Contents.{contents};
+    ghost use Rattle.dn_lockstep.specs.Steps.{Steps};
+
+    /// Takes the commands of a player's packet while it plays (`d_net.c`, GetPackets), and the end that
+    /// an EXIT packet tells.
+    pub(super) fn take(&mut self, from: u8, packet: &Packet) -> Heard
+        requires peer { from < (contents self.old).players }
+        requires other { from ≢ (contents self.old).me }
+        ensures step { Steps (contents self.old) (contents self.new)
+            (λ rules me m. on_player rules me m from packet.now Playing) (λ heard. result ≡ heard) }
+        ensures dropped { (number : ℕ) → result ≡ Dropped number → contents self.new ≡ contents self.old }
+    {
+        let made = self.made();
+        let start = match start(made, packet) {
+            Ok(start) => start,
+            Err(number) => return Heard::Dropped(number),
+        };
+        let commands = packet.cmds.as_slice();
+        let end = start + commands.len() as u32;
+        if end > self.ran + PLACES {
+            return Heard::Dropped(OVERRUN);
+        }
+        let exit = has_flag(packet, EXIT);
+        let got = self.rings.count(from);
+        let peer = self.peers.get(from);
+        if peer.is_strange_end(exit, got, end) {
+            return Heard::Dropped(STRANGE_END);
+        }
+        let peer = peer.after_asking(made, request(made, packet));
+        let peer = peer.after_telling(exit, end);
+        if end <= got {
+            self.peers.put(from, peer);
+            return left_or(exit, Heard::Stale);
+        }
+        if start > got {
+            self.peers.put(from, Peer { want: true, ..peer });
+            return Heard::Gap;
+        }
+        let want = false;
+        self.peers.put(from, Peer { want, ..peer });
+        self.rings
+            .put_all(from, &commands[(got - start) as usize..]);
+        left_or(exit, Heard::Taken(end - got))
+    }
+
+    /// Hears the request of a player who plays on, once it has played and ended.
+    pub(super) fn answer(&mut self, from: u8, packet: &Packet) -> Heard
+        requires peer { from < (contents self.old).players }
+        requires other { from ≢ (contents self.old).me }
+        requires played { (contents self.old).played ≡ true }
+        ensures step { (cause : Cause) → Steps (contents self.old) (contents self.new)
+            (λ rules me m. on_player rules me m from packet.now (Ended cause)) (λ heard. result ≡ heard) }
+        ensures dropped { (number : ℕ) → result ≡ Dropped number → contents self.new ≡ contents self.old }
+    {
+        if has_flag(packet, EXIT) {
+            return Heard::Dropped(NOT_PLAYING);
+        }
+        let made = self.made();
+        if let Err(number) = start(made, packet) {
+            return Heard::Dropped(number);
+        }
+        let peer = self.peers.get(from);
+        self.peers
+            .put(from, peer.after_asking(made, request(made, packet)));
+        Heard::Noted
+    }
+}

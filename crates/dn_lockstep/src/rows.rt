@@ -1,0 +1,157 @@
+//! The commands of one tic, of all players.
+
+ghost use Rattle.std.specs.Prelude.{◌≡◌, ◌<◌, ◌≤◌, ◌+◌, ◌%◌, ℕ, nat_le, nat_lt, not, None, true, false, is_some, IfSome, if◌then◌else◌};
+ghost use Rattle.std.specs.Ordering.{int_eq};
+ghost use Rattle.dn_demo.specs.Rows.{IsRow, IsRecordable};
+ghost use Rattle.dn_machine.specs.Node.{lowest, is_whole};
+ghost use Rattle.dn_machine.specs.Running.{tic_limit};
+ghost use Rattle.dn_machine.specs.Worlds.{four};
+ghost use Rattle.dn_lockstep.specs.Rings.{ring_at};
+ghost use Rattle.dn_lockstep.specs.Marks.{slot};
+ghost use Rattle.dn_lockstep.specs.Peers.{peer_at};
+ghost use Rattle.dn_lockstep.specs.Rows.{seats_of, mark_at, move_at, differs, is_missing, is_gone, has_gone};
+
+use crate::marks::Marks;
+use crate::peers::Peers;
+use crate::rings::Rings;
+use dn_tic::{Move, round};
+
+/// The last tic whose marks are not compared (`g_game.c`, G_Ticker).
+const LAST_UNCHECKED: u32 = 12;
+
+/// So many tics are run at most: the next is not run, where it lacks a player.
+const TIC_LIMIT: u32 = 2_097_150;
+
+/// Which seats are taken.
+pub(crate) fn seats(players: u8) -> [bool; 4]
+    ensures { result ≡ seats_of players }
+{
+    [0 < players, 1 < players, 2 < players, 3 < players]
+}
+
+/// Whether the tic is not before the player's known end.
+fn gone(peers: &Peers, player: u8, tic: u32) -> bool
+    requires { player < 4 }
+    ensures { result ≡ is_gone (peer_at peers.now) tic player }
+{
+    match peers.get(player).end {
+        Some(end) => end <= tic,
+        None => false,
+    }
+}
+
+/// The lowest player, of those who are not gone, of whom no command for the tic is there.
+pub(crate) fn awaited(rings: &Rings, peers: &Peers, players: u8, tic: u32) -> Option<u8>
+    requires { players ≤ 4 }
+    ensures { result ≡ lowest players (is_missing (ring_at rings.now) (peer_at peers.now) tic) }
+{
+    for player in 0..players {
+        if !gone(peers, player, tic) && rings.count(player) <= tic {
+            return Some(player);
+        }
+    }
+    None
+}
+
+/// The mark of the player's command for the tic.
+pub(crate) fn mark_of(rings: &Rings, player: u8, tic: u32) -> i16
+    requires { player < 4 }
+    ensures { result ≡ mark_at (ring_at rings.now) tic player }
+{
+    match rings.get(player, tic) {
+        Some(command) => command.mark,
+        None => 0,
+    }
+}
+
+/// The lowest player, of those who are not gone, whose command carries another mark than the table has.
+fn differing(rings: &Rings, peers: &Peers, marks: &Marks, players: u8, tic: u32) -> Option<u8>
+    requires { players ≤ 4 }
+    ensures below { IfSome result (λ p. p < players) }
+    ensures lowest { result ≡ lowest players (differs (ring_at rings.now) (peer_at peers.now) (slot marks.now) tic) }
+{
+    for player in 0..players {
+        if !gone(peers, player, tic) && mark_of(rings, player, tic) != marks.get(player, tic) {
+            return Some(player);
+        }
+    }
+    None
+}
+
+/// The lowest player whose command is off: it carries another mark than the table has, for a tic whose
+/// marks are compared.
+pub(crate) fn first_off(
+    rings: &Rings,
+    peers: &Peers,
+    marks: &Marks,
+    players: u8,
+    tic: u32,
+) -> Option<u8>
+    requires { players ≤ 4 }
+    ensures below { IfSome result (λ p. p < players) }
+    ensures lowest { result ≡ (if nat_lt 12 tic
+        then lowest players (differs (ring_at rings.now) (peer_at peers.now) (slot marks.now) tic) else None) }
+{
+    if tic > LAST_UNCHECKED {
+        differing(rings, peers, marks, players, tic)
+    } else {
+        None
+    }
+}
+
+/// The used move of the player's command for the tic, and none of one who is gone.
+fn move_of(rings: &Rings, peers: &Peers, players: u8, player: u8, tic: u32) -> Option<Move>
+    requires place { player < 4 }
+    ensures value { result ≡ move_at (ring_at rings.now) (peer_at peers.now) players tic player }
+    ensures there { player < players → is_gone (peer_at peers.now) tic player ≡ false
+        → tic < (ring_at rings.now player).count → (ring_at rings.now player).count ≤ tic + 12 → is_some result ≡ true }
+    ensures recordable { IfSome result IsRecordable }
+{
+    if player < players && !gone(peers, player, tic) {
+        Some(round(&rings.get(player, tic)?))
+    } else {
+        None
+    }
+}
+
+/// The used moves for the tic of all players who are not gone, whose commands are there.
+pub(crate) fn row_at(rings: &Rings, peers: &Peers, players: u8, tic: u32) -> [Option<Move>; 4]
+    requires few { players ≤ 4 }
+    requires there { lowest players (is_missing (ring_at rings.now) (peer_at peers.now) tic) ≡ None }
+    requires kept { (p : ℕ) → p < players → (ring_at rings.now p).count ≤ tic + 12 }
+    ensures row { result ≡ four (move_at (ring_at rings.now) (peer_at peers.now) players tic) }
+    ensures whole { is_whole players result ≡ not (has_gone (peer_at peers.now) players tic) }
+    ensures recordable { is_whole players result ≡ true → IsRow (seats_of players) result }
+{
+    [
+        move_of(rings, peers, players, 0, tic),
+        move_of(rings, peers, players, 1, tic),
+        move_of(rings, peers, players, 2, tic),
+        move_of(rings, peers, players, 3, tic),
+    ]
+}
+
+/// Whether each player has a move in the row.
+pub(crate) fn is_whole(row: &[Option<Move>; 4], players: u8) -> bool
+    requires { players ≤ 4 }
+    ensures { result ≡ is_whole players row.now }
+{
+    for player in 0..players {
+        if row[usize::from(player)].is_none() {
+            return false;
+        }
+    }
+    true
+}
+
+/// The tic at which a node ends in place of running this row.
+pub(crate) fn full_at(row: &[Option<Move>; 4], players: u8, capacity: u32) -> u32
+    requires { players ≤ 4 }
+    ensures { result ≡ (if is_whole players row.now then capacity else tic_limit) }
+{
+    if is_whole(row, players) {
+        capacity
+    } else {
+        TIC_LIMIT
+    }
+}
