@@ -133,7 +133,7 @@ module _ {S : Type 0} (rules : Rules S) (me : ℕ) (m : machine.Node) (settings 
             ]
       ]
 
-known_by : (settings : Option Settings) → settings ≢ None → (s : Settings) × (settings ≡ Some s)
+pub known_by : (settings : Option Settings) → settings ≢ None → (s : Settings) × (settings ≡ Some s)
 known_by None n = absurd (n refl)
 known_by (Some s) n = (s, refl)
 

@@ -25,6 +25,7 @@ mod taking;
 use crate::marks::Marks;
 use crate::peers::Peers;
 use crate::rings::Rings;
+use crate::rows::seats;
 use dn_demo::Recorder;
 use dn_machine::Phase;
 use dn_setup::{Gather, Settings};
@@ -91,6 +92,20 @@ impl Lockstep {
         ensures { result ≡ (contents self.now).me }
     {
         self.me
+    }
+
+    /// How many players the game has.
+    pub fn players(&self) -> u8
+        ensures { result ≡ (contents self.now).players }
+    {
+        self.players
+    }
+
+    /// Which seats are taken: those of the players.
+    pub fn present(&self) -> [bool; 4]
+        ensures { result ≡ seats_of (contents self.now).players }
+    {
+        seats(self.players)
     }
 
     /// Where it stands.

@@ -1,0 +1,6 @@
+pub mod Transfer
+pub mod Beside
+pub mod Stepping
+pub mod Hearing
+pub mod Running
+pub mod Replaying

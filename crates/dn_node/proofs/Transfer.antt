@@ -1,0 +1,214 @@
+-- A world's own physics among the laws of marks: a step by the one is a step by the other.
+use Rattle.std.proofs.Common.{◌≡◌, ℕ, ℤ, Bool, true, false, List, [], ◌∷◌, ◌++◌, Option, Some, None, refl, ap, sym, ◌∙◌}
+use Rattle.std.specs.Prelude.{fold, nat_lt, nat_le, ◌-◌, ◌==◌, ◌||◌, ◌&&◌, not, if◌then◌else◌, pos, take, Result, Ok, Err}
+use Rattle.std.specs.Option.{option_map}
+use Rattle.std.specs.Ordering.{int_eq}
+use Rattle.std.proofs.lemmas.List.Sums.{fold-append}
+use Rattle.dn_tic.specs.declared.command.Move.{Move}
+use Rattle.dn_tic.specs.Pressed.{pressed}
+use Rattle.dn_packet.specs.declared.packet.Packet.{Packet}
+use Rattle.dn_packet.specs.declared.packet.PacketFault.{PacketFault}
+use Rattle.dn_packet.specs.declared.packet.PacketFault.TheVariants.{Short, Many, Length, Sum}
+use Rattle.dn_setup.specs.Settings.{Settings}
+use Rattle.dn_setup.specs.declared.setup.SetupFault.{SetupFault}
+use Rattle.dn_world.specs.Physics.{Physics}
+use Rattle.dn_machine.specs.declared.answers.Phase.{Phase}
+use Rattle.dn_machine.specs.declared.answers.Phase.TheVariants.{Listening, Gathering, Playing, Ended}
+use Rattle.dn_machine.specs.declared.answers.Cause.TheVariants as Cause
+use Rattle.dn_machine.specs.declared.answers.Heard.{Heard}
+use Rattle.dn_machine.specs.declared.answers.Made.{Made}
+use Rattle.dn_machine.specs.declared.answers.Ran.{Ran}
+use Rattle.dn_machine.specs.Building.{on_build, on_build_in}
+use Rattle.dn_machine.specs.Flight.{Flight, Kind, SetUp, Play, Exit}
+use Rattle.dn_machine.specs.Hearing.{on_packet, on_packet_in}
+use Rattle.dn_machine.specs.Node as machine
+use Rattle.dn_machine.specs.Node.{put, own_mark, own_world, world_after, held_at, lowest}
+use Rattle.dn_machine.specs.Running.{is_absent, is_awaited, first_off, on_run, on_run_in, on_run_playing}
+use Rattle.dn_machine.specs.Sending.{on_send, on_send_in}
+use Rattle.dn_machine.specs.Worlds.{Rules, rules_of, mark_in, opening}
+use Rattle.dn_lockstep.specs.Marking.{History, Marking, free}
+use Rattle.dn_lockstep.specs.Contents.{Contents}
+use Rattle.dn_lockstep.specs.Phases.{is_listening, hears_none}
+use Rattle.dn_lockstep.specs.Reading.{has_flag, kind_in, start_in, flight_in}
+use Rattle.dn_lockstep.specs.Received.{received, on_read, on_other, on_player, on_start, on_set_up, is_counted}
+use Rattle.dn_lockstep.specs.Represents.{Represents}
+use Rattle.dn_lockstep.specs.Sent.{sent_to}
+
+module _ {S : Type 0} (physics : Physics S) where
+  -- the state that a history leads to
+  abbrev pub state_of : History → S
+  state_of history = fold physics.step (physics.begin history.start history.present) history.rows
+
+  -- and each player's mark in it
+  abbrev pub marking_of : Marking
+  marking_of history player = physics.mark (state_of history) player
+
+  module _ (players : ℕ) (extra : Bool) (capacity : ℕ) where
+    abbrev pub by_marks : Rules History
+    by_marks = rules_of (free marking_of) players extra capacity
+
+    abbrev pub by_worlds : Rules S
+    by_worlds = rules_of physics players extra capacity
+
+    -- a history that goes on by some rows leads to the state that goes on by them
+    goes_on : (history : History) (rows : List (List (Option Move)))
+        → state_of (fold (free marking_of).step history rows) ≡ fold physics.step (state_of history) rows
+    goes_on history [] = refl
+    goes_on history (row ∷ rows) =
+        goes_on ((free marking_of).step history row) rows
+        ∙ ap (λ (w : S). fold physics.step w rows) (fold-append physics.step (physics.begin history.start history.present) history.rows (row ∷ []))
+
+    module _ (m : machine.Node) where
+      -- the marks are those of the worlds
+      pub mark_same : (p tic : ℕ) → mark_in (free marking_of) (own_world by_marks m tic) p ≡ mark_in physics (own_world by_worlds m tic) p
+      unfolding world_after
+      mark_same p tic = go m.settings
+        where
+          go : (settings : Option Settings)
+              → mark_in (free marking_of) (option_map (λ s. world_after by_marks s m.rows tic) settings) p
+              ≡ mark_in physics (option_map (λ s. world_after by_worlds s m.rows tic) settings) p
+          go None = refl
+          go (Some s) = ap (λ (w : S). physics.mark w p) (goes_on (opening by_marks s) (take tic m.rows))
+
+      pub own_mark_same : (p tic : ℕ) → own_mark by_marks m p tic ≡ own_mark by_worlds m p tic
+      own_mark_same p tic = ap (λ (z : ℤ). if nat_lt tic 12 then pos 0 else z) (mark_same p (tic - 12))
+
+      pub to_marks : (me : ℕ) (n : Contents) → Represents by_worlds me n m → Represents by_marks me n m
+      to_marks me n r =
+          record {
+            players = r.players;
+            number = r.number;
+            extra = r.extra;
+            capacity = r.capacity;
+            gathers = r.gathers;
+            phase = r.phase;
+            played = r.played;
+            settings = r.settings;
+            hold = r.hold;
+            ran = r.ran;
+            rings = r.rings;
+            peers = r.peers;
+            noted = r.noted;
+            marks = λ p tic below low high present. r.marks p tic below low high present ∙ sym (own_mark_same p tic);
+            demo = r.demo;
+            closed = r.closed;
+          }
+
+      pub to_worlds : (me : ℕ) (n : Contents) → Represents by_marks me n m → Represents by_worlds me n m
+      to_worlds me n r =
+          record {
+            players = r.players;
+            number = r.number;
+            extra = r.extra;
+            capacity = r.capacity;
+            gathers = r.gathers;
+            phase = r.phase;
+            played = r.played;
+            settings = r.settings;
+            hold = r.hold;
+            ran = r.ran;
+            rings = r.rings;
+            peers = r.peers;
+            noted = r.noted;
+            marks = λ p tic below low high present. r.marks p tic below low high present ∙ own_mark_same p tic;
+            demo = r.demo;
+            closed = r.closed;
+          }
+
+      build_in : (me keys : ℕ) (phase : Phase) → ◌≡◌ {A = machine.Node × Made} (on_build_in by_marks me m keys phase) (on_build_in by_worlds me m keys phase)
+      build_in me keys Listening = refl
+      build_in me keys Gathering = refl
+      build_in me keys (Ended cause) = refl
+      build_in me keys Playing =
+          ap (λ (mark : ℤ). if nat_le 5 (machine.made me m - machine.ran m) then (m, Made.Full) else (
+          record m {
+            keys = m.keys ++ keys ∷ [];
+            held = put m.held me (m.held me ++ pressed (m.keys ++ keys ∷ []) mark ∷ []);
+          },
+          Made.Made (machine.made me m),
+          )) (own_mark_same me (machine.made me m))
+
+      pub builds_same : (me keys : ℕ) → ◌≡◌ {A = machine.Node × Made} (on_build by_marks me m keys) (on_build by_worlds me m keys)
+      unfolding on_build
+      builds_same me keys = build_in me keys m.phase
+
+      send_in : (me to : ℕ) (phase : Phase) → ◌≡◌ {A = machine.Node × Option Flight} (on_send_in by_marks me m to phase) (on_send_in by_worlds me m to phase)
+      send_in me to Listening = refl
+      send_in me to Gathering = refl
+      send_in me to Playing = refl
+      send_in me to (Ended cause) = refl
+
+      pub sends_same : (me to : ℕ) → ◌≡◌ {A = machine.Node × Option Flight} (sent_to to by_marks me m) (sent_to to by_worlds me m)
+      unfolding on_send
+      sends_same me to =
+          ap (λ (x : machine.Node × Option Flight). if nat_lt to players then (if me == to then (m, None) else x) else (m, None)) (send_in me to m.phase)
+
+      pub packets_same : (me : ℕ) (flight : Flight) (phase : Phase) (kind : Kind)
+          → ◌≡◌ {A = machine.Node × Heard} (on_packet_in by_marks me m flight phase kind) (on_packet_in by_worlds me m flight phase kind)
+      packets_same me flight (Ended cause) kind = refl
+      packets_same me flight Listening (SetUp settings) = refl
+      packets_same me flight Listening Play = refl
+      packets_same me flight Listening Exit = refl
+      packets_same me flight Gathering (SetUp settings) = refl
+      packets_same me flight Gathering Play = refl
+      packets_same me flight Gathering Exit = refl
+      packets_same me flight Playing (SetUp settings) = refl
+      packets_same me flight Playing Play = refl
+      packets_same me flight Playing Exit = refl
+
+      pub hears_same : (me : ℕ) (flight : Flight) → ◌≡◌ {A = machine.Node × Heard} (on_packet by_marks me m flight) (on_packet by_worlds me m flight)
+      unfolding on_packet
+      hears_same me flight = packets_same me flight m.phase flight.kind
+
+      start_same : (me from : ℕ) (packet : Packet) (phase : Phase) (start : Result ℕ ℕ)
+          → ◌≡◌ {A = machine.Node × Heard} (on_start by_marks me m from packet phase start) (on_start by_worlds me m from packet phase start)
+      start_same me from packet phase (Err number) = refl
+      start_same me from packet phase (Ok start) = packets_same me (flight_in from me (machine.made me m) packet start) phase (kind_in packet)
+
+      player_same : (me from : ℕ) (packet : Packet) (phase : Phase)
+          → ◌≡◌ {A = machine.Node × Heard} (on_player by_marks me m from packet phase) (on_player by_worlds me m from packet phase)
+      player_same me from packet phase = λ i. if is_counted phase (kind_in packet)
+          then start_same me from packet phase (start_in (machine.made me m) packet) i
+          else packets_same me (flight_in from me (machine.made me m) packet 0) phase (kind_in packet) i
+
+      other_same : (me from : ℕ) (packet : Packet)
+          → ◌≡◌ {A = machine.Node × Heard} (on_other by_marks me m from packet m.phase) (on_other by_worlds me m from packet m.phase)
+      other_same me from packet =
+          ap (λ (x : machine.Node × Heard). if is_listening m.phase then (m, Heard.Dropped 13)
+          else (if not (packet.player == from) then (m, Heard.Dropped 5) else (if has_flag packet 1 then (m, Heard.Dropped 9) else x)))
+          (player_same me from packet m.phase)
+
+      read_same : (me from : ℕ) (told : Result Settings SetupFault) (read : Result Packet PacketFault)
+          → ◌≡◌ {A = machine.Node × Heard} (on_read by_marks me m from told read) (on_read by_worlds me m from told read)
+      read_same me from told (Err Short) = refl
+      read_same me from told (Err Many) = refl
+      read_same me from told (Err Length) = refl
+      read_same me from told (Err Sum) = refl
+      read_same me from told (Ok packet) = λ i. if has_flag packet 2 then on_set_up m from told m.phase else other_same me from packet i
+
+      pub received_same : (me from : ℕ) (told : Result Settings SetupFault) (read : Result Packet PacketFault)
+          → ◌≡◌ {A = machine.Node × Heard} (received by_marks me m from told read) (received by_worlds me m from told read)
+      received_same me from told read =
+          ap (λ (x : machine.Node × Heard). if hears_none m.phase m.played then (m, Heard.Dropped 13)
+          else (if not (nat_lt from players) || from == me then (m, Heard.Dropped 5) else x)) (read_same me from told read)
+
+      off_same : first_off by_marks m ≡ first_off by_worlds m
+      off_same = ap (λ (test : ℕ → Bool). if nat_lt 12 (machine.ran m) then lowest players test else None)
+          (λ i p. not (is_absent m p) && not (int_eq (held_at m p (machine.ran m)).mark (own_mark_same p (machine.ran m) i)))
+
+      run_playing : (awaited off : Option ℕ) → ◌≡◌ {A = machine.Node × Ran} (on_run_playing by_marks m awaited off) (on_run_playing by_worlds m awaited off)
+      run_playing (Some awaited) off = refl
+      run_playing None (Some off) = λ i. let should = own_mark_same off (machine.ran m) i in
+          (record m { phase = Ended (Cause.Inconsistent off (held_at m off (machine.ran m)).mark should) }, Ran.Inconsistent off (held_at m off (machine.ran m)).mark should)
+      run_playing None None = refl
+
+      run_in : (phase : Phase) → ◌≡◌ {A = machine.Node × Ran} (on_run_in by_marks m phase) (on_run_in by_worlds m phase)
+      run_in Listening = refl
+      run_in Gathering = refl
+      run_in (Ended cause) = refl
+      run_in Playing =
+          run_playing (lowest players (is_awaited m)) (first_off by_marks m) ∙ ap (on_run_playing by_worlds m (lowest players (is_awaited m))) off_same
+
+      pub runs_same : ◌≡◌ {A = machine.Node × Ran} (on_run by_marks m) (on_run by_worlds m)
+      unfolding on_run
+      runs_same = run_in m.phase

@@ -1,0 +1,4 @@
+pub mod Contents
+pub mod Represents
+pub mod Steps
+pub mod Giving

@@ -1,0 +1,114 @@
+//! One player's node, and what it tells of itself.
+
+ghost use Rattle.std.specs.Prelude.{◌≡◌, nat_lt, if◌then◌else◌, Some, None, IfOk};
+ghost use Rattle.dn_lockstep.specs.Opening.{IsAdmitted};
+ghost use Rattle.dn_lockstep.specs.Rings.{count_of};
+
+mod stepping;
+
+use dn_lockstep::{Config, Lockstep, NodeFault};
+use dn_machine::Phase;
+use dn_setup::Settings;
+use dn_world::World;
+use std::alloc::Global;
+
+/// One player's node. A contract sees it as what it holds, and as the node of the machine that this
+/// represents.
+#[derive(Drop)]
+pub struct Node<W> {
+    lockstep: Lockstep,
+    world: W,
+}
+
+impl<W: World> Node<W> {
+    ghost use Rattle.dn_setup.specs.Settings.{Settings as Choice};
+    ghost use Rattle.dn_demo.specs.Recorded.{capacity};
+    ghost use Rattle.dn_machine.specs.Game.{fresh};
+    ghost use Rattle.dn_machine.specs.Node.{known_end};
+    ghost use Rattle.dn_machine.specs.Worlds.{rules_of};
+    ghost use Rattle.dn_node.specs.Contents.{contents, end_in};
+    ghost use Rattle.dn_node.specs.Represents.{Represents};
+    ghost use Rattle.dn_node.specs.Steps.{Steps};
+
+    /// A node with no history: player 0 gathers, the others listen. All memory that it needs is taken
+    /// here; the world is given up where there is no node.
+    pub fn new(alloc: Global, config: Config, world: W) -> Result<Node<W>, NodeFault>
+        ensures admitted { IsAdmitted config result }
+        ensures opened { IfOk result (λ node. (settings : Choice)
+            → (config.me ≡ 0 → config.settings ≡ Some settings)
+            → Represents W.state (rules_of W.physics config.players config.extra (capacity config.limit config.players)) config.me
+            (contents node) (fresh settings config.me)) }
+        ensures given { IfOk result (λ node. (contents node).world ≡ world) }
+    {
+        let lockstep = Lockstep::new(alloc, config)?;
+        Ok(Node { lockstep, world })
+    }
+
+    /// The number of its player.
+    pub fn me(&self) -> u8
+        ensures { result ≡ (contents self.now).me }
+    {
+        self.lockstep.me()
+    }
+
+    /// Where it stands.
+    pub fn phase(&self) -> Phase
+        ensures { result ≡ (contents self.now).phase }
+    {
+        self.lockstep.phase()
+    }
+
+    /// How many commands it built.
+    pub fn made(&self) -> u32
+        ensures { result ≡ count_of (contents self.now).rings (contents self.now).me }
+    {
+        self.lockstep.made()
+    }
+
+    /// How many tics it ran.
+    pub fn ran(&self) -> u32
+        ensures { result ≡ (contents self.now).ran }
+    {
+        self.lockstep.ran()
+    }
+
+    /// How many commands it has of a player, and None for a number that is no player's.
+    pub fn got(&self, player: u8) -> Option<u32>
+        ensures { result ≡ (if nat_lt player (contents self.now).players
+            then Some (count_of (contents self.now).rings player) else None) }
+    {
+        self.lockstep.got(player)
+    }
+
+    /// The choice of game: the key player's own from the beginning, another's from the start on.
+    pub fn settings(&self) -> Option<Settings>
+        ensures { result ≡ (contents self.now).settings }
+    {
+        self.lockstep.settings()
+    }
+
+    /// Its world.
+    pub fn world(&self) -> &W
+        ensures { result.now ≡ (contents self.now).world }
+    {
+        &self.world
+    }
+
+    /// The tic after a player's last command: of another player once an EXIT packet has told it, and its own
+    /// once it has played and ended. From that tic on no tic has a move of the player.
+    pub fn end(&self, player: u8) -> Option<u32>
+        ensures value { result ≡ (if nat_lt player (contents self.now).players then end_in (contents self.now) player else None) }
+        ensures step { Steps W.state W.physics (contents self.now) (contents self.now)
+            (λ rules me m. (m, if nat_lt player rules.players then known_end me m player else None)) (λ end. result ≡ end) }
+    {
+        self.lockstep.end(player)
+    }
+
+    /// Its demo so far: empty before the start, and closed once a tic without some player was run, or it has
+    /// played and ended. No tic from then on is in it.
+    pub fn demo(&self) -> &[u8]
+        ensures { result.now ≡ (contents self.now).demo.bytes }
+    {
+        self.lockstep.demo()
+    }
+}

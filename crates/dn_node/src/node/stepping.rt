@@ -1,0 +1,138 @@
+//! What a node does.
+
+ghost use Rattle.std.specs.Prelude.{◌≡◌, ◌≢◌, ◌<◌, ℕ, pos, true, false, get_or, Result, Some, None, IfSome};
+ghost use Rattle.std.specs.Option.{option_map};
+ghost use Rattle.dn_packet.specs.declared.packet.Packet.{Packet};
+ghost use Rattle.dn_packet.specs.declared.packet.PacketFault.{PacketFault};
+ghost use Rattle.dn_packet.specs.Read.{IsReadAs};
+ghost use Rattle.dn_packet.specs.Text.{text};
+ghost use Rattle.dn_setup.specs.Settings.{Settings};
+ghost use Rattle.dn_setup.specs.Starts.{start_of};
+ghost use Rattle.dn_setup.specs.declared.setup.SetupFault.{SetupFault};
+ghost use Rattle.dn_machine.specs.declared.answers.Heard.TheVariants.{Started, Dropped};
+ghost use Rattle.dn_machine.specs.declared.answers.Made.TheVariants as Made;
+ghost use Rattle.dn_machine.specs.declared.answers.Ran.TheVariants as Ran;
+ghost use Rattle.dn_machine.specs.Flight.{Flight, packet_of, is_near};
+ghost use Rattle.dn_machine.specs.Hearing.{on_packet};
+ghost use Rattle.dn_lockstep.specs.Near.{IsFair};
+ghost use Rattle.dn_lockstep.specs.Received.{received, IsTold};
+ghost use Rattle.dn_lockstep.specs.Rings.{count_of};
+ghost use Rattle.dn_lockstep.specs.Rows.{seats_of};
+ghost use Rattle.dn_lockstep.specs.Sent.{sent_to, aim_of, bytes_of};
+
+use super::Node;
+use arrayvec::ArrayVec;
+use dn_lockstep::Aim;
+use dn_machine::{Heard, Made, Ran};
+use dn_tic::Keys;
+use dn_world::World;
+
+impl<W: World> Node<W> {
+    ghost use Rattle.dn_machine.specs.Building.{on_build};
+    ghost use Rattle.dn_machine.specs.Running.{on_run, on_quit};
+    ghost use Rattle.dn_node.specs.Contents.{contents, locked};
+    ghost use Rattle.dn_node.specs.Giving.{Reaches, Gives};
+    ghost use Rattle.dn_node.specs.Steps.{Steps};
+
+    /// Builds the command of these keys for the next tic. A node that builds none stays as it is.
+    pub fn build(&mut self, keys: Keys) -> Made
+        ensures step { Steps W.state W.physics (contents self.old) (contents self.new)
+            (λ rules me m. on_build rules me m keys) (λ made. result ≡ made) }
+        ensures full { result ≡ Made.Full → contents self.new ≡ contents self.old }
+        ensures idle { result ≡ Made.NotPlaying → contents self.new ≡ contents self.old }
+        ensures world { (contents self.new).world ≡ (contents self.old).world }
+    {
+        self.lockstep.build(keys)
+    }
+
+    /// The exact numbers of the packet that `packet` would give now.
+    pub fn aim(&self, to: u8) -> Option<Aim>
+        ensures step { Steps W.state W.physics (contents self.now) (contents self.now)
+            (λ rules me m. (m, (sent_to to rules me m).1)) (λ flight. result ≡ option_map aim_of flight) }
+        ensures reach { IfSome result (λ aim. Reaches (contents self.now) aim × Gives (contents self.now) to) }
+    {
+        self.lockstep.aim(to)
+    }
+
+    /// The next packet to a peer; None for the node itself, for a number that is no player's, and where
+    /// the node has nothing to give. A node that has played and ended gives one whenever it is asked.
+    pub fn packet(&mut self, to: u8) -> Option<ArrayVec<u8, 104>>
+        ensures step { Steps W.state W.physics (contents self.old) (contents self.new)
+            (λ rules me m. sent_to to rules me m)
+            (λ flight. option_map (λ bytes. bytes.items) result ≡ option_map bytes_of flight) }
+        ensures fair { Steps W.state W.physics (contents self.old) (contents self.new)
+            (λ rules me m. sent_to to rules me m) (λ flight. IfSome flight IsFair) }
+        ensures idle { result ≡ None → contents self.new ≡ contents self.old }
+        ensures world { (contents self.new).world ≡ (contents self.old).world }
+    {
+        self.lockstep.packet(to)
+    }
+
+    /// Hears a datagram of this player. A datagram that is dropped changes nothing.
+    pub fn receive(&mut self, from: u8, bytes: &[u8]) -> Heard
+        ensures any { (read : Result Packet PacketFault) (told : Result Settings SetupFault)
+            → IsReadAs bytes.now read → IsTold read told
+            → Steps W.state W.physics (contents self.old) (contents self.new)
+            (λ rules me m. received rules me m from told read) (λ heard. result ≡ heard) }
+        ensures near { (flight : Flight) → IsFair flight → bytes.now ≡ text (packet_of flight) → flight.from ≡ from
+            → from < (contents self.old).players → from ≢ (contents self.old).me
+            → is_near (count_of (contents self.old).rings (contents self.old).me) flight ≡ true
+            → Steps W.state W.physics (contents self.old) (contents self.new)
+            (λ rules me m. on_packet rules me m flight) (λ heard. result ≡ heard) }
+        ensures dropped { (number : ℕ) → result ≡ Dropped number → contents self.new ≡ contents self.old }
+        ensures world { result ≢ Started → (contents self.new).world ≡ (contents self.old).world }
+    {
+        let heard = self.lockstep.receive(from, bytes);
+        if let Heard::Started = heard {
+            self.begin();
+        }
+        heard
+    }
+
+    /// Begins its world, as its settings say.
+    fn begin(&mut self)
+        ensures rest { locked (contents self.new) ≡ locked (contents self.old) }
+        ensures begun { (settings : Settings) → (contents self.old).settings ≡ Some settings
+            → W.state (contents self.new).world
+            ≡ W.physics.begin (start_of settings) (seats_of (contents self.old).players) }
+    {
+        // who has started has settings
+        if let Some(settings) = self.lockstep.settings() {
+            self.world.begin(&settings.start(), self.lockstep.present());
+        }
+    }
+
+    /// Runs the next tic (`d_net.c`, TryRunTics; `g_game.c`, G_Ticker), where no mark is off and the command of
+    /// every player is there who has not left by then. A node that waits stays as it is.
+    pub fn run(&mut self) -> Ran
+        ensures step { Steps W.state W.physics (contents self.old) (contents self.new)
+            (λ rules me m. on_run rules m) (λ ran. result ≡ ran) }
+        ensures waits { (player : ℕ) → result ≡ Ran.Waiting player → contents self.new ≡ contents self.old }
+        ensures idle { result ≡ Ran.NotPlaying → contents self.new ≡ contents self.old }
+    {
+        let marks = self.marks();
+        let (ran, row) = self.lockstep.run(&marks);
+        if let Some(row) = row {
+            self.world.step(&row);
+        }
+        ran
+    }
+
+    /// Each player's mark in its world.
+    fn marks(&self) -> [i16; 4]
+        ensures { (player : ℕ) → player < 4
+            → get_or result player (pos 0) ≡ W.physics.mark (W.state (contents self.now).world) player }
+    {
+        [self.world.mark(0), self.world.mark(1), self.world.mark(2), self.world.mark(3)]
+    }
+
+    /// Ends the node, and answers whether it had not ended.
+    pub fn quit(&mut self) -> bool
+        ensures step { Steps W.state W.physics (contents self.old) (contents self.new)
+            (λ rules me m. on_quit m) (λ quit. result ≡ quit) }
+        ensures idle { result ≡ false → contents self.new ≡ contents self.old }
+        ensures world { (contents self.new).world ≡ (contents self.old).world }
+    {
+        self.lockstep.quit()
+    }
+}
