@@ -26,9 +26,9 @@ use Rattle.std.proofs.lemmas.Bool.{eq-eqb}
 use Rattle.dn_node.specs.Contents as node
 use Rattle.dn_node.specs.Contents.{end_in}
 use Rattle.dn_node.specs.Represents as node_to
-use Rattle.dn_node.specs.Represents.{demo_with, is_demo_closed}
-use Rattle.dn_node.specs.Rows.{seats_of}
-use Rattle.dn_node.proofs.Counting as counting
+use Rattle.dn_lockstep.specs.Represents.{demo_with, is_demo_closed}
+use Rattle.dn_lockstep.specs.Rows.{seats_of}
+use Rattle.dn_lockstep.proofs.Counting as counting
 use Rattle.dn_machine.specs.declared.events.Done.{Done}
 use Rattle.dn_machine.specs.declared.events.Event.{Event}
 use Rattle.dn_machine.specs.declared.events.Refusal.{Refusal}
@@ -61,7 +61,7 @@ commands_prefix rows more (rest, whole) =
 module _ {W S : Type 0} (state : W → S) (rules : Rules S) (settings : Settings) (me : ℕ) (n : node.Contents W) (m : machine.Node)
     (r : node_to.Represents state rules me n m) where
   unplayed : m.played ≡ false → n.demo.bytes ≡ []
-  unplayed not = r.demo ∙ ap (λ (b : Bool). if b then demo_with rules me m m.settings else []) not
+  unplayed not = r.lockstep.demo ∙ ap (λ (b : Bool). if b then demo_with rules me m m.settings else []) not
 
   started : HasStarted n → m.played ≡ true
   started has = go m.played refl
@@ -73,7 +73,7 @@ module _ {W S : Type 0} (state : W → S) (rules : Rules S) (settings : Settings
   played_bytes : m.played ≡ true → m.settings ≡ Some settings
       → n.demo.bytes ≡ demo_text long_tics (start_of settings) me (seats_of rules.players) (demo_rows rules m) (is_demo_closed rules m)
   played_bytes played known =
-      r.demo ∙ ap (λ (b : Bool). if b then demo_with rules me m m.settings else []) played ∙ ap (demo_with rules me m) known
+      r.lockstep.demo ∙ ap (λ (b : Bool). if b then demo_with rules me m m.settings else []) played ∙ ap (demo_with rules me m) known
 
   starts : m.played ≡ true → m.settings ≡ Some settings → HasStarted n
   unfolding demo_text
@@ -98,7 +98,7 @@ module _ {W S : Type 0} (state : W → S) (rules : Rules S) (settings : Settings
       go false e = inl (ap (commands_in (is_closed n.demo.stage)) (unplayed e) ∙ none (is_closed n.demo.stage))
       go true e =
           inr (ap (commands_in (is_closed n.demo.stage)) (played_bytes e (known e))
-          ∙ ap (λ (b : Bool). commands_in b (demo_text long_tics (start_of settings) me (seats_of rules.players) (demo_rows rules m) (is_demo_closed rules m))) (r.closed e)
+          ∙ ap (λ (b : Bool). commands_in b (demo_text long_tics (start_of settings) me (seats_of rules.players) (demo_rows rules m) (is_demo_closed rules m))) (r.lockstep.closed e)
           ∙ recorded_rows (is_demo_closed rules m) (start_of settings) me rules.players (demo_rows rules m))
 
 -- two nodes' demos
@@ -130,32 +130,32 @@ module _ {W S : Type 0} (state : W → S) (rules : Rules S) (settings : Settings
   has : (i player : ℕ) (n : node.Contents W) → HasNode g i n → player < rules.players → got n player ≡ machine.got (m.nodes i) player
   has i player n at below =
       let s = shown i n at in
-      counting.got_is state rules i n (m.nodes i) s player (omega (arith, below, s.players))
+      counting.got_is rules i (node.locked n) (m.nodes i) s.lockstep player (omega (arith, below, s.lockstep.players))
 
   makes : (i : ℕ) (n : node.Contents W) → HasNode g i n → made n ≡ machine.made i (m.nodes i)
-  makes i n at = let s = shown i n at in ap (got n) s.number ∙ has i i n at (inside i n at)
+  makes i n at = let s = shown i n at in ap (got n) s.lockstep.number ∙ has i i n at (inside i n at)
 
   plays : (i : ℕ) (n : node.Contents W) → HasNode g i n → n.phase ≡ Playing → n.played ≡ true
   plays i n (one, there, is) phase =
       let P : node.Contents W → Type 0 = λ x. x.phase ≡ Playing → x.played ≡ true in
-      subst P (sym is) one.plays phase
+      subst P (sym is) one.lockstep.plays phase
 
   most_run : (i : ℕ) (n : node.Contents W) → HasNode g i n → n.ran ≤ tic_limit
   most_run i n (one, there, is) =
       let P : node.Contents W → Type 0 = λ x. x.ran ≤ tic_limit in
-      subst P (sym is) one.ran_fits
+      subst P (sym is) one.lockstep.ran_fits
 
   -- who has not ended
   playing_on : (i : ℕ) (n : node.Contents W) → HasNode g i n → is_ended n.phase ≡ false → is_ended (m.nodes i).phase ≡ false
-  playing_on i n at on = ap is_ended (sym (shown i n at).phase) ∙ on
+  playing_on i n at on = ap is_ended (sym (shown i n at).lockstep.phase) ∙ on
 
   -- a player's end as a node knows it
   end_is : (i player : ℕ) (n : node.Contents W) → HasNode g i n → player < rules.players → end_in n player ≡ known_end i (m.nodes i) player
   end_is i player n at below =
       let s = shown i n at in
       let made_is = makes i n at in
-      let peer = s.peers player below in
-      λ k. if player == s.number k then (if s.played k && is_ended (s.phase k) then Some (made_is k) else None) else (peer k).end
+      let peer = s.lockstep.peers player below in
+      λ k. if player == s.lockstep.number k then (if s.lockstep.played k && is_ended (s.lockstep.phase k) then Some (made_is k) else None) else (peer k).end
 
   -- and as the player's own node does
   own : (j : ℕ) (left : Bool) → has_left (m.nodes j) ≡ left → known_end j (m.nodes j) j ≡ (if left then Some (machine.made j (m.nodes j)) else None)
@@ -178,24 +178,24 @@ module _ {W S : Type 0} (state : W → S) (rules : Rules S) (settings : Settings
       record {
         playing = λ i n at phase.
             let s = shown i n at in
-            let played = sym s.played ∙ plays i n at phase in
+            let played = sym s.lockstep.played ∙ plays i n at phase in
             starts state rules settings i n (m.nodes i) s played (agree.settings_same i (inside i n at) played);
         worlds = λ i n at has_started.
             let s = shown i n at in
             let played = started state rules settings i n (m.nodes i) s has_started in
             let below = inside i n at in
             world_is state rules settings i n (m.nodes i) s played (agree.settings_same i below played)
-            ∙ agree.worlds i below ∙ ap (world rules settings (keys_of m)) (sym s.ran);
+            ∙ agree.worlds i below ∙ ap (world rules settings (keys_of m)) (sym s.lockstep.ran);
         settings_same = λ i n at has_started.
             let s = shown i n at in
-            s.settings ∙ agree.settings_same i (inside i n at) (started state rules settings i n (m.nodes i) s has_started);
+            s.lockstep.settings ∙ agree.settings_same i (inside i n at) (started state rules settings i n (m.nodes i) s has_started);
         demos = λ i j n k at to.
             two_demos _ _ (demo_rows rules (m.nodes i)) (demo_rows rules (m.nodes j))
             (recorded_is state rules settings i n (m.nodes i) (shown i n at) (agree.settings_same i (inside i n at)))
             (recorded_is state rules settings j k (m.nodes j) (shown j k to) (agree.settings_same j (inside j k to)))
             (agree.demos i j (inside i n at) (inside j k to));
         consistent = λ i player was should n at e.
-            steady.consistent i player was should (inside i n at) (sym (shown i n at).phase ∙ e);
+            steady.consistent i player was should (inside i n at) (sym (shown i n at).lockstep.phase ∙ e);
         ends = λ i j end n k at to e.
             let told = agree.ends i j end (inside i n at) (inside j k to) (sym (end_is i j n at (inside j k to)) ∙ e) in
             (own_end j k to told.0 ∙ ap (λ x. Some x) (sym told.1), told.1 ∙ sym (makes j k to));
@@ -203,19 +203,19 @@ module _ {W S : Type 0} (state : W → S) (rules : Rules S) (settings : Settings
             agree.ends_same i j player a b (inside i n at) (inside j k to) (inside player p of)
             (sym (end_is i player n at (inside player p of)) ∙ e) (sym (end_is j player k to (inside player p of)) ∙ f);
         run = λ i j n k at to.
-            let s = (shown i n at).ran in
+            let s = (shown i n at).lockstep.ran in
             let h = has i j n at (inside j k to) in
             let f = fits.run i j (inside i n at) (inside j k to) in
             let until : unwrap_or (end_in k j) n.ran ≡ end_or m j (machine.ran (m.nodes i)) = end_until j k to n.ran ∙ ap (end_or m j) s in
             omega (arith, s, h, f, until);
         unread = λ i player n at below.
-            let s = (shown i n at).ran in let h = has i player n at below in let f = fits.unread i player (inside i n at) below in omega (arith, s, h, f);
+            let s = (shown i n at).lockstep.ran in let h = has i player n at below in let f = fits.unread i player (inside i n at) below in omega (arith, s, h, f);
         held = λ i j n k at to.
             let h = has i j n at (inside j k to) in let b = makes j k to in let f = fits.held i j (inside i n at) (inside j k to) in omega (arith, h, b, f);
         unheard = λ i j n k at to on.
             let h = has i j n at (inside j k to) in let b = makes j k to in let f = fits.unheard i j (inside i n at) (inside j k to) (playing_on i n at on) in omega (arith, h, b, f);
         ahead = λ i n at.
-            let s = (shown i n at).ran in let b = makes i n at in let f = fits.ahead i (inside i n at) in omega (arith, s, b, f);
+            let s = (shown i n at).lockstep.ran in let b = makes i n at in let f = fits.ahead i (inside i n at) in omega (arith, s, b, f);
         close = λ i j n k at to on.
             let a = makes i n at in let b = makes j k to in let f = fits.close i j (inside i n at) (inside j k to) (playing_on j k to on) in omega (arith, a, b, f);
         most = λ i n at. most_run i n at;

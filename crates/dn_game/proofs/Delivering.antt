@@ -14,8 +14,8 @@ use Rattle.dn_machine.specs.Node.{made}
 use Rattle.dn_machine.specs.Worlds.{Rules, rules_of}
 use Rattle.dn_node.specs.declared.node.Node.{Node}
 use Rattle.dn_node.specs.Contents as node
-use Rattle.dn_node.specs.Near.{IsFair}
-use Rattle.dn_node.specs.Rings.{count_of}
+use Rattle.dn_lockstep.specs.Near.{IsFair}
+use Rattle.dn_lockstep.specs.Rings.{count_of}
 use Rattle.dn_node.specs.Steps as step
 use Rattle.dn_node.specs.Steps.{Steps}
 use Rattle.dn_game.specs.declared.flight.Flight.{Flight}
@@ -39,8 +39,8 @@ delivers_to {W} {S} state rules g m which flight to n heard r there is below aft
 -- a node hears the packets of near flights exactly
 abbrev pub Hears : {W S : Type 0} → (W → S) → Physics S → Node W → Node W → ℕ → List ℕ → Heard → Type 0
 Hears state physics old new from bytes heard =
-    (flight : exact.Flight) → IsFair flight → bytes ≡ text (packet_of flight) → flight.from ≡ from → from < old.players → from ≢ old.me
-    → is_near (count_of (node.contents old).rings old.me) flight ≡ true
+    (flight : exact.Flight) → IsFair flight → bytes ≡ text (packet_of flight) → flight.from ≡ from → from < (node.contents old).players → from ≢ (node.contents old).me
+    → is_near (count_of (node.contents old).rings (node.contents old).me) flight ≡ true
     → Steps state physics (node.contents old) (node.contents new) (λ rules me m. on_packet rules me m flight) (λ x. heard ≡ x)
 
 pub delivers : {W S : Type 0} (state : W → S) (physics : Physics S) (players : ℕ) (extra : Bool) (capacity : ℕ) (g : Contents W) (m : machine.Game)
@@ -59,10 +59,10 @@ delivers state physics players extra capacity g m r which f below read free to o
     let comes : f.from ≡ flight.from = ap (λ (x : Flight). x.from) at.1.is in
     let inside : to < length g.nodes = let a = at.1.carried.to in omega (arith, a, goes, r.players) in
     let shown = node_at state rules g m r to old inside is_old in
-    let same : count_of (node.contents old).rings old.me ≡ count_of (node.contents old).rings old.me = refl in
+    let same : count_of (node.contents old).rings (node.contents old).me ≡ count_of (node.contents old).rings (node.contents old).me = refl in
     let count = made_at state rules g m r to _ old inside is_old same ∙ ap (λ (k : ℕ). made k (m.nodes k)) goes in
     delivers_to state rules g m which flight to new heard r at.1.there goes inside
     (hears flight at.1.carried.fair (is_bytes ∙ ap (λ (x : Flight). x.bytes.items) at.1.is) (sym comes)
-    (let a = at.1.carried.from in omega (arith, a, comes, shown.players)) (λ e. at.1.carried.apart (sym comes ∙ e ∙ shown.number ∙ goes))
+    (let a = at.1.carried.from in omega (arith, a, comes, shown.lockstep.players)) (λ e. at.1.carried.apart (sym comes ∙ e ∙ shown.lockstep.number ∙ goes))
     (ap (λ (k : ℕ). is_near k flight) count ∙ near_unless m which flight at.1.there free)
     players extra capacity to (m.nodes to) shown)

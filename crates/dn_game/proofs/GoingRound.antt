@@ -10,7 +10,7 @@ use Rattle.dn_game.specs.Contents.{Contents}
 use Rattle.dn_game.specs.Represents.{Represents}
 use Rattle.std.specs.Option.{option_map}
 use Rattle.dn_machine.specs.Node.{lowest}
-use Rattle.dn_node.proofs.Lowest.{lowest_past, lowest_found, lowest_same}
+use Rattle.dn_lockstep.proofs.Lowest.{lowest_past, lowest_found, lowest_same}
 use Rattle.dn_game.specs.Schedule.{first_moving}
 
 module _ (players from : ℕ) (stopped : ℕ → Bool) where

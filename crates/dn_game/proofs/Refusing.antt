@@ -13,8 +13,8 @@ use Rattle.dn_machine.specs.declared.events.Event.TheVariants.{Build, Send, Run,
 use Rattle.dn_machine.specs.declared.events.Refusal.{Refusal}
 use Rattle.dn_node.specs.declared.node.Node.{Node}
 use Rattle.dn_node.specs.Contents as node
-use Rattle.dn_node.specs.Rings.{count_of}
-use Rattle.dn_node.specs.Sent.{aim_of}
+use Rattle.dn_lockstep.specs.Rings.{count_of}
+use Rattle.dn_lockstep.specs.Sent.{aim_of}
 use Rattle.dn_game.specs.declared.flight.Flight.{Flight}
 use Rattle.dn_game.specs.Contents.{Contents}
 use Rattle.dn_game.specs.Represents.{Represents}

@@ -17,15 +17,15 @@ use Rattle.dn_machine.specs.Node as machine_node
 use Rattle.dn_machine.specs.Sending.{on_send, on_send_in, set_up_flight}
 use Rattle.dn_machine.specs.Worlds.{Rules}
 use Rattle.dn_node.specs.declared.node.Node.{Node}
-use Rattle.dn_node.specs.declared.node.sending.Aim.{Aim}
+use Rattle.dn_lockstep.specs.declared.lockstep.sending.Aim.{Aim}
 use Rattle.dn_node.specs.Contents as node
 use Rattle.dn_node.specs.Giving.{Gives}
-use Rattle.dn_node.specs.Near.{IsFair}
+use Rattle.dn_lockstep.specs.Near.{IsFair}
 use Rattle.dn_node.specs.Represents as node_to
-use Rattle.dn_node.specs.Sent.{sent_to, aim_of, bytes_of}
+use Rattle.dn_lockstep.specs.Sent.{sent_to, aim_of, bytes_of}
 use Rattle.dn_node.specs.Steps as step
-use Rattle.dn_node.proofs.Giving.{some_flight}
-use Rattle.dn_node.proofs.Sending.{sends_in}
+use Rattle.dn_lockstep.proofs.Giving.{some_flight}
+use Rattle.dn_lockstep.proofs.Sending.{sends_in}
 use Rattle.dn_game.specs.declared.flight.Flight.{Flight}
 use Rattle.dn_game.specs.Applied.{IsAfter}
 use Rattle.dn_game.specs.Contents.{Contents}
@@ -61,7 +61,7 @@ module _ {S : Type 0} (rules : Rules S) (me to : ℕ) (m : machine_node.Node) wh
 module _ {W S : Type 0} (state : W → S) (rules : Rules S) (me to : ℕ) (n : node.Contents W) (m : machine_node.Node) where
   given_between : node_to.Represents state rules me n m → Gives n to → (given : exact.Flight) → (sent_to to rules me m).1 ≡ Some given → IsBetween me to given
   given_between r gives given e =
-      let sends = sends_in state rules me n m to m.phase r gives.below gives.other r.phase in
+      let sends = sends_in rules me (node.locked n) m to m.phase r.lockstep gives.below gives.other r.lockstep.phase in
       between_in rules me to m m.phase given (sym (ap (λ (x : machine_node.Node × Option exact.Flight). x.1) sends) ∙ e)
 
   carries : node_to.Represents state rules me n m → Gives n to → (given : exact.Flight) → (sent_to to rules me m).1 ≡ Some given → me < rules.players
@@ -70,8 +70,8 @@ module _ {W S : Type 0} (state : W → S) (rules : Rules S) (me to : ℕ) (n : n
       let ends = given_between r gives given e in
       record {
         from = let is = ends.0 in omega (arith, is, mine);
-        to = let is = ends.1 in omega (arith, is, gives.below, r.players);
-        apart = λ is. gives.other (sym ends.1 ∙ sym is ∙ ends.0 ∙ sym r.number);
+        to = let is = ends.1 in omega (arith, is, gives.below, r.lockstep.players);
+        apart = λ is. gives.other (sym ends.1 ∙ sym is ∙ ends.0 ∙ sym r.lockstep.number);
         fair = fair;
       }
 

@@ -9,9 +9,9 @@ use Rattle.dn_machine.specs.Worlds.{Rules}
 use Rattle.dn_node.specs.declared.node.Node.{Node}
 use Rattle.dn_node.specs.Contents as node
 use Rattle.dn_node.specs.Represents as node_to
-use Rattle.dn_node.specs.Rings.{count_of}
-use Rattle.dn_node.proofs.Counting.{made_is}
-use Rattle.dn_node.proofs.Giving.{some_flight}
+use Rattle.dn_lockstep.specs.Rings.{count_of}
+use Rattle.dn_lockstep.proofs.Counting.{made_is}
+use Rattle.dn_lockstep.proofs.Giving.{some_flight}
 use Rattle.dn_game.specs.declared.flight.Flight.{Flight}
 use Rattle.dn_game.specs.Contents.{Contents}
 use Rattle.dn_game.specs.Represents.{Represents, IsCarried, flight_of}
@@ -32,7 +32,7 @@ module _ {W S : Type 0} (state : W → S) (rules : Rules S) (g : Contents W) (m 
   -- and has made as many commands
   pub made_at : (i count : ℕ) (n : Node W) → i < length g.nodes → n ≡ slice_index_or g.nodes i n
       → count ≡ count_of (node.contents n).rings (node.contents n).me → count ≡ made i (m.nodes i)
-  made_at i count n h is c = c ∙ made_is state rules i (node.contents n) (m.nodes i) (node_at i n h is) n.me_below
+  made_at i count n h is c = c ∙ made_is rules i (node.locked (node.contents n)) (m.nodes i) (node_at i n h is).lockstep n.lockstep.me_below
 
   -- a packet that was sent is that of a flight
   pub flight_at : (flights : List Flight) → flights ≡ g.flights → (which : ℕ) (f : Flight) → which < length flights → f ≡ slice_index_or flights which f

@@ -12,7 +12,7 @@ use Rattle.dn_machine.specs.Worlds.{Rules, world}
 use Rattle.dn_node.specs.declared.node.Node.{Node}
 use Rattle.dn_node.specs.Contents as node
 use Rattle.dn_node.specs.Contents.{end_in}
-use Rattle.dn_node.specs.Rings.{count_of}
+use Rattle.dn_lockstep.specs.Rings.{count_of}
 use Rattle.dn_game.specs.Contents.{Contents}
 
 -- a node that has started has a demo

@@ -3,8 +3,8 @@ use Rattle.std.specs.Prelude.{ℕ, ◌==◌, if◌then◌else◌, Some, None, Re
 use Rattle.dn_demo.specs.Recorded.{IsLimit, capacity}
 use Rattle.dn_world.specs.Physics.{Physics}
 use Rattle.dn_machine.specs.Worlds.{Rules, rules_of}
-use Rattle.dn_node.specs.declared.config.Config.{Config}
-use Rattle.dn_node.specs.Opening.{IsGame}
+use Rattle.dn_lockstep.specs.declared.config.Config.{Config}
+use Rattle.dn_lockstep.specs.Opening.{IsGame}
 use Rattle.dn_game.specs.declared.config.GameConfig.{GameConfig}
 use Rattle.dn_game.specs.declared.config.GameFault.{GameFault}
 use Rattle.dn_game.specs.declared.config.GameFault.TheVariants.{Players, Limit, Memory}

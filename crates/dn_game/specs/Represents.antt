@@ -5,9 +5,9 @@ use Rattle.dn_machine.specs.Game as machine
 use Rattle.dn_machine.specs.Worlds.{Rules}
 use Rattle.dn_node.specs.declared.node.Node.{Node}
 use Rattle.dn_node.specs.Contents as node
-use Rattle.dn_node.specs.Near.{IsFair}
+use Rattle.dn_lockstep.specs.Near.{IsFair}
 use Rattle.dn_node.specs.Represents as node_to
-use Rattle.dn_node.specs.Sent.{aim_of, bytes_of}
+use Rattle.dn_lockstep.specs.Sent.{aim_of, bytes_of}
 use Rattle.dn_game.specs.declared.flight.Flight.{Flight}
 use Rattle.dn_game.specs.Contents.{Contents}
 

@@ -2,7 +2,7 @@
 
 ghost use Rattle.std.specs.Prelude.{◌≡◌, not};
 ghost use Rattle.dn_machine.specs.Flight.{Flight as Exact, is_close, is_near};
-ghost use Rattle.dn_node.specs.Sent.{aim_of};
+ghost use Rattle.dn_lockstep.specs.Sent.{aim_of};
 
 use arrayvec::ArrayVec;
 use dn_node::Aim;

@@ -4,7 +4,7 @@ use Rattle.std.proofs.Common.{◌≡◌, ◌<◌, ◌≤◌, ◌+◌, ◌-◌, �
 use Rattle.std.specs.Fmt.{signed_decimal}
 use borrow.Author.Tests.{ltb-true}
 use Rattle.dn_ring.specs.Ring.{Ring}
-use Rattle.dn_node.specs.Rings.{count_of}
+use Rattle.dn_lockstep.specs.Rings.{count_of}
 use Rattle.dn_netgame.specs.NodeLines.{counts_from}
 
 -- the count of the first player, and those of the others

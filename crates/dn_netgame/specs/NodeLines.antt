@@ -6,7 +6,7 @@ use Rattle.dn_machine.specs.declared.answers.Cause.TheVariants.{Quit, Full, Inco
 use Rattle.dn_machine.specs.declared.answers.Phase.{Phase}
 use Rattle.dn_machine.specs.declared.answers.Phase.TheVariants.{Listening, Gathering, Playing, Ended}
 use Rattle.dn_node.specs.Contents.{Contents}
-use Rattle.dn_node.specs.Rings.{count_of}
+use Rattle.dn_lockstep.specs.Rings.{count_of}
 use Rattle.dn_netgame.specs.Fields.{labelled}
 
 -- where a node stands, in words

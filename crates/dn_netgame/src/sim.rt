@@ -3,7 +3,7 @@
 ghost use Rattle.std.specs.Prelude.{◌≡◌, ◌≢◌, ◌+◌, ◌++◌, Err, IfOk, IfErr, MatchResult};
 ghost use Rattle.std.specs.String.{string_bytes};
 ghost use Rattle.dn_demo.specs.Recorded.{IsLimit};
-ghost use Rattle.dn_node.specs.Opening.{IsGame};
+ghost use Rattle.dn_lockstep.specs.Opening.{IsGame};
 ghost use Rattle.dn_game.specs.Script.{size_limit};
 ghost use Rattle.dn_netgame.specs.GameLines.{IsGameShown};
 ghost use Rattle.dn_netgame.specs.Shown.{Shows, ShowsFront};

@@ -3,7 +3,7 @@
 ghost use Rattle.std.specs.Prelude.{◌≡◌, ◌≢◌, Err, IfOk, IfErr};
 ghost use Rattle.std.specs.String.{string_bytes};
 ghost use Rattle.dn_demo.specs.Recorded.{IsLimit};
-ghost use Rattle.dn_node.specs.Opening.{IsGame};
+ghost use Rattle.dn_lockstep.specs.Opening.{IsGame};
 ghost use Rattle.dn_netgame.specs.Shown.{Prints, PrintsFront};
 ghost use Rattle.dn_netgame.specs.StormLines.{IsStorm};
 ghost use Rattle.dn_netgame.specs.declared.fault.RunFault.{RunFault};

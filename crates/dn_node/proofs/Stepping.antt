@@ -15,6 +15,10 @@ use Rattle.dn_node.specs.Steps.{Steps, IsAfter}
 use Rattle.dn_node.proofs.Beside.{IsBeside}
 use Rattle.dn_node.proofs.Transfer.{marking_of, by_marks, by_worlds, to_marks, to_worlds}
 
+pub along : {W S : Type 0} {state : W → S} {rules : Rules S} {me : ℕ} {n : Contents W} {m next : machine.Node}
+    → m ≡ next → Represents state rules me n next → Represents state rules me n m
+along {state = state} {rules = rules} {me = me} {n = n} e r = let P : machine.Node → Type 0 = λ x. Represents state rules me n x in subst P (sym e) r
+
 -- the world of a node is as good for one that has run the same rows
 pub beside_world : {W S : Type 0} (state : W → S) (rules : Rules S) (me : ℕ) (old : Contents W) (m : machine.Node) → Represents state rules me old m
     → (world : W) → world ≡ old.world → (after : machine.Node) → IsBeside m after → after.played ≡ true

@@ -2,7 +2,7 @@
 
 ghost use Rattle.std.specs.Prelude.{IfSome};
 ghost use Rattle.dn_demo.specs.Recorded.{IsLimit};
-ghost use Rattle.dn_node.specs.Opening.{IsGame};
+ghost use Rattle.dn_lockstep.specs.Opening.{IsGame};
 
 use clap::{Arg, ArgAction, ArgMatches, Command, value_parser};
 use dn_demo::is_limit;

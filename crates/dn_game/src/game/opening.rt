@@ -1,7 +1,7 @@
 //! How a game is made.
 
 ghost use Rattle.std.specs.Prelude.{◌≡◌, length, IfOk, IfErr};
-ghost use Rattle.dn_node.specs.Opening.{IsGame};
+ghost use Rattle.dn_lockstep.specs.Opening.{IsGame};
 ghost use Rattle.dn_game.specs.Opening.{IsAdmitted, config_of, rules_in};
 ghost use Rattle.dn_game.specs.Fresh.{AreFresh, worlds_of};
 

@@ -3,9 +3,9 @@ use Rattle.std.specs.Prelude.{is_ok}
 use Rattle.std.proofs.lemmas.List.{length-set}
 use Rattle.dn_machine.specs.declared.events.Done.{Done}
 use Rattle.dn_machine.specs.Worlds.{rules_of}
-use Rattle.dn_node.specs.Sent.{aim_of, bytes_of}
-use Rattle.dn_node.proofs.After.{along}
-use Rattle.dn_node.proofs.Giving.{none_sent, no_flight}
+use Rattle.dn_lockstep.specs.Sent.{aim_of, bytes_of}
+use Rattle.dn_node.proofs.Stepping.{along}
+use Rattle.dn_lockstep.proofs.Giving.{none_sent, no_flight}
 use Rattle.dn_game.proofs.Sending.{sends_none, sends_packet, still_below, took_one}
 use Rattle.dn_game.proofs.Standing.{node_at}
 use Rattle.dn_game.proofs.game.Game.send.Goals as goal
