@@ -17,3 +17,6 @@ pub use config::{Config, NodeFault};
 pub use dn_machine::{Cause, Heard, Made, Phase, Ran};
 pub use lockstep::Lockstep;
 pub use lockstep::sending::Aim;
+
+#[cfg(test)]
+mod tests;

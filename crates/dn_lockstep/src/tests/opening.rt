@@ -1,0 +1,98 @@
+//! Tests of how a node is made, and of why there is none.
+
+use super::{LIMIT, choice, run};
+use crate::{Config, Made, Lockstep, NodeFault, Phase, Ran};
+use dn_setup::Settings;
+use dn_tic::Keys;
+use std::test::Fail;
+
+fn config(players: u8, me: u8, limit: u32, settings: Option<Settings>) -> Config {
+    Config {
+        players,
+        me,
+        extra: false,
+        limit,
+        settings,
+    }
+}
+
+/// Each row has every later fault too, or none.
+#[test]
+fn the_first_fault_is_told(rt: HostRuntime) -> Result<(), Fail> {
+    let some = Some(choice()?);
+    for (players, me, settings, limit, fault) in [
+        (0, 0, None, 0, NodeFault::Players),
+        (1, 1, some, 1_023, NodeFault::Players),
+        (1, 0, some, LIMIT, NodeFault::Players),
+        (5, 5, some, 1_023, NodeFault::Players),
+        (5, 4, None, LIMIT, NodeFault::Players),
+        (255, 255, some, 16_777_217, NodeFault::Players),
+        (2, 2, some, 1_023, NodeFault::Me),
+        (2, 2, None, LIMIT, NodeFault::Me),
+        (4, 4, some, 16_777_217, NodeFault::Me),
+        (3, 255, some, 0, NodeFault::Me),
+        (2, 0, None, 1_023, NodeFault::Key),
+        (2, 0, None, LIMIT, NodeFault::Key),
+        (2, 1, some, 16_777_217, NodeFault::Key),
+        (2, 1, some, LIMIT, NodeFault::Key),
+        (4, 3, some, LIMIT, NodeFault::Key),
+        (2, 0, some, 1_023, NodeFault::Limit),
+        (2, 1, None, 1_023, NodeFault::Limit),
+        (2, 0, some, 16_777_217, NodeFault::Limit),
+        (4, 3, None, 0, NodeFault::Limit),
+        (4, 3, None, u32::MAX, NodeFault::Limit),
+    ] {
+        let made = Lockstep::new(
+            rt.alloc(),
+            config(players, me, limit, settings),
+        );
+        assert_eq!(rt;
+            made.err(),
+            Some(fault),
+            "player {me} of {players}, limit {limit}, {settings:?}"
+        );
+    }
+    Ok(())
+}
+
+#[test]
+fn a_node_begins_with_nothing(rt: HostRuntime) -> Result<(), Fail> {
+    let some = Some(choice()?);
+    for (players, me, settings, limit, phase) in [
+        (2, 0, some, 1_024, Phase::Gathering),
+        (2, 1, None, 1_024, Phase::Listening),
+        (3, 2, None, LIMIT, Phase::Listening),
+        (4, 0, some, 16_777_216, Phase::Gathering),
+        (4, 3, None, 16_777_216, Phase::Listening),
+    ] {
+        let mut node = Lockstep::new(
+            rt.alloc(),
+            config(players, me, limit, settings),
+        )?;
+        assert_eq!(rt; node.me(), me);
+        assert_eq!(rt; node.phase(), phase, "player {me}");
+        assert_eq!(rt; node.settings(), settings, "player {me}");
+        assert_eq!(rt; (node.made(), node.ran()), (0, 0), "player {me}");
+        for player in 0..=5 {
+            let got = (player < players).then_some(0);
+            assert_eq!(rt; node.got(player), got, "player {player} of {players}");
+        }
+        assert_eq!(rt; node.got(255), None);
+        assert!(rt; node.demo().is_empty());
+        assert_eq!(rt; node.build(Keys::from_bits(1)), Made::NotPlaying);
+        assert_eq!(rt; run(&mut node), Ran::NotPlaying);
+        assert_eq!(rt; node.made(), 0);
+    }
+    Ok(())
+}
+
+/// Each request for memory may be refused: then the answer says so, and there is no other.
+#[test]
+fn want_of_memory_is_told(rt: HostRuntime) -> Result<(), Fail> {
+    let settings = Some(choice()?);
+    match Lockstep::new(rt.alloc(), config(2, 0, LIMIT, settings)) {
+        Ok(node) => assert_eq!(rt; node.phase(), Phase::Gathering),
+        Err(fault) => assert_eq!(rt; fault, NodeFault::Memory),
+    }
+    Ok(())
+}

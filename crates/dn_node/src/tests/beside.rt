@@ -1,0 +1,137 @@
+//! A lockstep with a Walk beside it plays as a node with a Walk inside.
+
+use super::{LIMIT, choice, opened};
+use crate::{Config, Heard, Node, Ran};
+use arrayvec::ArrayVec;
+use dn_lockstep::Lockstep;
+use dn_tic::Keys;
+use dn_world::{Walk, World};
+use std::alloc::Global;
+use std::process::Abort;
+use std::test::Fail;
+
+/// A lockstep, and the world that its caller steps.
+#[derive(Drop)]
+struct Beside {
+    lockstep: Lockstep,
+    walk: Walk,
+}
+
+impl Beside {
+    fn new(alloc: Global, me: u8) -> Result<Beside, Fail> {
+        let settings = if me == 0 { Some(choice()?) } else { None };
+        let config = Config {
+            players: 2,
+            me,
+            extra: false,
+            limit: LIMIT,
+            settings,
+        };
+        Ok(Beside {
+            lockstep: Lockstep::new(alloc, config)?,
+            walk: Walk::new(),
+        })
+    }
+
+    /// Hears a datagram, and begins the world where the game starts.
+    fn receive(&mut self, from: u8, bytes: &[u8]) -> Result<Heard, Fail> {
+        let heard = self.lockstep.receive(from, bytes);
+        if heard == Heard::Started {
+            let settings = self.lockstep.settings().ok_or("no settings")?;
+            let present = self.lockstep.present();
+            self.walk.begin(&settings.start(), present);
+        }
+        Ok(heard)
+    }
+
+    /// Runs by the world's marks, and steps the world by the row.
+    fn run(&mut self) -> Ran {
+        let walk = &self.walk;
+        let marks = [walk.mark(0), walk.mark(1), walk.mark(2), walk.mark(3)];
+        let (ran, row) = self.lockstep.run(&marks);
+        if let Some(row) = row {
+            self.walk.step(&row);
+        }
+        ran
+    }
+}
+
+/// Both give the same packet to the other player.
+fn gives(
+    rt: &impl Abort,
+    beside: &mut Beside,
+    node: &mut Node<Walk>,
+) -> Option<ArrayVec<u8, 104>> {
+    let to = 1 - node.me();
+    let one = beside.lockstep.packet(to);
+    let two = node.packet(to);
+    match (&one, &two) {
+        (Some(one), Some(two)) => assert_eq!(rt; one.as_slice(), two.as_slice()),
+        (one, two) => assert_eq!(rt; (one.is_none(), two.is_none()), (true, true)),
+    }
+    one
+}
+
+/// Both hear the same packet, and answer alike.
+fn hears(
+    rt: &impl Abort,
+    beside: &mut Beside,
+    node: &mut Node<Walk>,
+    packet: Option<ArrayVec<u8, 104>>,
+) -> Result<(), Fail> {
+    if let Some(bytes) = packet {
+        let from = 1 - node.me();
+        let heard = beside.receive(from, bytes.as_slice())?;
+        assert_eq!(rt; heard, node.receive(from, bytes.as_slice()));
+    }
+    Ok(())
+}
+
+/// Both tell the same of themselves, and their worlds are the same.
+fn agree(rt: &impl Abort, beside: &Beside, node: &Node<Walk>) {
+    let lockstep = &beside.lockstep;
+    assert_eq!(rt; lockstep.phase(), node.phase());
+    assert_eq!(rt; (lockstep.made(), lockstep.ran()), (node.made(), node.ran()));
+    assert_eq!(rt; lockstep.demo(), node.demo());
+    for player in 0..2 {
+        assert_eq!(rt; lockstep.end(player), node.end(player));
+        assert_eq!(rt; beside.walk.x(player), node.world().x(player));
+        assert_eq!(rt; beside.walk.angle(player), node.world().angle(player));
+    }
+}
+
+#[test]
+fn a_world_beside_is_a_world_inside(rt: HostRuntime) -> Result<(), Fail> {
+    let alloc = rt.alloc();
+    let mut besides = (Beside::new(alloc, 0)?, Beside::new(alloc, 1)?);
+    let mut nodes = (
+        opened(alloc, (2, 0), false, LIMIT, Walk::new())?,
+        opened(alloc, (2, 1), false, LIMIT, Walk::new())?,
+    );
+    for round in 0u32..120 {
+        let keys = Keys::from_bits(round.wrapping_mul(0x9E37_79B1) >> 14);
+        assert_eq!(rt; besides.0.lockstep.build(keys), nodes.0.build(keys));
+        let keys = Keys::from_bits(round.wrapping_mul(0x85EB_CA6B) >> 14);
+        assert_eq!(rt; besides.1.lockstep.build(keys), nodes.1.build(keys));
+        let first = gives(&rt, &mut besides.0, &mut nodes.0);
+        let second = gives(&rt, &mut besides.1, &mut nodes.1);
+        // every fifth packet of the first is lost, and every seventh of the second
+        if round % 5 != 3 {
+            hears(&rt, &mut besides.1, &mut nodes.1, first)?;
+        }
+        if round % 7 != 4 {
+            hears(&rt, &mut besides.0, &mut nodes.0, second)?;
+        }
+        assert_eq!(rt; besides.0.run(), nodes.0.run());
+        assert_eq!(rt; besides.1.run(), nodes.1.run());
+        // the first leaves after a hundred rounds
+        if round == 100 {
+            assert_eq!(rt; (besides.0.lockstep.quit(), nodes.0.quit()), (true, true));
+        }
+        agree(&rt, &besides.0, &nodes.0);
+        agree(&rt, &besides.1, &nodes.1);
+    }
+    assert!(rt; nodes.0.ran() > 40);
+    assert!(rt; nodes.1.ran() > nodes.0.ran());
+    Ok(())
+}
