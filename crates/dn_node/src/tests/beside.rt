@@ -115,11 +115,11 @@ fn a_world_beside_is_a_world_inside(rt: HostRuntime) -> Result<(), Fail> {
         assert_eq!(rt; besides.1.lockstep.build(keys), nodes.1.build(keys));
         let first = gives(&rt, &mut besides.0, &mut nodes.0);
         let second = gives(&rt, &mut besides.1, &mut nodes.1);
-        // every fifth packet of the first is lost, and every seventh of the second
-        if round % 5 != 3 {
+        // now and then a packet is lost
+        if round % 25 != 3 {
             hears(&rt, &mut besides.1, &mut nodes.1, first)?;
         }
-        if round % 7 != 4 {
+        if round % 31 != 4 {
             hears(&rt, &mut besides.0, &mut nodes.0, second)?;
         }
         assert_eq!(rt; besides.0.run(), nodes.0.run());
