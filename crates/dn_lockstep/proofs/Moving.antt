@@ -1,11 +1,8 @@
 -- What a node represents after a tic.
-use Rattle.std.proofs.Common.{◌≡◌, ◌≢◌, ◌<◌, ◌≤◌, ◌+◌, ◌-◌, ◌%◌, ℕ, ℤ, Bool, true, false, not, cond, ◌||◌, List, [], ◌∷◌, ◌++◌, length, take, refl, ap, sym, ◌∙◌, arith, inl, inr, Option, Some, None, fold}
+use Rattle.std.proofs.Common.{◌≡◌, ◌≢◌, ◌<◌, ◌≤◌, ◌+◌, ◌-◌, ◌%◌, ℕ, ℤ, Bool, true, false, not, cond, ◌||◌, List, [], ◌∷◌, ◌++◌, length, refl, ap, sym, ◌∙◌, arith, inl, inr, Option, Some, None, fold}
 use Rattle.std.specs.Prelude.{nat_lt, ◌⊎◌}
 use Rattle.std.proofs.lemmas.Bool.{cases_lt, cases_eq, cases_Bool, le-ltb, lt-ltb, ltb-false, cond-false}
-use Rattle.std.proofs.lemmas.Option.{same_Some}
 use Rattle.std.proofs.lemmas.List.{length_push, take-append-le, take_all}
-use Rattle.std.proofs.lemmas.List.Sums.{fold-append}
-use Rattle.std.proofs.Math.Seq.{take-length}
 use Rattle.dn_tic.specs.declared.command.Move.{Move}
 use Rattle.dn_setup.specs.Settings.{Settings}
 use Rattle.dn_setup.specs.Starts.{start_of}
@@ -139,7 +136,7 @@ known_by (Some s) n = (s, refl)
 
 pub shows_moved : {S : Type 0} (rules : Rules S) (me : ℕ) (n : Contents) (m : machine.Node) (row : List (Option Move)) (marks : ℕ → ℕ → ℤ) (demo : Recorded)
     → Represents rules me n m → n.phase ≡ Playing → n.played ≡ true → n.settings ≢ None
-    → ((p : ℕ) → p < n.players → is_over (m.ends p) (machine.ran m) ≡ false 
+    → ((p : ℕ) → p < n.players → is_over (m.ends p) (machine.ran m) ≡ false
     → marks p (n.ran % 12) ≡ mark_in rules.physics (own_world rules m (machine.ran m)) p)
     → ((p j : ℕ) → j ≢ n.ran % 12 → marks p j ≡ n.marks p j)
     → IsWritten rules n.demo demo row

@@ -1,21 +1,21 @@
 -- The demo of a lockstep that has played, and the world beside it.
-use Rattle.std.proofs.Common.{◌≡◌, ℕ, Bool, true, ◌||◌, List, [], length, Option, Some, fold, ap, sym, ◌∙◌, arith}
-use Rattle.std.specs.Prelude.{if◌then◌else◌, nat_lt}
+use Rattle.std.proofs.Common.{◌≡◌, ℕ, Bool, true, ◌||◌, List, [], length, Some, ap, sym, ◌∙◌, subst, arith}
+use Rattle.std.specs.Prelude.{if◌then◌else◌, nat_lt, Ok}
 use Rattle.std.specs.Option.{option_map}
-use Rattle.std.proofs.lemmas.Option.{same_Some}
 use Rattle.std.specs.List.{prefix_len}
 use Rattle.std.proofs.lemmas.List.{take_all}
 use Rattle.std.proofs.lemmas.List.Folds.{length-prefix_len}
-use Rattle.std.proofs.Math.Seq.{take-length}
-use Rattle.dn_tic.specs.declared.command.Move.{Move}
 use Rattle.dn_setup.specs.Settings.{Settings}
 use Rattle.dn_setup.specs.Starts.{start_of}
 use Rattle.dn_demo.specs.Layout.{long_tics}
+use Rattle.dn_demo.specs.Reading.{IsReadAs, written_demo}
+use Rattle.dn_demo.specs.Rows.{AreWritable}
 use Rattle.dn_demo.specs.Text.{demo_text}
+use Rattle.dn_demo.proofs.ReadBack.{long_read_back}
 use Rattle.dn_machine.specs.declared.answers.Cause.{Cause}
 use Rattle.dn_machine.specs.declared.answers.Phase.{Phase}
 use Rattle.dn_machine.specs.declared.answers.Phase.TheVariants.{Ended}
-use Rattle.dn_machine.specs.Worlds.{Rules, opening}
+use Rattle.dn_machine.specs.Worlds.{Rules}
 use Rattle.dn_machine.specs.Node as machine
 use Rattle.dn_machine.specs.Node.{own_world, world_after}
 use Rattle.dn_lockstep.specs.Contents.{Contents}
@@ -43,3 +43,10 @@ module _ {S : Type 0} (rules : Rules S) (me : ℕ) (n : Contents) (m : machine.N
   demo_ended cause ended =
       r.demo ∙ demo_is rules m settings known me played
       ∙ ap (λ (p : Phase). demo_text long_tics (start_of settings) me (seats_of rules.players) (demo_rows rules m) (is_ended p || nat_lt (length (demo_rows rules m)) (machine.ran m))) ended
+
+  -- and is read back
+  pub read_back : (cause : Cause) → m.phase ≡ Ended cause → AreWritable (seats_of rules.players) (demo_rows rules m)
+      → IsReadAs n.demo.bytes (Ok (written_demo long_tics (start_of settings) me (seats_of rules.players) (demo_rows rules m)))
+  read_back cause ended writable =
+      let P : List ℕ → Type 0 = λ bytes. IsReadAs bytes (Ok (written_demo long_tics (start_of settings) me (seats_of rules.players) (demo_rows rules m))) in
+      subst P (sym (demo_ended cause ended)) (long_read_back (start_of settings) me (seats_of rules.players) (demo_rows rules m) writable)

@@ -9,6 +9,7 @@ pub mod Represents
 pub mod Marking
 pub mod Steps
 pub mod Runs
+pub mod OneGame
 pub mod Opening
 pub mod Sent
 pub mod Giving

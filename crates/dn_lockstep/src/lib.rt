@@ -4,6 +4,7 @@
 #![tactic(auto)]
 
 mod config;
+mod laws;
 mod lockstep;
 mod marks;
 mod numbers;
@@ -15,6 +16,7 @@ mod rows;
 
 pub use config::{Config, NodeFault};
 pub use dn_machine::{Cause, Heard, Made, Phase, Ran};
+pub use laws::{ended_demos_are_read, locksteps_agree};
 pub use lockstep::Lockstep;
 pub use lockstep::sending::Aim;
 

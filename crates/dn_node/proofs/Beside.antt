@@ -1,5 +1,5 @@
 -- What a step of the machine's node leaves of what its world depends on.
-use Rattle.std.proofs.Common.{◌≡◌, ◌≢◌, ℕ, ◌-◌, Bool, true, false, cond, drop, [], ◌∷◌, ◌++◌, Option, Some, None, refl}
+use Rattle.std.proofs.Common.{◌≡◌, ℕ, ◌-◌, Bool, true, false, cond, drop, [], ◌∷◌, ◌++◌, Option, Some, None, refl}
 use Rattle.std.specs.Prelude.{Result, Ok, Err}
 use Rattle.dn_tic.specs.Pressed.{pressed}
 use Rattle.dn_packet.specs.declared.packet.Packet.{Packet}

@@ -1,5 +1,5 @@
 -- A node that hears starts and begins its world, or leaves its world as it is.
-use Rattle.std.proofs.Common.{◌≡◌, ◌≢◌, ℕ, Bool, true, false, List, length, Option, Some, None, refl, ap, sym, ◌∙◌}
+use Rattle.std.proofs.Common.{◌≡◌, ◌≢◌, ℕ, Bool, true, false, List, length, Option, Some, None, ap, sym, ◌∙◌}
 use Rattle.std.specs.Option.{option_map}
 use Rattle.dn_tic.specs.declared.command.Move.{Move}
 use Rattle.dn_setup.specs.Settings.{Settings}

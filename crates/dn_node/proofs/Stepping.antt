@@ -11,7 +11,7 @@ use Rattle.dn_lockstep.specs.Represents as lockstep_of
 use Rattle.dn_lockstep.specs.Steps as lockstep
 use Rattle.dn_node.specs.Contents.{Contents, locked}
 use Rattle.dn_node.specs.Represents.{Represents}
-use Rattle.dn_node.specs.Steps.{Steps, IsAfter}
+use Rattle.dn_node.specs.Steps.{Steps}
 use Rattle.dn_node.proofs.Beside.{IsBeside}
 use Rattle.dn_node.proofs.Transfer.{marking_of, by_marks, by_worlds, to_marks, to_worlds}
 

@@ -1,5 +1,5 @@
 -- A world's own physics among the laws of marks: a step by the one is a step by the other.
-use Rattle.std.proofs.Common.{◌≡◌, ℕ, ℤ, Bool, true, false, List, [], ◌∷◌, ◌++◌, Option, Some, None, refl, ap, sym, ◌∙◌}
+use Rattle.std.proofs.Common.{◌≡◌, ℕ, ℤ, Bool, List, [], ◌∷◌, ◌++◌, Option, Some, None, refl, ap, sym, ◌∙◌}
 use Rattle.std.specs.Prelude.{fold, nat_lt, nat_le, ◌-◌, ◌==◌, ◌||◌, ◌&&◌, not, if◌then◌else◌, pos, take, Result, Ok, Err}
 use Rattle.std.specs.Option.{option_map}
 use Rattle.std.specs.Ordering.{int_eq}
@@ -121,11 +121,11 @@ module _ {S : Type 0} (physics : Physics S) where
       build_in me keys (Ended cause) = refl
       build_in me keys Playing =
           ap (λ (mark : ℤ). if nat_le 5 (machine.made me m - machine.ran m) then (m, Made.Full) else (
-          record m {
-            keys = m.keys ++ keys ∷ [];
-            held = put m.held me (m.held me ++ pressed (m.keys ++ keys ∷ []) mark ∷ []);
-          },
-          Made.Made (machine.made me m),
+            record m {
+              keys = m.keys ++ keys ∷ [];
+              held = put m.held me (m.held me ++ pressed (m.keys ++ keys ∷ []) mark ∷ []);
+            },
+            Made.Made (machine.made me m),
           )) (own_mark_same me (machine.made me m))
 
       pub builds_same : (me keys : ℕ) → ◌≡◌ {A = machine.Node × Made} (on_build by_marks me m keys) (on_build by_worlds me m keys)

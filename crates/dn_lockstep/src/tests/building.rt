@@ -1,7 +1,7 @@
 //! Tests of the commands that a node builds from keys.
 
 use super::{FORWARD, IDLE, LEFT, NO_KEYS, RIGHT, SPEED, STILL, datagram, pair, run, tic};
-use crate::{Heard, Made, Lockstep, Ran};
+use crate::{Heard, Lockstep, Made, Ran};
 use dn_tic::Keys;
 use std::process::Abort;
 use std::test::Fail;

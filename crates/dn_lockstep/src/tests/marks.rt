@@ -24,7 +24,11 @@ fn marks_come_back_twelve_tics_on(rt: HostRuntime) -> Result<(), Fail> {
     let (mut key, mut other) = pair(rt.alloc(), false)?;
     for tic in 0i16..30 {
         let carried = exchange(&rt, &mut key, &mut other)?;
-        assert_eq!(rt; carried, if tic < 12 { 0 } else { 1_000 + tic - 12 }, "tic {tic}");
+        assert_eq!(rt;
+            carried,
+            if tic < 12 { 0 } else { 1_000 + tic - 12 },
+            "tic {tic}"
+        );
         let marks = [1_000 + tic, -2_000 - tic, 3, 4];
         let number = tic.unsigned_abs().into();
         assert_eq!(rt; key.run(&marks).0, Ran::Ran(number));
@@ -73,7 +77,10 @@ fn marks_of_the_gone_do_not_matter(rt: HostRuntime) -> Result<(), Fail> {
         let (ran, row) = other.run(&[tic, 0, 0, 0]);
         assert_eq!(rt; ran, Ran::Ran(number));
         let row = row.ok_or("no row")?;
-        assert_eq!(rt; row.map(|step| step.map(|step| step.forward)), [None, Some(25), None, None]);
+        assert_eq!(rt;
+            row.map(|step| step.map(|step| step.forward)),
+            [None, Some(25), None, None]
+        );
     }
     Ok(())
 }

@@ -1,7 +1,7 @@
 //! Tests of how a node is made, and of why there is none.
 
 use super::{LIMIT, choice, run};
-use crate::{Config, Made, Lockstep, NodeFault, Phase, Ran};
+use crate::{Config, Lockstep, Made, NodeFault, Phase, Ran};
 use dn_setup::Settings;
 use dn_tic::Keys;
 use std::test::Fail;
@@ -42,10 +42,7 @@ fn the_first_fault_is_told(rt: HostRuntime) -> Result<(), Fail> {
         (4, 3, None, 0, NodeFault::Limit),
         (4, 3, None, u32::MAX, NodeFault::Limit),
     ] {
-        let made = Lockstep::new(
-            rt.alloc(),
-            config(players, me, limit, settings),
-        );
+        let made = Lockstep::new(rt.alloc(), config(players, me, limit, settings));
         assert_eq!(rt;
             made.err(),
             Some(fault),
@@ -65,10 +62,7 @@ fn a_node_begins_with_nothing(rt: HostRuntime) -> Result<(), Fail> {
         (4, 0, some, 16_777_216, Phase::Gathering),
         (4, 3, None, 16_777_216, Phase::Listening),
     ] {
-        let mut node = Lockstep::new(
-            rt.alloc(),
-            config(players, me, limit, settings),
-        )?;
+        let mut node = Lockstep::new(rt.alloc(), config(players, me, limit, settings))?;
         assert_eq!(rt; node.me(), me);
         assert_eq!(rt; node.phase(), phase, "player {me}");
         assert_eq!(rt; node.settings(), settings, "player {me}");

@@ -1,7 +1,7 @@
 //! Tests of requests for commands, and of what packets carry again.
 
 use super::{IDLE, LIMIT, NO_KEYS, STILL, datagram, opened, pair, pass, tics};
-use crate::{Aim, Heard, Made, Lockstep};
+use crate::{Aim, Heard, Lockstep, Made};
 use dn_packet::{EXIT, RETRANSMIT};
 use dn_tic::{Keys, TicCmd};
 use std::alloc::Global;

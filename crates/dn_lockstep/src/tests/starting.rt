@@ -1,7 +1,7 @@
 //! Tests of how a game starts.
 
 use super::{LIMIT, NO_KEYS, STILL, choice, datagram, opened, pass, run};
-use crate::{Heard, Made, Lockstep, Phase, Ran};
+use crate::{Heard, Lockstep, Made, Phase, Ran};
 use arrayvec::ArrayVec;
 use dn_packet::{EXIT, KILL, RETRANSMIT, SETUP};
 use dn_setup::Settings;

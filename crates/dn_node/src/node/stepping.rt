@@ -123,7 +123,12 @@ impl<W: World> Node<W> {
         ensures { (player : ℕ) → player < 4
             → get_or result player (pos 0) ≡ W.physics.mark (W.state (contents self.now).world) player }
     {
-        [self.world.mark(0), self.world.mark(1), self.world.mark(2), self.world.mark(3)]
+        [
+            self.world.mark(0),
+            self.world.mark(1),
+            self.world.mark(2),
+            self.world.mark(3),
+        ]
     }
 
     /// Ends the node, and answers whether it had not ended.

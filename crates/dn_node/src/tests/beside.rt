@@ -57,11 +57,7 @@ impl Beside {
 }
 
 /// Both give the same packet to the other player.
-fn gives(
-    rt: &impl Abort,
-    beside: &mut Beside,
-    node: &mut Node<Walk>,
-) -> Option<ArrayVec<u8, 104>> {
+fn gives(rt: &impl Abort, beside: &mut Beside, node: &mut Node<Walk>) -> Option<ArrayVec<u8, 104>> {
     let to = 1 - node.me();
     let one = beside.lockstep.packet(to);
     let two = node.packet(to);
@@ -91,7 +87,10 @@ fn hears(
 fn agree(rt: &impl Abort, beside: &Beside, node: &Node<Walk>) {
     let lockstep = &beside.lockstep;
     assert_eq!(rt; lockstep.phase(), node.phase());
-    assert_eq!(rt; (lockstep.made(), lockstep.ran()), (node.made(), node.ran()));
+    assert_eq!(rt;
+        (lockstep.made(), lockstep.ran()),
+        (node.made(), node.ran())
+    );
     assert_eq!(rt; lockstep.demo(), node.demo());
     for player in 0..2 {
         assert_eq!(rt; lockstep.end(player), node.end(player));

@@ -2,7 +2,6 @@ use Rattle.std.proofs.Common.{refl, inl, inr, sym, ◌∙◌}
 use Rattle.std.specs.Prelude.{Err}
 use Rattle.dn_packet.specs.declared.packet.PacketFault.TheVariants.{Length}
 use Rattle.dn_machine.specs.declared.answers.Heard.{Heard}
-use Rattle.dn_lockstep.specs.Marking.{free}
 use Rattle.dn_lockstep.specs.Contents.{contents}
 use Rattle.dn_lockstep.proofs.Nearby.{near_from_any}
 use Rattle.dn_lockstep.proofs.Receiving.{any_ended, any_strange, any_read}

@@ -1,4 +1,3 @@
-use Rattle.std.proofs.Common.{◌≡◌, refl}
 use Rattle.dn_demo.specs.Recorded.{capacity}
 use Rattle.dn_machine.specs.Game.{fresh}
 use Rattle.dn_lockstep.specs.Contents as lockstep

@@ -1,12 +1,6 @@
-use Rattle.std.proofs.Common.{◌≡◌, ◌≢◌, ◌<◌, ℕ, Bool, List, true, Option, Some, None, refl, ap, sym, ◌∙◌, subst}
-use Rattle.std.specs.Prelude.{Result}
-use Rattle.dn_packet.specs.declared.packet.Packet.{Packet}
-use Rattle.dn_packet.specs.declared.packet.PacketFault.{PacketFault}
-use Rattle.dn_setup.specs.Settings.{Settings}
+use Rattle.std.proofs.Common.{◌≡◌, ◌≢◌, ℕ, Bool, refl, ap, sym, ◌∙◌, subst}
 use Rattle.dn_setup.specs.Starts.{start_of}
-use Rattle.dn_setup.specs.declared.setup.SetupFault.{SetupFault}
 use Rattle.dn_machine.specs.declared.answers.Heard.{Heard}
-use Rattle.dn_machine.specs.Flight.{Flight}
 use Rattle.dn_machine.specs.Hearing.{on_packet}
 use Rattle.dn_machine.specs.Node as machine
 use Rattle.dn_machine.specs.Worlds.{Rules, rules_of}
@@ -15,7 +9,7 @@ use Rattle.dn_lockstep.specs.Marking.{History}
 use Rattle.dn_lockstep.specs.Received.{received}
 use Rattle.dn_lockstep.specs.Rows.{seats_of}
 use Rattle.dn_lockstep.specs.Steps.{Steps}
-use Rattle.dn_node.specs.Contents.{contents, locked, with_world}
+use Rattle.dn_node.specs.Contents.{contents, with_world}
 use Rattle.dn_node.specs.Steps as node
 use Rattle.dn_node.proofs.Beside.{Hears, received_beside, packet_beside}
 use Rattle.dn_node.proofs.Hearing.{world_kept, world_begun}

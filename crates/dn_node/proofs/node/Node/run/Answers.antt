@@ -1,5 +1,4 @@
-use Rattle.std.proofs.Common.{◌≡◌, List, Option, Some, refl, ap, sym, ◌∙◌}
-use Rattle.dn_tic.specs.declared.command.Move.{Move}
+use Rattle.std.proofs.Common.{◌≡◌, Some, refl, ap, sym, ◌∙◌}
 use Rattle.dn_lockstep.specs.Contents as lockstep
 use Rattle.dn_node.specs.Contents.{contents, with_world}
 use Rattle.dn_node.proofs.Running.{runs}
