@@ -1,5 +1,5 @@
 -- A game goes on as soon as the network delivers: one good round for the start, and thirteen for each tic.
-use Rattle.std.proofs.Common.{◌≡◌, ℕ, zero, suc, ◌+◌, ◌*◌, ◌<◌, ◌≤◌, ◌≢◌, Bool, true, not, List, [], ◌∷◌, ◌++◌, length, refl, sym, ◌∙◌, ap, subst, arith, inl, inr}
+use Rattle.std.proofs.Common.{◌≡◌, ℕ, zero, suc, ◌+◌, ◌-◌, ◌*◌, ◌<◌, ◌≤◌, ◌≢◌, Bool, true, not, List, [], ◌∷◌, ◌++◌, length, refl, sym, ◌∙◌, ap, subst, arith, inl, inr}
 use Rattle.std.specs.Prelude.{◌⊎◌}
 use Rattle.std.proofs.lemmas.Bool.{cases_eq, and_from, not-true, not-false}
 use Rattle.dn_setup.specs.Settings.{Settings}
@@ -157,10 +157,19 @@ module _ {S : Type 0} (rules : Rules S) (settings : Settings) (fits : rules.capa
         go (Plays e) = settled_round staying q l s tic keys game (all_play rules settings staying tic game (begun tic far) (((begun tic far).live.kept.sound 0 first).playing e))
         go (HasGone e) = settled_round staying q l s tic keys game (all_play rules settings staying tic game (begun tic far) ((none_lost 0 first).0 e))
 
-    pub goes_on_by : (keys : ℕ → ℕ → ℕ) (tic count : ℕ) → AllRan rules game game tic → tic + count + 5 ≤ rules.capacity → AllRan rules game (good_rounds rules keys (13 * count + 1) game) (tic + count)
+    -- in so many rounds exactly
+    goes_on_in : (keys : ℕ → ℕ → ℕ) (tic count : ℕ) → AllRan rules game game tic → tic + count + 5 ≤ rules.capacity → AllRan rules game (good_rounds rules keys (13 * count + 1) game) (tic + count)
     unfolding good_rounds in_order
-    goes_on_by keys tic count far room q l in_play =
+    goes_on_in keys tic count far room q l in_play =
         let s : staying q ≡ true = ap not in_play in
         one_ran staying q l s (tic + count) (good_rounds rules keys (13 * count + 1) game) room
         (subst (λ (g : Game). IsFar rules staying g ⊎ IsOn rules settings staying (tic + count) g) (sym (rounds_add rules keys game 1 (13 * count) (13 * count + 1) refl))
         (tics staying q l s tic count (tic + count) (13 * count) refl room refl (λ round. keys (round + 1)) (good_round rules (keys 0) game) (starts q l s tic far (keys 0))))
+
+    pub goes_on_by : (keys : ℕ → ℕ → ℕ) (tic count rounds : ℕ) → AllRan rules game game tic → tic + count + 5 ≤ rules.capacity → 13 * count < rounds → AllRan rules game (good_rounds rules keys rounds game) (tic + count)
+    goes_on_by keys tic count rounds far room enough q l in_play =
+        let first : ℕ = 13 * count + 1 in
+        let rest : ℕ = rounds - first in
+        let whole : rounds ≡ rest + first = omega arith in
+        subst (λ (g : Game). tic + count ≤ ran (g.nodes q)) (sym (rounds_add rules keys game first rest rounds whole))
+        (rounds_ran rules (λ round. keys (round + first)) rest q (tic + count) (good_rounds rules keys first game) (goes_on_in keys tic count far room q l in_play))

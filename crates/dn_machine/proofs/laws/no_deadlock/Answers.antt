@@ -8,12 +8,12 @@ pub returns-clause-goes_on : goal.returns-clause-goes_on
 returns-clause-goes_on g c players extra capacity settings events game run none_lost several fits keys tics room reached =
     let rules = rules_of g.W.World.physics players extra capacity in
     let enough : tics + 1 + 5 ≤ capacity = omega arith in
-    Progress.goes_on_by rules settings fits several events game run none_lost keys tics 1 reached enough
+    Progress.goes_on_by rules settings fits several events game run none_lost keys tics 1 14 reached enough (omega arith)
 
 pub returns-clause-keeps_on : goal.returns-clause-keeps_on
-returns-clause-keeps_on g c players extra capacity settings events game run none_lost several fits keys tics more room reached =
+returns-clause-keeps_on g c players extra capacity settings events game run none_lost several fits keys tics more rounds room longer reached =
     let rules = rules_of g.W.World.physics players extra capacity in
-    Progress.goes_on_by rules settings fits several events game run none_lost keys tics more reached room
+    Progress.goes_on_by rules settings fits several events game run none_lost keys tics more rounds reached room longer
 
 pub returns-clause-by_events : goal.returns-clause-by_events
 returns-clause-by_events g c players extra capacity game keys rounds =
