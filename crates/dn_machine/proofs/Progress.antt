@@ -1,17 +1,16 @@
 -- A game goes on as soon as the network delivers: one good round for the start, and thirteen for each tic.
-use Rattle.std.proofs.Common.{◌≡◌, ℕ, zero, suc, ◌+◌, ◌-◌, ◌*◌, ◌<◌, ◌≤◌, ◌≢◌, Bool, true, not, List, [], ◌∷◌, ◌++◌, length, refl, sym, ◌∙◌, ap, subst, arith, inl, inr}
+use Rattle.std.proofs.Common.{◌≡◌, ℕ, zero, suc, ◌+◌, ◌-◌, ◌*◌, ◌<◌, ◌≤◌, ◌≢◌, Bool, true, not, List, refl, sym, ◌∙◌, ap, subst, arith, inl, inr}
 use Rattle.std.specs.Prelude.{◌⊎◌}
 use Rattle.std.proofs.lemmas.Bool.{cases_eq, and_from, not-true, not-false}
 use Rattle.dn_setup.specs.Settings.{Settings}
 use Rattle.dn_machine.specs.declared.answers.Phase.{Phase}
 use Rattle.dn_machine.specs.declared.events.Event.{Event}
-use Rattle.dn_machine.specs.declared.events.Event.TheVariants.{Build, Send, Deliver, Run}
 use Rattle.dn_machine.specs.Worlds.{Rules}
 use Rattle.dn_machine.specs.Node.{ran, is_ended}
 use Rattle.dn_machine.specs.Running.{tic_limit}
 use Rattle.dn_machine.specs.Game.{Game}
-use Rattle.dn_machine.specs.Runs.{Next, Leads, Runs}
-use Rattle.dn_machine.specs.Progress.{after, in_order, exchange, turn, good_round, good_rounds, NoneLost, AllRan}
+use Rattle.dn_machine.specs.Runs.{Runs}
+use Rattle.dn_machine.specs.Progress.{in_order, turn, good_round, good_rounds, NoneLost, AllRan}
 use Rattle.dn_machine.proofs.Games.{always}
 use Rattle.dn_machine.proofs.Growth.{always_patient}
 use Rattle.dn_machine.proofs.Pairs.{Unknown}
@@ -20,39 +19,6 @@ use Rattle.dn_machine.proofs.Turns.{each_of}
 use Rattle.dn_machine.proofs.Rounds.{rounds_ran, At, AtFar, AtOn, turn_keeps, round_nearer, has_after, thirteen}
 use Rattle.dn_machine.proofs.Openings.{Stands, Gathers, Listens, Plays, HasGone, always_open}
 use Rattle.dn_machine.proofs.StartUp.{IsBegun, all_play, round_starts}
-
--- Rounds are lists of events.
-module _ {S : Type 0} (rules : Rules S) where
-  -- events lead from a game to another
-  IsLed : Game → Game → Type 0
-  IsLed game last = (events : List Event) × Leads rules game events last
-
-  one_more : (events : List Event) (event : Event) (game mid last : Game) → Leads rules game events mid → Next rules mid event last → Leads rules game (events ++ event ∷ []) last
-  one_more [] event game mid last same next = (last, subst (λ (g : Game). Next rules g event last) same next, refl)
-  one_more (e ∷ events) event game mid last way next = (way.0, way.1, one_more events event way.0 mid last way.2 next)
-
-  led_by : (game mid : Game) (event : Event) → IsLed game mid → IsLed game (after rules event mid)
-  unfolding IsLed
-  led_by game mid event way = (way.0 ++ event ∷ [], one_more way.0 event game mid (after rules event mid) way.1 (inl refl))
-
-  led_exchange : (game : Game) (i : ℕ) (mid : Game) (j : ℕ) → IsLed game mid → IsLed game (exchange rules i mid j)
-  unfolding exchange
-  led_exchange game i mid j way = led_by game (after rules (Send i j) mid) (Deliver (length mid.flights)) (led_by game mid (Send i j) way)
-
-  led_turn : (keys : ℕ → ℕ) (game mid : Game) (i : ℕ) → IsLed game mid → IsLed game (turn rules keys mid i)
-  unfolding turn
-  led_turn keys game mid i way =
-      let built : Game = after rules (Build i (keys i)) mid in
-      led_by game (in_order (exchange rules i) rules.players built) (Run i)
-      (each_of (IsLed game) (exchange rules i) rules.players built (λ j g l x. led_exchange game i g j x) (led_by game mid (Build i (keys i)) way))
-
-  led_round : (keys : ℕ → ℕ) (game mid : Game) → IsLed game mid → IsLed game (good_round rules keys mid)
-  unfolding good_round
-  led_round keys game mid way = each_of (IsLed game) (turn rules keys) rules.players mid (λ i g l x. led_turn keys game g i x) way
-
-  pub led_rounds : (keys : ℕ → ℕ → ℕ) (count : ℕ) (game : Game) → (events : List Event) × Leads rules game events (good_rounds rules keys count game)
-  unfolding good_rounds IsLed
-  led_rounds keys count game = each_of (IsLed game) (λ before round. good_round rules (keys round) before) count game (λ i g l x. led_round (keys i) game g x) ([], refl)
 
 module _ {S : Type 0} (rules : Rules S) where
   -- some rounds and then more

@@ -1,6 +1,7 @@
 -- The key player starts the others in the first round, and each player has the others' next commands within thirteen more.
 use Rattle.std.proofs.Common.{◌+◌, ◌≤◌, arith}
 use Rattle.dn_machine.specs.Worlds.{rules_of}
+use Rattle.dn_machine.proofs.Leading.{led_rounds}
 use Rattle.dn_machine.proofs.Progress
 use Rattle.dn_machine.proofs.laws.no_deadlock.Goals as goal
 
@@ -17,5 +18,4 @@ returns-clause-keeps_on g c players extra capacity settings events game run none
 
 pub returns-clause-by_events : goal.returns-clause-by_events
 returns-clause-by_events g c players extra capacity game keys rounds =
-    let rules = rules_of g.W.World.physics players extra capacity in
-    Progress.led_rounds rules keys rounds game
+    led_rounds (rules_of g.W.World.physics players extra capacity) keys rounds game
