@@ -7,6 +7,7 @@ mod game;
 mod laws;
 mod played;
 mod playing;
+mod rounds;
 mod schedule;
 mod script;
 mod storming;

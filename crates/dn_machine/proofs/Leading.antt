@@ -19,12 +19,15 @@ module _ {S : Type 0} (rules : Rules S) where
   pub led_on : (game mid last : Game) → IsLed game mid → IsLed mid last → IsLed game last
   led_on game mid last way next = (way.0 ++ next.0, leads_more way.0 next.0 game mid last way.1 next.1)
 
+  pub led_none : (game : Game) → IsLed game game
+  led_none game = ([], refl)
+
   pub led_event : (event : Event) (game : Game) → IsLed game (after rules event game)
   led_event event game = (event ∷ [], (after rules event game, inl refl, refl))
 
   pub led_in_order : (step : Game → ℕ → Game) → ((game : Game) (i : ℕ) → IsLed game (step game i)) → (bound : ℕ) (game : Game) → IsLed game (in_order step bound game)
   unfolding in_order
-  led_in_order step each zero game = ([], refl)
+  led_in_order step each zero game = led_none game
   led_in_order step each (suc bound) game = led_on game (in_order step bound game) (step (in_order step bound game) bound) (led_in_order step each bound game) (each (in_order step bound game) bound)
 
   pub led_exchange : (i : ℕ) (game : Game) (j : ℕ) → IsLed game (exchange rules i game j)
