@@ -22,5 +22,6 @@ pub mod Applying
 pub mod Delivering
 pub mod Sending
 pub mod Arriving
+pub mod Continuing
 pub mod Following
 pub mod NeverStopping

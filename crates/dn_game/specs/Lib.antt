@@ -8,6 +8,7 @@ pub mod KeysMade
 pub mod Promised
 pub mod Agreed
 pub mod Rounds
+pub mod GoingOn
 pub mod Stopped
 pub mod Schedule
 pub mod ScriptWords

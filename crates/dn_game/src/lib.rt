@@ -4,6 +4,7 @@
 mod config;
 mod flight;
 mod game;
+mod going_on;
 mod laws;
 mod played;
 mod playing;
@@ -16,6 +17,7 @@ pub use config::{GameConfig, GameFault};
 pub use dn_machine::{Done, Event, Refusal};
 pub use flight::Flight;
 pub use game::Game;
+pub use going_on::{play_on, reached_games_go_on};
 pub use laws::reached_games_agree;
 pub use played::Played;
 pub use playing::play;

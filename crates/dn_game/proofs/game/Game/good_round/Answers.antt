@@ -1,4 +1,4 @@
-use Rattle.std.proofs.Common.{rules, ◌≡◌, Err, sym, arith}
+use Rattle.std.proofs.Common.{rules, ◌≡◌, Err, arith}
 use Rattle.dn_machine.specs.Progress.{turn}
 use Rattle.dn_machine.specs.Worlds.{rules_of}
 use Rattle.dn_machine.proofs.Leading.{led_none, led_turn}

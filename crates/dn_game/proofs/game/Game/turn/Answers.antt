@@ -1,6 +1,6 @@
 use Rattle.std.proofs.Common.{rules, ◌≡◌, Err, true≢false, sym, arith}
 use Rattle.dn_machine.specs.declared.events.Event.TheVariants.{Build}
-use Rattle.dn_machine.specs.Progress.{after, exchange}
+use Rattle.dn_machine.specs.Progress.{exchange}
 use Rattle.dn_machine.specs.Worlds.{rules_of}
 use Rattle.dn_machine.proofs.Leading.{led_event, led_exchange}
 use Rattle.dn_game.specs.Contents.{contents}
