@@ -23,21 +23,21 @@ fn calm_is_shown(rt: HostRuntime) -> Result<(), Fail> {
 
 #[test]
 fn without_calm_there_is_the_storm(rt: HostRuntime) -> Result<(), Fail> {
-    for (players, seed, count) in [
+    let rows = [
         (2, 1, 1),
         (2, 1, 1000),
         (3, 7, 2000),
         (4, 4_294_967_295, 700),
-    ] {
+    ];
+    for (players, seed, count) in rows {
         let config = rules(DEFAULT_LIMIT)?;
         let mut calm = Vec::new(rt.alloc());
-        let mut storm = Vec::new(rt.alloc());
         let status = run_calm(rt.alloc(), config, players, seed, count, 0, &mut calm);
         assert_eq!(rt; status, Ok(0));
-        assert_eq!(rt;
-            run_storm(rt.alloc(), config, players, seed, count, &mut storm),
-            Ok(0)
-        );
+        let config = rules(DEFAULT_LIMIT)?;
+        let mut storm = Vec::new(rt.alloc());
+        let status = run_storm(rt.alloc(), config, players, seed, count, &mut storm);
+        assert_eq!(rt; status, Ok(0));
         assert_eq!(rt; calm.as_slice(), storm.as_slice());
     }
     Ok(())
