@@ -63,7 +63,7 @@ module _ {W S : Type 0} (state : W → S) (rules : Rules S) (settings : Settings
   unplayed : m.played ≡ false → n.demo.bytes ≡ []
   unplayed not = r.lockstep.demo ∙ ap (λ (b : Bool). if b then demo_with rules me m m.settings else []) not
 
-  started : HasStarted n → m.played ≡ true
+  pub started : HasStarted n → m.played ≡ true
   started has = go m.played refl
     where
       go : (b : Bool) → m.played ≡ b → b ≡ true

@@ -21,5 +21,7 @@ pub mod Posting
 pub mod Applying
 pub mod Delivering
 pub mod Sending
+pub mod Arriving
+pub mod Continuing
 pub mod Following
 pub mod NeverStopping

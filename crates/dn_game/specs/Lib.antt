@@ -7,6 +7,8 @@ pub mod Played
 pub mod KeysMade
 pub mod Promised
 pub mod Agreed
+pub mod Rounds
+pub mod GoingOn
 pub mod Stopped
 pub mod Schedule
 pub mod ScriptWords

@@ -9,6 +9,7 @@ mod memory;
 mod old_packets;
 mod opening;
 mod playing;
+mod rounds;
 mod schedules;
 mod storms;
 mod told;

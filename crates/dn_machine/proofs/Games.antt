@@ -22,7 +22,7 @@ opening_phase settings true = (λ e. cc, λ e. refl, λ p w s e. cc)
 opening_phase settings false = (λ e. cc, λ e. absurd (cc), λ p w s e. cc)
 
 -- the first part is left out of a pair that refuses nothing
-passes : {A : Type 0} (b : Bool) (x : A) (rest : Option A) → cond (not b) (Some x) rest ≡ None → b ≡ true
+pub passes : {A : Type 0} (b : Bool) (x : A) (rest : Option A) → cond (not b) (Some x) rest ≡ None → b ≡ true
 passes true x rest h = refl
 passes false x rest h = absurd (cc)
 

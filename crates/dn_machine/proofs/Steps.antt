@@ -179,14 +179,14 @@ module _ {S : Type 0} (rules : Rules S) (settings : Settings) (game : Game) (kep
           }))
 
   -- each player's command for the next tic is held, or the player's known end is not past it
-  abbrev IsThere : Type 0
+  abbrev pub IsThere : Type 0
   IsThere = (p : ℕ) → p < rules.players → (length (game.nodes i).rows < length ((game.nodes i).held p)) ⊎ ((end : ℕ) × ((game.nodes i).ends p ≡ Some end) × (end ≤ length (game.nodes i).rows))
 
   over : (o : Option ℕ) (tic : ℕ) → is_over o tic ≡ true → (end : ℕ) × (o ≡ Some end) × (end ≤ tic)
   over None tic h = absurd (cc)
   over (Some end) tic h = (end, refl, leb-true end tic h)
 
-  all_there : lowest rules.players (is_awaited (game.nodes i)) ≡ None → IsThere
+  pub all_there : lowest rules.players (is_awaited (game.nodes i)) ≡ None → IsThere
   all_there none p l =
       elim (and_cases (not (is_absent (game.nodes i) p)) (leb (got (game.nodes i) p) (ran (game.nodes i))) (lowest_none_each rules.players (is_awaited (game.nodes i)) none p l)) [
         | inl gone ↦ inr (over ((game.nodes i).ends p) (ran (game.nodes i)) (not-false (is_absent (game.nodes i) p) gone))
@@ -203,7 +203,7 @@ module _ {S : Type 0} (rules : Rules S) (settings : Settings) (game : Game) (kep
   ]
 
   -- no mark of a command that a playing node holds for its next tic is off
-  none_off : (game.nodes i).phase ≡ Playing → IsThere → first_off rules (game.nodes i) ≡ None
+  pub none_off : (game.nodes i).phase ≡ Playing → IsThere → first_off rules (game.nodes i) ≡ None
   none_off e there =
       cond_both (ltb 12 (ran (game.nodes i))) _ _ (λ (o : Option ℕ). o ≡ None)
       (λ late. lowest_none rules.players (is_off rules (game.nodes i)) (λ p l.

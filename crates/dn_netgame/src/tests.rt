@@ -1,5 +1,6 @@
 //! Datagrams shown, through readers and writers that are slow, full or failing.
 
+mod calm;
 mod demo_faults;
 mod demos;
 mod games;

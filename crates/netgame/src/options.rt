@@ -103,7 +103,15 @@ pub(crate) fn with_storm<'a>(
         "1000",
         "How many events there are",
     );
-    with_game(alloc, command)?.arg(seed)?.arg(count)
+    let calm = number(
+        alloc,
+        "calm",
+        0,
+        1_000,
+        "0",
+        "How many rounds without losses come after the events",
+    );
+    with_game(alloc, command)?.arg(seed)?.arg(count)?.arg(calm)
 }
 
 /// The value of an option, if it is no more than a byte holds.
@@ -149,8 +157,9 @@ pub(crate) fn game(matches: &ArgMatches<'_>) -> Option<(GameConfig, u8)>
     Some((config, players))
 }
 
-/// The seed of a storm, and how many events it has.
-pub(crate) fn storm(matches: &ArgMatches<'_>) -> Option<(u64, u32)> {
+/// The seed of a storm, how many events it has, and how many rounds without losses come after it.
+pub(crate) fn storm(matches: &ArgMatches<'_>) -> Option<(u64, u32, u32)> {
     let seed = matches.get_one::<u32>("seed")?;
-    Some((u64::from(seed), matches.get_one::<u32>("count")?))
+    let count = matches.get_one::<u32>("count")?;
+    Some((u64::from(seed), count, matches.get_one::<u32>("calm")?))
 }

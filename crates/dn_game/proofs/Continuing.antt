@@ -1,0 +1,86 @@
+-- A game goes on as the machine's game that it represents.
+use Rattle.std.proofs.Common.{◌≡◌, ◌<◌, ◌≤◌, ℕ, List, length, refl, ap, sym, ◌∙◌, inl, inr, arith}
+use Rattle.std.specs.Prelude.{slice_get, Some}
+use Rattle.std.proofs.lemmas.Option.{slice_get_cases, slice_get_within}
+use Rattle.dn_setup.specs.Settings.{Settings}
+use Rattle.dn_machine.specs.declared.events.Event.{Event}
+use Rattle.dn_machine.specs.Game.{Game, opening_game}
+use Rattle.dn_machine.specs.Node.{is_ended}
+use Rattle.dn_machine.specs.Progress as machine
+use Rattle.dn_machine.specs.Progress.{good_rounds}
+use Rattle.dn_machine.specs.Running.{tic_limit}
+use Rattle.dn_machine.specs.Worlds.{Rules}
+use Rattle.dn_machine.proofs.Progress.{goes_on_by}
+use Rattle.dn_node.specs.declared.node.Node.{Node}
+use Rattle.dn_node.specs.Contents as node
+use Rattle.dn_game.specs.Agreed.{HasNode}
+use Rattle.dn_game.specs.Contents.{Contents, contents}
+use Rattle.dn_game.specs.GoingOn.{NoneLost, AllRan, GoesOn, IsPlayedOn}
+use Rattle.dn_game.specs.Promised.{IsReached}
+use Rattle.dn_game.specs.Represents.{Represents}
+use Rattle.dn_game.specs.declared.played.Played.{Played}
+use Rattle.dn_game.proofs.Agreeing.{started}
+use Rattle.dn_game.proofs.Answering.{plays_leads}
+
+module _ {W S : Type 0} (state : W → S) (rules : Rules S) (settings : Settings) where
+  -- each number below the players has its node
+  node_of : (g : Contents W) (i : ℕ) → i < length g.nodes → (n : Node W) × (slice_get g.nodes i ≡ Some n)
+  node_of g i below = elim (slice_get_cases g.nodes i).1 [
+    | inl there ↦ (there.0, there.2)
+    | inr past ↦ let far = past.0 in absurd (omega arith)
+  ]
+
+  lost_none : (g : Contents W) (m : Game) → Represents state rules g m → NoneLost g → machine.NoneLost rules m
+  lost_none g m r none i below =
+      let within : i < length g.nodes = let count = r.players in omega arith in
+      let found = node_of g i within in
+      let shown = r.nodes i found.0 found.1 in (
+        (λ ended. started state rules settings i (node.contents found.0) (m.nodes i) shown
+            (none.started i (node.contents found.0) (found.0, found.1, refl) (ap is_ended shown.lockstep.phase ∙ ended))),
+        sym (r.stopped i) ∙ none.moving i within,
+      )
+
+  all_ran : (g : Contents W) (m : Game) → Represents state rules g m → (tics : ℕ) → AllRan g g tics → machine.AllRan rules m m tics
+  all_ran g m r tics all i below there =
+      let within : i < length g.nodes = let count = r.players in omega arith in
+      let found = node_of g i within in
+      let shown = r.nodes i found.0 found.1 in
+      let here : HasNode g i (node.contents found.0) = (found.0, found.1, refl) in
+      let far = all i (node.contents found.0) (node.contents found.0) here (ap is_ended shown.lockstep.phase ∙ there) here in
+      let same = shown.lockstep.ran in
+      omega arith
+
+  ran_all : (g later : Contents W) (m last : Game) → Represents state rules g m → Represents state rules later last → (tics : ℕ)
+      → machine.AllRan rules m last tics → AllRan g later tics
+  ran_all g later m last r s tics all i n k (one, at, is) there (other, its, so) =
+      let below : i < rules.players = let within = slice_get_within g.nodes i one at in let count = r.players in omega arith in
+      let before = r.nodes i one at in
+      let after = s.nodes i other its in
+      let far = all i below (sym (ap is_ended before.lockstep.phase) ∙ (ap (λ (c : node.Contents W). is_ended c.phase) (sym is) ∙ there)) in
+      let same = after.lockstep.ran in
+      let told = ap (λ (c : node.Contents W). c.ran) so in
+      omega arith
+
+  -- a node's demo has room for no more tics than a node runs
+  short : (g : Contents W) (m : Game) → Represents state rules g m → 2 ≤ rules.players → rules.capacity ≤ tic_limit
+  short g m r several =
+      let found = node_of g 0 (let count = r.players in omega arith) in
+      let same = (r.nodes 0 found.0 found.1).lockstep.capacity in
+      let low = found.0.lockstep.short in
+      omega arith
+
+  pub continues : (events : List Event) (g later : Contents W) (reached : IsReached state rules settings events g)
+      → 2 ≤ rules.players → (keys : ℕ → ℕ → ℕ) (rounds : ℕ)
+      → Represents state rules later (good_rounds rules keys rounds reached.last) → GoesOn rules.capacity rounds g later
+  continues events g later reached several keys rounds shown none tics more enough room all =
+      ran_all g later reached.last _ reached.game shown _
+      (goes_on_by rules settings (short g reached.last reached.game several) several events reached.last reached.run (lost_none g reached.last reached.game none)
+      keys tics more rounds (all_ran g reached.last reached.game tics all) room enough)
+
+  pub played_on_continues : (events : List Event) (keys : ℕ → ℕ) (rounds : ℕ) (played : Played W)
+      → (p : IsPlayedOn state rules settings events keys rounds played) → 2 ≤ rules.players
+      → GoesOn rules.capacity rounds (contents p.before.game) (contents played.game)
+  played_on_continues events keys rounds played p several =
+      let e = p.events_played in
+      continues events _ _ (record { last = e.last; run = plays_leads rules events e.answers (opening_game settings) e.last e.plays; game = e.game })
+      several (λ round. keys) rounds p.calmed.game

@@ -1,0 +1,38 @@
+use Rattle.std.proofs.Common.{rules, ◌≡◌, Err, true≢false, sym, arith}
+use Rattle.dn_machine.specs.declared.events.Event.TheVariants.{Build}
+use Rattle.dn_machine.specs.Progress.{exchange}
+use Rattle.dn_machine.specs.Worlds.{rules_of}
+use Rattle.dn_machine.proofs.Leading.{led_event, led_exchange}
+use Rattle.dn_game.specs.Contents.{contents}
+use Rattle.dn_game.proofs.Arriving.{after_applied, has_turn, begins, goes_on, ends, all_steps}
+use Rattle.dn_game.proofs.game.Game.turn.Goals as goal
+
+pub loop-to-init : goal.loop-to-init
+loop-to-init g c players extra capacity m r =
+    let rules = rules_of g.W.World.physics players extra capacity in
+    begins _ rules (exchange rules c.args.node) (led_exchange rules c.args.node) _ _
+    (after_applied _ rules _ _ m _ _ (λ e. absurd (true≢false (sym e))) (c.apply.ensures.applied players extra capacity m r))
+
+pub loop-to-preserved : goal.loop-to-preserved
+loop-to-preserved g c players extra capacity m r =
+    let rules = rules_of g.W.World.physics players extra capacity in
+    goes_on _ rules (exchange rules c.args.node) (led_exchange rules c.args.node) _ (contents c.exchange.new.self) c.loop-to.to c.exchange.result
+    (c.exchange.ensures players extra capacity _ (c.loop-to.invariant players extra capacity m r)) _ c.in_ok-exchange.was
+
+pub returns-in_err-exchange : goal.returns-in_err-exchange
+returns-in_err-exchange g c players extra capacity m r =
+    let same : c.from_residual.result ≡ Err c.in_err-exchange.field-0.0 = search rules in
+    let rules = rules_of g.W.World.physics players extra capacity in
+    ends _ rules (exchange rules c.args.node) (led_exchange rules c.args.node) _ (contents c.exchange.new.self) c.loop-to.to c.exchange.result
+    (c.exchange.ensures players extra capacity _ (c.loop-to.invariant players extra capacity m r)) m _ _ _ c.in_err-exchange.was same
+    (led_event rules (Build c.args.node c.args.keys) m)
+
+pub returns : goal.returns
+returns g c players extra capacity m r =
+    let rules = rules_of g.W.World.physics players extra capacity in
+    let built = after_applied _ rules _ _ m _ _ (λ e. absurd (true≢false (sym e))) (c.apply.ensures.applied players extra capacity m r) in
+    has_turn _ rules _ _ (λ me. c.args.keys) m c.args.node _
+    (c.apply-2.ensures.applied players extra capacity _
+    (all_steps _ rules (exchange rules c.args.node) (led_exchange rules c.args.node) _ _ c.loop-to.to players
+    (omega (arith, c.loop-to-test.false, c.loop-to.auto.to-end, c.players-to-end.ensures.value, built.players))
+    (c.loop-to.invariant players extra capacity m r)))

@@ -1,0 +1,43 @@
+-- A game that goes on once its packets arrive.
+use Rattle.std.specs.Prelude.{◌≡◌, ◌<◌, ◌≤◌, ◌+◌, ◌*◌, ℕ, true, false, List, length, slice_index_or}
+use Rattle.dn_setup.specs.Settings.{Settings}
+use Rattle.dn_machine.specs.declared.events.Event.{Event}
+use Rattle.dn_machine.specs.Game as machine
+use Rattle.dn_machine.specs.Node.{is_ended}
+use Rattle.dn_machine.specs.Progress.{good_rounds}
+use Rattle.dn_machine.specs.Worlds.{Rules}
+use Rattle.dn_node.specs.Contents as node
+use Rattle.dn_game.specs.declared.played.Played.{Played}
+use Rattle.dn_game.specs.Agreed.{HasNode, HasStarted}
+use Rattle.dn_game.specs.Contents.{Contents, contents}
+use Rattle.dn_game.specs.Played.{IsPlayed}
+use Rattle.dn_game.specs.Represents.{Represents}
+
+-- no node is lost: none has stopped, and whoever has ended had started
+pub record NoneLost {W : Type 0} (g : Contents W) : Type 0 where
+  pub moving : (i : ℕ) → i < length g.nodes → slice_index_or g.stopped i false ≡ false
+  pub started : (i : ℕ) (n : node.Contents W) → HasNode g i n → is_ended n.phase ≡ true → HasStarted n
+
+-- every node that had not ended before has run the first tics, so many
+abbrev pub AllRan : {W : Type 0} → Contents W → Contents W → ℕ → Type 0
+AllRan {W} before g tics =
+    (i : ℕ) (n k : node.Contents W) → HasNode before i n → is_ended n.phase ≡ false → HasNode g i k → tics ≤ k.ran
+
+-- what so many good rounds lead to: if no node was lost, then each thirteen rounds after the first ran a tic more at every
+-- node that had not ended, as long as the demos had room for six
+abbrev pub GoesOn : {W : Type 0} → (capacity rounds : ℕ) → Contents W → Contents W → Type 0
+GoesOn capacity rounds before g =
+    NoneLost before → (tics more : ℕ) → 13 * more < rounds → tics + more + 5 ≤ capacity
+    → AllRan before before tics → AllRan before g (tics + more)
+
+-- the rounds led from this game of the machine to the one that is represented, and were not counted
+pub record IsCalmed {W S : Type 0} (state : W → S) (rules : Rules S) (keys : ℕ → ℕ) (rounds : ℕ) (m : machine.Game) (before played : Played W) : Type 0 where
+  pub game : Represents state rules (contents played.game) (good_rounds rules (λ round. keys) rounds m)
+  pub done : played.done ≡ before.done
+  pub refused : played.refused ≡ before.refused
+
+-- the events were played, and then so many good rounds
+pub record IsPlayedOn {W S : Type 0} (state : W → S) (rules : Rules S) (settings : Settings) (events : List Event) (keys : ℕ → ℕ) (rounds : ℕ) (played : Played W) : Type 0 where
+  pub before : Played W
+  pub events_played : IsPlayed state rules settings events before
+  pub calmed : IsCalmed state rules keys rounds events_played.last before played

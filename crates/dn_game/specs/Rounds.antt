@@ -1,0 +1,29 @@
+-- Rounds in which the packets arrive.
+use Rattle.std.specs.Prelude.{◌≡◌, ◌≤◌, ◌⊎◌, ◌^◌, ℕ, List, slice_index_or, length, Result, Ok, Err}
+use Rattle.dn_machine.specs.declared.events.Event.{Event}
+use Rattle.dn_machine.specs.declared.events.Refusal.{Refusal}
+use Rattle.dn_machine.specs.Game as machine
+use Rattle.dn_machine.specs.Runs.{Leads}
+use Rattle.dn_machine.specs.Worlds.{Rules}
+use Rattle.dn_game.specs.Contents.{Contents}
+use Rattle.dn_game.specs.Represents.{Represents}
+
+-- the key states of a round, by node
+abbrev pub keys_of : List ℕ → ℕ → ℕ
+keys_of keys node = slice_index_or keys node 0
+
+-- the game represents one that some events lead to
+pub record IsLed {W S : Type 0} (state : W → S) (rules : Rules S) (m : machine.Game) (g : Contents W) : Type 0 where
+  pub events : List Event
+  pub last : machine.Game
+  pub way : Leads rules m events last
+  pub game : Represents state rules g last
+
+-- a packet is not sent where it finds no room, or where more packets were sent than events can name
+abbrev pub IsUnsent : {W : Type 0} → Contents W → Refusal → Type 0
+IsUnsent g refusal = (refusal ≡ Refusal.Memory) ⊎ ((refusal ≡ Refusal.NoPacket) × (2 ^ 32 ≤ length g.flights))
+
+-- every packet arrived, and the game represents the one that this leads to; or it ended at one that is not sent
+abbrev pub IsCarriedOut : {W S A : Type 0} → (W → S) → Rules S → (m good : machine.Game) → Contents W → Result A Refusal → Type 0
+IsCarriedOut state rules m good g (Ok done) = Represents state rules g good
+IsCarriedOut state rules m good g (Err refusal) = IsUnsent g refusal × IsLed state rules m g

@@ -1,0 +1,65 @@
+//! A game goes on once its packets arrive.
+
+ghost use Rattle.std.specs.Prelude.{◌≡◌, ◌<◌, ◌≤◌, ◌+◌, ℕ, Bool, List, length, IfOk};
+ghost use Rattle.dn_setup.specs.Settings.{Settings};
+ghost use Rattle.dn_machine.specs.declared.events.Event.{Event};
+ghost use Rattle.dn_machine.specs.Progress.{good_rounds};
+ghost use Rattle.dn_machine.specs.Worlds.{rules_of};
+ghost use Rattle.dn_demo.specs.Recorded.{capacity};
+ghost use Rattle.dn_game.specs.Contents.{Contents, contents};
+ghost use Rattle.dn_game.specs.GoingOn.{NoneLost, AllRan, GoesOn, IsPlayedOn};
+ghost use Rattle.dn_game.specs.Opening.{IsAdmitted, rules_in};
+ghost use Rattle.dn_game.specs.Promised.{IsReached};
+ghost use Rattle.dn_game.specs.Represents.{Represents};
+ghost use Rattle.dn_game.specs.Rounds.{keys_of};
+
+use crate::config::{GameConfig, GameFault};
+use crate::played::Played;
+use crate::playing::play;
+use dn_machine::Event;
+use dn_tic::Keys;
+use dn_world::World;
+use std::alloc::Global;
+
+/// Whatever events a game has met: if no node was lost, fourteen good rounds run a tic more at every
+/// node that has not ended, as long as the demos have room for six, and each thirteen rounds more run
+/// one more.
+pub fn reached_games_go_on<W: World>()
+    ensures fourteen { (players : ℕ) (extra : Bool) (capacity : ℕ) (settings : Settings) (events : List Event) (g later : Contents W)
+        → (reached : IsReached W.state (rules_of W.physics players extra capacity) settings events g)
+        → 2 ≤ players → (keys : ℕ → ℕ → ℕ)
+        → Represents W.state (rules_of W.physics players extra capacity) later
+        (good_rounds (rules_of W.physics players extra capacity) keys 14 reached.last)
+        → NoneLost g → (tics : ℕ) → tics + 6 ≤ capacity → AllRan g g tics → AllRan g later (tics + 1) }
+    ensures goes_on { (players : ℕ) (extra : Bool) (capacity : ℕ) (settings : Settings) (events : List Event) (g later : Contents W)
+        → (reached : IsReached W.state (rules_of W.physics players extra capacity) settings events g)
+        → 2 ≤ players → (keys : ℕ → ℕ → ℕ) (rounds : ℕ)
+        → Represents W.state (rules_of W.physics players extra capacity) later
+        (good_rounds (rules_of W.physics players extra capacity) keys rounds reached.last)
+        → GoesOn capacity rounds g later }
+{}
+
+/// Plays the events, and then so many rounds in which every packet arrives, with the same keys in each.
+/// The rounds are not counted. A round that cannot be carried out is want of memory.
+pub fn play_on<W: World>(
+    alloc: Global,
+    config: GameConfig,
+    worlds: Vec<W>,
+    events: &[Event],
+    keys: [Keys; 4],
+    rounds: u32,
+) -> Result<Played<W>, GameFault>
+    ensures admitted { IsAdmitted config (length worlds.items) result }
+    ensures played { IfOk result (λ played. IsPlayedOn W.state
+        (rules_in W.physics config (length worlds.items)) config.settings events.now (keys_of keys) rounds played) }
+    // No losses among the events can make the nodes wait for good.
+    ensures goes_on { IfOk result (λ played. (p : IsPlayedOn W.state
+        (rules_in W.physics config (length worlds.items)) config.settings events.now (keys_of keys) rounds played)
+        × GoesOn (capacity config.limit (length worlds.items)) rounds (contents p.before.game) (contents played.game)) }
+{
+    let mut played = play(alloc, config, worlds, events)?;
+    match played.game.good_rounds(keys, rounds) {
+        Ok(()) => Ok(played),
+        Err(_) => Err(GameFault::Memory),
+    }
+}

@@ -1,0 +1,225 @@
+//! Tests of rounds in which every packet arrives.
+
+use super::told::all_told;
+use super::{build, config, opened, send, walks};
+use crate::{Event, Game, Refusal, play, play_on, storm};
+use dn_machine::Phase;
+use dn_tic::Keys;
+use dn_world::Walk;
+use std::process::Abort;
+use std::test::Fail;
+
+fn no_keys() -> [Keys; 4] {
+    let none = Keys::from_bits(0);
+    [none, none, none, none]
+}
+
+fn ran(game: &Game<Walk>, number: u32) -> Option<u32> {
+    Some(game.node(number)?.ran())
+}
+
+/// How many tics each node ran.
+fn rans(game: &Game<Walk>) -> [Option<u32>; 4] {
+    [ran(game, 0), ran(game, 1), ran(game, 2), ran(game, 3)]
+}
+
+/// Node 1 has missed the first command, node 0 has heard its request, and the packet that met it is
+/// lost too; then node 0 quits.
+fn lost() -> [Event; 13] {
+    [
+        send(0, 1),
+        Event::Deliver(0),
+        send(1, 0),
+        Event::Deliver(1),
+        build(0, 0),
+        send(0, 1),
+        build(0, 0),
+        send(0, 1),
+        Event::Deliver(3),
+        send(1, 0),
+        Event::Deliver(4),
+        send(0, 1),
+        Event::Quit(0),
+    ]
+}
+
+#[test]
+fn rounds_run_tics(rt: HostRuntime) -> Result<(), Fail> {
+    let left = lost();
+    let missed = &left[..12];
+    let nothing = &left[..0];
+    let rows = [
+        (nothing, 0, 0, 0),
+        (nothing, 1, 0, 0),
+        (nothing, 2, 0, 1),
+        (nothing, 3, 0, 2),
+        (nothing, 4, 1, 3),
+        (missed, 11, 5, 0),
+        (missed, 12, 5, 1),
+        (left.as_slice(), 11, 0, 0),
+        (left.as_slice(), 12, 0, 1),
+        (left.as_slice(), 13, 0, 2),
+        (left.as_slice(), 14, 0, 3),
+    ];
+    for (events, rounds, zero, one) in rows {
+        let mut game = opened(rt.alloc(), 2)?;
+        for event in events {
+            assert!(rt; game.apply(*event).is_ok());
+        }
+        assert_eq!(rt; game.good_rounds(no_keys(), rounds), Ok(()));
+        assert_eq!(rt;
+            rans(&game),
+            [Some(zero), Some(one), None, None],
+            "{rounds}"
+        );
+    }
+    Ok(())
+}
+
+/// A node that stopped takes no turn, and the others wait for it.
+#[test]
+fn a_stopped_node_holds_the_others_up(rt: HostRuntime) -> Result<(), Fail> {
+    let mut game = opened(rt.alloc(), 3)?;
+    assert_eq!(rt; game.good_rounds(no_keys(), 20), Ok(()));
+    let before = rans(&game);
+    assert!(rt; before[0] > Some(10));
+    assert!(rt; game.apply(Event::Stop(1)).is_ok());
+    assert_eq!(rt; game.good_rounds(no_keys(), 20), Ok(()));
+    let held = rans(&game);
+    assert_eq!(rt; held[1], before[1]);
+    assert_eq!(rt; game.good_rounds(no_keys(), 20), Ok(()));
+    assert_eq!(rt; rans(&game), held);
+    Ok(())
+}
+
+/// Playing on is playing and then rounds, each with the keys of its players.
+#[test]
+fn a_game_is_played_on(rt: HostRuntime) -> Result<(), Fail> {
+    let keys = [
+        Keys::from_bits(1),
+        Keys::from_bits(2),
+        Keys::from_bits(3),
+        Keys::from_bits(4),
+    ];
+    let events = lost();
+    let mut played = play(
+        rt.alloc(),
+        config(131_072)?,
+        walks(rt.alloc(), 2)?,
+        &events[..12],
+    )?;
+    for _ in 0..30 {
+        assert_eq!(rt; played.game.good_round(keys), Ok(()));
+    }
+    let on = play_on(
+        rt.alloc(),
+        config(131_072)?,
+        walks(rt.alloc(), 2)?,
+        &events[..12],
+        keys,
+        30,
+    )?;
+    assert_eq!(rt; all_told(&on.game), all_told(&played.game));
+    assert_eq!(rt; (on.done, on.refused), (12, 0));
+    let other = play_on(
+        rt.alloc(),
+        config(131_072)?,
+        walks(rt.alloc(), 2)?,
+        &events[..12],
+        no_keys(),
+        30,
+    )?;
+    assert!(rt; all_told(&other.game) != all_told(&on.game));
+    Ok(())
+}
+
+/// Who has not ended, with the tics that it ran.
+fn staying(game: &Game<Walk>) -> [Option<u32>; 4] {
+    let mut rest = rans(game);
+    for number in 0..4 {
+        if let Some(node) = game.node(number)
+            && matches!(node.phase(), Phase::Ended(_))
+        {
+            rest[number as usize] = None;
+        }
+    }
+    rest
+}
+
+/// No node is more than five tics ahead of another that stays, and six tics more take so many rounds at
+/// most.
+const ALL_RAN_BY: u32 = 13 * 6 + 1;
+
+/// How many rounds it takes until the fewest tics of those who stay have grown, and until each of them
+/// has run a tic.
+fn rounds_needed(rt: &impl Abort, game: &mut Game<Walk>) -> (u32, u32) {
+    let before = staying(game);
+    let mut least = u32::MAX;
+    for ran in before.iter().flatten() {
+        least = least.min(*ran);
+    }
+    let mut grown = 0;
+    for rounds in 1..=ALL_RAN_BY {
+        assert_eq!(rt; game.good_round(no_keys()), Ok(()));
+        let now = rans(game);
+        let mut all_grown = true;
+        let mut all_ran = true;
+        for number in 0..4 {
+            if before[number].is_some() {
+                all_grown &= now[number] > Some(least);
+                all_ran &= now[number] > before[number];
+            }
+        }
+        if all_grown && grown == 0 {
+            grown = rounds;
+        }
+        if all_ran {
+            return (grown, rounds);
+        }
+    }
+    (grown, u32::MAX)
+}
+
+/// Storms that break off anywhere, some with a node that then quits.
+#[test]
+fn storms_go_on(rt: HostRuntime) -> Result<(), Fail> {
+    for players in 2..=4 {
+        for seed in 1..=20 {
+            let count = (seed * 7_919 + players as u64 * 104_729) % 3_000;
+            let worlds = walks(rt.alloc(), players)?;
+            let played = storm(rt.alloc(), config(131_072)?, worlds, seed, count as u32)?;
+            let mut game = played.game;
+            if seed % 4 == 0
+                && game
+                    .node(1)
+                    .is_some_and(|node| node.phase() == Phase::Playing)
+            {
+                assert!(rt; game.apply(Event::Quit(1)).is_ok());
+            }
+            let (grown, ran) = rounds_needed(&rt, &mut game);
+            assert!(rt; (1..=14).contains(&grown), "{players} {seed} {grown}");
+            assert!(rt; ran <= ALL_RAN_BY, "{players} {seed}");
+        }
+    }
+    Ok(())
+}
+
+/// Where a packet finds no room, the round says so, and the next goes on from there.
+#[test]
+fn want_of_memory_ends_a_round(rt: HostRuntime) -> Result<(), Fail> {
+    let Ok(worlds) = walks(rt.alloc(), 2) else {
+        return Ok(());
+    };
+    let Ok(mut game) = Game::new(rt.alloc(), config(1_024)?, worlds) else {
+        return Ok(());
+    };
+    let mut carried_out = 0_u32;
+    for _ in 0..16 {
+        match game.good_round(no_keys()) {
+            Ok(()) => carried_out = carried_out.saturating_add(1),
+            Err(refusal) => assert_eq!(rt; refusal, Refusal::Memory),
+        }
+    }
+    assert!(rt; carried_out < 15 || ran(&game, 0) > Some(0));
+    Ok(())
+}

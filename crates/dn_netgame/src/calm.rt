@@ -1,0 +1,86 @@
+//! A storm and the calm after it: the lines of a game whose packets come to arrive.
+
+ghost use Rattle.std.specs.Prelude.{◌≡◌, ◌≢◌, Err, IfOk, IfErr};
+ghost use Rattle.std.specs.String.{string_bytes};
+ghost use Rattle.dn_demo.specs.Recorded.{IsLimit};
+ghost use Rattle.dn_lockstep.specs.Opening.{IsGame};
+ghost use Rattle.dn_netgame.specs.CalmLines.{no_keys, IsCalm};
+ghost use Rattle.dn_netgame.specs.Shown.{Prints, PrintsFront};
+ghost use Rattle.dn_netgame.specs.declared.fault.RunFault.{RunFault};
+
+use crate::fault::RunFault;
+use crate::games::{new_walks, text_of_game};
+use crate::transfer::put;
+use dn_game::{GameConfig, GameFault, storm};
+use dn_tic::Keys;
+use std::alloc::{AllocError, Global};
+use std::io::Write;
+
+/// Keys of a round in which nobody presses any.
+fn no_keys() -> [Keys; 4]
+    ensures { result ≡ no_keys }
+{
+    let none = Keys::from_bits(0);
+    [none, none, none, none]
+}
+
+/// The lines of a game of walks that has played so many events of the seed's schedule, and then so
+/// many rounds in which every packet arrives.
+fn text_of(
+    alloc: Global,
+    config: GameConfig,
+    players: u8,
+    seed: u64,
+    count: u32,
+    calm: u32,
+) -> Result<String, AllocError>
+    requires players { IsGame players }
+    requires limit { IsLimit config.limit }
+    ensures { IfOk result (λ text. IsCalm config players seed count calm (string_bytes text) 0) }
+{
+    let walks = new_walks(alloc, players)?;
+    match storm(alloc, config, walks, seed, count) {
+        Ok(mut played) => match played.game.good_rounds(no_keys(), calm) {
+            Ok(()) => text_of_game(alloc, &played),
+            Err(_) => Err(AllocError),
+        },
+        Err(GameFault::Memory) => Err(AllocError),
+        Err(GameFault::Players | GameFault::Limit) => unreachable!(),
+    }
+}
+
+/// Plays so many events of the seed's schedule in a game of so many new walks, and then so many rounds
+/// in which every packet arrives and nobody presses a key; and writes the lines of the game. The
+/// rounds are not among the events that the last line counts. The answer is the exit status, which is
+/// always 0.
+///
+/// A write that fails or takes no bytes is the fault `Write`, and `Memory` is answered where memory
+/// for the game, a packet of the rounds or the lines was refused. Each ends the run at once. A packet
+/// of the storm that found no room is no fault: its event counts as refused.
+pub fn run_calm<W: Write>(
+    alloc: Global,
+    config: GameConfig,
+    players: u8,
+    seed: u64,
+    count: u32,
+    calm: u32,
+    output: &mut W,
+) -> Result<u8, RunFault>
+    requires players { IsGame players }
+    requires limit { IsLimit config.limit }
+
+    // All lines of the game were written, and the status is theirs.
+    ensures shown { IfOk result (λ status. Prints (IsCalm config players seed count calm)
+        (W.contents output.old) (W.contents output.new) status) }
+
+    // A write fault comes before the last byte of the lines is written.
+    ensures write { result ≡ Err RunFault.Write
+        → PrintsFront (IsCalm config players seed count calm) (W.contents output.old) (W.contents output.new) }
+    // The only other fault is want of memory, which leaves the output as it was.
+    ensures fault { IfErr result (λ fault. fault ≢ RunFault.Read) }
+    ensures unwritten { result ≡ Err RunFault.Memory → output.new ≡ output.old }
+{
+    let text = text_of(alloc, config, players, seed, count, calm)?;
+    put(output, text.as_bytes())?;
+    Ok(0)
+}
