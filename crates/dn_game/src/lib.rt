@@ -7,6 +7,7 @@ mod game;
 mod laws;
 mod played;
 mod playing;
+mod pool;
 mod schedule;
 mod script;
 mod storming;
