@@ -19,9 +19,11 @@ use Rattle.dn_lockstep.specs.Rings.{count_of}
 use Rattle.dn_node.specs.Steps as step
 use Rattle.dn_node.specs.Steps.{Steps}
 use Rattle.dn_game.specs.declared.flight.Flight.{Flight}
+use Rattle.dn_game.specs.declared.pool.Record.{Record}
 use Rattle.dn_game.specs.Applied.{IsAfter}
 use Rattle.dn_game.specs.Contents.{Contents}
-use Rattle.dn_game.specs.Represents.{Represents}
+use Rattle.dn_game.specs.Pool.{IsRecordOf}
+use Rattle.dn_game.specs.Represents.{Represents, flight_of}
 use Rattle.dn_game.proofs.Moving.{places}
 use Rattle.dn_game.proofs.Refusing.{near_unless}
 use Rattle.dn_game.proofs.Standing.{flight_at, node_at, made_at}
@@ -44,25 +46,27 @@ Hears state physics old new from bytes heard =
     → Steps state physics (node.contents old) (node.contents new) (λ rules me m. on_packet rules me m flight) (λ x. heard ≡ x)
 
 pub delivers : {W S : Type 0} (state : W → S) (physics : Physics S) (players : ℕ) (extra : Bool) (capacity : ℕ) (g : Contents W) (m : machine.Game)
-    (r : Represents state (rules_of physics players extra capacity) g m) (which : ℕ) (f : Flight) → which < length g.flights → f ≡ slice_index_or g.flights which f
+    (r : Represents state (rules_of physics players extra capacity) g m) (which : ℕ) (entry : Record) → which < length g.flights
+    → ((f : Flight) → slice_get g.flights which ≡ Some f → IsRecordOf f entry)
     → refused_flight m (slice_get m.flights which) ≡ None
-    → (to : ℕ) (old new : Node W) (bytes : List ℕ) (heard : Heard) → to ≡ f.to → old ≡ slice_index_or g.nodes to old → bytes ≡ f.bytes.items
-    → Hears state physics old new f.from bytes heard
+    → (to : ℕ) (old new : Node W) (bytes : List ℕ) (heard : Heard) → to ≡ entry.to → old ≡ slice_index_or g.nodes to old
+    → ((f : Flight) → slice_get g.flights which ≡ Some f → bytes ≡ f.bytes.items)
+    → Hears state physics old new entry.from bytes heard
     → IsAfter state (rules_of physics players extra capacity) (record g { nodes = set g.nodes to new })
     (delivered (rules_of physics players extra capacity) m (slice_get m.flights which)) (Done.Heard heard)
-delivers state physics players extra capacity g m r which f below read free to old new bytes heard is_to is_old is_bytes hears =
+delivers state physics players extra capacity g m r which entry below told free to old new bytes heard is_to is_old is_bytes hears =
     let rules = rules_of physics players extra capacity in
-    let they : g.flights ≡ g.flights = refl in
-    let at = flight_at state rules g m r g.flights they which f below read in
+    let at = flight_at state rules g m r which below in
     let flight = at.0 in
-    let goes : to ≡ flight.to = is_to ∙ ap (λ (x : Flight). x.to) at.1.is in
-    let comes : f.from ≡ flight.from = ap (λ (x : Flight). x.from) at.1.is in
+    let of = told (flight_of flight) at.1.sent in
+    let goes : to ≡ flight.to = is_to ∙ of.to in
+    let comes : entry.from ≡ flight.from = of.from in
     let inside : to < length g.nodes = let a = at.1.carried.to in omega (arith, a, goes, r.players) in
     let shown = node_at state rules g m r to old inside is_old in
     let same : count_of (node.contents old).rings (node.contents old).me ≡ count_of (node.contents old).rings (node.contents old).me = refl in
     let count = made_at state rules g m r to _ old inside is_old same ∙ ap (λ (k : ℕ). made k (m.nodes k)) goes in
     delivers_to state rules g m which flight to new heard r at.1.there goes inside
-    (hears flight at.1.carried.fair (is_bytes ∙ ap (λ (x : Flight). x.bytes.items) at.1.is) (sym comes)
+    (hears flight at.1.carried.fair (is_bytes (flight_of flight) at.1.sent) (sym comes)
     (let a = at.1.carried.from in omega (arith, a, comes, shown.lockstep.players)) (λ e. at.1.carried.apart (sym comes ∙ e ∙ shown.lockstep.number ∙ goes))
     (ap (λ (k : ℕ). is_near k flight) count ∙ near_unless m which flight at.1.there free)
     players extra capacity to (m.nodes to) shown)

@@ -11,6 +11,7 @@ pub mod ScriptOneEvent
 pub mod ScriptEvents
 pub mod ScriptReading
 pub mod Places
+pub mod Packing
 pub mod Standing
 pub mod Refusing
 pub mod GoingRound

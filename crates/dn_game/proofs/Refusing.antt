@@ -1,5 +1,5 @@
 -- Why the machine refuses an event, by what was looked at.
-use Rattle.std.proofs.Common.{◌≡◌, ◌<◌, ◌⊎◌, inl, inr, ℕ, Bool, true, false, List, length, Option, Some, None, refl, ap, sym, ◌∙◌, arith}
+use Rattle.std.proofs.Common.{◌≡◌, ◌<◌, ◌⊎◌, inl, inr, ℕ, Bool, true, false, length, Option, Some, None, refl, ap, sym, ◌∙◌, arith}
 use Rattle.std.specs.Prelude.{not, ◌&&◌, if◌then◌else◌, nat_lt, slice_get, slice_index_or}
 use Rattle.dn_machine.specs.Flight as exact
 use Rattle.dn_machine.specs.Flight.{is_near}
@@ -16,8 +16,10 @@ use Rattle.dn_node.specs.Contents as node
 use Rattle.dn_lockstep.specs.Rings.{count_of}
 use Rattle.dn_lockstep.specs.Sent.{aim_of}
 use Rattle.dn_game.specs.declared.flight.Flight.{Flight}
+use Rattle.dn_game.specs.declared.pool.Record.{Record}
 use Rattle.dn_game.specs.Contents.{Contents}
-use Rattle.dn_game.specs.Represents.{Represents}
+use Rattle.dn_game.specs.Pool.{IsRecordOf}
+use Rattle.dn_game.specs.Represents.{Represents, flight_of}
 use Rattle.dn_game.proofs.Standing.{IsFlight, made_at, flight_at}
 
 -- a send to a player is refused as any event of its node is
@@ -50,15 +52,18 @@ module _ (m : machine.Game) (which : ℕ) (flight : exact.Flight) (there : slice
 
 -- the same of a game that represents it, whose receiver was asked how many commands it made
 module _ {W S : Type 0} (state : W → S) (rules : Rules S) (g : Contents W) (m : machine.Game) (r : Represents state rules g m)
-    (flights : List Flight) (they : flights ≡ g.flights) (which : ℕ) (f : Flight) (below : which < length flights) (read : f ≡ slice_index_or flights which f)
-    (to : ℕ) (n : Node W) (is_to : to ≡ f.to) (is_n : n ≡ slice_index_or g.nodes to n)
+    (which : ℕ) (below : which < length g.flights) (entry : Record) (told : (f : Flight) → slice_get g.flights which ≡ Some f → IsRecordOf f entry)
+    (to : ℕ) (n : Node W) (is_to : to ≡ entry.to) (is_n : n ≡ slice_index_or g.nodes to n)
     (count : ℕ) (counted : count ≡ count_of (node.contents n).rings (node.contents n).me)
-    (far : Bool) (tested : (flight : exact.Flight) → f.aim ≡ aim_of flight → far ≡ not (is_near count flight)) where
-  sent : (flight : exact.Flight) × IsFlight m rules.players which f flight
-  sent = flight_at state rules g m r flights they which f below read
+    (far : Bool) (tested : (flight : exact.Flight) → entry.aim ≡ aim_of flight → far ≡ not (is_near count flight)) where
+  sent : (flight : exact.Flight) × IsFlight m rules.players g.flights which flight
+  sent = flight_at state rules g m r which below
+
+  of : IsRecordOf (flight_of sent.0) entry
+  of = told (flight_of sent.0) sent.1.sent
 
   goes_to : to ≡ sent.0.to
-  goes_to = is_to ∙ ap (λ (x : Flight). x.to) sent.1.is
+  goes_to = is_to ∙ of.to
 
   there_is : to < rules.players
   there_is = let inside = sent.1.carried.to in omega (arith, inside, goes_to)
@@ -66,12 +71,12 @@ module _ {W S : Type 0} (state : W → S) (rules : Rules S) (g : Contents W) (m 
   tells_far : far ≡ not (is_near (made sent.0.to (m.nodes sent.0.to)) sent.0)
   tells_far =
       let known = made_at state rules g m r to count n (omega (arith, there_is, r.players)) is_n counted ∙ ap (λ (k : ℕ). made k (m.nodes k)) goes_to in
-      tested sent.0 (ap (λ (x : Flight). x.aim) sent.1.is) ∙ ap (λ (k : ℕ). not (is_near k sent.0)) known
+      tested sent.0 of.aim ∙ ap (λ (k : ℕ). not (is_near k sent.0)) known
 
   pub told_far : far ≡ true → Some Refusal.Far ≡ refused_flight m (slice_get m.flights which)
   told_far so = is_refused_far m which sent.0 sent.1.there far tells_far so
 
-  pub told_near : far ≡ false → (place : ℕ) (stopped : Bool) → place ≡ f.to → stopped ≡ slice_index_or g.stopped place false
+  pub told_near : far ≡ false → (place : ℕ) (stopped : Bool) → place ≡ entry.to → stopped ≡ slice_index_or g.stopped place false
       → (if stopped then Some Refusal.Stopped else None) ≡ refused_flight m (slice_get m.flights which)
   told_near so place stopped there is =
       let same = ap (λ (k : ℕ). slice_index_or g.stopped k false) (there ∙ sym is_to) in

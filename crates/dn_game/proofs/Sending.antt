@@ -1,6 +1,6 @@
 -- What a node gives, and what joins the packets.
 use Rattle.std.proofs.Common.{◌≡◌, ◌<◌, ◌++◌, ◌∷◌, [], ℕ, Bool, true, false, cond, List, length, set, Option, Some, None, refl, ap, sym, ◌∙◌, subst, arith}
-use Rattle.std.specs.Prelude.{All, IfSome, nat_lt, if◌then◌else◌}
+use Rattle.std.specs.Prelude.{All, IfSome, nat_lt}
 use Rattle.std.specs.Option.{option_map}
 use Rattle.std.proofs.lemmas.Bool.{lt-ltb, cond-true}
 use Rattle.std.proofs.lemmas.Option.{same_Some}
@@ -119,19 +119,14 @@ module _ {W S : Type 0} (state : W → S) (rules : Rules S) (g : Contents W) (m 
       sends_if (Done.Sent which) (posts_some state rules (record g { nodes = set g.nodes me new }) (with_node m me sent.0)
       (places state rules g m me new sent.0 r below after.node) sent.1 flights flight some.1 _ is carried more which last)
 
--- where a list took one more, if it did, all receivers are players still
-if_more : (P : Flight → Type 0) (took : Bool) (old : List Flight) (f : Flight) → All P old → P f → All P (if took then old ++ f ∷ [] else old)
-if_more P true old f all one = all_more P old f all one
-if_more P false old f all one = all
+-- a list took one more
+pub joins : (new old before : List Flight) (f : Flight) → new ≡ old ++ f ∷ [] → old ≡ before → new ≡ before ++ f ∷ []
+joins new old before f is kept = is ∙ ap (λ (fs : List Flight). fs ++ f ∷ []) kept
 
-pub still_below : (took : Bool) (count after : ℕ) (before old new : List Flight) (f : Flight) → new ≡ (if took then old ++ f ∷ [] else old) → old ≡ before
-    → All (λ x. x.to < count) before → f.to < count → after ≡ count → All (λ x. x.to < after) new
-still_below took count after before old new f is kept all one same =
+-- and all receivers are players still
+pub still_below : (count after : ℕ) (old new : List Flight) (f : Flight) → new ≡ old ++ f ∷ [] → All (λ x. x.to < count) old → f.to < count → after ≡ count
+    → All (λ x. x.to < after) new
+still_below count after old new f is all one same =
     let P : Flight → Type 0 = λ x. x.to < count in
     let Q : ℕ → Type 0 = λ k. All (λ (x : Flight). x.to < k) new in
-    subst Q (sym same) (subst (All P) (sym is) (if_more P took old f (subst (All P) (sym kept) all) one))
-
-pub took_one : (took : Bool) (before old new : List Flight) (f : Flight) → new ≡ (if took then old ++ f ∷ [] else old) → took ≡ true → old ≡ before
-    → new ≡ before ++ f ∷ []
-took_one took before old new f is so kept =
-    is ∙ ap (λ (b : Bool). if b then old ++ f ∷ [] else old) so ∙ ap (λ (fs : List Flight). fs ++ f ∷ []) kept
+    subst Q (sym same) (subst (All P) (sym is) (all_more P old f all one))

@@ -1,6 +1,8 @@
 -- What stands where in a game that represents one of the machine.
-use Rattle.std.proofs.Common.{◌≡◌, ◌<◌, ℕ, Some, List, length, refl, ap, sym, ◌∙◌}
+use Rattle.std.proofs.Common.{◌≡◌, ◌<◌, ℕ, Some, List, length, refl, ap, ◌∙◌, arith}
 use Rattle.std.specs.Prelude.{slice_get, slice_index_or}
+use Rattle.std.specs.Option.{option_map}
+use Rattle.std.proofs.lemmas.List.{length-map}
 use Rattle.std.proofs.lemmas.Option.{slice_get-map, slice_get_read}
 use Rattle.dn_machine.specs.Flight as exact
 use Rattle.dn_machine.specs.Game as machine
@@ -11,16 +13,15 @@ use Rattle.dn_node.specs.Contents as node
 use Rattle.dn_node.specs.Represents as node_to
 use Rattle.dn_lockstep.specs.Rings.{count_of}
 use Rattle.dn_lockstep.proofs.Counting.{made_is}
-use Rattle.dn_lockstep.proofs.Giving.{some_flight}
 use Rattle.dn_game.specs.declared.flight.Flight.{Flight}
 use Rattle.dn_game.specs.Contents.{Contents}
 use Rattle.dn_game.specs.Represents.{Represents, IsCarried, flight_of}
-use Rattle.dn_game.proofs.Places.{all_at}
+use Rattle.dn_game.proofs.Places.{there_is, all_at}
 
--- the machine's flight of a packet
-pub record IsFlight (m : machine.Game) (players which : ℕ) (f : Flight) (flight : exact.Flight) : Type 0 where
+-- the machine's flight of a packet that was sent
+pub record IsFlight (m : machine.Game) (players : ℕ) (flights : List Flight) (which : ℕ) (flight : exact.Flight) : Type 0 where
   pub there : slice_get m.flights which ≡ Some flight
-  pub is : f ≡ flight_of flight
+  pub sent : slice_get flights which ≡ Some (flight_of flight)
   pub carried : IsCarried players flight
 
 module _ {W S : Type 0} (state : W → S) (rules : Rules S) (g : Contents W) (m : machine.Game) (r : Represents state rules g m) where
@@ -35,11 +36,9 @@ module _ {W S : Type 0} (state : W → S) (rules : Rules S) (g : Contents W) (m 
   made_at i count n h is c = c ∙ made_is rules i (node.locked (node.contents n)) (m.nodes i) (node_at i n h is).lockstep n.lockstep.me_below
 
   -- a packet that was sent is that of a flight
-  pub flight_at : (flights : List Flight) → flights ≡ g.flights → (which : ℕ) (f : Flight) → which < length flights → f ≡ slice_index_or flights which f
-      → (flight : exact.Flight) × IsFlight m rules.players which f flight
-  flight_at flights they which f h read =
-      let same : length flights ≡ length flights = refl in
-      let at = slice_get_read flights (length flights) which f same h read in
-      let found = some_flight flight_of f (slice_get m.flights which)
-      (sym at ∙ ap (λ (fs : List Flight). slice_get fs which) (they ∙ r.flights) ∙ slice_get-map flight_of m.flights which) in
-      (found.0, record { there = found.1; is = found.2; carried = all_at (IsCarried rules.players) m.flights which found.0 r.carried found.1 })
+  pub flight_at : (which : ℕ) → which < length g.flights → (flight : exact.Flight) × IsFlight m rules.players g.flights which flight
+  flight_at which below =
+      let count = ap length r.flights ∙ length-map m.flights flight_of in
+      let at = there_is m.flights which (omega (arith, below, count)) in
+      let sent = ap (λ (fs : List Flight). slice_get fs which) r.flights ∙ slice_get-map flight_of m.flights which ∙ ap (option_map flight_of) at.1 in
+      (at.0, record { there = at.1; sent = sent; carried = all_at (IsCarried rules.players) m.flights which at.0 r.carried at.1 })

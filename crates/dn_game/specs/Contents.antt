@@ -13,4 +13,4 @@ pub record Contents (W : Type 0) : Type 0 where
   pub flights : List Flight
 
 abbrev pub contents : {W : Type 0} → Game W → Contents W
-contents game = record { nodes = game.nodes.items; stopped = game.stopped; flights = game.flights.items }
+contents game = record { nodes = game.nodes.items; stopped = game.stopped; flights = game.pool.flights }

@@ -15,3 +15,4 @@ pub mod ScriptWords
 pub mod ScriptLines
 pub mod Script
 pub mod Stormed
+pub mod Pool

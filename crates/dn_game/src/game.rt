@@ -2,11 +2,13 @@
 
 ghost use Rattle.std.specs.Prelude.{◌≡◌, ◌<◌, ◌≤◌, All, length, false, slice_get, slice_index_or, Option};
 ghost use Rattle.std.specs.Option.{option_copied};
+ghost use Rattle.dn_game.specs.Pool.{joined};
 
 mod applying;
 mod opening;
 
 use crate::flight::Flight;
+use crate::pool::Pool;
 use dn_node::Node;
 use dn_world::World;
 
@@ -15,10 +17,10 @@ use dn_world::World;
 pub struct Game<W> {
     nodes: Vec<Node<W>>,
     stopped: [bool; 4],
-    flights: Vec<Flight>,
+    pool: Pool,
     ghost two: { 2 ≤ length nodes.items },
     ghost few: { length nodes.items ≤ 4 },
-    ghost receivers: { All (λ flight. flight.to < length nodes.items) flights.items },
+    ghost receivers: { All (λ flight. flight.to < length nodes.items) pool.flights },
 }
 
 impl<W: World> Game<W> {
@@ -54,13 +56,20 @@ impl<W: World> Game<W> {
     pub fn flights(&self) -> usize
         ensures { result ≡ length (contents self.now).flights }
     {
-        self.flights.len()
+        self.pool.len()
     }
 
     /// The packet that was sent as this one, counted from 0.
-    pub fn flight(&self, which: usize) -> Option<&Flight>
-        ensures { option_copied result ≡ slice_get (contents self.now).flights which }
+    pub fn flight(&self, which: usize) -> Option<Flight>
+        ensures { result ≡ slice_get (contents self.now).flights which }
     {
-        self.flights.get(which)
+        self.pool.flight(which)
+    }
+
+    /// The datagrams of all packets, in order of sending.
+    pub fn pool(&self) -> &[u8]
+        ensures { result.now ≡ joined (contents self.now).flights }
+    {
+        self.pool.bytes()
     }
 }

@@ -8,6 +8,7 @@ mod going_on;
 mod laws;
 mod played;
 mod playing;
+mod pool;
 mod rounds;
 mod schedule;
 mod script;

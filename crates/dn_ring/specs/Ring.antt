@@ -1,5 +1,6 @@
 -- A ring: how many commands were put, and the last twelve of them.
-use Rattle.std.specs.Prelude.{ℕ, ◌+◌, ◌-◌, ◌&&◌, List, [], ◌∷◌, ◌++◌, length, drop, Option, None, nat_lt, nat_le, if◌then◌else◌, slice_get}
+use Rattle.std.specs.Prelude.{◌≡◌, ◌<◌, ◌≤◌, ℕ, ◌+◌, ◌-◌, ◌%◌, min, pos, ◌&&◌, List, [], ◌∷◌, ◌++◌, length, map, drop, Option, None, Some, nat_lt, nat_le, if◌then◌else◌, slice_get, slice_index_or}
+use Rattle.std.specs.List.{range_with_len}
 use Rattle.dn_tic.specs.declared.command.TicCmd.{TicCmd}
 
 pub record Ring : Type 0 where
@@ -27,3 +28,28 @@ get ring tic =
     if nat_lt tic ring.count && nat_le (ring.count - tic) 12
     then slice_get ring.last (length ring.last - (ring.count - tic))
     else None
+
+-- the command of eight zero bytes
+abbrev pub no_command : TicCmd
+no_command = record { forward = pos 0; side = pos 0; turn = pos 0; mark = pos 0; chat = 0; buttons = 0 }
+
+-- the table of a whole list of commands: the slot of each of the last twelve has it, and a slot that no command has taken is
+-- zero (`d_net.c`: command t stands in slot t % BACKUPTICS)
+pub record AreSlotsOf (commands slots : List TicCmd) : Type 0 where
+  pub twelve : length slots ≡ 12
+  pub taken : (tic : ℕ) (command : TicCmd) → length commands ≤ tic + 12 → slice_get commands tic ≡ Some command
+      → slice_get slots (tic % 12) ≡ Some command
+  pub free : (slot : ℕ) → length commands ≤ slot → slot < 12 → slice_get slots slot ≡ Some no_command
+
+-- the command in the slot of a tic
+abbrev pub in_slot : List TicCmd → ℕ → TicCmd
+in_slot slots tic = slice_index_or slots (tic % 12) no_command
+
+-- the last of so many commands, by their table
+abbrev pub last_in : ℕ → List TicCmd → List TicCmd
+last_in count slots = map (in_slot slots) (range_with_len (count - 12) (min count 12))
+
+-- a table of so many commands
+pub record IsTable (count : ℕ) (slots : List TicCmd) : Type 0 where
+  pub twelve : length slots ≡ 12
+  pub free : (slot : ℕ) → count ≤ slot → slot < 12 → slice_index_or slots slot no_command ≡ no_command

@@ -1,9 +1,9 @@
 //! A count of commands, and the last twelve of them.
 
-ghost use Rattle.std.specs.Prelude.{◌≡◌, ◌+◌, ◌^◌, ◌<◌, ◌≤◌, true, is_some};
-ghost use Rattle.dn_ring.specs.Ring.{empty, put, get};
+ghost use Rattle.std.specs.Prelude.{◌≡◌, ◌+◌, ◌^◌, ◌<◌, ◌≤◌, List, true, is_some};
+ghost use Rattle.dn_tic.specs.declared.command.TicCmd.{TicCmd};
+ghost use Rattle.dn_ring.specs.Ring.{empty, put, get, ring_of, AreSlotsOf};
 
-use arrayvec::ArrayVec;
 use dn_tic::TicCmd;
 use std::marker::Model;
 
@@ -15,18 +15,17 @@ const PLACES: u32 = 12;
 #[derive(Debug, Drop)]
 pub struct Ring {
     count: u32,
-    last: ArrayVec<TicCmd, 12>,
+    slots: [TicCmd; 12],
 }
 
 impl Model for Ring {
-    ghost use Rattle.std.specs.Prelude.{◌≡◌, min, length};
-    ghost use Rattle.dn_ring.specs.Ring.{Ring as Tail};
+    ghost use Rattle.dn_ring.specs.Ring.{Ring as Tail, IsTable, last_in};
 
     ghost Value = { Tail };
 
-    ghost view = { λ r. record { count = r.count; last = r.last.items } };
+    ghost view = { λ r. record { count = r.count; last = last_in r.count r.slots } };
 
-    ghost invariant = { λ r. length r.last.items ≡ min r.count 12 };
+    ghost invariant = { λ r. IsTable r.count r.slots };
 }
 
 impl Ring {
@@ -36,7 +35,7 @@ impl Ring {
     {
         Ring {
             count: 0,
-            last: ArrayVec::new(),
+            slots: [TicCmd::default(); 12],
         }
     }
 
@@ -52,11 +51,8 @@ impl Ring {
         requires { self.old.count + 1 < 2 ^ 32 }
         ensures { self.new ≡ put self.old command }
     {
-        let Ring { count, last } = self;
-        if last.is_full() {
-            last.remove(0);
-        }
-        last.push(command);
+        let Ring { count, slots } = self;
+        slots[(*count % PLACES) as usize] = command;
         *count += 1;
     }
 
@@ -67,10 +63,17 @@ impl Ring {
         ensures there { tic < self.now.count → self.now.count ≤ tic + 12 → is_some result ≡ true }
     {
         if tic < self.count && self.count - tic <= PLACES {
-            let place = self.last.len() - (self.count - tic) as usize;
-            self.last.as_slice().get(place).copied()
+            Some(self.slots[(tic % PLACES) as usize])
         } else {
             None
         }
+    }
+
+    /// The twelve slots: each of the last twelve commands stands in slot `tic % 12`, and a slot that was
+    /// never taken has the command of eight zero bytes.
+    pub fn slots(&self) -> &[TicCmd; 12]
+        ensures { (commands : List TicCmd) → self.now ≡ ring_of commands → AreSlotsOf commands result.now }
+    {
+        &self.slots
     }
 }

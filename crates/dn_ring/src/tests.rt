@@ -34,3 +34,32 @@ fn a_ring_keeps_the_last_twelve(rt: HostRuntime) {
         assert_eq!(rt; ring.get(tic), want, "tic {tic}");
     }
 }
+
+#[test]
+fn slots_go_round(rt: HostRuntime) {
+    let mut ring = Ring::new();
+    let zero = TicCmd::from_bytes(&[0; 8]);
+    assert_eq!(rt; *ring.slots(), [zero; 12]);
+    for letter in 0..13_u8 {
+        ring.put(chat(letter));
+    }
+    let rows = [(0, 12), (1, 1), (2, 2), (10, 10), (11, 11)];
+    for (place, letter) in rows {
+        assert_eq!(rt; ring.slots()[place], chat(letter), "slot {place}");
+    }
+}
+
+#[test]
+fn a_slot_that_was_never_taken_is_zero(rt: HostRuntime) {
+    let mut ring = Ring::new();
+    ring.put(chat(7));
+    assert_eq!(rt; ring.slots()[0], chat(7));
+    for place in 1..12 {
+        assert_eq!(rt;
+            ring.slots()[place],
+            TicCmd::from_bytes(&[0; 8]),
+            "slot {place}"
+        );
+    }
+    assert_eq!(rt; ring.get(1), None);
+}

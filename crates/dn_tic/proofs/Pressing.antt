@@ -1,6 +1,7 @@
 -- The command that one more key state makes.
-use Rattle.std.proofs.Common.{◌≡◌, ℕ, ◌-◌, List, [], ◌∷◌, ◌++◌, length, get_or, ℤ, pos, negsuc, ◌+ℤ◌, ◌≤ℤ◌, refl, ap, ◌∙◌, arith, length-append}
+use Rattle.std.proofs.Common.{◌≡◌, ℕ, ◌-◌, Bool, true, false, ◌-ℤ◌, ◌*ℤ◌, to_z, of_z, List, [], ◌∷◌, ◌++◌, length, get_or, ℤ, pos, negsuc, ◌+ℤ◌, ◌≤ℤ◌, refl, ap, ◌∙◌, arith, length-append}
 use Rattle.std.proofs.Math.Seq.{get_or-append_seam}
+use Rattle.std.specs.Int.{w16, from_bool}
 use Rattle.std.proofs.lemmas.Int.{ints, clamps}
 use Rattle.dn_tic.specs.declared.keys.Key.TheVariants.{Forward, Back, StrafeRight, StrafeLeft}
 use Rattle.dn_tic.specs.Pressed.{pressed, clamped, opposed, strafed, forward_amount, side_amount, command_of, turn_hold, last_state}
@@ -30,6 +31,15 @@ forward-low states mark = clamped-low (opposed (last_state states) Forward Back 
 pub forward-high : (states : List ℕ) (mark : ℤ) → (pressed states mark).forward ≤ℤ pos 50
 unfolding pressed
 forward-high states mark = clamped-high (opposed (last_state states) Forward Back (forward_amount (last_state states)))
+
+-- a pair of opposite keys gives no more than the amount
+pub opposed-high : (more less : Bool) (one other amount : ℤ) → one ≡ pos (from_bool more) → other ≡ pos (from_bool less)
+    → pos 0 ≤ℤ amount → amount ≤ℤ pos 1280
+    → to_z w16 (of_z w16 (to_z w16 (of_z w16 (to_z w16 (of_z w16 one) -ℤ to_z w16 (of_z w16 other))) *ℤ to_z w16 (of_z w16 amount))) ≤ℤ amount
+opposed-high true true one other amount e f least most = rw (e, f) (omega (arith, ints, least, most))
+opposed-high true false one other amount e f least most = rw (e, f) (omega (arith, ints, least, most))
+opposed-high false true one other amount e f least most = rw (e, f) (omega (arith, ints, least, most))
+opposed-high false false one other amount e f least most = rw (e, f) (omega (arith, ints, least, most))
 
 -- the two parts of a side move
 pub side_is : (keys : ℕ) (from_turn amount from_strafe : ℤ) → from_turn ≡ strafed keys → amount ≡ side_amount keys

@@ -40,11 +40,8 @@ fn opposed(keys: Keys, more: Key, less: Key, amount: i16) -> i16
     ensures low { pos 0 ≤ℤ (result +ℤ amount) }
     ensures high { result ≤ℤ amount }
 {
-    match (keys.is_down(more), keys.is_down(less)) {
-        (true, false) => amount,
-        (false, true) => -amount,
-        _ => 0,
-    }
+    // A product, where branches on keys would be guessed wrongly.
+    (i16::from(keys.is_down(more)) - i16::from(keys.is_down(less))) * amount
 }
 
 fn forward_amount(keys: Keys) -> i16
@@ -87,11 +84,7 @@ fn strafed(keys: Keys) -> i16
     ensures low { negsuc 39 ≤ℤ result }
     ensures high { result ≤ℤ pos 40 }
 {
-    if keys.is_down(Key::Strafe) {
-        opposed(keys, Key::Right, Key::Left, side_amount(keys))
-    } else {
-        0
-    }
+    i16::from(keys.is_down(Key::Strafe)) * opposed(keys, Key::Right, Key::Left, side_amount(keys))
 }
 
 /// How far the keys go to the right.
@@ -106,11 +99,8 @@ pub(crate) fn side_move(keys: Keys) -> i8
 pub(crate) fn turn(keys: Keys, hold: u8) -> i16
     ensures { result ≡ turned keys hold }
 {
-    if keys.is_down(Key::Strafe) {
-        0
-    } else {
-        opposed(keys, Key::Left, Key::Right, turn_amount(keys, hold))
-    }
+    i16::from(!keys.is_down(Key::Strafe))
+        * opposed(keys, Key::Left, Key::Right, turn_amount(keys, hold))
 }
 
 /// The place of the first of these keys that is down.

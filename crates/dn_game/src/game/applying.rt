@@ -6,7 +6,7 @@ ghost use Rattle.dn_machine.specs.declared.events.Done.{Done};
 ghost use Rattle.dn_machine.specs.Game.{refused, refused_at, refused_flight, on_event};
 
 use super::Game;
-use crate::flight::{Flight, is_far};
+use crate::flight::is_far;
 use dn_machine::{Done, Event, Heard, Refusal};
 use dn_world::World;
 
@@ -40,9 +40,11 @@ impl<W: World> Game<W> {
         ensures told { Tells W.state W.physics (contents self.now) (λ rules m. result ≡ refused_flight m (slice_get m.flights which)) }
         ensures there { result ≡ None → which < length (contents self.now).flights }
     {
-        let Some(flight) = self.flights.get(which as usize) else {
+        let which = which as usize;
+        if which >= self.pool.len() {
             return Some(Refusal::NoPacket);
-        };
+        }
+        let flight = self.pool.record(which);
         let receiver = &self.nodes[usize::from(flight.to)];
         if is_far(&flight.aim, receiver.made()) {
             Some(Refusal::Far)
@@ -76,7 +78,7 @@ impl<W: World> Game<W> {
             ⊎ IsLeftOut (contents self.old) (contents self.new) (Send node to) result) }
         ensures unchanged { OnErr result (contents self.new ≡ contents self.old) }
     {
-        let Ok(()) = self.flights.reserve(1) else {
+        let Ok(()) = self.pool.reserve() else {
             return Err(Refusal::Memory);
         };
         let sender = &mut self.nodes[node as usize];
@@ -87,15 +89,8 @@ impl<W: World> Game<W> {
         let Some(bytes) = sender.packet(to) else {
             return Ok(Done::Silent);
         };
-        let which = self.flights.len();
-        self.flights
-            .push(Flight {
-                from: node as u8,
-                to,
-                aim,
-                bytes,
-            })
-            .unwrap();
+        let which = self.pool.len();
+        self.pool.push(node as u8, to, aim, &bytes);
         Ok(Done::Sent(which))
     }
 
@@ -106,8 +101,9 @@ impl<W: World> Game<W> {
             refused_flight m (slice_get m.flights which) ≡ None
             → IsAfter W.state rules (contents self.new) (on_event rules m (Deliver which)) (Done.Heard result)) }
     {
-        let flight = &self.flights[which as usize];
-        self.nodes[usize::from(flight.to)].receive(flight.from, flight.bytes.as_slice())
+        let which = which as usize;
+        let flight = self.pool.record(which);
+        self.nodes[usize::from(flight.to)].receive(flight.from, self.pool.datagram(which))
     }
 
     /// Applies one event, or says why it is refused; a refused event changes nothing.

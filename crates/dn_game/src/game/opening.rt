@@ -7,6 +7,7 @@ ghost use Rattle.dn_game.specs.Fresh.{AreFresh, worlds_of};
 
 use super::Game;
 use crate::config::{GameConfig, GameFault};
+use crate::pool::Pool;
 use dn_demo::is_limit;
 use dn_node::{Config, Node};
 use dn_world::World;
@@ -35,7 +36,7 @@ impl<W: World> Game<W> {
         Ok(Game {
             nodes,
             stopped: [false; 4],
-            flights: Vec::new(alloc),
+            pool: Pool::new(alloc),
         })
     }
 }

@@ -18,7 +18,8 @@ fn start() -> [Event; 6] {
     ]
 }
 
-/// Sends a packet: it joins the others, or there is no room for it and nothing has changed.
+/// Sends a packet: it joins the others, or there is no room in one of the two lists that it grows, and
+/// nothing has changed.
 fn send_one(rt: &impl Abort, game: &mut Game<Walk>) {
     let before = all_told(game);
     let count = game.flights();
@@ -37,7 +38,7 @@ fn want_of_memory_is_told(rt: HostRuntime) -> Result<(), Fail> {
     if let Ok(worlds) = walks(rt.alloc(), 2) {
         match Game::new(rt.alloc(), config(1_024)?, worlds) {
             Ok(mut game) => {
-                for _ in 0..9 {
+                for _ in 0..30 {
                     send_one(&rt, &mut game);
                 }
             }
@@ -88,5 +89,26 @@ fn there_is_room_for_many_packets(rt: HostRuntime) -> Result<(), Fail> {
         assert_eq!(rt; game.apply(send(0, 1)), Ok(Done::Sent(which)));
     }
     assert_eq!(rt; game.flights(), 10_000);
+    assert_eq!(rt; game.pool().len(), 80_000);
+    Ok(())
+}
+
+/// Both lists grow at the first send: where either may not, the answer says so, and the same send may
+/// come again.
+#[test]
+fn the_first_send_needs_room_in_both_lists(rt: HostRuntime) -> Result<(), Fail> {
+    let Ok(worlds) = walks(rt.alloc(), 2) else {
+        return Ok(());
+    };
+    let Ok(mut game) = Game::new(rt.alloc(), config(1_024)?, worlds) else {
+        return Ok(());
+    };
+    let before = all_told(&game);
+    if game.apply(send(0, 1)) == Err(Refusal::Memory) {
+        assert_eq!(rt; all_told(&game), before);
+        assert_eq!(rt; game.apply(send(0, 1)), Ok(Done::Sent(0)));
+    }
+    assert_eq!(rt; game.flights(), 1);
+    assert_eq!(rt; game.pool().len(), 8);
     Ok(())
 }

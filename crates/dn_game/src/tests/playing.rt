@@ -84,6 +84,8 @@ fn answered() -> [(Event, Done); 15] {
 /// Looks at the game that the script leaves.
 fn look(rt: &impl Abort, game: &Game<Walk>) {
     assert_eq!(rt; game.flights(), 5);
+    assert_eq!(rt; game.pool().len(), 80);
+    let mut rest = game.pool();
     for (place, (from, to, flags, ask, start, count, front)) in FLIGHTS.iter().enumerate() {
         let Some(flight) = game.flight(place) else {
             assert!(rt; false, "no packet {place}");
@@ -102,6 +104,8 @@ fn look(rt: &impl Abort, game: &Game<Walk>) {
         bytes[..8].copy_from_slice(front);
         let len = 8 + 8 * usize::from(*count);
         assert_eq!(rt; flight.bytes.as_slice(), &bytes[..len], "{place}");
+        assert_eq!(rt; rest.get(..len), Some(&bytes[..len]), "{place}");
+        rest = rest.get(len..).unwrap_or(&[]);
     }
     assert!(rt; game.flight(5).is_none());
     for (number, made) in [(0, 1), (1, 2)] {

@@ -1,6 +1,6 @@
 //! What a node of a game tells of itself, to be compared.
 
-use crate::Game;
+use crate::{Flight, Game};
 use dn_node::{Node, Phase};
 use dn_setup::Settings;
 use dn_world::{Walk, World};
@@ -55,8 +55,30 @@ pub fn told(game: &Game<Walk>, number: u32) -> Option<Telling> {
     })
 }
 
-/// What all nodes tell, and how many packets there are.
-pub fn all_told(game: &Game<Walk>) -> ([Option<Telling>; 4], usize) {
-    let nodes = [told(game, 0), told(game, 1), told(game, 2), told(game, 3)];
-    (nodes, game.flights())
+/// How many bytes the pool has, and the first of them.
+fn pool_front(game: &Game<Walk>) -> (usize, [u8; 256]) {
+    let pool = game.pool();
+    let mut front = [0; 256];
+    let shown = pool.len().min(256);
+    front[..shown].copy_from_slice(&pool[..shown]);
+    (pool.len(), front)
+}
+
+/// All that a game tells of itself.
+#[derive(Debug, Drop, PartialEq, Eq)]
+pub struct GameTelling {
+    nodes: [Option<Telling>; 4],
+    flights: usize,
+    pool: (usize, [u8; 256]),
+    last: Option<Flight>,
+}
+
+/// What all nodes tell, and what the packets are.
+pub fn all_told(game: &Game<Walk>) -> GameTelling {
+    GameTelling {
+        nodes: [told(game, 0), told(game, 1), told(game, 2), told(game, 3)],
+        flights: game.flights(),
+        pool: pool_front(game),
+        last: game.flight(game.flights().saturating_sub(1)),
+    }
 }

@@ -2,7 +2,6 @@ use Rattle.dn_game.specs.Opening.{rules_in}
 use Rattle.std.proofs.Common.{List, [], ◌∷◌, ◌++◌, take, length, ap, sym, ◌∙◌, subst, arith}
 use Rattle.std.proofs.lemmas.List.{take_all, take_more}
 use Rattle.dn_machine.specs.declared.events.Event.{Event}
-use Rattle.dn_machine.specs.Worlds.{rules_of}
 use Rattle.dn_game.specs.Played.{IsPlayed}
 use Rattle.dn_game.proofs.Answering.{played_more}
 use Rattle.dn_game.proofs.Agreeing.{agreed_on_keys}

@@ -1,6 +1,5 @@
 use Rattle.dn_game.specs.Opening.{rules_in}
 use Rattle.std.proofs.Common.{◌≡◌, ◌+◌, length, take}
-use Rattle.dn_machine.specs.Worlds.{rules_of}
 use Rattle.dn_game.specs.Played.{IsPlayed}
 use Rattle.dn_game.proofs.playing.play.Given as goal
 

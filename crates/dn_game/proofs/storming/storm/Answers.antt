@@ -2,7 +2,6 @@ use Rattle.dn_demo.specs.Recorded.{capacity}
 use Rattle.dn_game.specs.Opening.{rules_in}
 use Rattle.std.proofs.Common.{◌≡◌, ◌+◌, ℕ, [], length, refl, ap, sym, ◌∙◌, subst, arith}
 use Rattle.dn_machine.specs.Game.{opening_game}
-use Rattle.dn_machine.specs.Worlds.{rules_of}
 use Rattle.dn_game.specs.Schedule.{behind_three, generator_of, scheduled}
 use Rattle.dn_game.specs.Stormed.{IsStormed}
 use Rattle.dn_game.specs.declared.played.Played.{Played}

@@ -1,6 +1,5 @@
 use Rattle.dn_game.specs.Opening.{rules_in}
 use Rattle.std.proofs.Common.{◌≡◌, ◌+◌, length}
-use Rattle.dn_machine.specs.Worlds.{rules_of}
 use Rattle.dn_game.specs.Stormed.{IsStormed}
 use Rattle.dn_game.proofs.storming.storm.Given as goal
 

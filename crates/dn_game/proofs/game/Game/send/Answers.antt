@@ -1,12 +1,11 @@
 use Rattle.std.proofs.Common.{length, inl, refl, ap, ◌∙◌, arith}
-use Rattle.std.specs.Prelude.{is_ok}
 use Rattle.std.proofs.lemmas.List.{length-set}
 use Rattle.dn_machine.specs.declared.events.Done.{Done}
 use Rattle.dn_machine.specs.Worlds.{rules_of}
 use Rattle.dn_lockstep.specs.Sent.{aim_of, bytes_of}
 use Rattle.dn_node.proofs.Stepping.{along}
 use Rattle.dn_lockstep.proofs.Giving.{none_sent, no_flight}
-use Rattle.dn_game.proofs.Sending.{sends_none, sends_packet, still_below, took_one}
+use Rattle.dn_game.proofs.Sending.{sends_none, sends_packet, joins, still_below}
 use Rattle.dn_game.proofs.Standing.{node_at}
 use Rattle.dn_game.proofs.game.Game.send.Goals as goal
 
@@ -15,19 +14,20 @@ returns-in_default-aim-clause-sent g c players extra capacity m r =
     let rules = rules_of g.W.World.physics players extra capacity in
     let shown = node_at _ rules _ m r _ _ c.requires.node c.index_mut-sender.ensures.value in
     let none = no_flight aim_of _ (c.in_default-aim.ensures.step players extra capacity _ _ shown).answer in
-    inl (Done.Silent, refl, sends_none _ rules _ m r _ _ c.requires.node c.requires.to _ _ (along (none_sent rules _ _ c.args.to none) shown) none c.in-Ok.ensures.items)
+    inl (Done.Silent, refl, sends_none _ rules _ m r _ _ c.requires.node c.requires.to _ _ (along (none_sent rules _ _ c.args.to none) shown) none c.in-Ok.ensures.kept)
 
 pub returns-in_default-packet-clause-sent : goal.returns-in_default-packet-clause-sent
 returns-in_default-packet-clause-sent g c players extra capacity m r =
     let rules = rules_of g.W.World.physics players extra capacity in
     let shown = node_at _ rules _ m r _ _ c.requires.node c.index_mut-sender.ensures.value in
     let after = c.in_default-packet.ensures.step players extra capacity _ _ shown in
-    inl (Done.Silent, refl, sends_none _ rules _ m r _ _ c.requires.node c.requires.to _ _ after.node (no_flight bytes_of _ after.answer) c.in-Ok.ensures.items)
+    inl (Done.Silent, refl, sends_none _ rules _ m r _ _ c.requires.node c.requires.to _ _ after.node (no_flight bytes_of _ after.answer) c.in-Ok.ensures.kept)
 
 pub invariant_of-self-2-clause-receivers : goal.invariant_of-self-2-clause-receivers
 invariant_of-self-2-clause-receivers g c =
     let n = c.args.self.now in
-    still_below _ (length n.nodes.items) _ _ _ _ _ c.push.ensures.items c.in-Ok.ensures.items n.receivers c.requires.to (length-set n.nodes.items c.args.node c.packet.new.self)
+    still_below (length n.nodes.items) _ _ _ _ (joins _ _ _ _ c.push.ensures c.in-Ok.ensures.kept) n.receivers c.requires.to
+    (length-set n.nodes.items c.args.node c.packet.new.self)
 
 pub invariant_of-self-2-clause-few : goal.invariant_of-self-2-clause-few
 invariant_of-self-2-clause-few g c =
@@ -44,6 +44,6 @@ returns-clause-sent g c players extra capacity m r =
       refl,
       sends_packet _ rules _ m r _ _ c.requires.node c.requires.to _ _ _ _ _ _ shown c.in-Some.ensures.reach.1
           (c.in-Some.ensures.step players extra capacity _ _ shown).answer after (c.in-Some-packet.ensures.fair players extra capacity _ _ shown).answer
-          (took_one _ _ _ _ _ c.push.ensures.items (ap is_ok c.unwrap.ensures) c.in-Ok.ensures.items)
-          (c.len-which.ensures ∙ c.in-Ok.ensures.len ∙ c.args.self.now.flights.ok.0),
+          (joins _ _ _ _ c.push.ensures c.in-Ok.ensures.kept)
+          (c.len-which.ensures ∙ ap length c.in-Ok.ensures.kept),
     )

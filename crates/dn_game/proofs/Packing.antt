@@ -1,0 +1,82 @@
+-- A packet joins the pool, and is read from it.
+use Rattle.std.proofs.Common.{◌≡◌, ◌≤◌, ◌<◌, ◌++◌, ◌∷◌, [], ℕ, List, length, take, drop, Some, refl, ap, ◌∙◌, arith, length-append, length-drop}
+use Rattle.std.specs.Prelude.{All, slice_get}
+use Rattle.std.proofs.Math.Seq.{drop-append_seam, take-length}
+use Rattle.std.proofs.lemmas.Grind.{flat_map-append}
+use Rattle.std.proofs.lemmas.List.{drop-append-le, take-append-le, append-nil}
+use Rattle.std.proofs.lemmas.List.Elements.{All-cons, All-nil, All-head, All-tail}
+use Rattle.arrayvec.specs.ArrayVec.{ArrayVec}
+use Rattle.dn_lockstep.specs.declared.lockstep.sending.Aim.{Aim}
+use Rattle.dn_game.specs.declared.flight.Flight.{Flight}
+use Rattle.dn_game.specs.declared.pool.Record.{Record}
+use Rattle.dn_game.specs.Pool.{joined, flight_in, flights_in, IsPiece, ArePacked, IsRecordOf}
+use Rattle.dn_game.proofs.Places.{there_is, all_at, all_more, map_more}
+
+module _ (bytes more : List ℕ) where
+  -- a piece is the same where bytes are appended
+  flight_stays : (entry : Record) → IsPiece bytes entry → flight_in (bytes ++ more) entry ≡ flight_in bytes entry
+  flight_stays entry piece =
+      let inside = piece.inside in
+      let long = length-drop entry.place bytes in
+      let same : take entry.length (drop entry.place (bytes ++ more)) ≡ take entry.length (drop entry.place bytes) =
+      ap (take entry.length) (drop-append-le entry.place bytes more (omega arith))
+      ∙ take-append-le entry.length (drop entry.place bytes) more (omega arith) in
+      λ i. record { from = entry.from; to = entry.to; aim = entry.aim; bytes = record { items = same i } }
+
+  flights_stay : (records : List Record) → All (IsPiece bytes) records → flights_in (bytes ++ more) records ≡ flights_in bytes records
+  flights_stay [] all = refl
+  flights_stay (entry ∷ records) all =
+      let first = flight_stays entry (All-head (IsPiece bytes) entry records all) in
+      let rest = flights_stay records (All-tail (IsPiece bytes) entry records all) in
+      λ i. first i ∷ rest i
+
+  pieces_stay : (records : List Record) → All (IsPiece bytes) records → All (IsPiece (bytes ++ more)) records
+  pieces_stay [] all = All-nil (IsPiece (bytes ++ more))
+  pieces_stay (entry ∷ records) all =
+      let piece = All-head (IsPiece bytes) entry records all in
+      let inside = piece.inside in
+      let long = length-append bytes more in
+      All-cons (IsPiece (bytes ++ more)) entry records (record { inside = omega arith; short = piece.short })
+      (pieces_stay records (All-tail (IsPiece bytes) entry records all))
+
+-- the record of a packet whose datagram is appended
+abbrev pub newest : List ℕ → ℕ → ℕ → Aim → ArrayVec ℕ → Record
+newest bytes from to aim datagram = record { from = from; to = to; length = length datagram.items; aim = aim; place = length bytes }
+
+module _ (bytes : List ℕ) (records : List Record) (packed : ArePacked bytes records) (from to : ℕ) (aim : Aim) (datagram : ArrayVec ℕ) (short : length datagram.items ≤ 104) where
+  is_flight : flight_in (bytes ++ datagram.items) (newest bytes from to aim datagram) ≡ record { from = from; to = to; aim = aim; bytes = datagram }
+  is_flight =
+      let same : take (length datagram.items) (drop (length bytes) (bytes ++ datagram.items)) ≡ datagram.items =
+      ap (take (length datagram.items)) (drop-append_seam bytes datagram.items) ∙ take-length datagram.items in
+      λ i. record { from = from; to = to; aim = aim; bytes = record { items = same i } }
+
+  pub packs_flight : flights_in (bytes ++ datagram.items) (records ++ newest bytes from to aim datagram ∷ [])
+      ≡ flights_in bytes records ++ record { from = from; to = to; aim = aim; bytes = datagram } ∷ []
+  packs_flight =
+      let stay = flights_stay bytes datagram.items records packed.pieces in
+      map_more (flight_in (bytes ++ datagram.items)) records (newest bytes from to aim datagram) ∙ (λ i. stay i ++ is_flight i ∷ [])
+
+  pub packs : ArePacked (bytes ++ datagram.items) (records ++ newest bytes from to aim datagram ∷ [])
+  packs =
+      let long = length-append bytes datagram.items in
+      record {
+        pieces = all_more (IsPiece (bytes ++ datagram.items)) records (newest bytes from to aim datagram) (pieces_stay bytes datagram.items records packed.pieces)
+            (record { inside = omega arith; short = short });
+        whole = ap joined packs_flight ∙ flat_map-append (λ (f : Flight). f.bytes.items) (flights_in bytes records) _
+            ∙ (λ i. packed.whole i ++ append-nil datagram.items i);
+      }
+
+-- a flight is what its record and its datagram tell
+pub is_told : (flight : Flight) (entry : Record) (bytes : ArrayVec ℕ) → IsRecordOf flight entry → bytes.items ≡ flight.bytes.items
+    → ◌≡◌ {A = Flight} (record { from = entry.from; to = entry.to; aim = entry.aim; bytes = bytes }) flight
+is_told flight entry bytes of same = λ i. record { from = of.from i; to = of.to i; aim = of.aim i; bytes = record { items = same i } }
+
+-- the receiver of a record is a player's number, if those of all flights are
+pub receiver_below : (flights : List Flight) (which count : ℕ) (entry : Record) → which < length flights → All (λ f. f.to < count) flights
+    → ((flight : Flight) → slice_get flights which ≡ Some flight → IsRecordOf flight entry) → entry.to < count
+receiver_below flights which count entry below all told =
+    let at = there_is flights which below in
+    let P : Flight → Type 0 = λ f. f.to < count in
+    let small : at.0.to < count = all_at P flights which at.0 all at.1 in
+    let same = (told at.0 at.1).to in
+    omega (arith, same, small)

@@ -1,0 +1,51 @@
+-- The pool of a game: the bytes of all packets in one list, and a record of each.
+use Rattle.std.specs.Prelude.{◌≡◌, ◌≤◌, ℕ, ◌+◌, List, length, map, take, drop, All}
+use Rattle.std.specs.List.{flat_map}
+use Rattle.dn_game.specs.declared.flight.Flight.{Flight}
+use Rattle.dn_game.specs.declared.pool.Record.{Record}
+
+-- what a pool holds
+pub record Pool : Type 0 where
+  -- every packet that was sent, in order
+  pub flights : List Flight
+  -- how many more bytes and records it takes before it grows
+  pub free_bytes : ℕ
+  pub free_records : ℕ
+
+-- one packet more needs no memory, however long it is
+pub record HasRoom (pool : Pool) : Type 0 where
+  pub bytes : 104 ≤ pool.free_bytes
+  pub records : 1 ≤ pool.free_records
+
+-- the bytes of all flights, in order of sending
+abbrev pub joined : List Flight → List ℕ
+joined flights = flat_map (λ flight. flight.bytes.items) flights
+
+-- the flight of a record: its numbers, and its piece of the bytes
+abbrev pub flight_in : List ℕ → Record → Flight
+flight_in bytes entry =
+    record {
+      from = entry.from;
+      to = entry.to;
+      aim = entry.aim;
+      bytes = record { items = take entry.length (drop entry.place bytes) };
+    }
+
+abbrev pub flights_in : List ℕ → List Record → List Flight
+flights_in bytes records = map (flight_in bytes) records
+
+-- a piece of at most 104 bytes
+pub record IsPiece (bytes : List ℕ) (piece : Record) : Type 0 where
+  pub inside : piece.place + piece.length ≤ length bytes
+  pub short : piece.length ≤ 104
+
+-- each record has a piece of the bytes, and the pieces in their order are all of them
+pub record ArePacked (bytes : List ℕ) (records : List Record) : Type 0 where
+  pub pieces : All (IsPiece bytes) records
+  pub whole : joined (flights_in bytes records) ≡ bytes
+
+-- a record has the numbers of a flight
+pub record IsRecordOf (flight : Flight) (entry : Record) : Type 0 where
+  pub from : entry.from ≡ flight.from
+  pub to : entry.to ≡ flight.to
+  pub aim : entry.aim ≡ flight.aim

@@ -1,0 +1,141 @@
+//! Every packet that was sent, packed: all datagrams in one list of bytes, and a record of each.
+
+ghost use Rattle.std.specs.Prelude.{◌≡◌, ◌<◌, ◌≤◌, ◌++◌, ◌∷◌, [], length, Some, OnOk, slice_get};
+ghost use Rattle.dn_game.specs.declared.flight.Flight.{Flight};
+ghost use Rattle.dn_game.specs.Pool.{HasRoom, IsRecordOf, joined};
+
+use crate::flight::Flight;
+use arrayvec::ArrayVec;
+use dn_node::Aim;
+use std::alloc::{AllocError, Global};
+use std::marker::Model;
+
+/// The longest datagram: eight bytes, and eight for each of twelve commands.
+const LONGEST: usize = 104;
+
+/// What is known of a packet, and where in the pool its datagram stands.
+#[derive(Clone, Copy, Debug)]
+pub(crate) struct Record {
+    /// The number of the sender.
+    pub(crate) from: u8,
+    /// The number of the receiver.
+    pub(crate) to: u8,
+    /// How many bytes the datagram has.
+    length: u8,
+    /// Its exact numbers.
+    pub(crate) aim: Aim,
+    /// The place of its first byte.
+    place: usize,
+}
+
+/// Every packet that was sent, in order. A contract sees the flights, and how much more there is room
+/// for.
+#[derive(Drop)]
+pub(crate) struct Pool {
+    bytes: Vec<u8>,
+    records: Vec<Record>,
+}
+
+impl Model for Pool {
+    ghost use Rattle.std.specs.Prelude.{◌-◌, vec_len};
+    ghost use Rattle.std.specs.Vec.{vec_capacity};
+    ghost use Rattle.dn_game.specs.Pool.{Pool as Packets, ArePacked, flights_in};
+
+    ghost Value = { Packets };
+
+    ghost view = { λ p. record {
+      flights = flights_in p.bytes.items p.records.items;
+      free_bytes = vec_capacity p.bytes - vec_len p.bytes;
+      free_records = vec_capacity p.records - vec_len p.records;
+    } };
+
+    ghost invariant = { λ p. ArePacked p.bytes.items p.records.items };
+}
+
+impl Pool {
+    /// Nothing was sent.
+    pub(crate) fn new(alloc: Global) -> Pool
+        ensures { result.flights ≡ [] }
+    {
+        Pool {
+            bytes: Vec::new(alloc),
+            records: Vec::new(alloc),
+        }
+    }
+
+    /// How many packets were sent.
+    pub(crate) fn len(&self) -> usize
+        ensures { result ≡ length self.now.flights }
+    {
+        self.records.len()
+    }
+
+    /// All datagrams, in order of sending.
+    pub(crate) fn bytes(&self) -> &[u8]
+        ensures { result.now ≡ joined self.now.flights }
+    {
+        self.bytes.as_slice()
+    }
+
+    /// The record of a packet.
+    pub(crate) fn record(&self, which: usize) -> &Record
+        requires { which < length self.now.flights }
+        ensures { (flight : Flight) → slice_get self.now.flights which ≡ Some flight → IsRecordOf flight result.now }
+    {
+        &self.records[which]
+    }
+
+    /// The datagram of a packet.
+    pub(crate) fn datagram(&self, which: usize) -> &[u8]
+        requires { which < length self.now.flights }
+        ensures bytes { (flight : Flight) → slice_get self.now.flights which ≡ Some flight → result.now ≡ flight.bytes.items }
+        ensures short { length result.now ≤ 104 }
+    {
+        let record = &self.records[which];
+        &self.bytes[record.place..record.place + usize::from(record.length)]
+    }
+
+    /// The packet that was sent as this one, counted from 0.
+    pub(crate) fn flight(&self, which: usize) -> Option<Flight>
+        ensures { result ≡ slice_get self.now.flights which }
+    {
+        if which >= self.len() {
+            return None;
+        }
+        let record = self.record(which);
+        let mut bytes = ArrayVec::new();
+        let _ = bytes.try_extend_from_slice(self.datagram(which));
+        Some(Flight {
+            from: record.from,
+            to: record.to,
+            aim: record.aim,
+            bytes,
+        })
+    }
+
+    /// Makes room for one packet more, however long it is.
+    pub(crate) fn reserve(&mut self) -> Result<(), AllocError>
+        ensures kept { self.new.flights ≡ self.old.flights }
+        ensures room { OnOk result (HasRoom self.new) }
+    {
+        self.bytes.reserve(LONGEST)?;
+        self.records.reserve(1)
+    }
+
+    /// A packet joins the others.
+    pub(crate) fn push(&mut self, from: u8, to: u8, aim: Aim, bytes: &ArrayVec<u8, 104>)
+        requires { HasRoom self.old }
+        ensures { self.new.flights ≡ self.old.flights ++ record { from = from; to = to; aim = aim; bytes = bytes.now } ∷ [] }
+    {
+        let place = self.bytes.len();
+        let written = self.bytes.extend_from_slice(bytes.as_slice());
+        prove!(written.is_ok());
+        self.records.push_reserved(Record {
+            from,
+            to,
+            length: bytes.len() as u8,
+            aim,
+            place,
+        });
+    }
+}

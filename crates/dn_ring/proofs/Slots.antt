@@ -1,0 +1,92 @@
+-- The table of a ring.
+use Rattle.std.proofs.Common.{◌≡◌, ◌≤◌, ◌<◌, ◌+◌, ◌-◌, ◌%◌, ℕ, zero, suc, List, [], ◌∷◌, ◌++◌, length, map, drop, set, Some, true, refl, ap, sym, ◌∙◌, arith, length-append}
+use Rattle.std.specs.Prelude.{min, slice_get, nat_le}
+use Rattle.std.specs.List.{range_with_len}
+use Rattle.std.proofs.lemmas.Bool.{lt-ltb, le-leb}
+use Rattle.std.proofs.lemmas.List.{drop-append-le, get_or-set_same, get_or-set_other}
+use Rattle.std.proofs.lemmas.List.FromFn.{length-map-range_with_len, get_or-map-range_with_len, map-range_with_len_more}
+use Rattle.std.proofs.lemmas.Option.{slice_get-get_or, slice_get_within}
+use Rattle.dn_tic.specs.declared.command.TicCmd.{TicCmd}
+use Rattle.dn_ring.specs.Ring.{Ring, put, get, ring_of, last_twelve, no_command, in_slot, last_in, IsTable, AreSlotsOf}
+use Rattle.dn_ring.proofs.Keeping.{get-ring_of}
+
+module _ {X : Type 0} where
+  -- two functions that agree on each number of a range
+  map_same : (f g : ℕ → X) (a n : ℕ) → ((t : ℕ) → a ≤ t → t < a + n → f t ≡ g t) → map f (range_with_len a n) ≡ map g (range_with_len a n)
+  map_same f g a zero same = refl
+  map_same f g a (suc n) same =
+      let first : f a ≡ g a = same a (omega arith) (omega arith) in
+      let rest = map_same f g (a + 1) n (λ t low high. same t (omega arith) (omega arith)) in
+      λ i. first i ∷ rest i
+
+  drop_range : (f : ℕ → X) (j a n : ℕ) → drop j (map f (range_with_len a n)) ≡ map f (range_with_len (a + j) (n - j))
+  drop_range f zero a n = let e : a + 0 ≡ a = omega arith in let k : n - 0 ≡ n = omega arith in rw (e, k) refl
+  drop_range f (suc j) a zero = let k : 0 - suc j ≡ 0 = omega arith in rw k refl
+  drop_range f (suc j) a (suc n) =
+      let e : a + suc j ≡ a + 1 + j = omega arith in
+      let k : suc n - suc j ≡ n - j = omega arith in
+      rw (e, k) (drop_range f j (a + 1) n)
+
+-- one more command, in the slot of its tic
+module _ (count : ℕ) (slots : List TicCmd) (table : IsTable count slots) (c : TicCmd) where
+  abbrev pub newer : List TicCmd
+  newer = set slots (count % 12) c
+
+  stays : (tic : ℕ) → count + 1 - 12 ≤ tic → tic < count → in_slot newer tic ≡ in_slot slots tic
+  stays tic low high = get_or-set_other slots (count % 12) (tic % 12) c no_command (omega arith)
+
+  pub put_slot : last_in (count + 1) newer ≡ last_twelve (last_in count slots ++ c ∷ [])
+  put_slot =
+      let first : ℕ = count + 1 - 12 in
+      let many : ℕ = min count 11 in
+      let total : min (count + 1) 12 ≡ many + 1 = omega arith in
+      let inside : count % 12 < length slots = let t = table.twelve in omega (arith, t) in
+      let latest : in_slot newer count ≡ c = get_or-set_same slots (count % 12) c no_command inside in
+      let kept = map_same (in_slot newer) (in_slot slots) first many (λ tic low high. stays tic low (omega arith)) in
+      let long = length-map-range_with_len (in_slot slots) (count - 12) (min count 12) in
+      let joined = length-append (last_in count slots) (c ∷ []) in
+      let gone : length (last_in count slots ++ c ∷ []) - 12 ≡ first - (count - 12) = omega arith in
+      let begin : count - 12 + (first - (count - 12)) ≡ first = omega arith in
+      let rest : min count 12 - (first - (count - 12)) ≡ many = omega arith in
+      let older : drop (first - (count - 12)) (last_in count slots) ≡ map (in_slot slots) (range_with_len first many) =
+      drop_range (in_slot slots) (first - (count - 12)) (count - 12) (min count 12)
+      ∙ (λ i. map (in_slot slots) (range_with_len (begin i) (rest i))) in
+      ap (λ (k : ℕ). map (in_slot newer) (range_with_len first k)) total
+      ∙ map-range_with_len_more (in_slot newer) first many count (omega arith)
+      ∙ (λ i. kept i ++ latest i ∷ [])
+      ∙ sym (ap (λ (k : ℕ). drop k (last_in count slots ++ c ∷ [])) gone
+      ∙ drop-append-le (first - (count - 12)) (last_in count slots) (c ∷ []) (omega arith)
+      ∙ ap (λ (xs : List TicCmd). xs ++ c ∷ []) older)
+
+  pub put_table : record { count = count + 1; last = last_in (count + 1) newer } ≡ put (record { count = count; last = last_in count slots }) c
+  put_table = λ i. record { count = count + 1; last = put_slot i }
+
+-- the command of a tic stands in its slot
+pub get_slot : (count tic : ℕ) (slots : List TicCmd) → tic < count → count ≤ tic + 12
+    → get (record { count = count; last = last_in count slots }) tic ≡ Some (in_slot slots tic)
+get_slot count tic slots low high =
+    let first = lt-ltb tic count low in
+    let second : nat_le (count - tic) 12 ≡ true = le-leb (count - tic) 12 (omega arith) in
+    let place : ℕ = tic - (count - 12) in
+    let long = length-map-range_with_len (in_slot slots) (count - 12) (min count 12) in
+    let there : length (last_in count slots) - (count - tic) ≡ place = omega arith in
+    rw (first, second) (ap (slice_get (last_in count slots)) there
+    ∙ slice_get-get_or (last_in count slots) place no_command (omega arith)
+    ∙ ap Some (get_or-map-range_with_len (in_slot slots) (count - 12) (min count 12) place tic no_command (omega arith) (omega arith)))
+
+-- the table is that of every list that it may come from
+pub slots_are : (count : ℕ) (slots commands : List TicCmd) → IsTable count slots
+    → record { count = count; last = last_in count slots } ≡ ring_of commands → AreSlotsOf commands slots
+slots_are count slots commands table is =
+    let counted : count ≡ length commands = ap (λ (r : Ring). r.count) is in
+    let t = table.twelve in
+    record {
+      twelve = table.twelve;
+      taken = λ tic command high at.
+          let low = slice_get_within commands tic command at in
+          let same : Some (in_slot slots tic) ≡ Some command =
+          sym (get_slot count tic slots (omega arith) (omega arith)) ∙ ap (λ (r : Ring). get r tic) is ∙ get-ring_of commands tic high ∙ at in
+          slice_get-get_or slots (tic % 12) no_command (omega arith) ∙ same;
+      free = λ slot low high.
+          slice_get-get_or slots slot no_command (omega arith) ∙ ap Some (table.free slot (omega arith) high);
+    }
