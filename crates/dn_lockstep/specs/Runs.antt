@@ -12,8 +12,9 @@ use Rattle.dn_lockstep.specs.Marking.{History, Marking, free}
 use Rattle.dn_lockstep.specs.Represents.{Represents}
 use Rattle.dn_lockstep.specs.Steps.{IsAfter}
 
--- the caller's one duty: while the game goes on, the marks are those of its own world, which it began when the game
--- started and moved on by each row that it was told, and by nothing else. No mark is looked at of a player who is gone
+-- the caller's one duty: at a run that runs a tic, the marks are those of the caller's world, which it began with the
+-- settings' start and the taken seats when the game started, and stepped by each row that it was told, and by nothing else.
+-- A player who is gone may have any mark
 abbrev pub AreOwnMarks : {S : Type 0} → Rules S → machine.Node → List ℤ → Type 0
 AreOwnMarks rules m marks =
     m.phase ≡ Playing → (player : ℕ) → player < rules.players → is_absent m player ≡ false
@@ -32,6 +33,7 @@ abbrev pub RunsBy : List ℤ → Contents → Contents → (Rules History → ma
 RunsBy marks old new step IsAnswer =
     (marking : Marking) (players : ℕ) (extra : Bool) (capacity me : ℕ) (m : machine.Node)
     → Represents (rules_of (free marking) players extra capacity) me old m
-    → AreOwnMarks (rules_of (free marking) players extra capacity) m marks
+    → ((tic : ℕ) → (step (rules_of (free marking) players extra capacity) m).1 ≡ Ran.Ran tic
+    → AreOwnMarks (rules_of (free marking) players extra capacity) m marks)
     → IsAfter (rules_of (free marking) players extra capacity) me new (step (rules_of (free marking) players extra capacity) m)
     (λ ran. IsAnswer ran (row_told (rules_of (free marking) players extra capacity) m ran))

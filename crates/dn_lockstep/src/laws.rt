@@ -24,7 +24,7 @@ pub fn locksteps_agree()
     ensures { (marking : Marking) (players : ℕ) (extra : Bool) (capacity : ℕ) (settings : Settings) (events : List Event)
         (locksteps : ℕ → Contents)
         → (game : AreOneGame (rules_of (free marking) players extra capacity) settings events locksteps)
-        → ArePromised (rules_of (free marking) players extra capacity) settings game.last }
+        → ArePromised (rules_of (free marking) players extra capacity) settings game.last locksteps }
 {}
 
 /// The demo of a lockstep that has played and ended is read back to what it was played from, with its own

@@ -1,6 +1,10 @@
-//! One player's node without a world: what an engine links that has a world of its own. It builds commands
-//! from keys, gives and takes datagrams, says when a tic is run and by which moves, checks the marks of the
-//! caller's world, and records a demo. Each call is a step of the machine of `dn_machine`.
+//! One player's node without a world, for an engine that steps its own. It builds commands from keys, gives
+//! and takes datagrams, says when a tic is run and by which moves, checks the marks of the engine's world, and
+//! records a demo. Each call is a step of the machine of `dn_machine`.
+//!
+//! The engine begins its world when `receive` answers `Started`, with `settings()`'s start and the seats of
+//! `present()`. It hands each player's mark in that world to `run`, and where a row is told, it steps the world
+//! by the row.
 #![tactic(auto)]
 
 mod config;

@@ -18,10 +18,3 @@ Steps {W} {S} {A} state physics old new step IsAnswer =
     (players : ℕ) (extra : Bool) (capacity me : ℕ) (m : machine.Node)
     → Represents state (rules_of physics players extra capacity) me old m
     → IsAfter state (rules_of physics players extra capacity) me new (step (rules_of physics players extra capacity) me m) IsAnswer
-
--- the same of a step without an answer
-abbrev pub Becomes : {W S : Type 0} → (W → S) → Physics S → Contents W → Contents W → (Rules S → ℕ → machine.Node → machine.Node) → Type 0
-Becomes {W} {S} state physics old new step =
-    (players : ℕ) (extra : Bool) (capacity me : ℕ) (m : machine.Node)
-    → Represents state (rules_of physics players extra capacity) me old m
-    → Represents state (rules_of physics players extra capacity) me new (step (rules_of physics players extra capacity) me m)

@@ -43,7 +43,8 @@ impl Lockstep {
         }
     }
 
-    /// Hears a datagram of this player. A datagram that is dropped changes nothing.
+    /// Hears a datagram of this player. A datagram that is dropped changes nothing. At `Started` the caller
+    /// begins its world with the start of `settings` and the seats of `present`.
     pub fn receive(&mut self, from: u8, bytes: &[u8]) -> Heard
         ensures any { (read : Result Packet PacketFault) (told : Result Settings SetupFault)
             → IsReadAs bytes.now read → IsTold read told

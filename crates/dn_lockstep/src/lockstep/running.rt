@@ -24,7 +24,8 @@ impl Lockstep {
     pub fn run(&mut self, marks: &[i16; 4]) -> (Ran, Option<[Option<Move>; 4]>)
         ensures step { RunsBy marks.now (contents self.old) (contents self.new)
             (λ rules m. on_run rules m) (λ ran row. (result.0 ≡ ran) × (result.1 ≡ row)) }
-        ensures waits { (player : ℕ) → result.0 ≡ Waiting player → (contents self.new ≡ contents self.old) × (result.1 ≡ None) }
+        ensures waits { (player : ℕ) → result.0 ≡ Waiting player
+            → (contents self.new ≡ contents self.old) × (result.1 ≡ None) }
         ensures idle { result.0 ≡ NotPlaying → (contents self.new ≡ contents self.old) × (result.1 ≡ None) }
     {
         let Phase::Playing = self.phase else {

@@ -1,6 +1,8 @@
-use Rattle.std.proofs.Common.{◌∙◌, refl, sym, rules}
+use Rattle.std.proofs.Common.{◌∙◌, refl, sym, ap, rules}
 use Rattle.std.specs.Int.{w16}
 use Rattle.std.proofs.lemmas.Int.{to_z-of_z}
+use Rattle.dn_machine.specs.declared.answers.Ran.{Ran}
+use Rattle.dn_machine.specs.Node as machine
 use Rattle.dn_machine.specs.Worlds.{rules_of}
 use Rattle.dn_lockstep.specs.Marking.{free}
 use Rattle.dn_lockstep.proofs.After.{after}
@@ -30,6 +32,7 @@ returns-in-Some-first_off-clause-step c marking players extra capacity me m r ow
 pub returns-clause-step : goal.returns-clause-step
 returns-clause-step c marking players extra capacity me m r own =
     let n = c.args.self.now in
-    let ran = c.run_row.ensures.step marking players extra capacity me m r own in
-    after _ _ (run_on (rules_of (free marking) players extra capacity) m (sym r.phase ∙ c.in-Playing.is) (finds_awaited _ me _ m r _ c.in_default-awaited.ensures)
-    (finds_off _ me _ m r n.window _ c.in_default-first_off.ensures.lowest)) ran.node ran.answer
+    let on = run_on (rules_of (free marking) players extra capacity) m (sym r.phase ∙ c.in-Playing.is) (finds_awaited _ me _ m r _ c.in_default-awaited.ensures)
+    (finds_off _ me _ m r n.window _ c.in_default-first_off.ensures.lowest) in
+    let ran = c.run_row.ensures.step marking players extra capacity me m r (λ tic e. own tic (ap (λ (x : machine.Node × Ran). x.1) on ∙ e)) in
+    after _ _ on ran.node ran.answer

@@ -7,6 +7,7 @@ use Rattle.dn_demo.specs.Recorded.{AddsRow}
 use Rattle.dn_demo.specs.declared.recorder.Stage.{Stage}
 use Rattle.dn_demo.specs.declared.recorder.Stage.TheVariants.{Blank, Open, Closed}
 use Rattle.dn_machine.specs.declared.answers.Ran.{Ran}
+use Rattle.dn_machine.specs.Node as machine
 use Rattle.dn_machine.specs.Node.{is_whole, lacks}
 use Rattle.dn_machine.specs.Running.{row_held, tic_limit}
 use Rattle.dn_machine.specs.Worlds.{rules_of}
@@ -146,9 +147,10 @@ returns-clause-step c marking players extra capacity me m r own =
       closes = λ e at. c.write.ensures.closes (whole ∙ e) at;
       stays = λ e at. c.write.ensures.closed (whole ∙ e) at;
     } in
-    after _ _ (row_moves rules m (λ e. c.if-tic-full_at.false (r.ran ∙ e ∙ sym full)))
+    let moves = row_moves rules m (λ e. c.if-tic-full_at.false (r.ran ∙ e ∙ sym full)) in
+    after _ _ moves
     (shows_moved rules me _ m (row_held rules m) _ _ r on (n.plays on) (n.known (n.plays on))
     (λ p inside present. c.stamp.ensures.marks p (omega (arith, inside, n.few)) (ap (λ (x : List (Option Move)). lacks x p) row ∙ seat_held rules me _ m r n.window there p inside (omega (arith, inside, n.few)) present)
-    ∙ own (sym r.phase ∙ on) p (omega (arith, inside, r.players)) present)
+    ∙ own _ (ap (λ (x : machine.Node × Ran). x.1) moves) (sym r.phase ∙ on) p (omega (arith, inside, r.players)) present)
     c.stamp.ensures.others written)
     (ap Ran.Ran r.ran, ap (λ (x : List (Option Move)). Some x) row)
