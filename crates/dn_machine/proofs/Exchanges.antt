@@ -21,9 +21,10 @@ use Rattle.dn_machine.specs.Progress.{after, exchange}
 use Rattle.dn_machine.proofs.Put.{put_at, put_off, same_functions}
 use Rattle.dn_machine.proofs.Games.{applied_keeps}
 use Rattle.dn_machine.proofs.Growth.{IsPatient, applied_grows}
+use Rattle.dn_machine.proofs.Lists
 use Rattle.dn_machine.proofs.Pairs.{Peer, peer, same_peer, Holds, holds_same, Taken, Asked, IsAsked, asks, IsLive, accepted}
 use Rattle.dn_machine.proofs.Pairs
-use Rattle.dn_machine.proofs.Roomy.{IsRoomy, roomy_after}
+use Rattle.dn_machine.proofs.Roomy.{ended_cause, IsRoomy, roomy_after}
 
 -- every demo is as good as full, as far as the nodes that stay go
 abbrev pub IsFar : {S : Type 0} → Rules S → ℕ → (ℕ → Bool) → Game → Type 0
@@ -67,6 +68,15 @@ ran_after rules stay event game tic far q l s = let old = far q l s in let more 
 
 pub patient_after : {S : Type 0} (rules : Rules S) (event : Event) (game : Game) → IsPatient game → IsPatient (after rules event game)
 patient_after rules event game patient q s = (applied_grows rules game q event).hold s (patient q s)
+
+-- where one demo is full, every demo is as good as full
+pub full_far : {S : Type 0} (rules : Rules S) (settings : Settings) (cap : ℕ) (stay : ℕ → Bool) (game : Game) (live : IsLive rules settings game)
+    → ((q : ℕ) → q < rules.players → stay q ≡ true → is_ended (game.nodes q).phase ≡ false)
+    → (r : ℕ) → r < rules.players → cap ≤ ran (game.nodes r) → IsFar rules cap stay game
+full_far rules settings cap stay game live there r mine full q l s =
+    let a = Lists.ran_below rules settings (history_of game) game.flights live.kept.from_keys r q mine l (Pairs.stays rules settings game live q (there q l s)) in
+    let b = live.kept.from_keys.ahead q l in
+    omega arith
 
 -- what a request, and an end that is told, leave
 record IsTold (exit want : Bool) (request i end : ℕ) (old new : Node) : Type 0 where
@@ -315,7 +325,7 @@ module _ {S : Type 0} (rules : Rules S) (settings : Settings) (cap : ℕ) (stay 
       | inl s ↦ subst (λ (ph : Phase). Heard_so (on_packet_in rules j J flight ph flight.kind).0) (sym (on.plays j its s)) (subst (λ (n : Node). Heard_so n) (sym (receives Playing gone s (on.plays j its s))) (heard_kind s))
       | inr s ↦
           let both = and_parts J.played (is_ended J.phase) (on.left j its s) in
-          let cause = Pairs.ended_cause rules settings game on.live J.phase both.1 in
+          let cause = ended_cause J.phase both.1 in
           subst (λ (ph : Phase). Heard_so (on_packet_in rules j J flight ph flight.kind).0) (sym cause.1)
           (subst (λ (b : Bool). Heard_so (on_ended b j J flight flight.kind).0) (sym both.0) (left_hears gone refl s))
     ]

@@ -35,7 +35,7 @@ record Stays (old new : Node) : Type 0 where
 stays_same : (node : Node) → Stays node node
 stays_same node = record { phase = refl; played = refl; held = refl }
 
-ended_cause : (phase : Phase) → is_ended phase ≡ true → (cause : Cause) × (phase ≡ Ended cause)
+pub ended_cause : (phase : Phase) → is_ended phase ≡ true → (cause : Cause) × (phase ≡ Ended cause)
 ended_cause Listening e = absurd (true≢false (sym e))
 ended_cause Gathering e = absurd (true≢false (sym e))
 ended_cause Playing e = absurd (true≢false (sym e))

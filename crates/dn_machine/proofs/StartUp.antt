@@ -19,15 +19,13 @@ use Rattle.dn_machine.specs.Sending.{set_up_flight, commands_flight, after_sent,
 use Rattle.dn_machine.specs.Hearing.{on_gathering, on_packet, on_packet_in}
 use Rattle.dn_machine.specs.Running.{full_at, is_awaited, first_off, row_held, on_run_playing, on_run_in, on_run}
 use Rattle.dn_machine.specs.Game.{Game, with_node, posted, refused_flight, refused, delivered, on_event, applied_if, applied}
-use Rattle.dn_machine.specs.Invariant.{history_of}
 use Rattle.dn_machine.specs.Progress.{after, exchange, turn, good_round}
 use Rattle.dn_machine.proofs.Put.{put_at, put_off}
-use Rattle.dn_machine.proofs.Lists
 use Rattle.dn_machine.proofs.Steps
 use Rattle.dn_machine.proofs.Games.{applied_keeps}
 use Rattle.dn_machine.proofs.Pairs.{IsLive, accepted, last_get}
 use Rattle.dn_machine.proofs.Pairs
-use Rattle.dn_machine.proofs.Exchanges.{IsFar, StayRan, IsOn, far_after, ran_after, patient_after}
+use Rattle.dn_machine.proofs.Exchanges.{IsFar, StayRan, IsOn, far_after, full_far, ran_after, patient_after}
 use Rattle.dn_machine.proofs.Turns.{each_of, two_of, one_of}
 use Rattle.dn_machine.proofs.Roomy.{IsRoomy, roomy_after, row_fits}
 use Rattle.dn_machine.proofs.Openings.{Change, Same, Starts, Notes, Completes, Gone, Stands, Gathers, Listens, Plays, HasGone, IsOpen, build_change, send_change, hear_change, applied_open, noted_all}
@@ -186,10 +184,7 @@ module _ {S : Type 0} (rules : Rules S) (settings : Settings) (cap : ℕ) (stay 
     RunsGently new = IsFar rules cap stay game ⊎ Gentle (game.nodes r) new
 
     far_of : cap ≤ ran (game.nodes r) → IsFar rules cap stay game
-    far_of full q l s =
-        let a = Lists.ran_below rules settings (history_of game) game.flights begun.live.kept.from_keys r q mine l (Pairs.stays rules settings game begun.live q (begun.there q l s)) in
-        let b = begun.live.kept.from_keys.ahead q l in
-        omega arith
+    far_of = full_far rules settings cap stay game begun.live begun.there r mine
 
     -- who plays stays
     stays_in : (game.nodes r).phase ≡ Playing → stay r ≡ true

@@ -28,9 +28,9 @@ use Rattle.dn_machine.proofs.Marks.{lowest_none}
 use Rattle.dn_machine.proofs.Games.{applied_keeps}
 use Rattle.dn_machine.proofs.Pairs.{Peer, peer, same_peer, Stage, Has, Meets, Asks, Unknown, sent_stage, asked_stage, IsLive, accepted}
 use Rattle.dn_machine.proofs.Pairs
-use Rattle.dn_machine.proofs.Exchanges.{IsFar, StayRan, IsOn, IsQuiet, IsExchanged, far_after, ran_after, patient_after}
+use Rattle.dn_machine.proofs.Exchanges.{IsFar, StayRan, IsOn, IsQuiet, IsExchanged, far_after, full_far, ran_after, patient_after}
 use Rattle.dn_machine.proofs.Exchanges
-use Rattle.dn_machine.proofs.Roomy.{roomy_after, row_fits}
+use Rattle.dn_machine.proofs.Roomy.{ended_cause, roomy_after, row_fits}
 
 -- Steps in rising order, of which each keeps this.
 pub each_of : (P : Game → Type 0) (step : Game → ℕ → Game) (bound : ℕ) (game : Game) → ((i : ℕ) (g : Game) → i < bound → P g → P (step g i)) → P game → P (in_order step bound game)
@@ -134,7 +134,7 @@ module _ {S : Type 0} (rules : Rules S) (settings : Settings) (cap : ℕ) (stay 
 
     -- the phase of one that has left
     gone_phase : (r : ℕ) → r < rules.players → stay r ≡ false → (cause : Cause) × ((game.nodes r).phase ≡ Ended cause)
-    gone_phase r l s = Pairs.ended_cause rules settings game on.live (game.nodes r).phase (and_parts (game.nodes r).played (is_ended (game.nodes r).phase) (on.left r l s)).1
+    gone_phase r l s = ended_cause (game.nodes r).phase (and_parts (game.nodes r).played (is_ended (game.nodes r).phase) (on.left r l s)).1
 
     module _ (r : ℕ) (mine : r < rules.players) where
       record IsBuilt (new : Node) : Type 0 where
@@ -223,10 +223,7 @@ module _ {S : Type 0} (rules : Rules S) (settings : Settings) (cap : ℕ) (stay 
 
       -- where one demo is full, every demo is as good as full
       far_of : cap ≤ ran (game.nodes r) → IsFar rules cap stay game
-      far_of full q l s =
-          let a = ran_made r q mine l s in
-          let b = (Pairs.fits rules settings game on.live).ahead q l in
-          omega arith
+      far_of = full_far rules settings cap stay game on.live (Exchanges.in_play rules settings cap stay tic game on) r mine
 
       -- what a run leaves, unless every demo is as good as full
       pub record HasRun (new : Game) : Type 0 where
