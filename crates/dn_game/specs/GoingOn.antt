@@ -25,8 +25,8 @@ abbrev pub AllRan : {W : Type 0} → Contents W → Contents W → ℕ → Type 
 AllRan {W} before g tics =
     (i : ℕ) (n k : node.Contents W) → HasNode before i n → is_ended n.phase ≡ false → HasNode g i k → tics ≤ k.ran
 
--- so many tics have room, where all who have not ended have run the first `tics`: in the demos; or, if one of these is not
--- before the end that some node knows of a player, in what a node may run
+-- so many tics have room, where all who have not ended have run the first `tics`: in the demos; or, once these reach the
+-- end that some node knows of a player, in what a node may run
 abbrev pub HasRoom : {W : Type 0} → (capacity : ℕ) → Contents W → (tics most : ℕ) → Type 0
 HasRoom {W} capacity g tics most =
     (most ≤ capacity)
