@@ -119,7 +119,7 @@ two_demos xs ys rows more (inr e) (inr f) (inr first) =
 -- all nodes
 module _ {W S : Type 0} (state : W → S) (rules : Rules S) (settings : Settings) (g : Contents W) (m : game.Game)
     (r : Represents state rules g m) where
-  inside : (i : ℕ) (n : node.Contents W) → HasNode g i n → i < rules.players
+  pub inside : (i : ℕ) (n : node.Contents W) → HasNode g i n → i < rules.players
   inside i n (one, there, is) = let within = slice_get_within g.nodes i one there in omega (arith, within, r.players)
 
   shown : (i : ℕ) (n : node.Contents W) → HasNode g i n → node_to.Represents state rules i n (m.nodes i)
@@ -150,7 +150,7 @@ module _ {W S : Type 0} (state : W → S) (rules : Rules S) (settings : Settings
   playing_on i n at on = ap is_ended (sym (shown i n at).lockstep.phase) ∙ on
 
   -- a player's end as a node knows it
-  end_is : (i player : ℕ) (n : node.Contents W) → HasNode g i n → player < rules.players → end_in n player ≡ known_end i (m.nodes i) player
+  pub end_is : (i player : ℕ) (n : node.Contents W) → HasNode g i n → player < rules.players → end_in n player ≡ known_end i (m.nodes i) player
   end_is i player n at below =
       let s = shown i n at in
       let made_is = makes i n at in

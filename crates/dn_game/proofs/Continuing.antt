@@ -1,25 +1,28 @@
 -- A game goes on as the machine's game that it represents.
-use Rattle.std.proofs.Common.{◌≡◌, ◌<◌, ◌≤◌, ℕ, List, length, refl, ap, sym, ◌∙◌, inl, inr, arith}
+use Rattle.std.proofs.Common.{◌≡◌, ◌<◌, ◌≤◌, ◌+◌, ℕ, List, length, refl, ap, sym, ◌∙◌, inl, inr, arith}
 use Rattle.std.specs.Prelude.{slice_get, Some}
 use Rattle.std.proofs.lemmas.Option.{slice_get_cases, slice_get_within}
 use Rattle.dn_setup.specs.Settings.{Settings}
 use Rattle.dn_machine.specs.declared.events.Event.{Event}
 use Rattle.dn_machine.specs.Game.{Game, opening_game}
+use Rattle.dn_machine.specs.Invariant.{IsKept}
 use Rattle.dn_machine.specs.Node.{is_ended}
 use Rattle.dn_machine.specs.Progress as machine
 use Rattle.dn_machine.specs.Progress.{good_rounds}
 use Rattle.dn_machine.specs.Running.{tic_limit}
 use Rattle.dn_machine.specs.Worlds.{Rules}
-use Rattle.dn_machine.proofs.Progress.{goes_on_by}
+use Rattle.dn_machine.proofs.Progress.{goes_on_with}
+use Rattle.dn_machine.proofs.Games.{always}
+use Rattle.dn_machine.proofs.Promises
 use Rattle.dn_node.specs.declared.node.Node.{Node}
 use Rattle.dn_node.specs.Contents as node
 use Rattle.dn_game.specs.Agreed.{HasNode}
 use Rattle.dn_game.specs.Contents.{Contents, contents}
-use Rattle.dn_game.specs.GoingOn.{NoneLost, AllRan, GoesOn, IsPlayedOn}
+use Rattle.dn_game.specs.GoingOn.{NoneLost, AllRan, HasRoom, GoesOn, IsPlayedOn}
 use Rattle.dn_game.specs.Promised.{IsReached}
 use Rattle.dn_game.specs.Represents.{Represents}
 use Rattle.dn_game.specs.declared.played.Played.{Played}
-use Rattle.dn_game.proofs.Agreeing.{started}
+use Rattle.dn_game.proofs.Agreeing.{started, inside, end_is}
 use Rattle.dn_game.proofs.Answering.{plays_leads}
 
 module _ {W S : Type 0} (state : W → S) (rules : Rules S) (settings : Settings) where
@@ -69,13 +72,24 @@ module _ {W S : Type 0} (state : W → S) (rules : Rules S) (settings : Settings
       let low = found.0.lockstep.short in
       omega arith
 
+  room_of : (g : Contents W) (m : Game) → Represents state rules g m → IsKept rules settings m → (tics most : ℕ)
+      → HasRoom rules.capacity g tics most → machine.HasRoom rules m tics most
+  room_of g m r kept tics most (inl demos) = inl demos
+  room_of g m r kept tics most (inr (i, player, end, n, at, below, known, before, few)) =
+      let its : player < rules.players = let count = r.players in omega arith in
+      let told = (Promises.agree rules settings m kept).ends i player end (inside state rules settings g m r i n at) its
+      (sym (end_is state rules settings g m r i player n at its) ∙ known) in
+      let same = told.1 in
+      inr (player, its, told.0, omega arith, few)
+
   pub continues : (events : List Event) (g later : Contents W) (reached : IsReached state rules settings events g)
       → 2 ≤ rules.players → (keys : ℕ → ℕ → ℕ) (rounds : ℕ)
       → Represents state rules later (good_rounds rules keys rounds reached.last) → GoesOn rules.capacity rounds g later
   continues events g later reached several keys rounds shown none tics more enough room all =
+      let kept = always rules settings events reached.last reached.run in
       ran_all g later reached.last _ reached.game shown _
-      (goes_on_by rules settings (short g reached.last reached.game several) several events reached.last reached.run (lost_none g reached.last reached.game none)
-      keys tics more rounds (all_ran g reached.last reached.game tics all) room enough)
+      (goes_on_with rules settings (short g reached.last reached.game several) several events reached.last reached.run (lost_none g reached.last reached.game none)
+      keys tics more rounds (room_of g reached.last reached.game kept tics (tics + more + 5) room) enough (all_ran g reached.last reached.game tics all))
 
   pub played_on_continues : (events : List Event) (keys : ℕ → ℕ) (rounds : ℕ) (played : Played W)
       → (p : IsPlayedOn state rules settings events keys rounds played) → 2 ≤ rules.players

@@ -1,12 +1,14 @@
 -- A game that goes on once its packets arrive.
-use Rattle.std.specs.Prelude.{◌≡◌, ◌<◌, ◌≤◌, ◌+◌, ◌*◌, ℕ, true, false, List, length, slice_index_or}
+use Rattle.std.specs.Prelude.{◌≡◌, ◌<◌, ◌≤◌, ◌⊎◌, ◌+◌, ◌*◌, ℕ, true, false, List, length, slice_index_or, Some}
 use Rattle.dn_setup.specs.Settings.{Settings}
 use Rattle.dn_machine.specs.declared.events.Event.{Event}
 use Rattle.dn_machine.specs.Game as machine
 use Rattle.dn_machine.specs.Node.{is_ended}
 use Rattle.dn_machine.specs.Progress.{good_rounds}
+use Rattle.dn_machine.specs.Running.{tic_limit}
 use Rattle.dn_machine.specs.Worlds.{Rules}
 use Rattle.dn_node.specs.Contents as node
+use Rattle.dn_node.specs.Contents.{end_in}
 use Rattle.dn_game.specs.declared.played.Played.{Played}
 use Rattle.dn_game.specs.Agreed.{HasNode, HasStarted}
 use Rattle.dn_game.specs.Contents.{Contents, contents}
@@ -23,11 +25,19 @@ abbrev pub AllRan : {W : Type 0} → Contents W → Contents W → ℕ → Type 
 AllRan {W} before g tics =
     (i : ℕ) (n k : node.Contents W) → HasNode before i n → is_ended n.phase ≡ false → HasNode g i k → tics ≤ k.ran
 
+-- so many tics have room, where all who have not ended have run the first `tics`: in the demos; or, once these reach the
+-- end that some node knows of a player, in what a node may run
+abbrev pub HasRoom : {W : Type 0} → (capacity : ℕ) → Contents W → (tics most : ℕ) → Type 0
+HasRoom {W} capacity g tics most =
+    (most ≤ capacity)
+    ⊎ ((i player end : ℕ) × (n : node.Contents W) × HasNode g i n × (player < length g.nodes)
+    × (end_in n player ≡ Some end) × (end ≤ tics) × (most ≤ tic_limit))
+
 -- what so many good rounds lead to: if no node was lost, then each thirteen rounds after the first ran a tic more at every
--- node that had not ended, as long as the demos had room for six
+-- node that had not ended, as long as there was room for six
 abbrev pub GoesOn : {W : Type 0} → (capacity rounds : ℕ) → Contents W → Contents W → Type 0
 GoesOn capacity rounds before g =
-    NoneLost before → (tics more : ℕ) → 13 * more < rounds → tics + more + 5 ≤ capacity
+    NoneLost before → (tics more : ℕ) → 13 * more < rounds → HasRoom capacity before tics (tics + more + 5)
     → AllRan before before tics → AllRan before g (tics + more)
 
 -- the rounds led from this game of the machine to the one that is represented, and were not counted

@@ -7,7 +7,7 @@ ghost use Rattle.dn_machine.specs.Progress.{good_rounds};
 ghost use Rattle.dn_machine.specs.Worlds.{rules_of};
 ghost use Rattle.dn_demo.specs.Recorded.{capacity};
 ghost use Rattle.dn_game.specs.Contents.{Contents, contents};
-ghost use Rattle.dn_game.specs.GoingOn.{NoneLost, AllRan, GoesOn, IsPlayedOn};
+ghost use Rattle.dn_game.specs.GoingOn.{NoneLost, AllRan, HasRoom, GoesOn, IsPlayedOn};
 ghost use Rattle.dn_game.specs.Opening.{IsAdmitted, rules_in};
 ghost use Rattle.dn_game.specs.Promised.{IsReached};
 ghost use Rattle.dn_game.specs.Represents.{Represents};
@@ -22,15 +22,15 @@ use dn_world::World;
 use std::alloc::Global;
 
 /// Whatever events a game has met: if no node was lost, fourteen good rounds run a tic more at every
-/// node that has not ended, as long as the demos have room for six, and each thirteen rounds more run
-/// one more.
+/// node that has not ended, as long as there is room for six, and each thirteen rounds more run one
+/// more.
 pub fn reached_games_go_on<W: World>()
     ensures fourteen { (players : ℕ) (extra : Bool) (capacity : ℕ) (settings : Settings) (events : List Event) (g later : Contents W)
         → (reached : IsReached W.state (rules_of W.physics players extra capacity) settings events g)
         → 2 ≤ players → (keys : ℕ → ℕ → ℕ)
         → Represents W.state (rules_of W.physics players extra capacity) later
         (good_rounds (rules_of W.physics players extra capacity) keys 14 reached.last)
-        → NoneLost g → (tics : ℕ) → tics + 6 ≤ capacity → AllRan g g tics → AllRan g later (tics + 1) }
+        → NoneLost g → (tics : ℕ) → HasRoom capacity g tics (tics + 6) → AllRan g g tics → AllRan g later (tics + 1) }
     ensures goes_on { (players : ℕ) (extra : Bool) (capacity : ℕ) (settings : Settings) (events : List Event) (g later : Contents W)
         → (reached : IsReached W.state (rules_of W.physics players extra capacity) settings events g)
         → 2 ≤ players → (keys : ℕ → ℕ → ℕ) (rounds : ℕ)

@@ -21,23 +21,26 @@ use Rattle.dn_machine.specs.Progress.{after, exchange}
 use Rattle.dn_machine.proofs.Put.{put_at, put_off, same_functions}
 use Rattle.dn_machine.proofs.Games.{applied_keeps}
 use Rattle.dn_machine.proofs.Growth.{IsPatient, applied_grows}
+use Rattle.dn_machine.proofs.Lists
 use Rattle.dn_machine.proofs.Pairs.{Peer, peer, same_peer, Holds, holds_same, Taken, Asked, IsAsked, asks, IsLive, accepted}
 use Rattle.dn_machine.proofs.Pairs
+use Rattle.dn_machine.proofs.Roomy.{ended_cause, IsRoomy, roomy_after}
 
 -- every demo is as good as full, as far as the nodes that stay go
-abbrev pub IsFar : {S : Type 0} → Rules S → (ℕ → Bool) → Game → Type 0
-IsFar rules stay game = (q : ℕ) → q < rules.players → stay q ≡ true → rules.capacity ≤ ran (game.nodes q) + 5
+abbrev pub IsFar : {S : Type 0} → Rules S → ℕ → (ℕ → Bool) → Game → Type 0
+IsFar rules cap stay game = (q : ℕ) → q < rules.players → stay q ≡ true → cap ≤ ran (game.nodes q) + 5
 
 -- those that stay have run the first tics, so many
 abbrev pub StayRan : {S : Type 0} → Rules S → (ℕ → Bool) → Game → ℕ → Type 0
 StayRan rules stay game tics = (q : ℕ) → q < rules.players → stay q ≡ true → tics ≤ ran (game.nodes q)
 
 -- a game that goes on, where those that stay play and have run the first tics, so many, and the others have left
-pub record IsOn {S : Type 0} (rules : Rules S) (settings : Settings) (stay : ℕ → Bool) (tic : ℕ) (game : Game) : Type 0 where
+pub record IsOn {S : Type 0} (rules : Rules S) (settings : Settings) (cap : ℕ) (stay : ℕ → Bool) (tic : ℕ) (game : Game) : Type 0 where
   pub live : IsLive rules settings game
   pub plays : (q : ℕ) → q < rules.players → stay q ≡ true → (game.nodes q).phase ≡ Playing
   pub left : (q : ℕ) → q < rules.players → stay q ≡ false → has_left (game.nodes q) ≡ true
   pub ran : StayRan rules stay game tic
+  pub room : IsRoomy rules cap tic game
 
 -- what a node keeps of the others is as it was
 abbrev pub IsQuiet : Game → Game → Type 0
@@ -57,14 +60,23 @@ pub record IsExchanged (stay : ℕ → Bool) (tic start : ℕ) (i j : ℕ) (old 
   pub played : (r : ℕ) → (new.nodes r).played ≡ (old.nodes r).played
   pub stopped : new.stopped ≡ old.stopped
 
-pub far_after : {S : Type 0} (rules : Rules S) (stay : ℕ → Bool) (event : Event) (game : Game) → IsFar rules stay game → IsFar rules stay (after rules event game)
-far_after rules stay event game far q l s = let old = far q l s in let more = (applied_grows rules game q event).rows in omega arith
+pub far_after : {S : Type 0} (rules : Rules S) (cap : ℕ) (stay : ℕ → Bool) (event : Event) (game : Game) → IsFar rules cap stay game → IsFar rules cap stay (after rules event game)
+far_after rules cap stay event game far q l s = let old = far q l s in let more = (applied_grows rules game q event).rows in omega arith
 
 pub ran_after : {S : Type 0} (rules : Rules S) (stay : ℕ → Bool) (event : Event) (game : Game) (tic : ℕ) → StayRan rules stay game tic → StayRan rules stay (after rules event game) tic
 ran_after rules stay event game tic far q l s = let old = far q l s in let more = (applied_grows rules game q event).rows in omega arith
 
 pub patient_after : {S : Type 0} (rules : Rules S) (event : Event) (game : Game) → IsPatient game → IsPatient (after rules event game)
 patient_after rules event game patient q s = (applied_grows rules game q event).hold s (patient q s)
+
+-- where one demo is full, every demo is as good as full
+pub full_far : {S : Type 0} (rules : Rules S) (settings : Settings) (cap : ℕ) (stay : ℕ → Bool) (game : Game) (live : IsLive rules settings game)
+    → ((q : ℕ) → q < rules.players → stay q ≡ true → is_ended (game.nodes q).phase ≡ false)
+    → (r : ℕ) → r < rules.players → cap ≤ ran (game.nodes r) → IsFar rules cap stay game
+full_far rules settings cap stay game live there r mine full q l s =
+    let a = Lists.ran_below rules settings (history_of game) game.flights live.kept.from_keys r q mine l (Pairs.stays rules settings game live q (there q l s)) in
+    let b = live.kept.from_keys.ahead q l in
+    omega arith
 
 -- what a request, and an end that is told, leave
 record IsTold (exit want : Bool) (request i end : ℕ) (old new : Node) : Type 0 where
@@ -113,7 +125,7 @@ record IsHeard (tic start request : ℕ) (want : Bool) (stays asks_too : Type 0)
   taken : stays → Taken tic start (peer old i) (peer new i)
   asked : asks_too → Asked request want (peer old i) (peer new i)
 
-module _ {S : Type 0} (rules : Rules S) (settings : Settings) (stay : ℕ → Bool) (tic : ℕ) (game : Game) (on : IsOn rules settings stay tic game) where
+module _ {S : Type 0} (rules : Rules S) (settings : Settings) (cap : ℕ) (stay : ℕ → Bool) (tic : ℕ) (game : Game) (on : IsOn rules settings cap stay tic game) where
   -- who stays has not ended
   pub in_play : (q : ℕ) → q < rules.players → stay q ≡ true → is_ended (game.nodes q).phase ≡ false
   in_play q l s = ap is_ended (on.plays q l s)
@@ -313,7 +325,7 @@ module _ {S : Type 0} (rules : Rules S) (settings : Settings) (stay : ℕ → Bo
       | inl s ↦ subst (λ (ph : Phase). Heard_so (on_packet_in rules j J flight ph flight.kind).0) (sym (on.plays j its s)) (subst (λ (n : Node). Heard_so n) (sym (receives Playing gone s (on.plays j its s))) (heard_kind s))
       | inr s ↦
           let both = and_parts J.played (is_ended J.phase) (on.left j its s) in
-          let cause = Pairs.ended_cause rules settings game on.live J.phase both.1 in
+          let cause = ended_cause J.phase both.1 in
           subst (λ (ph : Phase). Heard_so (on_packet_in rules j J flight ph flight.kind).0) (sym cause.1)
           (subst (λ (b : Bool). Heard_so (on_ended b j J flight flight.kind).0) (sym both.0) (left_hears gone refl s))
     ]
@@ -396,7 +408,7 @@ module _ {S : Type 0} (rules : Rules S) (settings : Settings) (stay : ℕ → Bo
       | inr s ↦ (_, exchanges_by i j mine its apart built true false (Pairs.sends_left rules settings game on.live i j apart (on.left i mine s)) (λ e. (s, on.left i mine s)) (λ e. absurd (true≢false e)) (λ e. absurd (true≢false (sym e))) (λ e. absurd (true≢false (sym e ∙ s))))
     ]
 
-    pub exchange_on : IsOn rules settings stay tic (exchange rules i game j)
+    pub exchange_on : IsOn rules settings cap stay tic (exchange rules i game j)
     unfolding exchange
     exchange_on =
         let mid : Game = after rules (Send i j) game in
@@ -411,4 +423,5 @@ module _ {S : Type 0} (rules : Rules S) (settings : Settings) (stay : ℕ → Bo
           plays = λ q l s. x.phase q ∙ on.plays q l s;
           left = λ q l s. ap (λ (b : Bool). b && is_ended ((exchange rules i game j).nodes q).phase) (x.played q) ∙ (ap (λ (ph : Phase). (game.nodes q).played && is_ended ph) (x.phase q) ∙ on.left q l s);
           ran = ran_after rules stay (Deliver which) mid tic (ran_after rules stay (Send i j) game tic on.ran);
+          room = roomy_after rules cap tic mid (Deliver which) (roomy_after rules cap tic game (Send i j) on.room);
         }

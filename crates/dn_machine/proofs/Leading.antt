@@ -41,7 +41,7 @@ module _ {S : Type 0} (rules : Rules S) where
       let built : Game = after rules (Build i (keys i)) game in
       let sent : Game = in_order (exchange rules i) rules.players built in
       led_on game built _ (led_event (Build i (keys i)) game) (
-        led_on built sent _ (led_in_order (exchange rules i) (led_exchange i) rules.players built) (led_event (Run i) sent))
+      led_on built sent _ (led_in_order (exchange rules i) (led_exchange i) rules.players built) (led_event (Run i) sent))
 
   pub led_round : (keys : ℕ → ℕ) (game : Game) → IsLed game (good_round rules keys game)
   unfolding good_round

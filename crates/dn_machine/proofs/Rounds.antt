@@ -6,7 +6,7 @@ use Rattle.dn_setup.specs.Settings.{Settings}
 use Rattle.dn_machine.specs.declared.events.Event.TheVariants.{Build, Send, Deliver, Run}
 use Rattle.dn_machine.specs.Worlds.{Rules}
 use Rattle.dn_machine.specs.Node.{got, made, ran}
-use Rattle.dn_machine.specs.Running.{tic_limit, is_over, is_absent}
+use Rattle.dn_machine.specs.Running.{is_over, is_absent}
 use Rattle.dn_machine.specs.Game.{Game}
 use Rattle.dn_machine.specs.Progress.{after, in_order, exchange, turn, good_round, good_rounds}
 use Rattle.dn_machine.proofs.Growth.{applied_grows}
@@ -45,38 +45,38 @@ module _ {S : Type 0} (rules : Rules S) where
   unfolding good_rounds
   rounds_ran keys count q n g l = each_of (λ (h : Game). n ≤ ran (h.nodes q)) (λ before round. good_round rules (keys round) before) count g (λ i h m x. round_ran (keys i) q n h x) l
 
-module _ {S : Type 0} (rules : Rules S) (settings : Settings) (stay : ℕ → Bool) (tic : ℕ) (fits : rules.capacity ≤ tic_limit) where
+module _ {S : Type 0} (rules : Rules S) (settings : Settings) (cap : ℕ) (stay : ℕ → Bool) (tic : ℕ) where
   module _ (p q : ℕ) (l : p < rules.players) (m : q < rules.players) (stays : stay q ≡ true) (apart : p ≢ q) where
     abbrev StageOf : ℕ → Game → Type 0
     StageOf rounds g = Stage tic rounds (peer (g.nodes p) q) (peer (g.nodes q) p)
 
     -- between turns
     pub data At (rounds : ℕ) (g : Game) : Type 0 where
-      AtFar : IsFar rules stay g → At rounds g
-      AtOn : IsOn rules settings stay tic g → StageOf rounds g → At rounds g
+      AtFar : IsFar rules cap stay g → At rounds g
+      AtOn : IsOn rules settings cap stay tic g → StageOf rounds g → At rounds g
 
     -- within the turn of a node
     pub data In (r : ℕ) (rounds : ℕ) (g : Game) : Type 0 where
-      InFar : IsFar rules stay g → In r rounds g
-      InOn : IsOn rules settings stay tic g → (stay r ≡ true → tic < made r (g.nodes r)) → StageOf rounds g → In r rounds g
+      InFar : IsFar rules cap stay g → In r rounds g
+      InOn : IsOn rules settings cap stay tic g → (stay r ≡ true → tic < made r (g.nodes r)) → StageOf rounds g → In r rounds g
 
     stage_kept : (rounds : ℕ) (g h : Game) → peer (h.nodes p) q ≡ peer (g.nodes p) q → peer (h.nodes q) p ≡ peer (g.nodes q) p → StageOf rounds g → StageOf rounds h
     stage_kept rounds g h a b stage = subst (λ (x : Peer). Stage tic rounds x (peer (h.nodes q) p)) (sym a) (subst (λ (y : Peer). Stage tic rounds (peer (g.nodes p) q) y) (sym b) stage)
 
-    far_exchange : (r j : ℕ) (g : Game) → IsFar rules stay g → IsFar rules stay (exchange rules r g j)
+    far_exchange : (r j : ℕ) (g : Game) → IsFar rules cap stay g → IsFar rules cap stay (exchange rules r g j)
     unfolding exchange
-    far_exchange r j g far = far_after rules stay (Deliver (length g.flights)) (after rules (Send r j) g) (far_after rules stay (Send r j) g far)
+    far_exchange r j g far = far_after rules cap stay (Deliver (length g.flights)) (after rules (Send r j) g) (far_after rules cap stay (Send r j) g far)
 
     built_in : (r : ℕ) → r < rules.players → (state rounds : ℕ) (g : Game) → At rounds g → In r rounds (after rules (Build r state) g)
-    built_in r o state rounds g (AtFar far) = InFar (far_after rules stay (Build r state) g far)
+    built_in r o state rounds g (AtFar far) = InFar (far_after rules cap stay (Build r state) g far)
     built_in r o state rounds g (AtOn on stage) =
-        let quiet = Turns.build_quiet rules settings stay tic g on r o state in
-        InOn (Turns.build_on rules settings stay tic g on r o state) (Turns.build_made rules settings stay tic g on r o state) (stage_kept rounds g (after rules (Build r state) g) (quiet p q apart) (quiet q p (λ e. apart (sym e))) stage)
+        let quiet = Turns.build_quiet rules settings cap stay tic g on r o state in
+        InOn (Turns.build_on rules settings cap stay tic g on r o state) (Turns.build_made rules settings cap stay tic g on r o state) (stage_kept rounds g (after rules (Build r state) g) (quiet p q apart) (quiet q p (λ e. apart (sym e))) stage)
 
     run_at : (r : ℕ) → r < rules.players → (rounds : ℕ) (g : Game) → In r rounds g → At rounds (after rules (Run r) g)
-    run_at r o rounds g (InFar far) = AtFar (far_after rules stay (Run r) g far)
-    run_at r o rounds g (InOn on built stage) = elim (Turns.run_on rules settings stay tic g on r o fits) [
-      | inl far ↦ AtFar (far_after rules stay (Run r) g far)
+    run_at r o rounds g (InFar far) = AtFar (far_after rules cap stay (Run r) g far)
+    run_at r o rounds g (InOn on built stage) = elim (Turns.run_on rules settings cap stay tic g on r o) [
+      | inl far ↦ AtFar (far_after rules cap stay (Run r) g far)
       | inr ran ↦ AtOn ran.still_on (stage_kept rounds g (after rules (Run r) g) (ran.quiet p q apart) (ran.quiet q p (λ e. apart (sym e))) stage)
     ]
 
@@ -95,8 +95,8 @@ module _ {S : Type 0} (rules : Rules S) (settings : Settings) (stay : ℕ → Bo
           let own : exchange rules r g j ≡ g = subst (λ (s : ℕ). exchange rules r g s ≡ g) e (Pairs.exchange_own rules settings g on.live r o) in
           subst (λ (h : Game). In r rounds h) (sym own) (InOn on built stage)
       | inr n ↦
-          let x = (Exchanges.exchanges rules settings stay tic g on r j o k n built).1 in
-          InOn (Exchanges.exchange_on rules settings stay tic g on r j o k n built) (still_made r j g _ n x built)
+          let x = (Exchanges.exchanges rules settings cap stay tic g on r j o k n built).1 in
+          InOn (Exchanges.exchange_on rules settings cap stay tic g on r j o k n built) (still_made r j g _ n x built)
           (stage_kept rounds g (exchange rules r g j) (x.other p q (λ e d. a (sym e) (sym d)) (λ e d. b (sym d) (sym e))) (x.other q p (λ e d. b (sym e) (sym d)) (λ e d. a (sym d) (sym e))) stage)
     ]
 
@@ -104,8 +104,8 @@ module _ {S : Type 0} (rules : Rules S) (settings : Settings) (stay : ℕ → Bo
     gives : (rounds later : ℕ) → (2 ≤ rounds → rounds ≤ 12 → rounds ≤ later) → (13 ≤ rounds → 12 ≤ later) → (g : Game) → In p rounds g → In p later (exchange rules p g q)
     gives rounds later c d g (InFar far) = InFar (far_exchange p q g far)
     gives rounds later c d g (InOn on built stage) =
-        let x = (Exchanges.exchanges rules settings stay tic g on p q l m apart built).1 in
-        InOn (Exchanges.exchange_on rules settings stay tic g on p q l m apart built) (still_made p q g _ apart x built)
+        let x = (Exchanges.exchanges rules settings cap stay tic g on p q l m apart built).1 in
+        InOn (Exchanges.exchange_on rules settings cap stay tic g on p q l m apart built) (still_made p q g _ apart x built)
         (sent_stage tic rounds later _ (peer (g.nodes p) q) (peer ((exchange rules p g q).nodes p) q) (peer (g.nodes q) p) (peer ((exchange rules p g q).nodes q) p) stage x.mine_hold (on.live.patient p q) (x.begins stays) (x.taken stays) c d)
 
     -- and hears one of it
@@ -113,8 +113,8 @@ module _ {S : Type 0} (rules : Rules S) (settings : Settings) (stay : ℕ → Bo
     hears rounds later a b c g (InFar far) = InFar (far_exchange q p g far)
     hears rounds later a b c g (InOn on built stage) =
         let back : q ≢ p = λ e. apart (sym e) in
-        let x = (Exchanges.exchanges rules settings stay tic g on q p m l back built).1 in
-        InOn (Exchanges.exchange_on rules settings stay tic g on q p m l back built) (still_made q p g _ back x built)
+        let x = (Exchanges.exchanges rules settings cap stay tic g on q p m l back built).1 in
+        InOn (Exchanges.exchange_on rules settings cap stay tic g on q p m l back built) (still_made q p g _ back x built)
         (asked_stage tic rounds later (peer (g.nodes p) q) (peer ((exchange rules q g p).nodes p) q) (peer (g.nodes q) p) (peer ((exchange rules q g p).nodes q) p) stage x.mine_got x.mine_want x.mine_end (x.asked stays) a b c)
 
     module _ (keys : ℕ → ℕ) where
@@ -218,7 +218,7 @@ module _ {S : Type 0} (rules : Rules S) (settings : Settings) (stay : ℕ → Bo
     rounds_up keys less (suc count) left sum g at = round_nearer (keys (suc count)) left (omega arith) _ (rounds_up keys less count (suc left) (omega arith) g at)
 
     -- after twelve the other has it: where the other has its turn first, the last round counts for two
-    pub has_after : (keys : ℕ → ℕ → ℕ) (g : Game) → IsOn rules settings stay tic g → At 0 (good_rounds rules keys 12 g)
+    pub has_after : (keys : ℕ → ℕ → ℕ) (g : Game) → IsOn rules settings cap stay tic g → At 0 (good_rounds rules keys 12 g)
     unfolding good_rounds in_order
     has_after keys g on = elim (cases_lt p q) [
       | inl less ↦ rounds_up keys less 11 0 refl g (AtOn on (Unknown (omega arith)))
@@ -226,7 +226,7 @@ module _ {S : Type 0} (rules : Rules S) (settings : Settings) (stay : ℕ → Bo
     ]
 
   -- in the next round each runs it
-  module _ (room : tic + 6 ≤ rules.capacity) (several : 2 ≤ rules.players) (q : ℕ) (m : q < rules.players) (stays : stay q ≡ true) where
+  module _ (room : tic + 6 ≤ cap) (several : 2 ≤ rules.players) (q : ℕ) (m : q < rules.players) (stays : stay q ≡ true) where
     -- all others' commands have come to this player
     abbrev HasAll : Game → Type 0
     HasAll g = (p : ℕ) (l : p < rules.players) (apart : p ≢ q) → At p q l m stays apart 0 g
@@ -250,7 +250,7 @@ module _ {S : Type 0} (rules : Rules S) (settings : Settings) (stay : ℕ → Bo
           | inr low ↦ go low (all other.0 other.1 other.2)
         ]
       where
-        far_off : ran (g.nodes q) ≤ tic → IsFar rules stay g → ⊥
+        far_off : ran (g.nodes q) ≤ tic → IsFar rules cap stay g → ⊥
         far_off low far = let x = far q m stays in omega arith
 
         has_of : ran (g.nodes q) ≤ tic → tic ≤ ran (g.nodes q) → (p : ℕ) (l : p < rules.players) (apart : p ≢ q) → In p q l m stays apart q 0 g → (ran (g.nodes q) < got (g.nodes q) p) ⊎ (is_absent (g.nodes q) p ≡ true)
@@ -271,7 +271,7 @@ module _ {S : Type 0} (rules : Rules S) (settings : Settings) (stay : ℕ → Bo
         go low (InFar far) = absurd (far_off low far)
         go low (InOn on built stage) =
             let least = on.ran q m stays in
-            elim (Turns.run_on rules settings stay tic g on q m fits) [
+            elim (Turns.run_on rules settings cap stay tic g on q m) [
               | inl far ↦ absurd (far_off low far)
               | inr done ↦ let more = done.more stays (has low least (built stays)) in omega arith
             ]
@@ -289,6 +289,6 @@ module _ {S : Type 0} (rules : Rules S) (settings : Settings) (stay : ℕ → Bo
         (λ h x. turn_runs keys h x)
         g m all
 
-    pub thirteen : (keys : ℕ → ℕ → ℕ) (g : Game) → IsOn rules settings stay tic g → tic < ran ((good_rounds rules keys 13 g).nodes q)
+    pub thirteen : (keys : ℕ → ℕ → ℕ) (g : Game) → IsOn rules settings cap stay tic g → tic < ran ((good_rounds rules keys 13 g).nodes q)
     unfolding good_rounds in_order
     thirteen keys g on = round_runs (keys 12) (good_rounds rules keys 12 g) (λ p l apart. has_after p q l m stays apart keys g on)

@@ -15,9 +15,9 @@ use Rattle.dn_machine.specs.declared.answers.Ran.{Ran}
 use Rattle.dn_machine.specs.declared.events.Event.{Event}
 use Rattle.dn_machine.specs.declared.events.Event.TheVariants.{Build, Run}
 use Rattle.dn_machine.specs.Worlds.{Rules}
-use Rattle.dn_machine.specs.Node.{Node, got, made, ran, is_ended, own_mark, lowest, is_whole}
+use Rattle.dn_machine.specs.Node.{Node, got, made, ran, is_ended, own_mark, lowest}
 use Rattle.dn_machine.specs.Building.{on_build, on_build_in}
-use Rattle.dn_machine.specs.Running.{tic_limit, full_at, is_absent, is_awaited, first_off, row_held, on_run, on_run_in, on_run_playing}
+use Rattle.dn_machine.specs.Running.{full_at, is_absent, is_awaited, first_off, row_held, on_run, on_run_in, on_run_playing}
 use Rattle.dn_machine.specs.Game.{Game, with_node}
 use Rattle.dn_machine.specs.Invariant.{history_of}
 use Rattle.dn_machine.specs.Progress.{after, in_order}
@@ -28,8 +28,9 @@ use Rattle.dn_machine.proofs.Marks.{lowest_none}
 use Rattle.dn_machine.proofs.Games.{applied_keeps}
 use Rattle.dn_machine.proofs.Pairs.{Peer, peer, same_peer, Stage, Has, Meets, Asks, Unknown, sent_stage, asked_stage, IsLive, accepted}
 use Rattle.dn_machine.proofs.Pairs
-use Rattle.dn_machine.proofs.Exchanges.{IsFar, StayRan, IsOn, IsQuiet, IsExchanged, far_after, ran_after, patient_after}
+use Rattle.dn_machine.proofs.Exchanges.{IsFar, StayRan, IsOn, IsQuiet, IsExchanged, far_after, full_far, ran_after, patient_after}
 use Rattle.dn_machine.proofs.Exchanges
+use Rattle.dn_machine.proofs.Roomy.{ended_cause, roomy_after, row_fits}
 
 -- Steps in rising order, of which each keeps this.
 pub each_of : (P : Game → Type 0) (step : Game → ℕ → Game) (bound : ℕ) (game : Game) → ((i : ℕ) (g : Game) → i < bound → P g → P (step g i)) → P game → P (in_order step bound game)
@@ -93,10 +94,10 @@ module _ (P Q : Game → Type 0) (step : Game → ℕ → Game) (n j : ℕ) (kee
   pub one_of : (game : Game) → j < n → P game → Q (in_order step n game)
   one_of game l p = at_last_one n (in_order step n game) l (way_one n game (omega arith) p)
 
-module _ {S : Type 0} (rules : Rules S) (settings : Settings) (stay : ℕ → Bool) (tic : ℕ) where
-  module _ (game : Game) (on : IsOn rules settings stay tic game) where
+module _ {S : Type 0} (rules : Rules S) (settings : Settings) (cap : ℕ) (stay : ℕ → Bool) (tic : ℕ) where
+  module _ (game : Game) (on : IsOn rules settings cap stay tic game) where
     -- one node after an event
-    placed_on : (event : Event) (r : ℕ) (x : Node) → after rules event game ≡ with_node game r x → x.phase ≡ (game.nodes r).phase → x.played ≡ (game.nodes r).played → IsOn rules settings stay tic (after rules event game)
+    placed_on : (event : Event) (r : ℕ) (x : Node) → after rules event game ≡ with_node game r x → x.phase ≡ (game.nodes r).phase → x.played ≡ (game.nodes r).played → IsOn rules settings cap stay tic (after rules event game)
     placed_on event r x same phase played =
         let phases : (q : ℕ) → ((after rules event game).nodes q).phase ≡ (game.nodes q).phase = λ q. ap (λ (g : Game). (g.nodes q).phase) same ∙ elim (cases_eq q r) [
           | inl e ↦ ap (λ (n : Node). n.phase) (put_at game.nodes r q x e) ∙ (phase ∙ ap (λ (k : ℕ). (game.nodes k).phase) (sym e))
@@ -115,6 +116,7 @@ module _ {S : Type 0} (rules : Rules S) (settings : Settings) (stay : ℕ → Bo
           plays = λ q l s. phases q ∙ on.plays q l s;
           left = λ q l s. ap (λ (b : Bool). b && is_ended ((after rules event game).nodes q).phase) (plays q) ∙ (ap (λ (ph : Phase). (game.nodes q).played && is_ended ph) (phases q) ∙ on.left q l s);
           ran = ran_after rules stay event game tic on.ran;
+          room = roomy_after rules cap tic game event on.room;
         }
 
     placed_quiet : (event : Event) (r : ℕ) (x : Node) → after rules event game ≡ with_node game r x → ((s : ℕ) → s ≢ r → peer x s ≡ peer (game.nodes r) s) → IsQuiet game (after rules event game)
@@ -126,13 +128,13 @@ module _ {S : Type 0} (rules : Rules S) (settings : Settings) (stay : ℕ → Bo
     -- a player who stays has made a command for each tic that was run
     pub ran_made : (q p : ℕ) → q < rules.players → p < rules.players → stay p ≡ true → ran (game.nodes q) ≤ made p (game.nodes p)
     ran_made q p l m s =
-        let a = Lists.ran_below rules settings (history_of game) game.flights on.live.kept.from_keys q p l m (Pairs.stays rules settings game on.live p (Exchanges.in_play rules settings stay tic game on p m s)) in
+        let a = Lists.ran_below rules settings (history_of game) game.flights on.live.kept.from_keys q p l m (Pairs.stays rules settings game on.live p (Exchanges.in_play rules settings cap stay tic game on p m s)) in
         let b = on.live.kept.from_keys.counted p m in
         omega arith
 
     -- the phase of one that has left
     gone_phase : (r : ℕ) → r < rules.players → stay r ≡ false → (cause : Cause) × ((game.nodes r).phase ≡ Ended cause)
-    gone_phase r l s = Pairs.ended_cause rules settings game on.live (game.nodes r).phase (and_parts (game.nodes r).played (is_ended (game.nodes r).phase) (on.left r l s)).1
+    gone_phase r l s = ended_cause (game.nodes r).phase (and_parts (game.nodes r).played (is_ended (game.nodes r).phase) (on.left r l s)).1
 
     module _ (r : ℕ) (mine : r < rules.players) where
       record IsBuilt (new : Node) : Type 0 where
@@ -167,7 +169,7 @@ module _ {S : Type 0} (rules : Rules S) (settings : Settings) (stay : ℕ → Bo
       built_is : (state : ℕ) → after rules (Build r state) game ≡ with_node game r (on_build rules r (game.nodes r) state).0
       built_is state = accepted rules game (Build r state) (Pairs.accepts rules settings game on.live r mine)
 
-      pub build_on : (state : ℕ) → IsOn rules settings stay tic (after rules (Build r state) game)
+      pub build_on : (state : ℕ) → IsOn rules settings cap stay tic (after rules (Build r state) game)
       build_on state = placed_on (Build r state) r _ (built_is state) (builds state).phase (builds state).played
 
       pub build_quiet : (state : ℕ) → IsQuiet game (after rules (Build r state) game)
@@ -186,61 +188,59 @@ module _ {S : Type 0} (rules : Rules S) (settings : Settings) (stay : ℕ → Bo
 
       -- run
       data IsRun (new : Node) : Type 0 where
-        Full : rules.capacity ≤ ran (game.nodes r) → IsRun new
+        Full : cap ≤ ran (game.nodes r) → IsRun new
         Runs : new.phase ≡ (game.nodes r).phase → new.played ≡ (game.nodes r).played → ((s : ℕ) → s ≢ r → peer new s ≡ peer (game.nodes r) s) → (stay r ≡ true → ((p : ℕ) → p < rules.players → IsThere p) → ran (game.nodes r) < ran new) → IsRun new
 
-      module _ (fits : rules.capacity ≤ tic_limit) where
-        runs_all : IsRun (on_run_playing rules (game.nodes r) None None).0
-        runs_all =
-            let new = row_held rules (game.nodes r) in
-            cond_both (eqb (ran (game.nodes r)) (full_at rules new)) _ _ (λ (p : Node × Ran). IsRun p.0)
-            (λ full.
-            let at = eqb-true (ran (game.nodes r)) (full_at rules new) full in
-            let most : rules.capacity ≤ full_at rules new = cond_both (is_whole rules.players new) (rules.capacity) tic_limit (λ (n : ℕ). rules.capacity ≤ n) (λ a. omega arith) (λ a. fits) in
-            Full (omega arith))
-            (λ free. let count = length_push (game.nodes r).rows new in Runs refl refl (λ s n. refl) (λ u h. omega arith))
+      runs_all : stay r ≡ true → Steps.IsThere rules settings game on.live.kept r mine → IsRun (on_run_playing rules (game.nodes r) None None).0
+      runs_all s there =
+          let new = row_held rules (game.nodes r) in
+          cond_both (eqb (ran (game.nodes r)) (full_at rules new)) _ _ (λ (p : Node × Ran). IsRun p.0)
+          (λ full.
+          let at = eqb-true (ran (game.nodes r)) (full_at rules new) full in
+          let most = row_fits rules cap tic game settings on.live.kept r mine (on.ran r mine s) there on.room in
+          Full (omega arith))
+          (λ free. let count = length_push (game.nodes r).rows new in Runs refl refl (λ s n. refl) (λ u h. omega arith))
 
-        not_awaited : (p : ℕ) → IsThere p → is_awaited (game.nodes r) p ≡ false
-        not_awaited p (inl l) = and_right (not (is_absent (game.nodes r) p)) _ (lt-leb (got (game.nodes r) p) (ran (game.nodes r)) l)
-        not_awaited p (inr gone) = and_left (not (is_absent (game.nodes r) p)) _ (ap not gone)
+      not_awaited : (p : ℕ) → IsThere p → is_awaited (game.nodes r) p ≡ false
+      not_awaited p (inl l) = and_right (not (is_absent (game.nodes r) p)) _ (lt-leb (got (game.nodes r) p) (ran (game.nodes r)) l)
+      not_awaited p (inr gone) = and_left (not (is_absent (game.nodes r) p)) _ (ap not gone)
 
-        runs_by : stay r ≡ true → (o : Option ℕ) → lowest rules.players (is_awaited (game.nodes r)) ≡ o → IsRun (on_run_playing rules (game.nodes r) o (first_off rules (game.nodes r))).0
-        runs_by s (Some awaited) h = Runs refl refl (λ s n. refl) (λ u have. absurd (none-some awaited (sym (lowest_none rules.players (is_awaited (game.nodes r)) (λ p l. not_awaited p (have p l))) ∙ h)))
-        runs_by s None h = subst (λ (o : Option ℕ). IsRun (on_run_playing rules (game.nodes r) None o).0) (sym (Steps.none_off rules settings game on.live.kept r mine (on.plays r mine s) (Steps.all_there rules settings game on.live.kept r mine h))) runs_all
+      runs_by : stay r ≡ true → (o : Option ℕ) → lowest rules.players (is_awaited (game.nodes r)) ≡ o → IsRun (on_run_playing rules (game.nodes r) o (first_off rules (game.nodes r))).0
+      runs_by s (Some awaited) h = Runs refl refl (λ s n. refl) (λ u have. absurd (none-some awaited (sym (lowest_none rules.players (is_awaited (game.nodes r)) (λ p l. not_awaited p (have p l))) ∙ h)))
+      runs_by s None h =
+          let there = Steps.all_there rules settings game on.live.kept r mine h in
+          subst (λ (o : Option ℕ). IsRun (on_run_playing rules (game.nodes r) None o).0) (sym (Steps.none_off rules settings game on.live.kept r mine (on.plays r mine s) there)) (runs_all s there)
 
-        runs : IsRun (on_run rules (game.nodes r)).0
-        unfolding on_run
-        runs = elim (cases_Bool (stay r)) [
-          | inl s ↦ subst (λ (ph : Phase). IsRun (on_run_in rules (game.nodes r) ph).0) (sym (on.plays r mine s)) (runs_by s (lowest rules.players (is_awaited (game.nodes r))) refl)
-          | inr s ↦ subst (λ (ph : Phase). IsRun (on_run_in rules (game.nodes r) ph).0) (sym (gone_phase r mine s).1) (Runs refl refl (λ k n. refl) (λ u have. absurd (true≢false (sym u ∙ s))))
-        ]
+      runs : IsRun (on_run rules (game.nodes r)).0
+      unfolding on_run
+      runs = elim (cases_Bool (stay r)) [
+        | inl s ↦ subst (λ (ph : Phase). IsRun (on_run_in rules (game.nodes r) ph).0) (sym (on.plays r mine s)) (runs_by s (lowest rules.players (is_awaited (game.nodes r))) refl)
+        | inr s ↦ subst (λ (ph : Phase). IsRun (on_run_in rules (game.nodes r) ph).0) (sym (gone_phase r mine s).1) (Runs refl refl (λ k n. refl) (λ u have. absurd (true≢false (sym u ∙ s))))
+      ]
 
-        run_is : after rules (Run r) game ≡ with_node game r (on_run rules (game.nodes r)).0
-        run_is = accepted rules game (Run r) (Pairs.accepts rules settings game on.live r mine)
+      run_is : after rules (Run r) game ≡ with_node game r (on_run rules (game.nodes r)).0
+      run_is = accepted rules game (Run r) (Pairs.accepts rules settings game on.live r mine)
 
-        -- where one demo is full, every demo is as good as full
-        far_of : rules.capacity ≤ ran (game.nodes r) → IsFar rules stay game
-        far_of full q l s =
-            let a = ran_made r q mine l s in
-            let b = (Pairs.fits rules settings game on.live).ahead q l in
-            omega arith
+      -- where one demo is full, every demo is as good as full
+      far_of : cap ≤ ran (game.nodes r) → IsFar rules cap stay game
+      far_of = full_far rules settings cap stay game on.live (Exchanges.in_play rules settings cap stay tic game on) r mine
 
-        -- what a run leaves, unless every demo is as good as full
-        pub record HasRun (new : Game) : Type 0 where
-          pub still_on : IsOn rules settings stay tic new
-          pub quiet : IsQuiet game new
-          pub more : stay r ≡ true → ((p : ℕ) → p < rules.players → IsThere p) → ran (game.nodes r) < ran (new.nodes r)
+      -- what a run leaves, unless every demo is as good as full
+      pub record HasRun (new : Game) : Type 0 where
+        pub still_on : IsOn rules settings cap stay tic new
+        pub quiet : IsQuiet game new
+        pub more : stay r ≡ true → ((p : ℕ) → p < rules.players → IsThere p) → ran (game.nodes r) < ran (new.nodes r)
 
-        pub run_on : IsFar rules stay game ⊎ HasRun (after rules (Run r) game)
-        run_on = go (on_run rules (game.nodes r)).0 runs run_is
-          where
-            go : (x : Node) → IsRun x → after rules (Run r) game ≡ with_node game r x → IsFar rules stay game ⊎ HasRun (after rules (Run r) game)
-            go x (Full full) same = inl (far_of full)
-            go x (Runs phase played quiet more) same = inr (record {
-              still_on = placed_on (Run r) r x same phase played;
-              quiet = placed_quiet (Run r) r x same quiet;
-              more = λ s have.
-                  let at = ap (λ (g : Game). ran (g.nodes r)) same ∙ ap ran (put_at game.nodes r r x refl) in
-                  let b = more s have in
-                  omega arith;
-            })
+      pub run_on : IsFar rules cap stay game ⊎ HasRun (after rules (Run r) game)
+      run_on = go (on_run rules (game.nodes r)).0 runs run_is
+        where
+          go : (x : Node) → IsRun x → after rules (Run r) game ≡ with_node game r x → IsFar rules cap stay game ⊎ HasRun (after rules (Run r) game)
+          go x (Full full) same = inl (far_of full)
+          go x (Runs phase played quiet more) same = inr (record {
+            still_on = placed_on (Run r) r x same phase played;
+            quiet = placed_quiet (Run r) r x same quiet;
+            more = λ s have.
+                let at = ap (λ (g : Game). ran (g.nodes r)) same ∙ ap ran (put_at game.nodes r r x refl) in
+                let b = more s have in
+                omega arith;
+          })

@@ -3,7 +3,7 @@
 use super::told::all_told;
 use super::{build, config, opened, send, walks};
 use crate::{Event, Game, Refusal, play, play_on, storm};
-use dn_machine::Phase;
+use dn_machine::{Cause, Phase};
 use dn_tic::Keys;
 use dn_world::Walk;
 use std::process::Abort;
@@ -89,6 +89,28 @@ fn a_stopped_node_holds_the_others_up(rt: HostRuntime) -> Result<(), Fail> {
     assert_eq!(rt; held[1], before[1]);
     assert_eq!(rt; game.good_rounds(no_keys(), 20), Ok(()));
     assert_eq!(rt; rans(&game), held);
+    Ok(())
+}
+
+/// The demos have room for 101 tics. A game that a player has left goes on past them.
+#[test]
+fn who_stays_runs_past_the_demo(rt: HostRuntime) -> Result<(), Fail> {
+    for (quits, phase) in [(true, Phase::Playing), (false, Phase::Ended(Cause::Full))] {
+        let worlds = walks(rt.alloc(), 2)?;
+        let mut game = Game::new(rt.alloc(), config(1_024)?, worlds)?;
+        assert_eq!(rt; game.good_rounds(no_keys(), 30), Ok(()));
+        if quits {
+            assert!(rt; game.apply(Event::Quit(1)).is_ok());
+        }
+        assert_eq!(rt; game.good_rounds(no_keys(), 170), Ok(()));
+        match game.node(0) {
+            Some(node) => {
+                assert_eq!(rt; node.phase(), phase);
+                assert_eq!(rt; node.ran() > 101, quits);
+            }
+            None => assert!(rt; false, "no node"),
+        }
+    }
     Ok(())
 }
 

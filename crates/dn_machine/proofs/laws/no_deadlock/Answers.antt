@@ -1,20 +1,20 @@
 -- The key player starts the others in the first round, and each player has the others' next commands within thirteen more.
-use Rattle.std.proofs.Common.{◌+◌, ◌≤◌, arith}
+use Rattle.std.proofs.Common.{arith, subst, ◌≡◌, ◌+◌, ℕ}
 use Rattle.dn_machine.specs.Worlds.{rules_of}
+use Rattle.dn_machine.specs.Progress.{HasRoom}
 use Rattle.dn_machine.proofs.Leading.{led_rounds}
-use Rattle.dn_machine.proofs.Progress
+use Rattle.dn_machine.proofs.Progress.{goes_on_with}
 use Rattle.dn_machine.proofs.laws.no_deadlock.Goals as goal
 
 pub returns-clause-goes_on : goal.returns-clause-goes_on
-returns-clause-goes_on g c players extra capacity settings events game run none_lost several fits keys tics room reached =
+returns-clause-goes_on g c players extra capacity settings events game run none_lost several fits keys tics room =
     let rules = rules_of g.W.World.physics players extra capacity in
-    let enough : tics + 1 + 5 ≤ capacity = omega arith in
-    Progress.goes_on_by rules settings fits several events game run none_lost keys tics 1 14 reached enough (omega arith)
+    let same : tics + 6 ≡ tics + 1 + 5 = omega arith in
+    goes_on_with rules settings fits several events game run none_lost keys tics 1 14 (subst (λ (most : ℕ). HasRoom rules game tics most) same room) (omega arith)
 
 pub returns-clause-keeps_on : goal.returns-clause-keeps_on
-returns-clause-keeps_on g c players extra capacity settings events game run none_lost several fits keys tics more rounds room longer reached =
-    let rules = rules_of g.W.World.physics players extra capacity in
-    Progress.goes_on_by rules settings fits several events game run none_lost keys tics more rounds reached room longer
+returns-clause-keeps_on g c players extra capacity settings events game run none_lost several fits =
+    goes_on_with (rules_of g.W.World.physics players extra capacity) settings fits several events game run none_lost
 
 pub returns-clause-by_events : goal.returns-clause-by_events
 returns-clause-by_events g c players extra capacity game keys rounds =
