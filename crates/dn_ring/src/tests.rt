@@ -41,6 +41,7 @@ fn slots_go_round(rt: HostRuntime) {
     let zero = TicCmd::from_bytes(&[0; 8]);
     assert_eq!(rt; *ring.slots(), [zero; 12]);
     for letter in 0..13_u8 {
+        assert_eq!(rt; ring.count(), u32::from(letter));
         ring.put(chat(letter));
     }
     let rows = [(0, 12), (1, 1), (2, 2), (10, 10), (11, 11)];
