@@ -56,7 +56,7 @@ impl Marks {
         requires { player < 4 }
         ensures { result ≡ slot self.now player (tic % 12) }
     {
-        let slots = self.players[usize::from(player)];
+        let slots = &self.players[usize::from(player)];
         slots.slots[(tic % PLACES) as usize]
     }
 

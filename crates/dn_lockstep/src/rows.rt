@@ -144,14 +144,9 @@ pub(crate) fn is_whole(row: &[Option<Move>; 4], players: u8) -> bool
     true
 }
 
-/// The tic at which a node ends in place of running this row.
-pub(crate) fn full_at(row: &[Option<Move>; 4], players: u8, capacity: u32) -> u32
-    requires { players ≤ 4 }
-    ensures { result ≡ (if is_whole players row.now then capacity else tic_limit) }
+/// The tic at which a node ends in place of running a row, which lacks a player or is whole.
+pub(crate) fn full_at(whole: bool, capacity: u32) -> u32
+    ensures { result ≡ (if whole then capacity else tic_limit) }
 {
-    if is_whole(row, players) {
-        capacity
-    } else {
-        TIC_LIMIT
-    }
+    if whole { capacity } else { TIC_LIMIT }
 }

@@ -66,13 +66,14 @@ impl Lockstep {
     {
         let tic = self.ran;
         let row = row_at(&self.rings, &self.peers, self.players, tic);
-        if tic == full_at(&row, self.players, self.capacity) {
+        let whole = is_whole(&row, self.players);
+        if tic == full_at(whole, self.capacity) {
             self.finish(Cause::Full);
             return (Ran::DemoFull, None);
         }
         self.marks.stamp(marks, &row, tic);
         self.ran += 1;
-        write(&mut self.demo, &row, is_whole(&row, self.players));
+        write(&mut self.demo, &row, whole);
         (Ran::Ran(tic), Some(row))
     }
 }

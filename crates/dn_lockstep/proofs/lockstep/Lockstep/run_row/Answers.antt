@@ -22,7 +22,7 @@ use Rattle.dn_lockstep.proofs.Moving.{IsWritten, shows_moved}
 use Rattle.dn_lockstep.proofs.Room.{row_length, size_more, row_fits}
 use Rattle.dn_lockstep.proofs.Running.{row_full, row_moves}
 use Rattle.dn_lockstep.proofs.Seats.{here_all}
-use Rattle.dn_lockstep.proofs.lockstep.Lockstep.run_row.Goals.{After-full_at, After-is_whole}
+use Rattle.dn_lockstep.proofs.lockstep.Lockstep.run_row.Goals.{After-stamp}
 use Rattle.dn_lockstep.proofs.lockstep.Lockstep.run_row.Goals as goal
 
 -- where the row is whole, nobody is gone, and so the demo is open
@@ -32,17 +32,17 @@ open_where Open has begun gone e = refl
 open_where Closed true begun gone e = absurd (true≢false (sym e))
 open_where Closed false begun gone e = absurd (true≢false (sym (gone refl)))
 
-opened : (c : After-is_whole) → c.is_whole.result ≡ true → c.args.self.now.demo.stage ≡ Open
+opened : (c : After-stamp) → c.is_whole-whole.result ≡ true → c.args.self.now.demo.stage ≡ Open
 opened c e =
     let n = c.args.self.now in
     open_where n.demo.stage (has_gone (peer_at n.peers) n.players n.ran) (n.begun c.requires.plays) (n.gone c.requires.plays)
-    (sym c.row_at-row.ensures.whole ∙ sym c.is_whole.ensures ∙ e)
+    (sym c.row_at-row.ensures.whole ∙ sym c.is_whole-whole.ensures ∙ e)
 
 -- and there is room for it
-below : (c : After-is_whole) → c.is_whole.result ≡ true → c.args.self.now.ran < c.args.self.now.capacity
+below : (c : After-stamp) → c.is_whole-whole.result ≡ true → c.args.self.now.ran < c.args.self.now.capacity
 below c e =
     let n = c.args.self.now in
-    let at : c.full_at.result ≡ n.capacity = c.full_at.ensures ∙ ap (λ (b : Bool). if b then n.capacity else tic_limit) (sym c.is_whole.ensures ∙ e) in
+    let at : c.full_at.result ≡ n.capacity = c.full_at.ensures ∙ ap (λ (b : Bool). if b then n.capacity else tic_limit) e in
     let room = n.fits c.requires.plays (opened c e) in
     let other = c.if-tic-full_at.false in
     omega arith
@@ -53,7 +53,7 @@ returns-then-tic-full_at-clause-step c marking players extra capacity me m r own
     let rules = rules_of (free marking) players extra capacity in
     let there = here_all (ring_at n.rings) (peer_at n.peers) n.players n.ran c.requires.there in
     let row = c.row_at-row.ensures.row ∙ row_is rules me _ m r n.window there in
-    let full = full_is rules me _ m r n.window there _ n.capacity c.full_at.result row r.capacity c.full_at.ensures in
+    let full = full_is rules me _ m r n.window there _ n.capacity c.full_at.result row r.capacity (c.full_at.ensures ∙ ap (λ (b : Bool). if b then n.capacity else tic_limit) c.is_whole-whole.ensures) in
     after _ _ (row_full rules m (sym r.ran ∙ c.if-tic-full_at.true ∙ full)) (c.finish.ensures marking players extra capacity me m r) (refl, refl)
 
 pub write-requires-clause-room : goal.write-requires-clause-room
@@ -61,8 +61,8 @@ write-requires-clause-room c e =
     let n = c.args.self.now in
     let at = goal.at.write-requires-clause-room c in
     let on = c.requires.plays in
-    let is_open = opened at.After-is_whole e in
-    row_fits n.demo.limit n.players n.capacity n.ran (length n.demo.bytes) _ n.room (below at.After-is_whole e) (n.size on is_open)
+    let is_open = opened at.After-stamp e in
+    row_fits n.demo.limit n.players n.capacity n.ran (length n.demo.bytes) _ n.room (below at.After-stamp e) (n.size on is_open)
     (row_length (seats_in n.demo.bytes) n.players (n.seats on is_open) n.few)
 
 -- the demo after the tic is open where the row is whole
@@ -83,22 +83,22 @@ invariant_of-self-2-clause-ran_fits c =
     let n = c.args.self.now in
     let old = n.ran_fits in
     let short = n.short in
-    elim (cases_Bool c.is_whole.result) [
-      | inl whole ↦ let fits = below (goal.at.invariant_of-self-2-clause-ran_fits c).After-is_whole whole in omega arith
+    elim (cases_Bool c.is_whole-whole.result) [
+      | inl whole ↦ let fits = below (goal.at.invariant_of-self-2-clause-ran_fits c).After-stamp whole in omega arith
       | inr lacks ↦
-          let at : c.full_at.result ≡ tic_limit = c.full_at.ensures ∙ ap (λ (b : Bool). if b then n.capacity else tic_limit) (sym c.is_whole.ensures ∙ lacks) in
+          let at : c.full_at.result ≡ tic_limit = c.full_at.ensures ∙ ap (λ (b : Bool). if b then n.capacity else tic_limit) lacks in
           let other = c.if-tic-full_at.false in
           omega arith
     ]
 
 pub invariant_of-self-2-clause-begun : goal.invariant_of-self-2-clause-begun
-invariant_of-self-2-clause-begun c on e = not_begun c.is_whole.result (sym c.write.ensures.stage ∙ e)
+invariant_of-self-2-clause-begun c on e = not_begun c.is_whole-whole.result (sym c.write.ensures.stage ∙ e)
 
 pub invariant_of-self-2-clause-gone : goal.invariant_of-self-2-clause-gone
 invariant_of-self-2-clause-gone c on closed =
     let n = c.args.self.now in
-    let lacks = stage_lacks c.is_whole.result _ c.write.ensures.stage closed in
-    let gone = not-false-true (has_gone (peer_at n.peers) n.players n.ran) (sym c.row_at-row.ensures.whole ∙ sym c.is_whole.ensures ∙ lacks) in
+    let lacks = stage_lacks c.is_whole-whole.result _ c.write.ensures.stage closed in
+    let gone = not-false-true (has_gone (peer_at n.peers) n.players n.ran) (sym c.row_at-row.ensures.whole ∙ sym c.is_whole-whole.ensures ∙ lacks) in
     gone_later (peer_at n.peers) n.players n.ran (n.ran + 1) (omega arith) gone
   where
     not-false-true : (b : Bool) → not b ≡ false → b ≡ true
@@ -107,19 +107,19 @@ invariant_of-self-2-clause-gone c on closed =
 
 pub invariant_of-self-2-clause-fits : goal.invariant_of-self-2-clause-fits
 invariant_of-self-2-clause-fits c on is_open =
-    let fits = below (goal.at.invariant_of-self-2-clause-fits c).After-is_whole (stage_whole c.is_whole.result _ c.write.ensures.stage is_open) in
+    let fits = below (goal.at.invariant_of-self-2-clause-fits c).After-stamp (stage_whole c.is_whole-whole.result _ c.write.ensures.stage is_open) in
     omega arith
 
 pub invariant_of-self-2-clause-seats : goal.invariant_of-self-2-clause-seats
 invariant_of-self-2-clause-seats c on is_open =
-    let whole = stage_whole c.is_whole.result _ c.write.ensures.stage is_open in
-    c.write.ensures.seats whole ∙ c.args.self.now.seats c.requires.plays (opened (goal.at.invariant_of-self-2-clause-seats c).After-is_whole whole)
+    let whole = stage_whole c.is_whole-whole.result _ c.write.ensures.stage is_open in
+    c.write.ensures.seats whole ∙ c.args.self.now.seats c.requires.plays (opened (goal.at.invariant_of-self-2-clause-seats c).After-stamp whole)
 
 pub invariant_of-self-2-clause-size : goal.invariant_of-self-2-clause-size
 invariant_of-self-2-clause-size c on is_open =
     let n = c.args.self.now in
-    let whole = stage_whole c.is_whole.result _ c.write.ensures.stage is_open in
-    let before = opened (goal.at.invariant_of-self-2-clause-size c).After-is_whole whole in
+    let whole = stage_whole c.is_whole-whole.result _ c.write.ensures.stage is_open in
+    let before = opened (goal.at.invariant_of-self-2-clause-size c).After-stamp whole in
     size_more (length n.demo.bytes) _ _ n.players n.ran (c.write.ensures.size whole) (row_length (seats_in n.demo.bytes) n.players (n.seats c.requires.plays before) n.few) (n.size c.requires.plays before)
 
 pub invariant_of-self-2-clause-ahead : goal.invariant_of-self-2-clause-ahead
@@ -136,9 +136,9 @@ returns-clause-step c marking players extra capacity me m r own =
     let on = c.requires.plays in
     let there = here_all (ring_at n.rings) (peer_at n.peers) n.players n.ran c.requires.there in
     let row = c.row_at-row.ensures.row ∙ row_is rules me _ m r n.window there in
-    let full = full_is rules me _ m r n.window there _ n.capacity c.full_at.result row r.capacity c.full_at.ensures in
-    let whole : c.is_whole.result ≡ is_whole players (row_held rules m) = c.is_whole.ensures ∙ (λ i. is_whole (r.players i) (row i)) in
-    let opens = opened (goal.at.returns-clause-step c).After-is_whole in
+    let full = full_is rules me _ m r n.window there _ n.capacity c.full_at.result row r.capacity (c.full_at.ensures ∙ ap (λ (b : Bool). if b then n.capacity else tic_limit) c.is_whole-whole.ensures) in
+    let whole : c.is_whole-whole.result ≡ is_whole players (row_held rules m) = c.is_whole-whole.ensures ∙ (λ i. is_whole (r.players i) (row i)) in
+    let opens = opened (goal.at.returns-clause-step c).After-stamp in
     let written : IsWritten rules n.demo c.write.new.demo (row_held rules m) = record {
       begun = n.begun on;
       open_while = λ e. opens (whole ∙ e);
