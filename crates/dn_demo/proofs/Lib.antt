@@ -8,3 +8,5 @@ pub mod Behind
 pub mod ReadBack
 pub mod Writable
 pub mod RecordedAnew
+mod ToldBehind
+mod Stepping
