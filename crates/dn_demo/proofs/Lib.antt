@@ -10,3 +10,6 @@ pub mod Writable
 pub mod RecordedAnew
 mod ToldBehind
 mod Stepping
+mod HeadersKept
+mod RowsKept
+mod FeedKept
