@@ -13,3 +13,4 @@ mod Stepping
 mod HeadersKept
 mod RowsKept
 mod FeedKept
+mod FeedSteps

@@ -56,6 +56,13 @@ pub record Shows {S W : Type 0} (state : W → S) (physics : Physics S) (bytes :
 abbrev pub Takes : {S W : Type 0} → (W → S) → Physics S → Feeding W → List ℕ → Feeding W → Type 0
 Takes state physics old piece new = (bytes : List ℕ) → Shows state physics bytes old → Shows state physics (bytes ++ piece) new
 
+-- what holds of every feed: nothing is counted before the header is whole, and a row is shorter than a whole one
+pub record IsKept {W : Type 0} (f : Feeding W) : Type 0 where
+  pub played : f.tics ≤ f.taken
+  pub behind : f.after ≤ f.taken
+  pub blank : f.taken < header_size → (f.tics ≡ 0) × (f.row ≡ []) × (f.marked ≡ false) × (f.after ≡ 0)
+  pub unfinished : (layout : Layout) → HasHeader layout f.header → length f.row < row_size layout (seats_in f.header)
+
 -- pieces are taken one after the other
 abbrev pub TakesAll : {S W : Type 0} → (W → S) → Physics S → Feeding W → List (List ℕ) → Feeding W → Type 0
 TakesAll state physics old [] new = old ≡ new
