@@ -1,8 +1,8 @@
 -- What a feed has kept, one step after the other.
-use Rattle.std.proofs.Common.{◌≡◌, ◌≢◌, ◌<◌, ◌≤◌, ℕ, zero, suc, ◌+◌, ◌*◌, ◌%◌, Bool, true, false, List, [], ◌∷◌, ◌++◌, length, take, drop, Option, refl, sym, ap, ◌∙◌, subst, arith, inl, inr, length-append}
+use Rattle.std.proofs.Common.{◌≡◌, ◌≢◌, ◌<◌, ◌≤◌, ℕ, zero, suc, ◌+◌, ◌*◌, ◌%◌, Bool, true, false, List, [], ◌∷◌, ◌++◌, length, take, drop, set, Option, refl, sym, ap, ◌∙◌, subst, arith, inl, inr, length-append}
 use Rattle.std.proofs.Math.Seq.{take-nil}
 use Rattle.std.proofs.lemmas.Bool.{cases_lt}
-use Rattle.std.proofs.lemmas.List.{take-append-drop, length-take-le}
+use Rattle.std.proofs.lemmas.List.{take-append-drop, length-take, length-take-le, length-set}
 use Rattle.dn_tic.specs.declared.command.Move.{Move}
 use Rattle.dn_world.specs.Physics.{Physics}
 use Rattle.dn_demo.specs.Layout.{Layout, layout_of, command_size}
@@ -13,8 +13,9 @@ use Rattle.dn_demo.specs.Reading.{HasHeader}
 use Rattle.dn_demo.specs.Feeding.{Feeding, IsKept, Shows, ShowsRows, Steps, Takes, TakesFront, row_size}
 use Rattle.dn_demo.specs.declared.layout.Layout as declared
 use Rattle.dn_demo.specs.declared.layout.Layout.TheVariants.{Vanilla, LongTics}
+use Rattle.dn_demo.proofs.OneReading.{same_layout}
 use Rattle.dn_demo.proofs.HeadersKept.{header_kept, header_of_kept, seats_kept}
-use Rattle.dn_demo.proofs.RowsKept.{Unmarked, unmarked, of_unmarked, byte_kept, row_done, rows_done, marker_came, passed, begun}
+use Rattle.dn_demo.proofs.RowsKept.{Unmarked, unmarked, of_unmarked, byte_kept, row_done, rows_done, marker_came, passed, begun, some_product}
 use Rattle.dn_demo.proofs.FeedKept.{shown_more, shown_in}
 
 -- all of a list
@@ -123,4 +124,40 @@ in_rows state physics layout f g piece rest present h long free none seats steps
           shown_in state physics layout bytes (take many piece) f g h long shown (omega (arith, taken, size)) header (λ rows.
             of_unmarked state physics layout (bytes ++ take many piece) g marked
             (rows_done state physics layout bytes piece rest f g present (unmarked state physics layout bytes f free rows) none (seats ∙ seats_kept bytes f.header shown.header) steps tics row after));
+    }
+
+-- a header that is kept is whole
+pub kept_whole : (layout : Layout) (taken : ℕ) (header : List ℕ) → HasHeader layout (take taken header) → length header ≡ 13 → 13 ≤ taken
+kept_whole layout taken header h size = omega (arith, h.whole, length-take taken header, size)
+
+pub some_row : (layout : Layout) (header : List ℕ) (present : List Bool) → HasHeader layout header → present ≡ seats_in header → 0 < row_size layout present
+some_row layout header present h seats = some_product (command_size layout) (player_count present) (omega arith) (omega (arith, ap player_count seats, h.somebody))
+
+-- a byte more makes a row longer by one
+pub grown : (kept : ℕ) (row : List ℕ) (byte : ℕ) → kept < length row → length (take (kept + 1) (set row kept byte)) ≡ kept + 1
+grown kept row byte below = length-take-le (kept + 1) (set row kept byte) (omega (arith, below, length-set row kept byte))
+
+-- a row that is not full has room for another byte
+pub not_full : (layout : Layout) (header : List ℕ) (present : List Bool) (kept count : ℕ) → kept < row_size layout (seats_in header)
+    → present ≡ seats_in header → count ≡ row_size layout present → (kept + 1 ≡ count → ⊥) → kept + 1 < row_size layout (seats_in header)
+not_full layout header present kept count below seats size not =
+    let same = size ∙ ap (row_size layout) seats in
+    elim (cases_lt (kept + 1) (row_size layout (seats_in header))) [
+      | inl room ↦ room
+      | inr full ↦ absurd (not (omega (arith, same, full, below)))
+    ]
+
+-- a feed that took a byte of a row
+pub still_kept : {W : Type 0} (layout : Layout) (f g : Feeding W) → HasHeader layout f.header → 13 ≤ f.taken → IsKept f
+    → g.taken ≡ f.taken + 1 → g.header ≡ f.header → g.tics ≡ f.tics → g.after ≡ f.after → length g.row < row_size layout (seats_in f.header) → IsKept g
+still_kept layout f g h long kept taken header tics after room =
+    record {
+      played = omega (arith, kept.played, taken, tics);
+      behind = omega (arith, kept.behind, taken, after);
+      blank = λ below. absurd (omega (arith, taken, long, below));
+      unfinished = λ own has.
+          let here : HasHeader own f.header = subst (λ (t : List ℕ). HasHeader own t) header has in
+          let same : layout ≡ own = same_layout f.header layout own h.known here.known in
+          let back : row_size layout (seats_in f.header) ≡ row_size own (seats_in g.header) = λ i. row_size (same i) (seats_in (sym header i)) in
+          omega (arith, room, back);
     }

@@ -181,7 +181,7 @@ place_order layout j k order =
       | inr within ↦ omega arith
     ]
 
-some_product : (n i : ℕ) → 0 < n → 0 < i → 0 < n * i
+pub some_product : (n i : ℕ) → 0 < n → 0 < i → 0 < n * i
 some_product n i some one = let more : n * 1 ≤ n * i = mul-le-mul_left n (omega arith) in omega arith
 
 -- the rows at the front of a piece
