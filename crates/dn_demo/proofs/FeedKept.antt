@@ -1,6 +1,5 @@
 -- What a feed has kept, as bytes come.
-use Rattle.std.proofs.Common.{◌≡◌, ◌≢◌, ◌<◌, ◌≤◌, ℕ, ◌+◌, ◌-◌, ◌*◌, ◌/◌, ◌%◌, Bool, true, false, List, [], ◌∷◌, ◌++◌, length, map, take, drop, fold, Option, Some, Ok, Err, refl, sym, ap, ◌∙◌, subst, arith, inl, inr, append_assoc, append-nil, length-append}
-use Rattle.std.specs.List.{range_with_len}
+use Rattle.std.proofs.Common.{◌≡◌, ◌<◌, ◌≤◌, ℕ, ◌+◌, ◌-◌, ◌*◌, ◌/◌, ◌%◌, true, false, List, [], ◌∷◌, ◌++◌, length, Ok, Err, refl, sym, ap, ◌∙◌, subst, arith, inl, inr, append_assoc, append-nil, length-append}
 use Rattle.std.proofs.Math.Nat.{mul-div_cancel_left}
 use Rattle.std.proofs.lemmas.Nat.{div-mul-add, mod-mul-add}
 use Rattle.std.proofs.lemmas.Bool.{cases_lt}
@@ -11,13 +10,13 @@ use Rattle.dn_world.specs.Physics.{Physics}
 use Rattle.dn_demo.specs.Layout.{Layout, command_size}
 use Rattle.dn_demo.specs.Rows.{player_count}
 use Rattle.dn_demo.specs.Text.{marker}
-use Rattle.dn_demo.specs.Places.{start_in, seats_in, place, row_in, EndsBehind}
+use Rattle.dn_demo.specs.Places.{seats_in, place, row_in}
 use Rattle.dn_demo.specs.Reading.{Recording, recording, HasHeader, IsReadAs, state_after}
-use Rattle.dn_demo.specs.Feeding.{Feeding, IsFront, Shows, ShowsRows, Takes, TakesFront, row_size, state_by}
+use Rattle.dn_demo.specs.Feeding.{Feeding, IsFront, Shows, ShowsRows, Takes, TakesFront, state_by}
 use Rattle.dn_demo.specs.declared.demo.DemoFault.TheVariants.{NoMarker}
 use Rattle.dn_demo.proofs.OneReading.{same_layout}
 use Rattle.dn_demo.proofs.Layouts.{place_below}
-use Rattle.dn_demo.proofs.HeadersKept.{header_kept, header_of_kept, kept_longer, seats_kept}
+use Rattle.dn_demo.proofs.HeadersKept.{header_kept, header_of_kept, kept_longer}
 use Rattle.dn_demo.proofs.RowsKept.{unmarked, lt_of_product}
 
 -- behind a whole header that stays, bytes are shown where their rows are

@@ -1,5 +1,5 @@
 -- What a feed has kept, one step after the other.
-use Rattle.std.proofs.Common.{◌≡◌, ◌≢◌, ◌<◌, ◌≤◌, ℕ, zero, suc, ◌+◌, ◌*◌, ◌%◌, Bool, true, false, List, [], ◌∷◌, ◌++◌, length, take, drop, set, Option, refl, sym, ap, ◌∙◌, subst, arith, inl, inr, length-append}
+use Rattle.std.proofs.Common.{◌≡◌, ◌≢◌, ◌<◌, ◌≤◌, ℕ, zero, suc, ◌+◌, ◌*◌, ◌%◌, Bool, true, false, List, [], ◌∷◌, ◌++◌, length, take, set, min, Option, sym, ap, ◌∙◌, subst, arith, inl, inr, length-append}
 use Rattle.std.proofs.Math.Seq.{take-nil}
 use Rattle.std.proofs.lemmas.Bool.{cases_lt}
 use Rattle.std.proofs.lemmas.List.{take-append-drop, length-take, length-take-le, length-set}
@@ -8,14 +8,14 @@ use Rattle.dn_world.specs.Physics.{Physics}
 use Rattle.dn_demo.specs.Layout.{Layout, layout_of, command_size}
 use Rattle.dn_demo.specs.Rows.{player_count}
 use Rattle.dn_demo.specs.Text.{marker}
-use Rattle.dn_demo.specs.Places.{start_in, seats_in, is_set, place, moves_from}
+use Rattle.dn_demo.specs.Places.{start_in, seats_in, place, moves_from}
 use Rattle.dn_demo.specs.Reading.{HasHeader}
-use Rattle.dn_demo.specs.Feeding.{Feeding, IsKept, Shows, ShowsRows, Steps, Takes, TakesFront, row_size}
+use Rattle.dn_demo.specs.Feeding.{Feeding, IsKept, ShowsRows, Steps, Takes, TakesFront, row_size}
 use Rattle.dn_demo.specs.declared.layout.Layout as declared
 use Rattle.dn_demo.specs.declared.layout.Layout.TheVariants.{Vanilla, LongTics}
 use Rattle.dn_demo.proofs.OneReading.{same_layout}
-use Rattle.dn_demo.proofs.HeadersKept.{header_kept, header_of_kept, seats_kept}
-use Rattle.dn_demo.proofs.RowsKept.{Unmarked, unmarked, of_unmarked, byte_kept, row_done, rows_done, marker_came, passed, begun, some_product}
+use Rattle.dn_demo.proofs.HeadersKept.{header_kept, seats_kept}
+use Rattle.dn_demo.proofs.RowsKept.{unmarked, of_unmarked, byte_kept, row_done, rows_done, marker_came, passed, begun, some_product}
 use Rattle.dn_demo.proofs.FeedKept.{shown_more, shown_in}
 
 -- all of a list
@@ -161,3 +161,11 @@ still_kept layout f g h long kept taken header tics after room =
           let back : row_size layout (seats_in f.header) ≡ row_size own (seats_in g.header) = λ i. row_size (same i) (seats_in (sym header i)) in
           omega (arith, room, back);
     }
+
+-- what came of a header
+pub header_so_far : (taken n : ℕ) (header : List ℕ) → length header ≡ 13 → n ≡ min 13 taken → take n header ≡ take taken header
+header_so_far taken n header size e =
+    elim (cases_lt taken 13) [
+      | inl short ↦ let same : n ≡ taken = omega (arith, e) in ap (λ m. take m header) same
+      | inr long ↦ take_all n header (omega (arith, e, size)) ∙ sym (take_all taken header (omega (arith, size)))
+    ]

@@ -14,3 +14,4 @@ mod HeadersKept
 mod RowsKept
 mod FeedKept
 mod FeedSteps
+mod FeedEnds

@@ -10,7 +10,7 @@ use Rattle.dn_world.specs.Physics.{Physics}
 use Rattle.dn_demo.specs.Layout.{Layout, command_size}
 use Rattle.dn_demo.specs.Rows.{player_count}
 use Rattle.dn_demo.specs.Text.{marker}
-use Rattle.dn_demo.specs.Places.{start_in, seats_in, place, moves_from, row_in, HasNoMarker, EndsBehind}
+use Rattle.dn_demo.specs.Places.{start_in, seats_in, place, moves_from, row_in, HasNoMarker}
 use Rattle.dn_demo.specs.Feeding.{Feeding, IsFront, ShowsRows, Steps, row_size, state_by}
 use Rattle.dn_demo.proofs.Layouts.{place_below}
 use Rattle.dn_demo.proofs.Stepping.{seats_in-append, state_by-append, state_by-more}

@@ -1,9 +1,8 @@
 -- Commands that are told by their index in bytes, behind any front.
-use Rattle.std.proofs.Common.{◌≡◌, ◌≤◌, ℕ, ◌+◌, ◌*◌, Bool, true, false, List, [], ◌∷◌, ◌++◌, length, take, drop, Option, Some, None, refl, sym, ap, ◌∙◌, arith}
+use Rattle.std.proofs.Common.{◌≡◌, ℕ, ◌+◌, List, ◌++◌, length, take, drop, sym, ap, ◌∙◌}
 use Rattle.std.proofs.Math.Seq.{drop-append-add}
-use Rattle.dn_tic.specs.declared.command.Move.{Move}
 use Rattle.dn_demo.specs.Layout.{Layout, command_size, tell}
-use Rattle.dn_demo.specs.Places.{place, move_at, moves_from}
+use Rattle.dn_demo.specs.Places.{place, move_at}
 
 -- the command that stands at an index of the bytes
 pub told_behind : (layout : Layout) (front bytes : List ℕ) (at command : ℕ) → length front + at ≡ place layout command

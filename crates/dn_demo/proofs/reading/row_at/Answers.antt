@@ -1,6 +1,5 @@
-use Rattle.std.proofs.Common.{◌+◌, ◌*◌, ◌++◌, [], ◌∷◌, length, get_or, arith, rules, false}
-use Rattle.dn_demo.specs.Layout.{layout_of, command_size}
-use Rattle.dn_demo.specs.Rows.{player_count}
+use Rattle.std.proofs.Common.{◌++◌, arith, rules}
+use Rattle.dn_demo.specs.Layout.{layout_of}
 use Rattle.dn_demo.proofs.Kept.{four_moves}
 use Rattle.dn_demo.proofs.reading.row_at.Goals as goal
 

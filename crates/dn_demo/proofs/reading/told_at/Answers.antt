@@ -1,4 +1,4 @@
-use Rattle.std.proofs.Common.{rules, ◌≡◌, ◌+◌, ◌-◌, ◌∙◌, take, drop, ap, arith}
+use Rattle.std.proofs.Common.{◌≡◌, ◌+◌, ◌-◌, ◌∙◌, take, drop, ap, arith}
 use Rattle.dn_demo.specs.Layout.{layout_of, command_size, tell}
 use Rattle.dn_demo.proofs.ToldBehind.{told_behind}
 use Rattle.dn_demo.proofs.reading.told_at.Goals as goal

@@ -1,8 +1,7 @@
 use Rattle.std.proofs.Common.{rules, ◌≡◌, ◌≤◌, ◌*◌, ◌∙◌, false, length, drop, ap, arith}
 use Rattle.std.proofs.lemmas.List.{take_rest}
 use Rattle.std.proofs.lemmas.Bool.Decides.{nat_tests}
-use Rattle.dn_demo.specs.Layout.{layout_of, command_size}
-use Rattle.dn_demo.specs.Rows.{player_count}
+use Rattle.dn_demo.specs.Layout.{layout_of}
 use Rattle.dn_demo.specs.Feeding.{row_size}
 use Rattle.dn_demo.proofs.Stepping.{steps_none, steps_more}
 use Rattle.dn_demo.proofs.rows.step_rows.Goals as goal

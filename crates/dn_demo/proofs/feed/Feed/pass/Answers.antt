@@ -1,4 +1,4 @@
-use Rattle.std.proofs.Common.{rules, ◌≡◌, ◌≤◌, ◌+◌, false, true, length, take, ℕ, refl, sym, subst, arith}
+use Rattle.std.proofs.Common.{rules, ◌≡◌, ◌≤◌, ◌+◌, false, true, length, take, refl, sym, subst, arith}
 use Rattle.dn_demo.specs.Layout.{Layout}
 use Rattle.dn_demo.specs.Reading.{HasHeader}
 use Rattle.dn_demo.specs.Feeding.{Feeding, Takes}

@@ -1,10 +1,10 @@
-use Rattle.std.proofs.Common.{rules, ◌≡◌, ◌≢◌, ◌<◌, ◌≤◌, ◌+◌, ◌*◌, ◌%◌, true, false, [], ◌∷◌, ◌++◌, length, take, set, ℕ, refl, ap, sym, subst, arith, ◌∙◌, List, length-append}
-use Rattle.std.proofs.lemmas.List.{take_more_set, length-set, length-take-le}
-use Rattle.dn_demo.specs.Layout.{Layout, layout_of, command_size}
+use Rattle.std.proofs.Common.{rules, ◌≡◌, ◌≢◌, ◌<◌, ◌≤◌, ◌+◌, ◌*◌, ◌%◌, true, false, [], ◌∷◌, ◌++◌, length, take, set, ℕ, refl, ap, sym, subst, arith, ◌∙◌, List}
+use Rattle.std.proofs.lemmas.List.{take_more_set, length-take-le}
+use Rattle.dn_demo.specs.Layout.{layout_of, command_size}
 use Rattle.dn_demo.specs.Text.{marker}
 use Rattle.dn_demo.specs.Places.{seats_in, moves_from}
 use Rattle.dn_demo.specs.Reading.{HasHeader}
-use Rattle.dn_demo.specs.Feeding.{Feeding, Takes, IsKept, row_size}
+use Rattle.dn_demo.specs.Feeding.{Feeding, Takes, row_size}
 use Rattle.dn_demo.proofs.FeedSteps.{at_marker, in_row, ends_row, take_past, take_all, kept_whole, short_row, grown, not_full, still_kept}
 use Rattle.dn_demo.proofs.feed.Feed.take_command.Goals as goal
 

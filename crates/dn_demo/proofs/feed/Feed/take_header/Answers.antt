@@ -1,9 +1,9 @@
-use Rattle.std.proofs.Common.{rules, ◌≡◌, ◌<◌, ◌≤◌, ◌+◌, true, false, [], ◌∷◌, ◌++◌, length, take, set, ℕ, refl, ap, sym, subst, arith, ◌∙◌}
+use Rattle.std.proofs.Common.{rules, ◌≡◌, ◌<◌, ◌≤◌, ◌+◌, [], ◌∷◌, take, set, refl, sym, subst, arith, ◌∙◌}
 use Rattle.std.proofs.lemmas.List.{take_more_set, length-set}
 use Rattle.dn_demo.specs.Layout.{Layout}
 use Rattle.dn_demo.specs.Places.{start_in, seats_in}
 use Rattle.dn_demo.specs.Reading.{HasHeader}
-use Rattle.dn_demo.specs.Feeding.{Feeding, Takes, IsKept}
+use Rattle.dn_demo.specs.Feeding.{Feeding, Takes}
 use Rattle.dn_demo.proofs.FeedSteps.{in_header, take_all}
 use Rattle.dn_demo.proofs.feed.Feed.take_header.Goals as goal
 
