@@ -15,3 +15,4 @@ mod RowsKept
 mod FeedKept
 mod FeedSteps
 mod FeedEnds
+mod PiecesJoined

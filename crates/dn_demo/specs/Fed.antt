@@ -1,7 +1,8 @@
 -- What a feed ends as: what its bytes are read as.
-use Rattle.std.specs.Prelude.{◌≡◌, ℕ, List, length, Result, Ok, Err}
+use Rattle.std.specs.Prelude.{◌≡◌, ℕ, List, [], length, Result, Ok, Err}
 use Rattle.dn_world.specs.Physics.{Physics}
 use Rattle.dn_demo.specs.Reading.{Recording, IsReadAs, state_after}
+use Rattle.dn_demo.specs.Feeding.{Feeding, Shows, TakesAll}
 use Rattle.dn_demo.specs.declared.demo.DemoFault.{DemoFault}
 use Rattle.dn_demo.specs.declared.demo.DemoFault.TheVariants as read
 use Rattle.dn_demo.specs.declared.fed.Fed.{Fed}
@@ -31,7 +32,16 @@ abbrev pub IsFedAs : {S W : Type 0} → (W → S) → Physics S → List ℕ →
 IsFedAs state physics bytes (Ok fed) = (demo : Recording) × IsReadAs bytes (Ok demo) × Tells state physics demo fed
 IsFedAs state physics bytes (Err fault) = IsReadAs bytes (Err (fault_of fault))
 
--- two ends are the same: the same fault, or the same told and worlds in one state
+-- whatever bytes a feed shows, it ends as what they are read as
+abbrev pub EndsAs : {S W : Type 0} → (W → S) → Physics S → Feeding W → Result (Fed W) FeedFault → Type 0
+EndsAs state physics f result = (bytes : List ℕ) → Shows state physics bytes f → IsFedAs state physics bytes result
+
+-- pieces end as this: a feed that shows no bytes takes them one after the other, and then ends
+abbrev pub PiecesEndAs : {S W : Type 0} → (W → S) → Physics S → List (List ℕ) → Result (Fed W) FeedFault → Type 0
+PiecesEndAs {W = W} state physics pieces result =
+    (old : Feeding W) × (new : Feeding W) × Shows state physics [] old × TakesAll state physics old pieces new × EndsAs state physics new result
+
+-- two ends are the same: the same fault, or what is told of one demo
 abbrev pub IsSameEnd : {S W : Type 0} → (W → S) → Physics S → Result (Fed W) FeedFault → Result (Fed W) FeedFault → Type 0
 IsSameEnd state physics (Ok one) (Ok other) = (demo : Recording) × Tells state physics demo one × Tells state physics demo other
 IsSameEnd state physics (Err one) (Err other) = one ≡ other

@@ -8,7 +8,7 @@ ghost use Rattle.dn_demo.specs.Text.{header_size, marker};
 ghost use Rattle.dn_demo.specs.Places.{seats_in};
 ghost use Rattle.dn_demo.specs.Reading.{HasHeader};
 ghost use Rattle.dn_demo.specs.Feeding.{Feeding, Shows, Takes, TakesFront, row_size};
-ghost use Rattle.dn_demo.specs.Fed.{IsFedAs};
+ghost use Rattle.dn_demo.specs.Fed.{EndsAs};
 
 use crate::fed::{Fed, FeedFault};
 use crate::demo::{self, DemoFault};
@@ -206,7 +206,7 @@ impl<W: World> Feed<W> {
     /// Ends the demo: what it has, with the world after its last whole tic, or the first fault that its
     /// bytes have.
     pub fn end(self) -> Result<Fed<W>, FeedFault>
-        ensures { (bytes : List ℕ) → Shows W.state W.physics bytes self → IsFedAs W.state W.physics bytes result }
+        ensures { EndsAs W.state W.physics self result }
     {
         let taken = HEADER.min(self.taken as usize);
         let layout = match demo::open(&self.header[..taken]) {
