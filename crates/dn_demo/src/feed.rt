@@ -59,7 +59,8 @@ fn is_marker(byte: u8, kept: usize, layout: Layout) -> bool
 impl<W: World> Feed<W> {
     /// A feed that no bytes came to.
     pub fn new(world: W) -> Feed<W>
-        ensures { Shows W.state W.physics [] result }
+        ensures count { result.taken ≡ 0 }
+        ensures shown { Shows W.state W.physics [] result }
     {
         Feed {
             world,
@@ -195,7 +196,8 @@ impl<W: World> Feed<W> {
     /// Takes the next piece. All pieces together have at most 4,294,967,295 bytes.
     pub fn push(&mut self, piece: &[u8])
         requires { self.old.taken + length piece.now ≤ 4294967295 }
-        ensures { Takes W.state W.physics self.old piece.now self.new }
+        ensures count { self.new.taken ≡ self.old.taken + length piece.now }
+        ensures shown { Takes W.state W.physics self.old piece.now self.new }
     {
         let mut rest = piece;
         while !rest.is_empty() {
