@@ -7,6 +7,7 @@ ghost use Rattle.dn_demo.specs.Feeding.{Shows};
 ghost use Rattle.dn_demo.specs.Fed.{Tells};
 ghost use Rattle.dn_netgame.specs.DemoLines.{demo_limit, IsGiven, IsRefused};
 ghost use Rattle.dn_netgame.specs.Transfer.{TakesUpTo, TakesFewer};
+ghost use Rattle.dn_netgame.specs.declared.fault.RunFault.{RunFault};
 
 use crate::fault::RunFault;
 use crate::input::INPUT_LIMIT;
@@ -27,8 +28,8 @@ pub(crate) fn feed_demo<R: Read>(input: &mut R) -> Result<Feed<Walk>, RunFault>
         × TakesUpTo (demo_limit + 1) (R.remaining input.old) (R.remaining input.new) bytes
         × Shows (λ w. w) walking bytes feed) }
     ensures fault { IfErr result (λ fault. fault ≡ RunFault.Read) }
-    ensures fewer { IfErr result (λ _. TakesFewer (demo_limit + 1)
-        (R.remaining input.old) (R.remaining input.new)) }
+    ensures fewer { result ≡ Err RunFault.Read
+        → TakesFewer (demo_limit + 1) (R.remaining input.old) (R.remaining input.new) }
 {
     let mut piece = [0; PIECE];
     let mut feed = Feed::new(Walk::new());
