@@ -1,7 +1,7 @@
 //! Stepping a world straight from the bytes of rows.
 
 ghost use Rattle.std.specs.Prelude.{◌≡◌, ◌≢◌, ◌<◌, ◌≤◌, ℕ, ◌*◌, false, length, slice_get, Some};
-ghost use Rattle.dn_demo.specs.Layout.{layout_of, command_size};
+ghost use Rattle.dn_demo.specs.Layout.{layout_of, vanilla, long_tics, command_size};
 ghost use Rattle.dn_demo.specs.Rows.{player_count};
 ghost use Rattle.dn_demo.specs.Text.{marker};
 ghost use Rattle.dn_demo.specs.Feeding.{row_size, Steps};
@@ -46,18 +46,30 @@ fn step_rows<'a, W: World>(
     rest
 }
 
-/// Steps the world by rows of these players. Each call has seats that are constants, so that its loop
-/// tests none of them.
-#[inline(always)]
-fn step_seats<'a, W: World>(
-    world: &mut W,
-    piece: &'a [u8],
-    layout: Layout,
-    present: [bool; 4],
-) -> &'a [u8]
+/// Steps the world by rows of version 109. Each call has constants for the layout and the seats, so that its loop
+/// tests neither.
+#[inline(never)]
+fn step_vanilla<'a, W: World>(world: &mut W, piece: &'a [u8], present: [bool; 4]) -> &'a [u8]
     requires { 0 < player_count present }
-    ensures { Steps W.state W.physics (layout_of layout) present world.old piece.now result.now world.new }
+    ensures { Steps W.state W.physics vanilla present world.old piece.now result.now world.new }
 {
+    let layout = Layout::Vanilla;
+    match present {
+        [true, true, false, false] => step_rows(world, piece, layout, [true, true, false, false]),
+        [true, true, true, false] => step_rows(world, piece, layout, [true, true, true, false]),
+        [true, true, true, true] => step_rows(world, piece, layout, [true, true, true, true]),
+        _ => step_rows(world, piece, layout, present),
+    }
+}
+
+/// Steps the world by rows of version 111. Each call has constants for the layout and the seats, so that its loop
+/// tests neither.
+#[inline(never)]
+fn step_long_tics<'a, W: World>(world: &mut W, piece: &'a [u8], present: [bool; 4]) -> &'a [u8]
+    requires { 0 < player_count present }
+    ensures { Steps W.state W.physics long_tics present world.old piece.now result.now world.new }
+{
+    let layout = Layout::LongTics;
     match present {
         [true, true, false, false] => step_rows(world, piece, layout, [true, true, false, false]),
         [true, true, true, false] => step_rows(world, piece, layout, [true, true, true, false]),
@@ -67,7 +79,6 @@ fn step_seats<'a, W: World>(
 }
 
 /// Steps the world by the whole rows at the front of a piece that have no marker, and answers the rest.
-#[inline(never)]
 pub(crate) fn step_all<'a, W: World>(
     world: &mut W,
     piece: &'a [u8],
@@ -78,7 +89,7 @@ pub(crate) fn step_all<'a, W: World>(
     ensures { Steps W.state W.physics (layout_of layout) present world.old piece.now result.now world.new }
 {
     match layout {
-        Layout::Vanilla => step_seats(world, piece, Layout::Vanilla, present),
-        Layout::LongTics => step_seats(world, piece, Layout::LongTics, present),
+        Layout::Vanilla => step_vanilla(world, piece, present),
+        Layout::LongTics => step_long_tics(world, piece, present),
     }
 }
