@@ -87,7 +87,7 @@ impl<W: World> Feed<W> {
         ensures whole { IfSome result (λ layout. header_size ≤ self.now.taken) }
         ensures none { IfNone result ((layout : specs.Layout) → ¬ HasHeader layout self.now.header) }
     {
-        if self.taken < HEADER as u64 {
+        if (self.taken as usize) < HEADER {
             return None;
         }
         demo::open(&self.header).ok()

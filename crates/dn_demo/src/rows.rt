@@ -1,6 +1,6 @@
 //! Stepping a world straight from the bytes of rows.
 
-ghost use Rattle.std.specs.Prelude.{◌≡◌, ◌≢◌, ◌<◌, ◌≤◌, ℕ, ◌*◌, false, length, slice_get, Some};
+ghost use Rattle.std.specs.Prelude.{◌≡◌, ◌≢◌, ◌<◌, ◌≤◌, ℕ, ◌*◌, true, false, [], ◌∷◌, length, slice_get, Some};
 ghost use Rattle.dn_demo.specs.Layout.{layout_of, vanilla, long_tics, command_size};
 ghost use Rattle.dn_demo.specs.Rows.{player_count};
 ghost use Rattle.dn_demo.specs.Text.{marker};
@@ -46,35 +46,80 @@ fn step_rows<'a, W: World>(
     rest
 }
 
-/// Steps the world by rows of version 109. Each call has constants for the layout and the seats, so that its loop
-/// tests neither.
+// The loops for the seats of a netgame have constants for the layout and the seats, so that they test neither. Each
+// stands in a function of its own, so that the compiler keeps what it uses in registers.
+
+/// Steps the world by rows of two players in version 109.
 #[inline(never)]
+fn two_vanilla<'a, W: World>(world: &mut W, piece: &'a [u8]) -> &'a [u8]
+    ensures { Steps W.state W.physics vanilla (true ∷ true ∷ false ∷ false ∷ []) world.old piece.now result.now world.new }
+{
+    step_rows(world, piece, Layout::Vanilla, [true, true, false, false])
+}
+
+/// Steps the world by rows of three players in version 109.
+#[inline(never)]
+fn three_vanilla<'a, W: World>(world: &mut W, piece: &'a [u8]) -> &'a [u8]
+    ensures { Steps W.state W.physics vanilla (true ∷ true ∷ true ∷ false ∷ []) world.old piece.now result.now world.new }
+{
+    step_rows(world, piece, Layout::Vanilla, [true, true, true, false])
+}
+
+/// Steps the world by rows of four players in version 109.
+#[inline(never)]
+fn four_vanilla<'a, W: World>(world: &mut W, piece: &'a [u8]) -> &'a [u8]
+    ensures { Steps W.state W.physics vanilla (true ∷ true ∷ true ∷ true ∷ []) world.old piece.now result.now world.new }
+{
+    step_rows(world, piece, Layout::Vanilla, [true, true, true, true])
+}
+
+/// Steps the world by rows of two players in version 111.
+#[inline(never)]
+fn two_long_tics<'a, W: World>(world: &mut W, piece: &'a [u8]) -> &'a [u8]
+    ensures { Steps W.state W.physics long_tics (true ∷ true ∷ false ∷ false ∷ []) world.old piece.now result.now world.new }
+{
+    step_rows(world, piece, Layout::LongTics, [true, true, false, false])
+}
+
+/// Steps the world by rows of three players in version 111.
+#[inline(never)]
+fn three_long_tics<'a, W: World>(world: &mut W, piece: &'a [u8]) -> &'a [u8]
+    ensures { Steps W.state W.physics long_tics (true ∷ true ∷ true ∷ false ∷ []) world.old piece.now result.now world.new }
+{
+    step_rows(world, piece, Layout::LongTics, [true, true, true, false])
+}
+
+/// Steps the world by rows of four players in version 111.
+#[inline(never)]
+fn four_long_tics<'a, W: World>(world: &mut W, piece: &'a [u8]) -> &'a [u8]
+    ensures { Steps W.state W.physics long_tics (true ∷ true ∷ true ∷ true ∷ []) world.old piece.now result.now world.new }
+{
+    step_rows(world, piece, Layout::LongTics, [true, true, true, true])
+}
+
+/// Steps the world by rows of version 109.
 fn step_vanilla<'a, W: World>(world: &mut W, piece: &'a [u8], present: [bool; 4]) -> &'a [u8]
     requires { 0 < player_count present }
     ensures { Steps W.state W.physics vanilla present world.old piece.now result.now world.new }
 {
-    let layout = Layout::Vanilla;
     match present {
-        [true, true, false, false] => step_rows(world, piece, layout, [true, true, false, false]),
-        [true, true, true, false] => step_rows(world, piece, layout, [true, true, true, false]),
-        [true, true, true, true] => step_rows(world, piece, layout, [true, true, true, true]),
-        _ => step_rows(world, piece, layout, present),
+        [true, true, false, false] => two_vanilla(world, piece),
+        [true, true, true, false] => three_vanilla(world, piece),
+        [true, true, true, true] => four_vanilla(world, piece),
+        _ => step_rows(world, piece, Layout::Vanilla, present),
     }
 }
 
-/// Steps the world by rows of version 111. Each call has constants for the layout and the seats, so that its loop
-/// tests neither.
-#[inline(never)]
+/// Steps the world by rows of version 111.
 fn step_long_tics<'a, W: World>(world: &mut W, piece: &'a [u8], present: [bool; 4]) -> &'a [u8]
     requires { 0 < player_count present }
     ensures { Steps W.state W.physics long_tics present world.old piece.now result.now world.new }
 {
-    let layout = Layout::LongTics;
     match present {
-        [true, true, false, false] => step_rows(world, piece, layout, [true, true, false, false]),
-        [true, true, true, false] => step_rows(world, piece, layout, [true, true, true, false]),
-        [true, true, true, true] => step_rows(world, piece, layout, [true, true, true, true]),
-        _ => step_rows(world, piece, layout, present),
+        [true, true, false, false] => two_long_tics(world, piece),
+        [true, true, true, false] => three_long_tics(world, piece),
+        [true, true, true, true] => four_long_tics(world, piece),
+        _ => step_rows(world, piece, Layout::LongTics, present),
     }
 }
 
