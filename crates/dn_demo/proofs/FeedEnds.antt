@@ -30,14 +30,17 @@ ended state physics layout bytes f fed h marked version start view present tics 
     let here = header_of_kept layout bytes f.header shown.header h in
     let is = fed_as state physics layout bytes f here marked (shown.rows layout here) in
     let demo = is.0 in
-    let same = is.2 in
-    (demo, is.1, record {
-      version = version ∙ ap (λ (t : List ℕ). get_or t 0 0) shown.header ∙ get_or-take 13 bytes 0 0 (omega arith) ∙ sym (ap (λ (d : Recording). d.version) same);
-      start = start ∙ ap start_in shown.header ∙ start_in-take 13 bytes (omega arith) ∙ sym (ap (λ (d : Recording). d.start) same);
-      view = view ∙ ap (λ (t : List ℕ). get_or t 8 0) shown.header ∙ get_or-take 13 bytes 8 0 (omega arith) ∙ sym (ap (λ (d : Recording). d.view) same);
-      present = present ∙ seats_kept bytes f.header shown.header ∙ sym (ap (λ (d : Recording). d.present) same);
-      tics = tics ∙ is.3;
-      cut = cut ∙ is.4;
-      after = after ∙ sym (ap (λ (d : Recording). d.after) same);
-      world = world ∙ is.5;
-    })
+    let same = is.2 in (
+      demo,
+      is.1,
+      record {
+        version = version ∙ ap (λ (t : List ℕ). get_or t 0 0) shown.header ∙ get_or-take 13 bytes 0 0 (omega arith) ∙ sym (ap (λ (d : Recording). d.version) same);
+        start = start ∙ ap start_in shown.header ∙ start_in-take 13 bytes (omega arith) ∙ sym (ap (λ (d : Recording). d.start) same);
+        view = view ∙ ap (λ (t : List ℕ). get_or t 8 0) shown.header ∙ get_or-take 13 bytes 8 0 (omega arith) ∙ sym (ap (λ (d : Recording). d.view) same);
+        present = present ∙ seats_kept bytes f.header shown.header ∙ sym (ap (λ (d : Recording). d.present) same);
+        tics = tics ∙ is.3;
+        cut = cut ∙ is.4;
+        after = after ∙ sym (ap (λ (d : Recording). d.after) same);
+        world = world ∙ is.5;
+      },
+    )

@@ -42,9 +42,9 @@ pub shown_in : {S W : Type 0} (state : W → S) (physics : Physics S) (layout : 
     → Shows state physics (bytes ++ more) g
 shown_in state physics layout bytes more f g h long shown taken header rows =
     shown_more state physics bytes more f g long shown taken header (λ own has old.
-      let mine = header_of_kept layout bytes f.header shown.header h in
-      let same : layout ≡ own = same_layout bytes layout own mine.known has.known in
-      subst (λ (l : Layout). ShowsRows state physics l (bytes ++ more) g) same (rows (shown.rows layout mine)))
+    let mine = header_of_kept layout bytes f.header shown.header h in
+    let same : layout ≡ own = same_layout bytes layout own mine.known has.known in
+    subst (λ (l : Layout). ShowsRows state physics l (bytes ++ more) g) same (rows (shown.rows layout mine)))
 
 -- the bytes before the marker are read as the demo that was stepped by
 pub fed_as : {S W : Type 0} (state : W → S) (physics : Physics S) (layout : Layout) (bytes : List ℕ) (f : Feeding W) → HasHeader layout bytes → f.marked ≡ true

@@ -79,8 +79,8 @@ pub at_marker : {S W : Type 0} (state : W → S) (physics : Physics S) (layout :
     → Takes state physics f (byte ∷ []) g
 at_marker state physics layout f g byte h long free is even taken header tics row after marked world = λ bytes shown.
     shown_in state physics layout bytes (byte ∷ []) f g h long shown taken header (λ rows.
-      subst (λ b. ShowsRows state physics layout (bytes ++ b ∷ []) g) (sym is)
-      (marker_came state physics layout bytes f g (unmarked state physics layout bytes f free rows) even tics row after marked world))
+    subst (λ b. ShowsRows state physics layout (bytes ++ b ∷ []) g) (sym is)
+    (marker_came state physics layout bytes f g (unmarked state physics layout bytes f free rows) even tics row after marked world))
 
 -- a byte of a row
 pub in_row : {S W : Type 0} (state : W → S) (physics : Physics S) (layout : Layout) (f g : Feeding W) (byte : ℕ) → HasHeader layout f.header → 13 ≤ f.taken → f.marked ≡ false
@@ -90,8 +90,8 @@ pub in_row : {S W : Type 0} (state : W → S) (physics : Physics S) (layout : La
 in_row state physics layout f g byte h long free not taken header tics row after marked world room = λ bytes shown.
     let size = ap (row_size layout) (seats_kept bytes f.header shown.header) in
     shown_in state physics layout bytes (byte ∷ []) f g h long shown taken header (λ rows.
-      of_unmarked state physics layout (bytes ++ byte ∷ []) g marked
-      (byte_kept state physics layout bytes f g byte (unmarked state physics layout bytes f free rows) not tics row after world (omega (arith, room, size))))
+    of_unmarked state physics layout (bytes ++ byte ∷ []) g marked
+    (byte_kept state physics layout bytes f g byte (unmarked state physics layout bytes f free rows) not tics row after world (omega (arith, room, size))))
 
 -- the last byte of a row
 pub ends_row : {S W : Type 0} (state : W → S) (physics : Physics S) (layout : Layout) (f g : Feeding W) (byte : ℕ) (present : List Bool) (moves : List (Option Move))
@@ -103,9 +103,9 @@ pub ends_row : {S W : Type 0} (state : W → S) (physics : Physics S) (layout : 
 ends_row state physics layout f g byte present moves h long free not taken header tics row after marked full seats told world = λ bytes shown.
     let kept = seats_kept bytes f.header shown.header in
     shown_in state physics layout bytes (byte ∷ []) f g h long shown taken header (λ rows.
-      of_unmarked state physics layout (bytes ++ byte ∷ []) g marked
-      (row_done state physics layout bytes f g byte present moves (unmarked state physics layout bytes f free rows) not tics row after
-      (full ∙ ap (row_size layout) kept) (seats ∙ kept) told world))
+    of_unmarked state physics layout (bytes ++ byte ∷ []) g marked
+    (row_done state physics layout bytes f g byte present moves (unmarked state physics layout bytes f free rows) not tics row after
+    (full ∙ ap (row_size layout) kept) (seats ∙ kept) told world))
 
 -- rows at the front of a piece
 pub in_rows : {S W : Type 0} (state : W → S) (physics : Physics S) (layout : Layout) (f g : Feeding W) (piece rest : List ℕ) (present : List Bool)
@@ -122,8 +122,8 @@ in_rows state physics layout f g piece rest present h long free none seats steps
       count = omega (arith, taken, size);
       shown = λ bytes shown.
           shown_in state physics layout bytes (take many piece) f g h long shown (omega (arith, taken, size)) header (λ rows.
-            of_unmarked state physics layout (bytes ++ take many piece) g marked
-            (rows_done state physics layout bytes piece rest f g present (unmarked state physics layout bytes f free rows) none (seats ∙ seats_kept bytes f.header shown.header) steps tics row after));
+          of_unmarked state physics layout (bytes ++ take many piece) g marked
+          (rows_done state physics layout bytes piece rest f g present (unmarked state physics layout bytes f free rows) none (seats ∙ seats_kept bytes f.header shown.header) steps tics row after));
     }
 
 -- a header that is kept is whole

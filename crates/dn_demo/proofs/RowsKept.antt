@@ -53,13 +53,13 @@ none_in_byte : (layout : Layout) (bytes : List ℕ) (byte commands r : ℕ) → 
     → (byte ≡ marker → r % command_size layout ≢ 0) → IsUnmarked layout (bytes ++ byte ∷ [])
 none_in_byte layout bytes byte commands r none e not =
     none_behind layout bytes (byte ∷ []) none (λ command past here.
-      let inside = slice_get_within (byte ∷ []) (place layout command - length bytes) marker here in
-      let at : place layout command - length bytes ≡ 0 = omega arith in
-      let is : byte ≡ marker = let first = ap (slice_get (byte ∷ [])) (sym at) ∙ here in cc in
-      let sum : command_size layout * commands + r ≡ command_size layout * command = omega arith in
-      let left : r % command_size layout ≡ 0 =
-      sym (mul-add-mod_self_left (command_size layout) commands r) ∙ ap (λ n. n % command_size layout) sum ∙ mul-mod_right (command_size layout) command in
-      not is left)
+    let inside = slice_get_within (byte ∷ []) (place layout command - length bytes) marker here in
+    let at : place layout command - length bytes ≡ 0 = omega arith in
+    let is : byte ≡ marker = let first = ap (slice_get (byte ∷ [])) (sym at) ∙ here in cc in
+    let sum : command_size layout * commands + r ≡ command_size layout * command = omega arith in
+    let left : r % command_size layout ≡ 0 =
+    sym (mul-add-mod_self_left (command_size layout) commands r) ∙ ap (λ n. n % command_size layout) sum ∙ mul-mod_right (command_size layout) command in
+    not is left)
 
 -- where the unfinished row begins
 abbrev pub row_place : Layout → List ℕ → ℕ → ℕ

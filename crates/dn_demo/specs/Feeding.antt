@@ -84,4 +84,4 @@ pub record Steps {S W : Type 0} (state : W → S) (physics : Physics S) (layout 
   pub within : row_size layout present * tics ≤ length piece
   pub unmarked : (command : ℕ) → command < player_count present * tics → slice_get piece (command_size layout * command) ≢ Some marker
   pub world : (bytes : List ℕ) (before : ℕ) → seats_in bytes ≡ present → length bytes ≡ place layout (player_count present * before)
-    → state old ≡ state_by physics layout bytes before → state new ≡ state_by physics layout (bytes ++ piece) (before + tics)
+      → state old ≡ state_by physics layout bytes before → state new ≡ state_by physics layout (bytes ++ piece) (before + tics)

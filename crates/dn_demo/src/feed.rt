@@ -10,11 +10,10 @@ ghost use Rattle.dn_demo.specs.Reading.{HasHeader};
 ghost use Rattle.dn_demo.specs.Feeding.{Feeding, Shows, Takes, TakesFront, row_size};
 ghost use Rattle.dn_demo.specs.Fed.{EndsAs};
 
-use crate::fed::{Fed, FeedFault};
 use crate::demo::{self, DemoFault};
+use crate::fed::{Fed, FeedFault};
 use crate::layout::{HEADER, Layout, MARKER};
-use crate::reading;
-use crate::rows;
+use crate::{reading, rows};
 use dn_world::World;
 use std::marker::Model;
 

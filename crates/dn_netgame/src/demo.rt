@@ -12,8 +12,8 @@ ghost use Rattle.dn_netgame.specs.Transfer.{TakesFewer, TakesAtMost};
 ghost use Rattle.dn_netgame.specs.declared.fault.RunFault.{RunFault};
 
 use crate::fault::RunFault;
-use crate::fields::{push_fields, push_line};
 use crate::feeding::{fed_demo, feed_demo};
+use crate::fields::{push_fields, push_line};
 use crate::transfer::put;
 use dn_demo::{Fed, Feed};
 use dn_setup::Start;
@@ -155,7 +155,7 @@ pub fn run_demo<R: Read, W: Write>(
     // A read fault comes before the last byte is there.
     ensures read { result ≡ Err RunFault.Read
         → TakesFewer (demo_limit + 1) (R.remaining input.old) (R.remaining input.new) }
-    // Memory can run out before that, too.
+    // Memory is wanted for the lines alone; want of it comes behind no more bytes.
     ensures memory { result ≡ Err RunFault.Memory
         → TakesAtMost (demo_limit + 1) (R.remaining input.old) (R.remaining input.new) }
     // A write fault comes before the last byte of the lines is written.

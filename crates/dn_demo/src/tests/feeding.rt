@@ -3,7 +3,7 @@
 ghost use Rattle.std.specs.Prelude.{◌<◌};
 
 use super::{PLAYED, RECORDED, START};
-use crate::{Demo, DemoFault, Fed, FeedFault, Feed, play};
+use crate::{Demo, DemoFault, Fed, Feed, FeedFault, play};
 use dn_world::{Walk, World};
 use std::process::Abort;
 use std::test::Fail;
@@ -12,6 +12,7 @@ use std::test::Fail;
 type Place = (i32, i32, u16, i16);
 
 const PLACES: [Place; 2] = [(1, 0, 0, 1), (4_243_456, 51_200, 16_640, -16_384)];
+
 const BEGUN: [Place; 2] = [(0, 0, 0, 0), (4_194_304, 0, 0, 0)];
 
 /// Feeds a piece, where so many bytes may come.
@@ -132,7 +133,10 @@ fn bytes_are_counted_as_they_come(rt: HostRuntime) {
     push(&mut feed, &PLAYED[17..]);
     push(&mut feed, &[7; 40]);
     assert_eq!(rt; feed.taken(), 70);
-    assert_eq!(rt; feed.end().ok().map(|fed| (fed.version, fed.after)), Some((109, 40)));
+    assert_eq!(rt;
+        feed.end().ok().map(|fed| (fed.version, fed.after)),
+        Some((109, 40))
+    );
 }
 
 /// Bytes of every value, for each set of players: a feed ends as the reading that plays them whole.
@@ -165,7 +169,9 @@ fn any_bytes_end_as_they_are_read(rt: HostRuntime) -> Result<(), Fail> {
                     Ok(demo) => {
                         let mut walk = Walk::new();
                         let tics = play(&demo, &mut walk) as u64;
-                        let told = end.ok().map(|fed| (fed.tics, fed.cut, fed.after, fed.present));
+                        let told = end
+                            .ok()
+                            .map(|fed| (fed.tics, fed.cut, fed.after, fed.present));
                         let counts = (tics, demo.cut() as u64, demo.after() as u64, demo.present());
                         assert_eq!(rt; told, Some(counts), "{seats} {version}");
                     }

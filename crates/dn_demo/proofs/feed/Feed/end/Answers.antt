@@ -41,5 +41,5 @@ returns g c =
     let fed : Fed g.row.W.Denot = record { version = get_or old.header 0 0; start = c.start.result; view = get_or old.header 8 0; present = c.seats.result; tics = old.tics; cut = old.kept / c.size.result; after = old.after; world = old.world } in
     subst (λ (f : Feeding g.row.W.Denot). (bytes : List ℕ) → Shows g.W.World.state g.W.World.physics bytes f → IsFedAs g.W.World.state g.W.World.physics bytes (Ok fed)) c.self.view_is
     (λ bytes shown. ended g.W.World.state g.W.World.physics layout bytes _ fed has c.if-not-self.false
-      (ap (λ (t : List ℕ). get_or t 0 0) whole) (c.start.ensures ∙ ap start_in whole) (ap (λ (t : List ℕ). get_or t 8 0) whole) (c.seats.ensures ∙ ap seats_in whole)
-      refl (λ i. kept i / c.size.ensures i) refl refl shown)
+    (ap (λ (t : List ℕ). get_or t 0 0) whole) (c.start.ensures ∙ ap start_in whole) (ap (λ (t : List ℕ). get_or t 8 0) whole) (c.seats.ensures ∙ ap seats_in whole)
+    refl (λ i. kept i / c.size.ensures i) refl refl shown)

@@ -45,9 +45,10 @@ invariant_of-self-else-self-size g c =
     let size : c.size.result * c.players.result ≡ row_size layout c.seats-present.result = λ i. c.size.ensures i * c.players.ensures.value i in
     let room = not_full layout header c.seats-present.result old.kept (c.size.result * c.players.result) unfinished seats size c.if-self-size.false in
     let short = short_row c.args.layout header in
-    let long_row = grown old.kept old.row c.args.byte (omega (arith, c.self.told.1, unfinished, short)) in
-    (omega (arith, room, short),
-    still_kept layout _ _ h long c.self.invariant.1 refl (take_past old.taken 1 old.header (omega (arith, c.self.told.0, long))) refl refl (omega (arith, room, long_row)))
+    let long_row = grown old.kept old.row c.args.byte (omega (arith, c.self.told.1, unfinished, short)) in (
+      omega (arith, room, short),
+      still_kept layout _ _ h long c.self.invariant.1 refl (take_past old.taken 1 old.header (omega (arith, c.self.told.0, long))) refl refl (omega (arith, room, long_row)),
+    )
 
 pub returns-then-self-size-clause-shown : goal.returns-then-self-size-clause-shown
 returns-then-self-size-clause-shown g c =

@@ -21,7 +21,7 @@ returns-then-is_some-clause-shown g c =
     (in_header g.W.World.state g.W.World.physics _ new c.args.byte below refl (take_more_set old.header old.taken c.args.byte (omega (arith, below, c.self.told.0)))
     blank.0 blank.1 blank.2 blank.3
     (λ layout h. c.begin.ensures ∙ (λ i. g.W.World.physics.begin (c.start.ensures i) (c.seats-present.ensures i))
-      ∙ (λ i. g.W.World.physics.begin (start_in (sym all i)) (seats_in (sym all i)))))
+    ∙ (λ i. g.W.World.physics.begin (start_in (sym all i)) (seats_in (sym all i)))))
 
 pub returns-else-is_some-clause-shown : goal.returns-else-is_some-clause-shown
 returns-else-is_some-clause-shown g c =
