@@ -58,7 +58,7 @@ move_at-take layout k bytes command below =
     let rest = ap (λ m. drop (place layout command) (take m bytes)) (sym fits) ∙ drop-take (place layout command) (n + more) bytes in
     ap (λ t. tell layout (take n t)) rest ∙ ap (tell layout) (take_take n more (drop (place layout command) bytes))
 
-moves_from-take : (layout : Layout) (k : ℕ) (bytes : List ℕ) (seats : List Bool) (command : ℕ) → command + player_count seats ≤ k
+pub moves_from-take : (layout : Layout) (k : ℕ) (bytes : List ℕ) (seats : List Bool) (command : ℕ) → command + player_count seats ≤ k
     → moves_from layout (take (place layout k) bytes) seats command ≡ moves_from layout bytes seats command
 moves_from-take layout k bytes [] command fits = refl
 moves_from-take layout k bytes (true ∷ seats) command fits =

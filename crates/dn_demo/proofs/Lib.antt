@@ -8,3 +8,11 @@ pub mod Behind
 pub mod ReadBack
 pub mod Writable
 pub mod RecordedAnew
+mod ToldBehind
+mod Stepping
+mod HeadersKept
+mod RowsKept
+mod FeedKept
+mod FeedSteps
+mod FeedEnds
+mod PiecesJoined

@@ -29,7 +29,7 @@ recording-take layout k bytes after =
     λ i. record { version = version i; start = start i; view = view i; present = seats i; rows = rows i; cut = k % player_count (seats i); after = after }
 
 -- and in one layout
-same_layout : (bytes : List ℕ) (a b : Layout) → layout_in bytes ≡ Some a → layout_in bytes ≡ Some b → a ≡ b
+pub same_layout : (bytes : List ℕ) (a b : Layout) → layout_in bytes ≡ Some a → layout_in bytes ≡ Some b → a ≡ b
 same_layout bytes a b p q = let both = sym p ∙ q in cc
 
 pub same_demo : (bytes : List ℕ) (d e : Recording) → IsReadAs bytes (Ok d) → IsReadAs bytes (Ok e) → d ≡ e

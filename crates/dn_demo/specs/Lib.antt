@@ -5,3 +5,5 @@ pub mod Places
 pub mod Recorded
 pub mod Reading
 pub mod Upgraded
+pub mod Feeding
+pub mod Fed

@@ -6,7 +6,7 @@ ghost use Rattle.dn_demo.specs.Rows.{player_count};
 ghost use Rattle.dn_demo.specs.Places.{EndsBehind};
 ghost use Rattle.dn_demo.specs.Reading.{Recording, HasHeader, IsReadAs, IsSameButMemory};
 ghost use Rattle.dn_demo.specs.declared.demo.DemoFault.{DemoFault};
-ghost use Rattle.dn_demo.specs.declared.demo.DemoFault.TheVariants.{Memory};
+ghost use Rattle.dn_demo.specs.declared.demo.DemoFault.TheVariants.{NoMarker, Memory};
 
 use crate::layout::{HEADER, Layout};
 use crate::reading;
@@ -58,13 +58,13 @@ impl Model for Demo {
         × HasNoMarker (layout_of d.layout) d.bytes.items (commands_in (layout_of d.layout) d.bytes.items) };
 }
 
-/// How the bytes are laid out and where the marker stands, or the first fault that they have.
-fn measure(bytes: &[u8]) -> Result<(Layout, usize), DemoFault>
-    ensures found { IfOk result (λ (layout, commands). HasHeader (layout_of layout) bytes.now × EndsBehind (layout_of layout) bytes.now commands) }
+/// How the bytes are laid out by their header, or the first fault that it has.
+pub(crate) fn open(bytes: &[u8]) -> Result<Layout, DemoFault>
+    ensures found { IfOk result (λ layout. HasHeader (layout_of layout) bytes.now) }
     ensures refused { IfErr result (λ fault. IsReadAs bytes.now (Err fault)) }
     ensures only { IfErr result (λ fault. (r : Result Recording DemoFault)
         → IsReadAs bytes.now r → IsSameButMemory (Err fault) r) }
-    ensures no_memory { result ≢ Err Memory }
+    ensures header { IfErr result (λ fault. (fault ≢ NoMarker) × (fault ≢ Memory)) }
 {
     if bytes.len() < HEADER {
         return Err(DemoFault::Short);
@@ -73,6 +73,18 @@ fn measure(bytes: &[u8]) -> Result<(Layout, usize), DemoFault>
     if reading::players(reading::seats(bytes)) == 0 {
         return Err(DemoFault::NoPlayers);
     }
+    Ok(layout)
+}
+
+/// How the bytes are laid out and where the marker stands, or the first fault that they have.
+fn measure(bytes: &[u8]) -> Result<(Layout, usize), DemoFault>
+    ensures found { IfOk result (λ (layout, commands). HasHeader (layout_of layout) bytes.now × EndsBehind (layout_of layout) bytes.now commands) }
+    ensures refused { IfErr result (λ fault. IsReadAs bytes.now (Err fault)) }
+    ensures only { IfErr result (λ fault. (r : Result Recording DemoFault)
+        → IsReadAs bytes.now r → IsSameButMemory (Err fault) r) }
+    ensures no_memory { result ≢ Err Memory }
+{
+    let layout = open(bytes)?;
     let commands = reading::commands_before_marker(bytes, layout).ok_or(DemoFault::NoMarker)?;
     Ok((layout, commands))
 }

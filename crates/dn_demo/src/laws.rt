@@ -1,6 +1,7 @@
 //! What holds of all demos.
 
-ghost use Rattle.std.specs.Prelude.{◌≡◌, ◌<◌, ℕ, Bool, true, List, All, Option, Ok};
+ghost use Rattle.std.specs.Prelude.{◌≡◌, ◌<◌, ℕ, Bool, true, List, All, Option, Result, Ok};
+ghost use Rattle.std.specs.List.{concat};
 ghost use Rattle.dn_tic.specs.declared.command.Move.{Move};
 ghost use Rattle.dn_setup.specs.declared.start.Start.{Start};
 ghost use Rattle.dn_demo.specs.Layout.{vanilla, long_tics, spell, tell};
@@ -9,6 +10,9 @@ ghost use Rattle.dn_demo.specs.Text.{demo_text};
 ghost use Rattle.dn_demo.specs.Reading.{Recording, IsReadAs, written_demo, state_after};
 ghost use Rattle.dn_demo.specs.Recorded.{Recorded};
 ghost use Rattle.dn_demo.specs.Upgraded.{IsUpgraded};
+ghost use Rattle.dn_demo.specs.Fed.{IsFedAs, PiecesEndAs, IsSameEnd};
+ghost use Rattle.dn_demo.specs.declared.fed.Fed.{Fed};
+ghost use Rattle.dn_demo.specs.declared.fed.FeedFault.{FeedFault};
 
 use dn_world::World;
 
@@ -38,4 +42,13 @@ pub fn upgraded_demos_play_the_same<W: World>()
     ensures played { (bytes : List ℕ) (demo upgraded : Recording) (limit : ℕ) (recorder : Recorded) → All (λ byte. byte < 256) bytes
         → IsReadAs bytes (Ok demo) → IsUpgraded demo limit (Ok recorder) → IsReadAs recorder.bytes (Ok upgraded)
         → state_after W.physics upgraded ≡ state_after W.physics demo }
+{}
+
+/// Pieces end as their join is read, so pieces with the same join end the same.
+pub fn pieces_end_as_their_join<W: World>()
+    ensures read { (pieces : List (List ℕ)) (result : Result (Fed W) FeedFault)
+        → PiecesEndAs W.state W.physics pieces result → IsFedAs W.state W.physics (concat pieces) result }
+    ensures same { (pieces others : List (List ℕ)) (one other : Result (Fed W) FeedFault) → concat pieces ≡ concat others
+        → PiecesEndAs W.state W.physics pieces one → PiecesEndAs W.state W.physics others other
+        → IsSameEnd W.state W.physics one other }
 {}

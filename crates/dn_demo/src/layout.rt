@@ -42,6 +42,7 @@ impl Layout {
     }
 
     /// How many bytes a command has.
+    #[inline(always)]
     pub(crate) fn size(self) -> usize
         ensures { result ≡ command_size (layout_of self) }
     {
@@ -60,6 +61,7 @@ impl Layout {
     }
 
     /// The move that a command tells.
+    #[inline(always)]
     pub(crate) fn tell(self, command: &[u8]) -> Move
         requires { length command.now ≡ command_size (layout_of self) }
         ensures { result ≡ tell (layout_of self) command.now }

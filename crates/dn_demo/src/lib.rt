@@ -2,17 +2,25 @@
 #![tactic(auto)]
 
 mod demo;
+mod fed;
+mod feed;
 mod laws;
 mod layout;
 mod limits;
 mod playing;
 mod reading;
 mod recorder;
+mod rows;
 mod upgrading;
 mod writing;
 
 pub use demo::{Demo, DemoFault};
-pub use laws::{spelt_moves_are_told, upgraded_demos_play_the_same, written_rows_are_read};
+pub use fed::{Fed, FeedFault};
+pub use feed::Feed;
+pub use laws::{
+    pieces_end_as_their_join, spelt_moves_are_told, upgraded_demos_play_the_same,
+    written_rows_are_read,
+};
 pub use limits::{capacity, is_limit};
 pub use playing::play;
 pub use recorder::{Recorder, RecorderFault};

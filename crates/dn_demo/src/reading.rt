@@ -1,7 +1,7 @@
 //! Where things stand in the bytes of a demo.
 
-ghost use Rattle.std.specs.Prelude.{◌≡◌, ◌≢◌, ◌≤◌, ℕ, ◌+◌, Bool, List, length, slice_get, Some, [], ◌∷◌, IfSome, IfNone};
-ghost use Rattle.dn_demo.specs.Layout.{layout_of};
+ghost use Rattle.std.specs.Prelude.{◌≡◌, ◌≢◌, ◌≤◌, ℕ, ◌+◌, ◌*◌, Bool, List, length, slice_get, Some, [], ◌∷◌, ◌++◌, IfSome, IfNone};
+ghost use Rattle.dn_demo.specs.Layout.{layout_of, command_size};
 ghost use Rattle.dn_demo.specs.Rows.{player_count};
 ghost use Rattle.dn_demo.specs.Text.{marker, header_size};
 ghost use Rattle.dn_demo.specs.Places.{start_in, seats_in, place, commands_in, move_at, moves_from, EndsBehind};
@@ -40,6 +40,7 @@ pub(crate) fn seats(bytes: &[u8]) -> [bool; 4]
 }
 
 /// How many players are present.
+#[inline(always)]
 pub(crate) fn players(present: [bool; 4]) -> usize
     ensures value { result ≡ player_count present }
     ensures few { result ≤ 4 }
@@ -75,27 +76,51 @@ pub(crate) fn commands_before_marker(bytes: &[u8], layout: Layout) -> Option<usi
     None
 }
 
-/// The move that a command tells.
-fn told(bytes: &[u8], layout: Layout, command: usize) -> Move
-    requires { place (layout_of layout) (command + 1) ≤ length bytes.now }
-    ensures { result ≡ move_at (layout_of layout) bytes.now command }
+/// The move that a command tells, which stands at this index of the bytes, whatever stands in front of them.
+#[inline(always)]
+fn told_at(bytes: &[u8], layout: Layout, at: usize) -> Move
+    requires { at + command_size (layout_of layout) ≤ length bytes.now }
+    ensures { (front : List ℕ) (command : ℕ) → length front + at ≡ place (layout_of layout) command
+        → result ≡ move_at (layout_of layout) (front ++ bytes.now) command }
 {
-    let place = layout.place(command);
-    layout.tell(&bytes[place..place + layout.size()])
+    layout.tell(&bytes[at..at + layout.size()])
 }
 
-/// The move of a player, and the number of the command that follows.
-fn seated(bytes: &[u8], layout: Layout, present: bool, command: usize) -> (Option<Move>, usize)
-    requires { place (layout_of layout) (command + player_count (present ∷ [])) ≤ length bytes.now }
-    ensures step { (others : List Bool) → moves_from (layout_of layout) bytes.now (present ∷ others) command
-        ≡ result.0 ∷ moves_from (layout_of layout) bytes.now others result.1 }
-    ensures next { result.1 ≡ command + player_count (present ∷ []) }
+/// The move of a player, and the index of the command that follows.
+#[inline(always)]
+fn seated(bytes: &[u8], layout: Layout, present: bool, at: usize) -> (Option<Move>, usize)
+    requires { at + command_size (layout_of layout) * player_count (present ∷ []) ≤ length bytes.now }
+    ensures step { (front : List ℕ) (command : ℕ) (others : List Bool) → length front + at ≡ place (layout_of layout) command
+        → moves_from (layout_of layout) (front ++ bytes.now) (present ∷ others) command
+        ≡ result.0 ∷ moves_from (layout_of layout) (front ++ bytes.now) others (command + player_count (present ∷ [])) }
+    ensures next { result.1 ≡ at + command_size (layout_of layout) * player_count (present ∷ []) }
 {
     if present {
-        (Some(told(bytes, layout, command)), command + 1)
+        (Some(told_at(bytes, layout, at)), at + layout.size())
     } else {
-        (None, command)
+        (None, at)
     }
+}
+
+/// The moves of the players who are present, whose commands stand at this index of the bytes, whatever
+/// stands in front of them.
+#[inline(always)]
+pub(crate) fn row_at(
+    bytes: &[u8],
+    layout: Layout,
+    present: [bool; 4],
+    at: usize,
+) -> [Option<Move>; 4]
+    requires { at + command_size (layout_of layout) * player_count present ≤ length bytes.now }
+    ensures { (front : List ℕ) (command : ℕ) → length front + at ≡ place (layout_of layout) command
+        → result ≡ moves_from (layout_of layout) (front ++ bytes.now) present command }
+{
+    let [a, b, c, d] = present;
+    let (a, at) = seated(bytes, layout, a, at);
+    let (b, at) = seated(bytes, layout, b, at);
+    let (c, at) = seated(bytes, layout, c, at);
+    let (d, _) = seated(bytes, layout, d, at);
+    [a, b, c, d]
 }
 
 /// The moves of the players who are present, the first by this command.
@@ -108,10 +133,5 @@ pub(crate) fn row(
     requires { place (layout_of layout) (command + player_count present) ≤ length bytes.now }
     ensures { result ≡ moves_from (layout_of layout) bytes.now present command }
 {
-    let [a, b, c, d] = present;
-    let (a, command) = seated(bytes, layout, a, command);
-    let (b, command) = seated(bytes, layout, b, command);
-    let (c, command) = seated(bytes, layout, c, command);
-    let (d, _) = seated(bytes, layout, d, command);
-    [a, b, c, d]
+    row_at(bytes, layout, present, layout.place(command))
 }

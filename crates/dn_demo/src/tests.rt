@@ -2,6 +2,7 @@
 
 ghost use Rattle.std.specs.Prelude.{◌≡◌, Some};
 
+mod feeding;
 mod reading;
 mod recording;
 mod upgrading;

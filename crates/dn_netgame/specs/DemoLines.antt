@@ -1,9 +1,11 @@
 -- The lines that a demo is shown by.
 use Rattle.std.specs.Prelude.{◌≡◌, ◌≤◌, ◌<◌, ◌⊎◌, ℕ, ℤ, pos, ◌+◌, Bool, true, false, List, [], ◌∷◌, ◌++◌, length, codes, Option, Some, None, Ok, Err}
 use Rattle.std.specs.List.{flat_map}
+use Rattle.dn_setup.specs.declared.start.Start.{Start}
 use Rattle.dn_world.specs.declared.spot.Spot.{Spot}
 use Rattle.dn_world.specs.Plane.{Spots, spot_at, mark_of, walking}
 use Rattle.dn_demo.specs.Reading.{Recording, IsReadAs, state_after}
+use Rattle.dn_demo.specs.declared.fed.Fed.{Fed}
 use Rattle.dn_demo.specs.declared.demo.DemoFault.{DemoFault}
 use Rattle.dn_demo.specs.declared.demo.DemoFault.TheVariants.{Short, Version, NoPlayers, NoMarker, Memory}
 use Rattle.dn_netgame.specs.Fields.{labelled}
@@ -15,29 +17,30 @@ players_present player (true ∷ seats) = (codes " ", pos player) ∷ players_pr
 players_present player (false ∷ seats) = players_present (player + 1) seats
 
 -- what a demo's header has, but for its players
-unfoldable pub header_fields : Recording → List ℕ
-header_fields d = labelled (
-    (codes "version ", pos d.version)
-    ∷ (codes " skill ", pos d.start.skill)
-    ∷ (codes " episode ", pos d.start.episode)
-    ∷ (codes " map ", pos d.start.map)
-    ∷ (codes " deathmatch ", pos d.start.deathmatch)
-    ∷ (codes " respawn ", pos d.start.respawn)
-    ∷ (codes " fast ", pos d.start.fast)
-    ∷ (codes " nomonsters ", pos d.start.no_monsters)
-    ∷ (codes " view ", pos d.view)
+unfoldable pub header_fields : ℕ → Start → ℕ → List ℕ
+header_fields version start view = labelled (
+    (codes "version ", pos version)
+    ∷ (codes " skill ", pos start.skill)
+    ∷ (codes " episode ", pos start.episode)
+    ∷ (codes " map ", pos start.map)
+    ∷ (codes " deathmatch ", pos start.deathmatch)
+    ∷ (codes " respawn ", pos start.respawn)
+    ∷ (codes " fast ", pos start.fast)
+    ∷ (codes " nomonsters ", pos start.no_monsters)
+    ∷ (codes " view ", pos view)
     ∷ [])
 
 -- the line of a demo's header
-abbrev pub header_line : Recording → List ℕ
-header_line d = header_fields d ++ (codes " players" ++ (labelled (players_present 0 d.present) ++ codes "\n"))
+abbrev pub header_line : ℕ → Start → ℕ → List Bool → List ℕ
+header_line version start view present =
+    header_fields version start view ++ (codes " players" ++ (labelled (players_present 0 present) ++ codes "\n"))
 
 -- the line of how much a demo has
-unfoldable pub size_line : Recording → List ℕ
-size_line d = labelled (
-    (codes "tics ", pos (length d.rows))
-    ∷ (codes " cut ", pos d.cut)
-    ∷ (codes " after ", pos d.after)
+unfoldable pub size_line : (tics cut after : ℕ) → List ℕ
+size_line tics cut after = labelled (
+    (codes "tics ", pos tics)
+    ∷ (codes " cut ", pos cut)
+    ∷ (codes " after ", pos after)
     ∷ []) ++ codes "\n"
 
 -- the line of a player
@@ -61,7 +64,12 @@ player_lines spots = flat_map (λ player. seat_line player (spot_at spots player
 
 -- the lines of a demo, with the players where they are once all of it was played
 abbrev pub demo_lines : Recording → List ℕ
-demo_lines d = header_line d ++ (size_line d ++ player_lines (state_after walking d))
+demo_lines d =
+    header_line d.version d.start d.view d.present ++ (size_line (length d.rows) d.cut d.after ++ player_lines (state_after walking d))
+
+-- the lines of a demo that was fed, and played as it came
+abbrev pub fed_lines : Fed Spots → List ℕ
+fed_lines d = header_line d.version d.start d.view d.present ++ (size_line d.tics d.cut d.after ++ player_lines d.world)
 
 -- the line of a fault; there is none for want of memory
 abbrev pub IsFaultLine : DemoFault → List ℕ → Type 0

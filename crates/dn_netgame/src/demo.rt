@@ -1,19 +1,22 @@
 //! Showing a demo: what it has and where its players end, or why it is none.
 
-ghost use Rattle.std.specs.Prelude.{◌≡◌, ◌≢◌, ◌+◌, ◌++◌, codes, Err, IfOk, IfErr, OnOk};
+ghost use Rattle.std.specs.Prelude.{◌≡◌, ◌≢◌, ℕ, ◌+◌, List, ◌++◌, codes, Err, IfOk, IfErr, OnOk};
 ghost use Rattle.std.specs.String.{string_bytes};
-ghost use Rattle.dn_world.specs.Plane.{spot_at};
-ghost use Rattle.dn_netgame.specs.DemoLines.{header_fields, size_line, player_line, seat_line, players_present, demo_lines, demo_limit, IsDemo};
+ghost use Rattle.dn_world.specs.Plane.{spot_at, walking};
+ghost use Rattle.dn_demo.specs.Feeding.{Shows};
+ghost use Rattle.dn_netgame.specs.DemoLines.{header_fields, size_line, player_line, seat_line, players_present, fed_lines, demo_limit, IsDemo};
 ghost use Rattle.dn_netgame.specs.Fields.{labelled};
-ghost use Rattle.dn_netgame.specs.Shown.{Shows, ShowsFront};
+ghost use Rattle.dn_netgame.specs.Shown as shown;
+ghost use Rattle.dn_netgame.specs.Shown.{ShowsFront};
 ghost use Rattle.dn_netgame.specs.Transfer.{TakesFewer, TakesAtMost};
 ghost use Rattle.dn_netgame.specs.declared.fault.RunFault.{RunFault};
 
 use crate::fault::RunFault;
+use crate::feeding::{fed_demo, feed_demo};
 use crate::fields::{push_fields, push_line};
-use crate::input::{INPUT_LIMIT, read_demo};
-use crate::transfer::{gather, put};
-use dn_demo::{Demo, play};
+use crate::transfer::put;
+use dn_demo::{Fed, Feed};
+use dn_setup::Start;
 use dn_world::{Walk, World};
 use std::alloc::{AllocError, Global};
 use std::io::{Read, Write};
@@ -42,12 +45,11 @@ fn push_players(text: &mut String, present: [bool; 4]) -> Result<(), AllocError>
 }
 
 #[tactic(auto, unfolding(crate::specs::DemoLines::header_fields))]
-fn push_header(text: &mut String, demo: &Demo) -> Result<(), AllocError>
-    ensures { OnOk result (string_bytes text.new ≡ string_bytes text.old ++ header_fields demo.now) }
+fn push_header(text: &mut String, version: u8, start: &Start, view: u8) -> Result<(), AllocError>
+    ensures { OnOk result (string_bytes text.new ≡ string_bytes text.old ++ header_fields version start.now view) }
 {
-    let start = demo.start();
     let fields = [
-        ("version ", demo.version() as i128),
+        ("version ", version as i128),
         (" skill ", start.skill as i128),
         (" episode ", start.episode as i128),
         (" map ", start.map as i128),
@@ -55,19 +57,19 @@ fn push_header(text: &mut String, demo: &Demo) -> Result<(), AllocError>
         (" respawn ", start.respawn as i128),
         (" fast ", start.fast as i128),
         (" nomonsters ", start.no_monsters as i128),
-        (" view ", demo.view() as i128),
+        (" view ", view as i128),
     ];
     push_fields(text, &fields)
 }
 
 #[tactic(auto, unfolding(crate::specs::DemoLines::size_line))]
-fn push_size(text: &mut String, demo: &Demo) -> Result<(), AllocError>
-    ensures { OnOk result (string_bytes text.new ≡ string_bytes text.old ++ size_line demo.now) }
+fn push_size(text: &mut String, tics: u64, cut: u64, after: u64) -> Result<(), AllocError>
+    ensures { OnOk result (string_bytes text.new ≡ string_bytes text.old ++ size_line tics cut after) }
 {
     let fields = [
-        ("tics ", demo.tics() as i128),
-        (" cut ", demo.cut() as i128),
-        (" after ", demo.after() as i128),
+        ("tics ", tics as i128),
+        (" cut ", cut as i128),
+        (" after ", after as i128),
     ];
     push_line(text, &fields)
 }
@@ -107,39 +109,37 @@ fn push_seat(text: &mut String, walk: &Walk, player: u8) -> Result<(), AllocErro
     push_player(text, player, x, y, angle, walk.mark(player))
 }
 
-/// The lines of a demo, which is played for them.
-fn text_of_demo(alloc: Global, demo: &Demo) -> Result<String, AllocError>
-    ensures { IfOk result (λ text. string_bytes text ≡ demo_lines demo.now) }
+/// The lines of a demo that was fed.
+fn text_of_demo(alloc: Global, fed: &Fed<Walk>) -> Result<String, AllocError>
+    ensures { IfOk result (λ text. string_bytes text ≡ fed_lines fed.now) }
 {
-    let mut walk = Walk::new();
-    play(demo, &mut walk);
     let mut text = String::new(alloc);
-    push_header(&mut text, demo)?;
-    push_players(&mut text, demo.present())?;
-    push_size(&mut text, demo)?;
-    push_seat(&mut text, &walk, 0)?;
-    push_seat(&mut text, &walk, 1)?;
-    push_seat(&mut text, &walk, 2)?;
-    push_seat(&mut text, &walk, 3)?;
+    push_header(&mut text, fed.version, &fed.start, fed.view)?;
+    push_players(&mut text, fed.present)?;
+    push_size(&mut text, fed.tics, fed.cut, fed.after)?;
+    push_seat(&mut text, &fed.world, 0)?;
+    push_seat(&mut text, &fed.world, 1)?;
+    push_seat(&mut text, &fed.world, 2)?;
+    push_seat(&mut text, &fed.world, 3)?;
     Ok(text)
 }
 
-/// The lines of what the bytes are read as, and the exit status.
-fn text_of(alloc: Global, bytes: Vec<u8>) -> Result<(String, u8), RunFault>
-    ensures shown { IfOk result (λ shown. IsDemo bytes.items (string_bytes shown.0) shown.1) }
+/// The lines of what the bytes of a feed are read as, and the exit status.
+fn text_of(alloc: Global, feed: Feed<Walk>) -> Result<(String, u8), RunFault>
+    ensures shown { IfOk result (λ shown. (bytes : List ℕ) → Shows (λ w. w) walking bytes feed → IsDemo bytes (string_bytes shown.0) shown.1) }
     ensures fault { IfErr result (λ fault. fault ≡ RunFault.Memory) }
 {
-    match read_demo(bytes) {
-        Ok(demo) => Ok((text_of_demo(alloc, &demo)?, 0)),
+    match fed_demo(feed) {
+        Ok(fed) => Ok((text_of_demo(alloc, &fed)?, 0)),
         Err(refusal) => Ok((String::from_str(alloc, refusal)?, 1)),
     }
 }
 
-/// Reads a demo of at most 33,554,432 bytes, plays it, and writes its lines. The answer is the exit
+/// Reads a demo of at most 33,554,432 bytes, plays it as it comes, and writes its lines. The answer is the exit
 /// status: 0 for a demo, 1 for bytes that are none.
 ///
 /// A read that fails is the fault `Read`, a write that fails or takes no bytes is `Write`, and
-/// `Memory` is answered where memory for the bytes or the lines was refused. Each ends the run at
+/// `Memory` is answered where memory for the lines was refused. Each ends the run at
 /// once.
 pub fn run_demo<R: Read, W: Write>(
     alloc: Global,
@@ -148,14 +148,14 @@ pub fn run_demo<R: Read, W: Write>(
 ) -> Result<u8, RunFault>
     // All lines of the demo were written, and the status is theirs. A byte more than a demo can have
     // is taken, so that a longer input is not read as its front.
-    ensures shown { IfOk result (λ status. Shows (demo_limit + 1) IsDemo
+    ensures shown { IfOk result (λ status. shown.Shows (demo_limit + 1) IsDemo
         (R.remaining input.old) (R.remaining input.new)
         (W.contents output.old) (W.contents output.new) status) }
 
     // A read fault comes before the last byte is there.
     ensures read { result ≡ Err RunFault.Read
         → TakesFewer (demo_limit + 1) (R.remaining input.old) (R.remaining input.new) }
-    // Memory can run out before that, too.
+    // Memory is wanted for the lines alone; want of it comes behind no more bytes.
     ensures memory { result ≡ Err RunFault.Memory
         → TakesAtMost (demo_limit + 1) (R.remaining input.old) (R.remaining input.new) }
     // A write fault comes before the last byte of the lines is written.
@@ -165,8 +165,8 @@ pub fn run_demo<R: Read, W: Write>(
     // Any other fault leaves the output as it was.
     ensures unwritten { IfErr result (λ fault. fault ≢ RunFault.Write → output.new ≡ output.old) }
 {
-    let bytes = gather(alloc, input, INPUT_LIMIT + 1)?;
-    let (text, status) = text_of(alloc, bytes)?;
+    let feed = feed_demo(input)?;
+    let (text, status) = text_of(alloc, feed)?;
     put(output, text.as_bytes())?;
     Ok(status)
 }

@@ -1,0 +1,42 @@
+//! What a feed ends as.
+
+use dn_setup::Start;
+use thiserror::Error;
+
+/// Why the bytes that were fed are no demo: the first of these that is so.
+#[derive(Clone, Copy, Debug, PartialEq, Eq, Error)]
+pub enum FeedFault {
+    /// There are fewer than 13 bytes.
+    #[error("short")]
+    Short,
+    /// The first byte is neither 109 nor 111.
+    #[error("version")]
+    Version,
+    /// No in-game byte is set.
+    #[error("no players")]
+    NoPlayers,
+    /// No command begins with 0x80.
+    #[error("no marker")]
+    NoMarker,
+}
+
+/// A demo that was fed, and played in its world.
+#[derive(Debug, Drop)]
+pub struct Fed<W> {
+    /// The first byte: 109, as the 1997 release records, or 111.
+    pub version: u8,
+    /// What the game started from.
+    pub start: Start,
+    /// Whose view the demo shows.
+    pub view: u8,
+    /// Which players are present: at least one.
+    pub present: [bool; 4],
+    /// How many whole tics were played.
+    pub tics: u64,
+    /// How many commands stand between the last whole tic and the marker.
+    pub cut: u64,
+    /// How many bytes stand after the marker.
+    pub after: u64,
+    /// The world after the last whole tic.
+    pub world: W,
+}

@@ -1,0 +1,234 @@
+//! A demo that is fed in pieces.
+
+ghost use Rattle.std.specs.Prelude.{◌≡◌, ◌≢◌, ◌<◌, ◌≤◌, ℕ, ◌+◌, ◌%◌, Bool, true, false, List, [], ◌∷◌, length, Some, IfSome, IfNone};
+ghost use Rattle.dn_demo.specs.Layout as specs;
+ghost use Rattle.dn_demo.specs.Layout.{layout_of, command_size};
+ghost use Rattle.dn_demo.specs.Rows.{player_count};
+ghost use Rattle.dn_demo.specs.Text.{header_size, marker};
+ghost use Rattle.dn_demo.specs.Places.{seats_in};
+ghost use Rattle.dn_demo.specs.Reading.{HasHeader};
+ghost use Rattle.dn_demo.specs.Feeding.{Feeding, Shows, Takes, TakesFront, row_size};
+ghost use Rattle.dn_demo.specs.Fed.{EndsAs};
+
+use crate::demo::{self, DemoFault};
+use crate::fed::{Fed, FeedFault};
+use crate::layout::{HEADER, Layout, MARKER};
+use crate::{reading, rows};
+use dn_world::World;
+use std::marker::Model;
+
+/// The most bytes that a row has.
+const ROW: usize = 20;
+
+/// A demo that is fed in pieces, and played as they come. It takes no memory: it keeps the header, one
+/// unfinished row, counts and the world.
+#[derive(Drop)]
+pub struct Feed<W> {
+    world: W,
+    taken: u64,
+    header: [u8; HEADER],
+    tics: u64,
+    row: [u8; ROW],
+    /// How many bytes of the row came.
+    kept: usize,
+    marked: bool,
+    after: u64,
+}
+
+impl<W> Model for Feed<W> {
+    ghost use Rattle.std.specs.Prelude.{◌≤◌, take};
+    ghost use Rattle.dn_demo.specs.Feeding.{Feeding, IsKept};
+
+    ghost Value = { Feeding W };
+
+    ghost view = { λ f. record { taken = f.taken; header = take f.taken f.header; tics = f.tics; row = take f.kept f.row; marked = f.marked; after = f.after; world = f.world } };
+
+    ghost invariant = { λ f. (f.kept ≤ 20)
+        × IsKept (record { taken = f.taken; header = take f.taken f.header; tics = f.tics; row = take f.kept f.row; marked = f.marked; after = f.after; world = f.world }) };
+}
+
+/// Whether a byte is the marker, behind so many bytes of a row: it is at a command's place.
+fn is_marker(byte: u8, kept: usize, layout: Layout) -> bool
+    ensures yes { result ≡ true → (byte ≡ marker) × (kept % command_size (layout_of layout) ≡ 0) }
+    ensures no { result ≡ false → byte ≡ marker → kept % command_size (layout_of layout) ≢ 0 }
+{
+    byte == MARKER && kept % layout.size() == 0
+}
+
+impl<W: World> Feed<W> {
+    /// A feed that no bytes came to.
+    pub fn new(world: W) -> Feed<W>
+        ensures count { result.taken ≡ 0 }
+        ensures shown { Shows W.state W.physics [] result }
+    {
+        Feed {
+            world,
+            taken: 0,
+            header: [0; HEADER],
+            tics: 0,
+            row: [0; ROW],
+            kept: 0,
+            marked: false,
+            after: 0,
+        }
+    }
+
+    /// How many bytes came.
+    pub fn taken(&self) -> u64
+        ensures { result ≡ self.now.taken }
+    {
+        self.taken
+    }
+
+    /// How the commands are laid out, once the header is whole and somebody plays.
+    fn layout(&self) -> Option<Layout>
+        ensures some { IfSome result (λ layout. HasHeader (layout_of layout) self.now.header) }
+        ensures whole { IfSome result (λ layout. header_size ≤ self.now.taken) }
+        ensures none { IfNone result ((layout : specs.Layout) → ¬ HasHeader layout self.now.header) }
+    {
+        if (self.taken as usize) < HEADER {
+            return None;
+        }
+        demo::open(&self.header).ok()
+    }
+
+    /// Takes a byte of the header. With the last one the world begins, if somebody plays.
+    fn take_header(&mut self, byte: u8)
+        requires { self.old.taken < header_size }
+        ensures count { self.new.taken ≡ self.old.taken + 1 }
+        ensures shown { Takes W.state W.physics self.old (byte ∷ []) self.new }
+    {
+        self.header[self.taken as usize] = byte;
+        self.taken += 1;
+        if self.layout().is_some() {
+            let present = reading::seats(&self.header);
+            self.world.begin(&reading::start(&self.header), present);
+        }
+    }
+
+    /// Takes a byte of a command, or the marker. With the last byte of a row the world is stepped.
+    fn take_command(&mut self, byte: u8, layout: Layout)
+        requires header { HasHeader (layout_of layout) self.old.header }
+        requires unmarked { self.old.marked ≡ false }
+        requires few { self.old.taken < 4294967295 }
+        ensures count { self.new.taken ≡ self.old.taken + 1 }
+        ensures shown { Takes W.state W.physics self.old (byte ∷ []) self.new }
+    {
+        self.taken += 1;
+        if is_marker(byte, self.kept, layout) {
+            self.marked = true;
+            return;
+        }
+        self.row[self.kept] = byte;
+        self.kept += 1;
+        let present = reading::seats(&self.header);
+        if self.kept == layout.size() * reading::players(present) {
+            let row = reading::row_at(&self.row[..self.kept], layout, present, 0);
+            self.world.step(&row);
+            self.tics += 1;
+            self.kept = 0;
+        }
+    }
+
+    /// Takes whole rows with no marker, unless a row is unfinished, and answers what is left.
+    fn take_rows<'a>(&mut self, piece: &'a [u8], layout: Layout) -> &'a [u8]
+        requires header { HasHeader (layout_of layout) self.old.header }
+        requires unmarked { self.old.marked ≡ false }
+        requires few { self.old.taken + length piece.now ≤ 4294967295 }
+        ensures front { TakesFront W.state W.physics self.old piece.now result.now self.new }
+        ensures header { self.new.header ≡ self.old.header }
+        ensures unmarked { self.new.marked ≡ false }
+    {
+        if self.kept > 0 {
+            return piece;
+        }
+        let present = reading::seats(&self.header);
+        let rest = rows::step_all(&mut self.world, piece, layout, present);
+        let came = piece.len() - rest.len();
+        self.taken += came as u64;
+        self.tics += (came / (layout.size() * reading::players(present))) as u64;
+        rest
+    }
+
+    /// Takes bytes that nothing is read from: they stand behind the marker, or behind a header that is
+    /// refused.
+    fn pass(&mut self, piece: &[u8])
+        requires whole { header_size ≤ self.old.taken }
+        requires unread { self.old.marked ≡ false → (layout : specs.Layout) → ¬ HasHeader layout self.old.header }
+        requires few { self.old.taken + length piece.now ≤ 4294967295 }
+        ensures count { self.new.taken ≡ self.old.taken + length piece.now }
+        ensures shown { Takes W.state W.physics self.old piece.now self.new }
+    {
+        self.taken += piece.len() as u64;
+        if self.marked {
+            self.after += piece.len() as u64;
+        }
+    }
+
+    /// Takes one byte at least, and answers what is left.
+    fn advance<'a>(&mut self, piece: &'a [u8]) -> &'a [u8]
+        requires some { 0 < length piece.now }
+        requires few { self.old.taken + length piece.now ≤ 4294967295 }
+        ensures front { TakesFront W.state W.physics self.old piece.now result.now self.new }
+        ensures less { length result.now < length piece.now }
+    {
+        if self.taken < HEADER as u64 {
+            self.take_header(piece[0]);
+            return &piece[1..];
+        }
+        let Some(layout) = self.layout() else {
+            self.pass(piece);
+            return &piece[piece.len()..];
+        };
+        if self.marked {
+            self.pass(piece);
+            return &piece[piece.len()..];
+        }
+        let rest = self.take_rows(piece, layout);
+        let Some((byte, behind)) = rest.split_first() else {
+            return rest;
+        };
+        self.take_command(*byte, layout);
+        behind
+    }
+
+    /// Takes the next piece. All pieces together have at most 4,294,967,295 bytes.
+    pub fn push(&mut self, piece: &[u8])
+        requires { self.old.taken + length piece.now ≤ 4294967295 }
+        ensures count { self.new.taken ≡ self.old.taken + length piece.now }
+        ensures shown { Takes W.state W.physics self.old piece.now self.new }
+    {
+        let mut rest = piece;
+        while !rest.is_empty() {
+            rest = self.advance(rest);
+        }
+    }
+
+    /// Ends the demo: what it has, with the world after its last whole tic, or the first fault that its
+    /// bytes have.
+    pub fn end(self) -> Result<Fed<W>, FeedFault>
+        ensures { EndsAs W.state W.physics self result }
+    {
+        let taken = HEADER.min(self.taken as usize);
+        let layout = match demo::open(&self.header[..taken]) {
+            Ok(layout) => layout,
+            Err(DemoFault::Short) => return Err(FeedFault::Short),
+            Err(DemoFault::Version) => return Err(FeedFault::Version),
+            // a header has no other fault
+            Err(_) => return Err(FeedFault::NoPlayers),
+        };
+        if !self.marked {
+            return Err(FeedFault::NoMarker);
+        }
+        Ok(Fed {
+            version: self.header[0],
+            start: reading::start(&self.header),
+            view: self.header[8],
+            present: reading::seats(&self.header),
+            tics: self.tics,
+            cut: (self.kept / layout.size()) as u64,
+            after: self.after,
+            world: self.world,
+        })
+    }
+}

@@ -1,0 +1,181 @@
+//! Tests of demos that are fed in pieces.
+
+ghost use Rattle.std.specs.Prelude.{◌<◌};
+
+use super::{PLAYED, RECORDED, START};
+use crate::{Demo, DemoFault, Fed, Feed, FeedFault, play};
+use dn_world::{Walk, World};
+use std::process::Abort;
+use std::test::Fail;
+
+/// Where a player stands: x, y, angle and consistency value.
+type Place = (i32, i32, u16, i16);
+
+const PLACES: [Place; 2] = [(1, 0, 0, 1), (4_243_456, 51_200, 16_640, -16_384)];
+
+const BEGUN: [Place; 2] = [(0, 0, 0, 0), (4_194_304, 0, 0, 0)];
+
+/// Feeds a piece of a small demo.
+fn push(feed: &mut Feed<Walk>, piece: &[u8]) {
+    if feed.taken() <= 1_000 && piece.len() <= 1_000 {
+        feed.push(piece);
+    }
+}
+
+/// What bytes end as that are fed in pieces of this length, behind a first one of so many bytes.
+fn fed(bytes: &[u8], first: usize, length: usize) -> Result<Fed<Walk>, FeedFault>
+    requires { 0 < length }
+{
+    let mut feed = Feed::new(Walk::new());
+    let (front, rest) = bytes.split_at(first.min(bytes.len()));
+    push(&mut feed, front);
+    for piece in rest.chunks(length) {
+        push(&mut feed, &[]);
+        push(&mut feed, piece);
+    }
+    feed.end()
+}
+
+/// The demo of bytes that are fed so, and its players, are these; or the fault of the bytes is.
+fn ends_as(
+    rt: &impl Abort,
+    end: Result<Fed<Walk>, FeedFault>,
+    counts: Result<(u64, u64, u64), FeedFault>,
+    places: [Place; 2],
+) {
+    match end {
+        Err(fault) => assert_eq!(rt; Some(fault), counts.err()),
+        Ok(fed) => {
+            assert_eq!(rt; Ok((fed.tics, fed.cut, fed.after)), counts);
+            assert_eq!(rt; fed.start, START);
+            assert_eq!(rt; fed.view, 1);
+            assert_eq!(rt; fed.present, [true, true, false, false]);
+            for (player, (x, y, angle, mark)) in [(0, places[0]), (1, places[1])] {
+                assert_eq!(rt; fed.world.x(player), Some(x));
+                assert_eq!(rt; fed.world.y(player), Some(y));
+                assert_eq!(rt; fed.world.angle(player), Some(angle));
+                assert_eq!(rt; fed.world.mark(player), mark);
+            }
+            assert_eq!(rt; fed.world.x(2), None);
+        }
+    }
+}
+
+/// In one piece, in pieces of one to nine bytes, and cut at each place.
+fn ends_everywhere_as(
+    rt: &impl Abort,
+    bytes: &[u8],
+    counts: Result<(u64, u64, u64), FeedFault>,
+    places: [Place; 2],
+) {
+    for length in 1..10_usize {
+        ends_as(rt, fed(bytes, 0, length), counts, places);
+    }
+    for first in 0..=bytes.len() {
+        ends_as(rt, fed(bytes, first, 1_000), counts, places);
+    }
+}
+
+#[test]
+fn pieces_end_as_their_join(rt: HostRuntime) {
+    let mut more = [7; 33];
+    more[..30].copy_from_slice(&PLAYED);
+    let mut cut = [0; 34];
+    cut[..29].copy_from_slice(&PLAYED[..29]);
+    cut[29..].copy_from_slice(&[0x32, 0, 0, 0, 0x80]);
+    let mut none = [0x80; 14];
+    none[..13].copy_from_slice(&PLAYED[..13]);
+    let mut other = PLAYED;
+    other[0] = 110;
+    let mut nobody = PLAYED;
+    nobody[9..13].copy_from_slice(&[0; 4]);
+    let mut long_more = [7; 37];
+    long_more[..34].copy_from_slice(&RECORDED);
+    for (bytes, counts, places) in [
+        (PLAYED.as_slice(), Ok((2, 0, 0)), PLACES),
+        (more.as_slice(), Ok((2, 0, 3)), PLACES),
+        (cut.as_slice(), Ok((2, 1, 0)), PLACES),
+        (&PLAYED[..29], Err(FeedFault::NoMarker), PLACES),
+        (other.as_slice(), Err(FeedFault::Version), PLACES),
+        (nobody.as_slice(), Err(FeedFault::NoPlayers), PLACES),
+        (&PLAYED[..12], Err(FeedFault::Short), PLACES),
+        (none.as_slice(), Ok((0, 0, 0)), BEGUN),
+        (RECORDED.as_slice(), Ok((2, 0, 0)), PLACES),
+        (long_more.as_slice(), Ok((2, 0, 3)), PLACES),
+        (&RECORDED[..33], Err(FeedFault::NoMarker), PLACES),
+    ] {
+        ends_everywhere_as(&rt, bytes, counts, places);
+    }
+}
+
+#[test]
+fn fronts_of_a_demo_are_refused(rt: HostRuntime) {
+    for demo in [PLAYED.as_slice(), RECORDED.as_slice()] {
+        for len in 0..demo.len() {
+            let fault = if len < 13 {
+                FeedFault::Short
+            } else {
+                FeedFault::NoMarker
+            };
+            assert_eq!(rt; fed(&demo[..len], 0, 5).err(), Some(fault), "{len} bytes");
+        }
+    }
+}
+
+#[test]
+fn bytes_are_counted_as_they_come(rt: HostRuntime) {
+    let mut feed = Feed::new(Walk::new());
+    assert_eq!(rt; feed.taken(), 0);
+    push(&mut feed, &PLAYED[..17]);
+    assert_eq!(rt; feed.taken(), 17);
+    push(&mut feed, &[]);
+    assert_eq!(rt; feed.taken(), 17);
+    push(&mut feed, &PLAYED[17..]);
+    push(&mut feed, &[7; 40]);
+    assert_eq!(rt; feed.taken(), 70);
+    assert_eq!(rt;
+        feed.end().ok().map(|fed| (fed.version, fed.after)),
+        Some((109, 40))
+    );
+}
+
+/// Bytes of every value, for each set of players: a feed ends as the reading that plays them whole.
+#[test]
+fn any_bytes_end_as_they_are_read(rt: HostRuntime) -> Result<(), Fail> {
+    for seats in 0..16_u8 {
+        for version in [109, 111] {
+            let mut bytes = [0; 300];
+            let mut word: u32 = u32::from(seats) + 1;
+            for byte in bytes.iter_mut() {
+                word = word.wrapping_mul(1_664_525).wrapping_add(1_013_904_223);
+                *byte = ((word >> 24) % 0x80) as u8;
+            }
+            bytes[0] = version;
+            for player in 0..4 {
+                bytes[9 + player] = seats / [1, 2, 4, 8][player] % 2;
+            }
+            bytes[280] = 0x80;
+            bytes[283] = 0x80;
+            for length in [1, 3, 20, 64, 299] {
+                let end = fed(&bytes, 40, length);
+                match Demo::read(rt.alloc(), &bytes) {
+                    Err(fault) => {
+                        let same = match fault {
+                            DemoFault::NoPlayers => FeedFault::NoPlayers,
+                            _ => FeedFault::NoMarker,
+                        };
+                        assert_eq!(rt; end.err(), Some(same), "{seats} {version}");
+                    }
+                    Ok(demo) => {
+                        let mut walk = Walk::new();
+                        let tics = play(&demo, &mut walk) as u64;
+                        let told = end.ok().map(|fed| (fed.tics, fed.cut, fed.after));
+                        let counts = (tics, demo.cut() as u64, demo.after() as u64);
+                        assert_eq!(rt; told, Some(counts), "{seats} {version}");
+                    }
+                }
+            }
+        }
+    }
+    Ok(())
+}
