@@ -1,6 +1,6 @@
 //! Ports of this machine. Each test looks for ports that are free, in an area of its own.
 
-ghost use Rattle.std.specs.Prelude.{◌≤◌, ◌<◌};
+ghost use Rattle.std.specs.Prelude.{◌≤◌, ◌<◌, IfOk};
 
 use crate::{Datagram, Line, LineFault, UdpLine};
 use std::alloc::Global;
@@ -12,7 +12,8 @@ const POLLS: u32 = 100_000;
 
 /// A line of two players, bound for those up to `last`, and where it is.
 fn line<R: Net>(rt: &R, alloc: Global, area: u16, last: u8) -> Result<(UdpLine, u16), LineFault>
-    requires { (1024 ≤ area) × (area ≤ 60000) × (last < 2) }
+    requires { (1024 < area) × (area ≤ 60000) × (last < 2) }
+    ensures { IfOk result (λ found. (1024 < found.1) × (found.1 ≤ 65532)) }
 {
     for step in 0..200u16 {
         let base = area + 8 * step;
@@ -95,8 +96,7 @@ fn numbers_alone_decide_these_faults(rt: HostRuntime) -> Result<(), Fail> {
 fn strangers_are_told(rt: HostRuntime) -> Result<(), Fail> {
     let (mut line, base) = line(&rt, rt.alloc(), 29_000, 0)?;
     // Its player 3 is at no player's port of the line, and its player 1 at that of the line's player 0.
-    let other = if base > 1024 { base - 1 } else { base };
-    let mut stranger = UdpLine::bind(&rt, rt.alloc(), other, 3, 3, 4)?;
+    let mut stranger = UdpLine::bind(&rt, rt.alloc(), base - 1, 3, 3, 4)?;
     assert_eq!(rt; stranger.send(3, 1, &[5; 200]), Ok(()));
     let Some(datagram) = awaited(&mut line, 0) else {
         assert!(rt; false, "no datagram came");
