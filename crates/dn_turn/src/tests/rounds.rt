@@ -58,8 +58,11 @@ fn turns_are_told(rt: HostRuntime) -> Result<(), Fail> {
         (0, Made::NotPlaying, 1, 1, 0),
     ];
     for (place, made, sent, heard, ran) in rows {
-        let node = if place == 0 { &mut nodes[0] } else { &mut nodes[1] };
-        let turned = turn(node, &mut hub, Keys::from_bits(0));
+        let turned = if place == 0 {
+            turn(&mut nodes[0], &mut hub, Keys::from_bits(0))
+        } else {
+            turn(&mut nodes[1], &mut hub, Keys::from_bits(0))
+        };
         let told = Turned {
             made,
             sent,
