@@ -51,6 +51,13 @@ impl<W: World> Node<W> {
         self.lockstep.me()
     }
 
+    /// How many players the game has.
+    pub fn players(&self) -> u8
+        ensures { result ≡ (contents self.now).players }
+    {
+        self.lockstep.players()
+    }
+
     /// Where it stands.
     pub fn phase(&self) -> Phase
         ensures { result ≡ (contents self.now).phase }

@@ -1,6 +1,6 @@
 //! The options of the command line, with their ranges and defaults.
 
-ghost use Rattle.std.specs.Prelude.{IfSome};
+ghost use Rattle.std.specs.Prelude.{◌≤◌, IfSome};
 ghost use Rattle.dn_demo.specs.Recorded.{IsLimit};
 ghost use Rattle.dn_lockstep.specs.Opening.{IsGame};
 
@@ -114,6 +114,51 @@ pub(crate) fn with_storm<'a>(
     with_game(alloc, command)?.arg(seed)?.arg(count)?.arg(calm)
 }
 
+/// Adds the options of rounds over sockets, a game's among them.
+pub(crate) fn with_rounds<'a>(
+    alloc: Global,
+    command: Command<'a>,
+) -> Result<Command<'a>, AllocError> {
+    let seed = number(
+        alloc,
+        "seed",
+        0,
+        4_294_967_295,
+        "1",
+        "What the keys are drawn from",
+    );
+    let rounds = number(
+        alloc,
+        "rounds",
+        1,
+        1_000_000,
+        "100",
+        "How many rounds there are",
+    );
+    let base = number(
+        alloc,
+        "base",
+        1024,
+        65_532,
+        "5029",
+        "The port of player 0, before those of the others",
+    );
+    with_game(alloc, command)?.arg(seed)?.arg(rounds)?.arg(base)
+}
+
+/// Adds the options of one player's rounds.
+pub(crate) fn with_player<'a>(
+    alloc: Global,
+    command: Command<'a>,
+) -> Result<Command<'a>, AllocError> {
+    let me = number(alloc, "me", 0, 3, "0", "Which player this is");
+    let raw = Arg::new(alloc, "raw")
+        .long("raw")
+        .action(ArgAction::SetTrue)
+        .help("Prints the bytes of the demo and no line");
+    with_rounds(alloc, command)?.arg(me)?.arg(raw)
+}
+
 /// The value of an option, if it is no more than a byte holds.
 fn byte(matches: &ArgMatches<'_>, name: &str) -> Option<u8> {
     u8::try_from(matches.get_one::<u32>(name)?).ok()
@@ -162,4 +207,27 @@ pub(crate) fn storm(matches: &ArgMatches<'_>) -> Option<(u64, u32, u32)> {
     let seed = matches.get_one::<u32>("seed")?;
     let count = matches.get_one::<u32>("count")?;
     Some((u64::from(seed), count, matches.get_one::<u32>("calm")?))
+}
+
+/// The seed of the keys, how many rounds there are, and the port of player 0.
+pub(crate) fn rounds(matches: &ArgMatches<'_>) -> Option<(u64, u32, u16)>
+    ensures { IfSome result (λ given. (1024 ≤ given.2) × (given.2 ≤ 65532)) }
+{
+    let seed = matches.get_one::<u32>("seed")?;
+    let count = matches.get_one::<u32>("rounds")?;
+    let base = u16::try_from(matches.get_one::<u32>("base")?).ok()?;
+    if !(1024..=65_532).contains(&base) {
+        return None;
+    }
+    Some((u64::from(seed), count, base))
+}
+
+/// Which player this is.
+pub(crate) fn me(matches: &ArgMatches<'_>) -> Option<u8> {
+    byte(matches, "me")
+}
+
+/// Whether the bytes of the demo are printed.
+pub(crate) fn raw(matches: &ArgMatches<'_>) -> bool {
+    matches.get_flag("raw")
 }

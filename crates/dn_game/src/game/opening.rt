@@ -54,8 +54,9 @@ fn config_of(config: &GameConfig, players: u8, me: u8) -> Config
     }
 }
 
-/// A node for each world.
-fn nodes_of<W: World>(
+/// A node for each world, in the players' order, with no history. The worlds are given up where memory is
+/// refused.
+pub fn nodes_of<W: World>(
     alloc: Global,
     config: &GameConfig,
     worlds: Vec<W>,

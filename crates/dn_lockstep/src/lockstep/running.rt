@@ -1,7 +1,8 @@
 //! How a lockstep runs a tic.
 
-ghost use Rattle.std.specs.Prelude.{◌≡◌, ◌≢◌, ℕ, None};
+ghost use Rattle.std.specs.Prelude.{◌≡◌, ◌≢◌, ℕ, ◌+◌, None};
 ghost use Rattle.dn_machine.specs.declared.answers.Phase.TheVariants.{Playing};
+ghost use Rattle.dn_machine.specs.declared.answers.Ran.TheVariants as Ran;
 ghost use Rattle.dn_machine.specs.declared.answers.Ran.TheVariants.{Waiting, NotPlaying};
 ghost use Rattle.dn_machine.specs.Node.{lowest};
 ghost use Rattle.dn_lockstep.specs.Rows.{is_missing};
@@ -24,6 +25,7 @@ impl Lockstep {
     pub fn run(&mut self, marks: &[i16; 4]) -> (Ran, Option<[Option<Move>; 4]>)
         ensures step { RunsBy marks.now (contents self.old) (contents self.new)
             (λ rules m. on_run rules m) (λ ran row. (result.0 ≡ ran) × (result.1 ≡ row)) }
+        ensures further { (tic : ℕ) → result.0 ≡ Ran.Ran tic → (contents self.new).ran ≡ (contents self.old).ran + 1 }
         ensures waits { (player : ℕ) → result.0 ≡ Waiting player
             → (contents self.new ≡ contents self.old) × (result.1 ≡ None) }
         ensures idle { result.0 ≡ NotPlaying → (contents self.new ≡ contents self.old) × (result.1 ≡ None) }
@@ -61,6 +63,7 @@ impl Lockstep {
             (is_missing (contents self.old).rings (contents self.old).peers (contents self.old).ran) ≡ None }
         ensures step { RunsBy marks.now (contents self.old) (contents self.new)
             (λ rules m. on_run_playing rules m None None) (λ ran row. (result.0 ≡ ran) × (result.1 ≡ row)) }
+        ensures further { (tic : ℕ) → result.0 ≡ Ran.Ran tic → (contents self.new).ran ≡ (contents self.old).ran + 1 }
         ensures waits { (player : ℕ) → result.0 ≢ Waiting player }
         ensures idle { result.0 ≢ NotPlaying }
     {

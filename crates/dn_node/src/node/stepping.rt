@@ -1,6 +1,6 @@
 //! What a node does.
 
-ghost use Rattle.std.specs.Prelude.{◌≡◌, ◌≢◌, ◌<◌, ℕ, pos, true, false, get_or, Result, Some, None, IfSome};
+ghost use Rattle.std.specs.Prelude.{◌≡◌, ◌≢◌, ◌<◌, ℕ, ◌+◌, pos, true, false, get_or, Result, Some, None, IfSome};
 ghost use Rattle.std.specs.Option.{option_map};
 ghost use Rattle.dn_packet.specs.declared.packet.Packet.{Packet};
 ghost use Rattle.dn_packet.specs.declared.packet.PacketFault.{PacketFault};
@@ -107,6 +107,7 @@ impl<W: World> Node<W> {
     pub fn run(&mut self) -> Ran
         ensures step { Steps W.state W.physics (contents self.old) (contents self.new)
             (λ rules me m. on_run rules m) (λ ran. result ≡ ran) }
+        ensures further { (tic : ℕ) → result ≡ Ran.Ran tic → (contents self.new).ran ≡ (contents self.old).ran + 1 }
         ensures waits { (player : ℕ) → result ≡ Ran.Waiting player → contents self.new ≡ contents self.old }
         ensures idle { result ≡ Ran.NotPlaying → contents self.new ≡ contents self.old }
     {

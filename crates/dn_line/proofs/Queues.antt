@@ -1,0 +1,19 @@
+-- Queues in memory.
+use Rattle.std.proofs.Common.{◌≡◌, ℕ, ◌≤◌, ◌+◌, ◌↔◌, List, [], ◌++◌, length, take, min, Result, Ok, Err, ap, ◌∙◌, arith, rules}
+use Rattle.std.specs.Prelude.{IsOk, OnOk}
+use Rattle.std.proofs.lemmas.List.{take_min, length-take}
+
+-- what holds of an answer that is Ok
+pub at_ok : {A F P : Type 0} (r : Result A F) → IsOk r → OnOk r P → P
+at_ok (Ok done) ok p = p
+at_ok (Err fault) ok p = absurd (search (rules, ok))
+
+pub front_kept : {F : Type 0} (count : ℕ) (bytes start items : List ℕ) (r : Result (Unit {0}) F)
+    → count ≡ min 105 (length bytes) → start ≡ []
+    → IsOk r ↔ (length start + length (take count bytes) ≤ 105) → OnOk r (items ≡ start ++ take count bytes)
+    → items ≡ take 105 bytes
+front_kept count bytes start items r least empty fits kept =
+    let small : length start + length (take count bytes) ≤ 105 =
+    omega (arith, ap (λ (xs : List ℕ). length xs) empty, least, length-take count bytes) in
+    at_ok r (fits.1 small) kept ∙ ap (λ (xs : List ℕ). xs ++ take count bytes) empty
+    ∙ ap (λ (n : ℕ). take n bytes) least ∙ take_min 105 bytes

@@ -1,0 +1,4 @@
+//! Tests of lines.
+
+mod hubs;
+mod ports;

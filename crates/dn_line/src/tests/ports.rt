@@ -1,0 +1,124 @@
+//! Ports of this machine. Each test looks for ports that are free, in an area of its own.
+
+ghost use Rattle.std.specs.Prelude.{◌≤◌, ◌<◌, IfOk};
+
+use crate::{Datagram, Line, LineFault, UdpLine};
+use std::alloc::Global;
+use std::net::Net;
+use std::test::Fail;
+
+/// So many polls are made for a datagram that is on its way.
+const POLLS: u32 = 100_000;
+
+/// A line of two players, bound for those up to `last`, and where it is.
+fn line<R: Net>(rt: &R, alloc: Global, area: u16, last: u8) -> Result<(UdpLine, u16), LineFault>
+    requires { (1024 < area) × (area ≤ 60000) × (last < 2) }
+    ensures { IfOk result (λ found. (1024 < found.1) × (found.1 ≤ 65532)) }
+{
+    for step in 0..200u16 {
+        let base = area + 8 * step;
+        if let Ok(line) = UdpLine::bind(rt, alloc, base, 0, last, 2) {
+            return Ok((line, base));
+        }
+    }
+    Err(LineFault::Bind)
+}
+
+/// The next datagram, once it is there.
+fn awaited(line: &mut UdpLine, me: u8) -> Option<Datagram> {
+    for _ in 0..POLLS {
+        if let Ok(Some(datagram)) = line.poll(me) {
+            return Some(datagram);
+        }
+    }
+    None
+}
+
+/// 64 datagrams, from either player in turn: each arrives once, with its bytes and its sender.
+#[test]
+fn datagrams_go_both_ways(rt: HostRuntime) -> Result<(), Fail> {
+    let (mut line, _) = line(&rt, rt.alloc(), 20_000, 1)?;
+    let mut bytes = [7; 104];
+    for size in 41..105usize {
+        bytes[0] = size as u8;
+        for me in 0..2u8 {
+            assert_eq!(rt; line.send(me, 1 - me, &bytes[..size]), Ok(()));
+            let Some(datagram) = awaited(&mut line, 1 - me) else {
+                assert!(rt; false, "no datagram came");
+                return Ok(());
+            };
+            assert_eq!(rt;
+                (datagram.from, datagram.bytes.as_slice()),
+                (me, &bytes[..size])
+            );
+            assert!(rt; matches!(&line.poll(1 - me), Ok(None)));
+        }
+    }
+    assert_eq!(rt; line.failed(), 0);
+    Ok(())
+}
+
+/// A port that is held is not bound again, and is free once its line is dropped.
+#[test]
+fn held_ports_are_refused(rt: HostRuntime) -> Result<(), Fail> {
+    let (held, base) = line(&rt, rt.alloc(), 23_000, 0)?;
+    for last in 0..2 {
+        let again = UdpLine::bind(&rt, rt.alloc(), base, 0, last, 2);
+        assert!(rt; matches!(&again, Err(LineFault::Bind)));
+    }
+    drop(held);
+    let again = UdpLine::bind(&rt, rt.alloc(), base, 0, 0, 2);
+    assert!(rt; matches!(&again, Ok(_)));
+    Ok(())
+}
+
+/// Player 0 alone is bound. Numbers that are no route are faults, and where nobody listens none comes back.
+#[test]
+fn numbers_alone_decide_these_faults(rt: HostRuntime) -> Result<(), Fail> {
+    let (mut line, _) = line(&rt, rt.alloc(), 26_000, 0)?;
+    for (me, to) in [(0, 0), (1, 0), (0, 2), (2, 0), (255, 1)] {
+        assert_eq!(rt; line.send(me, to, &[1]), Err(LineFault::Send));
+    }
+    for me in [1, 2, 255] {
+        assert!(rt; matches!(&line.poll(me), Err(LineFault::Poll)));
+    }
+    assert_eq!(rt; line.failed(), 8);
+    for _ in 0..10 {
+        assert_eq!(rt; line.send(0, 1, &[1]), Ok(()));
+        assert!(rt; matches!(&line.poll(0), Ok(None)));
+    }
+    assert_eq!(rt; line.failed(), 8);
+    Ok(())
+}
+
+/// Who sends from no player's port is a stranger, and only 105 bytes of a datagram arrive.
+#[test]
+fn strangers_are_told(rt: HostRuntime) -> Result<(), Fail> {
+    let (mut line, base) = line(&rt, rt.alloc(), 29_000, 0)?;
+    // Its player 3 is at no player's port of the line, and its player 1 at that of the line's player 0.
+    let mut stranger = UdpLine::bind(&rt, rt.alloc(), base - 1, 3, 3, 4)?;
+    assert_eq!(rt; stranger.send(3, 1, &[5; 200]), Ok(()));
+    let Some(datagram) = awaited(&mut line, 0) else {
+        assert!(rt; false, "no datagram came");
+        return Ok(());
+    };
+    assert_eq!(rt;
+        (datagram.from, datagram.bytes.as_slice()),
+        (255, [5; 105].as_slice())
+    );
+    Ok(())
+}
+
+/// Each request for memory may be refused: then there is no line.
+#[test]
+fn want_of_memory_is_told(rt: HostRuntime) {
+    for step in 0..200u16 {
+        match UdpLine::bind(&rt, rt.alloc(), 32_000 + 8 * step, 0, 3, 4) {
+            Ok(line) => {
+                assert_eq!(rt; line.failed(), 0);
+                return;
+            }
+            Err(fault) => assert_eq!(rt; fault, LineFault::Bind),
+        }
+    }
+}

@@ -1,0 +1,29 @@
+-- The nodes of a game together.
+use Rattle.std.proofs.Common.{◌≡◌, inl, ℕ, List, Option, Some, codes, refl, subst}
+use Rattle.std.specs.Prelude.{IfSome}
+use Rattle.dn_world.specs.Physics.{Physics}
+use Rattle.dn_node.specs.declared.node.Node.{Node}
+use Rattle.dn_turn.specs.Rounds.{AreSeated}
+use Rattle.dn_game.specs.declared.config.GameConfig.{GameConfig}
+use Rattle.dn_game.specs.Fresh.{AreFresh}
+use Rattle.dn_game.specs.Opening.{rules_in}
+use Rattle.dn_netgame.specs.LoopLines.{new_seats, IsLoop}
+
+-- nodes of no history are in the seats of new ones
+pub together : {W S : Type 0} (state : W → S) (physics : Physics S) (config : GameConfig) (players worlds : ℕ) (nodes : List (Node W))
+    → worlds ≡ players → AreFresh state (rules_in physics config worlds) config.settings nodes
+    → AreSeated state physics nodes (new_seats config players)
+together {W} {S} state physics config players worlds nodes same fresh =
+    let P : ℕ → Type 0 = λ n. AreSeated state physics nodes (new_seats config n) in
+    let here : P worlds = λ i n there. fresh i n there in
+    subst P same here
+
+pub unbound : (config : GameConfig) (players base seed count : ℕ) → IsLoop config players base seed count (codes "socket fault\n") 3
+unbound config players base seed count = inl (refl, refl)
+
+pub played : (config : GameConfig) (players base seed count : ℕ) {A : Type 0} (bytes : A → List ℕ) (found : Option A) (text : A)
+    → found ≡ Some text → IfSome found (λ t. IsLoop config players base seed count (bytes t) 0)
+    → IsLoop config players base seed count (bytes text) 0
+played config players base seed count {A} bytes found text is all =
+    let P : Option A → Type 0 = λ o. IfSome o (λ t. IsLoop config players base seed count (bytes t) 0) in
+    subst P is all

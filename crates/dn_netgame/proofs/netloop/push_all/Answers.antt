@@ -1,0 +1,19 @@
+use Rattle.std.proofs.Common.{rules, ◌≡◌, ◌++◌, false, Some, None, []}
+use Rattle.std.specs.Prelude.{slice_get}
+use Rattle.std.specs.String.{string_bytes}
+use Rattle.dn_node.specs.Contents as node
+use Rattle.dn_netgame.specs.NodeLines.{node_line}
+use Rattle.dn_netgame.proofs.Listing.{lines_more, lines_done}
+use Rattle.dn_netgame.proofs.netloop.push_all.Goals as goal
+
+pub loop-node-preserved : goal.loop-node-preserved
+loop-node-preserved g c =
+    let nodes = c.args.nodes.now in
+    let there : slice_get nodes c.loop-node.number ≡ Some c.in-Some.node.now = search rules in
+    let put : string_bytes c.push_node.new.text ≡ string_bytes c.loop-node.text ++ node_line (node.contents c.in-Some.node.now) false = search rules in
+    lines_more [] _ _ _ _ _ _ there c.loop-node.invariant put
+
+pub returns : goal.returns
+returns g c =
+    let gone : slice_get c.args.nodes.now c.loop-node.number ≡ None = search rules in
+    lines_done [] _ _ _ _ gone c.loop-node.invariant

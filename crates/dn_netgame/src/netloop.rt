@@ -1,0 +1,136 @@
+//! All nodes of a game over UDP.
+
+ghost use Rattle.std.specs.Prelude.{◌≡◌, ◌≢◌, ◌≤◌, ◌++◌, [], length, slice_get, Err, IfOk, IfErr, IfSome, OnOk};
+ghost use Rattle.std.specs.Option.{option_copied};
+ghost use Rattle.std.specs.String.{string_bytes};
+ghost use Rattle.dn_demo.specs.Recorded.{IsLimit};
+ghost use Rattle.dn_lockstep.specs.Opening.{IsGame};
+ghost use Rattle.dn_turn.specs.Rounds.{LeadAll, TakeRounds};
+ghost use Rattle.dn_netgame.specs.GameLines.{node_lines};
+ghost use Rattle.dn_netgame.specs.LoopLines.{IsLoop};
+ghost use Rattle.dn_netgame.specs.Shown.{Prints, PrintsFront};
+ghost use Rattle.dn_netgame.specs.declared.fault.RunFault.{RunFault};
+
+use crate::fault::RunFault;
+use crate::games::new_walks;
+use crate::netplay::{NO_SOCKET, UNBOUND};
+use crate::nodes::push_node;
+use crate::transfer::put;
+use dn_game::{GameConfig, nodes_of};
+use dn_line::{Line, UdpLine};
+use dn_node::Node;
+use dn_turn::rounds;
+use dn_world::World;
+use std::alloc::{AllocError, Global};
+use std::io::Write;
+use std::net::Net;
+
+/// The node at a place, if there is one.
+fn node_at<W>(nodes: &[Node<W>], place: usize) -> Option<&Node<W>>
+    ensures { option_copied result ≡ slice_get nodes.now place }
+{
+    nodes.get(place)
+}
+
+/// The lines of nodes, in their order.
+fn push_all<W: World>(text: &mut String, nodes: &[Node<W>]) -> Result<(), AllocError>
+    ensures { OnOk result (string_bytes text.new ≡ string_bytes text.old ++ node_lines [] 0 nodes.now) }
+{
+    let mut number = 0;
+    while let Some(node) = node_at(nodes, number) {
+        push_node(text, node, false)?;
+        number += 1;
+    }
+    Ok(())
+}
+
+/// The lines of all nodes.
+fn text_of<W: World>(alloc: Global, nodes: &[Node<W>]) -> Result<String, AllocError>
+    ensures { IfOk result (λ text. string_bytes text ≡ node_lines [] 0 nodes.now) }
+{
+    let mut text = String::new(alloc);
+    push_all(&mut text, nodes)?;
+    Ok(text)
+}
+
+/// So many rounds of nodes, and then their lines.
+fn play_rounds<W: World, L: Line>(
+    alloc: Global,
+    nodes: &mut [Node<W>],
+    line: &mut L,
+    seed: u64,
+    count: u32,
+) -> Result<String, AllocError>
+    ensures rounds { LeadAll W.state W.physics nodes.old nodes.new (λ seats after.
+        TakeRounds L.sends L.polls W.physics seed (length nodes.old) count (seats, line.old) (after, line.new)) }
+    ensures each { length nodes.new ≡ length nodes.old }
+    ensures text { IfOk result (λ text. string_bytes text ≡ node_lines [] 0 nodes.new) }
+{
+    rounds(nodes, line, seed, count);
+    text_of(alloc, nodes)
+}
+
+/// The lines of new nodes that have played so many rounds with each other over UDP; None where a socket cannot
+/// be bound.
+fn play_all<R: Net>(
+    rt: &R,
+    alloc: Global,
+    config: GameConfig,
+    players: u8,
+    base: u16,
+    seed: u64,
+    count: u32,
+) -> Result<Option<String>, RunFault>
+    requires base { (1024 ≤ base) × (base ≤ 65532) }
+    requires players { IsGame players }
+    requires limit { IsLimit config.limit }
+    ensures played { IfOk result (λ found. IfSome found (λ text. IsLoop config players base seed count (string_bytes text) 0)) }
+    ensures fault { IfErr result (λ fault. fault ≡ RunFault.Memory) }
+{
+    let walks = new_walks(alloc, players)?;
+    let Ok(mut nodes) = nodes_of(alloc, &config, walks) else {
+        return Err(RunFault::Memory);
+    };
+    let Ok(mut line) = UdpLine::bind(rt, alloc, base, 0, players - 1, players) else {
+        return Ok(None);
+    };
+    let text = play_rounds(alloc, nodes.as_mut_slice(), &mut line, seed, count)?;
+    Ok(Some(text))
+}
+
+/// Plays so many rounds of a game of so many new walks, each over a socket of its own, and writes the lines
+/// of its nodes. The answer is the exit status: 0, and 3 where a socket cannot be bound. A send or a poll that
+/// fails ends nothing.
+///
+/// A write that fails or takes no bytes is the fault `Write`, and `Memory` is answered where memory
+/// for the nodes or the lines was refused. Each ends the run at once.
+pub fn run_loop<R: Net, W: Write>(
+    rt: &R,
+    alloc: Global,
+    config: GameConfig,
+    players: u8,
+    base: u16,
+    seed: u64,
+    count: u32,
+    output: &mut W,
+) -> Result<u8, RunFault>
+    requires base { (1024 ≤ base) × (base ≤ 65532) }
+    requires players { IsGame players }
+    requires limit { IsLimit config.limit }
+    // All that is to be printed was written, and the status is its own.
+    ensures shown { IfOk result (λ status. Prints (IsLoop config players base seed count)
+        (W.contents output.old) (W.contents output.new) status) }
+    // A write fault comes before the last byte is written.
+    ensures write { result ≡ Err RunFault.Write
+        → PrintsFront (IsLoop config players base seed count) (W.contents output.old) (W.contents output.new) }
+    // The only other fault is want of memory, which leaves the output as it was.
+    ensures fault { IfErr result (λ fault. fault ≢ RunFault.Read) }
+    ensures unwritten { result ≡ Err RunFault.Memory → output.new ≡ output.old }
+{
+    let Some(text) = play_all(rt, alloc, config, players, base, seed, count)? else {
+        put(output, NO_SOCKET.as_bytes())?;
+        return Ok(UNBOUND);
+    };
+    put(output, text.as_bytes())?;
+    Ok(0)
+}

@@ -1,0 +1,126 @@
+//! One player's node over UDP.
+
+ghost use Rattle.std.specs.Prelude.{◌≡◌, ◌≢◌, ◌<◌, ◌≤◌, ◌∷◌, false, length, Err, IfOk, IfErr, IfSome, OnOk};
+ghost use Rattle.std.specs.String.{string_bytes};
+ghost use Rattle.dn_demo.specs.Recorded.{IsLimit};
+ghost use Rattle.dn_node.specs.Contents.{contents};
+ghost use Rattle.dn_lockstep.specs.Opening.{IsGame, IsKeyed};
+ghost use Rattle.dn_turn.specs.Rounds.{LeadAll};
+ghost use Rattle.dn_netgame.specs.NetLines.{PlaysOut, HasEverPlayed, IsPlay};
+ghost use Rattle.dn_netgame.specs.NodeLines.{node_line};
+ghost use Rattle.dn_netgame.specs.Shown.{Prints, PrintsFront};
+ghost use Rattle.dn_netgame.specs.declared.fault.RunFault.{RunFault};
+
+use crate::fault::RunFault;
+use crate::nodes::push_node;
+use crate::transfer::put;
+use dn_line::{Line, UdpLine};
+use dn_node::{Config, Node};
+use dn_turn::rounds;
+use dn_world::{Walk, World};
+use std::alloc::{AllocError, Global};
+use std::io::Write;
+use std::net::Net;
+use std::slice;
+
+/// What is printed where a socket cannot be bound.
+pub(crate) const NO_SOCKET: &str = "socket fault\n";
+
+/// The exit status where a socket cannot be bound.
+pub(crate) const UNBOUND: u8 = 3;
+
+/// So many rounds a node still takes once it has quit, to tell the others.
+const FAREWELLS: u32 = 4;
+
+/// So many rounds of a node, which then quits and tells the others.
+fn play_out<W: World, L: Line>(nodes: &mut [Node<W>], line: &mut L, seed: u64, count: u32)
+    requires { length nodes.old ≡ 1 }
+    ensures played { LeadAll W.state W.physics nodes.old nodes.new (λ seats after.
+        PlaysOut L.sends L.polls W.physics seed count (seats, line.old) (after, line.new)) }
+{
+    rounds(nodes, line, seed, count);
+    nodes[0].quit();
+    rounds(nodes, line, seed, FAREWELLS);
+}
+
+/// The line of a node.
+fn text_of<W: World>(alloc: Global, node: &Node<W>) -> Result<String, AllocError>
+    ensures { IfOk result (λ text. string_bytes text ≡ node_line (contents node.now) false) }
+{
+    let mut text = String::new(alloc);
+    push_node(&mut text, node, false)?;
+    Ok(text)
+}
+
+/// A new node that has played so many rounds as one player over UDP, and told the others of its end; None
+/// where its socket cannot be bound.
+fn play<R: Net>(
+    rt: &R,
+    alloc: Global,
+    config: Config,
+    base: u16,
+    seed: u64,
+    count: u32,
+) -> Result<Option<Node<Walk>>, RunFault>
+    requires base { (1024 ≤ base) × (base ≤ 65532) }
+    requires players { IsGame config.players }
+    requires me { config.me < config.players }
+    requires keyed { IsKeyed config }
+    requires limit { IsLimit config.limit }
+    ensures played { IfOk result (λ found. IfSome found (λ node. HasEverPlayed config base seed count (contents node))) }
+    ensures fault { IfErr result (λ fault. fault ≡ RunFault.Memory) }
+{
+    let (me, players) = (config.me, config.players);
+    let Ok(mut node) = Node::new(alloc, config, Walk::new()) else {
+        return Err(RunFault::Memory);
+    };
+    let Ok(mut line) = UdpLine::bind(rt, alloc, base, me, me, players) else {
+        return Ok(None);
+    };
+    play_out(slice::from_mut(&mut node), &mut line, seed, count);
+    Ok(Some(node))
+}
+
+/// Plays so many rounds as one player over UDP, quits, tells the others in four rounds more, and writes
+/// the node's line, or its demo if `raw` is set. The answer is the exit status: 0, and 3 where the socket
+/// cannot be bound. A send or a poll that fails ends nothing.
+///
+/// A write that fails or takes no bytes is the fault `Write`, and `Memory` is answered where memory
+/// for the node or the line was refused. Each ends the run at once.
+pub fn run_play<R: Net, W: Write>(
+    rt: &R,
+    alloc: Global,
+    config: Config,
+    base: u16,
+    seed: u64,
+    count: u32,
+    raw: bool,
+    output: &mut W,
+) -> Result<u8, RunFault>
+    requires base { (1024 ≤ base) × (base ≤ 65532) }
+    requires players { IsGame config.players }
+    requires me { config.me < config.players }
+    requires keyed { IsKeyed config }
+    requires limit { IsLimit config.limit }
+    // All that is to be printed was written, and the status is its own.
+    ensures shown { IfOk result (λ status. Prints (IsPlay config base seed count raw)
+        (W.contents output.old) (W.contents output.new) status) }
+    // A write fault comes before the last byte is written.
+    ensures write { result ≡ Err RunFault.Write
+        → PrintsFront (IsPlay config base seed count raw) (W.contents output.old) (W.contents output.new) }
+    // The only other fault is want of memory, which leaves the output as it was.
+    ensures fault { IfErr result (λ fault. fault ≢ RunFault.Read) }
+    ensures unwritten { result ≡ Err RunFault.Memory → output.new ≡ output.old }
+{
+    let Some(node) = play(rt, alloc, config, base, seed, count)? else {
+        put(output, NO_SOCKET.as_bytes())?;
+        return Ok(UNBOUND);
+    };
+    if raw {
+        put(output, node.demo())?;
+        return Ok(0);
+    }
+    let text = text_of(alloc, &node)?;
+    put(output, text.as_bytes())?;
+    Ok(0)
+}

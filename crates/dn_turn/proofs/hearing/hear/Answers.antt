@@ -1,0 +1,13 @@
+use Rattle.std.proofs.Common.{ℕ, List, refl, subst}
+use Rattle.dn_packet.specs.Read.{IsReadAs}
+use Rattle.dn_turn.specs.Hearing.{Reading}
+use Rattle.dn_turn.proofs.hearing.hear.Goals as goal
+
+pub returns : goal.returns
+returns g c players extra capacity me m r =
+    let t = c.tells.ensures in
+    let s = c.receive.ensures.any t.read t.told t.is_read t.is_told players extra capacity me m r in
+    let P : List ℕ → Type 0 = λ bytes. IsReadAs bytes t.read in
+    let here : Reading c.args.datagram.now.bytes.items =
+    record { read = t.read; told = t.told; is_read = subst P c.as_slice-bytes.ensures.value t.is_read; is_told = t.is_told } in
+    record { after = _; node = s.node; leads = record { reading = here; after = refl } }

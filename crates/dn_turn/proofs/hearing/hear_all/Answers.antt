@@ -1,0 +1,68 @@
+use Rattle.std.proofs.Common.{◌≡◌, ◌<◌, ◌≤◌, ◌*◌, ℕ, Option, Result, Ok, ap, ◌∙◌, subst, arith}
+use Rattle.dn_line.specs.Counts.{count_after}
+use Rattle.dn_line.specs.declared.line.Datagram.{Datagram}
+use Rattle.dn_line.specs.declared.line.LineFault.{LineFault}
+use Rattle.dn_machine.specs.Worlds.{rules_of}
+use Rattle.dn_turn.specs.Hearing.{IsHeard, most_polls}
+use Rattle.dn_turn.proofs.Datagrams.{heard_more, heard_nothing, heard_fault, heard_all}
+use Rattle.dn_turn.proofs.hearing.hear_all.Goals as goal
+
+pub returns-in-Ok-None-clause-heard : goal.returns-in-Ok-None-clause-heard
+returns-in-Ok-None-clause-heard g c players extra capacity me m r =
+    let so_far = c.loop-heard.invariant.3 players extra capacity me m r in
+    let M : ℕ → Type 0 = λ p. g.L.Line.polls c.loop-heard.line p c.poll.result c.poll.new.self in
+    let A : Result (Option Datagram) LineFault → Type 0 = λ a. g.L.Line.polls c.loop-heard.line me a c.poll.new.self in
+    let said = subst A (c.in-Ok-None.is ∙ ap Ok c.in-Ok-None.field-0-is) (subst M (c.me-me.ensures ∙ r.lockstep.number) c.poll.ensures.polled) in
+    let few : c.loop-heard.heard < most_polls players = subst (λ (n : ℕ). c.loop-heard.heard < n) (c.loop-heard.invariant.1 ∙ ap most_polls r.lockstep.players) c.loop-heard-test.true in
+    record {
+      after = so_far.after;
+      node = so_far.node;
+      leads = heard_nothing g.L.Line.polls (rules_of g.W.World.physics players extra capacity) me c.loop-heard.heard (m, c.args.line.now) (so_far.after, c.loop-heard.line) c.poll.new.self so_far.leads few said;
+    }
+
+pub returns-in-Err-clause-heard : goal.returns-in-Err-clause-heard
+returns-in-Err-clause-heard g c players extra capacity me m r =
+    let so_far = c.loop-heard.invariant.3 players extra capacity me m r in
+    let M : ℕ → Type 0 = λ p. g.L.Line.polls c.loop-heard.line p c.poll.result c.poll.new.self in
+    let A : Result (Option Datagram) LineFault → Type 0 = λ a. g.L.Line.polls c.loop-heard.line me a c.poll.new.self in
+    let said = subst A c.in-Err.is (subst M (c.me-me.ensures ∙ r.lockstep.number) c.poll.ensures.polled) in
+    let few : c.loop-heard.heard < most_polls players = subst (λ (n : ℕ). c.loop-heard.heard < n) (c.loop-heard.invariant.1 ∙ ap most_polls r.lockstep.players) c.loop-heard-test.true in
+    record {
+      after = so_far.after;
+      node = so_far.node;
+      leads = heard_fault g.L.Line.polls (rules_of g.W.World.physics players extra capacity) me c.loop-heard.heard _ (m, c.args.line.now) (so_far.after, c.loop-heard.line) c.poll.new.self so_far.leads few said;
+    }
+
+pub loop-heard-preserved : goal.loop-heard-preserved
+loop-heard-preserved g c =
+    let before = c.loop-heard.invariant in (
+      before.0,
+      before.1,
+      c.poll.ensures.polls_counted
+          ∙ ap (λ (x : Result (Option Datagram) LineFault). count_after x (g.L.Line.failed c.loop-heard.line)) c.in-Ok-Some.is ∙ before.2,
+      λ players extra capacity me m r.
+          let so_far = before.3 players extra capacity me m r in
+          let M : ℕ → Type 0 = λ p. g.L.Line.polls c.loop-heard.line p c.poll.result c.poll.new.self in
+          let A : Result (Option Datagram) LineFault → Type 0 = λ a. g.L.Line.polls c.loop-heard.line me a c.poll.new.self in
+          let said = subst A (c.in-Ok-Some.is ∙ ap Ok c.in-Ok-Some.field-0-is) (subst M (c.me-me.ensures ∙ r.lockstep.number) c.poll.ensures.polled) in
+          let one = c.hear.ensures players extra capacity me so_far.after so_far.node in
+          record {
+            after = one.after;
+            node = one.node;
+            leads = heard_more g.L.Line.polls (rules_of g.W.World.physics players extra capacity) me c.loop-heard.heard _ (m, c.args.line.now) (so_far.after, c.loop-heard.line) one.after c.poll.new.self so_far.leads said one.leads;
+          },
+    )
+
+pub returns-clause-heard : goal.returns-clause-heard
+returns-clause-heard g c players extra capacity me m r =
+    let so_far = c.loop-heard.invariant.3 players extra capacity me m r in
+    let most = 10 * c.saturating_sub-most.result in
+    let is : most ≡ most_polls players = c.loop-heard.invariant.1 ∙ ap most_polls r.lockstep.players in
+    let all : most_polls players ≤ c.loop-heard.heard = omega (arith, is, c.loop-heard-test.false) in
+    let end : c.loop-heard.heard ≡ most = omega (arith, c.loop-heard-test.false, c.loop-heard.auto.heard-end) in
+    let Q : ℕ → Type 0 = λ k. IsHeard g.L.Line.polls (rules_of g.W.World.physics players extra capacity) me (m, c.args.line.now) (so_far.after, c.loop-heard.line) k 0 in
+    record {
+      after = so_far.after;
+      node = so_far.node;
+      leads = subst Q end (heard_all g.L.Line.polls (rules_of g.W.World.physics players extra capacity) me c.loop-heard.heard (m, c.args.line.now) (so_far.after, c.loop-heard.line) so_far.leads all);
+    }

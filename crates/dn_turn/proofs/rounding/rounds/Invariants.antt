@@ -1,0 +1,9 @@
+use Rattle.std.proofs.Common.{◌≡◌, length}
+use Rattle.dn_turn.specs.Rounds.{LeadAll, TakeRounds}
+use Rattle.dn_turn.proofs.rounding.rounds.Given as goal
+
+abbrev pub invariant-loop-round : goal.invariant-loop-round
+invariant-loop-round g l =
+    (length l.nodes ≡ length l.fn.nodes)
+    × LeadAll g.W.World.state g.W.World.physics l.fn.nodes l.nodes
+    (λ seats after. TakeRounds g.L.Line.sends g.L.Line.polls g.W.World.physics l.seed (length l.fn.nodes) l.round (seats, l.fn.line) (after, l.line))

@@ -1,0 +1,30 @@
+use Rattle.std.proofs.Common.{ap, sym, ◌∙◌, arith}
+use Rattle.dn_machine.specs.Worlds.{rules_of}
+use Rattle.dn_turn.specs.Running.{is_ran}
+use Rattle.dn_turn.proofs.Tics.{ran_more, ran_last, not_ran}
+use Rattle.dn_turn.proofs.running.run_all.Goals as goal
+
+pub loop-ran-preserved : goal.loop-ran-preserved
+loop-ran-preserved g c =
+    let before = c.loop-ran.invariant in
+    let one = c.run.ensures.further _ c.in-Ran.is in (
+      omega (arith, before.0, one),
+      λ players extra capacity me m r.
+          let so_far = before.1 players extra capacity me m r in
+          let step = c.run.ensures.step players extra capacity me so_far.after so_far.node in
+          record {
+            after = _;
+            node = step.node;
+            leads = ran_more (rules_of g.W.World.physics players extra capacity) m c.loop-ran.ran so_far.after so_far.leads (ap is_ran (sym step.answer ∙ c.in-Ran.is));
+          },
+    )
+
+pub returns : goal.returns
+returns g c players extra capacity me m r =
+    let so_far = c.loop-ran.invariant.1 players extra capacity me m r in
+    let step = c.run.ensures.step players extra capacity me so_far.after so_far.node in
+    record {
+      after = _;
+      node = step.node;
+      leads = ran_last (rules_of g.W.World.physics players extra capacity) m c.loop-ran.ran so_far.after so_far.leads (ap is_ran (sym step.answer) ∙ not_ran c.run.result c.in_default.not-Ran);
+    }

@@ -1,0 +1,30 @@
+//! Tests of turns and rounds.
+
+mod failing;
+mod rounds;
+
+use dn_node::{Config, Node};
+use dn_setup::Settings;
+use dn_world::Walk;
+use std::alloc::Global;
+use std::test::Fail;
+
+/// Two new nodes: skill 2, episode 1, map 1, and no repeats.
+fn pair(alloc: Global) -> Result<[Node<Walk>; 2], Fail> {
+    let key = Config {
+        players: 2,
+        me: 0,
+        extra: false,
+        limit: 131_072,
+        settings: Some(Settings::new(2, 0, false, false, 1, 1)?),
+    };
+    let other = Config {
+        me: 1,
+        settings: None,
+        ..key
+    };
+    Ok([
+        Node::new(alloc, key, Walk::new())?,
+        Node::new(alloc, other, Walk::new())?,
+    ])
+}

@@ -1,0 +1,108 @@
+//! Turns over a line in memory, and rounds over ports of this machine.
+
+use super::pair;
+use crate::{Turned, rounds, turn};
+use dn_line::{LineFault, MemoryHub, UdpLine};
+use dn_machine::Made;
+use dn_node::Node;
+use dn_tic::Keys;
+use dn_world::Walk;
+use std::alloc::Global;
+use std::net::Net;
+use std::process::Abort;
+use std::test::Fail;
+
+/// The counts of both nodes after seven rounds.
+fn assert_counts(rt: &impl Abort, nodes: &[Node<Walk>; 2]) {
+    let [zero, one] = nodes;
+    assert_eq!(rt;
+        (zero.made(), zero.ran(), zero.got(0), zero.got(1)),
+        (4, 4, Some(4), Some(5))
+    );
+    assert_eq!(rt;
+        (one.made(), one.ran(), one.got(0), one.got(1)),
+        (6, 4, Some(4), Some(6))
+    );
+    assert_eq!(rt; (zero.demo().len(), one.demo().len()), (53, 53));
+}
+
+/// Seven rounds without keys, and seven with keys of a seed, lead to the same counts.
+#[test]
+fn seven_rounds(rt: HostRuntime) -> Result<(), Fail> {
+    let alloc = rt.alloc();
+    let (mut idle, mut busy) = (pair(alloc)?, pair(alloc)?);
+    let (mut hub, mut other) = (MemoryHub::new(alloc, 2)?, MemoryHub::new(alloc, 2)?);
+    for _ in 0..7 {
+        turn(&mut idle[0], &mut hub, Keys::from_bits(0));
+        turn(&mut idle[1], &mut hub, Keys::from_bits(0));
+    }
+    assert_counts(&rt, &idle);
+    rounds(&mut busy, &mut other, 1, 7);
+    assert_counts(&rt, &busy);
+    assert_eq!(rt; hub.failed(), 0);
+    Ok(())
+}
+
+/// What the first turns tell: player 1 hears the key player's settings and sends its first command, and
+/// hearing that, the key player starts.
+#[test]
+fn turns_are_told(rt: HostRuntime) -> Result<(), Fail> {
+    let mut nodes = pair(rt.alloc())?;
+    let mut hub = MemoryHub::new(rt.alloc(), 2)?;
+    let rows = [
+        // place, build, packets sent, datagrams received, tics run
+        (0, Made::NotPlaying, 1, 0, 0),
+        (1, Made::NotPlaying, 0, 1, 0),
+        (0, Made::NotPlaying, 1, 0, 0),
+        (1, Made::Made(0), 1, 1, 0),
+        (0, Made::NotPlaying, 1, 1, 0),
+    ];
+    for (place, made, sent, heard, ran) in rows {
+        let turned = if place == 0 {
+            turn(&mut nodes[0], &mut hub, Keys::from_bits(0))
+        } else {
+            turn(&mut nodes[1], &mut hub, Keys::from_bits(0))
+        };
+        let told = Turned {
+            made,
+            sent,
+            failed: 0,
+            heard,
+            ran,
+        };
+        assert_eq!(rt; turned, told);
+    }
+    Ok(())
+}
+
+/// No node takes no turn, and no round leaves nodes as they are.
+#[test]
+fn no_turns_are_taken(rt: HostRuntime) -> Result<(), Fail> {
+    let mut nodes = pair(rt.alloc())?;
+    let mut hub = MemoryHub::new(rt.alloc(), 2)?;
+    rounds(&mut nodes[..0], &mut hub, 1, 7);
+    rounds(&mut nodes, &mut hub, 1, 0);
+    assert_eq!(rt; (nodes[0].made(), nodes[1].made(), hub.failed()), (0, 0, 0));
+    Ok(())
+}
+
+/// A line of two players at ports that are free.
+fn line<R: Net>(rt: &R, alloc: Global) -> Result<UdpLine, LineFault> {
+    for step in 0..200u16 {
+        if let Ok(line) = UdpLine::bind(rt, alloc, 35_000 + 8 * step, 0, 1, 2) {
+            return Ok(line);
+        }
+    }
+    Err(LineFault::Bind)
+}
+
+#[test]
+fn a_hundred_rounds_over_ports(rt: HostRuntime) -> Result<(), Fail> {
+    let mut nodes = pair(rt.alloc())?;
+    let mut line = line(&rt, rt.alloc())?;
+    rounds(&mut nodes, &mut line, 1, 100);
+    assert!(rt; nodes[0].ran() >= 50);
+    assert!(rt; nodes[1].ran() >= 50);
+    assert_eq!(rt; line.failed(), 0);
+    Ok(())
+}
