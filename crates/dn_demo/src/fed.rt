@@ -3,7 +3,7 @@
 use dn_setup::Start;
 use thiserror::Error;
 
-/// Why the bytes that were fed are no demo: the first of these that is so.
+/// Why the bytes fed are not a demo: the first fault that applies.
 #[derive(Clone, Copy, Debug, PartialEq, Eq, Error)]
 pub enum FeedFault {
     /// There are fewer than 13 bytes.

@@ -20,33 +20,33 @@ pub record NoneLost {W : Type 0} (g : Contents W) : Type 0 where
   pub moving : (i : ℕ) → i < length g.nodes → slice_index_or g.stopped i false ≡ false
   pub started : (i : ℕ) (n : node.Contents W) → HasNode g i n → is_ended n.phase ≡ true → HasStarted n
 
--- every node that had not ended before has run the first tics, so many
+-- every node that had not ended before has now run at least `tics` tics
 abbrev pub AllRan : {W : Type 0} → Contents W → Contents W → ℕ → Type 0
 AllRan {W} before g tics =
     (i : ℕ) (n k : node.Contents W) → HasNode before i n → is_ended n.phase ≡ false → HasNode g i k → tics ≤ k.ran
 
--- so many tics have room, where all who have not ended have run the first `tics`: in the demos; or, once these reach the
--- end that some node knows of a player, in what a node may run
+-- there is room for `most` tics: in the demos; or, if some node knows that a player's commands end at `tics` or before,
+-- below the limit of tics
 abbrev pub HasRoom : {W : Type 0} → (capacity : ℕ) → Contents W → (tics most : ℕ) → Type 0
 HasRoom {W} capacity g tics most =
     (most ≤ capacity)
     ⊎ ((i player end : ℕ) × (n : node.Contents W) × HasNode g i n × (player < length g.nodes)
     × (end_in n player ≡ Some end) × (end ≤ tics) × (most ≤ tic_limit))
 
--- what so many good rounds lead to: if no node was lost, then each thirteen rounds after the first ran a tic more at every
--- node that had not ended, as long as there was room for six
+-- after `rounds` good rounds: if no node was lost, every node that had not ended has run `more` tics beyond `tics`, where
+-- 13 * more < rounds, and there is room for five more than those
 abbrev pub GoesOn : {W : Type 0} → (capacity rounds : ℕ) → Contents W → Contents W → Type 0
 GoesOn capacity rounds before g =
     NoneLost before → (tics more : ℕ) → 13 * more < rounds → HasRoom capacity before tics (tics + more + 5)
     → AllRan before before tics → AllRan before g (tics + more)
 
--- the rounds led from this game of the machine to the one that is represented, and were not counted
+-- the rounds lead from the machine's game `m` to the one represented now, and the counts are unchanged
 pub record IsCalmed {W S : Type 0} (state : W → S) (rules : Rules S) (keys : ℕ → ℕ) (rounds : ℕ) (m : machine.Game) (before played : Played W) : Type 0 where
   pub game : Represents state rules (contents played.game) (good_rounds rules (λ round. keys) rounds m)
   pub done : played.done ≡ before.done
   pub refused : played.refused ≡ before.refused
 
--- the events were played, and then so many good rounds
+-- the events were played, then `rounds` good rounds
 pub record IsPlayedOn {W S : Type 0} (state : W → S) (rules : Rules S) (settings : Settings) (events : List Event) (keys : ℕ → ℕ) (rounds : ℕ) (played : Played W) : Type 0 where
   pub before : Played W
   pub events_played : IsPlayed state rules settings events before

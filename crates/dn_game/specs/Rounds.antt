@@ -19,11 +19,11 @@ pub record IsLed {W S : Type 0} (state : W → S) (rules : Rules S) (m : machine
   pub way : Leads rules m events last
   pub game : Represents state rules g last
 
--- a packet is not sent where it finds no room, or where more packets were sent than events can name
+-- why a round stops early: no memory for a packet, or 2^32 packets were sent and no event can name the next
 abbrev pub IsUnsent : {W : Type 0} → Contents W → Refusal → Type 0
 IsUnsent g refusal = (refusal ≡ Refusal.Memory) ⊎ ((refusal ≡ Refusal.NoPacket) × (2 ^ 32 ≤ length g.flights))
 
--- every packet arrived, and the game represents the one that this leads to; or it ended at one that is not sent
+-- every packet arrived, and the game represents the result; or the round stopped early, at a game that some events lead to
 abbrev pub IsCarriedOut : {W S A : Type 0} → (W → S) → Rules S → (m good : machine.Game) → Contents W → Result A Refusal → Type 0
 IsCarriedOut state rules m good g (Ok done) = Represents state rules g good
 IsCarriedOut state rules m good g (Err refusal) = IsUnsent g refusal × IsLed state rules m g

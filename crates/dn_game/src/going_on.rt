@@ -21,9 +21,9 @@ use dn_tic::Keys;
 use dn_world::World;
 use std::alloc::Global;
 
-/// Whatever events a game has met: if no node was lost, fourteen good rounds run a tic more at every
-/// node that has not ended, as long as there is room for six, and each thirteen rounds more run one
-/// more.
+/// Whatever events a game has met: if no node was lost, fourteen good rounds raise the fewest tics run by
+/// a node that has not ended, and every thirteen rounds more raise them again, as long as there is room for
+/// five tics beyond those.
 pub fn reached_games_go_on<W: World>()
     ensures fourteen { (players : ℕ) (extra : Bool) (capacity : ℕ) (settings : Settings) (events : List Event) (g later : Contents W)
         → (reached : IsReached W.state (rules_of W.physics players extra capacity) settings events g)
@@ -39,8 +39,9 @@ pub fn reached_games_go_on<W: World>()
         → GoesOn capacity rounds g later }
 {}
 
-/// Plays the events, and then so many rounds in which every packet arrives, with the same keys in each.
-/// The rounds are not counted. A round that cannot be carried out is want of memory.
+/// Plays the events, then `rounds` rounds in which every packet arrives, with the same keys in each. `done`
+/// and `refused` do not count the rounds. The answer is `Memory` where a packet of a round cannot be sent:
+/// memory was refused, or 2^32 packets were sent before.
 pub fn play_on<W: World>(
     alloc: Global,
     config: GameConfig,

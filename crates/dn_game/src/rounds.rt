@@ -12,14 +12,14 @@ use dn_machine::{Done, Event, Refusal};
 use dn_tic::Keys;
 use dn_world::World;
 
-/// Whether a send is left out for want of memory.
+/// Whether a send failed because memory was refused.
 fn is_left_out(answer: Result<Done, Refusal>) -> bool
     ensures { (result ≡ true) ↔ (answer ≡ Err Refusal.Memory) }
 {
     matches!(answer, Err(Refusal::Memory))
 }
 
-/// The keys of a node, and none where it has no place.
+/// The keys of a node; no keys for a number past the fourth.
 fn keys_at(keys: &[Keys; 4], node: u32) -> Keys
     ensures { result ≡ keys_of keys.now node }
 {
@@ -61,8 +61,7 @@ impl<W: World> Game<W> {
     /// A round in which every packet arrives: each node in turn builds a command with its keys, sends
     /// each other node a packet, which is delivered at once, and runs a tic.
     ///
-    /// It ends at the first packet that finds no room, or that no event could name; what was done by
-    /// then stays.
+    /// It stops where there is no memory for a packet, or where 2^32 packets were sent already.
     pub fn good_round(&mut self, keys: [Keys; 4]) -> Result<(), Refusal>
         ensures { Tells W.state W.physics (contents self.old) (λ rules m.
             IsCarriedOut W.state rules m (good_round rules (keys_of keys) m) (contents self.new) result) }
@@ -73,7 +72,7 @@ impl<W: World> Game<W> {
         Ok(())
     }
 
-    /// So many rounds in which every packet arrives, with the same keys in each.
+    /// Plays `count` rounds in which every packet arrives, with the same keys in each.
     pub fn good_rounds(&mut self, keys: [Keys; 4], count: u32) -> Result<(), Refusal>
         ensures { Tells W.state W.physics (contents self.old) (λ rules m.
             IsCarriedOut W.state rules m (good_rounds rules (λ round. keys_of keys) count m) (contents self.new) result) }

@@ -24,8 +24,8 @@ fn no_keys() -> [Keys; 4]
     [none, none, none, none]
 }
 
-/// The lines of a game of walks that has played so many events of the seed's schedule, and then so
-/// many rounds in which every packet arrives.
+/// The lines of a game of Walks after `count` events of the seed's schedule and `calm` rounds in which
+/// every packet arrives.
 fn text_of(
     alloc: Global,
     config: GameConfig,
@@ -49,9 +49,9 @@ fn text_of(
     }
 }
 
-/// Plays so many events of the seed's schedule in a game of so many new walks, and then so many rounds
-/// in which every packet arrives and nobody presses a key; and writes the lines of the game. The
-/// rounds are not among the events that the last line counts. The answer is the exit status, which is
+/// Plays `count` events of the seed's schedule in a game of `players` new Walks, then `calm` rounds in
+/// which every packet arrives and nobody presses a key, and writes the lines of the game. The events
+/// that the last line counts are those of the schedule alone. The answer is the exit status, which is
 /// always 0.
 ///
 /// A write that fails or takes no bytes is the fault `Write`, and `Memory` is answered where memory

@@ -155,7 +155,7 @@ pub fn run_demo<R: Read, W: Write>(
     // A read fault comes before the last byte is there.
     ensures read { result ≡ Err RunFault.Read
         → TakesFewer (demo_limit + 1) (R.remaining input.old) (R.remaining input.new) }
-    // Memory is wanted for the lines alone; want of it comes behind no more bytes.
+    // No more bytes than these are taken where memory is refused.
     ensures memory { result ≡ Err RunFault.Memory
         → TakesAtMost (demo_limit + 1) (R.remaining input.old) (R.remaining input.new) }
     // A write fault comes before the last byte of the lines is written.

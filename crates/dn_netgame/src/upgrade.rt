@@ -47,7 +47,8 @@ fn bytes_of(alloc: Global, bytes: Vec<u8>, limit: u32) -> Result<(Vec<u8>, u8), 
 /// 111, of at most `limit` bytes. The answer is the exit status: 0 for a demo, 1 for
 /// bytes that are none or that do not fit.
 ///
-/// The faults are those of `run_demo`.
+/// A read that fails is the fault `Read`, a write that fails or takes no bytes is `Write`, and `Memory`
+/// is answered where memory for the bytes or the upgraded demo was refused. Each ends the run at once.
 pub fn run_upgrade<R: Read, W: Write>(
     alloc: Global,
     limit: u32,
