@@ -58,7 +58,7 @@ impl Beside {
 
 /// Both give the same packet to the other player.
 fn gives(rt: &impl Abort, beside: &mut Beside, node: &mut Node<Walk>) -> Option<ArrayVec<u8, 104>> {
-    let to = 1 - node.me();
+    let to = u8::from(node.me() == 0);
     let one = beside.lockstep.packet(to);
     let two = node.packet(to);
     match (&one, &two) {
@@ -76,7 +76,7 @@ fn hears(
     packet: Option<ArrayVec<u8, 104>>,
 ) -> Result<(), Fail> {
     if let Some(bytes) = packet {
-        let from = 1 - node.me();
+        let from = u8::from(node.me() == 0);
         let heard = beside.receive(from, bytes.as_slice())?;
         assert_eq!(rt; heard, node.receive(from, bytes.as_slice()));
     }
