@@ -34,6 +34,30 @@ use Rattle.dn_lockstep.specs.Received.{received, on_read, on_other, on_player, o
 use Rattle.dn_lockstep.specs.Represents.{Represents}
 use Rattle.dn_lockstep.specs.Sent.{sent_to}
 
+-- all that a representation sees of the physics are its marks
+by_same_marks : {S T : Type 0} (one : Physics S) (other : Physics T) (players : ℕ) (extra : Bool) (capacity : ℕ) (m : machine.Node)
+    → ((p tic : ℕ) → own_mark (rules_of one players extra capacity) m p tic ≡ own_mark (rules_of other players extra capacity) m p tic)
+    → (me : ℕ) (n : Contents) → Represents (rules_of one players extra capacity) me n m → Represents (rules_of other players extra capacity) me n m
+by_same_marks one other players extra capacity m same me n r =
+    record {
+      players = r.players;
+      number = r.number;
+      extra = r.extra;
+      capacity = r.capacity;
+      gathers = r.gathers;
+      phase = r.phase;
+      played = r.played;
+      settings = r.settings;
+      hold = r.hold;
+      ran = r.ran;
+      rings = r.rings;
+      peers = r.peers;
+      noted = r.noted;
+      marks = λ p tic below low high present. r.marks p tic below low high present ∙ same p tic;
+      demo = r.demo;
+      closed = r.closed;
+    }
+
 module _ {S : Type 0} (physics : Physics S) where
   -- the state that a history leads to
   abbrev pub state_of : History → S
@@ -74,46 +98,10 @@ module _ {S : Type 0} (physics : Physics S) where
       own_mark_same p tic = ap (λ (z : ℤ). if nat_lt tic 12 then pos 0 else z) (mark_same p (tic - 12))
 
       pub to_marks : (me : ℕ) (n : Contents) → Represents by_worlds me n m → Represents by_marks me n m
-      to_marks me n r =
-          record {
-            players = r.players;
-            number = r.number;
-            extra = r.extra;
-            capacity = r.capacity;
-            gathers = r.gathers;
-            phase = r.phase;
-            played = r.played;
-            settings = r.settings;
-            hold = r.hold;
-            ran = r.ran;
-            rings = r.rings;
-            peers = r.peers;
-            noted = r.noted;
-            marks = λ p tic below low high present. r.marks p tic below low high present ∙ sym (own_mark_same p tic);
-            demo = r.demo;
-            closed = r.closed;
-          }
+      to_marks = by_same_marks physics (free marking_of) players extra capacity m (λ p tic. sym (own_mark_same p tic))
 
       pub to_worlds : (me : ℕ) (n : Contents) → Represents by_marks me n m → Represents by_worlds me n m
-      to_worlds me n r =
-          record {
-            players = r.players;
-            number = r.number;
-            extra = r.extra;
-            capacity = r.capacity;
-            gathers = r.gathers;
-            phase = r.phase;
-            played = r.played;
-            settings = r.settings;
-            hold = r.hold;
-            ran = r.ran;
-            rings = r.rings;
-            peers = r.peers;
-            noted = r.noted;
-            marks = λ p tic below low high present. r.marks p tic below low high present ∙ own_mark_same p tic;
-            demo = r.demo;
-            closed = r.closed;
-          }
+      to_worlds = by_same_marks (free marking_of) physics players extra capacity m own_mark_same
 
       build_in : (me keys : ℕ) (phase : Phase) → ◌≡◌ {A = machine.Node × Made} (on_build_in by_marks me m keys phase) (on_build_in by_worlds me m keys phase)
       build_in me keys Listening = refl
