@@ -5,11 +5,11 @@ use Rattle.dn_machine.specs.declared.events.Event.{Event}
 use Rattle.dn_machine.specs.declared.events.Event.TheVariants.{Build, Send, Deliver, Run}
 use Rattle.dn_machine.specs.declared.events.Refusal.{Refusal}
 use Rattle.dn_machine.specs.Game.{Game}
-use Rattle.dn_machine.specs.Progress.{after, in_order, exchange, turn, good_round, good_rounds}
+use Rattle.dn_machine.specs.Progress.{after, in_order, is_of_round, exchange, turn, good_round, good_rounds}
 use Rattle.dn_machine.specs.Runs.{is_send}
 use Rattle.dn_machine.specs.Worlds.{Rules}
 use Rattle.dn_machine.proofs.Leading as machine
-use Rattle.dn_machine.proofs.Leading.{leads_more, led_on, led_in_order}
+use Rattle.dn_machine.proofs.Leading.{all_more, leads_more, led_on, led_in_order}
 use Rattle.dn_game.specs.Applied.{IsApplied}
 use Rattle.dn_game.specs.Contents.{Contents}
 use Rattle.dn_game.specs.Represents.{Represents}
@@ -60,6 +60,7 @@ module _ {W S : Type 0} (state : W → S) (rules : Rules S) where
           events = before.0 ++ led.events;
           last = led.last;
           way = leads_more rules before.0 led.events first mid led.last before.1 led.way;
+          each = all_more is_of_round before.0 led.events before.2 led.each;
           game = led.game;
         },
       )

@@ -18,4 +18,4 @@ returns-clause-keeps_on g c players extra capacity settings events game run none
 
 pub returns-clause-by_events : goal.returns-clause-by_events
 returns-clause-by_events g c players extra capacity game keys rounds =
-    led_rounds (rules_of g.W.World.physics players extra capacity) keys rounds game
+    let led = led_rounds (rules_of g.W.World.physics players extra capacity) keys rounds game in (led.0, led.1)

@@ -1,4 +1,4 @@
-use Rattle.std.proofs.Common.{rules, ◌≡◌, Err, true≢false, sym, arith}
+use Rattle.std.proofs.Common.{rules, ◌≡◌, Err, refl, true≢false, sym, arith}
 use Rattle.dn_machine.specs.declared.events.Event.TheVariants.{Build}
 use Rattle.dn_machine.specs.Progress.{exchange}
 use Rattle.dn_machine.specs.Worlds.{rules_of}
@@ -25,7 +25,7 @@ returns-in_err-exchange g c players extra capacity m r =
     let rules = rules_of g.W.World.physics players extra capacity in
     ends _ rules (exchange rules c.args.node) (led_exchange rules c.args.node) _ (contents c.exchange.new.self) c.loop-to.to c.exchange.result
     (c.exchange.ensures players extra capacity _ (c.loop-to.invariant players extra capacity m r)) m _ _ _ c.in_err-exchange.was same
-    (led_event rules (Build c.args.node c.args.keys) m)
+    (led_event rules (Build c.args.node c.args.keys) m refl)
 
 pub returns : goal.returns
 returns g c players extra capacity m r =
