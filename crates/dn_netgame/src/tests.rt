@@ -5,6 +5,7 @@ mod demo_faults;
 mod demos;
 mod games;
 mod leaving;
+mod nets;
 mod script_faults;
 mod scripts;
 mod storms;
