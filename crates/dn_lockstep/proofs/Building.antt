@@ -79,6 +79,7 @@ shows_built rules me n m keys hold rings r holds own others =
       marks = r.marks;
       demo = r.demo;
       closed = r.closed;
+      writable = r.writable;
     }
 
 -- the own ring with the command that was built

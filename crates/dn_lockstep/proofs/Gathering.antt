@@ -73,6 +73,7 @@ module _ {S : Type 0} (rules : Rules S) (me : ℕ) (n : Contents) (m : machine.N
         marks = r.marks;
         demo = r.demo;
         closed = r.closed;
+        writable = r.writable;
       }
 
   all_heard : (complete : Bool) → complete ≡ all_noted gather.players (is_noted gather) → all_noted rules.players (put m.noted from true) ≡ complete

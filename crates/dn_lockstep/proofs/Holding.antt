@@ -34,4 +34,5 @@ shows_ring rules me n m player commands rings r new others =
       marks = r.marks;
       demo = r.demo;
       closed = r.closed;
+      writable = r.writable;
     }

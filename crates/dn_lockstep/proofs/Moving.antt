@@ -1,6 +1,6 @@
 -- What a node represents after a tic.
-use Rattle.std.proofs.Common.{◌≡◌, ◌≢◌, ◌<◌, ◌≤◌, ◌+◌, ◌-◌, ◌%◌, ℕ, ℤ, Bool, true, false, not, cond, ◌||◌, List, [], ◌∷◌, ◌++◌, length, refl, ap, sym, ◌∙◌, arith, inl, inr, Option, Some, None, fold}
-use Rattle.std.specs.Prelude.{nat_lt, ◌⊎◌}
+use Rattle.std.proofs.Common.{◌≡◌, ◌≢◌, ◌<◌, ◌≤◌, ◌+◌, ◌-◌, ◌%◌, ℕ, ℤ, Bool, true, false, not, cond, ◌||◌, List, [], ◌∷◌, ◌++◌, length, refl, ap, sym, ◌∙◌, subst, arith, inl, inr, Option, Some, None, fold}
+use Rattle.std.specs.Prelude.{nat_lt, ◌⊎◌, All, IfSome}
 use Rattle.std.proofs.lemmas.Bool.{cases_lt, cases_eq, cases_Bool, le-ltb, lt-ltb, ltb-false, cond-false}
 use Rattle.std.proofs.lemmas.List.{length_push, take-append-le, take_all}
 use Rattle.dn_tic.specs.declared.command.Move.{Move}
@@ -8,6 +8,7 @@ use Rattle.dn_setup.specs.Settings.{Settings}
 use Rattle.dn_setup.specs.Starts.{start_of}
 use Rattle.dn_demo.specs.Recorded.{Recorded, AddsRow, Closes, is_closed}
 use Rattle.dn_demo.specs.Layout.{long_tics}
+use Rattle.dn_demo.specs.Rows.{IsMove, IsRow, AreWritable}
 use Rattle.dn_demo.specs.Text.{demo_text}
 use Rattle.dn_demo.specs.declared.recorder.Stage.{Stage}
 use Rattle.dn_demo.specs.declared.recorder.Stage.TheVariants.{Blank, Open, Closed}
@@ -15,6 +16,7 @@ use Rattle.dn_machine.specs.declared.answers.Phase.{Phase}
 use Rattle.dn_machine.specs.Running.{is_over}
 use Rattle.dn_machine.proofs.Demos.{front_stops, front_goes_on, front_short}
 use Rattle.std.specs.List.{prefix_len}
+use Rattle.std.proofs.lemmas.List.Elements.{All-push}
 use Rattle.std.proofs.lemmas.List.Folds.{length-prefix_len}
 use Rattle.dn_machine.specs.declared.answers.Phase.TheVariants.{Playing}
 use Rattle.dn_machine.specs.Worlds.{Rules, mark_in, opening}
@@ -68,6 +70,8 @@ pub record IsWritten {S : Type 0} (rules : Rules S) (old new : Recorded) (row : 
   pub added : is_whole rules.players row ≡ true → AddsRow old.bytes new.bytes row
   pub closes : is_whole rules.players row ≡ false → old.stage ≡ Open → Closes old.bytes new.bytes
   pub stays : is_whole rules.players row ≡ false → old.stage ≡ Closed → new.bytes ≡ old.bytes
+  pub fits : is_whole rules.players row ≡ true → IsRow (seats_of rules.players) row
+  pub ranged : All (λ step. IfSome step IsMove) row
 
 module _ {S : Type 0} (rules : Rules S) (me : ℕ) (m : machine.Node) (settings : Settings) (row : List (Option Move)) (playing : m.phase ≡ Playing) (old new : Recorded) (written : IsWritten rules old new row) where
   -- while a node plays its demo is closed where not all rows are whole
@@ -104,6 +108,22 @@ module _ {S : Type 0} (rules : Rules S) (me : ℕ) (m : machine.Node) (settings 
 
   pub closed_moved : is_closed old.stage ≡ is_demo_closed rules m → is_closed new.stage ≡ is_demo_closed rules (moved m row)
   closed_moved told = ap is_closed written.stage ∙ stage_now (is_whole rules.players row) ∙ sym (closed_now told)
+
+  pub writable_moved : is_closed old.stage ≡ is_demo_closed rules m → AreWritable (seats_of rules.players) (demo_rows rules m)
+      → AreWritable (seats_of rules.players) (demo_rows rules (moved m row))
+  writable_moved told before =
+      let Fits : List (List (Option Move)) → Type 0 = AreWritable (seats_of rules.players) in
+      elim (cases_Bool (is_whole rules.players row)) [
+        | inl each ↦
+            let kept = subst Fits (all_rows told (written.open_while each)) before in
+            subst Fits (sym (more_rows each told)) (record {
+              four = kept.four;
+              somebody = kept.somebody;
+              recordable = All-push (IsRow (seats_of rules.players)) m.rows row kept.recordable (written.fits each);
+              moves = All-push (All (λ step. IfSome step IsMove)) m.rows row kept.moves written.ranged;
+            })
+        | inr lacks ↦ subst Fits (sym (same_rows lacks)) before
+      ]
 
   stages : (s : Stage) → s ≢ Blank → (s ≡ Open) ⊎ (s ≡ Closed)
   stages Blank n = absurd (n refl)
@@ -177,4 +197,5 @@ shows_moved {S} rules me n m row marks demo r on has_played has_settings new oth
       demo = demo_moved rules me m settings row playing n.demo demo written (r.demo ∙ demo_is rules m settings known me played) (r.closed played)
           ∙ sym (demo_is rules (moved m row) settings known me played);
       closed = λ e. closed_moved rules me m settings row playing n.demo demo written (r.closed played);
+      writable = writable_moved rules me m settings row playing n.demo demo written (r.closed played) r.writable;
     }

@@ -73,4 +73,5 @@ shows_peer rules me n m player peer peers r later new others =
       ]);
       demo = r.demo;
       closed = r.closed;
+      writable = r.writable;
     }

@@ -50,4 +50,5 @@ shows_unplayed rules me n m cause r unplayed =
           ∙ ap (λ (b : Bool). if b then demo_with rules me m m.settings else []) not
           ∙ sym (ap (λ (b : Bool). if b then demo_with rules me (record m { phase = Ended cause }) m.settings else []) not);
       closed = λ e. absurd (true≢false (sym e ∙ not));
+      writable = r.writable;
     }

@@ -1,6 +1,6 @@
 -- How a node hears a datagram, by what it tests first.
 use Rattle.std.proofs.Common.{◌≡◌, ◌≢◌, ◌<◌, ◌≤◌, ◌⊎◌, ℕ, Bool, true, false, List, refl, sym, ◌∙◌, ap, subst, arith, inl, inr}
-use Rattle.std.specs.Prelude.{Result}
+use Rattle.std.specs.Prelude.{Result, Err}
 use Rattle.std.proofs.lemmas.Bool.{eq-eqb, ne_eqb, lt-ltb, le-ltb, cases_lt}
 use Rattle.dn_packet.specs.declared.packet.Packet.{Packet}
 use Rattle.dn_packet.specs.declared.packet.PacketFault.{PacketFault}
@@ -12,7 +12,7 @@ use Rattle.dn_machine.specs.declared.answers.Phase.{Phase}
 use Rattle.dn_machine.specs.Worlds.{Rules, rules_of}
 use Rattle.dn_machine.specs.Node as machine
 use Rattle.dn_lockstep.specs.Contents.{Contents}
-use Rattle.dn_lockstep.specs.Marking.{free}
+use Rattle.dn_lockstep.specs.Marking.{History, free}
 use Rattle.dn_lockstep.specs.Phases.{hears_none}
 use Rattle.dn_lockstep.specs.Received.{received, on_read, IsTold}
 use Rattle.dn_lockstep.specs.Represents.{Represents}
@@ -75,3 +75,14 @@ module _ (old : Contents) (from : ℕ) (bytes : List ℕ) where
         let step = received_read rules me m from told read (goes_on rules me m r) (omega (arith, below, r.players)) (λ e. other (e ∙ sym r.number))
         ∙ ap (on_read rules me m from told) (sym (only read is)) in
         after _ _ step heard.node heard.answer
+
+    -- bytes that are no packet are dropped by the number of their fault
+    pub any_fault : (fault : PacketFault) (number : ℕ) → from < old.players → from ≢ old.me
+        → ((read : Result Packet PacketFault) → IsReadAs bytes read → ◌≡◌ {A = Result Packet PacketFault} (Err fault) read)
+        → ((rules : Rules History) (me : ℕ) (m : machine.Node) (told : Result Settings SetupFault)
+        → ◌≡◌ {A = machine.Node × Heard} (on_read rules me m from told (Err fault)) (m, Heard.Dropped number))
+        → (read : Result Packet PacketFault) (told : Result Settings SetupFault) → IsReadAs bytes read → IsTold read told
+        → Steps old old (λ rules me m. received rules me m from told read) (λ heard. Heard.Dropped number ≡ heard)
+    any_fault fault number below other only drops =
+        any_read old (Heard.Dropped number) (Err fault) below other only
+        (λ told is marking players extra capacity me m r. after m (Heard.Dropped number) (drops (rules_of (free marking) players extra capacity) me m told) r refl)

@@ -9,7 +9,6 @@ use Rattle.dn_setup.specs.Settings.{Settings}
 use Rattle.dn_setup.specs.Starts.{start_of}
 use Rattle.dn_demo.specs.Layout.{long_tics}
 use Rattle.dn_demo.specs.Reading.{IsReadAs, written_demo}
-use Rattle.dn_demo.specs.Rows.{AreWritable}
 use Rattle.dn_demo.specs.Text.{demo_text}
 use Rattle.dn_demo.proofs.ReadBack.{long_read_back}
 use Rattle.dn_machine.specs.declared.answers.Cause.{Cause}
@@ -45,8 +44,8 @@ module _ {S : Type 0} (rules : Rules S) (me : ℕ) (n : Contents) (m : machine.N
       ∙ ap (λ (p : Phase). demo_text long_tics (start_of settings) me (seats_of rules.players) (demo_rows rules m) (is_ended p || nat_lt (length (demo_rows rules m)) (machine.ran m))) ended
 
   -- and is read back
-  pub read_back : (cause : Cause) → m.phase ≡ Ended cause → AreWritable (seats_of rules.players) (demo_rows rules m)
+  pub read_back : (cause : Cause) → m.phase ≡ Ended cause
       → IsReadAs n.demo.bytes (Ok (written_demo long_tics (start_of settings) me (seats_of rules.players) (demo_rows rules m)))
-  read_back cause ended writable =
+  read_back cause ended =
       let P : List ℕ → Type 0 = λ bytes. IsReadAs bytes (Ok (written_demo long_tics (start_of settings) me (seats_of rules.players) (demo_rows rules m))) in
-      subst P (sym (demo_ended cause ended)) (long_read_back (start_of settings) me (seats_of rules.players) (demo_rows rules m) writable)
+      subst P (sym (demo_ended cause ended)) (long_read_back (start_of settings) me (seats_of rules.players) (demo_rows rules m) r.writable)

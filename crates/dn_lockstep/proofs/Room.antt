@@ -8,7 +8,7 @@ use Rattle.dn_demo.specs.Places.{place}
 use Rattle.dn_lockstep.specs.Rows.{seats_of}
 
 -- so many seats are taken
-seats_count : (players : ℕ) → players ≤ 4 → player_count (seats_of players) ≡ players
+pub seats_count : (players : ℕ) → players ≤ 4 → player_count (seats_of players) ≡ players
 seats_count zero h = refl
 seats_count (suc zero) h = refl
 seats_count (suc (suc zero)) h = refl

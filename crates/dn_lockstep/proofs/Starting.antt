@@ -59,4 +59,5 @@ shows_start {S} rules me n m settings demo r unrun is_open written =
       marks = λ p tic below low high present. r.marks p tic below low high present ∙ early_mark rules m (started m settings) p tic (omega (arith, zero, high));
       demo = written ∙ ap (λ (rs : List (List (Option Move))). demo_text long_tics (start_of settings) me (seats_of rules.players) (take_while (is_whole rules.players) rs) (nat_lt (length (take_while (is_whole rules.players) rs)) (length rs))) (sym none);
       closed = λ e. ap is_closed is_open ∙ ap (λ (rs : List (List (Option Move))). nat_lt (length (take_while (is_whole rules.players) rs)) (length rs)) (sym none);
+      writable = r.writable;
     }

@@ -8,6 +8,7 @@ use Rattle.dn_setup.specs.Gathered.{is_noted, is_peer}
 use Rattle.dn_demo.specs.Layout.{long_tics}
 use Rattle.dn_demo.specs.Text.{demo_text}
 use Rattle.dn_demo.specs.Recorded.{is_closed}
+use Rattle.dn_demo.specs.Rows.{AreWritable}
 use Rattle.dn_machine.specs.Worlds.{Rules}
 use Rattle.dn_machine.specs.Node as machine
 use Rattle.dn_machine.specs.Node.{own_mark, is_ended, demo_rows}
@@ -56,3 +57,5 @@ pub record Represents {S : Type 0} (rules : Rules S) (me : ℕ) (n : Contents) (
   -- its demo is that of its rows, and the marker is written where they say so
   pub demo : n.demo.bytes ≡ demo_of rules me m
   pub closed : m.played ≡ true → is_closed n.demo.stage ≡ is_demo_closed rules m
+  -- and no move of those rows would read as the marker
+  pub writable : AreWritable (seats_of rules.players) (demo_rows rules m)

@@ -5,7 +5,6 @@ ghost use Rattle.dn_setup.specs.Settings.{Settings};
 ghost use Rattle.dn_setup.specs.Starts.{start_of};
 ghost use Rattle.dn_demo.specs.Layout.{long_tics};
 ghost use Rattle.dn_demo.specs.Reading.{IsReadAs, written_demo};
-ghost use Rattle.dn_demo.specs.Rows.{AreWritable};
 ghost use Rattle.dn_machine.specs.declared.answers.Cause.{Cause};
 ghost use Rattle.dn_machine.specs.declared.answers.Phase.TheVariants.{Ended};
 ghost use Rattle.dn_machine.specs.declared.events.Event.{Event};
@@ -33,7 +32,6 @@ pub fn ended_demos_are_read()
     ensures { (marking : Marking) (players : ℕ) (extra : Bool) (capacity me : ℕ) (n : Contents) (m : machine.Node) (settings : Settings) (cause : Cause)
         → Represents (rules_of (free marking) players extra capacity) me n m
         → m.played ≡ true → m.phase ≡ Ended cause → m.settings ≡ Some settings
-        → AreWritable (seats_of players) (demo_rows (rules_of (free marking) players extra capacity) m)
         → IsReadAs n.demo.bytes (Ok (written_demo long_tics (start_of settings) me (seats_of players)
         (demo_rows (rules_of (free marking) players extra capacity) m))) }
 {}

@@ -1,8 +1,8 @@
 //! The commands of one tic, of all players.
 
-ghost use Rattle.std.specs.Prelude.{◌≡◌, ◌<◌, ◌≤◌, ◌+◌, ◌%◌, ℕ, nat_le, nat_lt, not, None, true, false, is_some, IfSome, if◌then◌else◌};
+ghost use Rattle.std.specs.Prelude.{◌≡◌, ◌<◌, ◌≤◌, ◌+◌, ◌%◌, ℕ, nat_le, nat_lt, not, All, None, true, false, is_some, IfSome, if◌then◌else◌};
 ghost use Rattle.std.specs.Ordering.{int_eq};
-ghost use Rattle.dn_demo.specs.Rows.{IsRow, IsRecordable};
+ghost use Rattle.dn_demo.specs.Rows.{IsMove, IsRow, IsRecordable};
 ghost use Rattle.dn_machine.specs.Node.{lowest, is_whole};
 ghost use Rattle.dn_machine.specs.Running.{tic_limit};
 ghost use Rattle.dn_machine.specs.Worlds.{four};
@@ -106,6 +106,7 @@ fn move_of(rings: &Rings, peers: &Peers, players: u8, player: u8, tic: u32) -> O
     ensures there { player < players → is_gone (peer_at peers.now) tic player ≡ false
         → tic < (ring_at rings.now player).count → (ring_at rings.now player).count ≤ tic + 12 → is_some result ≡ true }
     ensures recordable { IfSome result IsRecordable }
+    ensures ranged { IfSome result IsMove }
 {
     if player < players && !gone(peers, player, tic) {
         Some(round(&rings.get(player, tic)?))
@@ -122,6 +123,7 @@ pub(crate) fn row_at(rings: &Rings, peers: &Peers, players: u8, tic: u32) -> [Op
     ensures row { result ≡ four (move_at (ring_at rings.now) (peer_at peers.now) players tic) }
     ensures whole { is_whole players result ≡ not (has_gone (peer_at peers.now) players tic) }
     ensures recordable { is_whole players result ≡ true → IsRow (seats_of players) result }
+    ensures ranged { All (λ step. IfSome step IsMove) result }
 {
     [
         move_of(rings, peers, players, 0, tic),

@@ -56,6 +56,7 @@ by_same_marks one other players extra capacity m same me n r =
       marks = λ p tic below low high present. r.marks p tic below low high present ∙ same p tic;
       demo = r.demo;
       closed = r.closed;
+      writable = r.writable;
     }
 
 module _ {S : Type 0} (physics : Physics S) where

@@ -4,7 +4,6 @@ ghost use Rattle.std.specs.Prelude.{◌≡◌, ℕ, Bool, true, length, Some, Ok
 ghost use Rattle.dn_setup.specs.Settings.{Settings};
 ghost use Rattle.dn_setup.specs.Starts.{start_of};
 ghost use Rattle.dn_demo.specs.Layout.{long_tics};
-ghost use Rattle.dn_demo.specs.Rows.{AreWritable};
 ghost use Rattle.dn_demo.specs.Reading.{IsReadAs, written_demo, state_after};
 ghost use Rattle.dn_machine.specs.declared.answers.Cause.{Cause};
 ghost use Rattle.dn_machine.specs.declared.answers.Phase.TheVariants.{Ended};
@@ -24,7 +23,6 @@ pub fn ended_demos_replay<W: World>()
     ensures read { (players : ℕ) (extra : Bool) (capacity me : ℕ) (n : Contents W) (m : machine.Node) (settings : Settings) (cause : Cause)
         → Represents W.state (rules_of W.physics players extra capacity) me n m
         → m.played ≡ true → m.phase ≡ Ended cause → m.settings ≡ Some settings
-        → AreWritable (seats_of players) (demo_rows (rules_of W.physics players extra capacity) m)
         → IsReadAs n.demo.bytes (Ok (written_demo long_tics (start_of settings) me (seats_of players)
         (demo_rows (rules_of W.physics players extra capacity) m))) }
     ensures world { (players : ℕ) (extra : Bool) (capacity me : ℕ) (n : Contents W) (m : machine.Node) (settings : Settings)

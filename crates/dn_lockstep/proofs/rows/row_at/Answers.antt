@@ -1,10 +1,12 @@
 use Rattle.std.proofs.Common.{[], ◌∷◌, ltb}
+use Rattle.std.specs.Prelude.{IfSome}
 use Rattle.std.proofs.lemmas.Bool.{lt-ltb}
+use Rattle.dn_demo.specs.Rows.{IsMove}
 use Rattle.dn_lockstep.specs.Peers.{peer_at}
 use Rattle.dn_lockstep.specs.Rings.{ring_at}
 use Rattle.dn_lockstep.specs.Rows.{is_gone}
 use Rattle.dn_lockstep.proofs.Seats.{whole_seat, whole_each, whole_gone, seat_gone, here_all}
-use Rattle.dn_lockstep.proofs.Telling.{four_seats}
+use Rattle.dn_lockstep.proofs.Telling.{four_all, four_seats}
 use Rattle.dn_lockstep.proofs.rows.row_at.Goals as goal
 
 pub returns-clause-recordable : goal.returns-clause-recordable
@@ -20,6 +22,11 @@ returns-clause-recordable c whole =
     (whole_seat (ltb 2 c.args.players) d _ c.move_of-3.ensures.value (each 2))
     (whole_seat (ltb 3 c.args.players) e _ c.move_of-4.ensures.value (each 3))
     c.move_of.ensures.recordable c.move_of-2.ensures.recordable c.move_of-3.ensures.recordable c.move_of-4.ensures.recordable
+
+pub returns-clause-ranged : goal.returns-clause-ranged
+returns-clause-ranged c =
+    four_all (λ step. IfSome step IsMove) c.move_of.result c.move_of-2.result c.move_of-3.result c.move_of-4.result
+    c.move_of.ensures.ranged c.move_of-2.ensures.ranged c.move_of-3.ensures.ranged c.move_of-4.ensures.ranged
 
 pub returns-clause-whole : goal.returns-clause-whole
 returns-clause-whole c =

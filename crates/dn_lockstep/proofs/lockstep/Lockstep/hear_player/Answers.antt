@@ -1,10 +1,15 @@
-use Rattle.std.proofs.Common.{sym, ap, ◌∙◌}
+use Rattle.std.proofs.Common.{refl, sym, ap, ◌∙◌}
 use Rattle.dn_machine.specs.Worlds.{rules_of}
 use Rattle.dn_lockstep.specs.Marking.{free}
 use Rattle.dn_lockstep.specs.Received.{on_player}
 use Rattle.dn_lockstep.proofs.After.{after}
-use Rattle.dn_lockstep.proofs.Flags.{player_gathers}
+use Rattle.dn_lockstep.proofs.Flags.{player_unheard, player_gathers}
 use Rattle.dn_lockstep.proofs.lockstep.Lockstep.hear_player.Goals as goal
+
+pub returns-in-Listening-clause-step : goal.returns-in-Listening-clause-step
+returns-in-Listening-clause-step c marking players extra capacity me m r =
+    let rules = rules_of (free marking) players extra capacity in
+    after _ _ (ap (on_player rules me m c.args.from c.args.packet.now) (sym r.phase ∙ c.in-Listening.is) ∙ player_unheard rules me m c.args.from c.args.packet.now) r refl
 
 pub returns-in-Gathering-clause-step : goal.returns-in-Gathering-clause-step
 returns-in-Gathering-clause-step c marking players extra capacity me m r =

@@ -1,9 +1,9 @@
-use Rattle.std.proofs.Common.{rules, refl, ap, ◌∙◌}
+use Rattle.std.proofs.Common.{rules, refl, ap, ◌∙◌, arith}
 use Rattle.dn_demo.specs.Recorded.{Recorded, capacity}
 use Rattle.dn_machine.specs.Worlds.{rules_of}
 use Rattle.dn_machine.specs.Game.{fresh}
 use Rattle.dn_lockstep.specs.Marking.{free}
-use Rattle.dn_lockstep.proofs.Opening.{settings_fresh, first_marks}
+use Rattle.dn_lockstep.proofs.Opening.{settings_fresh, first_marks, nothing_written}
 use Rattle.dn_lockstep.proofs.lockstep.Lockstep.new.Goals as goal
 
 pub returns-clause-opened : goal.returns-clause-opened
@@ -27,4 +27,5 @@ returns-clause-opened c marking settings key =
       marks = λ p tic below low high present. c.new-7.ensures p _ ∙ first_marks rule (fresh settings config.me) p tic high;
       demo = ap (λ (d : Recorded). d.bytes) c.in-Ok.ensures.1;
       closed = λ e. absurd (cc);
+      writable = nothing_written config.players (omega arith) (omega arith);
     }

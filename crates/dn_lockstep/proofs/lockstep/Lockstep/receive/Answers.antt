@@ -1,10 +1,9 @@
 use Rattle.std.proofs.Common.{refl, inl, inr, sym, ◌∙◌}
-use Rattle.std.specs.Prelude.{Err}
-use Rattle.dn_packet.specs.declared.packet.PacketFault.TheVariants.{Length}
 use Rattle.dn_machine.specs.declared.answers.Heard.{Heard}
+use Rattle.dn_packet.specs.declared.packet.PacketFault.TheVariants.{Short, Many, Length, Sum}
 use Rattle.dn_lockstep.specs.Contents.{contents}
 use Rattle.dn_lockstep.proofs.Nearby.{near_from_any}
-use Rattle.dn_lockstep.proofs.Receiving.{any_ended, any_strange, any_read}
+use Rattle.dn_lockstep.proofs.Receiving.{any_ended, any_strange, any_read, any_fault}
 use Rattle.dn_lockstep.proofs.lockstep.Lockstep.receive.Goals as goal
 use Rattle.dn_lockstep.proofs.lockstep.Lockstep.receive.Goals.{then-from-self-via-then-from-self, then-from-self-via-else-from-self+then-from-self-2}
 
@@ -35,14 +34,34 @@ returns-in-Ok c =
       dropped = c.hear.ensures.dropped;
     }
 
-pub returns-in-Err-Length : goal.returns-in-Err-Length
-returns-in-Err-Length c =
+pub returns-in-Err-Short-clause-any : goal.returns-in-Err-Short-clause-any
+returns-in-Err-Short-clause-any c =
+    let found = rw c.in-Err-Short.field-0-is at c.in-Err-Short.ensures in
+    any_fault (contents c.args.self.now) c.args.from c.args.bytes.now (sym c.hears_none.ensures ∙ c.if-hears_none.false)
+    Short 1 c.if-from-self.false c.if-from-self-2.false found.only (λ rules me m told. refl)
+
+pub returns-in-Err-Many-clause-any : goal.returns-in-Err-Many-clause-any
+returns-in-Err-Many-clause-any c =
+    let found = rw c.in-Err-Many.field-0-is at c.in-Err-Many.ensures in
+    any_fault (contents c.args.self.now) c.args.from c.args.bytes.now (sym c.hears_none.ensures ∙ c.if-hears_none.false)
+    Many 2 c.if-from-self.false c.if-from-self-2.false found.only (λ rules me m told. refl)
+
+pub returns-in-Err-Length-clause-any : goal.returns-in-Err-Length-clause-any
+returns-in-Err-Length-clause-any c =
     let found = rw c.in-Err-Length.field-0-is at c.in-Err-Length.ensures in
-    let any = any_read (contents c.args.self.now) c.args.from c.args.bytes.now (sym c.hears_none.ensures ∙ c.if-hears_none.false)
-    (contents c.args.self.now) (Heard.Dropped 3) (Err Length) c.if-from-self.false c.if-from-self-2.false found.only
-    (λ told is marking players extra capacity me m r. record { node = r; answer = refl }) in
-    record {
-      any = any;
-      near = near_from_any (contents c.args.self.now) (contents c.args.self.now) c.args.from c.args.bytes.now (Heard.Dropped 3) any c.args.self.now.me_below;
-      dropped = λ number e. refl;
-    }
+    any_fault (contents c.args.self.now) c.args.from c.args.bytes.now (sym c.hears_none.ensures ∙ c.if-hears_none.false)
+    Length 3 c.if-from-self.false c.if-from-self-2.false found.only (λ rules me m told. refl)
+
+pub returns-in-Err-Sum-clause-any : goal.returns-in-Err-Sum-clause-any
+returns-in-Err-Sum-clause-any c =
+    let found = rw c.in-Err-Sum.field-0-is at c.in-Err-Sum.ensures in
+    any_fault (contents c.args.self.now) c.args.from c.args.bytes.now (sym c.hears_none.ensures ∙ c.if-hears_none.false)
+    Sum 4 c.if-from-self.false c.if-from-self-2.false found.only (λ rules me m told. refl)
+
+pub returns-in-Err-Length-clause-near : goal.returns-in-Err-Length-clause-near
+returns-in-Err-Length-clause-near c =
+    let n = contents c.args.self.now in
+    let found = rw c.in-Err-Length.field-0-is at c.in-Err-Length.ensures in
+    near_from_any n n c.args.from c.args.bytes.now (Heard.Dropped 3)
+    (any_fault n c.args.from c.args.bytes.now (sym c.hears_none.ensures ∙ c.if-hears_none.false)
+    Length 3 c.if-from-self.false c.if-from-self-2.false found.only (λ rules me m told. refl)) c.args.self.now.me_below

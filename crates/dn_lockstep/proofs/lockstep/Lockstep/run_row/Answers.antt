@@ -1,9 +1,10 @@
-use Rattle.std.proofs.Common.{◌≡◌, ◌≢◌, ◌<◌, ◌+◌, Bool, true, false, true≢false, not, List, length, Option, Some, refl, ap, sym, ◌∙◌, subst, arith, inl, inr}
-use Rattle.std.specs.Prelude.{if◌then◌else◌}
+use Rattle.std.proofs.Common.{◌≡◌, ◌≢◌, ◌<◌, ◌+◌, ℕ, Bool, true, false, true≢false, not, List, length, Option, Some, refl, ap, sym, ◌∙◌, subst, arith, inl, inr}
+use Rattle.std.specs.Prelude.{if◌then◌else◌, All, IfSome}
 use Rattle.std.proofs.lemmas.Bool.{cases_Bool}
 use Rattle.dn_tic.specs.declared.command.Move.{Move}
 use Rattle.dn_demo.specs.Places.{seats_in}
 use Rattle.dn_demo.specs.Recorded.{AddsRow}
+use Rattle.dn_demo.specs.Rows.{IsMove, IsRow}
 use Rattle.dn_demo.specs.declared.recorder.Stage.{Stage}
 use Rattle.dn_demo.specs.declared.recorder.Stage.TheVariants.{Blank, Open, Closed}
 use Rattle.dn_machine.specs.declared.answers.Ran.{Ran}
@@ -14,7 +15,7 @@ use Rattle.dn_machine.specs.Worlds.{rules_of}
 use Rattle.dn_lockstep.specs.Marking.{free}
 use Rattle.dn_lockstep.specs.Peers.{peer_at}
 use Rattle.dn_lockstep.specs.Rings.{ring_at}
-use Rattle.dn_lockstep.specs.Rows.{has_gone}
+use Rattle.dn_lockstep.specs.Rows.{has_gone, seats_of}
 use Rattle.dn_lockstep.proofs.After.{after}
 use Rattle.dn_lockstep.proofs.Finding.{row_is, seat_held, full_is}
 use Rattle.dn_lockstep.proofs.Gone.{over_later, gone_later}
@@ -37,6 +38,11 @@ opened c e =
     let n = c.args.self.now in
     open_where n.demo.stage (has_gone (peer_at n.peers) n.players n.ran) (n.begun c.requires.plays) (n.gone c.requires.plays)
     (sym c.row_at-row.ensures.whole ∙ sym c.is_whole-whole.ensures ∙ e)
+
+-- a row of these players is one of the game's
+row_of_game : {players all : ℕ} {row held : List (Option Move)} → players ≡ all → row ≡ held → IsRow (seats_of players) row → IsRow (seats_of all) held
+row_of_game {players} {all} {row} {held} same is fits =
+    subst (IsRow (seats_of all)) is (subst (λ (k : ℕ). IsRow (seats_of k) row) same fits)
 
 -- and there is room for it
 below : (c : After-stamp) → c.is_whole-whole.result ≡ true → c.args.self.now.ran < c.args.self.now.capacity
@@ -146,6 +152,8 @@ returns-clause-step c marking players extra capacity me m r own =
       added = λ e. subst (AddsRow n.demo.bytes c.write.new.demo.bytes) row (c.write.ensures.text (whole ∙ e));
       closes = λ e at. c.write.ensures.closes (whole ∙ e) at;
       stays = λ e at. c.write.ensures.closed (whole ∙ e) at;
+      fits = λ e. row_of_game r.players row (c.row_at-row.ensures.recordable (sym c.is_whole-whole.ensures ∙ whole ∙ e));
+      ranged = subst (All (λ step. IfSome step IsMove)) row c.row_at-row.ensures.ranged;
     } in
     let moves = row_moves rules m (λ e. c.if-tic-full_at.false (r.ran ∙ e ∙ sym full)) in
     after _ _ moves
