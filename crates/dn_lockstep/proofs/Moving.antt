@@ -23,7 +23,7 @@ use Rattle.dn_machine.specs.Worlds.{Rules, mark_in, opening}
 use Rattle.dn_machine.specs.Node as machine
 use Rattle.dn_machine.specs.Node.{own_mark, own_world, world_after, is_ended, is_whole, demo_rows}
 use Rattle.dn_lockstep.specs.Contents.{Contents}
-use Rattle.dn_lockstep.specs.Represents.{Represents, is_demo_closed}
+use Rattle.dn_lockstep.specs.Represents.{Represents, CanBeWritten, is_demo_closed}
 use Rattle.dn_lockstep.specs.Rows.{seats_of}
 use Rattle.dn_lockstep.proofs.Replaying.{own_world_is, demo_is}
 use Rattle.dn_lockstep.proofs.Starting.{early_mark}
@@ -109,8 +109,9 @@ module _ {S : Type 0} (rules : Rules S) (me : ℕ) (m : machine.Node) (settings 
   pub closed_moved : is_closed old.stage ≡ is_demo_closed rules m → is_closed new.stage ≡ is_demo_closed rules (moved m row)
   closed_moved told = ap is_closed written.stage ∙ stage_now (is_whole rules.players row) ∙ sym (closed_now told)
 
-  pub writable_moved : is_closed old.stage ≡ is_demo_closed rules m → AreWritable (seats_of rules.players) (demo_rows rules m)
-      → AreWritable (seats_of rules.players) (demo_rows rules (moved m row))
+  pub writable_moved : is_closed old.stage ≡ is_demo_closed rules m → CanBeWritten rules.players (demo_rows rules m)
+      → CanBeWritten rules.players (demo_rows rules (moved m row))
+  unfolding CanBeWritten
   writable_moved told before =
       let Fits : List (List (Option Move)) → Type 0 = AreWritable (seats_of rules.players) in
       elim (cases_Bool (is_whole rules.players row)) [

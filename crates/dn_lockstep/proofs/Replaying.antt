@@ -19,7 +19,7 @@ use Rattle.dn_machine.specs.Node as machine
 use Rattle.dn_machine.specs.Node.{own_world, world_after}
 use Rattle.dn_lockstep.specs.Contents.{Contents}
 use Rattle.dn_machine.specs.Node.{is_ended, is_whole, demo_rows}
-use Rattle.dn_lockstep.specs.Represents.{Represents, demo_of, demo_with, is_demo_closed}
+use Rattle.dn_lockstep.specs.Represents.{Represents, CanBeWritten, demo_of, demo_with, is_demo_closed}
 use Rattle.dn_lockstep.specs.Rows.{seats_of}
 
 module _ {S : Type 0} (rules : Rules S) (m : machine.Node) (settings : Settings) (known : m.settings ≡ Some settings) where
@@ -46,6 +46,7 @@ module _ {S : Type 0} (rules : Rules S) (me : ℕ) (n : Contents) (m : machine.N
   -- and is read back
   pub read_back : (cause : Cause) → m.phase ≡ Ended cause
       → IsReadAs n.demo.bytes (Ok (written_demo long_tics (start_of settings) me (seats_of rules.players) (demo_rows rules m)))
+  unfolding CanBeWritten
   read_back cause ended =
       let P : List ℕ → Type 0 = λ bytes. IsReadAs bytes (Ok (written_demo long_tics (start_of settings) me (seats_of rules.players) (demo_rows rules m))) in
       subst P (sym (demo_ended cause ended)) (long_read_back (start_of settings) me (seats_of rules.players) (demo_rows rules m) r.writable)

@@ -1,6 +1,7 @@
 -- When a lockstep represents a node of the machine.
 use Rattle.std.specs.Prelude.{◌≡◌, ℕ, ◌+◌, ◌-◌, ◌%◌, ◌<◌, ◌≤◌, Bool, true, false, ◌||◌, nat_lt, List, [], length, Option, Some, None, if◌then◌else◌}
 use Rattle.dn_tic.specs.Pressed.{turn_hold}
+use Rattle.dn_tic.specs.declared.command.Move.{Move}
 use Rattle.dn_ring.specs.Ring.{ring_of}
 use Rattle.dn_setup.specs.Settings.{Settings}
 use Rattle.dn_setup.specs.Starts.{start_of}
@@ -31,6 +32,10 @@ demo_with rules me m (Some settings) =
 abbrev pub demo_of : {S : Type 0} → Rules S → ℕ → machine.Node → List ℕ
 demo_of rules me m = if m.played then demo_with rules me m m.settings else []
 
+-- rows that a demo of the game can have
+unfoldable pub CanBeWritten : ℕ → List (List (Option Move)) → Type 0
+CanBeWritten players rows = AreWritable (seats_of players) rows
+
 pub record Represents {S : Type 0} (rules : Rules S) (me : ℕ) (n : Contents) (m : machine.Node) : Type 0 where
   -- whose it is, and of what game
   pub players : n.players ≡ rules.players
@@ -58,4 +63,4 @@ pub record Represents {S : Type 0} (rules : Rules S) (me : ℕ) (n : Contents) (
   pub demo : n.demo.bytes ≡ demo_of rules me m
   pub closed : m.played ≡ true → is_closed n.demo.stage ≡ is_demo_closed rules m
   -- and no move of those rows would read as the marker
-  pub writable : AreWritable (seats_of rules.players) (demo_rows rules m)
+  pub writable : CanBeWritten rules.players (demo_rows rules m)
