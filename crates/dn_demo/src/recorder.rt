@@ -1,6 +1,7 @@
 //! A demo that is written tic by tic.
 
-ghost use Rattle.std.specs.Prelude.{◌≡◌, ◌<◌, ◌≤◌, ◌+◌, ◌*◌, true, false, [], ◌∷◌, ◌++◌, length, nat_le};
+ghost use Rattle.std.specs.Prelude.{◌≡◌, ◌<◌, ◌≤◌, ◌+◌, ◌*◌, true, false, [], ◌∷◌, ◌++◌, length, nat_le, vec_len};
+ghost use Rattle.std.specs.Vec.{vec_capacity};
 ghost use Rattle.dn_demo.specs.Rows.{IsRow, player_count};
 ghost use Rattle.dn_demo.specs.Layout.{long_tics, command_size};
 ghost use Rattle.dn_demo.specs.Text.{move_bytes, row_bytes, demo_text, marker};
@@ -45,6 +46,17 @@ pub struct Recorder {
     bytes: Vec<u8>,
 }
 
+/// Appends bytes for which there is room, and takes no memory.
+fn append(bytes: &mut Vec<u8>, more: &[u8])
+    requires { vec_len bytes.old + length more.now ≤ vec_capacity bytes.old }
+    ensures items { bytes.new.items ≡ bytes.old.items ++ more.now }
+    ensures room { vec_capacity bytes.new ≡ vec_capacity bytes.old }
+{
+    for byte in more {
+        bytes.push_reserved(*byte);
+    }
+}
+
 impl Model for Recorder {
     ghost use Rattle.std.specs.Prelude.{◌≡◌, ◌≤◌, ◌+◌, [], vec_len};
     ghost use Rattle.std.specs.Vec.{vec_capacity};
@@ -58,7 +70,7 @@ impl Model for Recorder {
 
     ghost invariant = { λ r.
         IsLimit r.limit
-        × (r.limit ≤ vec_capacity r.bytes)
+        × (vec_capacity r.bytes ≡ r.limit)
         × (r.stage ≡ Blank → r.bytes.items ≡ [])
         × (r.stage ≡ Open → (header_size ≤ vec_len r.bytes) × (vec_len r.bytes + 1 ≤ r.limit)) };
 }
@@ -94,9 +106,7 @@ impl Recorder {
         ensures seats { seats_in self.new.bytes ≡ present }
     {
         self.stage = Stage::Open;
-        self.bytes
-            .extend_from_slice(&header_bytes(start, view, present))
-            .unwrap();
+        append(&mut self.bytes, &header_bytes(start, view, present));
     }
 
     /// Writes the move of a player who is present.
@@ -106,7 +116,7 @@ impl Recorder {
         ensures { self.new ≡ record self.old { bytes = self.old.bytes ++ move_bytes long_tics step } }
     {
         if let Some(step) = step {
-            self.bytes.extend_from_slice(&command_bytes(step)).unwrap();
+            append(&mut self.bytes, &command_bytes(step));
         }
     }
 
@@ -149,7 +159,7 @@ impl Recorder {
         ensures text { Closes self.old.bytes self.new.bytes }
     {
         self.stage = Stage::Closed;
-        self.bytes.push(MARKER).unwrap();
+        self.bytes.push_reserved(MARKER);
     }
 
     /// Whether the marker is written.
@@ -157,6 +167,13 @@ impl Recorder {
         ensures { result ≡ is_closed self.now.stage }
     {
         self.stage == Stage::Closed
+    }
+
+    /// How many bytes it has memory for: its limit, which no call changes.
+    pub fn room(&self) -> usize
+        ensures { result ≡ self.now.limit }
+    {
+        self.bytes.capacity()
     }
 
     /// The text so far.

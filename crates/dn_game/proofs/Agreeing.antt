@@ -1,26 +1,23 @@
 -- What the nodes of a game tell of themselves agrees, since the machine's nodes that they represent do.
-use Rattle.std.proofs.Common.{◌≡◌, ◌<◌, ◌⊎◌, ℕ, Bool, true, false, List, [], ◌∷◌, ◌++◌, length, take, Option, Some, Result, refl, ap, sym, ◌∙◌, subst, inl, inr, arith, length-append, append-nil}
-use Rattle.std.specs.Prelude.{if◌then◌else◌, unwrap_or, ◌==◌, ◌&&◌, ◌≤◌, None}
+use Rattle.std.proofs.Common.{◌≡◌, ◌<◌, ◌⊎◌, ℕ, Bool, true, false, List, [], length, Option, Some, Result, refl, ap, sym, ◌∙◌, subst, inl, inr, arith}
+use Rattle.std.specs.Prelude.{if◌then◌else◌, unwrap_or, ◌==◌, ◌&&◌, ◌||◌, ◌≤◌, nat_lt, map, None}
+use Rattle.std.specs.List.{range_with_len, take_while}
+use Rattle.std.proofs.lemmas.List.FromFn.{fill_by_all}
 use Rattle.std.specs.Option.{option_map}
-use Rattle.std.proofs.lemmas.Option.{same_Some, slice_get_within}
-use Rattle.std.proofs.lemmas.Grind.{flat_map-append}
-use Rattle.std.proofs.Math.Seq.{take-append_seam}
-use Rattle.dn_tic.specs.declared.command.Move.{Move}
+use Rattle.std.proofs.lemmas.Option.{same_Some, slice_get_within, get_or_from_slice_get}
 use Rattle.dn_setup.specs.Settings.{Settings}
 use Rattle.dn_setup.specs.Starts.{start_of}
-use Rattle.dn_setup.specs.declared.start.Start.{Start}
 use Rattle.dn_demo.specs.Layout.{long_tics}
-use Rattle.dn_demo.specs.Recorded.{is_closed}
-use Rattle.dn_demo.specs.Text.{demo_text, marker, row_bytes, commands_of}
+use Rattle.dn_demo.specs.Text.{demo_text}
 use Rattle.dn_machine.specs.declared.answers.Phase.TheVariants.{Playing}
-use Rattle.dn_machine.specs.Worlds.{Rules, world}
+use Rattle.dn_machine.specs.Worlds.{Rules, row, world}
 use Rattle.dn_machine.specs.Node as machine
-use Rattle.dn_machine.specs.Node.{world_after, is_ended, has_left, known_end, demo_rows}
+use Rattle.dn_machine.specs.Node.{world_after, is_ended, is_whole, has_left, known_end, demo_rows}
 use Rattle.dn_machine.specs.Game as game
 use Rattle.dn_machine.specs.Game.{opening_game}
 use Rattle.dn_machine.proofs.Games.{always}
 use Rattle.dn_machine.proofs.Promises
-use Rattle.dn_machine.specs.Promise.{Agree, Fits, Steady, IsPrefixOf, keys_of, end_or}
+use Rattle.dn_machine.specs.Promise.{Agree, Fits, Steady, keys_of, end_or}
 use Rattle.dn_machine.specs.Running.{tic_limit}
 use Rattle.std.proofs.lemmas.Bool.{eq-eqb}
 use Rattle.dn_node.specs.Contents as node
@@ -32,7 +29,10 @@ use Rattle.dn_lockstep.proofs.Counting as counting
 use Rattle.dn_machine.specs.declared.events.Done.{Done}
 use Rattle.dn_machine.specs.declared.events.Event.{Event}
 use Rattle.dn_machine.specs.declared.events.Refusal.{Refusal}
-use Rattle.dn_game.specs.Agreed.{HasStarted, HasNode, AreAgreed, commands_in, recorded, got, made}
+use Rattle.dn_game.specs.Agreed.{AreAgreed}
+use Rattle.dn_game.specs.Demos.{DemosAgree, rows_made, is_closed}
+use Rattle.dn_game.specs.Told.{HasNode, HasStarted, got, made}
+use Rattle.dn_game.proofs.DemosAgreeing.{demos_of}
 use Rattle.dn_game.specs.Promised.{IsReached}
 use Rattle.dn_game.proofs.KeysMade.{keys_played}
 use Rattle.dn_game.proofs.Answering.{plays_leads}
@@ -41,26 +41,10 @@ use Rattle.dn_game.specs.KeysMade.{keys_made}
 use Rattle.dn_game.specs.Played.{Plays}
 use Rattle.dn_game.specs.Represents.{Represents}
 
--- the commands of a demo's text are those of its rows
-before_marker : (xs : List ℕ) (count : ℕ) → count ≡ length xs → take count (xs ++ marker ∷ []) ≡ xs
-before_marker xs count e = ap (λ (k : ℕ). take k (xs ++ marker ∷ [])) e ∙ take-append_seam xs (marker ∷ [])
-
-recorded_rows : (closed : Bool) (start : Start) (view players : ℕ) (rows : List (List (Option Move)))
-    → commands_in closed (demo_text long_tics start view (seats_of players) rows closed) ≡ commands_of long_tics rows
-unfolding demo_text
-recorded_rows false start view players rows = append-nil (commands_of long_tics rows)
-recorded_rows true start view players rows =
-    before_marker (commands_of long_tics rows) _ (omega (arith, length-append (commands_of long_tics rows) (marker ∷ [])))
-
--- a list of rows that goes on has commands that go on
-commands_prefix : (rows more : List (List (Option Move))) → IsPrefixOf rows more → IsPrefixOf (commands_of long_tics rows) (commands_of long_tics more)
-commands_prefix rows more (rest, whole) =
-    (commands_of long_tics rest, sym (flat_map-append (row_bytes long_tics) rows rest) ∙ ap (commands_of long_tics) whole)
-
 -- one node
 module _ {W S : Type 0} (state : W → S) (rules : Rules S) (settings : Settings) (me : ℕ) (n : node.Contents W) (m : machine.Node)
     (r : node_to.Represents state rules me n m) where
-  unplayed : m.played ≡ false → n.demo.bytes ≡ []
+  pub unplayed : m.played ≡ false → n.demo.bytes ≡ []
   unplayed not = r.lockstep.demo ∙ ap (λ (b : Bool). if b then demo_with rules me m m.settings else []) not
 
   pub started : HasStarted n → m.played ≡ true
@@ -84,37 +68,6 @@ module _ {W S : Type 0} (state : W → S) (rules : Rules S) (settings : Settings
   world_is : m.played ≡ true → m.settings ≡ Some settings → state n.world ≡ world_after rules settings m.rows (machine.ran m)
   world_is played known =
       same_Some _ _ (r.world played ∙ ap (option_map (λ (s : Settings). world_after rules s m.rows (machine.ran m))) known)
-
-  -- the demo's commands are those of the rows that it recorded, and none before the start
-  recorded_is : (m.played ≡ true → m.settings ≡ Some settings)
-      → ((recorded n ≡ []) ⊎ (recorded n ≡ commands_of long_tics (demo_rows rules m)))
-  recorded_is known = go m.played refl
-    where
-      none : (b : Bool) → commands_in b [] ≡ []
-      none true = refl
-      none false = refl
-
-      go : (b : Bool) → m.played ≡ b → ((recorded n ≡ []) ⊎ (recorded n ≡ commands_of long_tics (demo_rows rules m)))
-      go false e = inl (ap (commands_in (is_closed n.demo.stage)) (unplayed e) ∙ none (is_closed n.demo.stage))
-      go true e =
-          inr (ap (commands_in (is_closed n.demo.stage)) (played_bytes e (known e))
-          ∙ ap (λ (b : Bool). commands_in b (demo_text long_tics (start_of settings) me (seats_of rules.players) (demo_rows rules m) (is_demo_closed rules m))) (r.lockstep.closed e)
-          ∙ recorded_rows (is_demo_closed rules m) (start_of settings) me rules.players (demo_rows rules m))
-
--- two nodes' demos
-two_demos : (xs ys : List ℕ) (rows more : List (List (Option Move)))
-    → ((xs ≡ []) ⊎ (xs ≡ commands_of long_tics rows)) → ((ys ≡ []) ⊎ (ys ≡ commands_of long_tics more))
-    → (IsPrefixOf rows more ⊎ IsPrefixOf more rows) → IsPrefixOf xs ys ⊎ IsPrefixOf ys xs
-two_demos xs ys rows more (inl e) other way = inl (ys, ap (λ (z : List ℕ). z ++ ys) e)
-two_demos xs ys rows more (inr e) (inl f) way = inr (xs, ap (λ (z : List ℕ). z ++ xs) f)
-two_demos xs ys rows more (inr e) (inr f) (inl first) =
-    let P : List ℕ → Type 0 = λ z. IsPrefixOf z ys in
-    let Q : List ℕ → Type 0 = λ z. IsPrefixOf (commands_of long_tics rows) z in
-    inl (subst P (sym e) (subst Q (sym f) (commands_prefix rows more first)))
-two_demos xs ys rows more (inr e) (inr f) (inr first) =
-    let P : List ℕ → Type 0 = λ z. IsPrefixOf ys z in
-    let Q : List ℕ → Type 0 = λ z. IsPrefixOf z (commands_of long_tics rows) in
-    inr (subst P (sym e) (subst Q (sym f) (commands_prefix more rows first)))
 
 -- all nodes
 module _ {W S : Type 0} (state : W → S) (rules : Rules S) (settings : Settings) (g : Contents W) (m : game.Game)
@@ -173,8 +126,42 @@ module _ {W S : Type 0} (state : W → S) (rules : Rules S) (settings : Settings
       go true e = ap (λ (o : Option ℕ). unwrap_or o tic) (own j true e) ∙ sym (ap (λ (b : Bool). if b then machine.made j (m.nodes j) else tic) e)
       go false e = ap (λ (o : Option ℕ). unwrap_or o tic) (own j false e) ∙ sym (ap (λ (b : Bool). if b then machine.made j (m.nodes j) else tic) e)
 
-  pub agreed_by : Agree rules settings m → Fits rules m → Steady rules m → AreAgreed state rules settings (keys_of m) g
-  agreed_by agree fits steady =
+  -- a started node's demo is the text of the rows that the keys make
+  text_is : Agree rules settings m → (i : ℕ) (n : node.Contents W) → HasNode g i n → HasStarted n
+      → n.demo.bytes ≡ demo_text long_tics (start_of settings) i (seats_of rules.players) (rows_made rules settings (keys_of m) n.ran) (is_closed rules settings (keys_of m) n)
+  text_is agree i n at has_started =
+      let s = shown i n at in
+      let below = inside i n at in
+      let played = started state rules settings i n (m.nodes i) s has_started in
+      let all : (m.nodes i).rows ≡ map (row rules settings (keys_of m)) (range_with_len 0 n.ran) =
+      fill_by_all (row rules settings (keys_of m)) (m.nodes i).rows n.ran [] (sym s.lockstep.ran)
+      (λ tic early. get_or_from_slice_get (m.nodes i).rows tic _ [] (agree.rows i tic below (let e = s.lockstep.ran in omega (arith, e, early)))) in
+      let rows : demo_rows rules (m.nodes i) ≡ rows_made rules settings (keys_of m) n.ran = ap (take_while (is_whole rules.players)) all in
+      let phase = sym s.lockstep.phase in
+      let ran = sym s.lockstep.ran in
+      played_bytes state rules settings i n (m.nodes i) s played (agree.settings_same i below played)
+      ∙ (λ k. demo_text long_tics (start_of settings) i (seats_of rules.players) (rows k) (is_ended (phase k) || nat_lt (length (rows k)) (ran k)))
+
+  demos_agree : Agree rules settings m → DemosAgree rules settings (keys_of m) g
+  demos_agree agree = demos_of rules settings (keys_of m) g (text_is agree) several begun
+    where
+      several : (i : ℕ) (n : node.Contents W) → HasNode g i n → (n.players ≡ rules.players) × (i < rules.players) × (rules.players ≤ 4)
+      several i n (one, there, is) =
+          let s = shown i n (one, there, is) in
+          let P : node.Contents W → Type 0 = λ x. x.players ≤ 4 in
+          let few = subst P (sym is) one.lockstep.few in
+          (s.lockstep.players, inside i n (one, there, is), let same = s.lockstep.players in omega arith)
+
+      begun : (i : ℕ) (n : node.Contents W) → HasNode g i n → HasStarted n ⊎ (n.demo.bytes ≡ [])
+      begun i n at = go (m.nodes i).played refl
+        where
+          go : (b : Bool) → (m.nodes i).played ≡ b → HasStarted n ⊎ (n.demo.bytes ≡ [])
+          go true e = inl (starts state rules settings i n (m.nodes i) (shown i n at) e (agree.settings_same i (inside i n at) e))
+          go false e = inr (unplayed state rules settings i n (m.nodes i) (shown i n at) e)
+
+  pub agreed_by : Agree rules settings m → Fits rules m → Steady rules m → ((p : ℕ) → p < rules.players → machine.made p (m.nodes p) ≡ length (keys_of m p))
+      → AreAgreed state rules settings (keys_of m) g
+  agreed_by agree fits steady counted =
       record {
         playing = λ i n at phase.
             let s = shown i n at in
@@ -189,11 +176,8 @@ module _ {W S : Type 0} (state : W → S) (rules : Rules S) (settings : Settings
         settings_same = λ i n at has_started.
             let s = shown i n at in
             s.lockstep.settings ∙ agree.settings_same i (inside i n at) (started state rules settings i n (m.nodes i) s has_started);
-        demos = λ i j n k at to.
-            two_demos _ _ (demo_rows rules (m.nodes i)) (demo_rows rules (m.nodes j))
-            (recorded_is state rules settings i n (m.nodes i) (shown i n at) (agree.settings_same i (inside i n at)))
-            (recorded_is state rules settings j k (m.nodes j) (shown j k to) (agree.settings_same j (inside j k to)))
-            (agree.demos i j (inside i n at) (inside j k to));
+        demos = demos_agree agree;
+        counted = λ i n at. makes i n at ∙ counted i (inside i n at);
         consistent = λ i player was should n at e.
             steady.consistent i player was should (inside i n at) (sym (shown i n at).lockstep.phase ∙ e);
         ends = λ i j end n k at to e.
@@ -226,7 +210,7 @@ pub agreed : {W S : Type 0} (state : W → S) (rules : Rules S) (settings : Sett
 agreed state rules settings events g r =
     let kept = always rules settings events r.last r.run in
     agreed_by state rules settings g r.last r.game (Promises.agree rules settings r.last kept) (Promises.fits rules settings r.last kept)
-    (Promises.steady rules settings r.last kept)
+    (Promises.steady rules settings r.last kept) kept.from_keys.counted
 
 -- the keys are those of the builds that made a command
 pub agreed_on_keys : {W S : Type 0} (state : W → S) (rules : Rules S) (settings : Settings) (events : List Event) (answers : List (Result Done Refusal)) (last : game.Game) (g : Contents W)

@@ -1,18 +1,22 @@
 -- One event more in a list that was played.
-use Rattle.std.proofs.Common.{◌≡◌, ◌+◌, ℕ, cond, List, [], ◌∷◌, ◌++◌, Result, refl, ap, sym, ◌∙◌, subst, inl, inr}
-use Rattle.std.specs.Prelude.{count_by, is_ok, is_err}
+use Rattle.std.proofs.Common.{◌≡◌, ◌+◌, ℕ, cond, List, [], ◌∷◌, ◌++◌, Option, Some, None, Result, Err, refl, ap, sym, ◌∙◌, subst, inl, inr}
+use Rattle.std.specs.Prelude.{IsTrue, count_by, is_ok, is_err}
 use Rattle.std.proofs.lemmas.List.Sums.{sum_by-append}
 use Rattle.dn_setup.specs.Settings.{Settings}
+use Rattle.dn_world.specs.Physics.{Physics}
 use Rattle.dn_machine.specs.declared.events.Done.{Done}
 use Rattle.dn_machine.specs.declared.events.Event.{Event}
 use Rattle.dn_machine.specs.declared.events.Refusal.{Refusal}
-use Rattle.dn_machine.specs.Game.{Game, applied, opening_game}
-use Rattle.dn_machine.specs.Runs.{Leads}
-use Rattle.dn_machine.specs.Worlds.{Rules}
-use Rattle.dn_game.specs.Applied.{IsApplied}
+use Rattle.dn_machine.specs.Game.{Game, applied, opening_game, refused}
+use Rattle.dn_machine.specs.Runs.{Leads, Next, is_send}
+use Rattle.dn_machine.specs.Worlds.{Rules, rules_of}
+use Rattle.dn_machine.proofs.Games.{goes_on}
+use Rattle.dn_game.specs.Applied.{Tells, IsApplied}
 use Rattle.dn_game.specs.Contents.{Contents, contents}
 use Rattle.dn_game.specs.Played.{Answers, Plays, IsPlayed}
+use Rattle.dn_game.specs.Promised.{IsCarriedOn}
 use Rattle.dn_game.specs.Represents.{Represents}
+use Rattle.dn_game.proofs.Applying.{applied_so}
 use Rattle.dn_game.specs.declared.played.Played.{Played}
 
 module _ {S : Type 0} (rules : Rules S) where
@@ -37,6 +41,32 @@ module _ {S : Type 0} (rules : Rules S) where
   plays_leads (e ∷ events) (a ∷ answers) game last (next, inr (free, send, same, answered), rest) =
       (next, inr (send, same), plays_leads events answers next last rest)
 
+  -- a send that is left out has its answer
+  left_out : (event : Event) (game next : Game) → IsTrue (is_send event) → next ≡ game → (answer : Result Done Refusal) × Answers rules game event answer next
+  left_out event game next send same = go (refused rules.players game event) refl
+    where
+      go : (o : Option Refusal) → o ≡ refused rules.players game event → (answer : Result Done Refusal) × Answers rules game event answer next
+      go None free = (Err Refusal.Memory, inr (sym free, send, same, refl))
+      go (Some refusal) is =
+          let so = applied_so rules game event (Some refusal) is in
+          (Err refusal, inl (same ∙ ap (λ (x : Game × Result Done Refusal). x.0) (sym so), ap (λ (x : Game × Result Done Refusal). x.1) (sym so)))
+
+  -- so each run has its answers
+  pub leads_plays : (events : List Event) (game last : Game)
+      → Leads rules game events last → (answers : List (Result Done Refusal)) × Plays rules game events answers last
+  leads_plays [] game last same = ([], same)
+  leads_plays (e ∷ events) game last (next, inl same, rest) =
+      let more = leads_plays events next last rest in ((applied rules game e).1 ∷ more.0, (next, inl (same, refl), more.1))
+  leads_plays (e ∷ events) game last (next, inr (send, same), rest) =
+      let more = leads_plays events next last rest in
+      let one = left_out e game next send same in
+      (one.0 ∷ more.0, (next, one.1, more.1))
+
+  -- an answered event is one of a run
+  pub answers_next : (event : Event) (answer : Result Done Refusal) (game next : Game) → Answers rules game event answer next → Next rules game event next
+  answers_next event answer game next (inl (same, answered)) = inl same
+  answers_next event answer game next (inr (free, send, same, answered)) = inr (send, same)
+
 -- an event that was applied has its answer
 pub answers_one : {W S : Type 0} (state : W → S) (rules : Rules S) (old new : Contents W) (m : Game) (event : Event) (answer : Result Done Refusal)
     → Represents state rules old m → IsApplied state rules old new m event answer
@@ -60,4 +90,27 @@ played_more state rules settings events event answer played next r is done refus
       game = one.2;
       done = done ∙ ap (λ (k : ℕ). k + count_by is_ok (answer ∷ [])) r.done ∙ sym (sum_by-append (λ a. cond (is_ok a) 1 0) r.answers (answer ∷ []));
       refused = refused ∙ ap (λ (k : ℕ). k + count_by is_err (answer ∷ [])) r.refused ∙ sym (sum_by-append (λ a. cond (is_err a) 1 0) r.answers (answer ∷ []));
+    }
+
+-- whatever events led to a game, they and one that was applied lead to the next
+pub carries : {W S : Type 0} (state : W → S) (physics : Physics S) (old new : Contents W) (event : Event) (answer : Result Done Refusal)
+    → Tells state physics old (λ rules m. IsApplied state rules old new m event answer) → IsCarriedOn state physics old new event answer
+carries state physics old new event answer is =
+    record {
+      reached = λ players extra capacity settings events r.
+          let rules = rules_of physics players extra capacity in
+          let one = answers_one state rules old new r.last event answer r.game (is players extra capacity r.last r.game) in
+          record {
+            last = one.0;
+            run = goes_on rules settings events event (opening_game settings) r.last one.0 r.run (answers_next rules event answer r.last one.0 one.1);
+            game = one.2;
+          };
+      answered = λ players extra capacity settings events answers r.
+          let rules = rules_of physics players extra capacity in
+          let one = answers_one state rules old new r.last event answer r.game (is players extra capacity r.last r.game) in
+          record {
+            last = one.0;
+            plays = plays_more rules events answers event answer (opening_game settings) r.last one.0 r.plays one.1;
+            game = one.2;
+          };
     }

@@ -20,7 +20,7 @@ use Rattle.dn_game.specs.Contents.{Contents}
 use Rattle.dn_game.specs.Represents.{Represents}
 use Rattle.dn_game.proofs.Moving.{places}
 
-applied_so : {S : Type 0} (rules : Rules S) (m : machine.Game) (event : Event) (refusal : Option Refusal) → refusal ≡ refused rules.players m event
+pub applied_so : {S : Type 0} (rules : Rules S) (m : machine.Game) (event : Event) (refusal : Option Refusal) → refusal ≡ refused rules.players m event
     → ◌≡◌ {A = machine.Game × Result Done Refusal} (applied rules m event) (applied_if rules m event refusal)
 unfolding applied
 applied_so rules m event refusal is = ap (applied_if rules m event) (sym is)

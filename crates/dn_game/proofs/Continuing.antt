@@ -13,17 +13,19 @@ use Rattle.dn_machine.specs.Running.{tic_limit}
 use Rattle.dn_machine.specs.Worlds.{Rules}
 use Rattle.dn_machine.proofs.Progress.{goes_on_with}
 use Rattle.dn_machine.proofs.Games.{always}
+use Rattle.dn_machine.proofs.Leading.{led_rounds, leads_more}
 use Rattle.dn_machine.proofs.Promises
 use Rattle.dn_node.specs.declared.node.Node.{Node}
 use Rattle.dn_node.specs.Contents as node
-use Rattle.dn_game.specs.Agreed.{HasNode}
 use Rattle.dn_game.specs.Contents.{Contents, contents}
-use Rattle.dn_game.specs.GoingOn.{NoneLost, AllRan, HasRoom, GoesOn, IsPlayedOn}
+use Rattle.dn_game.specs.GoingOn.{NoneLost, AllRan, HasRoom, GoesOn, IsPlayedOn, HasPlayedOn}
 use Rattle.dn_game.specs.Promised.{IsReached}
 use Rattle.dn_game.specs.Represents.{Represents}
+use Rattle.dn_game.specs.Told.{HasNode}
 use Rattle.dn_game.specs.declared.played.Played.{Played}
 use Rattle.dn_game.proofs.Agreeing.{started, inside, end_is}
 use Rattle.dn_game.proofs.Answering.{plays_leads}
+use Rattle.dn_game.proofs.Promising.{promised}
 
 module _ {W S : Type 0} (state : W → S) (rules : Rules S) (settings : Settings) where
   -- each number below the players has its node
@@ -91,10 +93,21 @@ module _ {W S : Type 0} (state : W → S) (rules : Rules S) (settings : Settings
       (goes_on_with rules settings (short g reached.last reached.game several) several events reached.last reached.run (lost_none g reached.last reached.game none)
       keys tics more rounds (room_of g reached.last reached.game kept tics (tics + more + 5) room) enough (all_ran g reached.last reached.game tics all))
 
-  pub played_on_continues : (events : List Event) (keys : ℕ → ℕ) (rounds : ℕ) (played : Played W)
+  pub played_on_promised : (events : List Event) (keys : ℕ → ℕ) (rounds : ℕ) (played : Played W)
       → (p : IsPlayedOn state rules settings events keys rounds played) → 2 ≤ rules.players
-      → GoesOn rules.capacity rounds (contents p.before.game) (contents played.game)
-  played_on_continues events keys rounds played p several =
+      → HasPlayedOn state rules settings events keys rounds played
+  played_on_promised events keys rounds played p several =
       let e = p.events_played in
-      continues events _ _ (record { last = e.last; run = plays_leads rules events e.answers (opening_game settings) e.last e.plays; game = e.game })
-      several (λ round. keys) rounds p.calmed.game
+      let run = plays_leads rules events e.answers (opening_game settings) e.last e.plays in
+      let led = led_rounds rules (λ round. keys) rounds e.last in
+      record {
+        on = p;
+        promised = promised state rules settings events e.answers e.last (contents p.before.game) e.plays e.game;
+        goes_on = continues events _ _ (record { last = e.last; run = run; game = e.game }) several (λ round. keys) rounds p.calmed.game;
+        more = led.0;
+        reached = record {
+          last = good_rounds rules (λ round. keys) rounds e.last;
+          run = leads_more rules events led.0 (opening_game settings) e.last (good_rounds rules (λ round. keys) rounds e.last) run led.1;
+          game = p.calmed.game;
+        };
+      }

@@ -11,11 +11,12 @@ use Rattle.dn_machine.specs.Game.{Game, opening_game, refused}
 use Rattle.dn_machine.specs.Worlds.{Rules}
 use Rattle.dn_game.specs.Applied.{IsApplied}
 use Rattle.dn_game.specs.Contents.{contents}
-use Rattle.dn_game.specs.Played.{Answers, Plays, IsPlayed}
+use Rattle.dn_game.specs.Played.{Answers, Plays}
 use Rattle.dn_game.specs.Schedule.{behind_three, generator_of, scheduled}
-use Rattle.dn_game.specs.Stormed.{Follows, IsStormed}
+use Rattle.dn_game.specs.Stormed.{Follows, IsStormed, HasStormed}
 use Rattle.dn_game.specs.declared.played.Played.{Played}
 use Rattle.dn_game.proofs.Answering.{answers_one}
+use Rattle.dn_game.proofs.Promising.{promised}
 
 module _ {S : Type 0} (rules : Rules S) where
   pub follows_more : (generator : Lcg) (events : List Event) (answers : List (Result Done Refusal)) (event : Event) (answer : Result Done Refusal) (rest : Lcg) (game mid last : Game)
@@ -38,16 +39,13 @@ module _ {S : Type 0} (rules : Rules S) where
   follows_plays generator (e ∷ events) (a ∷ answers) rest game last (first, (then, one, way)) =
       (then, one, follows_plays (behind_three generator) events answers rest then last way)
 
-pub stormed_played : {W S : Type 0} (state : W → S) (rules : Rules S) (settings : Settings) (seed count : ℕ) (played : Played W)
-    → (s : IsStormed state rules settings seed count played) → IsPlayed state rules settings s.events played
-stormed_played state rules settings seed count played s =
+pub stormed_promised : {W S : Type 0} (state : W → S) (rules : Rules S) (settings : Settings) (seed count : ℕ) (played : Played W)
+    → IsStormed state rules settings seed count played → HasStormed state rules settings seed count played
+stormed_promised state rules settings seed count played s =
     record {
-      last = s.last;
-      answers = s.answers;
-      plays = follows_plays rules (generator_of seed) s.events s.answers s.rest (opening_game settings) s.last s.follows;
-      game = s.game;
-      done = s.done;
-      refused = s.refused;
+      stormed = s;
+      promised = promised state rules settings s.events s.answers s.last (contents played.game)
+          (follows_plays rules (generator_of seed) s.events s.answers s.rest (opening_game settings) s.last s.follows) s.game;
     }
 
 pub stormed_more : {W S : Type 0} (state : W → S) (rules : Rules S) (settings : Settings) (seed count : ℕ) (event : Event) (answer : Result Done Refusal) (played next : Played W)

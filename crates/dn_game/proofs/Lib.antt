@@ -3,6 +3,9 @@ pub mod Answering
 pub mod KeysMade
 pub mod Promising
 pub mod SteadyAnswers
+pub mod DemoTexts
+pub mod RowsMade
+pub mod DemosAgreeing
 pub mod Agreeing
 pub mod ScriptNumbers
 pub mod ScriptKeys

@@ -1,5 +1,5 @@
 -- A game that goes on once its packets arrive.
-use Rattle.std.specs.Prelude.{◌≡◌, ◌<◌, ◌≤◌, ◌⊎◌, ◌+◌, ◌*◌, ℕ, true, false, List, length, slice_index_or, Some}
+use Rattle.std.specs.Prelude.{◌≡◌, ◌<◌, ◌≤◌, ◌⊎◌, ◌+◌, ◌*◌, ◌++◌, ℕ, true, false, List, length, slice_index_or, Some}
 use Rattle.dn_setup.specs.Settings.{Settings}
 use Rattle.dn_machine.specs.declared.events.Event.{Event}
 use Rattle.dn_machine.specs.Game as machine
@@ -10,10 +10,11 @@ use Rattle.dn_machine.specs.Worlds.{Rules}
 use Rattle.dn_node.specs.Contents as node
 use Rattle.dn_node.specs.Contents.{end_in}
 use Rattle.dn_game.specs.declared.played.Played.{Played}
-use Rattle.dn_game.specs.Agreed.{HasNode, HasStarted}
 use Rattle.dn_game.specs.Contents.{Contents, contents}
 use Rattle.dn_game.specs.Played.{IsPlayed}
+use Rattle.dn_game.specs.Promised.{IsReached, IsPromised}
 use Rattle.dn_game.specs.Represents.{Represents}
+use Rattle.dn_game.specs.Told.{HasNode, HasStarted}
 
 -- no node is lost: none has stopped, and whoever has ended had started
 pub record NoneLost {W : Type 0} (g : Contents W) : Type 0 where
@@ -51,3 +52,12 @@ pub record IsPlayedOn {W S : Type 0} (state : W → S) (rules : Rules S) (settin
   pub before : Played W
   pub events_played : IsPlayed state rules settings events before
   pub calmed : IsCalmed state rules keys rounds events_played.last before played
+
+-- the game before the rounds is promised, and the rounds went on; they are events too, so the game after them is one that
+-- such a list may leave
+pub record HasPlayedOn {W S : Type 0} (state : W → S) (rules : Rules S) (settings : Settings) (events : List Event) (keys : ℕ → ℕ) (rounds : ℕ) (played : Played W) : Type 0 where
+  pub on : IsPlayedOn state rules settings events keys rounds played
+  pub promised : IsPromised state rules settings events on.events_played.answers on.events_played.last (contents on.before.game)
+  pub goes_on : GoesOn rules.capacity rounds (contents on.before.game) (contents played.game)
+  pub more : List Event
+  pub reached : IsReached state rules settings (events ++ more) (contents played.game)

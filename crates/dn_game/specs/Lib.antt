@@ -6,6 +6,8 @@ pub mod Applied
 pub mod Played
 pub mod KeysMade
 pub mod Promised
+pub mod Told
+pub mod Demos
 pub mod Agreed
 pub mod Rounds
 pub mod GoingOn

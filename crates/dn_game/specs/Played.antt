@@ -11,7 +11,7 @@ use Rattle.dn_machine.specs.Runs.{is_send}
 use Rattle.dn_machine.specs.Worlds.{Rules}
 use Rattle.dn_game.specs.declared.played.Played.{Played}
 use Rattle.dn_game.specs.Applied.{Tells, IsApplied}
-use Rattle.dn_game.specs.Contents.{contents}
+use Rattle.dn_game.specs.Contents.{Contents, contents}
 use Rattle.dn_game.specs.Represents.{Represents}
 
 -- an event leads from a game to the next with this answer; a send that nothing else refuses may be left out, for want of memory
@@ -27,6 +27,12 @@ Plays rules game (event ∷ events) (answer ∷ answers) last =
     (next : machine.Game) × Answers rules game event answer next × Plays rules next events answers last
 Plays rules game [] (answer ∷ answers) last = ⊥
 Plays rules game (event ∷ events) [] last = ⊥
+
+-- the events lead from the opening to the game that this one represents, and each has its answer
+pub record IsReachedWith {W S : Type 0} (state : W → S) (rules : Rules S) (settings : Settings) (events : List Event) (answers : List (Result Done Refusal)) (g : Contents W) : Type 0 where
+  pub last : machine.Game
+  pub plays : Plays rules (opening_game settings) events answers last
+  pub game : Represents state rules g last
 
 -- the game that is left represents one that the events lead to, and the answers are counted
 pub record IsPlayed {W S : Type 0} (state : W → S) (rules : Rules S) (settings : Settings) (events : List Event) (played : Played W) : Type 0 where

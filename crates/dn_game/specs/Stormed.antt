@@ -11,6 +11,7 @@ use Rattle.dn_machine.specs.Worlds.{Rules}
 use Rattle.dn_game.specs.declared.played.Played.{Played}
 use Rattle.dn_game.specs.Contents.{contents}
 use Rattle.dn_game.specs.Played.{Answers}
+use Rattle.dn_game.specs.Promised.{IsPromised}
 use Rattle.dn_game.specs.Represents.{Represents}
 use Rattle.dn_game.specs.Schedule.{generator_of, behind_three, scheduled}
 
@@ -35,3 +36,8 @@ pub record IsStormed {W S : Type 0} (state : W → S) (rules : Rules S) (setting
   pub game : Represents state rules (contents played.game) last
   pub done : played.done ≡ count_by is_ok answers
   pub refused : played.refused ≡ count_by is_err answers
+
+-- so many events of the schedule were played, and the game that is left is promised
+pub record HasStormed {W S : Type 0} (state : W → S) (rules : Rules S) (settings : Settings) (seed count : ℕ) (played : Played W) : Type 0 where
+  pub stormed : IsStormed state rules settings seed count played
+  pub promised : IsPromised state rules settings stormed.events stormed.answers stormed.last (contents played.game)

@@ -1,13 +1,12 @@
 //! A game goes on once its packets arrive.
 
-ghost use Rattle.std.specs.Prelude.{◌≡◌, ◌<◌, ◌≤◌, ◌+◌, ℕ, Bool, List, length, IfOk};
+ghost use Rattle.std.specs.Prelude.{◌≤◌, ◌+◌, ℕ, Bool, List, length, IfOk};
 ghost use Rattle.dn_setup.specs.Settings.{Settings};
 ghost use Rattle.dn_machine.specs.declared.events.Event.{Event};
 ghost use Rattle.dn_machine.specs.Progress.{good_rounds};
 ghost use Rattle.dn_machine.specs.Worlds.{rules_of};
-ghost use Rattle.dn_demo.specs.Recorded.{capacity};
-ghost use Rattle.dn_game.specs.Contents.{Contents, contents};
-ghost use Rattle.dn_game.specs.GoingOn.{NoneLost, AllRan, HasRoom, GoesOn, IsPlayedOn};
+ghost use Rattle.dn_game.specs.Contents.{Contents};
+ghost use Rattle.dn_game.specs.GoingOn.{NoneLost, AllRan, HasRoom, GoesOn, HasPlayedOn};
 ghost use Rattle.dn_game.specs.Opening.{IsAdmitted, rules_in};
 ghost use Rattle.dn_game.specs.Promised.{IsReached};
 ghost use Rattle.dn_game.specs.Represents.{Represents};
@@ -51,12 +50,10 @@ pub fn play_on<W: World>(
     rounds: u32,
 ) -> Result<Played<W>, GameFault>
     ensures admitted { IsAdmitted config (length worlds.items) result }
-    ensures played { IfOk result (λ played. IsPlayedOn W.state
+    // What is promised of `play` is so before the rounds, no losses among the events can make the nodes
+    // wait for good, and after the rounds it is so too, since they are events like any other.
+    ensures promised { IfOk result (λ played. HasPlayedOn W.state
         (rules_in W.physics config (length worlds.items)) config.settings events.now (keys_of keys) rounds played) }
-    // No losses among the events can make the nodes wait for good.
-    ensures goes_on { IfOk result (λ played. (p : IsPlayedOn W.state
-        (rules_in W.physics config (length worlds.items)) config.settings events.now (keys_of keys) rounds played)
-        × GoesOn (capacity config.limit (length worlds.items)) rounds (contents p.before.game) (contents played.game)) }
 {
     let mut played = play(alloc, config, worlds, events)?;
     match played.game.good_rounds(keys, rounds) {

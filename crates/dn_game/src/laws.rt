@@ -1,13 +1,16 @@
 //! What holds of every game.
 
-ghost use Rattle.std.specs.Prelude.{◌≡◌, ℕ, Bool, List};
+ghost use Rattle.std.specs.Prelude.{ℕ, Bool, List, Result};
 ghost use Rattle.dn_setup.specs.Settings.{Settings};
+ghost use Rattle.dn_machine.specs.declared.events.Done.{Done};
 ghost use Rattle.dn_machine.specs.declared.events.Event.{Event};
+ghost use Rattle.dn_machine.specs.declared.events.Refusal.{Refusal};
 ghost use Rattle.dn_machine.specs.Game.{applied};
 ghost use Rattle.dn_machine.specs.Promise.{keys_of};
 ghost use Rattle.dn_machine.specs.Worlds.{rules_of};
 ghost use Rattle.dn_game.specs.Agreed.{AreAgreed};
 ghost use Rattle.dn_game.specs.Contents.{Contents};
+ghost use Rattle.dn_game.specs.Played.{IsReachedWith};
 ghost use Rattle.dn_game.specs.Promised.{IsReached, IsPromised, IsSteady};
 
 use dn_world::World;
@@ -17,7 +20,12 @@ use dn_world::World;
 pub fn reached_games_agree<W: World>()
     ensures promised { (players : ℕ) (extra : Bool) (capacity : ℕ) (settings : Settings) (events : List Event) (g : Contents W)
         → (reached : IsReached W.state (rules_of W.physics players extra capacity) settings events g)
-        → (p : IsPromised W.state (rules_of W.physics players extra capacity) settings events g) × (p.reached ≡ reached) }
+        → (answers : List (Result Done Refusal))
+        × IsPromised W.state (rules_of W.physics players extra capacity) settings events answers reached.last g }
+    // Where the answers are known, it is promised of these.
+    ensures answered { (players : ℕ) (extra : Bool) (capacity : ℕ) (settings : Settings) (events : List Event) (answers : List (Result Done Refusal)) (g : Contents W)
+        → (reached : IsReachedWith W.state (rules_of W.physics players extra capacity) settings events answers g)
+        → IsPromised W.state (rules_of W.physics players extra capacity) settings events answers reached.last g }
     ensures agreed { (players : ℕ) (extra : Bool) (capacity : ℕ) (settings : Settings) (events : List Event) (g : Contents W)
         → (reached : IsReached W.state (rules_of W.physics players extra capacity) settings events g)
         → AreAgreed W.state (rules_of W.physics players extra capacity) settings (keys_of reached.last) g }

@@ -13,6 +13,7 @@ use dn_world::World;
 impl<W: World> Game<W> {
     ghost use Rattle.dn_game.specs.Contents.{contents};
     ghost use Rattle.dn_game.specs.Applied.{Tells, IsAfter, IsLeftOut, IsApplied, IsAddressed};
+    ghost use Rattle.dn_game.specs.Promised.{IsCarriedOn};
 
     /// Whether this is the number of a player.
     fn is_player(&self, node: u32) -> bool
@@ -111,6 +112,8 @@ impl<W: World> Game<W> {
         ensures applied { Tells W.state W.physics (contents self.old)
             (λ rules m. IsApplied W.state rules (contents self.old) (contents self.new) m event result) }
         ensures unchanged { OnErr result (contents self.new ≡ contents self.old) }
+        // Whatever events led to the game: they and this one lead to what it is afterwards.
+        ensures carried { IsCarriedOn W.state W.physics (contents self.old) (contents self.new) event result }
     {
         if let Some(refusal) = self.refused(event) {
             return Err(refusal);

@@ -3,7 +3,7 @@ use Rattle.dn_demo.specs.Recorded.{capacity}
 use Rattle.dn_game.specs.GoingOn.{IsPlayedOn}
 use Rattle.dn_game.specs.Opening.{rules_in}
 use Rattle.dn_game.specs.Rounds.{keys_of}
-use Rattle.dn_game.proofs.Continuing.{played_on_continues}
+use Rattle.dn_game.proofs.Continuing.{played_on_promised}
 use Rattle.dn_game.proofs.going_on.play_on.Goals as goal
 
 -- the rounds led on from the game that the events left
@@ -13,7 +13,7 @@ played_on : (g : _) (c : goal.In-Ok g)
 played_on g c =
     let config = c.args.config in
     let players = length c.args.worlds.items in
-    let played = c.in_ok-played.ensures.played in
+    let played = c.in_ok-played.ensures.promised.events_played in
     record {
       before = c.in_ok-played.played;
       events_played = played;
@@ -24,11 +24,7 @@ played_on g c =
       };
     }
 
-pub returns-in-Ok-clause-played : goal.returns-in-Ok-clause-played
-returns-in-Ok-clause-played g c = played_on g c
-
-pub returns-in-Ok-clause-goes_on : goal.returns-in-Ok-clause-goes_on
-returns-in-Ok-clause-goes_on g c =
-    let p = played_on g c in
+pub returns-in-Ok-clause-promised : goal.returns-in-Ok-clause-promised
+returns-in-Ok-clause-promised g c =
     let rules = rules_in g.W.World.physics c.args.config (length c.args.worlds.items) in
-    (p, played_on_continues _ rules c.args.config.settings c.args.events.now (keys_of c.args.keys) c.args.rounds _ p c.in_ok-played.ensures.admitted.0.0)
+    played_on_promised _ rules c.args.config.settings c.args.events.now (keys_of c.args.keys) c.args.rounds _ (played_on g c) c.in_ok-played.ensures.admitted.0.0

@@ -1,6 +1,6 @@
 use Rattle.dn_machine.specs.Worlds.{rules_of}
 use Rattle.dn_machine.proofs.Games.{always}
-use Rattle.dn_game.proofs.Promising.{reached_promised}
+use Rattle.dn_game.proofs.Promising.{promised, reached_promised}
 use Rattle.dn_game.proofs.SteadyAnswers.{applied_steady}
 use Rattle.dn_game.proofs.Agreeing.{agreed}
 use Rattle.dn_game.proofs.laws.reached_games_agree.Goals as goal
@@ -16,3 +16,7 @@ pub returns-clause-steady : goal.returns-clause-steady
 returns-clause-steady g c players extra capacity settings events contents reached =
     let rules = rules_of g.W.World.physics players extra capacity in
     applied_steady rules settings reached.last (always rules settings events reached.last reached.run)
+
+pub returns-clause-answered : goal.returns-clause-answered
+returns-clause-answered g c players extra capacity settings events answers contents reached =
+    promised _ (rules_of g.W.World.physics players extra capacity) settings events answers reached.last contents reached.plays reached.game

@@ -4,9 +4,7 @@ use Rattle.std.proofs.lemmas.List.{take_all, take_more}
 use Rattle.dn_machine.specs.declared.events.Event.{Event}
 use Rattle.dn_game.specs.Played.{IsPlayed}
 use Rattle.dn_game.proofs.Answering.{played_more}
-use Rattle.dn_game.proofs.Agreeing.{agreed_on_keys}
-use Rattle.dn_game.proofs.SteadyAnswers.{steady_answers}
-use Rattle.dn_game.proofs.Promising.{played_reached, reached_promised}
+use Rattle.dn_game.proofs.Promising.{played_promised}
 use Rattle.dn_game.proofs.playing.play.Goals as goal
 
 pub loop-event-preserved : goal.loop-event-preserved
@@ -33,16 +31,5 @@ whole g c =
     c.args.config.settings events c.loop-event.played in
     subst P (take_all c.loop-event.event-index c.args.events.now c.loop-event-test.false) c.loop-event.invariant.1
 
-pub returns-clause-played : goal.returns-clause-played
-returns-clause-played g c = whole g c
-
 pub returns-clause-promised : goal.returns-clause-promised
-returns-clause-promised g c =
-    (reached_promised _ _ c.args.config.settings c.args.events.now _ (played_reached _ _ c.args.config.settings c.args.events.now c.loop-event.played (whole g c))).0
-
-pub returns-clause-steady : goal.returns-clause-steady
-returns-clause-steady g c =
-    let p = whole g c in (p, steady_answers _ c.args.config.settings c.args.events.now p.answers p.last p.plays)
-
-pub returns-clause-agreed : goal.returns-clause-agreed
-returns-clause-agreed g c = let p = whole g c in (p, agreed_on_keys _ _ c.args.config.settings c.args.events.now p.answers p.last _ p.plays p.game)
+returns-clause-promised g c = played_promised _ _ c.args.config.settings c.args.events.now c.loop-event.played (whole g c)

@@ -1,15 +1,11 @@
 use Rattle.dn_demo.specs.Recorded.{capacity}
 use Rattle.dn_game.specs.Opening.{rules_in}
 use Rattle.std.proofs.Common.{◌≡◌, ◌+◌, ℕ, [], length, refl, ap, sym, ◌∙◌, subst, arith}
-use Rattle.dn_machine.specs.Game.{opening_game}
-use Rattle.dn_game.specs.Schedule.{behind_three, generator_of, scheduled}
+use Rattle.dn_game.specs.Schedule.{behind_three, scheduled}
 use Rattle.dn_game.specs.Stormed.{IsStormed}
 use Rattle.dn_game.specs.declared.played.Played.{Played}
-use Rattle.dn_game.proofs.Agreeing.{agreed_on_keys}
-use Rattle.dn_game.proofs.Following.{follows_plays, stormed_played, stormed_more}
+use Rattle.dn_game.proofs.Following.{stormed_promised, stormed_more}
 use Rattle.dn_game.proofs.NeverStopping.{storm_goes_on}
-use Rattle.dn_game.proofs.SteadyAnswers.{steady_answers}
-use Rattle.dn_game.proofs.Promising.{played_reached, reached_promised}
 use Rattle.dn_game.proofs.storming.storm.Goals as goal
 use Rattle.dn_game.proofs.storming.storm.Goals.{in-Some, in_default}
 
@@ -48,23 +44,5 @@ whole g c =
     c.args.config.settings c.args.seed k c.loop.played in
     subst P (omega (arith, c.loop-test.false, c.loop.auto.counter-end)) c.loop.invariant.1.0
 
-pub returns-clause-stormed : goal.returns-clause-stormed
-returns-clause-stormed g c = whole g c
-
 pub returns-clause-promised : goal.returns-clause-promised
-returns-clause-promised g c =
-    let s = whole g c in
-    let played = stormed_played _ _ _ _ _ _ s in
-    (s, (reached_promised _ _ c.args.config.settings s.events _ (played_reached _ _ c.args.config.settings s.events c.loop.played played)).0)
-
-pub returns-clause-steady : goal.returns-clause-steady
-returns-clause-steady g c =
-    let s = whole g c in
-    let plays = follows_plays _ (generator_of c.args.seed) s.events s.answers s.rest (opening_game c.args.config.settings) s.last s.follows in
-    (s, steady_answers _ c.args.config.settings s.events s.answers s.last plays)
-
-pub returns-clause-agreed : goal.returns-clause-agreed
-returns-clause-agreed g c =
-    let s = whole g c in
-    let plays = follows_plays _ (generator_of c.args.seed) s.events s.answers s.rest (opening_game c.args.config.settings) s.last s.follows in
-    (s, agreed_on_keys _ _ c.args.config.settings s.events s.answers s.last _ plays s.game)
+returns-clause-promised g c = stormed_promised _ _ c.args.config.settings c.args.seed c.args.count c.loop.played (whole g c)

@@ -13,7 +13,7 @@ use Rattle.dn_netgame.proofs.calm.text_of.Goals as goal
 pub returns-in-Ok-good_rounds : goal.returns-in-Ok-good_rounds
 returns-in-Ok-good_rounds c =
     let all : length c.in_ok-walks.walks.items ≡ c.args.players = search rules in
-    let stormed = c.in-Ok.ensures.stormed in
+    let stormed = c.in-Ok.ensures.promised.stormed in
     let config = c.args.config in
     let players = length c.in_ok-walks.walks.items in
     let By : ℕ → Type 0 = λ players. WalksOn config players c.args.seed c.args.count c.args.calm (record c.in-Ok.played { game = c.good_rounds.new.self }) in

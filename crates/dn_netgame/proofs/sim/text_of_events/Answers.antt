@@ -7,4 +7,4 @@ pub returns-in-Ok : goal.returns-in-Ok
 returns-in-Ok c =
     let all : length c.in_ok-walks.walks.items ≡ c.args.players = search rules in
     let By : ℕ → Type 0 = λ players. WalksBy c.args.config players c.args.events.now c.in-Ok.played in
-    game_text c.text_of_game.result _ c.in-Ok.played (subst By all c.in-Ok.ensures.played) c.text_of_game.ensures
+    game_text c.text_of_game.result _ c.in-Ok.played (subst By all c.in-Ok.ensures.promised.events_played) c.text_of_game.ensures

@@ -4,6 +4,7 @@ use Rattle.dn_machine.specs.Game.{refused}
 use Rattle.dn_machine.specs.Worlds.{rules_of}
 use Rattle.dn_game.specs.Contents.{contents}
 use Rattle.dn_game.specs.Applied.{IsAddressed}
+use Rattle.dn_game.proofs.Answering.{carries}
 use Rattle.dn_game.proofs.Applying.{after_refused, after_event, after_send, after_step, stops}
 use Rattle.dn_game.proofs.Standing.{node_at}
 use Rattle.dn_game.proofs.game.Game.apply.Goals as goal
@@ -56,3 +57,24 @@ returns-in-Stop-clause-applied g c players extra capacity m r =
     let below : c.in-Stop.node < length n.nodes.items = subst (IsAddressed (contents n)) c.in-Stop.is (c.in_default.ensures.there refl) in
     let inside : c.in-Stop.node < length n.stopped = omega (arith, n.few) in
     inl (after_event _ rules _ m _ _ c.in-Stop.is _ (c.in_default.ensures.told players extra capacity m r) (stops _ rules _ m _ r inside))
+
+pub returns-in-Some-clause-carried : goal.returns-in-Some-clause-carried
+returns-in-Some-clause-carried g c = carries _ _ _ _ _ _ (returns-in-Some-clause-applied g c)
+
+pub returns-in-Send-clause-carried : goal.returns-in-Send-clause-carried
+returns-in-Send-clause-carried g c = carries _ _ _ _ _ _ (returns-in-Send-clause-applied g c)
+
+pub returns-in-Build-clause-carried : goal.returns-in-Build-clause-carried
+returns-in-Build-clause-carried g c = carries _ _ _ _ _ _ (returns-in-Build-clause-applied g c)
+
+pub returns-in-Deliver-clause-carried : goal.returns-in-Deliver-clause-carried
+returns-in-Deliver-clause-carried g c = carries _ _ _ _ _ _ (returns-in-Deliver-clause-applied g c)
+
+pub returns-in-Run-clause-carried : goal.returns-in-Run-clause-carried
+returns-in-Run-clause-carried g c = carries _ _ _ _ _ _ (returns-in-Run-clause-applied g c)
+
+pub returns-in-Quit-clause-carried : goal.returns-in-Quit-clause-carried
+returns-in-Quit-clause-carried g c = carries _ _ _ _ _ _ (returns-in-Quit-clause-applied g c)
+
+pub returns-in-Stop-clause-carried : goal.returns-in-Stop-clause-carried
+returns-in-Stop-clause-carried g c = carries _ _ _ _ _ _ (returns-in-Stop-clause-applied g c)
