@@ -22,3 +22,8 @@ IsReadAs bytes (Err Many) = (8 ≤ length bytes) × (12 < told_count bytes)
 IsReadAs bytes (Err Length) = (8 ≤ length bytes) × (told_count bytes ≤ 12) × (length bytes ≢ 8 + 8 * told_count bytes)
 IsReadAs bytes (Err Sum) =
     (told_count bytes ≤ 12) × (length bytes ≡ 8 + 8 * told_count bytes) × (told_sum bytes ≢ sum_of (drop 4 bytes))
+
+-- what is read into a packet
+abbrev pub read_into : Packet → Result Unit PacketFault → Result Packet PacketFault
+read_into p (Ok unit) = Ok p
+read_into p (Err fault) = Err fault

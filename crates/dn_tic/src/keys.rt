@@ -30,7 +30,7 @@ pub enum Key {
 
 impl Key {
     /// The bit of a key state that this key has.
-    fn place(self) -> u32
+    pub(crate) fn place(self) -> u32
         ensures place { result ≡ place_of self }
         ensures small { result < 18 }
     {

@@ -1,7 +1,7 @@
 //! What the keys of one build give: moves, a turn and buttons.
 
 ghost use Rattle.std.specs.Prelude.{◌≡◌, ◌≤◌, ◌≤ℤ◌, ◌+ℤ◌, pos, negsuc};
-ghost use Rattle.std.specs.List.{position};
+ghost use Rattle.std.specs.List.{position, position_or_len};
 ghost use Rattle.dn_tic.specs.Keys.{is_down};
 ghost use Rattle.dn_tic.specs.Pressed.{opposed, forward_amount, side_amount, turn_amount, strafed, turned, buttons_of, weapons, weapon_buttons, clamped};
 
@@ -21,16 +21,8 @@ const CHANGE: u8 = 4;
 
 const NEXT_WEAPON: u8 = 8;
 
-const WEAPONS: [Key; 8] = [
-    Key::Weapon1,
-    Key::Weapon2,
-    Key::Weapon3,
-    Key::Weapon4,
-    Key::Weapon5,
-    Key::Weapon6,
-    Key::Weapon7,
-    Key::Weapon8,
-];
+/// How many weapon keys there are.
+const WEAPONS: u8 = 8;
 
 /// What a pair of opposite keys gives.
 fn opposed(keys: Keys, more: Key, less: Key, amount: i16) -> i16
@@ -103,11 +95,13 @@ pub(crate) fn turn(keys: Keys, hold: u8) -> i16
         * opposed(keys, Key::Left, Key::Right, turn_amount(keys, hold))
 }
 
-/// The place of the first of these keys that is down.
-fn first_down(keys: Keys, among: &[Key]) -> Option<usize>
-    ensures { result ≡ position (is_down keys) among.now }
+/// The place of the lowest weapon key that is down, and their number where none is.
+fn lowest_weapon(keys: Keys) -> u8
+    ensures { result ≡ position_or_len (is_down keys) weapons }
 {
-    among.iter().position(|&key| keys.is_down(key))
+    // The zeros below its bit, where a search of the keys would be guessed wrongly.
+    let weapons = (keys.bits() >> Key::Weapon1.place()) as u8;
+    weapons.trailing_zeros() as u8
 }
 
 /// What the lowest weapon key that is down adds to the buttons.
@@ -115,9 +109,11 @@ fn weapon_buttons(keys: Keys) -> u8
     ensures value { result ≡ weapon_buttons (position (is_down keys) weapons) }
     ensures small { result ≤ 60 }
 {
-    match first_down(keys, &WEAPONS) {
-        Some(place) => CHANGE + NEXT_WEAPON * place as u8,
-        None => 0,
+    let place = lowest_weapon(keys);
+    if place < WEAPONS {
+        CHANGE + NEXT_WEAPON * place
+    } else {
+        0
     }
 }
 
