@@ -1,5 +1,5 @@
 -- What a feed has kept, as bytes come.
-use Rattle.std.proofs.Common.{◌≡◌, ◌<◌, ◌≤◌, ℕ, ◌+◌, ◌-◌, ◌*◌, ◌/◌, ◌%◌, true, false, List, [], ◌∷◌, ◌++◌, length, Ok, Err, refl, sym, ap, ◌∙◌, subst, arith, inl, inr, append_assoc, append-nil, length-append}
+use Rattle.std.proofs.Common.{◌≡◌, ◌<◌, ◌≤◌, ℕ, ◌+◌, ◌-◌, ◌*◌, ◌/◌, ◌%◌, true, false, List, [], ◌∷◌, ◌++◌, length, Ok, Err, sym, ap, ◌∙◌, subst, arith, inl, inr, append_assoc, append-nil, length-append}
 use Rattle.std.proofs.Math.Nat.{mul-div_cancel_left}
 use Rattle.std.proofs.lemmas.Nat.{div-mul-add, mod-mul-add}
 use Rattle.std.proofs.lemmas.Bool.{cases_lt}
@@ -86,16 +86,6 @@ fed_as state physics layout bytes f h marked rows =
 pub no_marker : {S W : Type 0} (state : W → S) (physics : Physics S) (layout : Layout) (bytes : List ℕ) (f : Feeding W) → HasHeader layout bytes → f.marked ≡ false
     → ShowsRows state physics layout bytes f → IsReadAs bytes (Err NoMarker)
 no_marker state physics layout bytes f h free rows = (layout, h, (unmarked state physics layout bytes f free rows).none)
-
--- nothing came yet
-pub front_none : {S W : Type 0} (state : W → S) (physics : Physics S) (f : Feeding W) (piece : List ℕ) → TakesFront state physics f piece piece f
-front_none state physics f piece =
-    record {
-      front = [];
-      split = refl;
-      count = omega arith;
-      shown = λ bytes shown. subst (λ (b : List ℕ). Shows state physics b f) (sym (append-nil bytes)) shown;
-    }
 
 -- a front, and one behind it
 pub front_more : {S W : Type 0} (state : W → S) (physics : Physics S) (f g h : Feeding W) (piece mid rest : List ℕ)

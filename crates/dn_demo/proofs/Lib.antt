@@ -16,3 +16,4 @@ mod FeedKept
 mod FeedSteps
 mod FeedEnds
 mod PiecesJoined
+pub mod Listing

@@ -10,7 +10,7 @@ use Rattle.dn_world.specs.Physics.{Physics}
 use Rattle.dn_demo.specs.Layout.{Layout, command_size}
 use Rattle.dn_demo.specs.Rows.{player_count}
 use Rattle.dn_demo.specs.Text.{marker}
-use Rattle.dn_demo.specs.Places.{start_in, seats_in, place, moves_from, row_in, HasNoMarker}
+use Rattle.dn_demo.specs.Places.{start_in, seats_in, place, moves_from, row_in, HasNoMarker, IsUnmarked}
 use Rattle.dn_demo.specs.Feeding.{Feeding, IsFront, ShowsRows, Steps, row_size, state_by}
 use Rattle.dn_demo.proofs.Layouts.{place_below}
 use Rattle.dn_demo.proofs.Stepping.{seats_in-append, state_by-append, state_by-more}
@@ -34,10 +34,6 @@ stays bytes more i x here =
     let below = slice_get_within bytes i x here in
     slice_get-get_or (bytes ++ more) i 0 (omega (arith, length-append bytes more))
     ∙ ap (λ b. Some b) (get_or_append_left bytes more 0 i below) ∙ sym (slice_get-get_or bytes i 0 below) ∙ here
-
--- no marker is at any place
-abbrev pub IsUnmarked : Layout → List ℕ → Type 0
-IsUnmarked layout bytes = (command : ℕ) → slice_get bytes (place layout command) ≢ Some marker
 
 none_behind : (layout : Layout) (bytes more : List ℕ) → IsUnmarked layout bytes
     → ((command : ℕ) → length bytes ≤ place layout command → slice_get more (place layout command - length bytes) ≢ Some marker)
@@ -128,6 +124,27 @@ byte_kept state physics layout bytes f g byte u not tics row after world room =
           ∙ ap (state_by physics layout (bytes ++ byte ∷ [])) (sym tics);
     }
 
+-- the row that a byte ends
+pub row_told : {S W : Type 0} (state : W → S) (physics : Physics S) (layout : Layout) (bytes : List ℕ) (f : Feeding W) (byte : ℕ)
+    (present : List Bool) (moves : List (Option Move))
+    → Unmarked state physics layout bytes f → present ≡ seats_in bytes
+    → ((front : List ℕ) (command : ℕ) → length front + 0 ≡ place layout command → moves ≡ moves_from layout (front ++ (f.row ++ byte ∷ [])) present command)
+    → moves ≡ row_in layout (bytes ++ byte ∷ []) f.tics
+row_told state physics layout bytes f byte present moves u seats told =
+    let all = bytes ++ byte ∷ [] in
+    let players = player_count (seats_in bytes) in
+    let whole : row_place layout bytes f.tics ≤ length bytes = omega (arith, u.size) in
+    let front = take (row_place layout bytes f.tics) bytes in
+    let len : length front + 0 ≡ place layout (players * f.tics) = omega (arith, length-take-le (row_place layout bytes f.tics) bytes whole) in
+    let joined : front ++ (f.row ++ byte ∷ []) ≡ all =
+    ap (λ (t : List ℕ). front ++ (t ++ byte ∷ [])) u.row ∙ sym (append_assoc front (drop (row_place layout bytes f.tics) bytes) (byte ∷ []))
+    ∙ ap (λ (t : List ℕ). t ++ byte ∷ []) (take-append-drop (row_place layout bytes f.tics) bytes) in
+    let same : present ≡ seats_in all = seats ∙ sym (seats_in-append bytes (byte ∷ []) (omega arith)) in
+    let count : player_count present ≡ players = ap player_count seats in
+    told front (players * f.tics) len ∙ ap (λ (t : List ℕ). moves_from layout t present (players * f.tics)) joined
+    ∙ ap (λ n. moves_from layout all present (n * f.tics)) (sym count)
+    ∙ ap (λ (s : List Bool). moves_from layout all s (player_count s * f.tics)) same
+
 -- the last byte of the row
 pub row_done : {S W : Type 0} (state : W → S) (physics : Physics S) (layout : Layout) (bytes : List ℕ) (f g : Feeding W) (byte : ℕ)
     (present : List Bool) (moves : List (Option Move))
@@ -139,17 +156,7 @@ row_done state physics layout bytes f g byte present moves u not tics row after 
     let all = bytes ++ byte ∷ [] in
     let players = player_count (seats_in bytes) in
     let whole : row_place layout bytes f.tics ≤ length bytes = omega (arith, u.size) in
-    let front = take (row_place layout bytes f.tics) bytes in
-    let len : length front + 0 ≡ place layout (players * f.tics) = omega (arith, length-take-le (row_place layout bytes f.tics) bytes whole) in
-    let joined : front ++ (f.row ++ byte ∷ []) ≡ all =
-    ap (λ (t : List ℕ). front ++ (t ++ byte ∷ [])) u.row ∙ sym (append_assoc front (drop (row_place layout bytes f.tics) bytes) (byte ∷ []))
-    ∙ ap (λ (t : List ℕ). t ++ byte ∷ []) (take-append-drop (row_place layout bytes f.tics) bytes) in
-    let same : present ≡ seats_in all = seats ∙ sym (seats_in-append bytes (byte ∷ []) (omega arith)) in
-    let count : player_count present ≡ players = ap player_count seats in
-    let own : moves ≡ row_in layout all f.tics =
-    told front (players * f.tics) len ∙ ap (λ (t : List ℕ). moves_from layout t present (players * f.tics)) joined
-    ∙ ap (λ n. moves_from layout all present (n * f.tics)) (sym count)
-    ∙ ap (λ (s : List Bool). moves_from layout all s (player_count s * f.tics)) same in
+    let own : moves ≡ row_in layout all f.tics = row_told state physics layout bytes f byte present moves u seats told in
     let at : row_place layout all g.tics ≡ row_place layout bytes (f.tics + 1) =
     same_place layout bytes (byte ∷ []) g.tics (omega arith) ∙ ap (row_place layout bytes) tics in
     let next : row_place layout bytes (f.tics + 1) ≡ row_place layout bytes f.tics + row_size layout (seats_in bytes) = omega arith in
@@ -174,7 +181,7 @@ lt_of_product n i j less =
       | inr past ↦ let more : n * j ≤ n * i = mul-le-mul_left n (omega arith) in absurd (omega arith)
     ]
 
-place_order : (layout : Layout) (j k : ℕ) → place layout j ≤ place layout k → j ≤ k
+pub place_order : (layout : Layout) (j k : ℕ) → place layout j ≤ place layout k → j ≤ k
 place_order layout j k order =
     elim (cases_lt k j) [
       | inl above ↦ absurd (omega (arith, place_below layout k j above, order))

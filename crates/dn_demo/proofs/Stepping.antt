@@ -12,7 +12,7 @@ use Rattle.dn_world.specs.Physics.{Physics}
 use Rattle.dn_demo.specs.Layout.{Layout, command_size}
 use Rattle.dn_demo.specs.Rows.{player_count}
 use Rattle.dn_demo.specs.Text.{marker}
-use Rattle.dn_demo.specs.Places.{start_in, seats_in, place, moves_from, row_in}
+use Rattle.dn_demo.specs.Places.{start_in, seats_in, place, moves_from, row_in, rows_in}
 use Rattle.dn_demo.specs.Feeding.{row_size, state_by, Steps}
 use Rattle.dn_demo.proofs.Fronts.{start_in-take, seats_in-take, moves_from-take, map-agree}
 
@@ -41,13 +41,18 @@ row_in-append layout bytes more tics tic whole below =
     ap (λ (s : List Bool). moves_from layout (bytes ++ more) s (player_count s * tic)) (seats_in-append bytes more (omega arith))
     ∙ moves_from-append layout (players * tics) bytes more (seats_in bytes) (players * tic) whole (omega arith)
 
+pub rows_in-append : (layout : Layout) (bytes more : List ℕ) (tics : ℕ) → place layout (player_count (seats_in bytes) * tics) ≤ length bytes
+    → rows_in layout (bytes ++ more) tics ≡ rows_in layout bytes tics
+rows_in-append layout bytes more tics whole =
+    map-agree (row_in layout (bytes ++ more)) (row_in layout bytes) 0 tics (λ i low high. row_in-append layout bytes more tics i whole (omega arith))
+
 -- so the world is the same after tics that came
 pub state_by-append : {S : Type 0} (physics : Physics S) (layout : Layout) (bytes more : List ℕ) (tics : ℕ)
     → place layout (player_count (seats_in bytes) * tics) ≤ length bytes → state_by physics layout (bytes ++ more) tics ≡ state_by physics layout bytes tics
 state_by-append physics layout bytes more tics whole =
     let start = start_in-append bytes more (omega arith) in
     let seats = seats_in-append bytes more (omega arith) in
-    let rows = map-agree (row_in layout (bytes ++ more)) (row_in layout bytes) 0 tics (λ i low high. row_in-append layout bytes more tics i whole (omega arith)) in
+    let rows = rows_in-append layout bytes more tics whole in
     λ i. fold physics.step (physics.begin (start i) (seats i)) (rows i)
 
 -- one more tic

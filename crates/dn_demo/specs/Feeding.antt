@@ -1,12 +1,11 @@
 -- A demo that is fed in pieces: what is kept of the bytes so far.
-use Rattle.std.specs.Prelude.{◌≡◌, ◌≢◌, ◌<◌, ◌≤◌, ℕ, ◌+◌, ◌-◌, ◌*◌, Bool, true, false, List, [], ◌∷◌, ◌++◌, length, map, take, drop, fold, slice_get, Some}
-use Rattle.std.specs.List.{range_with_len}
+use Rattle.std.specs.Prelude.{◌≡◌, ◌≢◌, ◌<◌, ◌≤◌, ℕ, ◌+◌, ◌-◌, ◌*◌, Bool, true, false, List, [], ◌∷◌, ◌++◌, length, take, drop, slice_get, Some}
 use Rattle.dn_world.specs.Physics.{Physics}
 use Rattle.dn_demo.specs.Layout.{Layout, command_size}
 use Rattle.dn_demo.specs.Rows.{player_count}
 use Rattle.dn_demo.specs.Text.{marker, header_size}
-use Rattle.dn_demo.specs.Places.{start_in, seats_in, place, row_in, EndsBehind}
-use Rattle.dn_demo.specs.Reading.{HasHeader}
+use Rattle.dn_demo.specs.Places.{start_in, seats_in, place, rows_in, EndsBehind, IsUnmarked}
+use Rattle.dn_demo.specs.Reading.{HasHeader, state_through}
 
 -- what is kept: how many bytes came, the front of them that is the header, how many whole tics came before the marker,
 -- the bytes behind these tics and before the marker, whether the marker came, how many bytes came after it, and the world
@@ -29,12 +28,11 @@ IsFront layout bytes true front after =
     (commands : ℕ) × EndsBehind layout bytes commands
     × (front ≡ take (place layout commands) bytes) × (after ≡ length bytes - (place layout commands + 1))
 IsFront layout bytes false front after =
-    ((command : ℕ) → slice_get bytes (place layout command) ≢ Some marker) × (front ≡ bytes) × (after ≡ 0)
+    IsUnmarked layout bytes × (front ≡ bytes) × (after ≡ 0)
 
 -- the state of a world that began as the demo does, and was stepped by the rows of its first tics
 abbrev pub state_by : {S : Type 0} → Physics S → Layout → List ℕ → ℕ → S
-state_by physics layout bytes tics =
-    fold physics.step (physics.begin (start_in bytes) (seats_in bytes)) (map (row_in layout bytes) (range_with_len 0 tics))
+state_by physics layout bytes tics = state_through physics (start_in bytes) (seats_in bytes) (rows_in layout bytes tics)
 
 -- what is kept of the commands in these bytes: the front has so many whole tics and less than another, and the world was
 -- stepped by them

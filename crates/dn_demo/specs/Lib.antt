@@ -7,3 +7,4 @@ pub mod Reading
 pub mod Upgraded
 pub mod Feeding
 pub mod Fed
+pub mod Listed

@@ -1,5 +1,6 @@
 -- Where things stand in the bytes of a demo (g_game.c, G_DoPlayDemo and G_ReadDemoTiccmd).
-use Rattle.std.specs.Prelude.{◌≡◌, ◌≢◌, ◌<◌, ℕ, ◌+◌, ◌-◌, ◌*◌, ◌/◌, Bool, true, false, not, ◌==◌, List, [], ◌∷◌, length, take, drop, slice_get, slice_index, Option, Some, None}
+use Rattle.std.specs.Prelude.{◌≡◌, ◌≢◌, ◌<◌, ◌⊎◌, ℕ, ◌+◌, ◌-◌, ◌*◌, ◌/◌, Bool, true, false, not, ◌==◌, List, [], ◌∷◌, length, map, take, drop, slice_get, slice_index, Option, Some, None}
+use Rattle.std.specs.List.{range_with_len}
 use Rattle.dn_tic.specs.declared.command.Move.{Move}
 use Rattle.dn_setup.specs.declared.start.Start.{Start}
 use Rattle.dn_demo.specs.Layout.{Layout, layout_of_version, command_size, tell}
@@ -58,6 +59,10 @@ commands_in layout bytes = (length bytes - header_size) / command_size layout
 abbrev pub row_in : Layout → List ℕ → ℕ → List (Option Move)
 row_in layout bytes tic = moves_from layout bytes (seats_in bytes) (player_count (seats_in bytes) * tic)
 
+-- the rows of the first tics
+abbrev pub rows_in : Layout → List ℕ → ℕ → List (List (Option Move))
+rows_in layout bytes tics = map (row_in layout bytes) (range_with_len 0 tics)
+
 -- no marker is at the place of one of the first commands
 abbrev pub HasNoMarker : Layout → List ℕ → ℕ → Type 0
 HasNoMarker layout bytes commands =
@@ -67,3 +72,12 @@ HasNoMarker layout bytes commands =
 pub record EndsBehind (layout : Layout) (bytes : List ℕ) (commands : ℕ) : Type 0 where
   pub marked : slice_get bytes (place layout commands) ≡ Some marker
   pub first : HasNoMarker layout bytes commands
+
+-- no marker is at the place of any command
+abbrev pub IsUnmarked : Layout → List ℕ → Type 0
+IsUnmarked layout bytes = (command : ℕ) → slice_get bytes (place layout command) ≢ Some marker
+
+-- so many whole commands stand before the marker, or before the end where there is no marker
+abbrev pub HasCommands : Layout → List ℕ → ℕ → Type 0
+HasCommands layout bytes commands =
+    EndsBehind layout bytes commands ⊎ (IsUnmarked layout bytes × (commands ≡ commands_in layout bytes))

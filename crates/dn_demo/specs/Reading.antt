@@ -1,13 +1,12 @@
 -- What the bytes of a demo are read as.
-use Rattle.std.specs.Prelude.{◌≡◌, ◌≢◌, ◌<◌, ◌≤◌, ◌⊎◌, ℕ, ◌+◌, ◌-◌, ◌/◌, ◌%◌, Bool, true, List, map, length, fold, slice_get, slice_index, Option, Some, None, is_some, Result, Ok, Err}
-use Rattle.std.specs.List.{range_with_len}
+use Rattle.std.specs.Prelude.{◌≡◌, ◌<◌, ◌≤◌, ◌⊎◌, ℕ, ◌+◌, ◌-◌, ◌/◌, ◌%◌, Bool, true, List, [], length, fold, slice_index, Option, Some, None, is_some, Result, Ok, Err}
 use Rattle.dn_tic.specs.declared.command.Move.{Move}
 use Rattle.dn_setup.specs.declared.start.Start.{Start}
 use Rattle.dn_world.specs.Physics.{Physics}
 use Rattle.dn_demo.specs.Layout.{Layout}
 use Rattle.dn_demo.specs.Rows.{player_count}
-use Rattle.dn_demo.specs.Text.{marker, header_size}
-use Rattle.dn_demo.specs.Places.{layout_in, start_in, seats_in, place, row_in, EndsBehind}
+use Rattle.dn_demo.specs.Text.{header_size}
+use Rattle.dn_demo.specs.Places.{layout_in, start_in, seats_in, place, rows_in, EndsBehind, IsUnmarked, HasCommands}
 use Rattle.dn_demo.specs.declared.demo.DemoFault.{DemoFault}
 use Rattle.dn_demo.specs.declared.demo.DemoFault.TheVariants.{Short, Version, NoPlayers, NoMarker, Memory}
 
@@ -32,7 +31,7 @@ recording layout bytes commands after =
       start = start_in bytes;
       view = slice_index bytes 8;
       present = seats_in bytes;
-      rows = map (row_in layout bytes) (range_with_len 0 (commands / players));
+      rows = rows_in layout bytes (commands / players);
       cut = commands % players;
       after = after;
     }
@@ -59,13 +58,24 @@ IsReadAs bytes (Err Version) = (header_size ≤ length bytes) × (layout_in byte
 IsReadAs bytes (Err NoPlayers) =
     (header_size ≤ length bytes) × (is_some (layout_in bytes) ≡ true) × (player_count (seats_in bytes) ≡ 0)
 IsReadAs bytes (Err NoMarker) =
-    (layout : Layout) × HasHeader layout bytes × ((command : ℕ) → slice_get bytes (place layout command) ≢ Some marker)
+    (layout : Layout) × HasHeader layout bytes × IsUnmarked layout bytes
 IsReadAs bytes (Err Memory) = (layout : Layout) × HasHeader layout bytes × ((commands : ℕ) × EndsBehind layout bytes commands)
 
 -- two readings are the same, but that one may be refused for want of memory
 abbrev pub IsSameButMemory : Result Recording DemoFault → Result Recording DemoFault → Type 0
 IsSameButMemory one other = (one ≡ other) ⊎ (one ≡ Err Memory) ⊎ (other ≡ Err Memory)
 
--- the state of a world in which the demo was played: it begins as the demo does, and is stepped by each row
+-- the state of a world that begins like this, and is stepped by each of these rows
+abbrev pub state_through : {S : Type 0} → Physics S → Start → List Bool → List (List (Option Move)) → S
+state_through physics start present rows = fold physics.step (physics.begin start present) rows
+
+-- the state of a world in which the demo was played
 abbrev pub state_after : {S : Type 0} → Physics S → Recording → S
-state_after physics demo = fold physics.step (physics.begin demo.start demo.present) demo.rows
+state_after physics demo = state_through physics demo.start demo.present demo.rows
+
+-- the rows that bytes have, whether they are a demo or not: those of the whole tics before the marker, or before the end
+-- where there is no marker; and none without a whole header in which somebody plays
+pub record HasRows (bytes : List ℕ) (rows : List (List (Option Move))) : Type 0 where
+  pub some : (layout : Layout) → HasHeader layout bytes
+      → (commands : ℕ) × HasCommands layout bytes commands × (rows ≡ rows_in layout bytes (commands / player_count (seats_in bytes)))
+  pub none : ((layout : Layout) → ¬ HasHeader layout bytes) → rows ≡ []

@@ -1,6 +1,6 @@
 //! A demo that is fed in pieces.
 
-ghost use Rattle.std.specs.Prelude.{◌≡◌, ◌≢◌, ◌<◌, ◌≤◌, ℕ, ◌+◌, ◌%◌, Bool, true, false, List, [], ◌∷◌, length, Some, IfSome, IfNone};
+ghost use Rattle.std.specs.Prelude.{◌≡◌, ◌≢◌, ◌<◌, ◌≤◌, ℕ, ◌+◌, ◌%◌, Bool, true, false, List, [], ◌∷◌, ◌++◌, length, Some, IfSome, IfNone};
 ghost use Rattle.dn_demo.specs.Layout as specs;
 ghost use Rattle.dn_demo.specs.Layout.{layout_of, command_size};
 ghost use Rattle.dn_demo.specs.Rows.{player_count};
@@ -9,11 +9,13 @@ ghost use Rattle.dn_demo.specs.Places.{seats_in};
 ghost use Rattle.dn_demo.specs.Reading.{HasHeader};
 ghost use Rattle.dn_demo.specs.Feeding.{Feeding, Shows, Takes, TakesFront, row_size};
 ghost use Rattle.dn_demo.specs.Fed.{EndsAs};
+ghost use Rattle.dn_demo.specs.Listed.{told, EndsRow, Lists, TellsFront};
 
 use crate::demo::{self, DemoFault};
 use crate::fed::{Fed, FeedFault};
 use crate::layout::{HEADER, Layout, MARKER};
 use crate::{reading, rows};
+use dn_tic::Move;
 use dn_world::World;
 use std::marker::Model;
 
@@ -59,6 +61,7 @@ impl<W: World> Feed<W> {
     /// A feed that no bytes came to.
     pub fn new(world: W) -> Feed<W>
         ensures count { result.taken ≡ 0 }
+        ensures tics { result.tics ≡ 0 }
         ensures shown { Shows W.state W.physics [] result }
     {
         Feed {
@@ -80,6 +83,13 @@ impl<W: World> Feed<W> {
         self.taken
     }
 
+    /// How many whole tics came.
+    pub fn tics(&self) -> u64
+        ensures { result ≡ self.now.tics }
+    {
+        self.tics
+    }
+
     /// How the commands are laid out, once the header is whole and somebody plays.
     fn layout(&self) -> Option<Layout>
         ensures some { IfSome result (λ layout. HasHeader (layout_of layout) self.now.header) }
@@ -96,6 +106,8 @@ impl<W: World> Feed<W> {
     fn take_header(&mut self, byte: u8)
         requires { self.old.taken < header_size }
         ensures count { self.new.taken ≡ self.old.taken + 1 }
+        ensures before { self.old.tics ≡ 0 }
+        ensures after { self.new.tics ≡ 0 }
         ensures shown { Takes W.state W.physics self.old (byte ∷ []) self.new }
     {
         self.header[self.taken as usize] = byte;
@@ -107,17 +119,21 @@ impl<W: World> Feed<W> {
     }
 
     /// Takes a byte of a command, or the marker. With the last byte of a row the world is stepped.
-    fn take_command(&mut self, byte: u8, layout: Layout)
+    /// Answers the row that it ended.
+    fn take_command(&mut self, byte: u8, layout: Layout) -> Option<[Option<Move>; 4]>
         requires header { HasHeader (layout_of layout) self.old.header }
         requires unmarked { self.old.marked ≡ false }
         requires few { self.old.taken < 4294967295 }
         ensures count { self.new.taken ≡ self.old.taken + 1 }
         ensures shown { Takes W.state W.physics self.old (byte ∷ []) self.new }
+        ensures row { (bytes : List ℕ) → Shows W.state W.physics bytes self.old
+            → EndsRow (layout_of layout) (bytes ++ byte ∷ []) self.old.tics self.new.tics result }
+        ensures tics { self.new.tics ≡ self.old.tics + length (told result) }
     {
         self.taken += 1;
         if is_marker(byte, self.kept, layout) {
             self.marked = true;
-            return;
+            return None;
         }
         self.row[self.kept] = byte;
         self.kept += 1;
@@ -127,7 +143,9 @@ impl<W: World> Feed<W> {
             self.world.step(&row);
             self.tics += 1;
             self.kept = 0;
+            return Some(row);
         }
+        None
     }
 
     /// Takes whole rows with no marker, unless a row is unfinished, and answers what is left.
@@ -157,6 +175,7 @@ impl<W: World> Feed<W> {
         requires unread { self.old.marked ≡ false → (layout : specs.Layout) → ¬ HasHeader layout self.old.header }
         requires few { self.old.taken + length piece.now ≤ 4294967295 }
         ensures count { self.new.taken ≡ self.old.taken + length piece.now }
+        ensures tics { self.new.tics ≡ self.old.tics }
         ensures shown { Takes W.state W.physics self.old piece.now self.new }
     {
         self.taken += piece.len() as u64;
@@ -190,6 +209,46 @@ impl<W: World> Feed<W> {
         };
         self.take_command(*byte, layout);
         behind
+    }
+
+    /// Takes a byte, and answers the row that it ends.
+    fn take_byte(&mut self, byte: u8) -> Option<[Option<Move>; 4]>
+        requires few { self.old.taken < 4294967295 }
+        ensures count { self.new.taken ≡ self.old.taken + 1 }
+        ensures shown { Takes W.state W.physics self.old (byte ∷ []) self.new }
+        ensures listed { Lists W.state W.physics self.old (byte ∷ []) self.new (told result) }
+    {
+        if self.taken < HEADER as u64 {
+            self.take_header(byte);
+            return None;
+        }
+        let Some(layout) = self.layout() else {
+            self.pass(&[byte]);
+            return None;
+        };
+        if self.marked {
+            self.pass(&[byte]);
+            return None;
+        }
+        self.take_command(byte, layout)
+    }
+
+    /// Takes the next piece up to the end of a tic, and answers the row of this tic and the bytes that are left; or
+    /// takes all of the piece, where no tic ends in it. All pieces together have at most 4,294,967,295 bytes.
+    pub fn next_row<'a>(&mut self, piece: &'a [u8]) -> (Option<[Option<Move>; 4]>, &'a [u8])
+        requires { self.old.taken + length piece.now ≤ 4294967295 }
+        ensures rows { TellsFront W.state W.physics self.old piece.now result.1.now self.new (told result.0) }
+        ensures whole { IfNone result.0 (result.1.now ≡ []) }
+        ensures less { 0 < length piece.now → length result.1.now < length piece.now }
+    {
+        let mut rest = piece;
+        while let Some((byte, behind)) = rest.split_first() {
+            rest = behind;
+            if let Some(row) = self.take_byte(*byte) {
+                return (Some(row), rest);
+            }
+        }
+        (None, rest)
     }
 
     /// Takes the next piece. All pieces together have at most 4,294,967,295 bytes.

@@ -4,7 +4,7 @@ ghost use Rattle.std.specs.Prelude.{◌≡◌, ◌≢◌, ◌≤◌, ℕ, ◌+�
 ghost use Rattle.dn_demo.specs.Layout.{layout_of, command_size};
 ghost use Rattle.dn_demo.specs.Rows.{player_count};
 ghost use Rattle.dn_demo.specs.Text.{marker, header_size};
-ghost use Rattle.dn_demo.specs.Places.{start_in, seats_in, place, commands_in, move_at, moves_from, EndsBehind};
+ghost use Rattle.dn_demo.specs.Places.{start_in, seats_in, place, commands_in, move_at, moves_from, EndsBehind, IsUnmarked};
 
 use crate::layout::{HEADER, Layout, MARKER};
 use dn_setup::Start;
@@ -61,7 +61,7 @@ pub(crate) fn commands(bytes: &[u8], layout: Layout) -> usize
 pub(crate) fn commands_before_marker(bytes: &[u8], layout: Layout) -> Option<usize>
     requires { header_size ≤ length bytes.now }
     ensures found { IfSome result (EndsBehind (layout_of layout) bytes.now) }
-    ensures none { IfNone result ((command : ℕ) → slice_get bytes.now (place (layout_of layout) command) ≢ Some marker) }
+    ensures none { IfNone result (IsUnmarked (layout_of layout) bytes.now) }
 {
     let size = layout.size();
     let mut rest = &bytes[HEADER..];
