@@ -1,5 +1,5 @@
 -- What the bytes of a datagram are read as.
-use Rattle.std.specs.Prelude.{◌≡◌, ◌≢◌, ◌<◌, ◌≤◌, ℕ, ◌+◌, ◌*◌, ◌%◌, ◌^◌, List, length, drop, slice_index, Result, Ok, Err}
+use Rattle.std.specs.Prelude.{◌≡◌, ◌≢◌, ◌<◌, ◌≤◌, ℕ, ◌+◌, ◌*◌, ◌%◌, ◌^◌, List, All, length, drop, slice_index, Result, Ok, Err}
 use Rattle.byteorder.specs.Endian.{little_number}
 use Rattle.dn_packet.specs.declared.packet.Packet.{Packet}
 use Rattle.dn_packet.specs.declared.packet.PacketFault.{PacketFault}
@@ -22,3 +22,12 @@ IsReadAs bytes (Err Many) = (8 ≤ length bytes) × (12 < told_count bytes)
 IsReadAs bytes (Err Length) = (8 ≤ length bytes) × (told_count bytes ≤ 12) × (length bytes ≢ 8 + 8 * told_count bytes)
 IsReadAs bytes (Err Sum) =
     (told_count bytes ≤ 12) × (length bytes ≡ 8 + 8 * told_count bytes) × (told_sum bytes ≢ sum_of (drop 4 bytes))
+
+-- each number of the list is a byte
+abbrev pub AreBytes : List ℕ → Type 0
+AreBytes bytes = All (λ byte. byte < 256) bytes
+
+-- a packet or a fault that the bytes are read as
+pub record Reading (bytes : List ℕ) : Type 0 where
+  pub read : Result Packet PacketFault
+  pub is_read : IsReadAs bytes read
