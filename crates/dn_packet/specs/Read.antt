@@ -1,5 +1,5 @@
 -- What the bytes of a datagram are read as.
-use Rattle.std.specs.Prelude.{◌≡◌, ◌≢◌, ◌<◌, ◌≤◌, ℕ, ◌+◌, ◌*◌, ◌%◌, ◌^◌, List, length, drop, slice_index, Result, Ok, Err}
+use Rattle.std.specs.Prelude.{◌≡◌, ◌≢◌, ◌<◌, ◌≤◌, ℕ, ◌+◌, ◌*◌, ◌%◌, ◌^◌, List, All, length, drop, slice_index, Result, Ok, Err}
 use Rattle.byteorder.specs.Endian.{little_number}
 use Rattle.dn_packet.specs.declared.packet.Packet.{Packet}
 use Rattle.dn_packet.specs.declared.packet.PacketFault.{PacketFault}
@@ -27,3 +27,12 @@ IsReadAs bytes (Err Sum) =
 abbrev pub read_into : Packet → Result Unit PacketFault → Result Packet PacketFault
 read_into p (Ok unit) = Ok p
 read_into p (Err fault) = Err fault
+
+-- each number of the list is a byte
+abbrev pub AreBytes : List ℕ → Type 0
+AreBytes bytes = All (λ byte. byte < 256) bytes
+
+-- a packet or a fault that the bytes are read as
+pub record Reading (bytes : List ℕ) : Type 0 where
+  pub read : Result Packet PacketFault
+  pub is_read : IsReadAs bytes read

@@ -39,3 +39,8 @@ IsSetupReadAs p (Ok s) = HasSetup p × (p.player ≡ version) × Tells p s
 IsSetupReadAs p (Err NotSetup) = ¬ HasSetup p
 IsSetupReadAs p (Err Version) = HasSetup p × (p.player ≢ version)
 IsSetupReadAs p (Err Range) = HasSetup p × (p.player ≡ version) × ((s : Settings) → ¬ Tells p s)
+
+-- settings or a fault that the packet says as a set-up packet
+pub record Told (p : Packet) : Type 0 where
+  pub told : Result Settings SetupFault
+  pub is_told : IsSetupReadAs p told

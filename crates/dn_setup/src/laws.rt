@@ -2,8 +2,9 @@
 
 ghost use Rattle.std.specs.Prelude.{◌≡◌, Result, Ok};
 ghost use Rattle.dn_packet.specs.Text.{IsPacket};
+ghost use Rattle.dn_packet.specs.declared.packet.Packet.{Packet};
 ghost use Rattle.dn_setup.specs.Settings.{Settings, IsSettings};
-ghost use Rattle.dn_setup.specs.Setup.{setup_packet, IsSetupReadAs};
+ghost use Rattle.dn_setup.specs.Setup.{setup_packet, IsSetupReadAs, Told};
 ghost use Rattle.dn_setup.specs.declared.setup.SetupFault.{SetupFault};
 
 /// Settings are found again in their packet, and nothing else is.
@@ -12,4 +13,9 @@ pub fn settings_found_again()
     ensures found { (s : Settings) → IsSettings s → IsSetupReadAs (setup_packet s) (Ok s) }
     ensures only { (s : Settings) (r : Result Settings SetupFault)
         → IsSettings s → IsSetupReadAs (setup_packet s) r → r ≡ Ok s }
+{}
+
+/// Every packet is read as settings or as a fault.
+pub fn every_packet_is_told()
+    ensures { (packet : Packet) → Told packet }
 {}

@@ -8,7 +8,7 @@ mod setup;
 mod start;
 
 pub use gather::Gather;
-pub use laws::settings_found_again;
+pub use laws::{every_packet_is_told, settings_found_again};
 pub use settings::{Settings, SettingsFault};
 pub use setup::{SetupFault, VERSION, from_packet, to_packet};
 pub use start::Start;

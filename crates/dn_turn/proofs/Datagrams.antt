@@ -1,10 +1,30 @@
 -- One datagram after another.
-use Rattle.std.proofs.Common.{◌≡◌, ◌<◌, ◌≤◌, ◌+◌, ℕ, List, [], ◌∷◌, ◌++◌, length, Some, None, Ok, Err, refl, subst, arith, length-append}
+use Rattle.std.proofs.Common.{◌≡◌, ◌<◌, ◌≤◌, ◌+◌, ℕ, List, [], ◌∷◌, ◌++◌, length, Result, Some, None, Ok, Err, refl, subst, arith, length-append}
+use Rattle.dn_packet.specs.Read as packet
+use Rattle.dn_packet.specs.declared.packet.Packet.{Packet}
+use Rattle.dn_packet.specs.declared.packet.PacketFault.{PacketFault}
+use Rattle.dn_setup.specs.Settings.{Settings}
+use Rattle.dn_setup.specs.Setup.{Told}
+use Rattle.dn_setup.specs.declared.setup.SetupFault.{SetupFault}
+use Rattle.dn_setup.specs.declared.setup.SetupFault.TheVariants.{NotSetup}
 use Rattle.dn_line.specs.declared.line.Datagram.{Datagram}
 use Rattle.dn_line.specs.declared.line.LineFault.{LineFault}
 use Rattle.dn_machine.specs.Worlds.{Rules}
 use Rattle.dn_machine.specs.Node as machine
-use Rattle.dn_turn.specs.Hearing.{Polls, Receives, Hears, IsHeard, most_polls}
+use Rattle.dn_lockstep.specs.Received.{IsTold}
+use Rattle.dn_turn.specs.Hearing.{Reading, Polls, Receives, Hears, IsHeard, most_polls}
+
+-- settings or a fault that is told by what was read
+abbrev Telling : Result Packet PacketFault → Type 0
+Telling read = (told : Result Settings SetupFault) × IsTold read told
+
+telling : ((p : Packet) → Told p) → (read : Result Packet PacketFault) → Telling read
+telling tells (Ok p) = let t = tells p in (t.told, t.is_told)
+telling tells (Err fault) = (Err NotSetup, tt)
+
+pub read_and_told : (bytes : List ℕ) → packet.Reading bytes → ((p : Packet) → Told p) → Reading bytes
+read_and_told bytes r tells =
+    let t = telling tells r.read in record { read = r.read; told = t.0; is_read = r.is_read; is_told = t.1 }
 
 -- so many datagrams were found and received
 pub record HeardSoFar {S L : Type 0} (polls : Polls L) (rules : Rules S) (me heard : ℕ) (old new : machine.Node × L) : Type 0 where
