@@ -1,16 +1,20 @@
 -- What the nodes of a game tell of themselves agrees, since the machine's nodes that they represent do.
 use Rattle.std.proofs.Common.{◌≡◌, ◌<◌, ◌⊎◌, ℕ, Bool, true, false, List, [], length, Option, Some, Result, refl, ap, sym, ◌∙◌, subst, inl, inr, arith}
-use Rattle.std.specs.Prelude.{if◌then◌else◌, unwrap_or, ◌==◌, ◌&&◌, ◌||◌, ◌≤◌, nat_lt, map, None}
+use Rattle.std.specs.Prelude.{if◌then◌else◌, unwrap_or, ◌==◌, ◌&&◌, ◌||◌, ◌≤◌, nat_lt, map, None, Ok, fold}
 use Rattle.std.specs.List.{range_with_len, take_while}
 use Rattle.std.proofs.lemmas.List.FromFn.{fill_by_all}
 use Rattle.std.specs.Option.{option_map}
 use Rattle.std.proofs.lemmas.Option.{same_Some, slice_get_within, get_or_from_slice_get}
+use Rattle.dn_tic.specs.declared.command.Move.{Move}
 use Rattle.dn_setup.specs.Settings.{Settings}
 use Rattle.dn_setup.specs.Starts.{start_of}
 use Rattle.dn_demo.specs.Layout.{long_tics}
+use Rattle.dn_demo.specs.Reading.{IsReadAs, state_after}
+use Rattle.dn_demo.specs.Rows.{AreWritable}
 use Rattle.dn_demo.specs.Text.{demo_text}
+use Rattle.dn_demo.proofs.ReadBack.{long_read_back}
 use Rattle.dn_machine.specs.declared.answers.Phase.TheVariants.{Playing}
-use Rattle.dn_machine.specs.Worlds.{Rules, row, world}
+use Rattle.dn_machine.specs.Worlds.{Rules, opening, row, world}
 use Rattle.dn_machine.specs.Node as machine
 use Rattle.dn_machine.specs.Node.{world_after, is_ended, is_whole, has_left, known_end, demo_rows}
 use Rattle.dn_machine.specs.Game as game
@@ -23,14 +27,15 @@ use Rattle.std.proofs.lemmas.Bool.{eq-eqb}
 use Rattle.dn_node.specs.Contents as node
 use Rattle.dn_node.specs.Contents.{end_in}
 use Rattle.dn_node.specs.Represents as node_to
-use Rattle.dn_lockstep.specs.Represents.{demo_with, is_demo_closed}
+use Rattle.dn_node.proofs.Replaying.{world_recorded}
+use Rattle.dn_lockstep.specs.Represents.{CanBeWritten, demo_with, is_demo_closed}
 use Rattle.dn_lockstep.specs.Rows.{seats_of}
 use Rattle.dn_lockstep.proofs.Counting as counting
 use Rattle.dn_machine.specs.declared.events.Done.{Done}
 use Rattle.dn_machine.specs.declared.events.Event.{Event}
 use Rattle.dn_machine.specs.declared.events.Refusal.{Refusal}
 use Rattle.dn_game.specs.Agreed.{AreAgreed}
-use Rattle.dn_game.specs.Demos.{DemosAgree, rows_made, is_closed}
+use Rattle.dn_game.specs.Demos.{DemosAgree, rows_made, demo_made, is_closed}
 use Rattle.dn_game.specs.Told.{HasNode, HasStarted, got, made}
 use Rattle.dn_game.proofs.DemosAgreeing.{demos_of}
 use Rattle.dn_game.specs.Promised.{IsReached}
@@ -126,21 +131,54 @@ module _ {W S : Type 0} (state : W → S) (rules : Rules S) (settings : Settings
       go true e = ap (λ (o : Option ℕ). unwrap_or o tic) (own j true e) ∙ sym (ap (λ (b : Bool). if b then machine.made j (m.nodes j) else tic) e)
       go false e = ap (λ (o : Option ℕ). unwrap_or o tic) (own j false e) ∙ sym (ap (λ (b : Bool). if b then machine.made j (m.nodes j) else tic) e)
 
-  -- a started node's demo is the text of the rows that the keys make
+  -- the rows of a started node's demo are those that the keys make
+  rows_are : Agree rules settings m → (i : ℕ) (n : node.Contents W) → HasNode g i n → demo_rows rules (m.nodes i) ≡ rows_made rules settings (keys_of m) n.ran
+  rows_are agree i n at =
+      let s = shown i n at in
+      let all : (m.nodes i).rows ≡ map (row rules settings (keys_of m)) (range_with_len 0 n.ran) =
+      fill_by_all (row rules settings (keys_of m)) (m.nodes i).rows n.ran [] (sym s.lockstep.ran)
+      (λ tic early. get_or_from_slice_get (m.nodes i).rows tic _ [] (agree.rows i tic (inside i n at) (let e = s.lockstep.ran in omega (arith, e, early)))) in
+      ap (take_while (is_whole rules.players)) all
+
+  -- and its demo is their text
   text_is : Agree rules settings m → (i : ℕ) (n : node.Contents W) → HasNode g i n → HasStarted n
       → n.demo.bytes ≡ demo_text long_tics (start_of settings) i (seats_of rules.players) (rows_made rules settings (keys_of m) n.ran) (is_closed rules settings (keys_of m) n)
   text_is agree i n at has_started =
       let s = shown i n at in
       let below = inside i n at in
       let played = started state rules settings i n (m.nodes i) s has_started in
-      let all : (m.nodes i).rows ≡ map (row rules settings (keys_of m)) (range_with_len 0 n.ran) =
-      fill_by_all (row rules settings (keys_of m)) (m.nodes i).rows n.ran [] (sym s.lockstep.ran)
-      (λ tic early. get_or_from_slice_get (m.nodes i).rows tic _ [] (agree.rows i tic below (let e = s.lockstep.ran in omega (arith, e, early)))) in
-      let rows : demo_rows rules (m.nodes i) ≡ rows_made rules settings (keys_of m) n.ran = ap (take_while (is_whole rules.players)) all in
+      let rows = rows_are agree i n at in
       let phase = sym s.lockstep.phase in
       let ran = sym s.lockstep.ran in
       played_bytes state rules settings i n (m.nodes i) s played (agree.settings_same i below played)
       ∙ (λ k. demo_text long_tics (start_of settings) i (seats_of rules.players) (rows k) (is_ended (phase k) || nat_lt (length (rows k)) (ran k)))
+
+  -- which is read back once the node has ended
+  reads_back : Agree rules settings m → (i : ℕ) (n : node.Contents W) → HasNode g i n → HasStarted n → is_ended n.phase ≡ true
+      → IsReadAs n.demo.bytes (Ok (demo_made rules settings (keys_of m) i n.ran))
+  unfolding CanBeWritten
+  reads_back agree i n at has_started over =
+      let s = shown i n at in
+      let Made : List (List (Option Move)) = rows_made rules settings (keys_of m) n.ran in
+      let closed : n.demo.bytes ≡ demo_text long_tics (start_of settings) i (seats_of rules.players) Made true =
+      text_is agree i n at has_started
+      ∙ ap (λ (b : Bool). demo_text long_tics (start_of settings) i (seats_of rules.players) Made (b || nat_lt (length Made) n.ran)) over in
+      let P : List ℕ → Type 0 = λ bytes. IsReadAs bytes (Ok (demo_made rules settings (keys_of m) i n.ran)) in
+      subst P (sym closed)
+      (long_read_back (start_of settings) i (seats_of rules.players) Made
+      (subst (AreWritable (seats_of rules.players)) (rows_are agree i n at) s.lockstep.writable))
+
+  -- and leads to the node's world
+  replays : Agree rules settings m → (i : ℕ) (n : node.Contents W) → HasNode g i n → HasStarted n
+      → n.ran ≡ length (rows_made rules settings (keys_of m) n.ran)
+      → state n.world ≡ state_after rules.physics (demo_made rules settings (keys_of m) i n.ran)
+  replays agree i n at has_started whole =
+      let s = shown i n at in
+      let rows = rows_are agree i n at in
+      let played = started state rules settings i n (m.nodes i) s has_started in
+      world_recorded state rules i n (m.nodes i) settings s played (agree.settings_same i (inside i n at) played)
+      (whole ∙ ap (length {A = List (Option Move)}) (sym rows))
+      ∙ ap (fold rules.physics.step (opening rules settings)) rows
 
   demos_agree : Agree rules settings m → DemosAgree rules settings (keys_of m) g
   demos_agree agree = demos_of rules settings (keys_of m) g (text_is agree) several begun
@@ -177,6 +215,8 @@ module _ {W S : Type 0} (state : W → S) (rules : Rules S) (settings : Settings
             let s = shown i n at in
             s.lockstep.settings ∙ agree.settings_same i (inside i n at) (started state rules settings i n (m.nodes i) s has_started);
         demos = demos_agree agree;
+        read_back = reads_back agree;
+        replayed = replays agree;
         counted = λ i n at. makes i n at ∙ counted i (inside i n at);
         consistent = λ i player was should n at e.
             steady.consistent i player was should (inside i n at) (sym (shown i n at).lockstep.phase ∙ e);

@@ -1,6 +1,7 @@
 -- What holds between the nodes of a game, said of what each tells of itself.
-use Rattle.std.specs.Prelude.{◌≡◌, ◌≢◌, ◌<◌, ◌≤◌, ℕ, ◌+◌, min, false, List, length, Some, ℤ, unwrap_or}
+use Rattle.std.specs.Prelude.{◌≡◌, ◌≢◌, ◌<◌, ◌≤◌, ℕ, ◌+◌, min, true, false, List, length, Some, Ok, ℤ, unwrap_or}
 use Rattle.dn_setup.specs.Settings.{Settings}
+use Rattle.dn_demo.specs.Reading.{IsReadAs, state_after}
 use Rattle.dn_machine.specs.declared.answers.Cause.TheVariants as Cause
 use Rattle.dn_machine.specs.declared.answers.Phase.TheVariants.{Playing, Ended}
 use Rattle.dn_machine.specs.Node.{is_ended}
@@ -9,7 +10,7 @@ use Rattle.dn_machine.specs.Worlds.{Rules, world}
 use Rattle.dn_node.specs.Contents as node
 use Rattle.dn_node.specs.Contents.{end_in}
 use Rattle.dn_game.specs.Contents.{Contents}
-use Rattle.dn_game.specs.Demos.{DemosAgree}
+use Rattle.dn_game.specs.Demos.{DemosAgree, rows_made, demo_made}
 use Rattle.dn_game.specs.Told.{HasNode, HasStarted, got, made}
 
 -- the nodes agree, on a game of these settings in which the players' builds took these key states
@@ -21,6 +22,12 @@ pub record AreAgreed {W S : Type 0} (state : W → S) (rules : Rules S) (setting
   pub settings_same : (i : ℕ) (n : node.Contents W) → HasNode g i n → HasStarted n → n.settings ≡ Some settings
   -- the demos are those of the keys
   pub demos : DemosAgree rules settings keys g
+  -- the demo of a node that has ended is read back
+  pub read_back : (i : ℕ) (n : node.Contents W) → HasNode g i n → HasStarted n → is_ended n.phase ≡ true
+      → IsReadAs n.demo.bytes (Ok (demo_made rules settings keys i n.ran))
+  -- and leads to the node's world, where it has every tic that the node ran
+  pub replayed : (i : ℕ) (n : node.Contents W) → HasNode g i n → HasStarted n
+      → n.ran ≡ length (rows_made rules settings keys n.ran) → state n.world ≡ state_after rules.physics (demo_made rules settings keys i n.ran)
   -- a node made a command of each of its player's key states
   pub counted : (i : ℕ) (n : node.Contents W) → HasNode g i n → made n ≡ length (keys i)
   pub consistent : (i player : ℕ) (was should : ℤ) (n : node.Contents W) → HasNode g i n

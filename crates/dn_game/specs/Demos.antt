@@ -7,6 +7,7 @@ use Rattle.dn_setup.specs.Settings.{Settings}
 use Rattle.dn_setup.specs.Starts.{start_of}
 use Rattle.dn_demo.specs.Layout.{long_tics, command_size, spell}
 use Rattle.dn_demo.specs.Places.{commands_in, command_in}
+use Rattle.dn_demo.specs.Reading.{Recording, written_demo}
 use Rattle.dn_demo.specs.Text.{header_size, demo_text}
 use Rattle.dn_machine.specs.Node.{is_ended, is_whole}
 use Rattle.dn_machine.specs.Promise.{IsPrefixOf}
@@ -21,6 +22,11 @@ use Rattle.std.specs.Prelude.{Option}
 -- player
 abbrev pub rows_made : {S : Type 0} → Rules S → Settings → (ℕ → List ℕ) → ℕ → List (List (Option Move))
 rows_made rules settings keys tics = take_while (is_whole rules.players) (map (row rules settings keys) (range_with_len 0 tics))
+
+-- what the demo of those rows is read as, where player `view` recorded it
+abbrev pub demo_made : {S : Type 0} → Rules S → Settings → (ℕ → List ℕ) → ℕ → ℕ → Recording
+demo_made rules settings keys view tics =
+    written_demo long_tics (start_of settings) view (seats_of rules.players) (rows_made rules settings keys tics)
 
 -- a node's demo is closed once it has run a tic without some player, or has ended
 abbrev pub is_closed : {W S : Type 0} → Rules S → Settings → (ℕ → List ℕ) → node.Contents W → Bool
