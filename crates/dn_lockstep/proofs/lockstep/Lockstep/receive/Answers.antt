@@ -33,6 +33,7 @@ returns-in-Ok c =
       any = any;
       near = near_from_any (contents c.args.self.now) (contents c.hear.new.self) c.args.from c.args.bytes.now c.hear.result any c.args.self.now.me_below;
       dropped = c.hear.ensures.dropped;
+      room = c.hear.ensures.room;
     }
 
 pub returns-in-Err-Length : goal.returns-in-Err-Length
@@ -45,4 +46,5 @@ returns-in-Err-Length c =
       any = any;
       near = near_from_any (contents c.args.self.now) (contents c.args.self.now) c.args.from c.args.bytes.now (Heard.Dropped 3) any c.args.self.now.me_below;
       dropped = λ number e. refl;
+      room = refl;
     }
