@@ -18,3 +18,4 @@ pub mod ScriptLines
 pub mod Script
 pub mod Stormed
 pub mod Pool
+pub mod Room

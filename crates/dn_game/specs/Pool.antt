@@ -1,8 +1,27 @@
 -- The pool of a game: the bytes of all packets in one list, and a record of each.
-use Rattle.std.specs.Prelude.{◌≡◌, ◌≤◌, ℕ, ◌+◌, List, length, map, take, drop, All}
+use Rattle.std.specs.Prelude.{◌≡◌, ◌≤◌, ◌⊎◌, ℕ, ◌+◌, max, nat_le, if◌then◌else◌, List, length, map, take, drop, All}
 use Rattle.std.specs.List.{flat_map}
 use Rattle.dn_game.specs.declared.flight.Flight.{Flight}
 use Rattle.dn_game.specs.declared.pool.Record.{Record}
+
+-- the bytes of all flights, in order of sending
+abbrev pub joined : List Flight → List ℕ
+joined flights = flat_map (λ flight. flight.bytes.items) flights
+
+-- how many bytes and how many records there is memory for
+pub record Room : Type 0 where
+  pub bytes : ℕ
+  pub records : ℕ
+
+-- how much room a list of so many has once it was asked to take `more`: as before where they fit, and else for twice as
+-- many as there are, or just for these
+abbrev pub grown : (count more room : ℕ) → ℕ
+grown count more room = if nat_le (count + more) room then room else count + max count more
+
+-- room that has grown for one packet more, or is as before
+pub record HasGrown (flights : List Flight) (old new : Room) : Type 0 where
+  pub bytes : (new.bytes ≡ old.bytes) ⊎ (new.bytes ≡ grown (length (joined flights)) 104 old.bytes)
+  pub records : (new.records ≡ old.records) ⊎ (new.records ≡ grown (length flights) 1 old.records)
 
 -- what a pool holds
 pub record Pool : Type 0 where
@@ -11,15 +30,13 @@ pub record Pool : Type 0 where
   -- how many more bytes and records it takes before it grows
   pub free_bytes : ℕ
   pub free_records : ℕ
+  -- how many bytes and records it has memory for
+  pub room : Room
 
 -- one packet more needs no memory, however long it is
 pub record HasRoom (pool : Pool) : Type 0 where
   pub bytes : 104 ≤ pool.free_bytes
   pub records : 1 ≤ pool.free_records
-
--- the bytes of all flights, in order of sending
-abbrev pub joined : List Flight → List ℕ
-joined flights = flat_map (λ flight. flight.bytes.items) flights
 
 -- the flight of a record: its numbers, and its piece of the bytes
 abbrev pub flight_in : List ℕ → Record → Flight

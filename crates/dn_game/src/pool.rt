@@ -1,8 +1,9 @@
 //! Every packet that was sent, packed: all datagrams in one list of bytes, and a record of each.
 
-ghost use Rattle.std.specs.Prelude.{◌≡◌, ◌<◌, ◌≤◌, ◌++◌, ◌∷◌, [], length, Some, OnOk, slice_get};
+ghost use Rattle.std.specs.Prelude.{◌≡◌, ◌<◌, ◌≤◌, ◌+◌, ◌++◌, ◌∷◌, [], length, Some, OnOk, OnErr, slice_get, vec_len};
+ghost use Rattle.std.specs.Vec.{vec_capacity};
 ghost use Rattle.dn_game.specs.declared.flight.Flight.{Flight};
-ghost use Rattle.dn_game.specs.Pool.{HasRoom, IsRecordOf, joined};
+ghost use Rattle.dn_game.specs.Pool.{HasGrown, HasRoom, IsRecordOf, grown, joined};
 
 use crate::flight::Flight;
 use arrayvec::ArrayVec;
@@ -36,10 +37,37 @@ pub(crate) struct Pool {
     records: Vec<Record>,
 }
 
+/// Makes room for so many more things: where they do not fit, for twice as many as there are, or just for
+/// these.
+fn grow<T>(list: &mut Vec<T>, more: usize) -> Result<(), AllocError>
+    ensures items { list.new.items ≡ list.old.items }
+    ensures len { vec_len list.new ≡ vec_len list.old }
+    ensures room { OnOk result (vec_len list.new + more ≤ vec_capacity list.new) }
+    ensures grown { OnOk result (vec_capacity list.new ≡ grown (vec_len list.old) more (vec_capacity list.old)) }
+    ensures kept { OnErr result (vec_capacity list.new ≡ vec_capacity list.old) }
+{
+    let count = list.len();
+    if more <= list.capacity() - count {
+        return Ok(());
+    }
+    list.reserve_exact(count.max(more))
+}
+
+/// Appends bytes for which there is room, and takes no memory.
+fn append(bytes: &mut Vec<u8>, more: &[u8])
+    requires { vec_len bytes.old + length more.now ≤ vec_capacity bytes.old }
+    ensures items { bytes.new.items ≡ bytes.old.items ++ more.now }
+    ensures room { vec_capacity bytes.new ≡ vec_capacity bytes.old }
+{
+    for byte in more {
+        bytes.push_reserved(*byte);
+    }
+}
+
 impl Model for Pool {
     ghost use Rattle.std.specs.Prelude.{◌-◌, vec_len};
     ghost use Rattle.std.specs.Vec.{vec_capacity};
-    ghost use Rattle.dn_game.specs.Pool.{Pool as Packets, ArePacked, flights_in};
+    ghost use Rattle.dn_game.specs.Pool.{Pool as Packets, Room, ArePacked, flights_in};
 
     ghost Value = { Packets };
 
@@ -47,6 +75,7 @@ impl Model for Pool {
       flights = flights_in p.bytes.items p.records.items;
       free_bytes = vec_capacity p.bytes - vec_len p.bytes;
       free_records = vec_capacity p.records - vec_len p.records;
+      room = record { bytes = vec_capacity p.bytes; records = vec_capacity p.records };
     } };
 
     ghost invariant = { λ p. ArePacked p.bytes.items p.records.items };
@@ -117,19 +146,20 @@ impl Pool {
     pub(crate) fn reserve(&mut self) -> Result<(), AllocError>
         ensures kept { self.new.flights ≡ self.old.flights }
         ensures room { OnOk result (HasRoom self.new) }
+        ensures grown { HasGrown self.old.flights self.old.room self.new.room }
     {
-        self.bytes.reserve(LONGEST)?;
-        self.records.reserve(1)
+        grow(&mut self.bytes, LONGEST)?;
+        grow(&mut self.records, 1)
     }
 
     /// A packet joins the others.
     pub(crate) fn push(&mut self, from: u8, to: u8, aim: Aim, bytes: &ArrayVec<u8, 104>)
         requires { HasRoom self.old }
-        ensures { self.new.flights ≡ self.old.flights ++ record { from = from; to = to; aim = aim; bytes = bytes.now } ∷ [] }
+        ensures flights { self.new.flights ≡ self.old.flights ++ record { from = from; to = to; aim = aim; bytes = bytes.now } ∷ [] }
+        ensures kept { self.new.room ≡ self.old.room }
     {
         let place = self.bytes.len();
-        let written = self.bytes.extend_from_slice(bytes.as_slice());
-        prove!(written.is_ok());
+        append(&mut self.bytes, bytes.as_slice());
         self.records.push_reserved(Record {
             from,
             to,

@@ -39,6 +39,7 @@ impl<W: World> Node<W> {
             → Represents W.state (rules_of W.physics config.players config.extra (capacity config.limit config.players)) config.me
             (contents node) (fresh settings config.me)) }
         ensures given { IfOk result (λ node. (contents node).world ≡ world) }
+        ensures room { IfOk result (λ node. (contents node).demo.limit ≡ config.limit) }
     {
         let lockstep = Lockstep::new(alloc, config)?;
         Ok(Node { lockstep, world })

@@ -1,9 +1,11 @@
 //! What an event does to a game.
 
-ghost use Rattle.std.specs.Prelude.{◌≡◌, ◌<◌, ◌⊎◌, None, Ok, length, nat_lt, slice_get, OnErr};
+ghost use Rattle.std.specs.Prelude.{◌≡◌, ◌<◌, ◌⊎◌, false, None, Ok, length, nat_lt, slice_get, OnErr};
 ghost use Rattle.dn_machine.specs.declared.events.Event.TheVariants.{Send, Deliver};
 ghost use Rattle.dn_machine.specs.declared.events.Done.{Done};
 ghost use Rattle.dn_machine.specs.Game.{refused, refused_at, refused_flight, on_event};
+ghost use Rattle.dn_machine.specs.Runs.{is_send};
+ghost use Rattle.dn_game.specs.Pool.{HasGrown};
 
 use super::Game;
 use crate::flight::is_far;
@@ -14,6 +16,7 @@ impl<W: World> Game<W> {
     ghost use Rattle.dn_game.specs.Contents.{contents};
     ghost use Rattle.dn_game.specs.Applied.{Tells, IsAfter, IsLeftOut, IsApplied, IsAddressed};
     ghost use Rattle.dn_game.specs.Promised.{IsCarriedOn};
+    ghost use Rattle.dn_game.specs.Room.{room_of};
 
     /// Whether this is the number of a player.
     fn is_player(&self, node: u32) -> bool
@@ -78,6 +81,7 @@ impl<W: World> Game<W> {
             ((done : Done) × (result ≡ Ok done) × IsAfter W.state rules (contents self.new) (on_event rules m (Send node to)) done)
             ⊎ IsLeftOut (contents self.old) (contents self.new) (Send node to) result) }
         ensures unchanged { OnErr result (contents self.new ≡ contents self.old) }
+        ensures grown { HasGrown (contents self.old).flights (room_of self.old) (room_of self.new) }
     {
         let Ok(()) = self.pool.reserve() else {
             return Err(Refusal::Memory);
@@ -98,9 +102,10 @@ impl<W: World> Game<W> {
     /// Hands a packet to its receiver.
     fn deliver(&mut self, which: u32) -> Heard
         requires { which < length (contents self.old).flights }
-        ensures { Tells W.state W.physics (contents self.old) (λ rules m.
+        ensures heard { Tells W.state W.physics (contents self.old) (λ rules m.
             refused_flight m (slice_get m.flights which) ≡ None
             → IsAfter W.state rules (contents self.new) (on_event rules m (Deliver which)) (Done.Heard result)) }
+        ensures room { room_of self.new ≡ room_of self.old }
     {
         let which = which as usize;
         let flight = self.pool.record(which);
@@ -114,6 +119,9 @@ impl<W: World> Game<W> {
         ensures unchanged { OnErr result (contents self.new ≡ contents self.old) }
         // Whatever events led to the game: they and this one lead to what it is afterwards.
         ensures carried { IsCarriedOn W.state W.physics (contents self.old) (contents self.new) event result }
+        // Memory is taken by a send alone, for one packet more or for as many again as there are.
+        ensures room { is_send event ≡ false → room_of self.new ≡ room_of self.old }
+        ensures grown { HasGrown (contents self.old).flights (room_of self.old) (room_of self.new) }
     {
         if let Some(refusal) = self.refused(event) {
             return Err(refusal);

@@ -21,6 +21,7 @@ impl Lockstep {
             (λ rules me m. on_build rules me m keys) (λ made. result ≡ made) }
         ensures full { result ≡ Full → contents self.new ≡ contents self.old }
         ensures idle { result ≡ NotPlaying → contents self.new ≡ contents self.old }
+        ensures room { (contents self.new).demo.limit ≡ (contents self.old).demo.limit }
     {
         let Phase::Playing = self.phase else {
             return Made::NotPlaying;

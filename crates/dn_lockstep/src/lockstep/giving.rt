@@ -59,8 +59,9 @@ impl Lockstep {
     /// Notes that a packet was given.
     fn note_sent(&mut self, to: u8)
         requires { Gives (contents self.old) to }
-        ensures { Becomes (contents self.old) (contents self.new)
+        ensures step { Becomes (contents self.old) (contents self.new)
             (λ rules me m. after_giving rules me m to m.phase) }
+        ensures room { (contents self.new).demo.limit ≡ (contents self.old).demo.limit }
     {
         let peer = self.peers.get(to);
         match self.phase {
@@ -81,6 +82,7 @@ impl Lockstep {
         ensures fair { Steps (contents self.old) (contents self.new)
             (λ rules me m. sent_to to rules me m) (λ flight. IfSome flight IsFair) }
         ensures idle { result ≡ None → contents self.new ≡ contents self.old }
+        ensures room { (contents self.new).demo.limit ≡ (contents self.old).demo.limit }
     {
         let packet = self.outgoing(to)?;
         self.note_sent(to);

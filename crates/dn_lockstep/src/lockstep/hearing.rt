@@ -56,6 +56,7 @@ impl Lockstep {
             → Steps (contents self.old) (contents self.new)
             (λ rules me m. on_packet rules me m flight) (λ heard. result ≡ heard) }
         ensures dropped { (number : ℕ) → result ≡ Dropped number → contents self.new ≡ contents self.old }
+        ensures room { (contents self.new).demo.limit ≡ (contents self.old).demo.limit }
     {
         if self.hears_none() {
             return Heard::Dropped(NOT_PLAYING);
@@ -81,6 +82,7 @@ impl Lockstep {
             → Steps (contents self.old) (contents self.new)
             (λ rules me m. on_read rules me m from told (Ok packet.now)) (λ heard. result ≡ heard) }
         ensures dropped { (number : ℕ) → result ≡ Dropped number → contents self.new ≡ contents self.old }
+        ensures room { (contents self.new).demo.limit ≡ (contents self.old).demo.limit }
     {
         if has_flag(packet, SETUP) {
             return self.hear_set_up(from, packet);
@@ -105,6 +107,7 @@ impl Lockstep {
         ensures step { Steps (contents self.old) (contents self.new)
             (λ rules me m. on_player rules me m from packet.now m.phase) (λ heard. result ≡ heard) }
         ensures dropped { (number : ℕ) → result ≡ Dropped number → contents self.new ≡ contents self.old }
+        ensures room { (contents self.new).demo.limit ≡ (contents self.old).demo.limit }
     {
         match self.phase {
             Phase::Listening => Heard::Dropped(NOT_PLAYING),
@@ -120,6 +123,7 @@ impl Lockstep {
             → Steps (contents self.old) (contents self.new)
             (λ rules me m. on_set_up m from told m.phase) (λ heard. result ≡ heard) }
         ensures dropped { (number : ℕ) → result ≡ Dropped number → contents self.new ≡ contents self.old }
+        ensures room { (contents self.new).demo.limit ≡ (contents self.old).demo.limit }
     {
         let Phase::Listening = self.phase else {
             return Heard::Dropped(OUT_OF_PLACE);
@@ -146,6 +150,7 @@ impl Lockstep {
         ensures step { Steps (contents self.old) (contents self.new)
             (λ rules me m. on_gathering rules m from) (λ heard. result ≡ heard) }
         ensures dropped { (number : ℕ) → result ≡ Dropped number → contents self.new ≡ contents self.old }
+        ensures room { (contents self.new).demo.limit ≡ (contents self.old).demo.limit }
     {
         if !self.gather.hear(from) {
             return Heard::Noted;

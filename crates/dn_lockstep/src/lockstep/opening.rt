@@ -44,6 +44,7 @@ impl Lockstep {
             → (config.me ≡ 0 → config.settings ≡ Some settings)
             → Represents (rules_of (free marking) config.players config.extra (capacity config.limit config.players)) config.me
             (contents lockstep) (fresh settings config.me)) }
+        ensures room { IfOk result (λ lockstep. (contents lockstep).demo.limit ≡ config.limit) }
     {
         let Config {
             players,

@@ -29,6 +29,7 @@ impl Lockstep {
         ensures waits { (player : ℕ) → result.0 ≡ Waiting player
             → (contents self.new ≡ contents self.old) × (result.1 ≡ None) }
         ensures idle { result.0 ≡ NotPlaying → (contents self.new ≡ contents self.old) × (result.1 ≡ None) }
+        ensures room { (contents self.new).demo.limit ≡ (contents self.old).demo.limit }
     {
         let Phase::Playing = self.phase else {
             return (Ran::NotPlaying, None);
@@ -66,6 +67,7 @@ impl Lockstep {
         ensures further { (tic : ℕ) → result.0 ≡ Ran.Ran tic → (contents self.new).ran ≡ (contents self.old).ran + 1 }
         ensures waits { (player : ℕ) → result.0 ≢ Waiting player }
         ensures idle { result.0 ≢ NotPlaying }
+        ensures room { (contents self.new).demo.limit ≡ (contents self.old).demo.limit }
     {
         let tic = self.ran;
         let row = row_at(&self.rings, &self.peers, self.players, tic);

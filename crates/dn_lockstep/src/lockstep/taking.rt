@@ -35,6 +35,7 @@ impl Lockstep {
         ensures step { Steps (contents self.old) (contents self.new)
             (λ rules me m. on_player rules me m from packet.now Playing) (λ heard. result ≡ heard) }
         ensures dropped { (number : ℕ) → result ≡ Dropped number → contents self.new ≡ contents self.old }
+        ensures room { (contents self.new).demo.limit ≡ (contents self.old).demo.limit }
     {
         let made = self.made();
         let start = match start(made, packet) {
@@ -77,6 +78,7 @@ impl Lockstep {
         ensures step { (cause : Cause) → Steps (contents self.old) (contents self.new)
             (λ rules me m. on_player rules me m from packet.now (Ended cause)) (λ heard. result ≡ heard) }
         ensures dropped { (number : ℕ) → result ≡ Dropped number → contents self.new ≡ contents self.old }
+        ensures room { (contents self.new).demo.limit ≡ (contents self.old).demo.limit }
     {
         if has_flag(packet, EXIT) {
             return Heard::Dropped(NOT_PLAYING);

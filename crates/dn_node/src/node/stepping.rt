@@ -41,6 +41,7 @@ impl<W: World> Node<W> {
         ensures full { result ≡ Made.Full → contents self.new ≡ contents self.old }
         ensures idle { result ≡ Made.NotPlaying → contents self.new ≡ contents self.old }
         ensures world { (contents self.new).world ≡ (contents self.old).world }
+        ensures room { (contents self.new).demo.limit ≡ (contents self.old).demo.limit }
     {
         self.lockstep.build(keys)
     }
@@ -64,6 +65,7 @@ impl<W: World> Node<W> {
             (λ rules me m. sent_to to rules me m) (λ flight. IfSome flight IsFair) }
         ensures idle { result ≡ None → contents self.new ≡ contents self.old }
         ensures world { (contents self.new).world ≡ (contents self.old).world }
+        ensures room { (contents self.new).demo.limit ≡ (contents self.old).demo.limit }
     {
         self.lockstep.packet(to)
     }
@@ -81,6 +83,7 @@ impl<W: World> Node<W> {
             (λ rules me m. on_packet rules me m flight) (λ heard. result ≡ heard) }
         ensures dropped { (number : ℕ) → result ≡ Dropped number → contents self.new ≡ contents self.old }
         ensures world { result ≢ Started → (contents self.new).world ≡ (contents self.old).world }
+        ensures room { (contents self.new).demo.limit ≡ (contents self.old).demo.limit }
     {
         let heard = self.lockstep.receive(from, bytes);
         if let Heard::Started = heard {
@@ -110,6 +113,7 @@ impl<W: World> Node<W> {
         ensures further { (tic : ℕ) → result ≡ Ran.Ran tic → (contents self.new).ran ≡ (contents self.old).ran + 1 }
         ensures waits { (player : ℕ) → result ≡ Ran.Waiting player → contents self.new ≡ contents self.old }
         ensures idle { result ≡ Ran.NotPlaying → contents self.new ≡ contents self.old }
+        ensures room { (contents self.new).demo.limit ≡ (contents self.old).demo.limit }
     {
         let marks = self.marks();
         let (ran, row) = self.lockstep.run(&marks);
@@ -138,6 +142,7 @@ impl<W: World> Node<W> {
             (λ rules me m. on_quit m) (λ quit. result ≡ quit) }
         ensures idle { result ≡ false → contents self.new ≡ contents self.old }
         ensures world { (contents self.new).world ≡ (contents self.old).world }
+        ensures room { (contents self.new).demo.limit ≡ (contents self.old).demo.limit }
     {
         self.lockstep.quit()
     }

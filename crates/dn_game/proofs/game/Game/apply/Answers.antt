@@ -32,7 +32,7 @@ returns-in-Deliver-clause-applied g c players extra capacity m r =
     let rules = rules_of g.W.World.physics players extra capacity in
     let told = c.in_default.ensures.told players extra capacity m r in
     inl (after_event _ rules _ m _ _ c.in-Deliver.is _ told
-    (c.deliver.ensures players extra capacity m r (sym (told ∙ ap (refused players m) c.in-Deliver.is))))
+    (c.deliver.ensures.heard players extra capacity m r (sym (told ∙ ap (refused players m) c.in-Deliver.is))))
 
 pub returns-in-Run-clause-applied : goal.returns-in-Run-clause-applied
 returns-in-Run-clause-applied g c players extra capacity m r =

@@ -9,7 +9,7 @@ index_mut-requires g c =
     let small = receiver_below n.pool.flights c.args.which (length n.nodes.items) c.record-flight.result.now c.requires n.receivers c.record-flight.ensures in
     omega (arith, small, c.from.ensures, n.nodes.ok.0)
 
-pub returns : goal.returns
-returns g c players extra capacity m r free =
+pub returns-clause-heard : goal.returns-clause-heard
+returns-clause-heard g c players extra capacity m r free =
     delivers _ _ players extra capacity _ m r _ _ c.requires c.record-flight.ensures free _ _ _ _ _ c.from.ensures c.index_mut.ensures.value
     c.datagram.ensures.bytes c.receive.ensures.near

@@ -26,7 +26,7 @@ returns-in_default-packet-clause-sent g c players extra capacity m r =
 pub invariant_of-self-2-clause-receivers : goal.invariant_of-self-2-clause-receivers
 invariant_of-self-2-clause-receivers g c =
     let n = c.args.self.now in
-    still_below (length n.nodes.items) _ _ _ _ (joins _ _ _ _ c.push.ensures c.in-Ok.ensures.kept) n.receivers c.requires.to
+    still_below (length n.nodes.items) _ _ _ _ (joins _ _ _ _ c.push.ensures.flights c.in-Ok.ensures.kept) n.receivers c.requires.to
     (length-set n.nodes.items c.args.node c.packet.new.self)
 
 pub invariant_of-self-2-clause-few : goal.invariant_of-self-2-clause-few
@@ -44,6 +44,6 @@ returns-clause-sent g c players extra capacity m r =
       refl,
       sends_packet _ rules _ m r _ _ c.requires.node c.requires.to _ _ _ _ _ _ shown c.in-Some.ensures.reach.1
           (c.in-Some.ensures.step players extra capacity _ _ shown).answer after (c.in-Some-packet.ensures.fair players extra capacity _ _ shown).answer
-          (joins _ _ _ _ c.push.ensures c.in-Ok.ensures.kept)
+          (joins _ _ _ _ c.push.ensures.flights c.in-Ok.ensures.kept)
           (c.len-which.ensures ∙ ap length c.in-Ok.ensures.kept),
     )

@@ -3,7 +3,7 @@ use Rattle.dn_game.specs.Pool.{Pool}
 use Rattle.dn_game.proofs.Packing.{newest, packs, packs_flight}
 use Rattle.dn_game.proofs.pool.Pool.push.Goals as goal
 
-bytes_are : (c : goal.After-push_reserved) → c.extend_from_slice-written.new.self.items ≡ c.self.inside.bytes.items ++ c.args.bytes.now.items
+bytes_are : (c : goal.After-push_reserved) → c.append.new.bytes.items ≡ c.self.inside.bytes.items ++ c.args.bytes.now.items
 bytes_are c = search rules
 
 records_are : (c : goal.After-push_reserved)
@@ -16,8 +16,8 @@ invariant_of-self c =
     let short : length c.args.bytes.now.items ≤ 104 = search rules in
     rw (bytes_are c, records_are c) (packs c.self.inside.bytes.items c.self.inside.records.items c.self.invariant c.args.from c.args.to c.args.aim c.args.bytes.now short)
 
-pub returns : goal.returns
-returns c =
+pub returns-clause-flights : goal.returns-clause-flights
+returns-clause-flights c =
     let short : length c.args.bytes.now.items ≤ 104 = search rules in
     rw (bytes_are c, records_are c)
     (packs_flight c.self.inside.bytes.items c.self.inside.records.items c.self.invariant c.args.from c.args.to c.args.aim c.args.bytes.now short

@@ -15,6 +15,6 @@ returns-in-Some-clause-step c marking players extra capacity me m r =
     started_shows (rules_of (free marking) players extra capacity) me (contents c.args.self.now) m r c.args.from
     c.hear.new.self c.hear.ensures.players c.hear.ensures.noted c.in-Some.settings (contents c.start.new.self)
     (sym c.if-not-hear.false ∙ c.hear.ensures.complete) c.in-Some.is
-    (c.start.ensures marking players extra capacity me _
+    (c.start.ensures.step marking players extra capacity me _
     (shows_noted (rules_of (free marking) players extra capacity) me (contents c.args.self.now) m r c.args.from
     c.hear.new.self c.hear.ensures.players c.hear.ensures.noted))

@@ -27,8 +27,8 @@ gives : {S : Type 0} (rules : Rules S) (me : ℕ) (m : machine.Node) (to : ℕ) 
 gives rules me m to old phase e (inl is) = ap (after_giving rules me m to) (sym e ∙ is)
 gives rules me m to old phase e (inr is) = ap (after_giving rules me m to) (sym e ∙ is.1)
 
-pub returns-in-Playing : goal.returns-in-Playing
-returns-in-Playing c marking players extra capacity me m r =
+pub returns-in-Playing-clause-step : goal.returns-in-Playing-clause-step
+returns-in-Playing-clause-step c marking players extra capacity me m r =
     let n = c.args.self.now in
     let rules = rules_of (free marking) players extra capacity in
     let kept = c.get-peer.ensures ∙ r.peers c.args.to (below _ me _ m r c.args.to c.requires.below) in

@@ -28,7 +28,7 @@ returns-clause-step c marking players extra capacity me m r =
     let sent = (c.in_ok-packet.ensures.step marking players extra capacity me m r).answer in
     let some = some_flight packet_of _ _ sent in
     record {
-      node = given_shows game me _ _ m c.args.to _ r c.in_ok-packet.ensures.given sent (c.note_sent.ensures marking players extra capacity me m r);
+      node = given_shows game me _ _ m c.args.to _ r c.in_ok-packet.ensures.given sent (c.note_sent.ensures.step marking players extra capacity me m r);
       answer = ap Some (c.encode.ensures ∙ ap text some.2) ∙ sym (ap (option_map bytes_of) some.1);
     }
 
@@ -37,6 +37,6 @@ returns-clause-fair c marking players extra capacity me m r =
     let game = rules_of (free marking) players extra capacity in
     let sent = (c.in_ok-packet.ensures.step marking players extra capacity me m r).answer in
     record {
-      node = given_shows game me _ _ m c.args.to _ r c.in_ok-packet.ensures.given sent (c.note_sent.ensures marking players extra capacity me m r);
+      node = given_shows game me _ _ m c.args.to _ r c.in_ok-packet.ensures.given sent (c.note_sent.ensures.step marking players extra capacity me m r);
       answer = (c.in_ok-packet.ensures.fair marking players extra capacity me m r).answer;
     }

@@ -12,7 +12,7 @@ returns-in-Ended-clause-step c marking players extra capacity me m r = after _ _
 
 pub returns-in-Playing-clause-step : goal.returns-in-Playing-clause-step
 returns-in-Playing-clause-step c marking players extra capacity me m r =
-    after _ _ (quit_playing m (sym r.phase ∙ c.in-Playing.is)) (c.finish.ensures marking players extra capacity me m r) refl
+    after _ _ (quit_playing m (sym r.phase ∙ c.in-Playing.is)) (c.finish.ensures.step marking players extra capacity me m r) refl
 
 either : (p q : Phase) → p ≡ q → (p ≡ Listening) ⊎ (p ≡ Gathering) → (q ≡ Listening) ⊎ (q ≡ Gathering)
 either p q e (inl is) = inl (sym e ∙ is)

@@ -32,6 +32,7 @@ returns-in-Ok c =
       any = any;
       near = near_from_any (contents c.args.self.now) (contents c.hear.new.self) c.args.from c.args.bytes.now c.hear.result any c.args.self.now.me_below;
       dropped = c.hear.ensures.dropped;
+      room = c.hear.ensures.room;
     }
 
 pub returns-in-Err-Short-clause-any : goal.returns-in-Err-Short-clause-any

@@ -27,7 +27,7 @@ returns-in-Some-first_off-clause-step c marking players extra capacity me m r ow
     let was = to_z-of_z w16 c.mark_of-was.result (search rules) ∙ c.mark_of-was.ensures ∙ mark_is _ me _ m r n.window p inside in
     let should = to_z-of_z w16 c.get-should.result (search rules) ∙ c.get-should.ensures ∙ should_is _ me _ m r n.window p inside present in
     after _ _ (run_off _ m p _ _ (sym r.phase ∙ c.in-Playing.is) (finds_awaited _ me _ m r _ c.in_default-awaited.ensures) found was should)
-    (c.finish.ensures marking players extra capacity me m r) (refl, refl)
+    (c.finish.ensures.step marking players extra capacity me m r) (refl, refl)
 
 pub returns-clause-step : goal.returns-clause-step
 returns-clause-step c marking players extra capacity me m r own =

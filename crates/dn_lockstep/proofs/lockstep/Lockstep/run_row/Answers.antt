@@ -60,7 +60,7 @@ returns-then-tic-full_at-clause-step c marking players extra capacity me m r own
     let there = here_all (ring_at n.rings) (peer_at n.peers) n.players n.ran c.requires.there in
     let row = c.row_at-row.ensures.row ∙ row_is rules me _ m r n.window there in
     let full = full_is rules me _ m r n.window there _ n.capacity c.full_at.result row r.capacity (c.full_at.ensures ∙ ap (λ (b : Bool). if b then n.capacity else tic_limit) c.is_whole-whole.ensures) in
-    after _ _ (row_full rules m (sym r.ran ∙ c.if-tic-full_at.true ∙ full)) (c.finish.ensures marking players extra capacity me m r) (refl, refl)
+    after _ _ (row_full rules m (sym r.ran ∙ c.if-tic-full_at.true ∙ full)) (c.finish.ensures.step marking players extra capacity me m r) (refl, refl)
 
 pub write-requires-clause-room : goal.write-requires-clause-room
 write-requires-clause-room c e =

@@ -20,8 +20,8 @@ invariant_of-self-clause-size c plays =
     let long : length c.head.new.self.bytes ≡ 13 = ap (length {A = ℕ}) text ∙ head_length c.start-start.result c.args.self.now.me c.args.self.now.players in
     omega arith
 
-pub returns : goal.returns
-returns c marking players extra capacity me m r =
+pub returns-clause-step : goal.returns-clause-step
+returns-clause-step c marking players extra capacity me m r =
     shows_start (rules_of (free marking) players extra capacity) me (contents c.args.self.now) m c.args.settings c.head.new.self r
     (c.args.self.now.unrun (c.args.self.now.waits c.requires))
     (ap (λ (d : Recorded). d.stage) c.head.ensures.written)
