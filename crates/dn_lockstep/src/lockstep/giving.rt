@@ -1,8 +1,9 @@
 //! What a node gives to a peer.
 
-ghost use Rattle.std.specs.Prelude.{◌≡◌, ◌<◌, false, None, IfSome};
+ghost use Rattle.std.specs.Prelude.{◌≡◌, ◌<◌, [], true, false, None, IfSome};
 ghost use Rattle.std.specs.List.{list_any};
 ghost use Rattle.std.specs.Option.{option_map};
+ghost use Rattle.std.specs.Bool.{then_some};
 ghost use Rattle.dn_packet.specs.Text.{IsPacket};
 ghost use Rattle.dn_machine.specs.Flight.{Flight, packet_of};
 ghost use Rattle.dn_lockstep.specs.Rings.{is_stop};
@@ -14,7 +15,7 @@ use super::sending::{Aim, request_byte};
 use crate::peers::Peer;
 use arrayvec::ArrayVec;
 use dn_machine::Phase;
-use dn_packet::{Packet, encode};
+use dn_packet::{Packet, encode_into};
 use dn_setup::to_packet;
 
 impl Lockstep {
@@ -22,38 +23,44 @@ impl Lockstep {
     ghost use Rattle.dn_lockstep.specs.Steps.{Steps, Becomes};
     ghost use Rattle.dn_lockstep.specs.Giving.{Reaches, Gives, IsOwn};
 
-    /// The packet of these numbers, with the own commands from its start on.
-    fn commands_packet(&self, aim: &Aim) -> Packet
-        requires { Reaches (contents self.now) aim.now }
+    /// Fills in the packet of these numbers, with the own commands from its start on.
+    fn fill(&self, aim: &Aim, packet: &mut Packet)
+        requires reach { Reaches (contents self.now) aim.now }
+        requires empty { packet.old.cmds.items ≡ [] }
         ensures packet { Steps (contents self.now) (contents self.now) (λ rules me m. (m, (m, me)))
-            (λ (m, me). (flight : Flight) → IsOwn m me flight → aim.now ≡ aim_of flight → result ≡ packet_of flight) }
-        ensures valid { IsPacket result }
-        ensures no_stop { list_any is_stop result.cmds.items ≡ false }
+            (λ (m, me). (flight : Flight) → IsOwn m me flight → aim.now ≡ aim_of flight → packet.new ≡ packet_of flight) }
+        ensures valid { IsPacket packet.new }
+        ensures no_stop { list_any is_stop packet.new.cmds.items ≡ false }
     {
-        Packet {
-            flags: aim.flags,
-            ask: request_byte(aim.ask),
-            start: (aim.start % 256) as u8,
-            player: self.me,
-            cmds: self.rings.since(self.me, aim.start),
-        }
+        packet.flags = aim.flags;
+        packet.ask = request_byte(aim.ask);
+        packet.start = (aim.start % 256) as u8;
+        packet.player = self.me;
+        self.rings.since(self.me, aim.start, &mut packet.cmds);
     }
 
-    /// The packet that `packet` would give now.
-    fn outgoing(&self, to: u8) -> Option<Packet>
+    /// Fills in the packet that `packet` would give now, and answers whether there is one.
+    fn outgoing(&self, to: u8, packet: &mut Packet) -> bool
+        requires { packet.old.cmds.items ≡ [] }
         ensures step { Steps (contents self.now) (contents self.now)
-            (λ rules me m. (m, (sent_to to rules me m).1)) (λ flight. result ≡ option_map packet_of flight) }
+            (λ rules me m. (m, (sent_to to rules me m).1)) (λ flight. then_some result packet.new ≡ option_map packet_of flight) }
         ensures fair { Steps (contents self.now) (contents self.now)
             (λ rules me m. (m, (sent_to to rules me m).1)) (λ flight. IfSome flight IsFair) }
-        ensures flags { IfSome result (λ packet. packet.flags < 16) }
-        ensures given { IfSome result (λ packet. Gives (contents self.now) to) }
+        ensures flags { result ≡ true → packet.new.flags < 16 }
+        ensures given { result ≡ true → Gives (contents self.now) to }
     {
-        let aim = self.aim(to)?;
-        let Phase::Gathering = self.phase else {
-            return Some(self.commands_packet(&aim));
+        let Some(aim) = self.aim(to) else {
+            return false;
         };
-        let settings = self.settings?;
-        Some(to_packet(&settings))
+        let Phase::Gathering = self.phase else {
+            self.fill(&aim, packet);
+            return true;
+        };
+        let Some(settings) = self.settings else {
+            return false;
+        };
+        *packet = to_packet(&settings);
+        true
     }
 
     /// Notes that a packet was given.
@@ -73,6 +80,30 @@ impl Lockstep {
         }
     }
 
+    /// Writes the next packet to a peer into a list of no bytes, and answers whether there is one. There is
+    /// none for the node itself, for a number that is no player's, and where the node has nothing to give. A
+    /// node that has played and ended gives one whenever it is asked.
+    pub fn packet_into(&mut self, to: u8, bytes: &mut ArrayVec<u8, 104>) -> bool
+        requires { bytes.old.items ≡ [] }
+        ensures step { Steps (contents self.old) (contents self.new)
+            (λ rules me m. sent_to to rules me m)
+            (λ flight. then_some result bytes.new.items ≡ option_map bytes_of flight) }
+        ensures fair { Steps (contents self.old) (contents self.new)
+            (λ rules me m. sent_to to rules me m) (λ flight. IfSome flight IsFair) }
+        ensures idle { result ≡ false → contents self.new ≡ contents self.old }
+        ensures unwritten { result ≡ false → bytes.new ≡ bytes.old }
+        ensures room { (contents self.new).demo.limit ≡ (contents self.old).demo.limit }
+    {
+        let mut packet = Packet::empty();
+        if self.outgoing(to, &mut packet) {
+            self.note_sent(to);
+            encode_into(&packet, bytes);
+            true
+        } else {
+            false
+        }
+    }
+
     /// The next packet to a peer; None for the node itself, for a number that is no player's, and where
     /// the node has nothing to give. A node that has played and ended gives one whenever it is asked.
     pub fn packet(&mut self, to: u8) -> Option<ArrayVec<u8, 104>>
@@ -84,8 +115,11 @@ impl Lockstep {
         ensures idle { result ≡ None → contents self.new ≡ contents self.old }
         ensures room { (contents self.new).demo.limit ≡ (contents self.old).demo.limit }
     {
-        let packet = self.outgoing(to)?;
-        self.note_sent(to);
-        Some(encode(&packet))
+        let mut bytes = ArrayVec::new();
+        if self.packet_into(to, &mut bytes) {
+            Some(bytes)
+        } else {
+            None
+        }
     }
 }

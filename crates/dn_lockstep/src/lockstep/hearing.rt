@@ -23,7 +23,7 @@ use crate::numbers::{
 };
 use crate::reading::has_flag;
 use dn_machine::{Heard, Phase};
-use dn_packet::{KILL, Packet, PacketFault, SETUP, decode};
+use dn_packet::{KILL, Packet, PacketFault, SETUP, decode_into};
 use dn_setup::{SetupFault, from_packet};
 
 /// The number of the key player.
@@ -64,8 +64,9 @@ impl Lockstep {
         if from >= self.players || from == self.me {
             return Heard::Dropped(STRANGER);
         }
-        match decode(bytes) {
-            Ok(packet) => self.hear(from, &packet),
+        let mut packet = Packet::empty();
+        match decode_into(bytes, &mut packet) {
+            Ok(()) => self.hear(from, &packet),
             Err(PacketFault::Short) => Heard::Dropped(SHORT),
             Err(PacketFault::Many) => Heard::Dropped(MANY),
             Err(PacketFault::Length) => Heard::Dropped(LENGTH),

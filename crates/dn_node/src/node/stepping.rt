@@ -1,6 +1,7 @@
 //! What a node does.
 
-ghost use Rattle.std.specs.Prelude.{◌≡◌, ◌≢◌, ◌<◌, ℕ, ◌+◌, pos, true, false, get_or, Result, Some, None, IfSome};
+ghost use Rattle.std.specs.Prelude.{◌≡◌, ◌≢◌, ◌<◌, ℕ, ◌+◌, [], pos, true, false, get_or, Result, Some, None, IfSome};
+ghost use Rattle.std.specs.Bool.{then_some};
 ghost use Rattle.std.specs.Option.{option_map};
 ghost use Rattle.dn_packet.specs.declared.packet.Packet.{Packet};
 ghost use Rattle.dn_packet.specs.declared.packet.PacketFault.{PacketFault};
@@ -53,6 +54,24 @@ impl<W: World> Node<W> {
         ensures reach { IfSome result (λ aim. Reaches (contents self.now) aim × Gives (contents self.now) to) }
     {
         self.lockstep.aim(to)
+    }
+
+    /// Writes the next packet to a peer into a list of no bytes, and answers whether there is one. There is
+    /// none for the node itself, for a number that is no player's, and where the node has nothing to give. A
+    /// node that has played and ended gives one whenever it is asked.
+    pub fn packet_into(&mut self, to: u8, bytes: &mut ArrayVec<u8, 104>) -> bool
+        requires { bytes.old.items ≡ [] }
+        ensures step { Steps W.state W.physics (contents self.old) (contents self.new)
+            (λ rules me m. sent_to to rules me m)
+            (λ flight. then_some result bytes.new.items ≡ option_map bytes_of flight) }
+        ensures fair { Steps W.state W.physics (contents self.old) (contents self.new)
+            (λ rules me m. sent_to to rules me m) (λ flight. IfSome flight IsFair) }
+        ensures idle { result ≡ false → contents self.new ≡ contents self.old }
+        ensures unwritten { result ≡ false → bytes.new ≡ bytes.old }
+        ensures world { (contents self.new).world ≡ (contents self.old).world }
+        ensures room { (contents self.new).demo.limit ≡ (contents self.old).demo.limit }
+    {
+        self.lockstep.packet_into(to, bytes)
     }
 
     /// The next packet to a peer; None for the node itself, for a number that is no player's, and where
