@@ -1,5 +1,5 @@
 -- A packet for each peer.
-use Rattle.std.specs.Prelude.{◌≡◌, ℕ, ◌+◌, List, [], ◌∷◌, length, Option, Some, None, Result, Ok, Err}
+use Rattle.std.specs.Prelude.{◌≡◌, ℕ, zero, suc, ◌+◌, List, Option, Some, None, Result, Ok, Err}
 use Rattle.dn_line.specs.Counts.{Done}
 use Rattle.dn_line.specs.declared.line.LineFault.{LineFault}
 use Rattle.dn_machine.specs.Worlds.{Rules}
@@ -19,34 +19,41 @@ SendsOne sends me to (Some flight) None old new = ⊥
 SendsOne sends me to None (Some answer) old new = ⊥
 SendsOne sends me to None None old new = new ≡ old
 
--- a packet for each player from this number on, in rising order, as the machine gives them; the own number gets none
-abbrev pub Gives : {S L : Type 0} → Sends L → Rules S → ℕ → ℕ → List (Option (Result Done LineFault)) → machine.Node × L → machine.Node × L → Type 0
-Gives sends rules me to [] old new = new ≡ old
-Gives {S} {L} sends rules me to (answer ∷ answers) old new =
-    (next : L) × SendsOne sends me to (on_send rules me old.0 to).1 answer old.1 next
-    × Gives sends rules me (to + 1) answers ((on_send rules me old.0 to).0, next) new
+-- whether it was sent, as a number
+abbrev pub sent_by : Option (Result Done LineFault) → ℕ
+sent_by None = 0
+sent_by (Some (Ok done)) = 1
+sent_by (Some (Err fault)) = 0
 
--- how many were sent
-abbrev pub sent_in : List (Option (Result Done LineFault)) → ℕ
-sent_in [] = 0
-sent_in (None ∷ answers) = sent_in answers
-sent_in (Some (Ok done) ∷ answers) = 1 + sent_in answers
-sent_in (Some (Err fault) ∷ answers) = sent_in answers
+-- whether its send failed
+abbrev pub failed_by : Option (Result Done LineFault) → ℕ
+failed_by None = 0
+failed_by (Some (Ok done)) = 0
+failed_by (Some (Err fault)) = 1
 
--- how many sends failed
-abbrev pub lost_in : List (Option (Result Done LineFault)) → ℕ
-lost_in [] = 0
-lost_in (None ∷ answers) = lost_in answers
-lost_in (Some (Ok done) ∷ answers) = lost_in answers
-lost_in (Some (Err fault) ∷ answers) = 1 + lost_in answers
+-- the node and the line, how many packets were sent, and how many sends failed
+pub record Giving (L : Type 0) : Type 0 where
+  pub node : machine.Node
+  pub line : L
+  pub sent : ℕ
+  pub failed : ℕ
 
--- a packet for each player up to this number
-pub record IsGivenTo {S L : Type 0} (sends : Sends L) (rules : Rules S) (me to : ℕ) (old new : machine.Node × L) (sent lost : ℕ) : Type 0 where
-  pub answers : List (Option (Result Done LineFault))
-  pub gives : Gives sends rules me 0 answers old new
-  pub each : length answers ≡ to
-  pub all_sent : sent ≡ sent_in answers
-  pub all_lost : lost ≡ lost_in answers
+-- the machine's packet for a player is sent, if there is one, and counted by the line's answer; the own number gets none
+pub record GivesOne {S L : Type 0} (sends : Sends L) (rules : Rules S) (me to : ℕ) (old new : Giving L) : Type 0 where
+  pub answer : Option (Result Done LineFault)
+  pub line : SendsOne sends me to (on_send rules me old.node to).1 answer old.line new.line
+  pub node : new.node ≡ (on_send rules me old.node to).0
+  pub sent : new.sent ≡ old.sent + sent_by answer
+  pub failed : new.failed ≡ old.failed + failed_by answer
 
+-- a packet for each player below this number, in rising order
+abbrev pub Gives : {S L : Type 0} → Sends L → Rules S → ℕ → ℕ → Giving L → Giving L → Type 0
+Gives sends rules me zero old new = new ≡ old
+Gives {S} {L} sends rules me (suc to) old new =
+    (mid : Giving L) × Gives sends rules me to old mid × GivesOne sends rules me to mid new
+
+-- a packet for each player, of which so many were sent and so many sends failed
 abbrev pub IsGiven : {S L : Type 0} → Sends L → Rules S → ℕ → machine.Node × L → machine.Node × L → ℕ → ℕ → Type 0
-IsGiven sends rules me old new sent lost = IsGivenTo sends rules me rules.players old new sent lost
+IsGiven sends rules me old new sent failed =
+    Gives sends rules me rules.players (record { node = old.0; line = old.1; sent = 0; failed = 0 })
+    (record { node = new.0; line = new.1; sent = sent; failed = failed })

@@ -1,5 +1,5 @@
 -- Polls, and what their datagrams do.
-use Rattle.std.specs.Prelude.{◌≡◌, ◌<◌, ℕ, ◌-◌, ◌*◌, List, [], ◌∷◌, length, Option, Some, None, Result, Ok, Err}
+use Rattle.std.specs.Prelude.{◌≡◌, ◌<◌, ℕ, zero, suc, ◌-◌, ◌*◌, List, Option, Some, None, Result, Ok, Err}
 use Rattle.dn_packet.specs.Read.{IsReadAs}
 use Rattle.dn_packet.specs.declared.packet.Packet.{Packet}
 use Rattle.dn_packet.specs.declared.packet.PacketFault.{PacketFault}
@@ -28,27 +28,31 @@ pub record Receives {S : Type 0} (rules : Rules S) (me : ℕ) (old : machine.Nod
   pub reading : Reading datagram.bytes.items
   pub after : new ≡ (received rules me old datagram.from reading.told reading.read).0
 
--- these datagrams are found, one after another, and each is received
-abbrev pub Hears : {S L : Type 0} → Polls L → Rules S → ℕ → List Datagram → machine.Node × L → machine.Node × L → Type 0
-Hears polls rules me [] old new = new ≡ old
-Hears {S} {L} polls rules me (datagram ∷ datagrams) old new =
-    (heard : machine.Node) × ((next : L) × polls old.1 me (Ok (Some datagram)) next
-    × Receives rules me old.0 datagram heard × Hears polls rules me datagrams (heard, next) new)
+-- a poll finds a datagram, which is received
+pub record HearsOne {S L : Type 0} (polls : Polls L) (rules : Rules S) (me : ℕ) (old new : machine.Node × L) : Type 0 where
+  pub datagram : Datagram
+  pub polled : polls old.1 me (Ok (Some datagram)) new.1
+  pub received : Receives rules me old.0 datagram new.0
 
--- how polls end where so many more may be made: one finds nothing or fails, or no more may be made; whether one failed
-abbrev pub Ends : {L : Type 0} → Polls L → ℕ → ℕ → Option (Result Done LineFault) → L → L → ℕ → Type 0
-Ends polls me left None old new lost = (left ≡ 0) × (new ≡ old) × (lost ≡ 0)
-Ends polls me left (Some (Ok done)) old new lost = (0 < left) × polls old me (Ok None) new × (lost ≡ 0)
-Ends polls me left (Some (Err fault)) old new lost = (0 < left) × polls old me (Err fault) new × (lost ≡ 1)
+-- so many polls, one after another, find a datagram each
+abbrev pub Hears : {S L : Type 0} → Polls L → Rules S → ℕ → ℕ → machine.Node × L → machine.Node × L → Type 0
+Hears polls rules me zero old new = new ≡ old
+Hears {S} {L} polls rules me (suc heard) old new =
+    (mid : machine.Node × L) × Hears polls rules me heard old mid × HearsOne polls rules me mid new
 
 -- at most ten polls for each peer
 abbrev pub most_polls : ℕ → ℕ
 most_polls players = 10 * (players - 1)
 
-pub record IsHeard {S L : Type 0} (polls : Polls L) (rules : Rules S) (me : ℕ) (old new : machine.Node × L) (heard lost : ℕ) : Type 0 where
-  pub datagrams : List Datagram
+-- how the polls of so many datagrams end: one more poll finds nothing or fails, or no more may be made; how many failed
+abbrev pub Ends : {L : Type 0} → Polls L → (me heard most : ℕ) → Option (Result Done LineFault) → L → L → ℕ → Type 0
+Ends polls me heard most None old new failed = (heard ≡ most) × (new ≡ old) × (failed ≡ 0)
+Ends polls me heard most (Some (Ok done)) old new failed = (heard < most) × polls old me (Ok None) new × (failed ≡ 0)
+Ends polls me heard most (Some (Err fault)) old new failed = (heard < most) × polls old me (Err fault) new × (failed ≡ 1)
+
+-- polls up to the first that finds nothing or fails, or as many as may be made
+pub record IsHeard {S L : Type 0} (polls : Polls L) (rules : Rules S) (me : ℕ) (old new : machine.Node × L) (heard failed : ℕ) : Type 0 where
   pub between : L
-  pub hears : Hears polls rules me datagrams old (new.0, between)
-  pub count : heard ≡ length datagrams
+  pub hears : Hears polls rules me heard old (new.0, between)
   pub ending : Option (Result Done LineFault)
-  pub ends : Ends polls me (most_polls rules.players - length datagrams) ending between new.1 lost
+  pub ends : Ends polls me heard (most_polls rules.players) ending between new.1 failed

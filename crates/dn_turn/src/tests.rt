@@ -1,12 +1,14 @@
 //! Tests of turns and rounds.
 
 mod failing;
+mod losing;
 mod rounds;
 
 use dn_node::{Config, Node};
 use dn_setup::Settings;
 use dn_world::Walk;
 use std::alloc::Global;
+use std::process::Abort;
 use std::test::Fail;
 
 /// Two new nodes: skill 2, episode 1, map 1, and no repeats.
@@ -27,4 +29,14 @@ fn pair(alloc: Global) -> Result<[Node<Walk>; 2], Fail> {
         Node::new(alloc, key, Walk::new())?,
         Node::new(alloc, other, Walk::new())?,
     ])
+}
+
+/// One's commands, behind the thirteen bytes of the header, are a prefix of the other's.
+fn assert_one_game(rt: &impl Abort, nodes: &[Node<Walk>; 2]) {
+    let (zero, one) = (nodes[0].demo(), nodes[1].demo());
+    let count = zero.len().min(one.len());
+    assert!(rt; count > 13);
+    if count > 13 {
+        assert_eq!(rt; &zero[13..count], &one[13..count]);
+    }
 }

@@ -2,13 +2,12 @@
 
 ghost use Rattle.std.specs.Prelude.{◌≡◌};
 
-use super::pair;
+use super::{assert_one_game, pair};
 use crate::turn;
 use dn_line::{Datagram, Line, LineFault, MemoryHub};
 use dn_node::Node;
 use dn_tic::Keys;
 use dn_world::Walk;
-use std::process::Abort;
 use std::test::Fail;
 
 /// A line in memory that fails one of the calls made for one player, and passes nothing on in it.
@@ -77,16 +76,6 @@ fn forty_rounds(nodes: &mut [Node<Walk>; 2], line: &mut Failing) -> (u32, u32) {
         }
     }
     (once, often)
-}
-
-/// One's commands, behind the thirteen bytes of the header, are a prefix of the other's.
-fn assert_one_game(rt: &impl Abort, nodes: &[Node<Walk>; 2]) {
-    let (zero, one) = (nodes[0].demo(), nodes[1].demo());
-    let count = zero.len().min(one.len());
-    assert!(rt; count > 13);
-    if count > 13 {
-        assert_eq!(rt; &zero[13..count], &one[13..count]);
-    }
 }
 
 /// Each call of either player fails in turn, until none is left that could: one turn tells of it, and the

@@ -1,10 +1,10 @@
-use Rattle.std.proofs.Common.{◌≡◌, ◌<◌, ◌≤◌, ◌*◌, ℕ, Option, Result, Ok, ap, ◌∙◌, subst, arith}
+use Rattle.std.proofs.Common.{◌≡◌, ◌<◌, ◌*◌, ℕ, Option, Some, None, Result, Ok, Err, refl, ap, ◌∙◌, subst, arith}
 use Rattle.dn_line.specs.Counts.{count_after}
 use Rattle.dn_line.specs.declared.line.Datagram.{Datagram}
 use Rattle.dn_line.specs.declared.line.LineFault.{LineFault}
 use Rattle.dn_machine.specs.Worlds.{rules_of}
 use Rattle.dn_turn.specs.Hearing.{IsHeard, most_polls}
-use Rattle.dn_turn.proofs.Datagrams.{heard_more, heard_nothing, heard_fault, heard_all}
+use Rattle.dn_turn.proofs.Datagrams.{heard_more}
 use Rattle.dn_turn.proofs.hearing.hear_all.Goals as goal
 
 pub returns-in-Ok-None-clause-heard : goal.returns-in-Ok-None-clause-heard
@@ -17,7 +17,7 @@ returns-in-Ok-None-clause-heard g c players extra capacity me m r =
     record {
       after = so_far.after;
       node = so_far.node;
-      leads = heard_nothing g.L.Line.polls (rules_of g.W.World.physics players extra capacity) me c.loop-heard.heard (m, c.args.line.now) (so_far.after, c.loop-heard.line) c.poll.new.self so_far.leads few said;
+      leads = record { between = c.loop-heard.line; hears = so_far.leads; ending = Some (Ok tt); ends = (few, said, refl) };
     }
 
 pub returns-in-Err-clause-heard : goal.returns-in-Err-clause-heard
@@ -30,7 +30,7 @@ returns-in-Err-clause-heard g c players extra capacity me m r =
     record {
       after = so_far.after;
       node = so_far.node;
-      leads = heard_fault g.L.Line.polls (rules_of g.W.World.physics players extra capacity) me c.loop-heard.heard _ (m, c.args.line.now) (so_far.after, c.loop-heard.line) c.poll.new.self so_far.leads few said;
+      leads = record { between = c.loop-heard.line; hears = so_far.leads; ending = Some (Err _); ends = (few, said, refl) };
     }
 
 pub loop-heard-preserved : goal.loop-heard-preserved
@@ -49,7 +49,7 @@ loop-heard-preserved g c =
           record {
             after = one.after;
             node = one.node;
-            leads = heard_more g.L.Line.polls (rules_of g.W.World.physics players extra capacity) me c.loop-heard.heard _ (m, c.args.line.now) (so_far.after, c.loop-heard.line) one.after c.poll.new.self so_far.leads said one.leads;
+            leads = heard_more g.L.Line.polls (rules_of g.W.World.physics players extra capacity) me c.loop-heard.heard _ (m, c.args.line.now) (so_far.after, c.loop-heard.line) (one.after, c.poll.new.self) so_far.leads said one.leads;
           },
     )
 
@@ -58,11 +58,10 @@ returns-clause-heard g c players extra capacity me m r =
     let so_far = c.loop-heard.invariant.3 players extra capacity me m r in
     let most = 10 * c.saturating_sub-most.result in
     let is : most ≡ most_polls players = c.loop-heard.invariant.1 ∙ ap most_polls r.lockstep.players in
-    let all : most_polls players ≤ c.loop-heard.heard = omega (arith, is, c.loop-heard-test.false) in
     let end : c.loop-heard.heard ≡ most = omega (arith, c.loop-heard-test.false, c.loop-heard.auto.heard-end) in
     let Q : ℕ → Type 0 = λ k. IsHeard g.L.Line.polls (rules_of g.W.World.physics players extra capacity) me (m, c.args.line.now) (so_far.after, c.loop-heard.line) k 0 in
     record {
       after = so_far.after;
       node = so_far.node;
-      leads = subst Q end (heard_all g.L.Line.polls (rules_of g.W.World.physics players extra capacity) me c.loop-heard.heard (m, c.args.line.now) (so_far.after, c.loop-heard.line) so_far.leads all);
+      leads = subst Q end (record { between = c.loop-heard.line; hears = so_far.leads; ending = None; ends = (end ∙ is, refl, refl) });
     }
