@@ -1,0 +1,277 @@
+/* zirmegat.h: the network play of vanilla Doom for an engine with a world of its own. C99 and C++.
+ *
+ * A node is one player's part of a game of two to four. It builds a command from keys for each tic, gives and
+ * takes Doom's datagrams, says when a tic runs and by which moves, checks the marks of the worlds, and records
+ * a demo. Maps, monsters and physics stay yours, and so does the network: the library opens nothing, waits for
+ * nothing and prints nothing. A tic is 1/35 second.
+ *
+ *     zmg_node node = ZMG_NODE_NONE;
+ *     zmg_node_new(&node, &config);
+ *     35 times a second:
+ *         zmg_node_build(&node, keys);
+ *         for each other player:  n = zmg_node_packet(&node, player, bytes, sizeof bytes); if (n) send it
+ *         for each datagram:      if (zmg_node_receive(&node, sender, bytes, n).code == ZMG_STARTED) begin the world
+ *         while (zmg_node_run(&node, marks of the world, row).code == ZMG_RAN) step the world by row
+ *     zmg_node_quit(&node);  a few more packets to each player;  zmg_node_free(&node);
+ *
+ * What the caller owes:
+ *   - Pointers are valid and aligned for what they point to, and not NULL, also where a length is 0. What a call
+ *     writes overlaps nothing else that it is given.
+ *   - A handle (zmg_node, zmg_demo) is ZMG_NODE_NONE or ZMG_DEMO_NONE at first, and then as the library left it.
+ *     It may be moved in memory. Of copies of it only one is used.
+ *   - One call at a time uses a handle, and none is made from a signal handler. Different handles may be used by
+ *     different threads.
+ *   - malloc, realloc and free are those of one allocator, and align as the C standard says.
+ *   - The marks that zmg_node_run is given are of the caller's own world: one that began with the start of
+ *     zmg_node_settings and the players 0 to zmg_node_players - 1 when zmg_node_receive answered ZMG_STARTED, was
+ *     stepped by every row that zmg_node_run told and by nothing else, and has marks that follow from its state
+ *     alone (no clock, no random numbers but the world's own, no pointers).
+ * Every number and every byte is tested inside. A handle that holds nothing may be given to every call: it answers
+ * as a node that does not play.
+ *
+ * Names and numbers of this header do not change. New ones may be added.
+ */
+#ifndef ZIRMEGAT_H
+#define ZIRMEGAT_H
+
+#include <stddef.h>
+#include <stdint.h>
+
+#ifdef __cplusplus
+extern "C" {
+#endif
+
+/* ---- A node ------------------------------------------------------------------------------------------- */
+
+/* A node, or none. The fields are the library's own. */
+typedef struct zmg_node {
+    uint8_t live;
+    void *at;
+} zmg_node;
+#define ZMG_NODE_NONE { 0, NULL }
+
+/* The choice of game. skill: 0 to 4, 0 the easiest. deathmatch: 0 cooperative, 1, or 2 for deathmatch 2.0.
+ * no_monsters and respawn: 0 or not. episode: 1 to 3. map: 1 to 32. Monsters are never fast. */
+typedef struct zmg_settings {
+    uint8_t skill, deathmatch, no_monsters, respawn, episode, map;
+} zmg_settings;
+
+/* limit: how many bytes the demo may have, 1,024 to 16,777,216; the memory for them is taken by zmg_node_new. A
+ *   tic takes 5 bytes for each player.
+ * players: 2 to 4. me: the number of this player, 0 to players - 1.
+ * extra: not 0, and each packet repeats the last command, which helps on lines that lose packets; the same for all.
+ * settings: of player 0, who sends them to the others; of another they are not read. */
+typedef struct zmg_config {
+    uint32_t limit;
+    uint8_t players, me, extra;
+    zmg_settings settings;
+} zmg_config;
+
+/* Answers of zmg_node_new. Player 0's settings are looked at first. ZMG_BAD_KEY is never answered. */
+#define ZMG_MADE_NODE 0u
+#define ZMG_BAD_PLAYERS 1u
+#define ZMG_BAD_ME 2u
+#define ZMG_BAD_KEY 3u
+#define ZMG_BAD_LIMIT 4u
+#define ZMG_NO_MEMORY 5u
+#define ZMG_BAD_SKILL 6u
+#define ZMG_BAD_DEATHMATCH 7u
+#define ZMG_BAD_EPISODE 8u
+#define ZMG_BAD_MAP 9u
+
+/* Makes a node in the handle. A node that the handle holds is given up first. All memory is taken here: no other
+ * call on a node can want any. Where the answer is not ZMG_MADE_NODE the handle holds none. */
+uint32_t zmg_node_new(zmg_node *node, const zmg_config *config);
+
+/* Gives up the node and its memory. The handle then holds none, and may be given to zmg_node_new again. */
+void zmg_node_free(zmg_node *node);
+
+/* The bits of keys. */
+#define ZMG_KEY_FORWARD (1u << 0)
+#define ZMG_KEY_BACK (1u << 1)
+#define ZMG_KEY_LEFT (1u << 2)
+#define ZMG_KEY_RIGHT (1u << 3)
+#define ZMG_KEY_STRAFE_LEFT (1u << 4)
+#define ZMG_KEY_STRAFE_RIGHT (1u << 5)
+#define ZMG_KEY_STRAFE (1u << 6)
+#define ZMG_KEY_SPEED (1u << 7)
+#define ZMG_KEY_ATTACK (1u << 8)
+#define ZMG_KEY_USE (1u << 9)
+#define ZMG_KEY_WEAPON(n) (1u << (9 + (n))) /* n is 1 to 8 */
+
+/* code: ZMG_MADE where the command of `tic` was made, ZMG_AHEAD where five commands wait to be run, and
+ * ZMG_MADE_NOT_PLAYING. tic is 0 but for ZMG_MADE. */
+#define ZMG_MADE 0u
+#define ZMG_AHEAD 1u
+#define ZMG_MADE_NOT_PLAYING 2u
+typedef struct zmg_made {
+    uint32_t code, tic;
+} zmg_made;
+
+/* Builds the command of these keys for the next tic. Bits from 18 on are no keys. */
+zmg_made zmg_node_build(zmg_node *node, uint32_t keys);
+
+/* How many bytes of room a packet needs at most. */
+#define ZMG_PACKET_SIZE 104u
+
+/* Writes the next packet to player `to` to the front of out, and answers how many bytes it has; 0 where there is
+ * none, and where room is below ZMG_PACKET_SIZE, which leaves the node as it is. Each call is taken as sent. */
+size_t zmg_node_packet(zmg_node *node, uint8_t to, uint8_t *out, size_t room);
+
+/* A number where known is 1; where there is none both are 0. */
+typedef struct zmg_number {
+    uint32_t known, value;
+} zmg_number;
+
+/* The whole numbers of a packet, of which it carries the low bytes. known: 1, or 0 where there is no packet, and
+ * then all is 0. ask: the tic from which commands are asked for again. start: the tic of the first command. count:
+ * how many commands. flags: as in zmg_packet. */
+typedef struct zmg_aim {
+    uint32_t known;
+    zmg_number ask;
+    uint32_t start;
+    uint8_t flags, count;
+} zmg_aim;
+
+/* What zmg_node_packet would give to player `to` now. A transport may send start along, so that its receiver can tell
+ * old datagrams. */
+zmg_aim zmg_node_aim(zmg_node *node, uint8_t to);
+
+/* code: what came of a datagram. number: how many commands were new (ZMG_TAKEN), why it was dropped (ZMG_DROPPED), and
+ * else 0. */
+#define ZMG_STARTED 0u /* the game starts: begin your world */
+#define ZMG_TAKEN 1u
+#define ZMG_STALE 2u /* no command was new */
+#define ZMG_GAP 3u   /* commands before it are missing, and are asked for */
+#define ZMG_LEFT 4u  /* the sender has left, and its last command is known: see zmg_node_end */
+#define ZMG_NOTED 5u /* player 0 waits for others yet; or this node has ended */
+#define ZMG_DROPPED 6u
+typedef struct zmg_heard {
+    uint32_t code, number;
+} zmg_heard;
+
+/* Why a datagram was dropped. It changed nothing. */
+#define ZMG_DROP_SHORT 1u
+#define ZMG_DROP_MANY 2u
+#define ZMG_DROP_LENGTH 3u
+#define ZMG_DROP_SUM 4u
+#define ZMG_DROP_STRANGER 5u     /* not from another player of the game */
+#define ZMG_DROP_OUT_OF_PLACE 6u /* settings, not from player 0 or once the game runs */
+#define ZMG_DROP_VERSION 7u      /* the sender plays another version */
+#define ZMG_DROP_SETTINGS 8u     /* settings out of range */
+#define ZMG_DROP_KILL 9u
+#define ZMG_DROP_BEFORE 10u      /* a tic below 0 */
+#define ZMG_DROP_STOP 11u        /* a command that would end a demo */
+#define ZMG_DROP_OVERRUN 12u     /* more than twelve tics ahead */
+#define ZMG_DROP_NOT_PLAYING 13u
+#define ZMG_DROP_END 14u         /* contradicts the sender's end */
+
+/* Hears a datagram of player `from`. Who sent it is for the transport to know. It hands in no datagram that was sent
+ * more than 64 tics before or after the tic that this node builds: packets carry only low bytes of tics. */
+zmg_heard zmg_node_receive(zmg_node *node, uint8_t from, const uint8_t *bytes, size_t length);
+
+/* A player's move in one tic, where present is 1; else all 0. forward and side in units of 2048 in a world of 16
+ * fractional bits, side to the right; turn to the left in 65,536ths of a full turn; buttons as in Doom. */
+typedef struct zmg_move {
+    int16_t turn;
+    int8_t forward, side;
+    uint8_t buttons, present;
+} zmg_move;
+
+/* code: ZMG_RAN where `tic` was run; ZMG_WAITING where the command of `player` is missing; ZMG_DEMO_FULL and
+ * ZMG_INCONSISTENT, where the node has ended; ZMG_RAN_NOT_PLAYING. At ZMG_INCONSISTENT the mark of `player` for the
+ * next tic was `was` in place of `should`: the worlds differ since twelve tics before, or earlier. */
+#define ZMG_RAN 0u
+#define ZMG_WAITING 1u
+#define ZMG_DEMO_FULL 2u
+#define ZMG_INCONSISTENT 3u
+#define ZMG_RAN_NOT_PLAYING 4u
+typedef struct zmg_ran {
+    uint32_t code, tic;
+    int16_t was, should;
+    uint8_t player;
+} zmg_ran;
+
+/* Runs the next tic. marks: each player's mark in the caller's world as it stands; of seats without a player any. At
+ * ZMG_RAN row has the moves by which the world is stepped next; else row stays as it is. */
+zmg_ran zmg_node_run(zmg_node *node, const int16_t marks[4], zmg_move row[4]);
+
+/* Ends the node: 1 where it had not ended, else 0. It still gives packets, which tell the others of its end. */
+uint32_t zmg_node_quit(zmg_node *node);
+
+/* What a node tells of itself. */
+
+#define ZMG_NO_NODE 0u
+#define ZMG_LISTENING 1u /* waits for player 0's settings */
+#define ZMG_GATHERING 2u /* player 0, which waits to hear every other */
+#define ZMG_PLAYING 3u
+#define ZMG_ENDED 4u
+#define ZMG_CAUSE_NONE 0u
+#define ZMG_CAUSE_QUIT 1u
+#define ZMG_CAUSE_FULL 2u
+#define ZMG_CAUSE_INCONSISTENT 3u /* player, was and should as in zmg_ran; 0 at other causes */
+typedef struct zmg_phase {
+    uint32_t code, cause;
+    int16_t was, should;
+    uint8_t player;
+} zmg_phase;
+
+zmg_phase zmg_node_phase(zmg_node *node);
+/* The number of its player; 0 for no node. */
+uint32_t zmg_node_me(zmg_node *node);
+/* How many players the game has; 0 for no node. */
+uint32_t zmg_node_players(zmg_node *node);
+/* How many commands it built. */
+uint32_t zmg_node_made(zmg_node *node);
+/* How many tics it ran. */
+uint32_t zmg_node_ran(zmg_node *node);
+/* How many commands it has of a player. */
+zmg_number zmg_node_got(zmg_node *node, uint8_t player);
+/* The tic after a player's last command, where it is known: the tic from which on the player has no moves. */
+zmg_number zmg_node_end(zmg_node *node, uint8_t player);
+
+/* The choice of game, where known is 1: for player 0 from the beginning, for others from the start on. */
+typedef struct zmg_known_settings {
+    uint32_t known;
+    zmg_settings settings;
+} zmg_known_settings;
+zmg_known_settings zmg_node_settings(zmg_node *node);
+
+/* How many bytes the demo has so far. */
+size_t zmg_node_demo_length(zmg_node *node);
+/* Copies the demo from byte `from` on, as far as there is room, and answers how many bytes were copied. It is whole,
+ * with its end marker, once the node has ended, or a tic without some player was run. */
+size_t zmg_node_demo(zmg_node *node, size_t from, uint8_t *out, size_t room);
+
+/* ---- Datagrams, with no node --------------------------------------------------------------------------- */
+
+#define ZMG_FLAG_KILL 1u
+#define ZMG_FLAG_SETUP 2u
+#define ZMG_FLAG_RETRANSMIT 4u
+#define ZMG_FLAG_EXIT 8u
+#define ZMG_MOST_COMMANDS 12
+
+/* A tic command. mark: the consistency mark of the player's own world twelve tics before. */
+typedef struct zmg_command {
+    int16_t turn, mark;
+    int8_t forward, side;
+    uint8_t chat, buttons;
+} zmg_command;
+
+/* A packet. ask and start: low bytes of tics; a set-up packet has the settings in ask, start and player. */
+typedef struct zmg_packet {
+    uint8_t flags, ask, start, player, count;
+    zmg_command commands[ZMG_MOST_COMMANDS];
+} zmg_packet;
+
+/* Reads a datagram: 0, or why it is none, which leaves *packet as it is: ZMG_DROP_SHORT, ZMG_DROP_MANY,
+ * ZMG_DROP_LENGTH, ZMG_DROP_SUM. Commands from count on are 0. */
+uint32_t zmg_packet_decode(const uint8_t *bytes, size_t length, zmg_packet *packet);
+/* Writes a datagram to the front of out: how many bytes it has, at most ZMG_PACKET_SIZE; 0 where flags is above 15, count
+ * above 12, or the room too small, and then nothing is written. */
+size_t zmg_packet_encode(const zmg_packet *packet, uint8_t *out, size_t room);
+
+#ifdef __cplusplus
+}
+#endif
+#endif

@@ -1,0 +1,4 @@
+pub mod Handles
+pub mod Node
+pub mod Values
+pub mod Calling

@@ -1,0 +1,55 @@
+-- A datagram's packet as plain fields.
+use Rattle.std.specs.Prelude.{◌≡◌, ◌<◌, ℕ, pos, List, [], ◌∷◌, length, map, take, slice_get, Option, Some, None, Result, Ok, Err}
+use Rattle.dn_tic.specs.declared.command.TicCmd.{TicCmd}
+use Rattle.dn_packet.specs.declared.packet.Packet.{Packet}
+use Rattle.dn_packet.specs.declared.packet.PacketFault.{PacketFault}
+use Rattle.zirmegat.specs.declared.packets.CommandFields.{CommandFields}
+use Rattle.zirmegat.specs.declared.packets.PacketFields.{PacketFields}
+
+-- a command, and all 0 for none
+abbrev pub command_told : Option TicCmd → CommandFields
+command_told (Some c) =
+    record { turn = c.turn; mark = c.mark; forward = c.forward; side = c.side; chat = c.chat; buttons = c.buttons }
+command_told None = record { turn = pos 0; mark = pos 0; forward = pos 0; side = pos 0; chat = 0; buttons = 0 }
+
+abbrev pub command_in : CommandFields → TicCmd
+command_in f =
+    record { forward = f.forward; side = f.side; turn = f.turn; mark = f.mark; chat = f.chat; buttons = f.buttons }
+
+-- what twelve places have
+abbrev pub twelve : {A : Type 0} → (ℕ → A) → List A
+twelve at = at 0 ∷ at 1 ∷ at 2 ∷ at 3 ∷ at 4 ∷ at 5 ∷ at 6 ∷ at 7 ∷ at 8 ∷ at 9 ∷ at 10 ∷ at 11 ∷ []
+
+-- the fields of a packet, with a place for each of twelve commands
+abbrev pub fields_of : Packet → PacketFields
+fields_of p =
+    record {
+      flags = p.flags;
+      ask = p.ask;
+      start = p.start;
+      player = p.player;
+      count = length p.cmds.items;
+      commands = twelve (λ place. command_told (slice_get p.cmds.items place));
+    }
+
+-- the packet of some fields: the first `count` commands
+abbrev pub packet_in : PacketFields → Packet
+packet_in f =
+    record {
+      flags = f.flags;
+      ask = f.ask;
+      start = f.start;
+      player = f.player;
+      cmds = record { items = map command_in (take f.count f.commands) };
+    }
+
+abbrev pub packet_code : PacketFault → ℕ
+packet_code PacketFault.Short = 1
+packet_code PacketFault.Many = 2
+packet_code PacketFault.Length = 3
+packet_code PacketFault.Sum = 4
+
+-- what a reading is told as: 0 and the fields, or the number of the fault
+abbrev pub IsDecodedAs : Result Packet PacketFault → ℕ → PacketFields → PacketFields → Type 0
+IsDecodedAs (Ok packet) code old new = (code ≡ 0) × (new ≡ fields_of packet)
+IsDecodedAs (Err fault) code old new = (code ≡ packet_code fault) × (new ≡ old)

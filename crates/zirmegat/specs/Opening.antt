@@ -1,0 +1,67 @@
+-- What a node is made as, by a configuration of plain numbers.
+use Rattle.std.specs.Prelude.{◌≡◌, ◌≢◌, ℕ, ◌==◌, Bool, not, Option, Some, None, Result, Ok, Err}
+use Rattle.dn_setup.specs.Settings.{Settings, choice, IsCheckedAs}
+use Rattle.dn_setup.specs.declared.settings.SettingsFault.{SettingsFault}
+use Rattle.dn_demo.specs.Recorded.{capacity}
+use Rattle.dn_machine.specs.Game.{fresh}
+use Rattle.dn_machine.specs.Worlds.{rules_of}
+use Rattle.dn_lockstep.specs.declared.config.Config.{Config}
+use Rattle.dn_lockstep.specs.declared.config.NodeFault.{NodeFault}
+use Rattle.dn_lockstep.specs.Contents.{Contents}
+use Rattle.dn_lockstep.specs.Marking.{Marking, free}
+use Rattle.dn_lockstep.specs.Opening.{IsAdmitted}
+use Rattle.dn_lockstep.specs.Represents.{Represents}
+use Rattle.zirmegat.specs.declared.config.NodeConfig.{NodeConfig}
+use Rattle.zirmegat.specs.declared.config.GameSettings.{GameSettings}
+
+-- flags of C: 0 is no
+abbrev pub is_set : ℕ → Bool
+is_set flag = not (flag == 0)
+
+abbrev pub choice_in : GameSettings → Settings
+choice_in s = choice s.skill s.deathmatch (is_set s.no_monsters) (is_set s.respawn) s.episode s.map
+
+-- player 0 has the settings asked for, if they are in range, and no other player has any
+abbrev pub IsChosen : NodeConfig → Result (Option Settings) SettingsFault → Type 0
+IsChosen config (Ok None) = config.me ≢ 0
+IsChosen config (Ok (Some settings)) = (config.me ≡ 0) × IsCheckedAs (choice_in config.settings) (Ok settings)
+IsChosen config (Err fault) = (config.me ≡ 0) × IsCheckedAs (choice_in config.settings) (Err fault)
+
+abbrev pub config_of : NodeConfig → Option Settings → Config
+config_of c settings =
+    record { players = c.players; me = c.me; extra = is_set c.extra; limit = c.limit; settings = settings }
+
+abbrev pub settings_code : SettingsFault → ℕ
+settings_code SettingsFault.Skill = 6
+settings_code SettingsFault.Deathmatch = 7
+settings_code SettingsFault.Episode = 8
+settings_code SettingsFault.Map = 9
+
+-- no handle asks for settings where it has none, so that 3 is never told
+abbrev pub fault_code : NodeFault → ℕ
+fault_code NodeFault.Players = 1
+fault_code NodeFault.Me = 2
+fault_code NodeFault.Key = 3
+fault_code NodeFault.Limit = 4
+fault_code NodeFault.Memory = 5
+
+-- a node with no history
+abbrev pub IsFresh : Config → Contents → Type 0
+IsFresh config n = (marking : Marking) (settings : Settings) → (config.me ≡ 0 → config.settings ≡ Some settings)
+    → Represents (rules_of (free marking) config.players config.extra (capacity config.limit config.players)) config.me n
+    (fresh settings config.me)
+
+-- 0 and the node that was made, or why there is none
+abbrev pub IsMade : Config → Result Contents NodeFault → ℕ → Option Contents → Type 0
+IsMade config (Ok made) code node = (code ≡ 0) × (node ≡ Some made) × IsFresh config made
+IsMade config (Err fault) code node = (code ≡ fault_code fault) × (node ≡ None)
+
+abbrev pub OpensBy : NodeConfig → Result (Option Settings) SettingsFault → ℕ → Option Contents → Type 0
+OpensBy config (Err fault) code node = (code ≡ settings_code fault) × (node ≡ None)
+OpensBy config (Ok settings) code node =
+    (made : Result Contents NodeFault) × IsAdmitted (config_of config settings) made × IsMade (config_of config settings) made code node
+
+-- the settings are looked at first, and then the rest
+abbrev pub Opens : NodeConfig → ℕ → Option Contents → Type 0
+Opens config code node =
+    (chosen : Result (Option Settings) SettingsFault) × IsChosen config chosen × OpensBy config chosen code node

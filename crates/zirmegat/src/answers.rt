@@ -1,0 +1,264 @@
+//! Answers as plain numbers.
+
+ghost use Rattle.std.specs.Prelude.{◌≡◌};
+ghost use Rattle.dn_setup.specs.Starts.{bit};
+ghost use Rattle.zirmegat.specs.Answers.{phase_told, ended_told, made_told, heard_told, ran_told, number_told, move_told, aim_told};
+
+use dn_lockstep::{Aim, Cause, Heard, Made, Phase, Ran};
+use dn_tic::Move;
+
+/// Where a node stands. `code` is 0 for no node, 1 for one that listens, 2 for one that gathers, 3 for one
+/// that plays and 4 for one that has ended. `cause` is 0 but for a node that has ended: 1 where it quit, 2
+/// where its demo was full, 3 where the mark of `player` was `was` in place of `should`.
+#[repr(C)]
+#[derive(Clone, Copy, Debug, PartialEq, Eq)]
+pub struct PhaseAnswer {
+    pub code: u32,
+    pub cause: u32,
+    pub was: i16,
+    pub should: i16,
+    pub player: u8,
+}
+
+impl PhaseAnswer {
+    /// There is no node.
+    pub(crate) const NONE: PhaseAnswer = PhaseAnswer {
+        code: 0,
+        cause: 0,
+        was: 0,
+        should: 0,
+        player: 0,
+    };
+
+    fn ended(cause: Cause) -> PhaseAnswer
+        ensures { result ≡ ended_told cause }
+    {
+        let ended = PhaseAnswer {
+            code: 4,
+            ..PhaseAnswer::NONE
+        };
+        match cause {
+            Cause::Quit => PhaseAnswer { cause: 1, ..ended },
+            Cause::Full => PhaseAnswer { cause: 2, ..ended },
+            Cause::Inconsistent {
+                player,
+                was,
+                should,
+            } => PhaseAnswer {
+                cause: 3,
+                was,
+                should,
+                player,
+                ..ended
+            },
+        }
+    }
+
+    pub(crate) fn of(phase: Phase) -> PhaseAnswer
+        ensures { result ≡ phase_told phase }
+    {
+        let code = match phase {
+            Phase::Listening => 1,
+            Phase::Gathering => 2,
+            Phase::Playing => 3,
+            Phase::Ended(cause) => return PhaseAnswer::ended(cause),
+        };
+        PhaseAnswer {
+            code,
+            ..PhaseAnswer::NONE
+        }
+    }
+}
+
+/// What a build answers: 0 where the command of `tic` was made, 1 where five wait to be run, 2 where the
+/// node does not play.
+#[repr(C)]
+#[derive(Clone, Copy, Debug, PartialEq, Eq)]
+pub struct BuildAnswer {
+    pub code: u32,
+    pub tic: u32,
+}
+
+impl BuildAnswer {
+    pub(crate) fn of(made: Made) -> BuildAnswer
+        ensures { result ≡ made_told made }
+    {
+        match made {
+            Made::Made(tic) => BuildAnswer { code: 0, tic },
+            Made::Full => BuildAnswer { code: 1, tic: 0 },
+            Made::NotPlaying => BuildAnswer { code: 2, tic: 0 },
+        }
+    }
+}
+
+/// What a node answers to a datagram: 0 where it has started, 1 where it took `number` new commands, 2
+/// where it has them all, 3 where some before are missing, 4 where the sender has left, 5 where it noted the
+/// sender, 6 where it dropped the datagram, for the reason of this number.
+#[repr(C)]
+#[derive(Clone, Copy, Debug, PartialEq, Eq)]
+pub struct HeardAnswer {
+    pub code: u32,
+    pub number: u32,
+}
+
+impl HeardAnswer {
+    pub(crate) fn of(heard: Heard) -> HeardAnswer
+        ensures { result ≡ heard_told heard }
+    {
+        let (code, number) = match heard {
+            Heard::Started => (0, 0),
+            Heard::Taken(number) => (1, number),
+            Heard::Stale => (2, 0),
+            Heard::Gap => (3, 0),
+            Heard::Left => (4, 0),
+            Heard::Noted => (5, 0),
+            Heard::Dropped(number) => (6, u32::from(number)),
+        };
+        HeardAnswer { code, number }
+    }
+}
+
+/// What a run answers: 0 where `tic` was run, 1 where the command of `player` is missing, 2 where the demo
+/// is full, 3 where the mark of `player` was `was` in place of `should`, 4 where the node does not play.
+#[repr(C)]
+#[derive(Clone, Copy, Debug, PartialEq, Eq)]
+pub struct RunAnswer {
+    pub code: u32,
+    pub tic: u32,
+    pub was: i16,
+    pub should: i16,
+    pub player: u8,
+}
+
+impl RunAnswer {
+    pub(crate) fn of(ran: Ran) -> RunAnswer
+        ensures { result ≡ ran_told ran }
+    {
+        let none = RunAnswer {
+            code: 0,
+            tic: 0,
+            was: 0,
+            should: 0,
+            player: 0,
+        };
+        match ran {
+            Ran::Ran(tic) => RunAnswer { tic, ..none },
+            Ran::Waiting(player) => RunAnswer {
+                code: 1,
+                player,
+                ..none
+            },
+            Ran::DemoFull => RunAnswer { code: 2, ..none },
+            Ran::Inconsistent {
+                player,
+                was,
+                should,
+            } => RunAnswer {
+                code: 3,
+                was,
+                should,
+                player,
+                ..none
+            },
+            Ran::NotPlaying => RunAnswer { code: 4, ..none },
+        }
+    }
+}
+
+/// 1 for yes and 0 for no.
+pub(crate) fn flag(yes: bool) -> u32
+    ensures { result ≡ bit yes }
+{
+    u32::from(yes)
+}
+
+/// A number, where `known` is 1, and 0 where there is none.
+#[repr(C)]
+#[derive(Clone, Copy, Debug, PartialEq, Eq)]
+pub struct Number {
+    pub known: u32,
+    pub value: u32,
+}
+
+impl Number {
+    pub(crate) fn of(number: Option<u32>) -> Number
+        ensures { result ≡ number_told number }
+    {
+        match number {
+            Some(value) => Number { known: 1, value },
+            None => Number { known: 0, value: 0 },
+        }
+    }
+}
+
+/// A player's move in one tic, where `present` is 1; and none, all 0, where the player has none.
+#[repr(C)]
+#[derive(Clone, Copy, Debug, PartialEq, Eq)]
+pub struct MoveAnswer {
+    pub turn: i16,
+    pub forward: i8,
+    pub side: i8,
+    pub buttons: u8,
+    pub present: u8,
+}
+
+impl MoveAnswer {
+    pub(crate) fn of(step: Option<Move>) -> MoveAnswer
+        ensures { result ≡ move_told step }
+    {
+        match step {
+            Some(step) => MoveAnswer {
+                turn: step.turn,
+                forward: step.forward,
+                side: step.side,
+                buttons: step.buttons,
+                present: 1,
+            },
+            None => MoveAnswer {
+                turn: 0,
+                forward: 0,
+                side: 0,
+                buttons: 0,
+                present: 0,
+            },
+        }
+    }
+}
+
+/// The exact numbers of a packet, of which it carries the low bytes, where `known` is 1; and all 0 where the
+/// node has nothing to give.
+#[repr(C)]
+#[derive(Clone, Copy, Debug, PartialEq, Eq)]
+pub struct AimAnswer {
+    pub known: u32,
+    /// The tic from which commands are asked for again.
+    pub ask: Number,
+    /// The tic of the first command.
+    pub start: u32,
+    pub flags: u8,
+    /// How many commands there are.
+    pub count: u8,
+}
+
+impl AimAnswer {
+    pub(crate) fn of(aim: Option<Aim>) -> AimAnswer
+        ensures { result ≡ aim_told aim }
+    {
+        match aim {
+            Some(aim) => AimAnswer {
+                known: 1,
+                ask: Number::of(aim.ask),
+                start: aim.start,
+                flags: aim.flags,
+                count: aim.count,
+            },
+            None => AimAnswer {
+                known: 0,
+                ask: Number::of(None),
+                start: 0,
+                flags: 0,
+                count: 0,
+            },
+        }
+    }
+}

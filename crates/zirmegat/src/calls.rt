@@ -1,0 +1,191 @@
+//! The calls that move a game on.
+
+ghost use Rattle.std.specs.Prelude.{◌≡◌, ◌<◌, ◌≤◌, ℕ, ◌%◌, ◌^◌, Bool, List, length, Option, None};
+ghost use Rattle.std.specs.Option.{option_map};
+ghost use Rattle.dn_tic.specs.declared.command.Move.{Move as Step};
+ghost use Rattle.dn_setup.specs.Starts.{bit};
+ghost use Rattle.dn_machine.specs.declared.answers.Made.{Made as Built};
+ghost use Rattle.dn_machine.specs.declared.answers.Heard.{Heard as Hearing};
+ghost use Rattle.dn_machine.specs.declared.answers.Heard.TheVariants as Heard;
+ghost use Rattle.dn_machine.specs.declared.answers.Ran.{Ran as Answer};
+ghost use Rattle.dn_machine.specs.declared.answers.Made.TheVariants as Made;
+ghost use Rattle.dn_machine.specs.declared.answers.Ran.TheVariants as Ran;
+ghost use Rattle.dn_machine.specs.Building.{on_build};
+ghost use Rattle.dn_machine.specs.Running.{on_run, on_quit};
+ghost use Rattle.dn_lockstep.specs.declared.lockstep.sending.Aim.{Aim as Aimed};
+ghost use Rattle.dn_lockstep.specs.Sent.{sent_to, aim_of, bytes_of};
+ghost use Rattle.dn_lockstep.specs.Steps.{Steps};
+ghost use Rattle.dn_lockstep.specs.Runs.{RunsBy};
+ghost use Rattle.zirmegat.specs.Calls.{node_of, Calls, Reads};
+ghost use Rattle.zirmegat.specs.Answers.{made_told, aim_told, heard_told, ran_told, row_told_over};
+ghost use Rattle.zirmegat.specs.Hearing.{HearsAny, HearsNear};
+ghost use Rattle.zirmegat.specs.Written.{IsGiven};
+
+use crate::answers::{AimAnswer, BuildAnswer, HeardAnswer, MoveAnswer, RunAnswer, flag};
+use crate::bytes;
+use crate::handle::NodeHandle;
+use arrayvec::ArrayVec;
+use dn_lockstep::{Heard, Made, Ran};
+use dn_tic::{Keys, Move};
+use std::alloc::Global;
+
+/// How much room a packet needs.
+const PACKET: usize = 104;
+
+/// The number of the drop where a node does not play.
+const NOT_PLAYING: u8 = 13;
+
+/// Builds the command of these keys for the next tic.
+#[unsafe(no_mangle)]
+pub extern "C" fn zmg_node_build(alloc: Global, node: &mut NodeHandle, keys: u32) -> BuildAnswer
+    ensures { Calls (node_of node.old) (node_of node.new)
+        (λ n k. (made : Built) × (result ≡ made_told made)
+        × Steps n k (λ rules me m. on_build rules me m (keys % 2 ^ 18)) (λ answer. made ≡ answer))
+        (result ≡ made_told Made.NotPlaying) }
+{
+    match node.take(alloc) {
+        Some(mut held) => {
+            let made = held.build(Keys::from_bits(keys));
+            *node = NodeHandle::of(held);
+            BuildAnswer::of(made)
+        }
+        None => BuildAnswer::of(Made::NotPlaying),
+    }
+}
+
+/// The exact numbers of the packet that `zmg_node_packet` would give now.
+#[unsafe(no_mangle)]
+pub extern "C" fn zmg_node_aim(alloc: Global, node: &mut NodeHandle, to: u8) -> AimAnswer
+    ensures { Reads (node_of node.old) (node_of node.new)
+        (λ n. (aim : Option Aimed) × (result ≡ aim_told aim)
+        × Steps n n (λ rules me m. (m, (sent_to to rules me m).1)) (λ flight. aim ≡ option_map aim_of flight))
+        (result ≡ aim_told None) }
+{
+    match node.take(alloc) {
+        Some(held) => {
+            let aim = held.aim(to);
+            *node = NodeHandle::of(held);
+            AimAnswer::of(aim)
+        }
+        None => AimAnswer::of(None),
+    }
+}
+
+/// Writes the datagram that a node gives, if it gives one.
+fn tell_packet(packet: Option<ArrayVec<u8, 104>>, out: &mut [u8]) -> usize
+    requires { 104 ≤ length out.old }
+    ensures { IsGiven (option_map (λ bytes. bytes.items) packet) out.old out.new result }
+{
+    match packet {
+        Some(packet) => bytes::write(packet.as_slice(), out),
+        None => 0,
+    }
+}
+
+/// Writes the next packet to a player, and answers how many bytes it has, and 0 where there is none. Where the
+/// room is not 104 bytes, the node is not asked.
+#[unsafe(no_mangle)]
+pub extern "C" fn zmg_node_packet(
+    alloc: Global,
+    node: &mut NodeHandle,
+    to: u8,
+    out: &mut [u8],
+) -> usize
+    ensures given { 104 ≤ length out.old → Calls (node_of node.old) (node_of node.new)
+        (λ n k. (given : Option (List ℕ)) × IsGiven given out.old out.new result
+        × Steps n k (λ rules me m. sent_to to rules me m) (λ flight. given ≡ option_map bytes_of flight))
+        ((result ≡ 0) × (out.new ≡ out.old)) }
+    ensures no_room { length out.old < 104 → (result ≡ 0) × (node.new ≡ node.old) × (out.new ≡ out.old) }
+{
+    if out.len() < PACKET {
+        return 0;
+    }
+    match node.take(alloc) {
+        Some(mut held) => {
+            let packet = held.packet(to);
+            *node = NodeHandle::of(held);
+            tell_packet(packet, out)
+        }
+        None => 0,
+    }
+}
+
+/// Hears a datagram of this player. Where it answers 0, the caller begins its world.
+#[unsafe(no_mangle)]
+pub extern "C" fn zmg_node_receive(
+    alloc: Global,
+    node: &mut NodeHandle,
+    from: u8,
+    bytes: &[u8],
+) -> HeardAnswer
+    ensures { Calls (node_of node.old) (node_of node.new)
+        (λ n k. (heard : Hearing) × (result ≡ heard_told heard)
+        × HearsAny from bytes.now n k heard × HearsNear from bytes.now n k heard)
+        (result ≡ heard_told (Heard.Dropped 13)) }
+{
+    match node.take(alloc) {
+        Some(mut held) => {
+            let heard = held.receive(from, bytes);
+            *node = NodeHandle::of(held);
+            HeardAnswer::of(heard)
+        }
+        None => HeardAnswer::of(Heard::Dropped(NOT_PLAYING)),
+    }
+}
+
+/// Ends the node, and answers 1 where it had not ended.
+#[unsafe(no_mangle)]
+pub extern "C" fn zmg_node_quit(alloc: Global, node: &mut NodeHandle) -> u32
+    ensures { Calls (node_of node.old) (node_of node.new)
+        (λ n k. (quit : Bool) × (result ≡ bit quit) × Steps n k (λ rules me m. on_quit m) (λ answer. quit ≡ answer))
+        (result ≡ 0) }
+{
+    match node.take(alloc) {
+        Some(mut held) => {
+            let quit = held.quit();
+            *node = NodeHandle::of(held);
+            flag(quit)
+        }
+        None => 0,
+    }
+}
+
+/// Tells the moves of a row, where there is one.
+fn tell_row(row: &mut [MoveAnswer; 4], moves: Option<[Option<Move>; 4]>)
+    ensures { row.new ≡ row_told_over row.old moves }
+{
+    if let Some(moves) = moves {
+        *row = [
+            MoveAnswer::of(moves[0]),
+            MoveAnswer::of(moves[1]),
+            MoveAnswer::of(moves[2]),
+            MoveAnswer::of(moves[3]),
+        ];
+    }
+}
+
+/// Runs the next tic by the four players' marks in the caller's world as it stands. Where it was run, `row`
+/// has the moves by which the world goes on.
+#[unsafe(no_mangle)]
+pub extern "C" fn zmg_node_run(
+    alloc: Global,
+    node: &mut NodeHandle,
+    marks: &[i16; 4],
+    row: &mut [MoveAnswer; 4],
+) -> RunAnswer
+    ensures { Calls (node_of node.old) (node_of node.new)
+        (λ n k. (ran : Answer) × (moves : Option (List (Option Step)))
+        × (result ≡ ran_told ran) × (row.new ≡ row_told_over row.old moves)
+        × RunsBy marks.now n k (λ rules m. on_run rules m) (λ answer told. (ran ≡ answer) × (moves ≡ told)))
+        ((result ≡ ran_told Ran.NotPlaying) × (row.new ≡ row.old)) }
+{
+    match node.take(alloc) {
+        Some(mut held) => {
+            let (ran, moves) = held.run(marks);
+            *node = NodeHandle::of(held);
+            tell_row(row, moves);
+            RunAnswer::of(ran)
+        }
+        None => RunAnswer::of(Ran::NotPlaying),
+    }
+}

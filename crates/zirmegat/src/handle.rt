@@ -1,0 +1,88 @@
+//! A node behind a pointer.
+
+ghost use Rattle.std.specs.Prelude.{◌≡◌, true, false, Some, None, Option};
+ghost use Rattle.std.specs.Option.{option_map};
+ghost use Rattle.dn_lockstep.specs.Contents.{contents};
+ghost use Rattle.dn_lockstep.specs.declared.lockstep.Lockstep.{Lockstep as Kept};
+
+use crate::loose::Loose;
+use dn_lockstep::Lockstep;
+use std::alloc::Global;
+use std::marker::Model;
+use std::mem;
+
+/// A node of a game, or none. C keeps it, and never reads its fields.
+#[repr(C)]
+#[derive(Drop)]
+pub struct NodeHandle {
+    live: bool,
+    at: *mut u8,
+    ghost node: { Option Kept },
+}
+
+impl Model for NodeHandle {
+    ghost use Rattle.zirmegat.specs.Held.{held};
+
+    ghost also_owns = { λ h. held h.live h.at h.node };
+}
+
+impl NodeHandle {
+    ghost use Rattle.zirmegat.specs.Calls.{node_of};
+
+    fn none() -> NodeHandle
+        ensures { result.live ≡ false }
+    {
+        NodeHandle {
+            live: false,
+            at: std::ptr::null_mut(),
+        }
+    }
+
+    fn of_loose(loose: Loose<Lockstep, Global>) -> NodeHandle
+        ensures { (result.live ≡ true) × (result.node ≡ Some loose.value) }
+    {
+        let Loose { at, alloc: _ } = loose;
+        NodeHandle {
+            live: true,
+            at: at as *mut u8,
+        }
+    }
+
+    fn into_loose(self, alloc: Global) -> Loose<Lockstep, Global>
+        requires { self.live ≡ true }
+        ensures { Some result.value ≡ self.node }
+    {
+        let NodeHandle { live: _, at } = self;
+        Loose {
+            at: at as *mut Lockstep,
+            alloc,
+        }
+    }
+
+    fn is_live(&mut self) -> bool
+        ensures { (result ≡ self.old.live) × (self.new ≡ self.old) }
+    {
+        self.live
+    }
+
+    /// The handle of this node.
+    pub(crate) fn of(node: Box<Lockstep>) -> NodeHandle
+        ensures { node_of result ≡ Some (contents node.value) }
+    {
+        NodeHandle::of_loose(Loose::of(node))
+    }
+
+    /// Takes the node out, and leaves none.
+    pub(crate) fn take(&mut self, alloc: Global) -> Option<Box<Lockstep>>
+        ensures taken { node_of self.old ≡ option_map (λ node. contents node.value) result }
+        ensures left { node_of self.new ≡ None }
+    {
+        let live = self.is_live();
+        let handle = mem::replace(self, NodeHandle::none());
+        if live {
+            Some(handle.into_loose(alloc).into_box())
+        } else {
+            None
+        }
+    }
+}

@@ -1,0 +1,17 @@
+//! Zirmegat for callers in C: one player's node of a game in lockstep whose world is the caller's own, and what
+//! needs no node: datagrams as fields, and demos.
+//!
+//! The header is bindings/c/zirmegat.h. Every number is tested here, and a handle that holds nothing answers as a node
+//! that does not play. A caller owes valid pointers, one use of a handle at a time, and the marks of its own world.
+#![tactic(auto)]
+
+mod answers;
+mod bytes;
+mod calls;
+mod config;
+mod handle;
+mod loose;
+mod nodes;
+mod packets;
+mod readers;
+mod upgrading;

@@ -1,0 +1,182 @@
+//! Datagrams as fields, with no node.
+
+ghost use Rattle.std.specs.Prelude.{◌≡◌, ◌<◌, ◌≤◌, ℕ, length, map, slice_get, Result};
+ghost use Rattle.dn_packet.specs.declared.packet.Packet.{Packet as Sent};
+ghost use Rattle.dn_packet.specs.declared.packet.PacketFault.{PacketFault as Fault};
+ghost use Rattle.dn_packet.specs.Read.{IsReadAs};
+ghost use Rattle.dn_packet.specs.Text.{text};
+ghost use Rattle.zirmegat.specs.Fields.{command_told, command_in, fields_of, packet_in, packet_code, IsDecodedAs};
+ghost use Rattle.zirmegat.specs.Written.{IsWritten};
+
+use crate::bytes;
+use arrayvec::ArrayVec;
+use dn_packet::{Packet, PacketFault, decode, encode};
+use dn_tic::TicCmd;
+
+/// A tic command.
+#[repr(C)]
+#[derive(Clone, Copy, Debug, PartialEq, Eq)]
+pub struct CommandFields {
+    pub turn: i16,
+    pub mark: i16,
+    pub forward: i8,
+    pub side: i8,
+    pub chat: u8,
+    pub buttons: u8,
+}
+
+impl CommandFields {
+    /// A command, and all 0 for none.
+    fn of(command: Option<TicCmd>) -> CommandFields
+        ensures { result ≡ command_told command }
+    {
+        match command {
+            Some(command) => CommandFields {
+                turn: command.turn,
+                mark: command.mark,
+                forward: command.forward,
+                side: command.side,
+                chat: command.chat,
+                buttons: command.buttons,
+            },
+            None => CommandFields {
+                turn: 0,
+                mark: 0,
+                forward: 0,
+                side: 0,
+                chat: 0,
+                buttons: 0,
+            },
+        }
+    }
+
+    /// The command at this place, and all 0 where there is none.
+    fn at(commands: &[TicCmd], place: usize) -> CommandFields
+        ensures { result ≡ command_told (slice_get commands.now place) }
+    {
+        CommandFields::of(commands.get(place).copied())
+    }
+
+    fn command(&self) -> TicCmd
+        ensures { result ≡ command_in self.now }
+    {
+        TicCmd {
+            forward: self.forward,
+            side: self.side,
+            turn: self.turn,
+            mark: self.mark,
+            chat: self.chat,
+            buttons: self.buttons,
+        }
+    }
+}
+
+/// A packet: what one node sends another in a datagram.
+#[repr(C)]
+#[derive(Clone, Copy, Debug, PartialEq, Eq)]
+pub struct PacketFields {
+    /// 8 EXIT, 4 RETRANSMIT, 2 SETUP, 1 KILL: a number below 16.
+    pub flags: u8,
+    /// The low byte of the tic from which commands are asked for again.
+    pub ask: u8,
+    /// The low byte of the tic of the first command.
+    pub start: u8,
+    /// The sender's number.
+    pub player: u8,
+    /// How many commands there are, 0 to 12.
+    pub count: u8,
+    pub commands: [CommandFields; 12],
+}
+
+impl PacketFields {
+    fn of(packet: &Packet) -> PacketFields
+        ensures { result ≡ fields_of packet.now }
+    {
+        let commands = packet.cmds.as_slice();
+        PacketFields {
+            flags: packet.flags,
+            ask: packet.ask,
+            start: packet.start,
+            player: packet.player,
+            count: commands.len() as u8,
+            commands: [
+                CommandFields::at(commands, 0),
+                CommandFields::at(commands, 1),
+                CommandFields::at(commands, 2),
+                CommandFields::at(commands, 3),
+                CommandFields::at(commands, 4),
+                CommandFields::at(commands, 5),
+                CommandFields::at(commands, 6),
+                CommandFields::at(commands, 7),
+                CommandFields::at(commands, 8),
+                CommandFields::at(commands, 9),
+                CommandFields::at(commands, 10),
+                CommandFields::at(commands, 11),
+            ],
+        }
+    }
+
+    /// The packet of these fields.
+    fn packet(&self) -> Packet
+        requires { self.now.count ≤ 12 }
+        ensures { result ≡ packet_in self.now }
+    {
+        Packet {
+            flags: self.flags,
+            ask: self.ask,
+            start: self.start,
+            player: self.player,
+            cmds: commands(&self.commands[..usize::from(self.count)]),
+        }
+    }
+}
+
+fn commands(fields: &[CommandFields]) -> ArrayVec<TicCmd, 12>
+    requires { length fields.now ≤ 12 }
+    ensures { result.items ≡ map command_in fields.now }
+{
+    let mut found = ArrayVec::new();
+    for command in fields {
+        found.push(command.command());
+    }
+    found
+}
+
+/// Reads a datagram into fields: 0, or why the bytes are no packet, which leaves the fields as they were: 1 fewer
+/// than 8 bytes, 2 more than 12 commands, 3 a wrong length, 4 a wrong sum.
+#[unsafe(no_mangle)]
+pub extern "C" fn zmg_packet_decode(bytes: &[u8], packet: &mut PacketFields) -> u32
+    ensures { (read : Result Sent Fault) → IsReadAs bytes.now read → IsDecodedAs read result packet.old packet.new }
+{
+    match decode(bytes) {
+        Ok(read) => {
+            *packet = PacketFields::of(&read);
+            0
+        }
+        Err(PacketFault::Short) => 1,
+        Err(PacketFault::Many) => 2,
+        Err(PacketFault::Length) => 3,
+        Err(PacketFault::Sum) => 4,
+    }
+}
+
+/// Writes the datagram of these fields, with the first `count` commands, and answers how many bytes it has. Where
+/// the flags are not below 16, there are more than 12 commands, or there is too little room, it writes nothing and
+/// answers 0.
+#[unsafe(no_mangle)]
+pub extern "C" fn zmg_packet_encode(packet: &PacketFields, out: &mut [u8]) -> usize
+    ensures written { packet.now.flags < 16 → packet.now.count ≤ 12 → length (text (packet_in packet.now)) ≤ length out.old
+        → IsWritten (text (packet_in packet.now)) out.old out.new result }
+    ensures flags { 16 ≤ packet.now.flags → (result ≡ 0) × (out.new ≡ out.old) }
+    ensures many { 12 < packet.now.count → (result ≡ 0) × (out.new ≡ out.old) }
+    ensures no_room { length out.old < length (text (packet_in packet.now)) → (result ≡ 0) × (out.new ≡ out.old) }
+{
+    if packet.flags >= 16 || packet.count > 12 {
+        return 0;
+    }
+    let text = encode(&packet.packet());
+    if text.len() > out.len() {
+        return 0;
+    }
+    bytes::write(text.as_slice(), out)
+}

@@ -1,0 +1,82 @@
+//! Upgrading a demo.
+
+ghost use Rattle.std.specs.Prelude.{◌≡◌, length, IfSome, IfNone};
+ghost use Rattle.dn_demo.specs.Recorded.{IsLimit};
+ghost use Rattle.zirmegat.specs.Upgrading.{demo_code, upgrade_code, Upgrades};
+
+use crate::bytes;
+use dn_demo::{Demo, DemoFault, UpgradeFault, upgrade};
+use std::alloc::Global;
+
+/// How many bytes an upgraded demo has, where `code` is 0, and else why there is none.
+#[repr(C)]
+#[derive(Clone, Copy, Debug, PartialEq, Eq)]
+pub struct UpgradeAnswer {
+    pub length: usize,
+    pub code: u32,
+}
+
+fn refused(code: u32) -> UpgradeAnswer
+    ensures { result ≡ record { code = code; length = 0 } }
+{
+    UpgradeAnswer { length: 0, code }
+}
+
+/// Why bytes are no demo.
+fn demo_code(fault: DemoFault) -> u32
+    ensures { result ≡ demo_code fault }
+{
+    match fault {
+        DemoFault::Short => 1,
+        DemoFault::Version => 2,
+        DemoFault::NoPlayers => 3,
+        DemoFault::NoMarker => 4,
+        DemoFault::Memory => 5,
+    }
+}
+
+/// Why a demo is not upgraded.
+fn upgrade_code(fault: UpgradeFault) -> u32
+    ensures { result ≡ upgrade_code fault }
+{
+    match fault {
+        UpgradeFault::Limit => 6,
+        UpgradeFault::Full => 7,
+        UpgradeFault::Memory => 5,
+    }
+}
+
+/// The limit of a demo that is to fit into this room.
+fn limit_of(room: usize) -> Option<u32>
+    ensures some { IfSome result (λ limit. limit ≡ room) }
+    ensures none { IfNone result (¬ IsLimit room) }
+{
+    if (1024..=16_777_216).contains(&room) {
+        Some(room as u32)
+    } else {
+        None
+    }
+}
+
+/// Writes the demo that these bytes are anew as version 111, where its upgrade fits into the room: its start, view,
+/// players and whole tics. The room is 1,024 to 16,777,216 bytes.
+#[unsafe(no_mangle)]
+pub extern "C" fn zmg_demo_upgrade(alloc: Global, bytes: &[u8], out: &mut [u8]) -> UpgradeAnswer
+    ensures { Upgrades bytes.now (length out.old) out.old out.new result }
+{
+    let demo = match Demo::read(alloc, bytes) {
+        Ok(demo) => demo,
+        Err(fault) => return refused(demo_code(fault)),
+    };
+    let limit = match limit_of(out.len()) {
+        Some(limit) => limit,
+        None => return refused(upgrade_code(UpgradeFault::Limit)),
+    };
+    match upgrade(alloc, &demo, limit) {
+        Ok(made) => UpgradeAnswer {
+            length: bytes::write_from(made.bytes(), 0, out),
+            code: 0,
+        },
+        Err(fault) => refused(upgrade_code(fault)),
+    }
+}
