@@ -17,4 +17,4 @@ returns-in-Ok-clause-step c told is marking players extra capacity me m r =
     after _ _ (ap (on_set_up m from told) (sym r.phase ∙ c.in-Listening.is)
     ∙ ap (λ (b : Bool). if b then on_told m told else (m, Heard.Dropped 6)) key
     ∙ ap (on_told m) (sym (found.only told is)))
-    (c.start.ensures marking players extra capacity me m r) refl
+    (c.start.ensures.step marking players extra capacity me m r) refl
