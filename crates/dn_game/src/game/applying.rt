@@ -9,6 +9,7 @@ ghost use Rattle.dn_game.specs.Pool.{HasGrown};
 
 use super::Game;
 use crate::flight::is_far;
+use arrayvec::ArrayVec;
 use dn_machine::{Done, Event, Heard, Refusal};
 use dn_world::World;
 
@@ -91,12 +92,14 @@ impl<W: World> Game<W> {
         let Some(aim) = sender.aim(to) else {
             return Ok(Done::Silent);
         };
-        let Some(bytes) = sender.packet(to) else {
-            return Ok(Done::Silent);
-        };
-        let which = self.pool.len();
-        self.pool.push(node as u8, to, aim, &bytes);
-        Ok(Done::Sent(which))
+        let mut bytes = ArrayVec::new();
+        if sender.packet_into(to, &mut bytes) {
+            let which = self.pool.len();
+            self.pool.push(node as u8, to, aim, &bytes);
+            Ok(Done::Sent(which))
+        } else {
+            Ok(Done::Silent)
+        }
     }
 
     /// Hands a packet to its receiver.

@@ -1,4 +1,5 @@
-use Rattle.std.proofs.Common.{length, inl, refl, ap, ◌∙◌, arith}
+use Rattle.std.proofs.Common.{Bool, length, inl, refl, ap, sym, ◌∙◌, arith}
+use Rattle.std.specs.Bool.{then_some}
 use Rattle.std.proofs.lemmas.List.{length-set}
 use Rattle.dn_machine.specs.declared.events.Done.{Done}
 use Rattle.dn_machine.specs.Worlds.{rules_of}
@@ -16,34 +17,36 @@ returns-in_default-aim-clause-sent g c players extra capacity m r =
     let none = no_flight aim_of _ (c.in_default-aim.ensures.step players extra capacity _ _ shown).answer in
     inl (Done.Silent, refl, sends_none _ rules _ m r _ _ c.requires.node c.requires.to _ _ (along (none_sent rules _ _ c.args.to none) shown) none c.in-Ok.ensures.kept)
 
-pub returns-in_default-packet-clause-sent : goal.returns-in_default-packet-clause-sent
-returns-in_default-packet-clause-sent g c players extra capacity m r =
+pub returns-else-packet_into-clause-sent : goal.returns-else-packet_into-clause-sent
+returns-else-packet_into-clause-sent g c players extra capacity m r =
     let rules = rules_of g.W.World.physics players extra capacity in
     let shown = node_at _ rules _ m r _ _ c.requires.node c.index_mut-sender.ensures.value in
-    let after = c.in_default-packet.ensures.step players extra capacity _ _ shown in
-    inl (Done.Silent, refl, sends_none _ rules _ m r _ _ c.requires.node c.requires.to _ _ after.node (no_flight bytes_of _ after.answer) c.in-Ok.ensures.kept)
+    let after = c.packet_into.ensures.step players extra capacity _ _ shown in
+    let silent = sym (ap (λ (b : Bool). then_some b c.packet_into.new.bytes.items) c.if-packet_into.false) ∙ after.answer in
+    inl (Done.Silent, refl, sends_none _ rules _ m r _ _ c.requires.node c.requires.to _ _ after.node (no_flight bytes_of _ silent) c.in-Ok.ensures.kept)
 
-pub invariant_of-self-2-clause-receivers : goal.invariant_of-self-2-clause-receivers
-invariant_of-self-2-clause-receivers g c =
+pub invariant_of-self-then-packet_into-clause-receivers : goal.invariant_of-self-then-packet_into-clause-receivers
+invariant_of-self-then-packet_into-clause-receivers g c =
     let n = c.args.self.now in
     still_below (length n.nodes.items) _ _ _ _ (joins _ _ _ _ c.push.ensures.flights c.in-Ok.ensures.kept) n.receivers c.requires.to
-    (length-set n.nodes.items c.args.node c.packet.new.self)
+    (length-set n.nodes.items c.args.node c.packet_into.new.self)
 
-pub invariant_of-self-2-clause-few : goal.invariant_of-self-2-clause-few
-invariant_of-self-2-clause-few g c =
+pub invariant_of-self-then-packet_into-clause-few : goal.invariant_of-self-then-packet_into-clause-few
+invariant_of-self-then-packet_into-clause-few g c =
     let n = c.args.self.now in
-    omega (arith, length-set n.nodes.items c.args.node c.packet.new.self, n.few)
+    omega (arith, length-set n.nodes.items c.args.node c.packet_into.new.self, n.few)
 
-pub returns-clause-sent : goal.returns-clause-sent
-returns-clause-sent g c players extra capacity m r =
+pub returns-then-packet_into-clause-sent : goal.returns-then-packet_into-clause-sent
+returns-then-packet_into-clause-sent g c players extra capacity m r =
     let rules = rules_of g.W.World.physics players extra capacity in
     let shown = node_at _ rules _ m r _ _ c.requires.node c.index_mut-sender.ensures.value in
-    let after = c.in-Some-packet.ensures.step players extra capacity _ _ shown in
+    let step = c.packet_into.ensures.step players extra capacity _ _ shown in
+    let sent = sym (ap (λ (b : Bool). then_some b c.packet_into.new.bytes.items) c.if-packet_into.true) ∙ step.answer in
     inl (
       Done.Sent c.len-which.result,
       refl,
       sends_packet _ rules _ m r _ _ c.requires.node c.requires.to _ _ _ _ _ _ shown c.in-Some.ensures.reach.1
-          (c.in-Some.ensures.step players extra capacity _ _ shown).answer after (c.in-Some-packet.ensures.fair players extra capacity _ _ shown).answer
+          (c.in-Some.ensures.step players extra capacity _ _ shown).answer (record { node = step.node; answer = sent }) (c.packet_into.ensures.fair players extra capacity _ _ shown).answer
           (joins _ _ _ _ c.push.ensures.flights c.in-Ok.ensures.kept)
           (c.len-which.ensures ∙ ap length c.in-Ok.ensures.kept),
     )
