@@ -271,6 +271,68 @@ uint32_t zmg_packet_decode(const uint8_t *bytes, size_t length, zmg_packet *pack
  * above 12, or the room too small, and then nothing is written. */
 size_t zmg_packet_encode(const zmg_packet *packet, uint8_t *out, size_t room);
 
+/* ---- Demos, with no node ------------------------------------------------------------------------------- */
+
+/* A reader of a demo, or none. The fields are the library's own. */
+typedef struct zmg_demo {
+    uint8_t live;
+    void *at;
+} zmg_demo;
+#define ZMG_DEMO_NONE { 0, NULL }
+
+/* Answers of the calls on demos. */
+#define ZMG_DEMO_DONE 0u
+#define ZMG_DEMO_SHORT 1u      /* fewer than 13 bytes */
+#define ZMG_DEMO_VERSION 2u    /* neither 109 nor 111 */
+#define ZMG_DEMO_NO_PLAYERS 3u /* no seat is taken */
+#define ZMG_DEMO_NO_MARKER 4u  /* no end marker */
+#define ZMG_DEMO_NO_MEMORY 5u
+#define ZMG_DEMO_LIMIT 6u   /* the room is not 1,024 to 16,777,216 bytes */
+#define ZMG_DEMO_TOO_LONG 7u /* the upgraded demo has more bytes than there is room for */
+#define ZMG_DEMO_IS_READ 8u
+#define ZMG_DEMO_NO_READER 9u
+
+/* Makes a reader in the handle, which gives up the one that it held: ZMG_DEMO_DONE or ZMG_DEMO_NO_MEMORY. */
+uint32_t zmg_demo_new(zmg_demo *demo);
+/* Gives up the reader and its memory. The handle then holds none. */
+void zmg_demo_free(zmg_demo *demo);
+/* Takes the next piece of the demo's bytes and keeps a copy: ZMG_DEMO_DONE; ZMG_DEMO_NO_MEMORY, and the piece is not
+ * taken; ZMG_DEMO_IS_READ; ZMG_DEMO_NO_READER. */
+uint32_t zmg_demo_push(zmg_demo *demo, const uint8_t *bytes, size_t length);
+/* Reads the bytes that came: ZMG_DEMO_DONE; the first fault of ZMG_DEMO_SHORT to ZMG_DEMO_NO_MARKER that they have,
+ * and then the reader has no bytes and takes others; ZMG_DEMO_NO_READER. It wants no memory. */
+uint32_t zmg_demo_read(zmg_demo *demo);
+
+/* What a game started from, as a demo's header has it. */
+typedef struct zmg_start {
+    uint8_t skill, episode, map, deathmatch, respawn, fast, no_monsters;
+} zmg_start;
+
+/* known: 1 for a demo that was read, else all is 0. tics: how many whole tics it has. cut: how many commands stand
+ * between them and the marker. after: how many bytes follow the marker. version: 109, as the 1997 release records, or
+ * 111, with whole turns. view: whose view it shows. present: 1 for each seat with a player. */
+typedef struct zmg_demo_told {
+    size_t tics, cut, after;
+    uint32_t known;
+    uint8_t version, view;
+    zmg_start start;
+    uint8_t present[4];
+} zmg_demo_told;
+
+zmg_demo_told zmg_demo_tell(zmg_demo *demo);
+/* The moves of a tic, counted from 0: 1, or 0 where there is none, which leaves row as it is. */
+uint32_t zmg_demo_row(zmg_demo *demo, size_t tic, zmg_move row[4]);
+
+/* length: how many bytes were written. code: ZMG_DEMO_DONE, or why nothing was written. */
+typedef struct zmg_upgraded {
+    size_t length;
+    uint32_t code;
+} zmg_upgraded;
+
+/* Writes a demo anew as version 111 to the front of out: the same start, view, players and whole tics. It takes as much
+ * memory as out and the demo have bytes, and gives it back. */
+zmg_upgraded zmg_demo_upgrade(const uint8_t *bytes, size_t length, uint8_t *out, size_t room);
+
 #ifdef __cplusplus
 }
 #endif

@@ -1,5 +1,5 @@
 -- A datagram's packet as plain fields.
-use Rattle.std.specs.Prelude.{◌≡◌, ◌<◌, ℕ, pos, List, [], ◌∷◌, length, map, take, slice_get, Option, Some, None, Result, Ok, Err}
+use Rattle.std.specs.Prelude.{◌≡◌, ℕ, pos, List, [], ◌∷◌, length, map, take, slice_get, Option, Some, None, Result, Ok, Err}
 use Rattle.dn_tic.specs.declared.command.TicCmd.{TicCmd}
 use Rattle.dn_packet.specs.declared.packet.Packet.{Packet}
 use Rattle.dn_packet.specs.declared.packet.PacketFault.{PacketFault}

@@ -6,3 +6,5 @@ pub mod Opening
 pub mod Hearing
 pub mod Fields
 pub mod Upgrading
+pub mod HeldDemo
+pub mod Demos

@@ -6,14 +6,8 @@ use Rattle.dn_demo.specs.Upgraded.{IsUpgraded}
 use Rattle.dn_demo.specs.declared.demo.DemoFault.{DemoFault}
 use Rattle.dn_demo.specs.declared.upgrading.UpgradeFault.{UpgradeFault}
 use Rattle.zirmegat.specs.declared.upgrading.UpgradeAnswer.{UpgradeAnswer}
+use Rattle.zirmegat.specs.Demos.{demo_code}
 use Rattle.zirmegat.specs.Written.{IsWritten}
-
-abbrev pub demo_code : DemoFault → ℕ
-demo_code DemoFault.Short = 1
-demo_code DemoFault.Version = 2
-demo_code DemoFault.NoPlayers = 3
-demo_code DemoFault.NoMarker = 4
-demo_code DemoFault.Memory = 5
 
 abbrev pub upgrade_code : UpgradeFault → ℕ
 upgrade_code UpgradeFault.Limit = 6

@@ -151,7 +151,7 @@ pub extern "C" fn zmg_node_quit(alloc: Global, node: &mut NodeHandle) -> u32
 }
 
 /// Tells the moves of a row, where there is one.
-fn tell_row(row: &mut [MoveAnswer; 4], moves: Option<[Option<Move>; 4]>)
+pub(crate) fn tell_row(row: &mut [MoveAnswer; 4], moves: Option<[Option<Move>; 4]>)
     ensures { row.new ≡ row_told_over row.old moves }
 {
     if let Some(moves) = moves {

@@ -2,10 +2,11 @@
 
 ghost use Rattle.std.specs.Prelude.{◌≡◌, length, IfSome, IfNone};
 ghost use Rattle.dn_demo.specs.Recorded.{IsLimit};
-ghost use Rattle.zirmegat.specs.Upgrading.{demo_code, upgrade_code, Upgrades};
+ghost use Rattle.zirmegat.specs.Upgrading.{upgrade_code, Upgrades};
 
 use crate::bytes;
-use dn_demo::{Demo, DemoFault, UpgradeFault, upgrade};
+use crate::demo_answers::code_of;
+use dn_demo::{Demo, UpgradeFault, upgrade};
 use std::alloc::Global;
 
 /// How many bytes an upgraded demo has, where `code` is 0, and else why there is none.
@@ -20,19 +21,6 @@ fn refused(code: u32) -> UpgradeAnswer
     ensures { result ≡ record { code = code; length = 0 } }
 {
     UpgradeAnswer { length: 0, code }
-}
-
-/// Why bytes are no demo.
-fn demo_code(fault: DemoFault) -> u32
-    ensures { result ≡ demo_code fault }
-{
-    match fault {
-        DemoFault::Short => 1,
-        DemoFault::Version => 2,
-        DemoFault::NoPlayers => 3,
-        DemoFault::NoMarker => 4,
-        DemoFault::Memory => 5,
-    }
 }
 
 /// Why a demo is not upgraded.
@@ -66,7 +54,7 @@ pub extern "C" fn zmg_demo_upgrade(alloc: Global, bytes: &[u8], out: &mut [u8]) 
 {
     let demo = match Demo::read(alloc, bytes) {
         Ok(demo) => demo,
-        Err(fault) => return refused(demo_code(fault)),
+        Err(fault) => return refused(code_of(fault)),
     };
     let limit = match limit_of(out.len()) {
         Some(limit) => limit,

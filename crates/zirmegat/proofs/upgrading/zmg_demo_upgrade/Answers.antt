@@ -1,4 +1,4 @@
-use Rattle.std.proofs.Common.{◌≡◌, refl, ℕ, ◌∙◌, ap}
+use Rattle.std.proofs.Common.{refl, ℕ, ◌∙◌, ap}
 use Rattle.std.specs.Prelude.{Ok, Err}
 use Rattle.dn_demo.specs.declared.upgrading.UpgradeFault.TheVariants.{Limit}
 use Rattle.zirmegat.specs.declared.upgrading.UpgradeAnswer.{UpgradeAnswer}

@@ -1,0 +1,108 @@
+//! Two players in one process, over a line that loses, repeats and delays: `lossy [SEED]`. Their world is a ring road.
+
+use std::collections::VecDeque;
+use zirmegat::{Config, Heard, Keys, Move, Phase, Player, Ran, Settings, Start, World};
+
+/// How many commands each player builds.
+const TICS: u32 = 1000;
+
+/// How long the road is.
+const LENGTH: i32 = 1_000_003;
+
+/// A ring road on which cars drive, with a speed each.
+#[derive(Default, Debug, PartialEq, Clone)]
+struct Road {
+    cars: [Option<(i32, i32)>; 4],
+}
+
+impl World for Road {
+    fn begin(&mut self, _start: &Start, present: [bool; 4]) {
+        self.cars = std::array::from_fn(|seat| present[seat].then_some((seat as i32 * 1000, 0)));
+    }
+
+    fn step(&mut self, moves: &[Option<Move>; 4]) {
+        for (car, step) in self.cars.iter_mut().zip(moves) {
+            if let (Some((at, speed)), Some(step)) = (car, step) {
+                *speed = (*speed + i32::from(step.forward) - i32::from(step.turn) / 64).clamp(-9999, 9999);
+                *at = (*at + *speed).rem_euclid(LENGTH);
+            }
+        }
+    }
+
+    fn mark(&self, player: usize) -> i16 {
+        self.cars[player].map_or(0, |(at, speed)| (at ^ speed) as i16)
+    }
+}
+
+/// Numbers for the line and the keys.
+struct Luck(u64);
+
+impl Luck {
+    fn next(&mut self) -> u32 {
+        self.0 = self.0.wrapping_mul(6364136223846793005).wrapping_add(1442695040888963407);
+        (self.0 >> 33) as u32
+    }
+}
+
+/// One way of the line: datagrams with the rounds after which they come. It is no older than 16 rounds, so nothing
+/// comes from more than 64 tics away.
+#[derive(Default)]
+struct Way {
+    flying: VecDeque<(u32, Vec<u8>)>,
+}
+
+impl Way {
+    fn send(&mut self, luck: &mut Luck, round: u32, bytes: &[u8]) {
+        let copies = match luck.next() % 10 {
+            0..=2 => 0,
+            3 => 2,
+            _ => 1,
+        };
+        for _ in 0..copies {
+            self.flying.push_back((round + luck.next() % 16, bytes.to_vec()));
+        }
+    }
+
+    fn arrived(&mut self, round: u32) -> Vec<Vec<u8>> {
+        let (now, later) = self.flying.drain(..).partition(|(due, _)| *due <= round);
+        self.flying = later;
+        let now: Vec<(u32, Vec<u8>)> = now;
+        now.into_iter().map(|(_, bytes)| bytes).collect()
+    }
+}
+
+fn main() {
+    let mut luck = Luck(std::env::args().nth(1).and_then(|word| word.parse().ok()).unwrap_or(1));
+    let settings = Settings { skill: 2, episode: 1, map: 1, ..Settings::default() };
+    let mut players = [
+        Player::new(Config::key(2, settings), Road::default()).expect("player 0"),
+        Player::new(Config::other(2, 1), Road::default()).expect("player 1"),
+    ];
+    let mut ways = [Way::default(), Way::default()];
+    let mut round = 0;
+    while players[0].ran() < TICS || players[1].ran() < TICS {
+        for me in 0..2 {
+            let player = &mut players[me];
+            if player.made() < TICS {
+                player.build(Keys(luck.next()));
+            }
+            if let Some(packet) = player.packet(1 - me as u8) {
+                ways[me].send(&mut luck, round, &packet);
+            }
+            for bytes in ways[1 - me].arrived(round) {
+                if let Heard::Dropped(why) = player.receive(1 - me as u8, &bytes) {
+                    assert_eq!(player.phase(), Phase::Listening, "{why:?}");
+                }
+            }
+            assert!(matches!(player.run(), Ran::Waiting(_) | Ran::NotPlaying));
+        }
+        round += 1;
+        assert!(round < 100_000, "the game does not go on");
+    }
+    let [mut key, mut other] = players;
+    assert!(key.quit() && other.quit());
+    assert_eq!(key.world(), other.world());
+    let (one, two) = (key.demo(), other.demo());
+    assert_eq!(one[9..], two[9..]);
+    println!("{TICS} tics in {round} rounds, {:?}", key.world().cars);
+}

@@ -1,0 +1,81 @@
+//! The network play of vanilla Doom, as it was released in 1997, for an engine with a world of its own.
+//!
+//! A [`Player`] is one player's part of a game of two to four: a node of the game and a [`World`], kept in step. It
+//! builds a command from keys for each tic, gives and takes Doom's datagrams, steps the world by the tics that are
+//! whole, checks the marks of the other players' worlds, and records a demo. The network is yours: hand each packet
+//! to its player's machine, and each datagram that comes to [`Player::receive`].
+//!
+//! Two players in one process:
+//!
+//! ```
+//! use zirmegat::{Config, Keys, Move, Phase, Player, Settings, Start, World};
+//!
+//! /// Each player is on a line, and goes along it.
+//! #[derive(Default)]
+//! struct Line {
+//!     at: [i32; 4],
+//! }
+//!
+//! impl World for Line {
+//!     fn begin(&mut self, _start: &Start, _present: [bool; 4]) {
+//!         self.at = [0; 4];
+//!     }
+//!
+//!     fn step(&mut self, moves: &[Option<Move>; 4]) {
+//!         for (at, step) in self.at.iter_mut().zip(moves) {
+//!             *at = at.wrapping_add(step.map_or(0, |step| i32::from(step.forward)));
+//!         }
+//!     }
+//!
+//!     fn mark(&self, player: usize) -> i16 {
+//!         self.at[player] as i16
+//!     }
+//! }
+//!
+//! # fn main() -> Result<(), zirmegat::NodeError> {
+//! let settings = Settings { skill: 2, episode: 1, map: 1, ..Settings::default() };
+//! let mut key = Player::new(Config::key(2, settings), Line::default())?;
+//! let mut other = Player::new(Config::other(2, 1), Line::default())?;
+//! for tic in 0..100 {
+//!     key.build(Keys::FORWARD);
+//!     other.build(if tic < 50 { Keys::FORWARD } else { Keys::BACK });
+//!     // a real engine sends each packet to its player's machine
+//!     if let Some(packet) = key.packet(1) {
+//!         other.receive(0, &packet);
+//!     }
+//!     if let Some(packet) = other.packet(0) {
+//!         key.receive(1, &packet);
+//!     }
+//!     key.run();
+//!     other.run();
+//! }
+//! assert_eq!(key.phase(), Phase::Playing);
+//! assert_eq!(key.ran(), 98); // each hears the other a little later
+//! assert_eq!(key.world().at[0], 98 * 25);
+//! assert!(key.quit());
+//! assert_eq!(key.demo().len(), 13 + 98 * 2 * 5 + 1);
+//! # Ok(())
+//! # }
+//! ```
+//!
+//! Nothing here waits, prints or opens anything. All memory is taken by `Player::new`, but for what `demo` copies.
+//! The library under it is proved: see the repository. This crate is not; it only passes references as pointers and
+//! numbers as enums.
+
+#![deny(missing_docs)]
+
+mod demo;
+mod node;
+mod packet;
+mod player;
+mod raw;
+mod values;
+
+pub use demo::{upgrade, Demo, DemoError, Reader, UpgradeError};
+pub use node::{Node, NodeError};
+pub use packet::{Command, Packet, PacketError, EXIT, KILL, RETRANSMIT, SETUP};
+pub use player::{Player, World};
+pub use values::{Aim, Cause, Config, Dropped, Heard, Keys, Made, Move, Phase, Ran, Settings, Start};
+
+#[cfg(test)]
+mod tests;

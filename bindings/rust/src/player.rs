@@ -1,0 +1,128 @@
+//! A node with a world, kept in step.
+
+use crate::node::{Datagram, Node, NodeError};
+use crate::values::{Aim, Config, Heard, Keys, Made, Move, Phase, Ran, Settings, Start};
+
+/// A world that the moves of four seats step.
+///
+/// Worlds that began alike and were stepped by the same rows are to be alike: nothing in them comes from a clock, from
+/// random numbers but the world's own, or from where things lie in memory.
+pub trait World {
+    /// Forgets all that was, and begins a game.
+    fn begin(&mut self, start: &Start, present: [bool; 4]);
+
+    /// Goes on by one tic, 1/35 second.
+    fn step(&mut self, moves: &[Option<Move>; 4]);
+
+    /// The consistency mark of a player, by the world's state alone. Doom's is the low 16 bits of the player's x.
+    fn mark(&self, player: usize) -> i16;
+}
+
+/// One player's node and world.
+#[derive(Debug)]
+pub struct Player<W> {
+    node: Node,
+    world: W,
+}
+
+impl<W: World> Player<W> {
+    /// A player of a game that has not started.
+    pub fn new(config: Config, world: W) -> Result<Player<W>, NodeError> {
+        Ok(Player { node: Node::new(config)?, world })
+    }
+
+    /// Builds the command of these keys for the next tic.
+    pub fn build(&mut self, keys: Keys) -> Made {
+        self.node.build(keys)
+    }
+
+    /// The next packet to a player, if there is one. Each call is taken as sent.
+    pub fn packet(&mut self, to: u8) -> Option<Datagram> {
+        self.node.packet(to)
+    }
+
+    /// The whole numbers of the packet that [`packet`](Player::packet) would give now.
+    pub fn aim(&mut self, to: u8) -> Option<Aim> {
+        self.node.aim(to)
+    }
+
+    /// Hears a datagram of a player, and begins the world where the game starts.
+    ///
+    /// The transport knows the sender, and hands in nothing that was sent more than 64 tics away.
+    pub fn receive(&mut self, from: u8, bytes: &[u8]) -> Heard {
+        let heard = self.node.receive(from, bytes);
+        if let (Heard::Started, Some(settings)) = (heard, self.node.settings()) {
+            let players = usize::from(self.node.players());
+            self.world.begin(&settings.start(), std::array::from_fn(|seat| seat < players));
+        }
+        heard
+    }
+
+    /// Runs the next tic if it is whole, and steps the world by it.
+    pub fn step(&mut self) -> Ran {
+        let players = usize::from(self.node.players());
+        let playing = self.node.phase() == Phase::Playing;
+        let world = &self.world;
+        let marks = std::array::from_fn(|seat| if playing && seat < players { world.mark(seat) } else { 0 });
+        let (ran, row) = self.node.run(marks);
+        if let Some(row) = row {
+            self.world.step(&row);
+        }
+        ran
+    }
+
+    /// Runs all tics that are whole: why there is no further one.
+    pub fn run(&mut self) -> Ran {
+        loop {
+            match self.step() {
+                Ran::Ran(_) => (),
+                last => return last,
+            }
+        }
+    }
+
+    /// Ends the node: whether it had not ended. It still gives packets, which tell the others.
+    pub fn quit(&mut self) -> bool {
+        self.node.quit()
+    }
+
+    /// The world.
+    pub fn world(&self) -> &W {
+        &self.world
+    }
+
+    /// Where the node stands.
+    pub fn phase(&mut self) -> Phase {
+        self.node.phase()
+    }
+
+    /// How many commands it built.
+    pub fn made(&mut self) -> u32 {
+        self.node.made()
+    }
+
+    /// How many tics it ran.
+    pub fn ran(&mut self) -> u32 {
+        self.node.ran()
+    }
+
+    /// How many commands it has of a player; None for a number that is no player's.
+    pub fn got(&mut self, player: u8) -> Option<u32> {
+        self.node.got(player)
+    }
+
+    /// The tic after a player's last command, where it is known.
+    pub fn end(&mut self, player: u8) -> Option<u32> {
+        self.node.end(player)
+    }
+
+    /// The choice of game, once it is known.
+    pub fn settings(&mut self) -> Option<Settings> {
+        self.node.settings()
+    }
+
+    /// A copy of the demo so far.
+    pub fn demo(&mut self) -> Vec<u8> {
+        self.node.demo()
+    }
+}

@@ -1,0 +1,173 @@
+//! The calls of `zirmegat.h`. The tests compare the layouts with what the header says.
+
+use core::ffi::c_void;
+
+#[repr(C)]
+pub struct Handle {
+    pub live: u8,
+    pub at: *mut c_void,
+}
+
+impl Handle {
+    pub const NONE: Handle = Handle { live: 0, at: core::ptr::null_mut() };
+}
+
+#[repr(C)]
+#[derive(Clone, Copy)]
+pub struct Settings {
+    pub skill: u8,
+    pub deathmatch: u8,
+    pub no_monsters: u8,
+    pub respawn: u8,
+    pub episode: u8,
+    pub map: u8,
+}
+
+#[repr(C)]
+pub struct Config {
+    pub limit: u32,
+    pub players: u8,
+    pub me: u8,
+    pub extra: u8,
+    pub settings: Settings,
+}
+
+/// A code with a number: `zmg_made` and `zmg_heard`.
+#[repr(C)]
+pub struct Coded {
+    pub code: u32,
+    pub number: u32,
+}
+
+#[repr(C)]
+#[derive(Clone, Copy)]
+pub struct Number {
+    pub known: u32,
+    pub value: u32,
+}
+
+#[repr(C)]
+pub struct Aim {
+    pub known: u32,
+    pub ask: Number,
+    pub start: u32,
+    pub flags: u8,
+    pub count: u8,
+}
+
+#[repr(C)]
+pub struct Ran {
+    pub code: u32,
+    pub tic: u32,
+    pub was: i16,
+    pub should: i16,
+    pub player: u8,
+}
+
+#[repr(C)]
+pub struct Phase {
+    pub code: u32,
+    pub cause: u32,
+    pub was: i16,
+    pub should: i16,
+    pub player: u8,
+}
+
+#[repr(C)]
+#[derive(Clone, Copy, Default)]
+pub struct Move {
+    pub turn: i16,
+    pub forward: i8,
+    pub side: i8,
+    pub buttons: u8,
+    pub present: u8,
+}
+
+#[repr(C)]
+pub struct KnownSettings {
+    pub known: u32,
+    pub settings: Settings,
+}
+
+#[repr(C)]
+#[derive(Clone, Copy, Default)]
+pub struct Command {
+    pub turn: i16,
+    pub mark: i16,
+    pub forward: i8,
+    pub side: i8,
+    pub chat: u8,
+    pub buttons: u8,
+}
+
+#[repr(C)]
+#[derive(Default)]
+pub struct Packet {
+    pub flags: u8,
+    pub ask: u8,
+    pub start: u8,
+    pub player: u8,
+    pub count: u8,
+    pub commands: [Command; 12],
+}
+
+#[repr(C)]
+#[derive(Clone, Copy)]
+pub struct Start {
+    pub skill: u8,
+    pub episode: u8,
+    pub map: u8,
+    pub deathmatch: u8,
+    pub respawn: u8,
+    pub fast: u8,
+    pub no_monsters: u8,
+}
+
+#[repr(C)]
+pub struct DemoTold {
+    pub tics: usize,
+    pub cut: usize,
+    pub after: usize,
+    pub known: u32,
+    pub version: u8,
+    pub view: u8,
+    pub start: Start,
+    pub present: [u8; 4],
+}
+
+#[repr(C)]
+pub struct Upgraded {
+    pub length: usize,
+    pub code: u32,
+}
+
+#[link(name = "zirmegat", kind = "static")]
+extern "C" {
+    pub fn zmg_node_new(node: *mut Handle, config: *const Config) -> u32;
+    pub fn zmg_node_free(node: *mut Handle);
+    pub fn zmg_node_build(node: *mut Handle, keys: u32) -> Coded;
+    pub fn zmg_node_aim(node: *mut Handle, to: u8) -> Aim;
+    pub fn zmg_node_packet(node: *mut Handle, to: u8, out: *mut u8, room: usize) -> usize;
+    pub fn zmg_node_receive(node: *mut Handle, from: u8, bytes: *const u8, length: usize) -> Coded;
+    pub fn zmg_node_run(node: *mut Handle, marks: *const i16, row: *mut Move) -> Ran;
+    pub fn zmg_node_quit(node: *mut Handle) -> u32;
+    pub fn zmg_node_phase(node: *mut Handle) -> Phase;
+    pub fn zmg_node_me(node: *mut Handle) -> u32;
+    pub fn zmg_node_players(node: *mut Handle) -> u32;
+    pub fn zmg_node_made(node: *mut Handle) -> u32;
+    pub fn zmg_node_ran(node: *mut Handle) -> u32;
+    pub fn zmg_node_got(node: *mut Handle, player: u8) -> Number;
+    pub fn zmg_node_end(node: *mut Handle, player: u8) -> Number;
+    pub fn zmg_node_settings(node: *mut Handle) -> KnownSettings;
+    pub fn zmg_node_demo_length(node: *mut Handle) -> usize;
+    pub fn zmg_node_demo(node: *mut Handle, from: usize, out: *mut u8, room: usize) -> usize;
+    pub fn zmg_packet_decode(bytes: *const u8, length: usize, packet: *mut Packet) -> u32;
+    pub fn zmg_packet_encode(packet: *const Packet, out: *mut u8, room: usize) -> usize;
+    pub fn zmg_demo_new(demo: *mut Handle) -> u32;
+    pub fn zmg_demo_free(demo: *mut Handle);
+    pub fn zmg_demo_push(demo: *mut Handle, bytes: *const u8, length: usize) -> u32;
+    pub fn zmg_demo_read(demo: *mut Handle) -> u32;
+    pub fn zmg_demo_tell(demo: *mut Handle) -> DemoTold;
+    pub fn zmg_demo_row(demo: *mut Handle, tic: usize, row: *mut Move) -> u32;
+    pub fn zmg_demo_upgrade(bytes: *const u8, length: usize, out: *mut u8, room: usize) -> Upgraded;
+}

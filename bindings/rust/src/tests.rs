@@ -1,0 +1,183 @@
+//! The whole surface over a world that sums moves.
+
+use crate::*;
+use core::mem::size_of;
+
+#[derive(Default, Debug, PartialEq, Clone)]
+struct Sum {
+    totals: [i64; 4],
+    began: u32,
+}
+
+impl World for Sum {
+    fn begin(&mut self, _start: &Start, _present: [bool; 4]) {
+        *self = Sum { totals: [0; 4], began: self.began + 1 };
+    }
+
+    fn step(&mut self, moves: &[Option<Move>; 4]) {
+        for (total, step) in self.totals.iter_mut().zip(moves) {
+            if let Some(step) = step {
+                *total = total.wrapping_mul(31) + i64::from(step.forward) * 7 + i64::from(step.side) + i64::from(step.turn);
+            }
+        }
+    }
+
+    fn mark(&self, player: usize) -> i16 {
+        self.totals[player] as i16
+    }
+}
+
+fn settings() -> Settings {
+    Settings { skill: 3, deathmatch: 1, no_monsters: true, respawn: false, episode: 2, map: 9 }
+}
+
+fn pair() -> (Player<Sum>, Player<Sum>) {
+    let mut key = Player::new(Config::key(2, settings()), Sum::default()).unwrap();
+    let mut other = Player::new(Config::other(2, 1), Sum::default()).unwrap();
+    assert_eq!(other.receive(0, &key.packet(1).unwrap()), Heard::Started);
+    assert_eq!(key.receive(1, &other.packet(0).unwrap()), Heard::Started);
+    (key, other)
+}
+
+fn tic(key: &mut Player<Sum>, other: &mut Player<Sum>, keys: u32) {
+    key.build(Keys(keys));
+    other.build(Keys(keys >> 3));
+    let (one, two) = (key.packet(1).unwrap(), other.packet(0).unwrap());
+    other.receive(0, &one);
+    key.receive(1, &two);
+    key.run();
+    other.run();
+}
+
+#[test]
+fn the_header_has_these_sizes() {
+    assert_eq!(size_of::<raw::Handle>(), 2 * size_of::<usize>());
+    assert_eq!(size_of::<raw::Config>(), 16);
+    assert_eq!(size_of::<raw::Aim>(), 20);
+    assert_eq!(size_of::<raw::Ran>(), 16);
+    assert_eq!(size_of::<raw::Phase>(), 16);
+    assert_eq!(size_of::<raw::Move>(), 6);
+    assert_eq!(size_of::<raw::KnownSettings>(), 12);
+    assert_eq!(size_of::<raw::Command>(), 8);
+    assert_eq!(size_of::<raw::Packet>(), 102);
+    assert_eq!(size_of::<raw::DemoTold>(), 3 * size_of::<usize>() + 24);
+    assert_eq!(size_of::<raw::Upgraded>(), 2 * size_of::<usize>());
+}
+
+#[test]
+fn bad_configurations_are_refused() {
+    let good = Config::key(2, settings());
+    let refused = |config| Player::new(config, Sum::default()).err();
+    assert_eq!(refused(Config { players: 1, ..good }), Some(NodeError::Players));
+    assert_eq!(refused(Config { players: 5, ..good }), Some(NodeError::Players));
+    assert_eq!(refused(Config { me: 2, ..good }), Some(NodeError::Me));
+    assert_eq!(refused(Config { limit: 1023, ..good }), Some(NodeError::Limit));
+    let with = |settings| refused(Config { settings, ..good });
+    assert_eq!(with(Settings { skill: 5, ..settings() }), Some(NodeError::Skill));
+    assert_eq!(with(Settings { deathmatch: 3, ..settings() }), Some(NodeError::Deathmatch));
+    assert_eq!(with(Settings { episode: 0, ..settings() }), Some(NodeError::Episode));
+    assert_eq!(with(Settings { map: 33, ..settings() }), Some(NodeError::Map));
+}
+
+#[test]
+fn two_players_agree_and_their_demos_are_read() {
+    let (mut key, mut other) = pair();
+    assert_eq!((key.world().began, other.world().began), (1, 1));
+    for round in 0u32..500 {
+        tic(&mut key, &mut other, round.wrapping_mul(2_654_435_761) >> 5);
+    }
+    assert_eq!((key.ran(), other.ran()), (500, 500));
+    assert_eq!(key.world(), other.world());
+    assert_eq!(other.settings(), Some(settings()));
+    assert!(key.quit() && other.quit());
+    assert!(!key.quit());
+    assert_eq!(key.phase(), Phase::Ended(Cause::Quit));
+    let (one, two) = (key.demo(), other.demo());
+    assert_eq!(one[9..], two[9..]);
+    let mut reader = Reader::new().unwrap();
+    for piece in one.chunks(7) {
+        reader.push(piece).unwrap();
+    }
+    let mut demo = reader.read().unwrap();
+    assert_eq!((demo.version(), demo.view(), demo.tics()), (111, 0, 500));
+    assert_eq!((demo.cut(), demo.after()), (0, 0));
+    assert_eq!(demo.present(), [true, true, false, false]);
+    assert_eq!(demo.start(), settings().start());
+    let mut world = Sum { began: 1, ..Sum::default() };
+    for row in (0..500).map(|tic| demo.row(tic).unwrap()) {
+        world.step(&row);
+    }
+    assert_eq!(demo.row(500), None);
+    assert_eq!(&world, key.world());
+    assert_eq!(upgrade(&one, 1 << 20), Ok(one.clone()));
+    assert_eq!(upgrade(&one, 1024), Err(UpgradeError::TooLong));
+    assert_eq!(upgrade(&one, 1023), Err(UpgradeError::Limit));
+    assert_eq!(upgrade(&one[..12], 1024), Err(UpgradeError::Demo(DemoError::Short)));
+}
+
+#[test]
+fn a_player_leaves_and_the_other_goes_on() {
+    let (mut key, mut other) = pair();
+    for round in 0..30 {
+        tic(&mut key, &mut other, round);
+    }
+    assert_eq!(key.end(1), None);
+    other.quit();
+    assert_eq!(key.receive(1, &other.packet(0).unwrap()), Heard::Left);
+    assert_eq!(key.end(1), Some(other.made()));
+    for _ in 0..5 {
+        key.build(Keys::NONE);
+        key.run();
+    }
+    assert_eq!(key.ran(), 35);
+    assert_eq!(key.demo().len(), 13 + 30 * 10 + 1);
+}
+
+#[test]
+fn worlds_that_differ_are_found() {
+    let mut key = Node::new(Config::key(2, settings())).unwrap();
+    let mut other = Node::new(Config::other(2, 1)).unwrap();
+    let packet = key.packet(1).unwrap();
+    other.receive(0, &packet);
+    let packet = other.packet(0).unwrap();
+    key.receive(1, &packet);
+    let mut last = Ran::NotPlaying;
+    for tic in 0..20 {
+        key.build(Keys::NONE);
+        other.build(Keys::NONE);
+        let (one, two) = (key.packet(1).unwrap(), other.packet(0).unwrap());
+        other.receive(0, &one);
+        key.receive(1, &two);
+        last = key.run([0; 4]).0;
+        other.run([0, if tic == 3 { 77 } else { 0 }, 0, 0]);
+    }
+    assert_eq!(last, Ran::NotPlaying);
+    assert_eq!(key.phase(), Phase::Ended(Cause::Inconsistent { player: 1, was: 77, should: 0 }));
+    assert_eq!(key.ran(), 15);
+}
+
+#[test]
+fn packets_are_read_and_written() {
+    let command = Command { forward: 50, side: -3, turn: -640, mark: 12345, chat: 7, buttons: 1 };
+    let packet = Packet { flags: RETRANSMIT, ask: 9, start: 5, player: 1, commands: vec![command; 12] };
+    let bytes = packet.encode().unwrap();
+    assert_eq!(bytes.len(), 104);
+    assert_eq!(Packet::decode(&bytes), Ok(packet.clone()));
+    assert_eq!(Packet::decode(&bytes[..7]), Err(PacketError::Short));
+    assert_eq!(Packet::decode(&bytes[..103]), Err(PacketError::Length));
+    let mut wrong = bytes.clone();
+    wrong[9] ^= 1;
+    assert_eq!(Packet::decode(&wrong), Err(PacketError::Sum));
+    wrong[7] = 13;
+    assert_eq!(Packet::decode(&wrong), Err(PacketError::Many));
+    assert_eq!(Packet { flags: 16, ..packet.clone() }.encode(), None);
+    assert_eq!(Packet { commands: vec![command; 13], ..packet }.encode(), None);
+}
+
+#[test]
+fn nodes_may_go_to_other_threads() {
+    let (key, mut other) = pair();
+    let mut key = std::thread::spawn(move || key).join().unwrap();
+    tic(&mut key, &mut other, 1);
+    assert_eq!(key.ran(), 1);
+}

@@ -1,0 +1,111 @@
+-- A demo that is fed in pieces, and then read.
+use Rattle.std.specs.Prelude.{◌≡◌, ◌⊎◌, ℕ, Bool, List, [], ◌∷◌, ◌++◌, length, slice_get, slice_index_or, false, Option, Some, None, if◌then◌else◌, Result, Ok, Err}
+use Rattle.std.specs.Option.{option_map}
+use Rattle.dn_tic.specs.declared.command.Move.{Move}
+use Rattle.dn_setup.specs.Starts.{bit}
+use Rattle.dn_setup.specs.declared.start.Start.{Start}
+use Rattle.dn_demo.specs.Reading.{Recording, IsReadAs}
+use Rattle.dn_demo.specs.declared.demo.DemoFault.{DemoFault}
+use Rattle.zirmegat.specs.declared.reader.DemoReader.{DemoReader}
+use Rattle.zirmegat.specs.declared.reader.DemoReader.TheVariants.{Feeding, Whole}
+use Rattle.zirmegat.specs.declared.demo_handle.DemoHandle.{DemoHandle}
+use Rattle.zirmegat.specs.declared.demo_answers.StartFields.{StartFields}
+use Rattle.zirmegat.specs.declared.demo_answers.DemoAnswer.{DemoAnswer}
+
+-- what a reader has: the bytes that were fed and not yet read, and the demo that was read
+pub record Reading : Type 0 where
+  pub bytes : List ℕ
+  pub demo : Option Recording
+
+abbrev pub reading_of : DemoReader → Reading
+reading_of (Feeding bytes) = record { bytes = bytes.items; demo = None }
+reading_of (Whole demo) = record { bytes = []; demo = Some demo }
+
+-- the reader of a handle
+abbrev pub demo_of : DemoHandle → Option Reading
+demo_of h = if h.live then option_map reading_of h.reader else None
+
+-- a reader that no bytes came to
+abbrev pub blank : Reading
+blank = record { bytes = []; demo = None }
+
+abbrev pub demo_code : DemoFault → ℕ
+demo_code DemoFault.Short = 1
+demo_code DemoFault.Version = 2
+demo_code DemoFault.NoPlayers = 3
+demo_code DemoFault.NoMarker = 4
+demo_code DemoFault.Memory = 5
+
+-- a piece is taken behind the others, or there is no memory for it; a demo that was read takes none
+abbrev pub PushesBy : Option Recording → List ℕ → Reading → Reading → ℕ → Type 0
+PushesBy (Some demo) piece old new code = (code ≡ 8) × (new ≡ old)
+PushesBy None piece old new code = ((code ≡ 0) × (new ≡ record { bytes = old.bytes ++ piece; demo = None })) ⊎ ((code ≡ 5) × (new ≡ old))
+
+abbrev pub IsPushed : List ℕ → Reading → Reading → ℕ → Type 0
+IsPushed piece old new code = PushesBy old.demo piece old new code
+
+-- what is left of a reading
+abbrev pub LeavesOf : Result Recording DemoFault → Reading → ℕ → Type 0
+LeavesOf (Ok demo) new code = (code ≡ 0) × (new ≡ record { bytes = []; demo = Some demo })
+LeavesOf (Err fault) new code = (code ≡ demo_code fault) × (new ≡ blank)
+
+-- the bytes are read as a demo, or given up for their first fault; a demo that was read stays
+abbrev pub ReadsBy : Option Recording → Reading → Reading → ℕ → Type 0
+ReadsBy (Some demo) old new code = (code ≡ 0) × (new ≡ old)
+ReadsBy None old new code = (read : Result Recording DemoFault) × IsReadAs old.bytes read × LeavesOf read new code
+
+abbrev pub IsReadOut : Reading → Reading → ℕ → Type 0
+IsReadOut old new code = ReadsBy old.demo old new code
+
+abbrev pub start_told : Start → StartFields
+start_told s =
+    record { skill = s.skill; episode = s.episode; map = s.map; deathmatch = s.deathmatch; respawn = s.respawn; fast = s.fast; no_monsters = s.no_monsters }
+
+abbrev pub seat_told : List Bool → ℕ → ℕ
+seat_told present seat = bit (slice_index_or present seat false)
+
+abbrev pub seats_told : List Bool → List ℕ
+seats_told present = seat_told present 0 ∷ seat_told present 1 ∷ seat_told present 2 ∷ seat_told present 3 ∷ []
+
+-- what a demo tells beside its rows
+abbrev pub demo_told : Recording → DemoAnswer
+demo_told d =
+    record {
+      tics = length d.rows;
+      cut = d.cut;
+      after = d.after;
+      known = 1;
+      version = d.version;
+      view = d.view;
+      start = start_told d.start;
+      present = seats_told d.present;
+    }
+
+-- all 0 for no demo
+abbrev pub no_demo : DemoAnswer
+no_demo =
+    record {
+      tics = 0;
+      cut = 0;
+      after = 0;
+      known = 0;
+      version = 0;
+      view = 0;
+      start = record { skill = 0; episode = 0; map = 0; deathmatch = 0; respawn = 0; fast = 0; no_monsters = 0 };
+      present = 0 ∷ 0 ∷ 0 ∷ 0 ∷ [];
+    }
+
+abbrev pub told_of : Option Recording → DemoAnswer
+told_of (Some demo) = demo_told demo
+told_of None = no_demo
+
+abbrev pub told_by : Reading → DemoAnswer
+told_by r = told_of r.demo
+
+abbrev pub row_of : ℕ → Option Recording → Option (List (Option Move))
+row_of tic (Some demo) = slice_get demo.rows tic
+row_of tic None = None
+
+-- the moves of a tic, counted from 0
+abbrev pub row_by : ℕ → Reading → Option (List (Option Move))
+row_by tic r = row_of tic r.demo

@@ -1,0 +1,104 @@
+//! What a demo tells, as plain numbers.
+
+ghost use Rattle.std.specs.Prelude.{◌≡◌};
+ghost use Rattle.zirmegat.specs.Demos.{demo_told, demo_code};
+
+use dn_demo::{Demo, DemoFault};
+
+/// What the game of a demo started from: seven bytes, as the header has them.
+#[repr(C)]
+#[derive(Clone, Copy, Debug, PartialEq, Eq)]
+pub struct StartFields {
+    pub skill: u8,
+    pub episode: u8,
+    pub map: u8,
+    pub deathmatch: u8,
+    pub respawn: u8,
+    pub fast: u8,
+    pub no_monsters: u8,
+}
+
+/// What a demo tells beside its rows, where `known` is 1, and else all 0.
+#[repr(C)]
+#[derive(Clone, Copy, Debug, PartialEq, Eq)]
+pub struct DemoAnswer {
+    /// How many whole tics there are.
+    pub tics: usize,
+    /// How many commands stand between the last whole tic and the marker.
+    pub cut: usize,
+    /// How many bytes stand after the marker.
+    pub after: usize,
+    pub known: u32,
+    /// 109 or 111.
+    pub version: u8,
+    /// Whose view the demo shows.
+    pub view: u8,
+    pub start: StartFields,
+    /// 1 for each seat that has a player.
+    pub present: [u8; 4],
+}
+
+impl DemoAnswer {
+    /// There is no demo.
+    pub(crate) const NONE: DemoAnswer = DemoAnswer {
+        tics: 0,
+        cut: 0,
+        after: 0,
+        known: 0,
+        version: 0,
+        view: 0,
+        start: StartFields {
+            skill: 0,
+            episode: 0,
+            map: 0,
+            deathmatch: 0,
+            respawn: 0,
+            fast: 0,
+            no_monsters: 0,
+        },
+        present: [0; 4],
+    };
+
+    pub(crate) fn of(demo: &Demo) -> DemoAnswer
+        ensures { result ≡ demo_told demo.now }
+    {
+        let start = demo.start();
+        let present = demo.present();
+        DemoAnswer {
+            tics: demo.tics(),
+            cut: demo.cut(),
+            after: demo.after(),
+            known: 1,
+            version: demo.version(),
+            view: demo.view(),
+            start: StartFields {
+                skill: start.skill,
+                episode: start.episode,
+                map: start.map,
+                deathmatch: start.deathmatch,
+                respawn: start.respawn,
+                fast: start.fast,
+                no_monsters: start.no_monsters,
+            },
+            present: [
+                u8::from(present[0]),
+                u8::from(present[1]),
+                u8::from(present[2]),
+                u8::from(present[3]),
+            ],
+        }
+    }
+}
+
+/// Why bytes are no demo.
+pub(crate) fn code_of(fault: DemoFault) -> u32
+    ensures { result ≡ demo_code fault }
+{
+    match fault {
+        DemoFault::Short => 1,
+        DemoFault::Version => 2,
+        DemoFault::NoPlayers => 3,
+        DemoFault::NoMarker => 4,
+        DemoFault::Memory => 5,
+    }
+}

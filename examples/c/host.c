@@ -1,0 +1,137 @@
+/* An engine in C: plays one of two players over UDP on this machine, with the world of walk.h.
+ *
+ *     host ME BASE TICS SEED DEMO
+ *
+ * Player p is at port BASE + p of 127.0.0.1, as for `netgame play`. The host builds TICS commands, plays until it has
+ * run them and the other player has left, writes its demo to the file DEMO, and prints where the players stand. */
+#define _POSIX_C_SOURCE 200809L
+#include "walk.h"
+#include "zirmegat.h"
+#include <arpa/inet.h>
+#include <poll.h>
+#include <stdio.h>
+#include <stdlib.h>
+#include <sys/socket.h>
+#include <time.h>
+#include <unistd.h>
+
+enum { PLAYERS = 2, DEMO = 131072, SECONDS = 60, FAREWELLS = 20 };
+
+typedef struct engine {
+    zmg_node node;
+    walk world;
+    uint8_t me;
+    int line;
+    uint16_t base;
+    uint32_t tics, seed;
+} engine;
+
+static uint32_t draw(uint32_t *seed) { return (*seed = *seed * 1664525u + 1013904223u) >> 9; }
+
+static struct sockaddr_in address(uint16_t port) {
+    struct sockaddr_in at;
+    memset(&at, 0, sizeof at);
+    at.sin_family = AF_INET;
+    at.sin_addr.s_addr = htonl(INADDR_LOOPBACK);
+    at.sin_port = htons(port);
+    return at;
+}
+
+static int open_line(engine *e) {
+    struct sockaddr_in at = address((uint16_t)(e->base + e->me));
+    e->line = socket(AF_INET, SOCK_DGRAM, 0);
+    return e->line >= 0 && bind(e->line, (struct sockaddr *)&at, sizeof at) == 0;
+}
+
+static void give(engine *e) {
+    uint8_t bytes[ZMG_PACKET_SIZE];
+    for (uint8_t to = 0; to < PLAYERS; to++) {
+        struct sockaddr_in at = address((uint16_t)(e->base + to));
+        size_t length = zmg_node_packet(&e->node, to, bytes, sizeof bytes);
+        if (length) (void)!sendto(e->line, bytes, length, 0, (struct sockaddr *)&at, sizeof at);
+    }
+}
+
+static void hear(engine *e) {
+    uint8_t bytes[256];
+    struct sockaddr_in at;
+    socklen_t size = sizeof at;
+    ssize_t length;
+    while ((length = recvfrom(e->line, bytes, sizeof bytes, MSG_DONTWAIT, (struct sockaddr *)&at, &size)) >= 0) {
+        unsigned from = (unsigned)ntohs(at.sin_port) - e->base;
+        if (at.sin_addr.s_addr == htonl(INADDR_LOOPBACK) && from < PLAYERS
+            && zmg_node_receive(&e->node, (uint8_t)from, bytes, (size_t)length).code == ZMG_STARTED)
+            walk_begin(&e->world, zmg_node_players(&e->node));
+        size = sizeof at;
+    }
+}
+
+/* Runs what can be run. 0 once the node has ended. */
+static int run(engine *e) {
+    for (;;) {
+        int16_t marks[4];
+        zmg_move row[4];
+        walk_marks(&e->world, marks);
+        zmg_ran ran = zmg_node_run(&e->node, marks, row);
+        switch (ran.code) {
+        case ZMG_RAN: walk_step(&e->world, row); break;
+        case ZMG_DEMO_FULL: fprintf(stderr, "the demo is full\n"); return 0;
+        case ZMG_INCONSISTENT: fprintf(stderr, "worlds differ: player %u %d %d\n", ran.player, ran.was, ran.should); return 0;
+        default: return 1;
+        }
+    }
+}
+
+static int is_done(engine *e) {
+    return zmg_node_ran(&e->node) >= e->tics && zmg_node_end(&e->node, (uint8_t)(1 - e->me)).known;
+}
+
+static int play(engine *e) {
+    time_t start = time(NULL);
+    while (!is_done(e)) {
+        struct pollfd ready = { e->line, POLLIN, 0 };
+        if (time(NULL) - start > SECONDS) return 0;
+        if (zmg_node_made(&e->node) < e->tics) zmg_node_build(&e->node, draw(&e->seed));
+        give(e);
+        poll(&ready, 1, 1);
+        hear(e);
+        if (!run(e)) return 0;
+    }
+    return 1;
+}
+
+static int save(engine *e, const char *name) {
+    static uint8_t bytes[DEMO];
+    size_t length = zmg_node_demo(&e->node, 0, bytes, sizeof bytes);
+    FILE *file = fopen(name, "wb");
+    return file && fwrite(bytes, 1, length, file) == length && fclose(file) == 0;
+}
+
+/* The lines that `netgame demo` prints of a world. */
+static void print_spots(const walk *world) {
+    int16_t marks[4];
+    walk_marks(world, marks);
+    for (unsigned p = 0; p < PLAYERS; p++) {
+        const spot *s = &world->spots[p];
+        printf("player %u x %d y %d angle %u mark %d\n", p, (int)(int32_t)s->x, (int)(int32_t)s->y, s->angle, marks[p]);
+    }
+}
+
+int main(int argc, char **argv) {
+    static engine e;
+    if (argc != 6) return 2;
+    e.me = (uint8_t)atoi(argv[1]);
+    e.base = (uint16_t)atoi(argv[2]);
+    e.tics = (uint32_t)atol(argv[3]);
+    e.seed = (uint32_t)atol(argv[4]);
+    zmg_config config = { DEMO, PLAYERS, e.me, 0, { 2, 0, 0, 0, 1, 1 } };
+    if (zmg_node_new(&e.node, &config) != ZMG_MADE_NODE || !open_line(&e)) return 2;
+    int played = play(&e);
+    zmg_node_quit(&e.node);
+    for (int k = 0; k < FAREWELLS; k++) give(&e);
+    print_spots(&e.world);
+    int saved = save(&e, argv[5]);
+    zmg_node_free(&e.node);
+    close(e.line);
+    return played && saved ? 0 : 1;
+}
