@@ -21,6 +21,7 @@ pub mod GoingRound
 pub mod Recent
 pub mod Scheduling
 pub mod Moving
+pub mod Limits
 pub mod Posting
 pub mod Applying
 pub mod Delivering

@@ -17,7 +17,7 @@ impl<W: World> Game<W> {
     ghost use Rattle.dn_game.specs.Contents.{contents};
     ghost use Rattle.dn_game.specs.Applied.{Tells, IsAfter, IsLeftOut, IsApplied, IsAddressed};
     ghost use Rattle.dn_game.specs.Promised.{IsCarriedOn};
-    ghost use Rattle.dn_game.specs.Room.{room_of};
+    ghost use Rattle.dn_game.specs.Room.{room_of, KeepsLimits};
 
     /// Whether this is the number of a player.
     fn is_player(&self, node: u32) -> bool
@@ -83,6 +83,7 @@ impl<W: World> Game<W> {
             ⊎ IsLeftOut (contents self.old) (contents self.new) (Send node to) result) }
         ensures unchanged { OnErr result (contents self.new ≡ contents self.old) }
         ensures grown { HasGrown (contents self.old).flights (room_of self.old) (room_of self.new) }
+        ensures limits { KeepsLimits (contents self.old) (contents self.new) }
     {
         let Ok(()) = self.pool.reserve() else {
             return Err(Refusal::Memory);
@@ -109,6 +110,7 @@ impl<W: World> Game<W> {
             refused_flight m (slice_get m.flights which) ≡ None
             → IsAfter W.state rules (contents self.new) (on_event rules m (Deliver which)) (Done.Heard result)) }
         ensures room { room_of self.new ≡ room_of self.old }
+        ensures limits { KeepsLimits (contents self.old) (contents self.new) }
     {
         let which = which as usize;
         let flight = self.pool.record(which);
@@ -122,9 +124,11 @@ impl<W: World> Game<W> {
         ensures unchanged { OnErr result (contents self.new ≡ contents self.old) }
         // Whatever events led to the game: they and this one lead to what it is afterwards.
         ensures carried { IsCarriedOn W.state W.physics (contents self.old) (contents self.new) event result }
-        // Memory is taken by a send alone, for one packet more or for as many again as there are.
+        // Memory is taken by a send alone, for one packet more or for as many again as there are. The demos'
+        // rooms are their limits, which stay.
         ensures room { is_send event ≡ false → room_of self.new ≡ room_of self.old }
         ensures grown { HasGrown (contents self.old).flights (room_of self.old) (room_of self.new) }
+        ensures limits { KeepsLimits (contents self.old) (contents self.new) }
     {
         if let Some(refusal) = self.refused(event) {
             return Err(refusal);

@@ -6,6 +6,7 @@ use Rattle.dn_game.specs.Contents.{contents}
 use Rattle.dn_game.specs.Applied.{IsAddressed}
 use Rattle.dn_game.proofs.Answering.{carries}
 use Rattle.dn_game.proofs.Applying.{after_refused, after_event, after_send, after_step, stops}
+use Rattle.dn_game.proofs.Limits.{limits_same, limits_step}
 use Rattle.dn_game.proofs.Standing.{node_at}
 use Rattle.dn_game.proofs.game.Game.apply.Goals as goal
 
@@ -78,3 +79,30 @@ returns-in-Quit-clause-carried g c = carries _ _ _ _ _ _ (returns-in-Quit-clause
 
 pub returns-in-Stop-clause-carried : goal.returns-in-Stop-clause-carried
 returns-in-Stop-clause-carried g c = carries _ _ _ _ _ _ (returns-in-Stop-clause-applied g c)
+
+pub returns-in-Some-clause-limits : goal.returns-in-Some-clause-limits
+returns-in-Some-clause-limits g c = limits_same _ _ refl
+
+pub returns-in-Send-clause-limits : goal.returns-in-Send-clause-limits
+returns-in-Send-clause-limits g c = c.send.ensures.limits
+
+pub returns-in-Build-clause-limits : goal.returns-in-Build-clause-limits
+returns-in-Build-clause-limits g c =
+    let below = subst (IsAddressed (contents c.args.self.now)) c.in-Build.is (c.in_default.ensures.there refl) in
+    limits_step _ _ _ _ _ refl below c.index_mut.ensures.value c.build.ensures.room
+
+pub returns-in-Deliver-clause-limits : goal.returns-in-Deliver-clause-limits
+returns-in-Deliver-clause-limits g c = c.deliver.ensures.limits
+
+pub returns-in-Run-clause-limits : goal.returns-in-Run-clause-limits
+returns-in-Run-clause-limits g c =
+    let below = subst (IsAddressed (contents c.args.self.now)) c.in-Run.is (c.in_default.ensures.there refl) in
+    limits_step _ _ _ _ _ refl below c.index_mut-in-Run.ensures.value c.run.ensures.room
+
+pub returns-in-Quit-clause-limits : goal.returns-in-Quit-clause-limits
+returns-in-Quit-clause-limits g c =
+    let below = subst (IsAddressed (contents c.args.self.now)) c.in-Quit.is (c.in_default.ensures.there refl) in
+    limits_step _ _ _ _ _ refl below c.index_mut-in-Quit.ensures.value c.quit.ensures.room
+
+pub returns-in-Stop-clause-limits : goal.returns-in-Stop-clause-limits
+returns-in-Stop-clause-limits g c = limits_same _ _ refl

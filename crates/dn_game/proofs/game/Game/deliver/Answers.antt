@@ -1,5 +1,6 @@
-use Rattle.std.proofs.Common.{length, arith}
+use Rattle.std.proofs.Common.{length, refl, arith}
 use Rattle.dn_game.proofs.Delivering.{delivers}
+use Rattle.dn_game.proofs.Limits.{limits_step}
 use Rattle.dn_game.proofs.Packing.{receiver_below}
 use Rattle.dn_game.proofs.game.Game.deliver.Goals as goal
 
@@ -13,3 +14,9 @@ pub returns-clause-heard : goal.returns-clause-heard
 returns-clause-heard g c players extra capacity m r free =
     delivers _ _ players extra capacity _ m r _ _ c.requires c.record-flight.ensures free _ _ _ _ _ c.from.ensures c.index_mut.ensures.value
     c.datagram.ensures.bytes c.receive.ensures.near
+
+pub returns-clause-limits : goal.returns-clause-limits
+returns-clause-limits g c =
+    let n = c.args.self.now in
+    let small = receiver_below n.pool.flights c.args.which (length n.nodes.items) c.record-flight.result.now c.requires n.receivers c.record-flight.ensures in
+    limits_step _ _ _ _ _ refl (omega (arith, small, c.from.ensures)) c.index_mut.ensures.value c.receive.ensures.room

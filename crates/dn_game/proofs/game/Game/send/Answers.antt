@@ -6,6 +6,7 @@ use Rattle.dn_machine.specs.Worlds.{rules_of}
 use Rattle.dn_lockstep.specs.Sent.{aim_of, bytes_of}
 use Rattle.dn_node.proofs.Stepping.{along}
 use Rattle.dn_lockstep.proofs.Giving.{none_sent, no_flight}
+use Rattle.dn_game.proofs.Limits.{limits_step}
 use Rattle.dn_game.proofs.Sending.{sends_none, sends_packet, joins, still_below}
 use Rattle.dn_game.proofs.Standing.{node_at}
 use Rattle.dn_game.proofs.game.Game.send.Goals as goal
@@ -50,3 +51,14 @@ returns-then-packet_into-clause-sent g c players extra capacity m r =
           (joins _ _ _ _ c.push.ensures.flights c.in-Ok.ensures.kept)
           (c.len-which.ensures ∙ ap length c.in-Ok.ensures.kept),
     )
+
+pub returns-in_default-aim-clause-limits : goal.returns-in_default-aim-clause-limits
+returns-in_default-aim-clause-limits g c = limits_step _ _ _ _ _ refl c.requires.node c.index_mut-sender.ensures.value refl
+
+pub returns-in_default-packet-clause-limits : goal.returns-in_default-packet-clause-limits
+returns-in_default-packet-clause-limits g c =
+    limits_step _ _ _ _ _ refl c.requires.node c.index_mut-sender.ensures.value c.in_default-packet.ensures.room
+
+pub returns-clause-limits : goal.returns-clause-limits
+returns-clause-limits g c =
+    limits_step _ _ _ _ _ refl c.requires.node c.index_mut-sender.ensures.value c.in-Some-packet.ensures.room
