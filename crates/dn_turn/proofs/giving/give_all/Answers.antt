@@ -89,5 +89,5 @@ returns-clause-given g c players extra capacity me m r =
     let so_far = c.loop-to.invariant.3 players extra capacity me m r in
     let all : c.loop-to.to ≡ players = omega (arith, c.loop-to-test.false, c.loop-to.auto.to-end, c.players-to-end.ensures, r.lockstep.players) in
     let P : ℕ → Type 0 = λ k. Gives g.L.Line.sends (rules_of g.W.World.physics players extra capacity) me k (record { node = m; line = c.args.line.now; sent = 0; failed = 0 })
-        (record { node = so_far.after; line = c.loop-to.line; sent = c.loop-to.given.sent; failed = c.loop-to.given.failed }) in
+    (record { node = so_far.after; line = c.loop-to.line; sent = c.loop-to.given.sent; failed = c.loop-to.given.failed }) in
     record { after = so_far.after; node = so_far.node; leads = subst P all so_far.leads }

@@ -1,9 +1,11 @@
 use Rattle.std.proofs.Common.{◌≡◌, length}
 use Rattle.dn_turn.specs.Rounds.{LeadAll, TakeRounds}
+use Rattle.dn_turn.specs.Streams.{AreAt}
 use Rattle.dn_turn.proofs.rounding.rounds.Given as goal
 
-abbrev pub invariant-loop-round : goal.invariant-loop-round
-invariant-loop-round g l =
+abbrev pub invariant-loop : goal.invariant-loop
+invariant-loop g l =
     (length l.nodes ≡ length l.fn.nodes)
+    × AreAt l.seed l.counter l.streams
     × LeadAll g.W.World.state g.W.World.physics l.fn.nodes l.nodes
-    (λ seats after. TakeRounds g.L.Line.sends g.L.Line.polls g.W.World.physics l.seed (length l.fn.nodes) l.round (seats, l.fn.line) (after, l.line))
+    (λ seats after. TakeRounds g.L.Line.sends g.L.Line.polls g.W.World.physics l.seed (length l.fn.nodes) l.counter (seats, l.fn.line) (after, l.line))

@@ -16,19 +16,19 @@ loop-place-preserved g c =
     let nodes = c.loop-place.nodes in
     let place = c.loop-place.place in (
       length-set nodes place c.turn.new.node ∙ before.0,
-      λ seats seated.
-          let so_far = before.1 seats seated in
+      λ seed round at seats seated.
+          let so_far = before.1 seed round at seats seated in
           let seat : Seat = so_far.after place in
           let below : place < length nodes = omega (arith, c.loop-place-test.true, before.0) in
           let same : length nodes ≡ length nodes = refl in
           let Shown : Node _ → Type 0 = λ n. Represents g.W.World.state (rules_at g.W.World.physics seat) seat.me (contents n) seat.node in
           let shown = subst Shown c.index-nodes-place.is (so_far.seated place c.index-nodes-place.result (slice_get_read nodes (length nodes) place c.index-nodes-place.result same below c.index-nodes-place.is)) in
-          let keys : c.keys_in-keys.result ≡ keys_in c.args.seed c.args.round seat.me =
-          c.keys_in-keys.ensures ∙ ap (keys_in c.args.seed c.args.round) (c.me.ensures ∙ shown.lockstep.number) in
+          let keys : c.of-pressed.result ≡ keys_in seed round seat.me =
+          c.of-pressed.ensures seed round at ∙ ap (keys_in seed round) (c.me.ensures ∙ shown.lockstep.number) in
           let one = c.turn.ensures.turned seat.players seat.extra seat.capacity seat.me seat.node shown in
           let then : ℕ → Seat = put so_far.after place (record seat { node = one.after }) in
           let K : ℕ → Type 0 = λ k. IsTurn g.L.Line.sends g.L.Line.polls (rules_at g.W.World.physics seat) seat.me k (seat.node, c.loop-place.line) (one.after, c.turn.new.line) c.turn.result in
-          let P : ℕ → Type 0 = λ k. TakeTurns g.L.Line.sends g.L.Line.polls g.W.World.physics (keys_in c.args.seed c.args.round) k (seats, c.args.line.now) (then, c.turn.new.line) in
+          let P : ℕ → Type 0 = λ k. TakeTurns g.L.Line.sends g.L.Line.polls g.W.World.physics (keys_in seed round) k (seats, c.args.line.now) (then, c.turn.new.line) in
           let next : suc place ≡ place + 1 = omega arith in
           record {
             after = then;
@@ -40,8 +40,8 @@ loop-place-preserved g c =
 pub returns : goal.returns
 returns g c =
     record {
-      turns = λ seats seated.
-          let so_far = c.loop-place.invariant.1 seats seated in
-          let P : ℕ → Type 0 = λ k. TakeTurns g.L.Line.sends g.L.Line.polls g.W.World.physics (keys_in c.args.seed c.args.round) k (seats, c.args.line.now) (so_far.after, c.loop-place.line) in
+      turns = λ seed round at seats seated.
+          let so_far = c.loop-place.invariant.1 seed round at seats seated in
+          let P : ℕ → Type 0 = λ k. TakeTurns g.L.Line.sends g.L.Line.polls g.W.World.physics (keys_in seed round) k (seats, c.args.line.now) (so_far.after, c.loop-place.line) in
           record { after = so_far.after; seated = so_far.seated; leads = subst P (omega (arith, c.loop-place-test.false, c.loop-place.auto.place-end)) so_far.leads };
     }

@@ -1,9 +1,10 @@
-use Rattle.std.proofs.Common.{◌≡◌, length}
+use Rattle.std.proofs.Common.{◌≡◌, ℕ, length}
 use Rattle.dn_turn.specs.Rounds.{keys_in, LeadAll, TakeTurns}
+use Rattle.dn_turn.specs.Streams.{AreKeys}
 use Rattle.dn_turn.proofs.rounding.take_turns.Given as goal
 
 abbrev pub invariant-loop-place : goal.invariant-loop-place
 invariant-loop-place g l =
     (length l.nodes ≡ length l.fn.nodes)
-    × LeadAll g.W.World.state g.W.World.physics l.fn.nodes l.nodes
-    (λ seats after. TakeTurns g.L.Line.sends g.L.Line.polls g.W.World.physics (keys_in l.seed l.round) l.place (seats, l.fn.line) (after, l.line))
+    × ((seed round : ℕ) → AreKeys seed round l.keys → LeadAll g.W.World.state g.W.World.physics l.fn.nodes l.nodes
+    (λ seats after. TakeTurns g.L.Line.sends g.L.Line.polls g.W.World.physics (keys_in seed round) l.place (seats, l.fn.line) (after, l.line)))
