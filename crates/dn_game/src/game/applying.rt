@@ -118,6 +118,8 @@ impl<W: World> Game<W> {
     }
 
     /// Applies one event, or says why it is refused; a refused event changes nothing.
+    // Inlined, so that a caller that knows the event's kind does not ask for it again.
+    #[inline(always)]
     pub fn apply(&mut self, event: Event) -> Result<Done, Refusal>
         ensures applied { Tells W.state W.physics (contents self.old)
             (λ rules m. IsApplied W.state rules (contents self.old) (contents self.new) m event result) }
