@@ -125,7 +125,7 @@ fn text_of_demo(alloc: Global, fed: &Fed<Walk>) -> Result<String, AllocError>
 }
 
 /// The lines of what the bytes of a feed are read as, and the exit status.
-fn text_of(alloc: Global, feed: Feed<Walk>) -> Result<(String, u8), RunFault>
+pub(crate) fn text_of(alloc: Global, feed: Feed<Walk>) -> Result<(String, u8), RunFault>
     ensures shown { IfOk result (λ shown. (bytes : List ℕ) → Shows (λ w. w) walking bytes feed → IsDemo bytes (string_bytes shown.0) shown.1) }
     ensures fault { IfErr result (λ fault. fault ≡ RunFault.Memory) }
 {

@@ -10,17 +10,17 @@ ghost use Rattle.dn_netgame.specs.Transfer.{TakesUpTo, TakesFewer};
 ghost use Rattle.dn_netgame.specs.declared.fault.RunFault.{RunFault};
 
 use crate::fault::RunFault;
-use crate::input::INPUT_LIMIT;
+use crate::input::{INPUT_LIMIT, TOO_LONG, line_of};
 use crate::transfer::fill;
-use dn_demo::{Fed, Feed, FeedFault};
+use dn_demo::{Fed, Feed};
 use dn_world::Walk;
 use std::io::Read;
 
-/// So many bytes are asked of an input at once.
-const PIECE: usize = 4096;
+/// So many bytes are read before they are fed.
+pub(crate) const PIECE: usize = 4096;
 
 /// So many bytes are read of an input: one more than a demo may have.
-const ENOUGH: u64 = INPUT_LIMIT as u64 + 1;
+pub(crate) const ENOUGH: u64 = INPUT_LIMIT as u64 + 1;
 
 /// Reads until more bytes came than a demo may have or the input ends, and plays what comes.
 pub(crate) fn feed_demo<R: Read>(input: &mut R) -> Result<Feed<Walk>, RunFault>
@@ -52,13 +52,10 @@ pub(crate) fn fed_demo(feed: Feed<Walk>) -> Result<Fed<Walk>, &'static str>
         → IsRefused bytes line.now) }
 {
     if feed.taken() >= ENOUGH {
-        return Err("demo: too long\n");
+        return Err(TOO_LONG);
     }
     match feed.end() {
         Ok(fed) => Ok(fed),
-        Err(FeedFault::Short) => Err("demo: short\n"),
-        Err(FeedFault::Version) => Err("demo: version\n"),
-        Err(FeedFault::NoPlayers) => Err("demo: no players\n"),
-        Err(FeedFault::NoMarker) => Err("demo: no marker\n"),
+        Err(fault) => Err(line_of(fault)),
     }
 }

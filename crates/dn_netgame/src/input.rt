@@ -1,12 +1,28 @@
 //! Demos that come as input.
 
-ghost use Rattle.std.specs.Prelude.{IfOk, IfErr};
-ghost use Rattle.dn_netgame.specs.DemoLines.{IsGiven, IsRefused};
+ghost use Rattle.std.specs.Prelude.{◌≡◌, codes, IfOk, IfErr};
+ghost use Rattle.dn_demo.specs.Fed.{fault_of};
+ghost use Rattle.dn_netgame.specs.DemoLines.{IsFaultLine, IsGiven, IsRefused};
 
-use dn_demo::{Demo, DemoFault};
+use dn_demo::{Demo, DemoFault, FeedFault};
 
 /// A demo that is read has at most so many bytes.
 pub(crate) const INPUT_LIMIT: usize = 33_554_432;
+
+/// The line of an input that has more.
+pub(crate) const TOO_LONG: &str = "demo: too long\n";
+
+/// The line of bytes that are no demo.
+pub(crate) fn line_of(fault: FeedFault) -> &'static str
+    ensures { IsFaultLine (fault_of fault) result.now }
+{
+    match fault {
+        FeedFault::Short => "demo: short\n",
+        FeedFault::Version => "demo: version\n",
+        FeedFault::NoPlayers => "demo: no players\n",
+        FeedFault::NoMarker => "demo: no marker\n",
+    }
+}
 
 /// The demo that the bytes are read as, or the line that tells why there is none.
 pub(crate) fn read_demo(bytes: Vec<u8>) -> Result<Demo, &'static str>
@@ -14,14 +30,14 @@ pub(crate) fn read_demo(bytes: Vec<u8>) -> Result<Demo, &'static str>
     ensures refused { IfErr result (λ line. IsRefused bytes.items line.now) }
 {
     if bytes.len() > INPUT_LIMIT {
-        return Err("demo: too long\n");
+        return Err(TOO_LONG);
     }
     match Demo::from_vec(bytes) {
         Ok(demo) => Ok(demo),
-        Err(DemoFault::Short) => Err("demo: short\n"),
-        Err(DemoFault::Version) => Err("demo: version\n"),
-        Err(DemoFault::NoPlayers) => Err("demo: no players\n"),
+        Err(DemoFault::Short) => Err(line_of(FeedFault::Short)),
+        Err(DemoFault::Version) => Err(line_of(FeedFault::Version)),
+        Err(DemoFault::NoPlayers) => Err(line_of(FeedFault::NoPlayers)),
         // keeping the bytes takes no memory
-        Err(DemoFault::NoMarker | DemoFault::Memory) => Err("demo: no marker\n"),
+        Err(DemoFault::NoMarker | DemoFault::Memory) => Err(line_of(FeedFault::NoMarker)),
     }
 }

@@ -6,6 +6,7 @@ mod demos;
 mod games;
 mod leaving;
 mod nets;
+mod rows;
 mod script_faults;
 mod scripts;
 mod storms;

@@ -17,6 +17,6 @@ loop-byte-preserved g c =
     let none : c.take_byte.result ≡ None = search rules in
     let listed = subst (λ (r : Option (List (Option Move))). Lists g.W.World.state g.W.World.physics c.loop-byte.self (c.in-Some.byte.now ∷ []) c.take_byte.new.self (told r)) none c.take_byte.ensures.listed in (
       tells_more g.W.World.state g.W.World.physics _ _ _ _ _ _ [] [] c.loop-byte.invariant.0
-      (tells_byte g.W.World.state g.W.World.physics _ _ _ _ c.in-Some.byte.now [] split c.take_byte.ensures.count c.take_byte.ensures.shown listed),
+          (tells_byte g.W.World.state g.W.World.physics _ _ _ _ c.in-Some.byte.now [] split c.take_byte.ensures.count c.take_byte.ensures.shown listed),
       omega (arith, ap length split, c.loop-byte.invariant.1),
     )

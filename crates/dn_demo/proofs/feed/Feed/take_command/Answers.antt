@@ -119,6 +119,9 @@ returns-then-self-size-clause-row g c =
     let seats : c.seats-present.result ≡ seats_in header = c.seats-present.ensures ∙ ap seats_in (sym all) in
     let joined : take (old.kept + 1) row ≡ take old.kept old.row ++ c.args.byte ∷ [] = take_more_set old.row old.kept c.args.byte (omega (arith, c.self.told.1, unfinished, short)) in
     subst (λ (f : Feeding g.row.W.Denot). (bytes : List ℕ) → Shows g.W.World.state g.W.World.physics bytes f
-        → EndsRow layout (bytes ++ c.args.byte ∷ []) f.tics (old.tics + 1) (Some c.row_at-row.result)) c.self.view_is
-    (λ bytes shown. (refl, row_told g.W.World.state g.W.World.physics layout bytes _ c.args.byte c.seats-present.result c.row_at-row.result h free seats
-    (λ front command e. c.row_at-row.ensures front command e ∙ ap (λ (t : List ℕ). moves_from layout (front ++ t) c.seats-present.result command) joined) shown))
+    → EndsRow layout (bytes ++ c.args.byte ∷ []) f.tics (old.tics + 1) (Some c.row_at-row.result)) c.self.view_is
+    (λ bytes shown. (
+      refl,
+      row_told g.W.World.state g.W.World.physics layout bytes _ c.args.byte c.seats-present.result c.row_at-row.result h free seats
+          (λ front command e. c.row_at-row.ensures front command e ∙ ap (λ (t : List ℕ). moves_from layout (front ++ t) c.seats-present.result command) joined) shown,
+    ))
