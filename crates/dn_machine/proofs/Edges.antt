@@ -175,9 +175,10 @@ refusals : (answers (opening_game settings) (Send 0 1 ∷ Stop 1 ∷ Send 1 0 �
 unfolding answers opening_game applied on_send on_packet on_run on_quit lowest
 refusals = refl
 
--- a far packet is refused as such, also where its receiver has stopped
-far_first : map (λ (f : Flight). refused 2 (record (opening_game settings) { stopped = λ p. true; flights = f ∷ [] }) (Deliver 0)) (packet 65 None 0 ∷ packet 64 None 0 ∷ packet 0 (Some 65) 0 ∷ []) ≡ Some Refusal.Far ∷ Some Refusal.Stopped ∷ Some Refusal.Far ∷ []
-unfolding packet opening_game
+-- a far packet is refused as such, also where its receiver has stopped, and also with EXIT
+far_first : map (λ (f : Flight). refused 2 (record (opening_game settings) { stopped = λ p. true; flights = f ∷ [] }) (Deliver 0)) (packet 65 None 0 ∷ packet 64 None 0 ∷ packet 0 (Some 65) 0 ∷ exit 65 0 ∷ exit 64 0 ∷ [])
+    ≡ Some Refusal.Far ∷ Some Refusal.Stopped ∷ Some Refusal.Far ∷ Some Refusal.Far ∷ Some Refusal.Stopped ∷ []
+unfolding exit packet opening_game
 far_first = refl
 
 -- the seats of three players, as the world begins and in a row
