@@ -3,7 +3,8 @@
  *     host ME BASE TICS SEED DEMO
  *
  * Player p is at port BASE + p of 127.0.0.1, as for `netgame play`. The host builds TICS commands, plays until it has
- * run them and the other player has left, writes its demo to the file DEMO, and prints where the players stand. */
+ * run them and the other player has left or is silent, writes its demo to the file DEMO, and prints where the players
+ * stand. */
 #define _POSIX_C_SOURCE 200809L
 #include "walk.h"
 #include "zirmegat.h"
@@ -15,7 +16,7 @@
 #include <time.h>
 #include <unistd.h>
 
-enum { PLAYERS = 2, DEMO = 131072, SECONDS = 60, FAREWELLS = 20 };
+enum { PLAYERS = 2, DEMO = 131072, SECONDS = 60, SILENCE = 3, FAREWELLS = 20 };
 
 typedef struct engine {
     zmg_node node;
@@ -24,6 +25,7 @@ typedef struct engine {
     int line;
     uint16_t base;
     uint32_t tics, seed;
+    time_t heard;
 } engine;
 
 static uint32_t draw(uint32_t *seed) { return (*seed = *seed * 1664525u + 1013904223u) >> 9; }
@@ -59,9 +61,11 @@ static void hear(engine *e) {
     ssize_t length;
     while ((length = recvfrom(e->line, bytes, sizeof bytes, MSG_DONTWAIT, (struct sockaddr *)&at, &size)) >= 0) {
         unsigned from = (unsigned)ntohs(at.sin_port) - e->base;
-        if (at.sin_addr.s_addr == htonl(INADDR_LOOPBACK) && from < PLAYERS
-            && zmg_node_receive(&e->node, (uint8_t)from, bytes, (size_t)length).code == ZMG_STARTED)
-            walk_begin(&e->world, zmg_node_players(&e->node));
+        if (at.sin_addr.s_addr == htonl(INADDR_LOOPBACK) && from < PLAYERS) {
+            zmg_heard heard = zmg_node_receive(&e->node, (uint8_t)from, bytes, (size_t)length);
+            if (heard.code == ZMG_STARTED) walk_begin(&e->world, zmg_node_players(&e->node));
+            e->heard = time(NULL);
+        }
         size = sizeof at;
     }
 }
@@ -83,7 +87,8 @@ static int run(engine *e) {
 }
 
 static int is_done(engine *e) {
-    return zmg_node_ran(&e->node) >= e->tics && zmg_node_end(&e->node, (uint8_t)(1 - e->me)).known;
+    int gone = zmg_node_end(&e->node, (uint8_t)(1 - e->me)).known || time(NULL) - e->heard > SILENCE;
+    return zmg_node_ran(&e->node) >= e->tics && gone;
 }
 
 static int play(engine *e) {

@@ -1,7 +1,6 @@
 //! Two players in one process, over a line that loses, repeats and delays: `lossy [SEED]`. Their world is a ring road.
 
-use std::collections::VecDeque;
-use zirmegat::{Config, Heard, Keys, Move, Phase, Player, Ran, Settings, Start, World};
+use zirmegat::{Config, Dropped, Heard, Keys, Move, Player, Ran, Settings, Start, World};
 
 /// How many commands each player builds.
 const TICS: u32 = 1000;
@@ -48,7 +47,7 @@ impl Luck {
 /// comes from more than 64 tics away.
 #[derive(Default)]
 struct Way {
-    flying: VecDeque<(u32, Vec<u8>)>,
+    flying: Vec<(u32, Vec<u8>)>,
 }
 
 impl Way {
@@ -59,14 +58,13 @@ impl Way {
             _ => 1,
         };
         for _ in 0..copies {
-            self.flying.push_back((round + luck.next() % 16, bytes.to_vec()));
+            self.flying.push((round + luck.next() % 16, bytes.to_vec()));
         }
     }
 
     fn arrived(&mut self, round: u32) -> Vec<Vec<u8>> {
-        let (now, later) = self.flying.drain(..).partition(|(due, _)| *due <= round);
+        let (now, later): (Vec<_>, Vec<_>) = self.flying.drain(..).partition(|(due, _)| *due <= round);
         self.flying = later;
-        let now: Vec<(u32, Vec<u8>)> = now;
         now.into_iter().map(|(_, bytes)| bytes).collect()
     }
 }
@@ -90,8 +88,10 @@ fn main() {
                 ways[me].send(&mut luck, round, &packet);
             }
             for bytes in ways[1 - me].arrived(round) {
-                if let Heard::Dropped(why) = player.receive(1 - me as u8, &bytes) {
-                    assert_eq!(player.phase(), Phase::Listening, "{why:?}");
+                // packets of the set-up may come late, and others before it
+                match player.receive(1 - me as u8, &bytes) {
+                    Heard::Dropped(why) => assert!(matches!(why, Dropped::OutOfPlace | Dropped::NotPlaying), "{why:?}"),
+                    _ => (),
                 }
             }
             assert!(matches!(player.run(), Ran::Waiting(_) | Ran::NotPlaying));

@@ -50,10 +50,10 @@
 //!     other.run();
 //! }
 //! assert_eq!(key.phase(), Phase::Playing);
-//! assert_eq!(key.ran(), 98); // each hears the other a little later
-//! assert_eq!(key.world().at[0], 98 * 25);
+//! assert_eq!(key.ran(), 99); // the first round is that of the set-up
+//! assert_eq!(key.world().at, other.world().at);
 //! assert!(key.quit());
-//! assert_eq!(key.demo().len(), 13 + 98 * 2 * 5 + 1);
+//! assert_eq!(key.demo().len(), 13 + 99 * 2 * 5 + 1);
 //! # Ok(())
 //! # }
 //! ```

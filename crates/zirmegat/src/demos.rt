@@ -36,7 +36,8 @@ pub extern "C" fn zmg_demo_new(alloc: Global, demo: &mut DemoHandle) -> u32
 pub extern "C" fn zmg_demo_free(alloc: Global, demo: &mut DemoHandle)
     ensures { demo_of demo.new ≡ None }
 {
-    drop(demo.take(alloc));
+    let held = demo.take(alloc);
+    drop(held);
 }
 
 /// Takes the next piece of a demo's bytes: 0, 5 where there is no memory for it, 8 where the demo was read, 9

@@ -52,5 +52,6 @@ pub extern "C" fn zmg_node_new(alloc: Global, node: &mut NodeHandle, config: &No
 pub extern "C" fn zmg_node_free(alloc: Global, node: &mut NodeHandle)
     ensures { node_of node.new ≡ None }
 {
-    drop(node.take(alloc));
+    let held = node.take(alloc);
+    drop(held);
 }

@@ -55,10 +55,10 @@ returns-then-packet_into-clause-sent g c players extra capacity m r =
 pub returns-in_default-aim-clause-limits : goal.returns-in_default-aim-clause-limits
 returns-in_default-aim-clause-limits g c = limits_step _ _ _ _ _ refl c.requires.node c.index_mut-sender.ensures.value refl
 
-pub returns-in_default-packet-clause-limits : goal.returns-in_default-packet-clause-limits
-returns-in_default-packet-clause-limits g c =
-    limits_step _ _ _ _ _ refl c.requires.node c.index_mut-sender.ensures.value c.in_default-packet.ensures.room
+pub returns-else-packet_into-clause-limits : goal.returns-else-packet_into-clause-limits
+returns-else-packet_into-clause-limits g c =
+    limits_step _ _ _ _ _ refl c.requires.node c.index_mut-sender.ensures.value c.packet_into.ensures.room
 
-pub returns-clause-limits : goal.returns-clause-limits
-returns-clause-limits g c =
-    limits_step _ _ _ _ _ refl c.requires.node c.index_mut-sender.ensures.value c.in-Some-packet.ensures.room
+pub returns-then-packet_into-clause-limits : goal.returns-then-packet_into-clause-limits
+returns-then-packet_into-clause-limits g c =
+    limits_step _ _ _ _ _ refl c.requires.node c.index_mut-sender.ensures.value c.packet_into.ensures.room

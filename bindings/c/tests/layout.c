@@ -1,0 +1,447 @@
+/* What the header says against what the library answers: the places of all fields, and all codes, by driving a game
+ * into each answer. C99 and C++. Ends with status 0, or names the line that failed. */
+#include "failing.h"
+#include "zirmegat.h"
+#include <stdio.h>
+#include <stdlib.h>
+#include <string.h>
+
+#define IS(a, b) \
+    do { \
+        if ((long long)(a) != (long long)(b)) { \
+            printf("%s:%d: %lld in place of %lld\n", __FILE__, __LINE__, (long long)(a), (long long)(b)); \
+            exit(1); \
+        } \
+    } while (0)
+
+typedef char sizes_are_right[sizeof(zmg_node) == 2 * sizeof(void *) && sizeof(zmg_demo) == 2 * sizeof(void *)
+        && sizeof(zmg_settings) == 6 && sizeof(zmg_config) == 16 && sizeof(zmg_made) == 8 && sizeof(zmg_heard) == 8
+        && sizeof(zmg_number) == 8 && sizeof(zmg_aim) == 20 && sizeof(zmg_move) == 6 && sizeof(zmg_ran) == 16
+        && sizeof(zmg_phase) == 16 && sizeof(zmg_known_settings) == 12 && sizeof(zmg_command) == 8
+        && sizeof(zmg_packet) == 102 && sizeof(zmg_start) == 7 && sizeof(zmg_demo_told) == 3 * sizeof(size_t) + 24
+        && sizeof(zmg_upgraded) == 2 * sizeof(size_t) ? 1 : -1];
+
+static zmg_node key = ZMG_NODE_NONE, other = ZMG_NODE_NONE;
+static uint8_t bytes[4096];
+static const int16_t no_marks[4] = { 0, 0, 0, 0 };
+
+static zmg_config config_of(uint8_t me) {
+    zmg_config c;
+    memset(&c, 0, sizeof c);
+    c.limit = 2000;
+    c.players = 2;
+    c.me = me;
+    c.settings.skill = 3;
+    c.settings.deathmatch = 2;
+    c.settings.no_monsters = 1;
+    c.settings.respawn = 0;
+    c.settings.episode = 1;
+    c.settings.map = 9;
+    return c;
+}
+
+static uint32_t pass(zmg_node *from, zmg_node *to) {
+    size_t length = zmg_node_packet(from, (uint8_t)zmg_node_me(to), bytes, sizeof bytes);
+    return zmg_node_receive(to, (uint8_t)zmg_node_me(from), bytes, length).code;
+}
+
+static void start(uint8_t extra) {
+    zmg_config c = config_of(0);
+    c.extra = extra;
+    IS(zmg_node_new(&key, &c), ZMG_MADE_NODE);
+    c.me = 1;
+    IS(zmg_node_new(&other, &c), ZMG_MADE_NODE);
+    IS(pass(&key, &other), ZMG_STARTED);
+    IS(pass(&other, &key), ZMG_STARTED);
+}
+
+static uint32_t run(zmg_node *node) {
+    zmg_move row[4];
+    return zmg_node_run(node, no_marks, row).code;
+}
+
+static void tic(void) {
+    zmg_node_build(&key, 0);
+    zmg_node_build(&other, 0);
+    pass(&key, &other);
+    pass(&other, &key);
+    run(&key);
+    run(&other);
+}
+
+static void configurations(void) {
+    zmg_config c = config_of(0);
+    c.players = 1; IS(zmg_node_new(&key, &c), ZMG_BAD_PLAYERS);
+    c = config_of(2); IS(zmg_node_new(&key, &c), ZMG_BAD_ME);
+    c = config_of(0); c.limit = 1023; IS(zmg_node_new(&key, &c), ZMG_BAD_LIMIT);
+    c = config_of(0); c.settings.skill = 5; IS(zmg_node_new(&key, &c), ZMG_BAD_SKILL);
+    c = config_of(0); c.settings.deathmatch = 3; IS(zmg_node_new(&key, &c), ZMG_BAD_DEATHMATCH);
+    c = config_of(0); c.settings.episode = 4; IS(zmg_node_new(&key, &c), ZMG_BAD_EPISODE);
+    c = config_of(0); c.settings.map = 0; IS(zmg_node_new(&key, &c), ZMG_BAD_MAP);
+    c = config_of(1); c.settings.map = 0; IS(zmg_node_new(&key, &c), ZMG_MADE_NODE);
+    IS(zmg_node_phase(&key).code, ZMG_LISTENING);
+    IS(zmg_node_settings(&key).known, 0);
+    IS(zmg_node_packet(&key, 0, bytes, sizeof bytes), 0);
+    zmg_node_free(&key);
+    IS(zmg_node_phase(&key).code, ZMG_NO_NODE);
+}
+
+static void settings(void) {
+    zmg_config c = config_of(0);
+    zmg_known_settings told;
+    zmg_aim aim;
+    IS(zmg_node_new(&key, &c), ZMG_MADE_NODE);
+    IS(zmg_node_phase(&key).code, ZMG_GATHERING);
+    told = zmg_node_settings(&key);
+    IS(told.known, 1);
+    IS(told.settings.skill, 3);
+    IS(told.settings.deathmatch, 2);
+    IS(told.settings.no_monsters, 1);
+    IS(told.settings.respawn, 0);
+    IS(told.settings.episode, 1);
+    IS(told.settings.map, 9);
+    aim = zmg_node_aim(&key, 1);
+    IS(aim.known, 1);
+    IS(aim.flags, ZMG_FLAG_SETUP);
+    IS(zmg_node_aim(&key, 0).known, 0);
+}
+
+/* Keys at which the move of player 1 has all its fields different from 0. */
+static void moves(void) {
+    zmg_move row[4];
+    zmg_ran ran;
+    zmg_aim aim;
+    start(1);
+    IS(zmg_node_phase(&key).code, ZMG_PLAYING);
+    IS(zmg_node_build(&key, ZMG_KEY_BACK | ZMG_KEY_RIGHT).tic, 0);
+    IS(zmg_node_build(&other, ZMG_KEY_FORWARD | ZMG_KEY_STRAFE_LEFT | ZMG_KEY_LEFT | ZMG_KEY_ATTACK | ZMG_KEY_USE | ZMG_KEY_WEAPON(3)).code, ZMG_MADE);
+    memset(row, 7, sizeof row);
+    ran = zmg_node_run(&key, no_marks, row);
+    IS(ran.code, ZMG_WAITING);
+    IS(ran.player, 1);
+    IS(row[3].present, 7);
+    IS(pass(&other, &key), ZMG_TAKEN);
+    IS(pass(&other, &key), ZMG_STALE);
+    ran = zmg_node_run(&key, no_marks, row);
+    IS(ran.code, ZMG_RAN);
+    IS(ran.tic, 0);
+    IS(row[0].forward, -25);
+    IS(row[0].side, 0);
+    IS(row[0].turn, -320);
+    IS(row[0].buttons, 0);
+    IS(row[0].present, 1);
+    IS(row[1].forward, 25);
+    IS(row[1].side, -24);
+    IS(row[1].turn, 320);
+    IS(row[1].buttons, 1 + 2 + 4 + (2 << 3));
+    IS(row[1].present, 1);
+    IS(row[2].present, 0);
+    IS(row[3].present, 0);
+    IS(row[3].turn, 0);
+    aim = zmg_node_aim(&other, 0);
+    IS(aim.flags, 0);
+    IS(aim.start, 0);
+    IS(aim.count, 1);
+    IS(aim.ask.known, 0);
+    IS(zmg_node_made(&key), 1);
+    IS(zmg_node_ran(&key), 1);
+    IS(zmg_node_me(&other), 1);
+    IS(zmg_node_players(&other), 2);
+    IS(zmg_node_got(&other, 0).known, 1);
+    IS(zmg_node_got(&other, 0).value, 0);
+    IS(zmg_node_got(&other, 1).value, 1);
+    IS(zmg_node_got(&other, 2).known, 0);
+    IS(zmg_node_end(&other, 0).known, 0);
+}
+
+static void requests(void) {
+    zmg_aim aim;
+    start(0);
+    for (int k = 0; k < 5; k++) IS(zmg_node_build(&key, 0).tic, k);
+    IS(zmg_node_build(&key, 0).code, ZMG_AHEAD);
+    zmg_node_packet(&key, 1, bytes, sizeof bytes);
+    for (int k = 0; k < 3; k++) { zmg_node_build(&other, 0); IS(pass(&other, &key), ZMG_TAKEN); run(&key); }
+    zmg_node_build(&key, 0);
+    IS(pass(&key, &other), ZMG_GAP);
+    aim = zmg_node_aim(&other, 0);
+    IS(aim.known, 1);
+    IS(aim.flags, ZMG_FLAG_RETRANSMIT);
+    IS(aim.ask.known, 1);
+    IS(aim.ask.value, 0);
+    IS(aim.start, 3);
+    IS(aim.count, 0);
+}
+
+static void drops(void) {
+    zmg_packet packet;
+    size_t length;
+    start(0);
+    memset(&packet, 0, sizeof packet);
+    packet.player = 1;
+    packet.count = 1;
+    length = zmg_packet_encode(&packet, bytes, sizeof bytes);
+    IS(length, 16);
+#define DROPS(why) do { zmg_heard h = zmg_node_receive(&key, 1, bytes, length); IS(h.code, ZMG_DROPPED); IS(h.number, why); } while (0)
+    length = 7; DROPS(ZMG_DROP_SHORT);
+    length = 15; DROPS(ZMG_DROP_LENGTH);
+    length = 16; bytes[9] ^= 1; DROPS(ZMG_DROP_SUM);
+    bytes[7] = 13; DROPS(ZMG_DROP_MANY);
+#define SENDS(why) do { length = zmg_packet_encode(&packet, bytes, sizeof bytes); DROPS(why); } while (0)
+    packet.player = 0; SENDS(ZMG_DROP_STRANGER);
+    packet.player = 1; packet.flags = ZMG_FLAG_KILL; SENDS(ZMG_DROP_KILL);
+    packet.flags = ZMG_FLAG_SETUP; SENDS(ZMG_DROP_OUT_OF_PLACE);
+    packet.flags = 0; packet.start = 200; SENDS(ZMG_DROP_BEFORE);
+    packet.start = 0; packet.commands[0].forward = -128; SENDS(ZMG_DROP_STOP);
+    packet.commands[0].forward = 0; packet.start = 12; SENDS(ZMG_DROP_OVERRUN);
+    packet.flags = ZMG_FLAG_EXIT; packet.start = 2; IS((length = zmg_packet_encode(&packet, bytes, sizeof bytes)), 16);
+    IS(zmg_node_receive(&key, 1, bytes, length).code, ZMG_GAP);
+    packet.start = 3; SENDS(ZMG_DROP_END);
+    IS(zmg_node_receive(&key, 2, bytes, length).number, ZMG_DROP_STRANGER);
+    {
+        zmg_config c = config_of(1);
+        zmg_node_new(&other, &c);
+    }
+    length = 16;
+    packet.flags = 0; packet.player = 0; length = zmg_packet_encode(&packet, bytes, sizeof bytes);
+    IS(zmg_node_receive(&other, 0, bytes, length).number, ZMG_DROP_NOT_PLAYING);
+    packet.flags = ZMG_FLAG_SETUP; packet.count = 0; packet.player = 110;
+    length = zmg_packet_encode(&packet, bytes, sizeof bytes);
+    IS(zmg_node_receive(&other, 0, bytes, length).number, ZMG_DROP_VERSION);
+    /* the version that it plays, as player 0 sends it, with map 0 */
+    start(0);
+    {
+        zmg_config c = config_of(0);
+        zmg_node_new(&key, &c);
+        length = zmg_node_packet(&key, 1, bytes, sizeof bytes);
+        IS(zmg_packet_decode(bytes, length, &packet), 0);
+        c = config_of(1);
+        zmg_node_new(&other, &c);
+    }
+    packet.start = (uint8_t)(packet.start & 0xc0);
+    length = zmg_packet_encode(&packet, bytes, sizeof bytes);
+    IS(zmg_node_receive(&other, 0, bytes, length).number, ZMG_DROP_SETTINGS);
+}
+
+static void ends(void) {
+    zmg_move row[4];
+    int16_t marks[4] = { 0, -77, 0, 0 };
+    zmg_ran ran;
+    zmg_phase phase;
+    start(0);
+    for (int k = 0; k < 3; k++) tic();
+    IS(zmg_node_quit(&other), 1);
+    IS(zmg_node_quit(&other), 0);
+    phase = zmg_node_phase(&other);
+    IS(phase.code, ZMG_ENDED);
+    IS(phase.cause, ZMG_CAUSE_QUIT);
+    IS(zmg_node_build(&other, 0).code, ZMG_MADE_NOT_PLAYING);
+    IS(run(&other), ZMG_RAN_NOT_PLAYING);
+    IS(pass(&other, &key), ZMG_LEFT);
+    IS(zmg_node_end(&key, 1).known, 1);
+    IS(zmg_node_end(&key, 1).value, 3);
+    IS(pass(&key, &other), ZMG_NOTED);
+    /* a demo of 2,000 bytes has room for 198 tics of two players */
+    start(0);
+    for (int k = 0; k < 198; k++) tic();
+    zmg_node_build(&key, 0);
+    zmg_node_build(&other, 0);
+    pass(&other, &key);
+    IS(run(&key), ZMG_DEMO_FULL);
+    IS(zmg_node_phase(&key).cause, ZMG_CAUSE_FULL);
+    IS(zmg_node_demo_length(&key), 13 + 198 * 10 + 1);
+    /* player 1 has another mark in its own world at tic 1; the first tic that is checked is 13 */
+    start(0);
+    tic();
+    zmg_node_build(&key, 0);
+    zmg_node_build(&other, 0);
+    pass(&key, &other);
+    pass(&other, &key);
+    zmg_node_run(&other, marks, row);
+    run(&key);
+    for (int k = 0; k < 11; k++) tic();
+    zmg_node_build(&key, 0);
+    zmg_node_build(&other, 0);
+    pass(&other, &key);
+    ran = zmg_node_run(&key, no_marks, row);
+    IS(ran.code, ZMG_INCONSISTENT);
+    IS(ran.player, 1);
+    IS(ran.was, -77);
+    IS(ran.should, 0);
+    phase = zmg_node_phase(&key);
+    IS(phase.cause, ZMG_CAUSE_INCONSISTENT);
+    IS(phase.player, 1);
+    IS(phase.was, -77);
+    IS(phase.should, 0);
+}
+
+static void packets(void) {
+    zmg_packet packet, read;
+    size_t length;
+    memset(&packet, 0, sizeof packet);
+    packet.flags = ZMG_FLAG_RETRANSMIT | ZMG_FLAG_EXIT;
+    packet.ask = 1;
+    packet.start = 2;
+    packet.player = 3;
+    packet.count = ZMG_MOST_COMMANDS;
+    for (int k = 0; k < ZMG_MOST_COMMANDS; k++) {
+        zmg_command c = { 0, 0, 0, 0, 0, 0 };
+        c.turn = (int16_t)(-1000 - k);
+        c.mark = (int16_t)(2000 + k);
+        c.forward = (int8_t)(10 + k);
+        c.side = (int8_t)(-10 - k);
+        c.chat = (uint8_t)(100 + k);
+        c.buttons = (uint8_t)(200 + k);
+        packet.commands[k] = c;
+    }
+    IS(zmg_packet_encode(&packet, bytes, ZMG_PACKET_SIZE - 1), 0);
+    length = zmg_packet_encode(&packet, bytes, ZMG_PACKET_SIZE);
+    IS(length, ZMG_PACKET_SIZE);
+    IS(bytes[3] >> 4, 12);
+    IS(bytes[4], 1);
+    IS(bytes[5], 2);
+    IS(bytes[6], 3);
+    IS(bytes[7], 12);
+    IS(bytes[8], 10);
+    IS((int8_t)bytes[9], -10);
+    IS((int16_t)(bytes[10] | bytes[11] << 8), -1000);
+    IS((int16_t)(bytes[12] | bytes[13] << 8), 2000);
+    IS(bytes[14], 100);
+    IS(bytes[15], 200);
+    IS(bytes[103], 211);
+    IS(zmg_packet_decode(bytes, length, &read), 0);
+    IS(memcmp(&packet, &read, sizeof read), 0);
+    packet.flags = 16;
+    IS(zmg_packet_encode(&packet, bytes, sizeof bytes), 0);
+    packet.flags = 0;
+    packet.count = 13;
+    IS(zmg_packet_encode(&packet, bytes, sizeof bytes), 0);
+}
+
+/* A demo of version 109, with players 0 and 2, one tic, a command of a cut tic, and two bytes behind the marker. */
+static void demos(void) {
+    static const uint8_t old[] = { 109, 4, 2, 5, 1, 6, 7, 8, 2, 1, 0, 1, 0, 10, 20, 30, 40, 0xf6, 1, 0x80, 3, 9, 9, 9, 9, 0x80, 1, 2 };
+    static uint8_t out[2048];
+    zmg_demo demo = ZMG_DEMO_NONE;
+    zmg_demo_told told;
+    zmg_move row[4];
+    zmg_upgraded made;
+    IS(zmg_demo_push(&demo, old, 1), ZMG_DEMO_NO_READER);
+    IS(zmg_demo_read(&demo), ZMG_DEMO_NO_READER);
+    IS(zmg_demo_new(&demo), ZMG_DEMO_DONE);
+    IS(zmg_demo_tell(&demo).known, 0);
+    IS(zmg_demo_read(&demo), ZMG_DEMO_SHORT);
+    IS(zmg_demo_push(&demo, old, 5), ZMG_DEMO_DONE);
+    IS(zmg_demo_push(&demo, old + 5, 20), ZMG_DEMO_DONE);
+    IS(zmg_demo_read(&demo), ZMG_DEMO_NO_MARKER);
+    for (size_t k = 0; k < sizeof old; k += 7) IS(zmg_demo_push(&demo, old + k, 7), ZMG_DEMO_DONE);
+    IS(zmg_demo_read(&demo), ZMG_DEMO_DONE);
+    IS(zmg_demo_push(&demo, old, 1), ZMG_DEMO_IS_READ);
+    told = zmg_demo_tell(&demo);
+    IS(told.known, 1);
+    IS(told.version, 109);
+    IS(told.start.skill, 4);
+    IS(told.start.episode, 2);
+    IS(told.start.map, 5);
+    IS(told.start.deathmatch, 1);
+    IS(told.start.respawn, 6);
+    IS(told.start.fast, 7);
+    IS(told.start.no_monsters, 8);
+    IS(told.view, 2);
+    IS(told.present[0], 1);
+    IS(told.present[1], 0);
+    IS(told.present[2], 1);
+    IS(told.present[3], 0);
+    IS(told.tics, 1);
+    IS(told.cut, 1);
+    IS(told.after, 2);
+    IS(zmg_demo_row(&demo, 0, row), 1);
+    IS(row[0].present, 1);
+    IS(row[0].forward, 10);
+    IS(row[0].side, 20);
+    IS(row[0].turn, 30 * 256);
+    IS(row[0].buttons, 40);
+    IS(row[1].present, 0);
+    IS(row[2].forward, -10);
+    IS(row[2].side, 1);
+    IS(row[2].turn, -128 * 256);
+    IS(row[2].buttons, 3);
+    IS(zmg_demo_row(&demo, 1, row), 0);
+    made = zmg_demo_upgrade(old, sizeof old, out, sizeof out);
+    IS(made.code, ZMG_DEMO_DONE);
+    IS(made.length, 13 + 10 + 1);
+    IS(out[0], 111);
+    IS(out[15], 0);
+    IS(out[16], 30);
+    IS(zmg_demo_upgrade(old, sizeof old, out, 1023).code, ZMG_DEMO_LIMIT);
+    IS(zmg_demo_upgrade(old, 12, out, sizeof out).code, ZMG_DEMO_SHORT);
+    memcpy(bytes, old, sizeof old);
+    bytes[0] = 110;
+    IS(zmg_demo_upgrade(bytes, sizeof old, out, sizeof out).code, ZMG_DEMO_VERSION);
+    bytes[0] = 109;
+    memset(bytes + 9, 0, 4);
+    IS(zmg_demo_upgrade(bytes, sizeof old, out, sizeof out).code, ZMG_DEMO_NO_PLAYERS);
+    memset(bytes + 9, 1, 4);
+    memset(bytes + 13, 1, 1000);
+    bytes[13 + 1000] = 0x80;
+    IS(zmg_demo_upgrade(bytes, 13 + 1001, out, 1024).code, ZMG_DEMO_TOO_LONG);
+    zmg_demo_free(&demo);
+    IS(zmg_demo_tell(&demo).known, 0);
+}
+
+/* Each request for memory is refused in turn, until a call asks for no more. */
+static void no_memory(void) {
+    zmg_config c = config_of(0);
+    zmg_demo demo = ZMG_DEMO_NONE;
+    static uint8_t out[1024], text[1024];
+    unsigned long n;
+    uint32_t code;
+    memset(text, 0, sizeof text);
+    text[0] = 109; text[9] = 1; text[1023] = 0x80; text[13] = 0x80;
+    zmg_node_free(&key);
+    zmg_node_free(&other);
+    IS(blocks_held(), 0);
+    for (n = 1, code = 1; code; n++) {
+        fail_once(n);
+        code = zmg_node_new(&key, &c);
+        if (code) { IS(code, ZMG_NO_MEMORY); IS(zmg_node_phase(&key).code, ZMG_NO_NODE); IS(blocks_held(), 0); }
+    }
+    IS(n, 4);
+    for (n = 1, code = 1; code; n++) {
+        fail_once(n);
+        code = zmg_demo_new(&demo);
+        if (code) IS(code, ZMG_DEMO_NO_MEMORY);
+    }
+    IS(n, 3);
+    fail_once(1);
+    IS(zmg_demo_push(&demo, text, 10), ZMG_DEMO_NO_MEMORY);
+    IS(zmg_demo_push(&demo, text, 13), ZMG_DEMO_DONE);
+    fail_once(1);
+    IS(zmg_demo_push(&demo, text + 13, 1011), ZMG_DEMO_NO_MEMORY);
+    IS(zmg_demo_push(&demo, text + 13, 1), ZMG_DEMO_DONE);
+    IS(zmg_demo_read(&demo), ZMG_DEMO_DONE);
+    for (n = 1, code = 1; code; n++) {
+        fail_once(n);
+        code = zmg_demo_upgrade(text, sizeof text, out, sizeof out).code;
+        if (code) IS(code, ZMG_DEMO_NO_MEMORY);
+    }
+    IS(n, 4);
+    fail_once(0);
+    zmg_demo_free(&demo);
+    zmg_node_free(&key);
+    IS(blocks_held(), 0);
+}
+
+int main(void) {
+    (void)sizeof(sizes_are_right);
+    configurations();
+    settings();
+    moves();
+    requests();
+    drops();
+    ends();
+    packets();
+    demos();
+    no_memory();
+    printf("layout: ok\n");
+    return 0;
+}
