@@ -88,10 +88,12 @@ fn fill(recorder: &mut Recorder) -> usize
 fn a_full_demo_takes_no_row(rt: HostRuntime) -> Result<(), Fail> {
     for (limit, rows, len) in [(1_034, 102, 1_034), (1_033, 101, 1_024)] {
         let mut recorder = Recorder::new(rt.alloc(), limit)?;
+        assert_eq!(rt; recorder.room(), limit as usize);
         assert_eq!(rt; fill(&mut recorder), rows, "limit {limit}");
         assert_eq!(rt; capacity(limit, 2) as usize, rows, "limit {limit}");
         recorder.close();
         assert_eq!(rt; recorder.bytes().len(), len, "limit {limit}");
+        assert_eq!(rt; recorder.room(), limit as usize);
     }
     Ok(())
 }
