@@ -18,6 +18,7 @@ impl<W: World> Played<W> {
     ghost use Rattle.dn_game.specs.Played.{AppliesOne};
 
     /// Applies one event more.
+    #[inline(always)]
     pub(crate) fn apply(&mut self, event: Event)
         requires { self.old.done + self.old.refused + 1 < 2 ^ 64 }
         ensures applied { AppliesOne W.state W.physics self.old self.new event }
