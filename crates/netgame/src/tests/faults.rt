@@ -1,0 +1,57 @@
+//! Runs that end early: the line of the fault, and the exit status.
+
+use super::ONE;
+use crate::finish;
+use crate::tests::host::Host;
+use std::process::Abort;
+use std::test::Fail;
+
+#[test]
+fn read_faults_are_told(rt: HostRuntime) -> Result<(), Fail> {
+    for line in [
+        "netgame show",
+        "netgame demo",
+        "netgame upgrade",
+        "netgame sim",
+    ] {
+        let mut host = Host::new(&rt, line.as_bytes(), &ONE);
+        host.mute = true;
+        assert_eq!(rt; finish(&host), 3, "{line}");
+        let printed = host.printed.into_inner();
+        assert_eq!(rt; printed.as_slice(), b"read fault\n".as_slice(), "{line}");
+    }
+    Ok(())
+}
+
+/// The first write fails, and the next, of the fault's line, does not.
+#[test]
+fn write_faults_are_told(rt: HostRuntime) -> Result<(), Fail> {
+    for line in [
+        "netgame show",
+        "netgame demo",
+        "netgame upgrade",
+        "netgame sim",
+        "netgame storm",
+        "netgame loop --rounds 1",
+        "netgame play --rounds 1",
+        "netgame play --me 2",
+        "netgame --help",
+    ] {
+        let mut host = Host::new(&rt, line.as_bytes(), &ONE);
+        host.jams.set(1);
+        host.sockets = 2;
+        assert_eq!(rt; finish(&host), 3, "{line}");
+        let printed = host.printed.into_inner();
+        assert_eq!(rt; printed.as_slice(), b"write fault\n".as_slice(), "{line}");
+    }
+    Ok(())
+}
+
+/// Where no write succeeds, the status tells it.
+#[test]
+fn a_full_output_is_told_by_the_status(rt: HostRuntime) {
+    let host = Host::new(&rt, b"netgame show", &ONE);
+    host.jams.set(1_000_000);
+    assert_eq!(rt; finish(&host), 3);
+    assert!(rt; host.printed.into_inner().is_empty());
+}

@@ -1,0 +1,119 @@
+//! What is made of the options: each value and each flag is that of its own word.
+
+use crate::{matches_of, options};
+use dn_game::GameConfig;
+use std::alloc::Global;
+use std::process::Abort;
+use std::test::Fail;
+
+/// The words of a line.
+fn split(alloc: Global, line: &str) -> Result<Vec<String>, Fail> {
+    let mut words = Vec::new(alloc);
+    for word in line.split(' ') {
+        words.push(String::from_str(alloc, word)?)?;
+    }
+    Ok(words)
+}
+
+/// The numbers of a choice of game.
+fn numbers(config: &GameConfig) -> [u32; 5] {
+    let settings = config.settings;
+    [
+        u32::from(settings.skill()),
+        u32::from(settings.episode()),
+        u32::from(settings.map()),
+        u32::from(settings.deathmatch()),
+        config.limit,
+    ]
+}
+
+/// The flags of a choice of game.
+fn flags(config: &GameConfig) -> [bool; 3] {
+    [
+        config.settings.respawn(),
+        config.settings.no_monsters(),
+        config.extra,
+    ]
+}
+
+#[test]
+fn each_value_is_that_of_its_word(rt: HostRuntime) -> Result<(), Fail> {
+    for (line, players, read) in [
+        ("netgame sim", 2, [2, 1, 1, 0, 131_072]),
+        ("netgame sim --players 3", 3, [2, 1, 1, 0, 131_072]),
+        ("netgame sim --skill 4", 2, [4, 1, 1, 0, 131_072]),
+        ("netgame storm --episode 3", 2, [2, 3, 1, 0, 131_072]),
+        ("netgame loop --map 32", 2, [2, 1, 32, 0, 131_072]),
+        ("netgame play --deathmatch 1", 2, [2, 1, 1, 1, 131_072]),
+        ("netgame sim --limit 1024", 2, [2, 1, 1, 0, 1_024]),
+    ] {
+        let words = split(rt.alloc(), line)?;
+        let matches = matches_of(rt.alloc(), words.as_slice())?;
+        let game = match matches.subcommand() {
+            Some((_, given)) => options::game(given),
+            None => None,
+        };
+        match game {
+            Some((config, count)) => {
+                assert_eq!(rt; count, players, "{line}");
+                assert_eq!(rt; numbers(&config), read, "{line}");
+            }
+            None => assert!(rt; false, "{line}"),
+        }
+    }
+    Ok(())
+}
+
+#[test]
+fn each_flag_is_that_of_its_word(rt: HostRuntime) -> Result<(), Fail> {
+    for (line, read) in [
+        ("netgame sim", [false, false, false]),
+        ("netgame sim --respawn", [true, false, false]),
+        ("netgame storm --nomonsters", [false, true, false]),
+        ("netgame loop --extra", [false, false, true]),
+        (
+            "netgame play --respawn --nomonsters --extra",
+            [true, true, true],
+        ),
+    ] {
+        let words = split(rt.alloc(), line)?;
+        let matches = matches_of(rt.alloc(), words.as_slice())?;
+        let game = match matches.subcommand() {
+            Some((_, given)) => options::game(given),
+            None => None,
+        };
+        match game {
+            Some((config, _)) => assert_eq!(rt; flags(&config), read, "{line}"),
+            None => assert!(rt; false, "{line}"),
+        }
+    }
+    Ok(())
+}
+
+#[test]
+fn seeds_and_counts_are_those_of_their_words(rt: HostRuntime) -> Result<(), Fail> {
+    let words = split(rt.alloc(), "netgame storm --seed 7 --count 8 --calm 9")?;
+    let matches = matches_of(rt.alloc(), words.as_slice())?;
+    let storm = match matches.subcommand() {
+        Some((_, given)) => options::storm(given),
+        None => None,
+    };
+    assert_eq!(rt; storm, Some((7, 8, 9)));
+    let words = split(
+        rt.alloc(),
+        "netgame play --seed 7 --rounds 8 --base 2000 --me 3 --raw",
+    )?;
+    let matches = matches_of(rt.alloc(), words.as_slice())?;
+    let (rounds, me, raw) = match matches.subcommand() {
+        Some((_, given)) => (
+            options::rounds(given),
+            options::me(given),
+            options::raw(given),
+        ),
+        None => (None, None, false),
+    };
+    assert_eq!(rt; rounds, Some((7, 8, 2000)));
+    assert_eq!(rt; me, Some(3));
+    assert!(rt; raw);
+    Ok(())
+}
