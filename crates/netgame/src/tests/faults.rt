@@ -11,6 +11,7 @@ fn read_faults_are_told(rt: HostRuntime) -> Result<(), Fail> {
     for line in [
         "netgame show",
         "netgame demo",
+        "netgame rows",
         "netgame upgrade",
         "netgame sim",
     ] {
@@ -29,6 +30,7 @@ fn write_faults_are_told(rt: HostRuntime) -> Result<(), Fail> {
     for line in [
         "netgame show",
         "netgame demo",
+        "netgame rows",
         "netgame upgrade",
         "netgame sim",
         "netgame storm",

@@ -39,6 +39,10 @@ fn words_that_are_unknown_are_told(rt: HostRuntime) -> Result<(), Fail> {
             "error: unexpected argument '--players' found",
         ),
         (
+            "netgame rows --players 2",
+            "error: unexpected argument '--players' found",
+        ),
+        (
             "netgame upgrade --players 2",
             "error: unexpected argument '--players' found",
         ),

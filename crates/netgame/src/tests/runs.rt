@@ -47,6 +47,24 @@ fn a_demo_is_shown(rt: HostRuntime) -> Result<(), Fail> {
 }
 
 #[test]
+fn a_demo_is_listed(rt: HostRuntime) -> Result<(), Fail> {
+    let listed = b"tic 0 player 0 forward 50 side 0 turn 0 buttons 0\n\
+        tic 0 player 1 forward 0 side 0 turn 256 buttons 0\n\
+        tic 1 player 0 forward -50 side 0 turn 0 buttons 1\n\
+        tic 1 player 1 forward 25 side 24 turn 16384 buttons 0\n\
+        version 109 skill 3 episode 1 map 7 deathmatch 1 respawn 0 fast 0 nomonsters 1 view 1 players 0 1\n\
+        tics 2 cut 0 after 0\n\
+        player 0 x 1 y 0 angle 0 mark 1\n\
+        player 1 x 4243456 y 51200 angle 16640 mark -16384\n";
+    let front = b"tic 0 player 0 forward 50 side 0 turn 0 buttons 0\n\
+        tic 0 player 1 forward 0 side 0 turn 256 buttons 0\n\
+        demo: no marker\n";
+    runs(&rt, "netgame rows", &TWO, 0, listed)?;
+    runs(&rt, "netgame rows", &TWO[..28], 1, front)?;
+    runs(&rt, "netgame rows", &TWO[..12], 1, b"demo: short\n")
+}
+
+#[test]
 fn a_demo_is_upgraded(rt: HostRuntime) -> Result<(), Fail> {
     let long = [
         0x6F, 0x03, 0x01, 0x07, 0x01, 0x00, 0x00, 0x01, 0x01, 0x01, 0x01, 0x00, 0x00, // header
