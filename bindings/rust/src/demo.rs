@@ -76,8 +76,8 @@ impl Reader {
     /// A reader that no bytes came to.
     pub fn new() -> Result<Reader, DemoError> {
         let mut handle = raw::Handle::NONE;
-        // SAFETY: the handle is valid for the call, and holds nothing. Below, it is as the library left it, `&mut` makes
-        // each call the only one, and slices are valid for their lengths.
+        // SAFETY: the handle is valid for the call, and holds nothing. Below, it is as the library left it,
+        // `&mut` makes each call the only one, and slices are valid for their lengths.
         fault(unsafe { raw::zmg_demo_new(&mut handle) })?;
         Ok(Reader(Demo(handle)))
     }
@@ -172,7 +172,8 @@ impl fmt::Debug for Demo {
 pub fn upgrade(bytes: &[u8], limit: usize) -> Result<Vec<u8>, UpgradeError> {
     let mut out = vec![0; limit];
     // SAFETY: both slices are valid for their lengths, and do not overlap.
-    let made = unsafe { raw::zmg_demo_upgrade(bytes.as_ptr(), bytes.len(), out.as_mut_ptr(), out.len()) };
+    let made =
+        unsafe { raw::zmg_demo_upgrade(bytes.as_ptr(), bytes.len(), out.as_mut_ptr(), out.len()) };
     match made.code {
         0 => {
             out.truncate(made.length);
@@ -180,6 +181,8 @@ pub fn upgrade(bytes: &[u8], limit: usize) -> Result<Vec<u8>, UpgradeError> {
         }
         6 => Err(UpgradeError::Limit),
         7 => Err(UpgradeError::TooLong),
-        code => fault(code).map_err(UpgradeError::Demo).and(Err(UpgradeError::Limit)),
+        code => fault(code)
+            .map_err(UpgradeError::Demo)
+            .and(Err(UpgradeError::Limit)),
     }
 }
