@@ -57,14 +57,20 @@ impl fmt::Display for UpgradeError {
 
 impl Error for UpgradeError {}
 
-fn fault(code: u32) -> Result<(), DemoError> {
+fn error(code: u32) -> DemoError {
+    match code {
+        1 => DemoError::Short,
+        2 => DemoError::Version,
+        3 => DemoError::NoPlayers,
+        4 => DemoError::NoMarker,
+        _ => DemoError::Memory,
+    }
+}
+
+fn done(code: u32) -> Result<(), DemoError> {
     match code {
         0 => Ok(()),
-        1 => Err(DemoError::Short),
-        2 => Err(DemoError::Version),
-        3 => Err(DemoError::NoPlayers),
-        4 => Err(DemoError::NoMarker),
-        _ => Err(DemoError::Memory),
+        code => Err(error(code)),
     }
 }
 
@@ -78,18 +84,18 @@ impl Reader {
         let mut handle = raw::Handle::NONE;
         // SAFETY: the handle is valid for the call, and holds nothing. Below, it is as the library left it,
         // `&mut` makes each call the only one, and slices are valid for their lengths.
-        fault(unsafe { raw::zmg_demo_new(&mut handle) })?;
+        done(unsafe { raw::zmg_demo_new(&mut handle) })?;
         Ok(Reader(Demo(handle)))
     }
 
     /// Takes the next piece. Where there is no memory for it, it is not taken.
     pub fn push(&mut self, piece: &[u8]) -> Result<(), DemoError> {
-        fault(unsafe { raw::zmg_demo_push(&mut self.0 .0, piece.as_ptr(), piece.len()) })
+        done(unsafe { raw::zmg_demo_push(&mut self.0 .0, piece.as_ptr(), piece.len()) })
     }
 
     /// Reads the pieces as one demo.
     pub fn read(mut self) -> Result<Demo, DemoError> {
-        fault(unsafe { raw::zmg_demo_read(&mut self.0 .0) })?;
+        done(unsafe { raw::zmg_demo_read(&mut self.0 .0) })?;
         Ok(self.0)
     }
 }
@@ -181,8 +187,6 @@ pub fn upgrade(bytes: &[u8], limit: usize) -> Result<Vec<u8>, UpgradeError> {
         }
         6 => Err(UpgradeError::Limit),
         7 => Err(UpgradeError::TooLong),
-        code => fault(code)
-            .map_err(UpgradeError::Demo)
-            .and(Err(UpgradeError::Limit)),
+        code => Err(UpgradeError::Demo(error(code))),
     }
 }

@@ -104,6 +104,16 @@ impl<W: World> Player<W> {
         &self.world
     }
 
+    /// The number of the player.
+    pub fn me(&mut self) -> u8 {
+        self.node.me()
+    }
+
+    /// How many players the game has.
+    pub fn players(&mut self) -> u8 {
+        self.node.players()
+    }
+
     /// Where the node stands.
     pub fn phase(&mut self) -> Phase {
         self.node.phase()
