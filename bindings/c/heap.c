@@ -3,8 +3,8 @@
 #include <stdint.h>
 #include <stdlib.h>
 
-/* How the library reads an answer: a byte that is 1 for memory and 0 for none, and the pointer, which is never
- * NULL. */
+/* How the library reads an answer: a byte that is 1 for memory and 0 for none, and the pointer, which is
+ * never NULL. */
 struct zmg_block {
     uint8_t given;
     void *at;

@@ -1,33 +1,33 @@
 /* zirmegat.h: the network play of vanilla Doom for an engine with a world of its own. C99 and C++.
  *
- * A node is one player's part of a game of two to four. It builds a command from keys for each tic, gives and
- * takes Doom's datagrams, says when a tic runs and by which moves, checks the marks of the worlds, and records
- * a demo. Maps, monsters and physics stay yours, and so does the network: the library opens nothing, waits for
- * nothing and prints nothing. A tic is 1/35 second.
+ * A node is one player's part of a game of two to four. It builds a command from keys for each tic, gives
+ * and takes Doom's datagrams, says when a tic runs and by which moves, checks the marks of the worlds, and
+ * records a demo. Maps, monsters and physics stay yours, and so does the network: the library opens
+ * nothing, waits for nothing and prints nothing. A tic is 1/35 second.
  *
  *     zmg_node node = ZMG_NODE_NONE;
  *     zmg_node_new(&node, &config);
  *     35 times a second:
  *         zmg_node_build(&node, keys);
- *         for each other player:  n = zmg_node_packet(&node, player, bytes, sizeof bytes); if (n) send it
- *         for each datagram:      if (zmg_node_receive(&node, sender, bytes, n).code == ZMG_STARTED) begin the world
+ *         each other player: n = zmg_node_packet(&node, player, bytes, sizeof bytes); if (n) send it
+ *         each datagram: if (zmg_node_receive(&node, sender, bytes, n).code == ZMG_STARTED) begin the world
  *         while (zmg_node_run(&node, marks of the world, row).code == ZMG_RAN) step the world by row
  *     zmg_node_quit(&node);  a few more packets to each player;  zmg_node_free(&node);
  *
  * What the caller owes:
- *   - Pointers are valid and aligned for what they point to, and not NULL, also where a length is 0. What a call
- *     writes overlaps nothing else that it is given.
- *   - A handle (zmg_node, zmg_demo) is ZMG_NODE_NONE or ZMG_DEMO_NONE at first, and then as the library left it.
- *     It may be moved in memory. Of copies of it only one is used.
- *   - One call at a time uses a handle, and none is made from a signal handler. Different handles may be used by
- *     different threads.
+ *   - Pointers are valid and aligned for what they point to, and not NULL, also where a length is 0. What a
+ *     call writes overlaps nothing else that it is given.
+ *   - A handle (zmg_node, zmg_demo) is ZMG_NODE_NONE or ZMG_DEMO_NONE at first, and then as the library
+ *     left it. It may be moved in memory. Of copies of it only one is used.
+ *   - One call at a time uses a handle, and none is made from a signal handler. Different handles may be
+ *     used by different threads.
  *   - malloc, realloc and free are those of one allocator, and align as the C standard says.
  *   - The marks that zmg_node_run is given are of the caller's own world: one that began with the start of
- *     zmg_node_settings and the players 0 to zmg_node_players - 1 when zmg_node_receive answered ZMG_STARTED, was
- *     stepped by every row that zmg_node_run told and by nothing else, and has marks that follow from its state
- *     alone (no clock, no random numbers but the world's own, no pointers).
- * Every number and every byte is tested inside. A handle that holds nothing may be given to every call: it answers
- * as a node that does not play.
+ *     zmg_node_settings and the players 0 to zmg_node_players - 1 when zmg_node_receive answered
+ *     ZMG_STARTED, was stepped by every row that zmg_node_run told and by nothing else, and has marks that
+ *     follow from its state alone (no clock, no random numbers but the world's own, no pointers).
+ * Every number and every byte is tested inside. A handle that holds nothing may be given to every call: it
+ * answers as a node that does not play.
  *
  * Names and numbers of this header do not change. New ones may be added.
  */
@@ -56,10 +56,12 @@ typedef struct zmg_settings {
     uint8_t skill, deathmatch, no_monsters, respawn, episode, map;
 } zmg_settings;
 
-/* limit: how many bytes the demo may have, 1,024 to 16,777,216; the memory for them is taken by zmg_node_new. A
- *   tic takes 5 bytes for each player.
- * players: 2 to 4. me: the number of this player, 0 to players - 1.
- * extra: not 0, and each packet repeats the last command, which helps on lines that lose packets; the same for all.
+/* limit: how many bytes the demo may have, 1,024 to 16,777,216; a tic takes 5 for each player. The memory for
+ *     them is taken by zmg_node_new.
+ * players: 2 to 4.
+ * me: the number of this player, 0 to players - 1.
+ * extra: 0 or not; if not, each packet repeats the last command, which helps on lines that lose packets. The
+ *     same for all players.
  * settings: of player 0, who sends them to the others; of another they are not read. */
 typedef struct zmg_config {
     uint32_t limit;
@@ -79,8 +81,8 @@ typedef struct zmg_config {
 #define ZMG_BAD_EPISODE 8u
 #define ZMG_BAD_MAP 9u
 
-/* Makes a node in the handle. A node that the handle holds is given up first. All memory is taken here: no other
- * call on a node can want any. Where the answer is not ZMG_MADE_NODE the handle holds none. */
+/* Makes a node in the handle. A node that the handle holds is given up first. All memory is taken here: no
+ * other call on a node can want any. Where the answer is not ZMG_MADE_NODE the handle holds none. */
 uint32_t zmg_node_new(zmg_node *node, const zmg_config *config);
 
 /* Gives up the node and its memory. The handle then holds none, and may be given to zmg_node_new again. */
@@ -114,8 +116,9 @@ zmg_made zmg_node_build(zmg_node *node, uint32_t keys);
 /* How many bytes of room a packet needs at most. */
 #define ZMG_PACKET_SIZE 104u
 
-/* Writes the next packet to player `to` to the front of out, and answers how many bytes it has; 0 where there is
- * none, and where room is below ZMG_PACKET_SIZE, which leaves the node as it is. Each call is taken as sent. */
+/* Writes the next packet to player `to` to the front of out, and answers how many bytes it has; 0 where
+ * there is none, and where room is below ZMG_PACKET_SIZE, which leaves the node as it is. Each call is
+ * taken as sent. */
 size_t zmg_node_packet(zmg_node *node, uint8_t to, uint8_t *out, size_t room);
 
 /* A number where known is 1; where there is none both are 0. */
@@ -123,9 +126,9 @@ typedef struct zmg_number {
     uint32_t known, value;
 } zmg_number;
 
-/* The whole numbers of a packet, of which it carries the low bytes. known: 1, or 0 where there is no packet, and
- * then all is 0. ask: the tic from which commands are asked for again. start: the tic of the first command. count:
- * how many commands. flags: as in zmg_packet. */
+/* The whole numbers of a packet, of which it carries the low bytes. known: 1, or 0 where there is no
+ * packet, and then all is 0. ask: the tic from which commands are asked for again. start: the tic of the
+ * first command. count: how many commands. flags: as in zmg_packet. */
 typedef struct zmg_aim {
     uint32_t known;
     zmg_number ask;
@@ -133,12 +136,12 @@ typedef struct zmg_aim {
     uint8_t flags, count;
 } zmg_aim;
 
-/* What zmg_node_packet would give to player `to` now. A transport may send start along, so that its receiver can tell
- * old datagrams. */
+/* What zmg_node_packet would give to player `to` now. A transport may send start along, so that its
+ * receiver can tell old datagrams. */
 zmg_aim zmg_node_aim(zmg_node *node, uint8_t to);
 
-/* code: what came of a datagram. number: how many commands were new (ZMG_TAKEN), why it was dropped (ZMG_DROPPED), and
- * else 0. */
+/* code: what came of a datagram. number: how many commands were new (ZMG_TAKEN), why it was dropped
+ * (ZMG_DROPPED), and else 0. */
 #define ZMG_STARTED 0u /* the game starts: begin your world */
 #define ZMG_TAKEN 1u
 #define ZMG_STALE 2u /* no command was new */
@@ -166,21 +169,24 @@ typedef struct zmg_heard {
 #define ZMG_DROP_NOT_PLAYING 13u
 #define ZMG_DROP_END 14u         /* contradicts the sender's end */
 
-/* Hears a datagram of player `from`. Who sent it is for the transport to know. It hands in no datagram that was sent
- * more than 64 tics before or after the tic that this node builds: packets carry only low bytes of tics. */
+/* Hears a datagram of player `from`. Who sent it is for the transport to know. It hands in no datagram that
+ * was sent more than 64 tics before or after the tic that this node builds: packets carry only low bytes of
+ * tics. */
 zmg_heard zmg_node_receive(zmg_node *node, uint8_t from, const uint8_t *bytes, size_t length);
 
-/* A player's move in one tic, where present is 1; else all 0. forward and side in units of 2048 in a world of 16
- * fractional bits, side to the right; turn to the left in 65,536ths of a full turn; buttons as in Doom. */
+/* A player's move in one tic, where present is 1; else all 0. forward and side in units of 2048 in a world
+ * of 16 fractional bits, side to the right; turn to the left in 65,536ths of a full turn; buttons as in
+ * Doom. */
 typedef struct zmg_move {
     int16_t turn;
     int8_t forward, side;
     uint8_t buttons, present;
 } zmg_move;
 
-/* code: ZMG_RAN where `tic` was run; ZMG_WAITING where the command of `player` is missing; ZMG_DEMO_FULL and
- * ZMG_INCONSISTENT, where the node has ended; ZMG_RAN_NOT_PLAYING. At ZMG_INCONSISTENT the mark of `player` for the
- * next tic was `was` in place of `should`: the worlds differ since twelve tics before, or earlier. */
+/* code: ZMG_RAN where `tic` was run; ZMG_WAITING where the command of `player` is missing; ZMG_DEMO_FULL
+ * and ZMG_INCONSISTENT, where the node has ended; ZMG_RAN_NOT_PLAYING. At ZMG_INCONSISTENT the mark of
+ * `player` for the next tic was `was` in place of `should`: the worlds differ since twelve tics before, or
+ * earlier. */
 #define ZMG_RAN 0u
 #define ZMG_WAITING 1u
 #define ZMG_DEMO_FULL 2u
@@ -192,11 +198,12 @@ typedef struct zmg_ran {
     uint8_t player;
 } zmg_ran;
 
-/* Runs the next tic. marks: each player's mark in the caller's world as it stands; of seats without a player any. At
- * ZMG_RAN row has the moves by which the world is stepped next; else row stays as it is. */
+/* Runs the next tic. marks: each player's mark in the caller's world as it stands; of seats without a
+ * player any. At ZMG_RAN row has the moves by which the world is stepped next; else row stays as it is. */
 zmg_ran zmg_node_run(zmg_node *node, const int16_t marks[4], zmg_move row[4]);
 
-/* Ends the node: 1 where it had not ended, else 0. It still gives packets, which tell the others of its end. */
+/* Ends the node: 1 where it had not ended, else 0. It still gives packets, which tell the others of its
+ * end. */
 uint32_t zmg_node_quit(zmg_node *node);
 
 /* What a node tells of itself. */
@@ -239,8 +246,8 @@ zmg_known_settings zmg_node_settings(zmg_node *node);
 
 /* How many bytes the demo has so far. */
 size_t zmg_node_demo_length(zmg_node *node);
-/* Copies the demo from byte `from` on, as far as there is room, and answers how many bytes were copied. It is whole,
- * with its end marker, once the node has ended, or a tic without some player was run. */
+/* Copies the demo from byte `from` on, as far as there is room, and answers how many bytes were copied. It
+ * is whole, with its end marker, once the node has ended, or a tic without some player was run. */
 size_t zmg_node_demo(zmg_node *node, size_t from, uint8_t *out, size_t room);
 
 /* ---- Datagrams, with no node --------------------------------------------------------------------------- */
@@ -267,8 +274,8 @@ typedef struct zmg_packet {
 /* Reads a datagram: 0, or why it is none, which leaves *packet as it is: ZMG_DROP_SHORT, ZMG_DROP_MANY,
  * ZMG_DROP_LENGTH, ZMG_DROP_SUM. Commands from count on are 0. */
 uint32_t zmg_packet_decode(const uint8_t *bytes, size_t length, zmg_packet *packet);
-/* Writes a datagram to the front of out: how many bytes it has, at most ZMG_PACKET_SIZE; 0 where flags is above 15, count
- * above 12, or the room too small, and then nothing is written. */
+/* Writes a datagram to the front of out: how many bytes it has, at most ZMG_PACKET_SIZE; 0 where flags is
+ * above 15, count above 12, or the room too small, and then nothing is written. */
 size_t zmg_packet_encode(const zmg_packet *packet, uint8_t *out, size_t room);
 
 /* ---- Demos, with no node ------------------------------------------------------------------------------- */
@@ -296,11 +303,11 @@ typedef struct zmg_demo {
 uint32_t zmg_demo_new(zmg_demo *demo);
 /* Gives up the reader and its memory. The handle then holds none. */
 void zmg_demo_free(zmg_demo *demo);
-/* Takes the next piece of the demo's bytes and keeps a copy: ZMG_DEMO_DONE; ZMG_DEMO_NO_MEMORY, and the piece is not
- * taken; ZMG_DEMO_IS_READ; ZMG_DEMO_NO_READER. */
+/* Takes the next piece of the demo's bytes and keeps a copy: ZMG_DEMO_DONE; ZMG_DEMO_NO_MEMORY, and the
+ * piece is not taken; ZMG_DEMO_IS_READ; ZMG_DEMO_NO_READER. */
 uint32_t zmg_demo_push(zmg_demo *demo, const uint8_t *bytes, size_t length);
-/* Reads the bytes that came: ZMG_DEMO_DONE; the first fault of ZMG_DEMO_SHORT to ZMG_DEMO_NO_MARKER that they have,
- * and then the reader has no bytes and takes others; ZMG_DEMO_NO_READER. It wants no memory. */
+/* Reads the bytes that came: ZMG_DEMO_DONE; the first fault of ZMG_DEMO_SHORT to ZMG_DEMO_NO_MARKER that
+ * they have, and then the reader has no bytes and takes others; ZMG_DEMO_NO_READER. It wants no memory. */
 uint32_t zmg_demo_read(zmg_demo *demo);
 
 /* What a game started from, as a demo's header has it. */
@@ -308,9 +315,10 @@ typedef struct zmg_start {
     uint8_t skill, episode, map, deathmatch, respawn, fast, no_monsters;
 } zmg_start;
 
-/* known: 1 for a demo that was read, else all is 0. tics: how many whole tics it has. cut: how many commands stand
- * between them and the marker. after: how many bytes follow the marker. version: 109, as the 1997 release records, or
- * 111, with whole turns. view: whose view it shows. present: 1 for each seat with a player. */
+/* known: 1 for a demo that was read, else all is 0. tics: how many whole tics it has. cut: how many
+ * commands stand between them and the marker. after: how many bytes follow the marker. version: 109, as the
+ * 1997 release records, or 111, with whole turns. view: whose view it shows. present: 1 for each seat with
+ * a player. */
 typedef struct zmg_demo_told {
     size_t tics, cut, after;
     uint32_t known;
@@ -329,8 +337,8 @@ typedef struct zmg_upgraded {
     uint32_t code;
 } zmg_upgraded;
 
-/* Writes a demo anew as version 111 to the front of out: the same start, view, players and whole tics. It takes as much
- * memory as out and the demo have bytes, and gives it back. */
+/* Writes a demo anew as version 111 to the front of out: the same start, view, players and whole tics. It
+ * takes as much memory as out and the demo have bytes, and gives it back. */
 zmg_upgraded zmg_demo_upgrade(const uint8_t *bytes, size_t length, uint8_t *out, size_t room);
 
 #ifdef __cplusplus

@@ -2,9 +2,9 @@
  *
  *     host ME BASE TICS SEED DEMO
  *
- * Player p is at port BASE + p of 127.0.0.1, as for `netgame play`. The host builds TICS commands, plays until it has
- * run them and the other player has left or is silent, writes its demo to the file DEMO, and prints where the players
- * stand. */
+ * Player p is at port BASE + p of 127.0.0.1, as for `netgame play`. The host builds TICS commands, plays
+ * until it has run them and the other player has left or is silent, writes its demo to the file DEMO, and
+ * prints where the players stand. */
 #define _POSIX_C_SOURCE 200809L
 #include "walk.h"
 #include "zirmegat.h"
@@ -59,7 +59,9 @@ static void hear(engine *e) {
     struct sockaddr_in at;
     socklen_t size = sizeof at;
     ssize_t length;
-    while ((length = recvfrom(e->line, bytes, sizeof bytes, MSG_DONTWAIT, (struct sockaddr *)&at, &size)) >= 0) {
+    for (;;) {
+        length = recvfrom(e->line, bytes, sizeof bytes, MSG_DONTWAIT, (struct sockaddr *)&at, &size);
+        if (length < 0) return;
         unsigned from = (unsigned)ntohs(at.sin_port) - e->base;
         if (at.sin_addr.s_addr == htonl(INADDR_LOOPBACK) && from < PLAYERS) {
             zmg_heard heard = zmg_node_receive(&e->node, (uint8_t)from, bytes, (size_t)length);
@@ -80,7 +82,9 @@ static int run(engine *e) {
         switch (ran.code) {
         case ZMG_RAN: walk_step(&e->world, row); break;
         case ZMG_DEMO_FULL: fprintf(stderr, "the demo is full\n"); return 0;
-        case ZMG_INCONSISTENT: fprintf(stderr, "worlds differ: player %u %d %d\n", ran.player, ran.was, ran.should); return 0;
+        case ZMG_INCONSISTENT:
+            fprintf(stderr, "worlds differ: player %u, %d for %d\n", ran.player, ran.was, ran.should);
+            return 0;
         default: return 1;
         }
     }
@@ -118,7 +122,8 @@ static void print_spots(const walk *world) {
     walk_marks(world, marks);
     for (unsigned p = 0; p < PLAYERS; p++) {
         const spot *s = &world->spots[p];
-        printf("player %u x %d y %d angle %u mark %d\n", p, (int)(int32_t)s->x, (int)(int32_t)s->y, s->angle, marks[p]);
+        int x = (int)(int32_t)s->x, y = (int)(int32_t)s->y;
+        printf("player %u x %d y %d angle %u mark %d\n", p, x, y, s->angle, marks[p]);
     }
 }
 

@@ -1,4 +1,5 @@
-/* The library's memory over malloc, which refuses what failing.h says: linked before the library, in place of heap.c. */
+/* The library's memory over malloc, which refuses what failing.h says: linked before the library, in place
+ * of heap.c. */
 #include "failing.h"
 #include <stddef.h>
 #include <stdint.h>

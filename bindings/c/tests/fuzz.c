@@ -1,6 +1,6 @@
-/* Calls every function with any numbers, any bytes and in any order: `fuzz CALLS SEED`. To be run under valgrind or
- * with a compiler's sanitizers. Two of the nodes play with each other now and then, so that all phases come. With
- * a third argument N, every Nth request for memory is refused. */
+/* Calls every function with any numbers, any bytes and in any order: `fuzz CALLS SEED`. To be run under
+ * valgrind or with a compiler's sanitizers. Two of the nodes play with each other now and then, so that all
+ * phases come. With a third argument N, every Nth request for memory is refused. */
 #include "failing.h"
 #include "zirmegat.h"
 #include <stdio.h>

@@ -1,5 +1,5 @@
-/* What the header says against what the library answers: the places of all fields, and all codes, by driving a game
- * into each answer. C99 and C++. Ends with status 0, or names the line that failed. */
+/* What the header says against what the library answers: the places of all fields, and all codes, by
+ * driving a game into each answer. C99 and C++. Ends with status 0, or names the line that failed. */
 #include "failing.h"
 #include "zirmegat.h"
 #include <stdio.h>
@@ -14,12 +14,25 @@
         } \
     } while (0)
 
-typedef char sizes_are_right[sizeof(zmg_node) == 2 * sizeof(void *) && sizeof(zmg_demo) == 2 * sizeof(void *)
-        && sizeof(zmg_settings) == 6 && sizeof(zmg_config) == 16 && sizeof(zmg_made) == 8 && sizeof(zmg_heard) == 8
-        && sizeof(zmg_number) == 8 && sizeof(zmg_aim) == 20 && sizeof(zmg_move) == 6 && sizeof(zmg_ran) == 16
-        && sizeof(zmg_phase) == 16 && sizeof(zmg_known_settings) == 12 && sizeof(zmg_command) == 8
-        && sizeof(zmg_packet) == 102 && sizeof(zmg_start) == 7 && sizeof(zmg_demo_told) == 3 * sizeof(size_t) + 24
-        && sizeof(zmg_upgraded) == 2 * sizeof(size_t) ? 1 : -1];
+static void sizes(void) {
+    IS(sizeof(zmg_node), 2 * sizeof(void *));
+    IS(sizeof(zmg_demo), 2 * sizeof(void *));
+    IS(sizeof(zmg_settings), 6);
+    IS(sizeof(zmg_config), 16);
+    IS(sizeof(zmg_made), 8);
+    IS(sizeof(zmg_heard), 8);
+    IS(sizeof(zmg_number), 8);
+    IS(sizeof(zmg_aim), 20);
+    IS(sizeof(zmg_move), 6);
+    IS(sizeof(zmg_ran), 16);
+    IS(sizeof(zmg_phase), 16);
+    IS(sizeof(zmg_known_settings), 12);
+    IS(sizeof(zmg_command), 8);
+    IS(sizeof(zmg_packet), 102);
+    IS(sizeof(zmg_start), 7);
+    IS(sizeof(zmg_demo_told), 3 * sizeof(size_t) + 24);
+    IS(sizeof(zmg_upgraded), 2 * sizeof(size_t));
+}
 
 static zmg_node key = ZMG_NODE_NONE, other = ZMG_NODE_NONE;
 static uint8_t bytes[4096];
@@ -111,10 +124,13 @@ static void moves(void) {
     zmg_move row[4];
     zmg_ran ran;
     zmg_aim aim;
+    uint32_t keys;
     start(1);
     IS(zmg_node_phase(&key).code, ZMG_PLAYING);
     IS(zmg_node_build(&key, ZMG_KEY_BACK | ZMG_KEY_RIGHT).tic, 0);
-    IS(zmg_node_build(&other, ZMG_KEY_FORWARD | ZMG_KEY_STRAFE_LEFT | ZMG_KEY_LEFT | ZMG_KEY_ATTACK | ZMG_KEY_USE | ZMG_KEY_WEAPON(3)).code, ZMG_MADE);
+    keys = ZMG_KEY_FORWARD | ZMG_KEY_STRAFE_LEFT | ZMG_KEY_LEFT;
+    keys |= ZMG_KEY_ATTACK | ZMG_KEY_USE | ZMG_KEY_WEAPON(3);
+    IS(zmg_node_build(&other, keys).code, ZMG_MADE);
     memset(row, 7, sizeof row);
     ran = zmg_node_run(&key, no_marks, row);
     IS(ran.code, ZMG_WAITING);
@@ -181,19 +197,28 @@ static void drops(void) {
     packet.count = 1;
     length = zmg_packet_encode(&packet, bytes, sizeof bytes);
     IS(length, 16);
-#define DROPS(why) do { zmg_heard h = zmg_node_receive(&key, 1, bytes, length); IS(h.code, ZMG_DROPPED); IS(h.number, why); } while (0)
+#define DROPS(why) \
+    do { \
+        zmg_heard h = zmg_node_receive(&key, 1, bytes, length); \
+        IS(h.code, ZMG_DROPPED); \
+        IS(h.number, why); \
+    } while (0)
     length = 7; DROPS(ZMG_DROP_SHORT);
     length = 15; DROPS(ZMG_DROP_LENGTH);
     length = 16; bytes[9] ^= 1; DROPS(ZMG_DROP_SUM);
     bytes[7] = 13; DROPS(ZMG_DROP_MANY);
-#define SENDS(why) do { length = zmg_packet_encode(&packet, bytes, sizeof bytes); DROPS(why); } while (0)
+#define SENDS(why) \
+    do { \
+        length = zmg_packet_encode(&packet, bytes, sizeof bytes); \
+        DROPS(why); \
+    } while (0)
     packet.player = 0; SENDS(ZMG_DROP_STRANGER);
     packet.player = 1; packet.flags = ZMG_FLAG_KILL; SENDS(ZMG_DROP_KILL);
     packet.flags = ZMG_FLAG_SETUP; SENDS(ZMG_DROP_OUT_OF_PLACE);
     packet.flags = 0; packet.start = 200; SENDS(ZMG_DROP_BEFORE);
     packet.start = 0; packet.commands[0].forward = -128; SENDS(ZMG_DROP_STOP);
     packet.commands[0].forward = 0; packet.start = 12; SENDS(ZMG_DROP_OVERRUN);
-    packet.flags = ZMG_FLAG_EXIT; packet.start = 2; IS((length = zmg_packet_encode(&packet, bytes, sizeof bytes)), 16);
+    packet.flags = ZMG_FLAG_EXIT; packet.start = 2; length = zmg_packet_encode(&packet, bytes, sizeof bytes);
     IS(zmg_node_receive(&key, 1, bytes, length).code, ZMG_GAP);
     packet.start = 3; SENDS(ZMG_DROP_END);
     IS(zmg_node_receive(&key, 2, bytes, length).number, ZMG_DROP_STRANGER);
@@ -317,9 +342,11 @@ static void packets(void) {
     IS(zmg_packet_encode(&packet, bytes, sizeof bytes), 0);
 }
 
-/* A demo of version 109, with players 0 and 2, one tic, a command of a cut tic, and two bytes behind the marker. */
+/* A demo of version 109, with players 0 and 2, one tic, a command of a cut tic, and two bytes behind the
+ * marker. */
 static void demos(void) {
-    static const uint8_t old[] = { 109, 4, 2, 5, 1, 6, 7, 8, 2, 1, 0, 1, 0, 10, 20, 30, 40, 0xf6, 1, 0x80, 3, 9, 9, 9, 9, 0x80, 1, 2 };
+    static const uint8_t old[] = { 109, 4, 2, 5, 1, 6, 7, 8, 2, 1, 0, 1, 0, 10, 20, 30, 40, 0xf6, 1, 0x80, 3,
+        9, 9, 9, 9, 0x80, 1, 2 };
     static uint8_t out[2048];
     zmg_demo demo = ZMG_DEMO_NONE;
     zmg_demo_told told;
@@ -403,7 +430,10 @@ static void no_memory(void) {
     for (n = 1, code = 1; code; n++) {
         fail_once(n);
         code = zmg_node_new(&key, &c);
-        if (code) { IS(code, ZMG_NO_MEMORY); IS(zmg_node_phase(&key).code, ZMG_NO_NODE); IS(blocks_held(), 0); }
+        if (!code) continue;
+        IS(code, ZMG_NO_MEMORY);
+        IS(zmg_node_phase(&key).code, ZMG_NO_NODE);
+        IS(blocks_held(), 0);
     }
     IS(n, 4);
     for (n = 1, code = 1; code; n++) {
@@ -432,7 +462,7 @@ static void no_memory(void) {
 }
 
 int main(void) {
-    (void)sizeof(sizes_are_right);
+    sizes();
     configurations();
     settings();
     moves();

@@ -1,4 +1,5 @@
-//! Two players in one process, over a line that loses, repeats and delays: `lossy [SEED]`. Their world is a ring road.
+//! Two players in one process, over a line that loses, repeats and delays: `lossy [SEED]`. Their world is a
+//! ring road.
 
 use zirmegat::{Config, Dropped, Heard, Keys, Move, Player, Ran, Settings, Start, World};
 
@@ -22,7 +23,8 @@ impl World for Road {
     fn step(&mut self, moves: &[Option<Move>; 4]) {
         for (car, step) in self.cars.iter_mut().zip(moves) {
             if let (Some((at, speed)), Some(step)) = (car, step) {
-                *speed = (*speed + i32::from(step.forward) - i32::from(step.turn) / 64).clamp(-9999, 9999);
+                *speed = (*speed + i32::from(step.forward) - i32::from(step.turn) / 64)
+                    .clamp(-9999, 9999);
                 *at = (*at + *speed).rem_euclid(LENGTH);
             }
         }
@@ -38,13 +40,16 @@ struct Luck(u64);
 
 impl Luck {
     fn next(&mut self) -> u32 {
-        self.0 = self.0.wrapping_mul(6364136223846793005).wrapping_add(1442695040888963407);
+        self.0 = self
+            .0
+            .wrapping_mul(6364136223846793005)
+            .wrapping_add(1442695040888963407);
         (self.0 >> 33) as u32
     }
 }
 
-/// One way of the line: datagrams with the rounds after which they come. It is no older than 16 rounds, so nothing
-/// comes from more than 64 tics away.
+/// One way of the line: datagrams with the rounds after which they come. It is no older than 16 rounds, so
+/// nothing comes from more than 64 tics away.
 #[derive(Default)]
 struct Way {
     flying: Vec<(u32, Vec<u8>)>,
@@ -63,15 +68,26 @@ impl Way {
     }
 
     fn arrived(&mut self, round: u32) -> Vec<Vec<u8>> {
-        let (now, later): (Vec<_>, Vec<_>) = self.flying.drain(..).partition(|(due, _)| *due <= round);
+        let (now, later): (Vec<_>, Vec<_>) =
+            self.flying.drain(..).partition(|(due, _)| *due <= round);
         self.flying = later;
         now.into_iter().map(|(_, bytes)| bytes).collect()
     }
 }
 
 fn main() {
-    let mut luck = Luck(std::env::args().nth(1).and_then(|word| word.parse().ok()).unwrap_or(1));
-    let settings = Settings { skill: 2, episode: 1, map: 1, ..Settings::default() };
+    let mut luck = Luck(
+        std::env::args()
+            .nth(1)
+            .and_then(|word| word.parse().ok())
+            .unwrap_or(1),
+    );
+    let settings = Settings {
+        skill: 2,
+        episode: 1,
+        map: 1,
+        ..Settings::default()
+    };
     let mut players = [
         Player::new(Config::key(2, settings), Road::default()).expect("player 0"),
         Player::new(Config::other(2, 1), Road::default()).expect("player 1"),
@@ -90,7 +106,10 @@ fn main() {
             for bytes in ways[1 - me].arrived(round) {
                 // packets of the set-up may come late, and others before it
                 match player.receive(1 - me as u8, &bytes) {
-                    Heard::Dropped(why) => assert!(matches!(why, Dropped::OutOfPlace | Dropped::NotPlaying), "{why:?}"),
+                    Heard::Dropped(why) => assert!(
+                        matches!(why, Dropped::OutOfPlace | Dropped::NotPlaying),
+                        "{why:?}"
+                    ),
                     _ => (),
                 }
             }

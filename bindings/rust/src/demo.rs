@@ -57,14 +57,20 @@ impl fmt::Display for UpgradeError {
 
 impl Error for UpgradeError {}
 
-fn fault(code: u32) -> Result<(), DemoError> {
+fn error(code: u32) -> DemoError {
+    match code {
+        1 => DemoError::Short,
+        2 => DemoError::Version,
+        3 => DemoError::NoPlayers,
+        4 => DemoError::NoMarker,
+        _ => DemoError::Memory,
+    }
+}
+
+fn done(code: u32) -> Result<(), DemoError> {
     match code {
         0 => Ok(()),
-        1 => Err(DemoError::Short),
-        2 => Err(DemoError::Version),
-        3 => Err(DemoError::NoPlayers),
-        4 => Err(DemoError::NoMarker),
-        _ => Err(DemoError::Memory),
+        code => Err(error(code)),
     }
 }
 
@@ -76,20 +82,20 @@ impl Reader {
     /// A reader that no bytes came to.
     pub fn new() -> Result<Reader, DemoError> {
         let mut handle = raw::Handle::NONE;
-        // SAFETY: the handle is valid for the call, and holds nothing. Below, it is as the library left it, `&mut` makes
-        // each call the only one, and slices are valid for their lengths.
-        fault(unsafe { raw::zmg_demo_new(&mut handle) })?;
+        // SAFETY: the handle is valid for the call, and holds nothing. Below, it is as the library left it,
+        // `&mut` makes each call the only one, and slices are valid for their lengths.
+        done(unsafe { raw::zmg_demo_new(&mut handle) })?;
         Ok(Reader(Demo(handle)))
     }
 
     /// Takes the next piece. Where there is no memory for it, it is not taken.
     pub fn push(&mut self, piece: &[u8]) -> Result<(), DemoError> {
-        fault(unsafe { raw::zmg_demo_push(&mut self.0 .0, piece.as_ptr(), piece.len()) })
+        done(unsafe { raw::zmg_demo_push(&mut self.0 .0, piece.as_ptr(), piece.len()) })
     }
 
     /// Reads the pieces as one demo.
     pub fn read(mut self) -> Result<Demo, DemoError> {
-        fault(unsafe { raw::zmg_demo_read(&mut self.0 .0) })?;
+        done(unsafe { raw::zmg_demo_read(&mut self.0 .0) })?;
         Ok(self.0)
     }
 }
@@ -172,7 +178,8 @@ impl fmt::Debug for Demo {
 pub fn upgrade(bytes: &[u8], limit: usize) -> Result<Vec<u8>, UpgradeError> {
     let mut out = vec![0; limit];
     // SAFETY: both slices are valid for their lengths, and do not overlap.
-    let made = unsafe { raw::zmg_demo_upgrade(bytes.as_ptr(), bytes.len(), out.as_mut_ptr(), out.len()) };
+    let made =
+        unsafe { raw::zmg_demo_upgrade(bytes.as_ptr(), bytes.len(), out.as_mut_ptr(), out.len()) };
     match made.code {
         0 => {
             out.truncate(made.length);
@@ -180,6 +187,6 @@ pub fn upgrade(bytes: &[u8], limit: usize) -> Result<Vec<u8>, UpgradeError> {
         }
         6 => Err(UpgradeError::Limit),
         7 => Err(UpgradeError::TooLong),
-        code => fault(code).map_err(UpgradeError::Demo).and(Err(UpgradeError::Limit)),
+        code => Err(UpgradeError::Demo(error(code))),
     }
 }

@@ -1,9 +1,9 @@
 //! The network play of vanilla Doom, as it was released in 1997, for an engine with a world of its own.
 //!
-//! A [`Player`] is one player's part of a game of two to four: a node of the game and a [`World`], kept in step. It
-//! builds a command from keys for each tic, gives and takes Doom's datagrams, steps the world by the tics that are
-//! whole, checks the marks of the other players' worlds, and records a demo. The network is yours: hand each packet
-//! to its player's machine, and each datagram that comes to [`Player::receive`].
+//! A [`Player`] is one player's part of a game of two to four: a node of the game and a [`World`], kept in
+//! step. It builds a command from keys for each tic, gives and takes Doom's datagrams, steps the world by
+//! the tics that are whole, checks the marks of the other players' worlds, and records a demo. The network
+//! is yours: hand each packet to its player's machine, and each datagram that comes to [`Player::receive`].
 //!
 //! Two players in one process:
 //!
@@ -58,9 +58,9 @@
 //! # }
 //! ```
 //!
-//! Nothing here waits, prints or opens anything. All memory is taken by `Player::new`, but for what `demo` copies.
-//! The library under it is proved: see the repository. This crate is not; it only passes references as pointers and
-//! numbers as enums.
+//! Nothing here waits, prints or opens anything. All memory is taken by `Player::new`, but for what `demo`
+//! copies. The library under it is proved: see the repository. This crate is not; it only passes references
+//! as pointers and numbers as enums.
 
 #![deny(missing_docs)]
 
@@ -75,7 +75,9 @@ pub use demo::{upgrade, Demo, DemoError, Reader, UpgradeError};
 pub use node::{Node, NodeError};
 pub use packet::{Command, Packet, PacketError, EXIT, KILL, RETRANSMIT, SETUP};
 pub use player::{Player, World};
-pub use values::{Aim, Cause, Config, Dropped, Heard, Keys, Made, Move, Phase, Ran, Settings, Start};
+pub use values::{
+    Aim, Cause, Config, Dropped, Heard, Keys, Made, Move, Phase, Ran, Settings, Start,
+};
 
 #[cfg(test)]
 mod tests;

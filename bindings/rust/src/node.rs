@@ -43,8 +43,8 @@ impl fmt::Display for NodeError {
 
 impl Error for NodeError {}
 
-/// One player's node without a world, for an engine that steps its own. [`Player`](crate::Player) keeps a world in
-/// step by itself.
+/// One player's node without a world, for an engine that steps its own. [`Player`](crate::Player) keeps a
+/// world in step by itself.
 pub struct Node(raw::Handle);
 
 // SAFETY: the handle owns what it points to, and no call keeps anything elsewhere.
@@ -61,8 +61,8 @@ impl Node {
             extra: u8::from(config.extra),
             settings: config.settings.raw(),
         };
-        // SAFETY: both are valid for the call, and the handle holds nothing. Below, the handle is as the library left
-        // it, `&mut` makes each call the only one, and slices are valid for their lengths.
+        // SAFETY: both are valid for the call, and the handle holds nothing. Below, the handle is as the
+        // library left it, `&mut` makes each call the only one, and slices are valid for their lengths.
         match unsafe { raw::zmg_node_new(&mut node.0, &asked) } {
             0 => Ok(node),
             1 => Err(NodeError::Players),
@@ -83,9 +83,13 @@ impl Node {
 
     /// The next packet to a player. Each call is taken as sent.
     pub fn packet(&mut self, to: u8) -> Option<Datagram> {
-        let mut datagram = Datagram { bytes: [0; 104], length: 0 };
+        let mut datagram = Datagram {
+            bytes: [0; 104],
+            length: 0,
+        };
         let out = &mut datagram.bytes;
-        datagram.length = unsafe { raw::zmg_node_packet(&mut self.0, to, out.as_mut_ptr(), out.len()) };
+        datagram.length =
+            unsafe { raw::zmg_node_packet(&mut self.0, to, out.as_mut_ptr(), out.len()) };
         (datagram.length > 0).then_some(datagram)
     }
 
@@ -100,19 +104,23 @@ impl Node {
         })
     }
 
-    /// Hears a datagram of a player. Where it answers [`Heard::Started`], the caller begins its world with the start of
-    /// [`settings`](Node::settings).
+    /// Hears a datagram of a player. Where it answers [`Heard::Started`], the caller begins its world with
+    /// the start of [`settings`](Node::settings).
     ///
     /// The transport knows the sender, and hands in nothing that was sent more than 64 tics away.
     pub fn receive(&mut self, from: u8, bytes: &[u8]) -> Heard {
-        values::heard(unsafe { raw::zmg_node_receive(&mut self.0, from, bytes.as_ptr(), bytes.len()) })
+        values::heard(unsafe {
+            raw::zmg_node_receive(&mut self.0, from, bytes.as_ptr(), bytes.len())
+        })
     }
 
-    /// Runs the next tic by each player's mark in the caller's world as it stands. Where it was run, the caller steps
-    /// the world by the row.
+    /// Runs the next tic by each player's mark in the caller's world as it stands. Where it was run, the
+    /// caller steps the world by the row.
     pub fn run(&mut self, marks: [i16; 4]) -> (Ran, Option<[Option<Move>; 4]>) {
         let mut row = [raw::Move::default(); 4];
-        let ran = values::ran(unsafe { raw::zmg_node_run(&mut self.0, marks.as_ptr(), row.as_mut_ptr()) });
+        let ran = values::ran(unsafe {
+            raw::zmg_node_run(&mut self.0, marks.as_ptr(), row.as_mut_ptr())
+        });
         match ran {
             Ran::Ran(_) => (ran, Some(row.map(Move::of))),
             _ => (ran, None),

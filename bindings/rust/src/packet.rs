@@ -114,7 +114,12 @@ impl Packet {
             ask: raw.ask,
             start: raw.start,
             player: raw.player,
-            commands: raw.commands.iter().take(usize::from(raw.count)).map(Command::of).collect(),
+            commands: raw
+                .commands
+                .iter()
+                .take(usize::from(raw.count))
+                .map(Command::of)
+                .collect(),
         }
     }
 }

@@ -5,8 +5,8 @@ use crate::values::{Aim, Config, Heard, Keys, Made, Move, Phase, Ran, Settings, 
 
 /// A world that the moves of four seats step.
 ///
-/// Worlds that began alike and were stepped by the same rows are to be alike: nothing in them comes from a clock, from
-/// random numbers but the world's own, or from where things lie in memory.
+/// Worlds that began alike and were stepped by the same rows are to be alike: nothing in them comes from a
+/// clock, from random numbers but the world's own, or from where things lie in memory.
 pub trait World {
     /// Forgets all that was, and begins a game.
     fn begin(&mut self, start: &Start, present: [bool; 4]);
@@ -14,7 +14,8 @@ pub trait World {
     /// Goes on by one tic, 1/35 second.
     fn step(&mut self, moves: &[Option<Move>; 4]);
 
-    /// The consistency mark of a player, by the world's state alone. Doom's is the low 16 bits of the player's x.
+    /// The consistency mark of a player, by the world's state alone. Doom's is the low 16 bits of the
+    /// player's x.
     fn mark(&self, player: usize) -> i16;
 }
 
@@ -28,7 +29,10 @@ pub struct Player<W> {
 impl<W: World> Player<W> {
     /// A player of a game that has not started.
     pub fn new(config: Config, world: W) -> Result<Player<W>, NodeError> {
-        Ok(Player { node: Node::new(config)?, world })
+        Ok(Player {
+            node: Node::new(config)?,
+            world,
+        })
     }
 
     /// Builds the command of these keys for the next tic.
@@ -53,7 +57,10 @@ impl<W: World> Player<W> {
         let heard = self.node.receive(from, bytes);
         if let (Heard::Started, Some(settings)) = (heard, self.node.settings()) {
             let players = usize::from(self.node.players());
-            self.world.begin(&settings.start(), std::array::from_fn(|seat| seat < players));
+            self.world.begin(
+                &settings.start(),
+                std::array::from_fn(|seat| seat < players),
+            );
         }
         heard
     }
@@ -63,7 +70,13 @@ impl<W: World> Player<W> {
         let players = usize::from(self.node.players());
         let playing = self.node.phase() == Phase::Playing;
         let world = &self.world;
-        let marks = std::array::from_fn(|seat| if playing && seat < players { world.mark(seat) } else { 0 });
+        let marks = std::array::from_fn(|seat| {
+            if playing && seat < players {
+                world.mark(seat)
+            } else {
+                0
+            }
+        });
         let (ran, row) = self.node.run(marks);
         if let Some(row) = row {
             self.world.step(&row);
@@ -89,6 +102,16 @@ impl<W: World> Player<W> {
     /// The world.
     pub fn world(&self) -> &W {
         &self.world
+    }
+
+    /// The number of the player.
+    pub fn me(&mut self) -> u8 {
+        self.node.me()
+    }
+
+    /// How many players the game has.
+    pub fn players(&mut self) -> u8 {
+        self.node.players()
     }
 
     /// Where the node stands.

@@ -9,7 +9,10 @@ pub struct Handle {
 }
 
 impl Handle {
-    pub const NONE: Handle = Handle { live: 0, at: core::ptr::null_mut() };
+    pub const NONE: Handle = Handle {
+        live: 0,
+        at: core::ptr::null_mut(),
+    };
 }
 
 #[repr(C)]
@@ -169,5 +172,6 @@ extern "C" {
     pub fn zmg_demo_read(demo: *mut Handle) -> u32;
     pub fn zmg_demo_tell(demo: *mut Handle) -> DemoTold;
     pub fn zmg_demo_row(demo: *mut Handle, tic: usize, row: *mut Move) -> u32;
-    pub fn zmg_demo_upgrade(bytes: *const u8, length: usize, out: *mut u8, room: usize) -> Upgraded;
+    pub fn zmg_demo_upgrade(bytes: *const u8, length: usize, out: *mut u8, room: usize)
+        -> Upgraded;
 }

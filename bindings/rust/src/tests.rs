@@ -11,13 +11,19 @@ struct Sum {
 
 impl World for Sum {
     fn begin(&mut self, _start: &Start, _present: [bool; 4]) {
-        *self = Sum { totals: [0; 4], began: self.began + 1 };
+        *self = Sum {
+            totals: [0; 4],
+            began: self.began + 1,
+        };
     }
 
     fn step(&mut self, moves: &[Option<Move>; 4]) {
         for (total, step) in self.totals.iter_mut().zip(moves) {
             if let Some(step) = step {
-                *total = total.wrapping_mul(31) + i64::from(step.forward) * 7 + i64::from(step.side) + i64::from(step.turn);
+                *total = total.wrapping_mul(31)
+                    + i64::from(step.forward) * 7
+                    + i64::from(step.side)
+                    + i64::from(step.turn);
             }
         }
     }
@@ -28,7 +34,14 @@ impl World for Sum {
 }
 
 fn settings() -> Settings {
-    Settings { skill: 3, deathmatch: 1, no_monsters: true, respawn: false, episode: 2, map: 9 }
+    Settings {
+        skill: 3,
+        deathmatch: 1,
+        no_monsters: true,
+        respawn: false,
+        episode: 2,
+        map: 9,
+    }
 }
 
 fn pair() -> (Player<Sum>, Player<Sum>) {
@@ -68,15 +81,51 @@ fn the_header_has_these_sizes() {
 fn bad_configurations_are_refused() {
     let good = Config::key(2, settings());
     let refused = |config| Player::new(config, Sum::default()).err();
-    assert_eq!(refused(Config { players: 1, ..good }), Some(NodeError::Players));
-    assert_eq!(refused(Config { players: 5, ..good }), Some(NodeError::Players));
+    assert_eq!(
+        refused(Config { players: 1, ..good }),
+        Some(NodeError::Players)
+    );
+    assert_eq!(
+        refused(Config { players: 5, ..good }),
+        Some(NodeError::Players)
+    );
     assert_eq!(refused(Config { me: 2, ..good }), Some(NodeError::Me));
-    assert_eq!(refused(Config { limit: 1023, ..good }), Some(NodeError::Limit));
+    assert_eq!(
+        refused(Config {
+            limit: 1023,
+            ..good
+        }),
+        Some(NodeError::Limit)
+    );
     let with = |settings| refused(Config { settings, ..good });
-    assert_eq!(with(Settings { skill: 5, ..settings() }), Some(NodeError::Skill));
-    assert_eq!(with(Settings { deathmatch: 3, ..settings() }), Some(NodeError::Deathmatch));
-    assert_eq!(with(Settings { episode: 0, ..settings() }), Some(NodeError::Episode));
-    assert_eq!(with(Settings { map: 33, ..settings() }), Some(NodeError::Map));
+    assert_eq!(
+        with(Settings {
+            skill: 5,
+            ..settings()
+        }),
+        Some(NodeError::Skill)
+    );
+    assert_eq!(
+        with(Settings {
+            deathmatch: 3,
+            ..settings()
+        }),
+        Some(NodeError::Deathmatch)
+    );
+    assert_eq!(
+        with(Settings {
+            episode: 0,
+            ..settings()
+        }),
+        Some(NodeError::Episode)
+    );
+    assert_eq!(
+        with(Settings {
+            map: 33,
+            ..settings()
+        }),
+        Some(NodeError::Map)
+    );
 }
 
 #[test]
@@ -103,7 +152,10 @@ fn two_players_agree_and_their_demos_are_read() {
     assert_eq!((demo.cut(), demo.after()), (0, 0));
     assert_eq!(demo.present(), [true, true, false, false]);
     assert_eq!(demo.start(), settings().start());
-    let mut world = Sum { began: 1, ..Sum::default() };
+    let mut world = Sum {
+        began: 1,
+        ..Sum::default()
+    };
     for row in (0..500).map(|tic| demo.row(tic).unwrap()) {
         world.step(&row);
     }
@@ -112,7 +164,10 @@ fn two_players_agree_and_their_demos_are_read() {
     assert_eq!(upgrade(&one, 1 << 20), Ok(one.clone()));
     assert_eq!(upgrade(&one, 1024), Err(UpgradeError::TooLong));
     assert_eq!(upgrade(&one, 1023), Err(UpgradeError::Limit));
-    assert_eq!(upgrade(&one[..12], 1024), Err(UpgradeError::Demo(DemoError::Short)));
+    assert_eq!(
+        upgrade(&one[..12], 1024),
+        Err(UpgradeError::Demo(DemoError::Short))
+    );
 }
 
 #[test]
@@ -152,14 +207,34 @@ fn worlds_that_differ_are_found() {
         other.run([0, if tic == 3 { 77 } else { 0 }, 0, 0]);
     }
     assert_eq!(last, Ran::NotPlaying);
-    assert_eq!(key.phase(), Phase::Ended(Cause::Inconsistent { player: 1, was: 77, should: 0 }));
+    assert_eq!(
+        key.phase(),
+        Phase::Ended(Cause::Inconsistent {
+            player: 1,
+            was: 77,
+            should: 0
+        })
+    );
     assert_eq!(key.ran(), 15);
 }
 
 #[test]
 fn packets_are_read_and_written() {
-    let command = Command { forward: 50, side: -3, turn: -640, mark: 12345, chat: 7, buttons: 1 };
-    let packet = Packet { flags: RETRANSMIT, ask: 9, start: 5, player: 1, commands: vec![command; 12] };
+    let command = Command {
+        forward: 50,
+        side: -3,
+        turn: -640,
+        mark: 12345,
+        chat: 7,
+        buttons: 1,
+    };
+    let packet = Packet {
+        flags: RETRANSMIT,
+        ask: 9,
+        start: 5,
+        player: 1,
+        commands: vec![command; 12],
+    };
     let bytes = packet.encode().unwrap();
     assert_eq!(bytes.len(), 104);
     assert_eq!(Packet::decode(&bytes), Ok(packet.clone()));
@@ -170,8 +245,22 @@ fn packets_are_read_and_written() {
     assert_eq!(Packet::decode(&wrong), Err(PacketError::Sum));
     wrong[7] = 13;
     assert_eq!(Packet::decode(&wrong), Err(PacketError::Many));
-    assert_eq!(Packet { flags: 16, ..packet.clone() }.encode(), None);
-    assert_eq!(Packet { commands: vec![command; 13], ..packet }.encode(), None);
+    assert_eq!(
+        Packet {
+            flags: 16,
+            ..packet.clone()
+        }
+        .encode(),
+        None
+    );
+    assert_eq!(
+        Packet {
+            commands: vec![command; 13],
+            ..packet
+        }
+        .encode(),
+        None
+    );
 }
 
 #[test]

@@ -85,7 +85,8 @@ pub struct Config {
     pub players: u8,
     /// The number of this player, from 0 on.
     pub me: u8,
-    /// Whether each packet repeats the last command, which helps on lines that lose packets. The same for all.
+    /// Whether each packet repeats the last command, which helps on lines that lose packets. The same for
+    /// all.
     pub extra: bool,
     /// How many bytes the demo may have: 1,024 to 16,777,216. A tic takes 5 for each player.
     pub limit: u32,
@@ -96,12 +97,24 @@ pub struct Config {
 impl Config {
     /// Of player 0, whose settings the game has, with a demo of a MiB at most.
     pub fn key(players: u8, settings: Settings) -> Config {
-        Config { players, me: 0, extra: false, limit: 1 << 20, settings }
+        Config {
+            players,
+            me: 0,
+            extra: false,
+            limit: 1 << 20,
+            settings,
+        }
     }
 
     /// Of another player.
     pub fn other(players: u8, me: u8) -> Config {
-        Config { players, me, extra: false, limit: 1 << 20, settings: Settings::default() }
+        Config {
+            players,
+            me,
+            extra: false,
+            limit: 1 << 20,
+            settings: Settings::default(),
+        }
     }
 }
 
@@ -333,7 +346,11 @@ pub(crate) fn ran(raw: raw::Ran) -> Ran {
         0 => Ran::Ran(raw.tic),
         1 => Ran::Waiting(raw.player),
         2 => Ran::DemoFull,
-        3 => Ran::Inconsistent { player: raw.player, was: raw.was, should: raw.should },
+        3 => Ran::Inconsistent {
+            player: raw.player,
+            was: raw.was,
+            should: raw.should,
+        },
         _ => Ran::NotPlaying,
     }
 }
@@ -341,7 +358,11 @@ pub(crate) fn ran(raw: raw::Ran) -> Ran {
 pub(crate) fn phase(raw: raw::Phase) -> Phase {
     let cause = match raw.cause {
         2 => Cause::Full,
-        3 => Cause::Inconsistent { player: raw.player, was: raw.was, should: raw.should },
+        3 => Cause::Inconsistent {
+            player: raw.player,
+            was: raw.was,
+            should: raw.should,
+        },
         _ => Cause::Quit,
     };
     match raw.code {
