@@ -126,6 +126,23 @@ fn a_writer_that_takes_no_bytes_fails(rt: HostRuntime) {
     assert_eq!(rt; shown, Err(RunFault::Write));
 }
 
+/// A write that takes no bytes ends the run also where some were written, and others would follow.
+#[test]
+fn a_writer_that_once_takes_no_bytes_has_a_front(rt: HostRuntime) {
+    let text = ONE_SHOWN.as_bytes();
+    for idle_at in 1..=text.len() {
+        let mut output = Sink::new(rt.alloc(), 1, NEVER);
+        output.idle_at = idle_at as u64;
+        let shown = run_show(
+            rt.alloc(),
+            &mut Source::new(&ONE, WHOLE, NEVER),
+            &mut output,
+        );
+        assert_eq!(rt; shown, Err(RunFault::Write), "write {idle_at}");
+        assert_eq!(rt; output.taken.as_slice(), &text[..idle_at - 1]);
+    }
+}
+
 /// Each request for memory may be refused: then the answer says so, and nothing is written.
 #[test]
 fn want_of_memory_is_told(rt: HostRuntime) {

@@ -109,28 +109,36 @@ fn parts(demo: &[u8]) -> (&[u8], &[u8]) {
     (&demo[..8], &demo[9..])
 }
 
-/// Compares two nodes of a game.
-fn compare(rt: &impl Abort, one: &Node<Walk>, other: &Node<Walk>) {
+/// Compares two nodes of a game, and answers whether both have run as many tics, and one at least.
+fn compare(rt: &impl Abort, one: &Node<Walk>, other: &Node<Walk>) -> bool {
     let (front, commands) = parts(one.demo());
     let (other_front, others) = parts(other.demo());
     if !front.is_empty() && !other_front.is_empty() {
         assert_eq!(rt; front, other_front);
     }
     assert!(rt; commands.starts_with(others) || others.starts_with(commands));
-    if one.ran() == other.ran() && front.len() == other_front.len() {
+    let level = one.ran() == other.ran() && front.len() == other_front.len();
+    if level {
         assert_eq!(rt; places(one), places(other));
         assert_eq!(rt; commands, others);
     }
+    level && one.ran() > 0
 }
 
-/// Compares each two nodes of three.
-fn compare_all(rt: &impl Abort, game: &Game<Walk>) {
+/// Compares each two nodes of three, and answers how many pairs have run as many tics.
+fn compare_all(rt: &impl Abort, game: &Game<Walk>) -> u32 {
+    let mut level = 0_u32;
     for (one, other) in [(0, 1), (0, 2), (1, 2)] {
         match (game.node(one), game.node(other)) {
-            (Some(one), Some(other)) => compare(rt, one, other),
+            (Some(one), Some(other)) => {
+                if compare(rt, one, other) {
+                    level = level.saturating_add(1);
+                }
+            }
             _ => assert!(rt; false, "no node"),
         }
     }
+    level
 }
 
 #[test]
@@ -139,7 +147,7 @@ fn three_nodes_agree_after_forty_tics(rt: HostRuntime) -> Result<(), Fail> {
     let played = played(rt.alloc(), events.as_slice())?;
     assert_eq!(rt; played.done, events.len());
     assert_eq!(rt; played.refused, 0);
-    compare_all(&rt, &played.game);
+    assert_eq!(rt; compare_all(&rt, &played.game), 3);
     let mut newest = 0;
     for number in 0..3 {
         let Some(node) = played.game.node(number) else {
@@ -164,12 +172,17 @@ fn three_nodes_agree_after_forty_tics(rt: HostRuntime) -> Result<(), Fail> {
 #[test]
 fn three_nodes_agree_at_each_stage(rt: HostRuntime) -> Result<(), Fail> {
     let events = events(rt.alloc())?;
+    // How many of the stages before calm comes have two nodes that ran as many tics.
+    let mut level = 0_u32;
     for stage in 0..200 {
         let len = events.len().min(stage * 37);
         let played = played(rt.alloc(), &events[..len])?;
         assert_eq!(rt; played.done, len);
-        compare_all(&rt, &played.game);
+        if compare_all(&rt, &played.game) > 0 && stage < 150 {
+            level = level.saturating_add(1);
+        }
     }
+    assert!(rt; level >= 50, "{level} stages");
     Ok(())
 }
 

@@ -3,6 +3,7 @@
 use super::told::all_told;
 use super::{config, opened, send, walks};
 use crate::{Done, Event, Game, GameFault, Refusal, play, storm};
+use dn_machine::{Cause, Phase};
 use dn_world::Walk;
 use std::process::Abort;
 use std::test::Fail;
@@ -46,16 +47,27 @@ fn want_of_memory_is_told(rt: HostRuntime) -> Result<(), Fail> {
         }
     }
     if let Ok(worlds) = walks(rt.alloc(), 2) {
-        match play(rt.alloc(), config(1_024)?, worlds, &start()) {
-            Ok(played) => assert_eq!(rt; played.done.checked_add(played.refused), Some(6)),
-            Err(fault) => assert_eq!(rt; fault, GameFault::Memory),
-        }
+        let storm = storm(rt.alloc(), config(1_024)?, worlds, 1, 500);
+        assert!(rt; storm.is_ok() || storm.err() == Some(GameFault::Memory));
     }
-    if let Ok(worlds) = walks(rt.alloc(), 2) {
-        match storm(rt.alloc(), config(1_024)?, worlds, 1, 500) {
-            Ok(played) => assert_eq!(rt; played.done.checked_add(played.refused), Some(500)),
-            Err(fault) => assert_eq!(rt; fault, GameFault::Memory),
+    Ok(())
+}
+
+/// A send without room is left out of a list of events, the others are done, and the answer counts it.
+#[test]
+fn play_goes_on_without_a_packet(rt: HostRuntime) -> Result<(), Fail> {
+    let events = [send(0, 1), Event::Run(0), send(0, 1), Event::Quit(1)];
+    let Ok(worlds) = walks(rt.alloc(), 2) else {
+        return Ok(());
+    };
+    match play(rt.alloc(), config(1_024)?, worlds, &events) {
+        Ok(played) => {
+            assert!(rt; played.refused <= 1);
+            assert_eq!(rt; played.game.flights(), 2 - played.refused);
+            let left = played.game.node(1).map(|node| node.phase());
+            assert_eq!(rt; left, Some(Phase::Ended(Cause::Quit)));
         }
+        Err(fault) => assert_eq!(rt; fault, GameFault::Memory),
     }
     Ok(())
 }

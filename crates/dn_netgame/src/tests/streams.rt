@@ -58,10 +58,11 @@ impl Read for Zeros {
     }
 }
 
-/// Keeps what it takes, at most so many bytes a call, and fails at one call.
+/// Keeps what it takes, at most so many bytes a call, fails at one call, and takes none at another.
 #[derive(Drop)]
 pub(crate) struct Sink {
     pub(crate) taken: Vec<u8>,
+    pub(crate) idle_at: u64,
     most: usize,
     calls: u64,
     fails_at: u64,
@@ -71,6 +72,7 @@ impl Sink {
     pub(crate) fn new(alloc: Global, most: usize, fails_at: u64) -> Self {
         Sink {
             taken: Vec::new(alloc),
+            idle_at: NEVER,
             most,
             calls: 0,
             fails_at,
@@ -83,6 +85,9 @@ impl Write for Sink {
         self.calls = self.calls.saturating_add(1);
         if self.calls == self.fails_at {
             return Err(io::Error::from(io::ErrorKind::Other));
+        }
+        if self.calls == self.idle_at {
+            return Ok(0);
         }
         let count = self.most.min(buf.len());
         self.taken.extend_from_slice(&buf[..count])?;
