@@ -56,8 +56,8 @@ pub extern "C" fn zmg_demo_push(alloc: Global, demo: &mut DemoHandle, bytes: &[u
     }
 }
 
-/// Reads the bytes that came: 0, or why they are no demo, after which the reader has no bytes: 1 fewer than 13 bytes,
-/// 2 another version than 109 and 111, 3 no players, 4 no marker; 9 for no reader.
+/// Reads the bytes that came: 0, or why they are no demo, after which the reader has no bytes: 1 fewer than 13
+/// bytes, 2 another version than 109 and 111, 3 no players, 4 no marker; 9 for no reader.
 #[unsafe(no_mangle)]
 pub extern "C" fn zmg_demo_read(alloc: Global, demo: &mut DemoHandle) -> u32
     ensures { Calls (demo_of demo.old) (demo_of demo.new) (λ r s. IsReadOut r s result) (result ≡ 9) }
