@@ -79,8 +79,8 @@ fn tell_packet(packet: Option<ArrayVec<u8, 104>>, out: &mut [u8]) -> usize
     }
 }
 
-/// Writes the next packet to a player, and answers how many bytes it has, and 0 where there is none. Where the
-/// room is not 104 bytes, the node is not asked.
+/// Writes the next packet to a player, and answers how many bytes it has, and 0 where there is none.
+/// Where the room is not 104 bytes, the node is not asked.
 #[unsafe(no_mangle)]
 pub extern "C" fn zmg_node_packet(
     alloc: Global,
