@@ -3,7 +3,7 @@ pub mod Calls
 pub mod Answers
 pub mod Written
 pub mod Opening
-pub mod Hearing
+pub mod Going
 pub mod Fields
 pub mod Upgrading
 pub mod HeldDemo

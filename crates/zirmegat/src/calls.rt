@@ -10,15 +10,12 @@ ghost use Rattle.dn_machine.specs.declared.answers.Heard.TheVariants as Heard;
 ghost use Rattle.dn_machine.specs.declared.answers.Ran.{Ran as Answer};
 ghost use Rattle.dn_machine.specs.declared.answers.Made.TheVariants as Made;
 ghost use Rattle.dn_machine.specs.declared.answers.Ran.TheVariants as Ran;
-ghost use Rattle.dn_machine.specs.Building.{on_build};
-ghost use Rattle.dn_machine.specs.Running.{on_run, on_quit};
 ghost use Rattle.dn_lockstep.specs.declared.lockstep.sending.Aim.{Aim as Aimed};
 ghost use Rattle.dn_lockstep.specs.Sent.{sent_to, aim_of, bytes_of};
 ghost use Rattle.dn_lockstep.specs.Steps.{Steps};
-ghost use Rattle.dn_lockstep.specs.Runs.{RunsBy};
 ghost use Rattle.zirmegat.specs.Calls.{node_of, Calls, Reads};
 ghost use Rattle.zirmegat.specs.Answers.{made_told, aim_told, heard_told, ran_told, row_told_over};
-ghost use Rattle.zirmegat.specs.Hearing.{HearsAny, HearsNear};
+ghost use Rattle.zirmegat.specs.Going.{Builds, Hears, Runs, Quits};
 ghost use Rattle.zirmegat.specs.Written.{IsGiven};
 
 use crate::answers::{AimAnswer, BuildAnswer, HeardAnswer, MoveAnswer, RunAnswer, flag};
@@ -40,7 +37,7 @@ const NOT_PLAYING: u8 = 13;
 pub extern "C" fn zmg_node_build(alloc: Global, node: &mut NodeHandle, keys: u32) -> BuildAnswer
     ensures { Calls (node_of node.old) (node_of node.new)
         (λ n k. (made : Built) × (result ≡ made_told made)
-        × Steps n k (λ rules me m. on_build rules me m (keys % 2 ^ 18)) (λ answer. made ≡ answer))
+        × Builds (keys % 2 ^ 18) n k made)
         (result ≡ made_told Made.NotPlaying) }
 {
     match node.take(alloc) {
@@ -82,8 +79,8 @@ fn tell_packet(packet: Option<ArrayVec<u8, 104>>, out: &mut [u8]) -> usize
     }
 }
 
-/// Writes the next packet to a player, and answers how many bytes it has, and 0 where there is none. Where the
-/// room is not 104 bytes, the node is not asked.
+/// Writes the next packet to a player, and answers how many bytes it has, and 0 where there is none.
+/// Where the room is not 104 bytes, the node is not asked.
 #[unsafe(no_mangle)]
 pub extern "C" fn zmg_node_packet(
     alloc: Global,
@@ -120,7 +117,7 @@ pub extern "C" fn zmg_node_receive(
 ) -> HeardAnswer
     ensures { Calls (node_of node.old) (node_of node.new)
         (λ n k. (heard : Hearing) × (result ≡ heard_told heard)
-        × HearsAny from bytes.now n k heard × HearsNear from bytes.now n k heard)
+        × Hears from bytes.now n k heard)
         (result ≡ heard_told (Heard.Dropped 13)) }
 {
     match node.take(alloc) {
@@ -137,7 +134,7 @@ pub extern "C" fn zmg_node_receive(
 #[unsafe(no_mangle)]
 pub extern "C" fn zmg_node_quit(alloc: Global, node: &mut NodeHandle) -> u32
     ensures { Calls (node_of node.old) (node_of node.new)
-        (λ n k. (quit : Bool) × (result ≡ bit quit) × Steps n k (λ rules me m. on_quit m) (λ answer. quit ≡ answer))
+        (λ n k. (quit : Bool) × (result ≡ bit quit) × Quits n k quit)
         (result ≡ 0) }
 {
     match node.take(alloc) {
@@ -176,7 +173,7 @@ pub extern "C" fn zmg_node_run(
     ensures { Calls (node_of node.old) (node_of node.new)
         (λ n k. (ran : Answer) × (moves : Option (List (Option Step)))
         × (result ≡ ran_told ran) × (row.new ≡ row_told_over row.old moves)
-        × RunsBy marks.now n k (λ rules m. on_run rules m) (λ answer told. (ran ≡ answer) × (moves ≡ told)))
+        × Runs marks.now n k ran moves)
         ((result ≡ ran_told Ran.NotPlaying) × (row.new ≡ row.old)) }
 {
     match node.take(alloc) {

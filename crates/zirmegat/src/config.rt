@@ -9,8 +9,8 @@ ghost use Rattle.zirmegat.specs.Opening.{IsChosen, config_of, settings_code, fau
 use dn_lockstep::{Config, NodeFault};
 use dn_setup::{Settings, SettingsFault};
 
-/// The key player's choice of game: skill 0 to 4, deathmatch 0 to 2, episode 1 to 3, map 1 to 32, and two flags,
-/// which are 0 or not.
+/// The key player's choice of game: skill 0 to 4, deathmatch 0 to 2, episode 1 to 3, map 1 to 32, and two
+/// flags, which are 0 or not.
 #[repr(C)]
 #[derive(Clone, Copy, Debug, PartialEq, Eq)]
 pub struct GameSettings {

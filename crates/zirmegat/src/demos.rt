@@ -40,11 +40,12 @@ pub extern "C" fn zmg_demo_free(alloc: Global, demo: &mut DemoHandle)
     drop(held);
 }
 
-/// Takes the next piece of a demo's bytes: 0, 5 where there is no memory for it, 8 where the demo was read, 9
-/// for no reader.
+/// Takes the next piece of a demo's bytes: 0, 5 where there is no memory for it, 8 where the demo was
+/// read, 9 for no reader.
 #[unsafe(no_mangle)]
 pub extern "C" fn zmg_demo_push(alloc: Global, demo: &mut DemoHandle, bytes: &[u8]) -> u32
-    ensures { Calls (demo_of demo.old) (demo_of demo.new) (λ r s. IsPushed bytes.now r s result) (result ≡ 9) }
+    ensures { Calls (demo_of demo.old) (demo_of demo.new)
+        (λ r s. IsPushed bytes.now r s result) (result ≡ 9) }
 {
     match demo.take(alloc) {
         Some(mut held) => {
@@ -56,8 +57,8 @@ pub extern "C" fn zmg_demo_push(alloc: Global, demo: &mut DemoHandle, bytes: &[u
     }
 }
 
-/// Reads the bytes that came: 0, or why they are no demo, after which the reader has no bytes: 1 fewer than 13 bytes,
-/// 2 another version than 109 and 111, 3 no players, 4 no marker; 9 for no reader.
+/// Reads the bytes that came: 0, or why they are no demo, after which the reader has no bytes: 1 fewer
+/// than 13 bytes, 2 another version than 109 and 111, 3 no players, 4 no marker; 9 for no reader.
 #[unsafe(no_mangle)]
 pub extern "C" fn zmg_demo_read(alloc: Global, demo: &mut DemoHandle) -> u32
     ensures { Calls (demo_of demo.old) (demo_of demo.new) (λ r s. IsReadOut r s result) (result ≡ 9) }
@@ -87,7 +88,8 @@ pub extern "C" fn zmg_demo_tell(alloc: Global, demo: &mut DemoHandle) -> DemoAns
     }
 }
 
-/// Tells the moves of a tic, counted from 0: 1, or 0 where the demo has no such tic, which leaves `row` as it was.
+/// Tells the moves of a tic, counted from 0: 1, or 0 where the demo has no such tic, which leaves `row`
+/// as it was.
 #[unsafe(no_mangle)]
 pub extern "C" fn zmg_demo_row(
     alloc: Global,

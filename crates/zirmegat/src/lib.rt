@@ -1,8 +1,9 @@
-//! Zirmegat for callers in C: one player's node of a game in lockstep whose world is the caller's own, and what
-//! needs no node: datagrams as fields, and demos.
+//! Zirmegat for callers in C: one player's node of a game in lockstep whose world is the caller's own, and
+//! what needs no node: datagrams as fields, and demos.
 //!
-//! The header is bindings/c/zirmegat.h. Every number is tested here, and a handle that holds nothing answers as a node
-//! that does not play. A caller owes valid pointers, one use of a handle at a time, and the marks of its own world.
+//! The header is bindings/c/zirmegat.h. Every number is tested here, and a handle that holds nothing
+//! answers as a node that does not play. A caller owes valid pointers, one use of a handle at a time, and
+//! the marks of its own world.
 #![tactic(auto)]
 
 mod answers;

@@ -142,11 +142,12 @@ fn commands(fields: &[CommandFields]) -> ArrayVec<TicCmd, 12>
     found
 }
 
-/// Reads a datagram into fields: 0, or why the bytes are no packet, which leaves the fields as they were: 1 fewer
-/// than 8 bytes, 2 more than 12 commands, 3 a wrong length, 4 a wrong sum.
+/// Reads a datagram into fields: 0, or why the bytes are no packet, which leaves the fields as they were: 1
+/// fewer than 8 bytes, 2 more than 12 commands, 3 a wrong length, 4 a wrong sum.
 #[unsafe(no_mangle)]
 pub extern "C" fn zmg_packet_decode(bytes: &[u8], packet: &mut PacketFields) -> u32
-    ensures { (read : Result Sent Fault) → IsReadAs bytes.now read → IsDecodedAs read result packet.old packet.new }
+    ensures { (read : Result Sent Fault) → IsReadAs bytes.now read
+        → IsDecodedAs read result packet.old packet.new }
 {
     match decode(bytes) {
         Ok(read) => {
@@ -160,16 +161,18 @@ pub extern "C" fn zmg_packet_decode(bytes: &[u8], packet: &mut PacketFields) -> 
     }
 }
 
-/// Writes the datagram of these fields, with the first `count` commands, and answers how many bytes it has. Where
-/// the flags are not below 16, there are more than 12 commands, or there is too little room, it writes nothing and
-/// answers 0.
+/// Writes the datagram of these fields, with the first `count` commands, and answers how many bytes it has.
+/// Where the flags are not below 16, there are more than 12 commands, or there is too little room, it writes
+/// nothing and answers 0.
 #[unsafe(no_mangle)]
 pub extern "C" fn zmg_packet_encode(packet: &PacketFields, out: &mut [u8]) -> usize
-    ensures written { packet.now.flags < 16 → packet.now.count ≤ 12 → length (text (packet_in packet.now)) ≤ length out.old
+    ensures written { packet.now.flags < 16 → packet.now.count ≤ 12
+        → length (text (packet_in packet.now)) ≤ length out.old
         → IsWritten (text (packet_in packet.now)) out.old out.new result }
     ensures flags { 16 ≤ packet.now.flags → (result ≡ 0) × (out.new ≡ out.old) }
     ensures many { 12 < packet.now.count → (result ≡ 0) × (out.new ≡ out.old) }
-    ensures no_room { length out.old < length (text (packet_in packet.now)) → (result ≡ 0) × (out.new ≡ out.old) }
+    ensures no_room { length out.old < length (text (packet_in packet.now))
+        → (result ≡ 0) × (out.new ≡ out.old) }
 {
     if packet.flags >= 16 || packet.count > 12 {
         return 0;

@@ -47,7 +47,8 @@ pub extern "C" fn zmg_node_players(alloc: Global, node: &mut NodeHandle) -> u32
 /// Where it stands.
 #[unsafe(no_mangle)]
 pub extern "C" fn zmg_node_phase(alloc: Global, node: &mut NodeHandle) -> PhaseAnswer
-    ensures { Reads (node_of node.old) (node_of node.new) (λ n. result ≡ phase_told n.phase) (result ≡ phase_at 0 0 (pos 0) (pos 0) 0) }
+    ensures { Reads (node_of node.old) (node_of node.new)
+        (λ n. result ≡ phase_told n.phase) (result ≡ phase_at 0 0 (pos 0) (pos 0) 0) }
 {
     match node.take(alloc) {
         Some(held) => {
@@ -106,7 +107,8 @@ pub extern "C" fn zmg_node_got(alloc: Global, node: &mut NodeHandle, player: u8)
     }
 }
 
-/// The tic after a player's last command, where the node knows it. From that tic on no tic has a move of the player.
+/// The tic after a player's last command, where the node knows it. From that tic on no tic has a move of the
+/// player.
 #[unsafe(no_mangle)]
 pub extern "C" fn zmg_node_end(alloc: Global, node: &mut NodeHandle, player: u8) -> Number
     ensures { Reads (node_of node.old) (node_of node.new)
@@ -126,7 +128,8 @@ pub extern "C" fn zmg_node_end(alloc: Global, node: &mut NodeHandle, player: u8)
 /// The choice of game, from the start on; player 0 knows it from the beginning.
 #[unsafe(no_mangle)]
 pub extern "C" fn zmg_node_settings(alloc: Global, node: &mut NodeHandle) -> SettingsAnswer
-    ensures { Reads (node_of node.old) (node_of node.new) (λ n. result ≡ settings_told n.settings) (result ≡ settings_told None) }
+    ensures { Reads (node_of node.old) (node_of node.new)
+        (λ n. result ≡ settings_told n.settings) (result ≡ settings_told None) }
 {
     match node.take(alloc) {
         Some(held) => {

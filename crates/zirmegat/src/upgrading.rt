@@ -46,8 +46,8 @@ fn limit_of(room: usize) -> Option<u32>
     }
 }
 
-/// Writes the demo that these bytes are anew as version 111, where its upgrade fits into the room: its start, view,
-/// players and whole tics. The room is 1,024 to 16,777,216 bytes.
+/// Writes the demo that these bytes are anew as version 111, where its upgrade fits into the room: its start,
+/// view, players and whole tics. The room is 1,024 to 16,777,216 bytes.
 #[unsafe(no_mangle)]
 pub extern "C" fn zmg_demo_upgrade(alloc: Global, bytes: &[u8], out: &mut [u8]) -> UpgradeAnswer
     ensures { Upgrades bytes.now (length out.old) out.old out.new result }
