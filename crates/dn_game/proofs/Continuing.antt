@@ -1,5 +1,5 @@
 -- A game goes on as the machine's game that it represents.
-use Rattle.std.proofs.Common.{◌≡◌, ◌<◌, ◌≤◌, ◌+◌, ℕ, List, length, refl, ap, sym, ◌∙◌, inl, inr, arith}
+use Rattle.std.proofs.Common.{◌≡◌, ◌<◌, ◌≤◌, ◌+◌, ◌++◌, ℕ, List, length, refl, ap, sym, ◌∙◌, inl, inr, arith}
 use Rattle.std.specs.Prelude.{slice_get, Some}
 use Rattle.std.proofs.lemmas.Option.{slice_get_cases, slice_get_within}
 use Rattle.dn_setup.specs.Settings.{Settings}
@@ -25,7 +25,7 @@ use Rattle.dn_game.specs.Told.{HasNode}
 use Rattle.dn_game.specs.declared.played.Played.{Played}
 use Rattle.dn_game.proofs.Agreeing.{started, inside, end_is}
 use Rattle.dn_game.proofs.Answering.{plays_leads}
-use Rattle.dn_game.proofs.Promising.{promised}
+use Rattle.dn_game.proofs.Promising.{promised, reached_promised}
 
 module _ {W S : Type 0} (state : W → S) (rules : Rules S) (settings : Settings) where
   -- each number below the players has its node
@@ -100,14 +100,19 @@ module _ {W S : Type 0} (state : W → S) (rules : Rules S) (settings : Settings
       let e = p.events_played in
       let run = plays_leads rules events e.answers (opening_game settings) e.last e.plays in
       let led = led_rounds rules (λ round. keys) rounds e.last in
+      let reached : IsReached state rules settings (events ++ led.0) (contents played.game) =
+      record {
+        last = good_rounds rules (λ round. keys) rounds e.last;
+        run = leads_more rules events led.0 (opening_game settings) e.last (good_rounds rules (λ round. keys) rounds e.last) run led.1;
+        game = p.calmed.game;
+      } in
+      let after = reached_promised state rules settings (events ++ led.0) (contents played.game) reached in
       record {
         on = p;
         promised = promised state rules settings events e.answers e.last (contents p.before.game) e.plays e.game;
         goes_on = continues events _ _ (record { last = e.last; run = run; game = e.game }) several (λ round. keys) rounds p.calmed.game;
         more = led.0;
-        reached = record {
-          last = good_rounds rules (λ round. keys) rounds e.last;
-          run = leads_more rules events led.0 (opening_game settings) e.last (good_rounds rules (λ round. keys) rounds e.last) run led.1;
-          game = p.calmed.game;
-        };
+        answers = after.0;
+        last = reached.last;
+        after = after.1;
       }

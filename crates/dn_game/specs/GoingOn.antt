@@ -1,7 +1,9 @@
 -- A game that goes on once its packets arrive.
-use Rattle.std.specs.Prelude.{◌≡◌, ◌<◌, ◌≤◌, ◌⊎◌, ◌+◌, ◌*◌, ◌++◌, ℕ, true, false, List, length, slice_index_or, Some}
+use Rattle.std.specs.Prelude.{◌≡◌, ◌<◌, ◌≤◌, ◌⊎◌, ◌+◌, ◌*◌, ◌++◌, ℕ, true, false, List, length, slice_index_or, Some, Result}
 use Rattle.dn_setup.specs.Settings.{Settings}
+use Rattle.dn_machine.specs.declared.events.Done.{Done}
 use Rattle.dn_machine.specs.declared.events.Event.{Event}
+use Rattle.dn_machine.specs.declared.events.Refusal.{Refusal}
 use Rattle.dn_machine.specs.Game as machine
 use Rattle.dn_machine.specs.Node.{is_ended}
 use Rattle.dn_machine.specs.Progress.{good_rounds}
@@ -12,7 +14,7 @@ use Rattle.dn_node.specs.Contents.{end_in}
 use Rattle.dn_game.specs.declared.played.Played.{Played}
 use Rattle.dn_game.specs.Contents.{Contents, contents}
 use Rattle.dn_game.specs.Played.{IsPlayed}
-use Rattle.dn_game.specs.Promised.{IsReached, IsPromised}
+use Rattle.dn_game.specs.Promised.{IsPromised}
 use Rattle.dn_game.specs.Represents.{Represents}
 use Rattle.dn_game.specs.Told.{HasNode, HasStarted}
 
@@ -53,11 +55,13 @@ pub record IsPlayedOn {W S : Type 0} (state : W → S) (rules : Rules S) (settin
   pub events_played : IsPlayed state rules settings events before
   pub calmed : IsCalmed state rules keys rounds events_played.last before played
 
--- the game before the rounds is promised, and the rounds went on; they are events too, so the game after them is one that
--- such a list may leave
+-- the game before the rounds is promised, the rounds went on, and the game after them is promised too, since they are
+-- events like any other
 pub record HasPlayedOn {W S : Type 0} (state : W → S) (rules : Rules S) (settings : Settings) (events : List Event) (keys : ℕ → ℕ) (rounds : ℕ) (played : Played W) : Type 0 where
   pub on : IsPlayedOn state rules settings events keys rounds played
   pub promised : IsPromised state rules settings events on.events_played.answers on.events_played.last (contents on.before.game)
   pub goes_on : GoesOn rules.capacity rounds (contents on.before.game) (contents played.game)
   pub more : List Event
-  pub reached : IsReached state rules settings (events ++ more) (contents played.game)
+  pub answers : List (Result Done Refusal)
+  pub last : machine.Game
+  pub after : IsPromised state rules settings (events ++ more) answers last (contents played.game)

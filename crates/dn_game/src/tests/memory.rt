@@ -47,8 +47,10 @@ fn want_of_memory_is_told(rt: HostRuntime) -> Result<(), Fail> {
         }
     }
     if let Ok(worlds) = walks(rt.alloc(), 2) {
-        let storm = storm(rt.alloc(), config(1_024)?, worlds, 1, 500);
-        assert!(rt; storm.is_ok() || storm.err() == Some(GameFault::Memory));
+        match storm(rt.alloc(), config(1_024)?, worlds, 1, 500) {
+            Ok(played) => assert_eq!(rt; played.done.checked_add(played.refused), Some(500)),
+            Err(fault) => assert_eq!(rt; fault, GameFault::Memory),
+        }
     }
     Ok(())
 }
@@ -63,6 +65,7 @@ fn play_goes_on_without_a_packet(rt: HostRuntime) -> Result<(), Fail> {
     match play(rt.alloc(), config(1_024)?, worlds, &events) {
         Ok(played) => {
             assert!(rt; played.refused <= 1);
+            assert_eq!(rt; played.done.checked_add(played.refused), Some(4));
             assert_eq!(rt; played.game.flights(), 2 - played.refused);
             let left = played.game.node(1).map(|node| node.phase());
             assert_eq!(rt; left, Some(Phase::Ended(Cause::Quit)));
