@@ -164,6 +164,9 @@ fn two_players_agree_and_their_demos_are_read() {
     assert_eq!(upgrade(&one, 1 << 20), Ok(one.clone()));
     assert_eq!(upgrade(&one, 1024), Err(UpgradeError::TooLong));
     assert_eq!(upgrade(&one, 1023), Err(UpgradeError::Limit));
+    assert_eq!(upgrade(&one, 1 << 24), Ok(one.clone()));
+    assert_eq!(upgrade(&one, (1 << 24) + 1), Err(UpgradeError::Limit));
+    assert_eq!(upgrade(&one, usize::MAX), Err(UpgradeError::Limit));
     assert_eq!(
         upgrade(&one[..12], 1024),
         Err(UpgradeError::Demo(DemoError::Short))
@@ -261,12 +264,4 @@ fn packets_are_read_and_written() {
         .encode(),
         None
     );
-}
-
-#[test]
-fn nodes_may_go_to_other_threads() {
-    let (key, mut other) = pair();
-    let mut key = std::thread::spawn(move || key).join().unwrap();
-    tic(&mut key, &mut other, 1);
-    assert_eq!(key.ran(), 1);
 }
