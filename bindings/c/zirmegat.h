@@ -43,6 +43,12 @@
 extern "C" {
 #endif
 
+/* The version of this header: 65,536 times the first number, and the second. The first changes only where a
+ * program that was written for another would no longer do. */
+#define ZMG_VERSION 65536u
+/* The version of the library that is linked. */
+uint32_t zmg_version(void);
+
 /* ---- A node ------------------------------------------------------------------------------------------- */
 
 /* A node, or none. The fields are the library's own. ZMG_NODE_NONE is an initialiser, for a handle that

@@ -7,6 +7,7 @@ use std::fmt;
 
 /// Why bytes are no demo.
 #[derive(Clone, Copy, Debug, PartialEq, Eq)]
+#[non_exhaustive]
 pub enum DemoError {
     /// Fewer than 13 bytes.
     Short,
@@ -36,6 +37,7 @@ impl Error for DemoError {}
 
 /// Why a demo is not upgraded.
 #[derive(Clone, Copy, Debug, PartialEq, Eq)]
+#[non_exhaustive]
 pub enum UpgradeError {
     /// The bytes are no demo.
     Demo(DemoError),

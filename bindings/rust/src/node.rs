@@ -7,6 +7,7 @@ use std::fmt;
 
 /// Why there is no node. Player 0's settings are looked at first.
 #[derive(Clone, Copy, Debug, PartialEq, Eq)]
+#[non_exhaustive]
 pub enum NodeError {
     /// Not 2 to 4 players.
     Players,
