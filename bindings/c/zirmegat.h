@@ -19,9 +19,11 @@
  *     call writes overlaps nothing else that it is given.
  *   - A handle (zmg_node, zmg_demo) is ZMG_NODE_NONE or ZMG_DEMO_NONE at first, and then as the library
  *     left it. It may be moved in memory. Of copies of it only one is used.
- *   - One call at a time uses a handle, and none is made from a signal handler. Different handles may be
- *     used by different threads.
- *   - malloc, realloc and free are those of one allocator, and align as the C standard says.
+ *   - A handle stays on the thread that made it: whatever zmg_node_new or zmg_demo_new put into it is used
+ *     and freed by that thread alone. Each thread may have handles of its own.
+ *   - No call is made from a signal handler, or from the forked child of a process with threads.
+ *   - malloc, realloc and free come from one allocator. malloc and realloc align a block to each power of
+ *     two up to 16 that divides its size, as to 8 for 24 bytes.
  *   - The marks that zmg_node_run is given are of the caller's own world: one that began with the start of
  *     zmg_node_settings and the players 0 to zmg_node_players - 1 when zmg_node_receive answered
  *     ZMG_STARTED, was stepped by every row that zmg_node_run told and by nothing else, and has marks that
@@ -41,9 +43,17 @@
 extern "C" {
 #endif
 
+/* The version of this header: 65,536 times the first number, and the second. The first changes only where a
+ * program that was written for another would no longer do. */
+#define ZMG_VERSION 65536u
+/* The version of the library that is linked. */
+uint32_t zmg_version(void);
+
 /* ---- A node ------------------------------------------------------------------------------------------- */
 
-/* A node, or none. The fields are the library's own. */
+/* A node, or none. The fields are the library's own. ZMG_NODE_NONE is an initialiser, for a handle that
+ * holds nothing yet. To overwrite a handle that holds a node, with it or with another handle, leaks the node's
+ * memory. zmg_node_free empties a handle. */
 typedef struct zmg_node {
     uint8_t live;
     void *at;
@@ -116,9 +126,9 @@ zmg_made zmg_node_build(zmg_node *node, uint32_t keys);
 /* How many bytes of room a packet needs at most. */
 #define ZMG_PACKET_SIZE 104u
 
-/* Writes the next packet to player `to` to the front of out, and answers how many bytes it has; 0 where
- * there is none, and where room is below ZMG_PACKET_SIZE, which leaves the node as it is. Each call is
- * taken as sent. */
+/* Writes the next packet to player `to` to the front of out, and answers how many bytes it has. Each packet
+ * is taken as sent. 0, with the node as it was, where there is none, and where room is below
+ * ZMG_PACKET_SIZE. */
 size_t zmg_node_packet(zmg_node *node, uint8_t to, uint8_t *out, size_t room);
 
 /* A number where known is 1; where there is none both are 0. */
@@ -127,8 +137,8 @@ typedef struct zmg_number {
 } zmg_number;
 
 /* The whole numbers of a packet, of which it carries the low bytes. known: 1, or 0 where there is no
- * packet, and then all is 0. ask: the tic from which commands are asked for again. start: the tic of the
- * first command. count: how many commands. flags: as in zmg_packet. */
+ * packet, and then all is 0. ask: the tic from which commands are asked for again, at most 5 before start.
+ * start: the tic of the first command. count: how many commands. flags: as in zmg_packet. */
 typedef struct zmg_aim {
     uint32_t known;
     zmg_number ask;
@@ -136,47 +146,51 @@ typedef struct zmg_aim {
     uint8_t flags, count;
 } zmg_aim;
 
-/* What zmg_node_packet would give to player `to` now. A transport may send start along, so that its
- * receiver can tell old datagrams. */
+/* What zmg_node_packet would give to player `to` now; to be called before it, since that call moves on. A
+ * transport may send start along, so that its receiver can tell old datagrams: see zmg_node_receive. */
 zmg_aim zmg_node_aim(zmg_node *node, uint8_t to);
 
 /* code: what came of a datagram. number: how many commands were new (ZMG_TAKEN), why it was dropped
  * (ZMG_DROPPED), and else 0. */
 #define ZMG_STARTED 0u /* the game starts: begin your world */
-#define ZMG_TAKEN 1u
+#define ZMG_TAKEN 1u   /* commands were new, and are kept */
 #define ZMG_STALE 2u /* no command was new */
 #define ZMG_GAP 3u   /* commands before it are missing, and are asked for */
 #define ZMG_LEFT 4u  /* the sender has left, and its last command is known: see zmg_node_end */
-#define ZMG_NOTED 5u /* player 0 waits for others yet; or this node has ended */
+#define ZMG_NOTED 5u /* at ZMG_GATHERING: the sender was heard, others not yet; else this node has ended */
 #define ZMG_DROPPED 6u
 typedef struct zmg_heard {
     uint32_t code, number;
 } zmg_heard;
 
 /* Why a datagram was dropped. It changed nothing. */
-#define ZMG_DROP_SHORT 1u
-#define ZMG_DROP_MANY 2u
-#define ZMG_DROP_LENGTH 3u
-#define ZMG_DROP_SUM 4u
+#define ZMG_DROP_SHORT 1u        /* fewer than 8 bytes */
+#define ZMG_DROP_MANY 2u         /* it announces more than twelve commands */
+#define ZMG_DROP_LENGTH 3u       /* its length is not that of the commands it announces */
+#define ZMG_DROP_SUM 4u          /* its sum is wrong */
 #define ZMG_DROP_STRANGER 5u     /* not from another player of the game */
 #define ZMG_DROP_OUT_OF_PLACE 6u /* settings, not from player 0 or once the game runs */
 #define ZMG_DROP_VERSION 7u      /* the sender plays another version */
 #define ZMG_DROP_SETTINGS 8u     /* settings out of range */
-#define ZMG_DROP_KILL 9u
+#define ZMG_DROP_KILL 9u         /* a KILL packet, which no node obeys */
 #define ZMG_DROP_BEFORE 10u      /* a tic below 0 */
 #define ZMG_DROP_STOP 11u        /* a command that would end a demo */
 #define ZMG_DROP_OVERRUN 12u     /* more than twelve tics ahead */
-#define ZMG_DROP_NOT_PLAYING 13u
+#define ZMG_DROP_NOT_PLAYING 13u /* the game has not started here, or this node has ended */
 #define ZMG_DROP_END 14u         /* contradicts the sender's end */
 
-/* Hears a datagram of player `from`. Who sent it is for the transport to know. It hands in no datagram that
- * was sent more than 64 tics before or after the tic that this node builds: packets carry only low bytes of
- * tics. */
+/* Hears a datagram of player `from`. Who sent it is for the transport to know. A packet carries only low
+ * bytes of tics, so the transport hands in none whose start or ask lies more than 64 tics from
+ * zmg_node_made. Where it sends zmg_aim.start along, it drops at receipt what has a start more than 59 away,
+ * since ask lies at most 5 before start. Where it goes by age, it drops what is older than 47 tics (1.3
+ * seconds at 35 builds a second): a new packet may already lie 17 tics away. A set-up packet may come at any
+ * time. */
 zmg_heard zmg_node_receive(zmg_node *node, uint8_t from, const uint8_t *bytes, size_t length);
 
 /* A player's move in one tic, where present is 1; else all 0. forward and side in units of 2048 in a world
- * of 16 fractional bits, side to the right; turn to the left in 65,536ths of a full turn; buttons as in
- * Doom. */
+ * of 16 fractional bits, side to the right; turn to the left in 65,536ths of a full turn. buttons: bit 0
+ * attack, bit 1 use, bit 2 a change to the weapon in bits 3 to 5, which is that of ZMG_KEY_WEAPON less 1;
+ * other players' commands may set any bits. */
 typedef struct zmg_move {
     int16_t turn;
     int8_t forward, side;
@@ -186,7 +200,7 @@ typedef struct zmg_move {
 /* code: ZMG_RAN where `tic` was run; ZMG_WAITING where the command of `player` is missing; ZMG_DEMO_FULL
  * and ZMG_INCONSISTENT, where the node has ended; ZMG_RAN_NOT_PLAYING. At ZMG_INCONSISTENT the mark of
  * `player` for the next tic was `was` in place of `should`: the worlds differ since twelve tics before, or
- * earlier. */
+ * earlier. Fields that are not named for a code are 0. */
 #define ZMG_RAN 0u
 #define ZMG_WAITING 1u
 #define ZMG_DEMO_FULL 2u
@@ -214,8 +228,8 @@ uint32_t zmg_node_quit(zmg_node *node);
 #define ZMG_PLAYING 3u
 #define ZMG_ENDED 4u
 #define ZMG_CAUSE_NONE 0u
-#define ZMG_CAUSE_QUIT 1u
-#define ZMG_CAUSE_FULL 2u
+#define ZMG_CAUSE_QUIT 1u         /* zmg_node_quit */
+#define ZMG_CAUSE_FULL 2u         /* the demo had no room for the next tic, or the most tics were run */
 #define ZMG_CAUSE_INCONSISTENT 3u /* player, was and should as in zmg_ran; 0 at other causes */
 typedef struct zmg_phase {
     uint32_t code, cause;
@@ -252,13 +266,14 @@ size_t zmg_node_demo(zmg_node *node, size_t from, uint8_t *out, size_t room);
 
 /* ---- Datagrams, with no node --------------------------------------------------------------------------- */
 
-#define ZMG_FLAG_KILL 1u
-#define ZMG_FLAG_SETUP 2u
-#define ZMG_FLAG_RETRANSMIT 4u
-#define ZMG_FLAG_EXIT 8u
+#define ZMG_FLAG_KILL 1u       /* ends a game; no node sends or obeys it */
+#define ZMG_FLAG_SETUP 2u      /* player 0's settings */
+#define ZMG_FLAG_RETRANSMIT 4u /* commands from ask on are wanted again */
+#define ZMG_FLAG_EXIT 8u       /* the sender has left, and its commands end with these */
 #define ZMG_MOST_COMMANDS 12
 
-/* A tic command. mark: the consistency mark of the player's own world twelve tics before. */
+/* A tic command. The move as in zmg_move. mark: the consistency mark of the player's own world twelve tics
+ * before. chat: carried, and not read. */
 typedef struct zmg_command {
     int16_t turn, mark;
     int8_t forward, side;
@@ -280,7 +295,8 @@ size_t zmg_packet_encode(const zmg_packet *packet, uint8_t *out, size_t room);
 
 /* ---- Demos, with no node ------------------------------------------------------------------------------- */
 
-/* A reader of a demo, or none. The fields are the library's own. */
+/* A reader of a demo, or none. The fields are the library's own. ZMG_DEMO_NONE is an initialiser, like
+ * ZMG_NODE_NONE, and to overwrite a handle that holds a reader leaks its memory. */
 typedef struct zmg_demo {
     uint8_t live;
     void *at;
@@ -338,7 +354,10 @@ typedef struct zmg_upgraded {
 } zmg_upgraded;
 
 /* Writes a demo anew as version 111 to the front of out: the same start, view, players and whole tics. It
- * takes as much memory as out and the demo have bytes, and gives it back. */
+ * takes as much memory as out and the demo have bytes, and gives it back. What it refuses first: bytes that
+ * are no demo (ZMG_DEMO_SHORT to ZMG_DEMO_NO_MARKER), no memory for their copy (ZMG_DEMO_NO_MEMORY), the
+ * room (ZMG_DEMO_LIMIT), more bytes than there is room for (ZMG_DEMO_TOO_LONG), no memory for them
+ * (ZMG_DEMO_NO_MEMORY). */
 zmg_upgraded zmg_demo_upgrade(const uint8_t *bytes, size_t length, uint8_t *out, size_t room);
 
 #ifdef __cplusplus

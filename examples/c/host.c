@@ -16,7 +16,7 @@
 #include <time.h>
 #include <unistd.h>
 
-enum { PLAYERS = 2, DEMO = 131072, SECONDS = 60, SILENCE = 3, FAREWELLS = 20 };
+enum { PLAYERS = 2, DEMO = 131072, SECONDS = 60, SILENCE = 3, FAREWELLS = 20, POLLS = 32 };
 
 typedef struct engine {
     zmg_node node;
@@ -54,12 +54,13 @@ static void give(engine *e) {
     }
 }
 
+/* At most POLLS datagrams, so that a peer who sends faster than this reads holds up no turn. */
 static void hear(engine *e) {
     uint8_t bytes[256];
     struct sockaddr_in at;
     socklen_t size = sizeof at;
     ssize_t length;
-    for (;;) {
+    for (int k = 0; k < POLLS; k++) {
         length = recvfrom(e->line, bytes, sizeof bytes, MSG_DONTWAIT, (struct sockaddr *)&at, &size);
         if (length < 0) return;
         unsigned from = (unsigned)ntohs(at.sin_port) - e->base;

@@ -128,6 +128,7 @@ static void read_demos(void) {
 static void read_node(zmg_node *node) {
     count(14, zmg_node_phase(node).code);
     count(15, zmg_node_me(node) + zmg_node_players(node));
+    count(23, zmg_version());
     zmg_node_made(node);
     zmg_node_ran(node);
     count(16, zmg_node_got(node, (uint8_t)below(6)).known);

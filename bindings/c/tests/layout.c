@@ -34,6 +34,82 @@ static void sizes(void) {
     IS(sizeof(zmg_upgraded), 2 * sizeof(size_t));
 }
 
+/* Where each field stands; bindings/rust/src/tests.rs has the same table. */
+static void offsets(void) {
+    IS(offsetof(zmg_node, live), 0);
+    IS(offsetof(zmg_node, at), sizeof(size_t));
+    IS(offsetof(zmg_demo, live), 0);
+    IS(offsetof(zmg_demo, at), sizeof(size_t));
+    IS(offsetof(zmg_settings, skill), 0);
+    IS(offsetof(zmg_settings, deathmatch), 1);
+    IS(offsetof(zmg_settings, no_monsters), 2);
+    IS(offsetof(zmg_settings, respawn), 3);
+    IS(offsetof(zmg_settings, episode), 4);
+    IS(offsetof(zmg_settings, map), 5);
+    IS(offsetof(zmg_config, limit), 0);
+    IS(offsetof(zmg_config, players), 4);
+    IS(offsetof(zmg_config, me), 5);
+    IS(offsetof(zmg_config, extra), 6);
+    IS(offsetof(zmg_config, settings), 7);
+    IS(offsetof(zmg_made, code), 0);
+    IS(offsetof(zmg_made, tic), 4);
+    IS(offsetof(zmg_heard, code), 0);
+    IS(offsetof(zmg_heard, number), 4);
+    IS(offsetof(zmg_number, known), 0);
+    IS(offsetof(zmg_number, value), 4);
+    IS(offsetof(zmg_aim, known), 0);
+    IS(offsetof(zmg_aim, ask), 4);
+    IS(offsetof(zmg_aim, start), 12);
+    IS(offsetof(zmg_aim, flags), 16);
+    IS(offsetof(zmg_aim, count), 17);
+    IS(offsetof(zmg_move, turn), 0);
+    IS(offsetof(zmg_move, forward), 2);
+    IS(offsetof(zmg_move, side), 3);
+    IS(offsetof(zmg_move, buttons), 4);
+    IS(offsetof(zmg_move, present), 5);
+    IS(offsetof(zmg_ran, code), 0);
+    IS(offsetof(zmg_ran, tic), 4);
+    IS(offsetof(zmg_ran, was), 8);
+    IS(offsetof(zmg_ran, should), 10);
+    IS(offsetof(zmg_ran, player), 12);
+    IS(offsetof(zmg_phase, code), 0);
+    IS(offsetof(zmg_phase, cause), 4);
+    IS(offsetof(zmg_phase, was), 8);
+    IS(offsetof(zmg_phase, should), 10);
+    IS(offsetof(zmg_phase, player), 12);
+    IS(offsetof(zmg_known_settings, known), 0);
+    IS(offsetof(zmg_known_settings, settings), 4);
+    IS(offsetof(zmg_command, turn), 0);
+    IS(offsetof(zmg_command, mark), 2);
+    IS(offsetof(zmg_command, forward), 4);
+    IS(offsetof(zmg_command, side), 5);
+    IS(offsetof(zmg_command, chat), 6);
+    IS(offsetof(zmg_command, buttons), 7);
+    IS(offsetof(zmg_packet, flags), 0);
+    IS(offsetof(zmg_packet, ask), 1);
+    IS(offsetof(zmg_packet, start), 2);
+    IS(offsetof(zmg_packet, player), 3);
+    IS(offsetof(zmg_packet, count), 4);
+    IS(offsetof(zmg_packet, commands), 6);
+    IS(offsetof(zmg_start, skill), 0);
+    IS(offsetof(zmg_start, episode), 1);
+    IS(offsetof(zmg_start, map), 2);
+    IS(offsetof(zmg_start, deathmatch), 3);
+    IS(offsetof(zmg_start, respawn), 4);
+    IS(offsetof(zmg_start, fast), 5);
+    IS(offsetof(zmg_start, no_monsters), 6);
+    IS(offsetof(zmg_demo_told, tics), 0);
+    IS(offsetof(zmg_demo_told, cut), sizeof(size_t));
+    IS(offsetof(zmg_demo_told, after), 2 * sizeof(size_t));
+    IS(offsetof(zmg_demo_told, known), 3 * sizeof(size_t));
+    IS(offsetof(zmg_demo_told, version), 3 * sizeof(size_t) + 4);
+    IS(offsetof(zmg_demo_told, view), 3 * sizeof(size_t) + 5);
+    IS(offsetof(zmg_demo_told, start), 3 * sizeof(size_t) + 6);
+    IS(offsetof(zmg_demo_told, present), 3 * sizeof(size_t) + 13);
+    IS(offsetof(zmg_upgraded, length), 0);
+    IS(offsetof(zmg_upgraded, code), sizeof(size_t));
+}
+
 static zmg_node key = ZMG_NODE_NONE, other = ZMG_NODE_NONE;
 static uint8_t bytes[4096];
 static const int16_t no_marks[4] = { 0, 0, 0, 0 };
@@ -462,7 +538,9 @@ static void no_memory(void) {
 }
 
 int main(void) {
+    IS(zmg_version(), ZMG_VERSION);
     sizes();
+    offsets();
     configurations();
     settings();
     moves();

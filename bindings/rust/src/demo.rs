@@ -7,6 +7,7 @@ use std::fmt;
 
 /// Why bytes are no demo.
 #[derive(Clone, Copy, Debug, PartialEq, Eq)]
+#[non_exhaustive]
 pub enum DemoError {
     /// Fewer than 13 bytes.
     Short,
@@ -36,6 +37,7 @@ impl Error for DemoError {}
 
 /// Why a demo is not upgraded.
 #[derive(Clone, Copy, Debug, PartialEq, Eq)]
+#[non_exhaustive]
 pub enum UpgradeError {
     /// The bytes are no demo.
     Demo(DemoError),
@@ -100,11 +102,8 @@ impl Reader {
     }
 }
 
-/// A demo that was read.
+/// A demo that was read. It stays on the thread that made it.
 pub struct Demo(raw::Handle);
-
-// SAFETY: the handle owns what it points to, and no call keeps anything elsewhere.
-unsafe impl Send for Demo {}
 
 impl Demo {
     /// Reads a demo of version 109 or 111.
@@ -174,9 +173,18 @@ impl fmt::Debug for Demo {
     }
 }
 
-/// Writes a demo anew as version 111, within `limit` bytes: 1,024 to 16,777,216.
+/// The most bytes that a demo may have.
+const MOST: usize = 1 << 24;
+
+/// Writes a demo anew as version 111, within `limit` bytes: 1,024 to 16,777,216. It takes memory for as many.
 pub fn upgrade(bytes: &[u8], limit: usize) -> Result<Vec<u8>, UpgradeError> {
-    let mut out = vec![0; limit];
+    // one byte more than the largest limit is refused like any larger one
+    let room = limit.min(MOST + 1);
+    let mut out = Vec::new();
+    if out.try_reserve_exact(room).is_err() {
+        return Err(UpgradeError::Demo(DemoError::Memory));
+    }
+    out.resize(room, 0);
     // SAFETY: both slices are valid for their lengths, and do not overlap.
     let made =
         unsafe { raw::zmg_demo_upgrade(bytes.as_ptr(), bytes.len(), out.as_mut_ptr(), out.len()) };

@@ -59,7 +59,8 @@
 //! ```
 //!
 //! Nothing here waits, prints or opens anything. All memory is taken by `Player::new`, but for what `demo`
-//! copies. The library under it is proved: see the repository. This crate is not; it only passes references
+//! copies. A [`Node`], [`Player`], [`Reader`] or [`Demo`] stays on the thread that made it, and none is used
+//! in the forked child of a process with threads. The library under it is proved: see the repository. This crate is not; it only passes references
 //! as pointers and numbers as enums.
 
 #![deny(missing_docs)]
@@ -78,6 +79,12 @@ pub use player::{Player, World};
 pub use values::{
     Aim, Cause, Config, Dropped, Heard, Keys, Made, Move, Phase, Ran, Settings, Start,
 };
+
+/// The version of the library that is linked: 65,536 times the first number, and the second.
+pub fn version() -> u32 {
+    // SAFETY: it asks for nothing.
+    unsafe { raw::zmg_version() }
+}
 
 #[cfg(test)]
 mod tests;

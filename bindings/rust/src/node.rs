@@ -7,6 +7,7 @@ use std::fmt;
 
 /// Why there is no node. Player 0's settings are looked at first.
 #[derive(Clone, Copy, Debug, PartialEq, Eq)]
+#[non_exhaustive]
 pub enum NodeError {
     /// Not 2 to 4 players.
     Players,
@@ -45,10 +46,15 @@ impl Error for NodeError {}
 
 /// One player's node without a world, for an engine that steps its own. [`Player`](crate::Player) keeps a
 /// world in step by itself.
+///
+/// A node stays on the thread that made it:
+///
+/// ```compile_fail
+/// # use zirmegat::{Config, Node};
+/// let node = Node::new(Config::other(2, 1)).unwrap();
+/// std::thread::spawn(move || drop(node));
+/// ```
 pub struct Node(raw::Handle);
-
-// SAFETY: the handle owns what it points to, and no call keeps anything elsewhere.
-unsafe impl Send for Node {}
 
 impl Node {
     /// A node with no history. All memory that it needs is taken here.
@@ -93,7 +99,8 @@ impl Node {
         (datagram.length > 0).then_some(datagram)
     }
 
-    /// The whole numbers of the packet that [`packet`](Node::packet) would give now.
+    /// The whole numbers of the packet that [`packet`](Node::packet) would give now: it is called before
+    /// `packet` for the same player.
     pub fn aim(&mut self, to: u8) -> Option<Aim> {
         let raw = unsafe { raw::zmg_node_aim(&mut self.0, to) };
         (raw.known != 0).then_some(Aim {
@@ -107,7 +114,7 @@ impl Node {
     /// Hears a datagram of a player. Where it answers [`Heard::Started`], the caller begins its world with
     /// the start of [`settings`](Node::settings).
     ///
-    /// The transport knows the sender, and hands in nothing that was sent more than 64 tics away.
+    /// The transport knows the sender, and drops what is old: see docs/EMBEDDING.md.
     pub fn receive(&mut self, from: u8, bytes: &[u8]) -> Heard {
         values::heard(unsafe {
             raw::zmg_node_receive(&mut self.0, from, bytes.as_ptr(), bytes.len())

@@ -47,6 +47,7 @@ pub struct Packet {
 
 /// Why bytes are no packet.
 #[derive(Clone, Copy, Debug, PartialEq, Eq)]
+#[non_exhaustive]
 pub enum PacketError {
     /// Fewer than 8 bytes.
     Short,

@@ -45,14 +45,15 @@ impl<W: World> Player<W> {
         self.node.packet(to)
     }
 
-    /// The whole numbers of the packet that [`packet`](Player::packet) would give now.
+    /// The whole numbers of the packet that [`packet`](Player::packet) would give now: it is called before
+    /// `packet` for the same player.
     pub fn aim(&mut self, to: u8) -> Option<Aim> {
         self.node.aim(to)
     }
 
     /// Hears a datagram of a player, and begins the world where the game starts.
     ///
-    /// The transport knows the sender, and hands in nothing that was sent more than 64 tics away.
+    /// The transport knows the sender, and drops what is old: see docs/EMBEDDING.md.
     pub fn receive(&mut self, from: u8, bytes: &[u8]) -> Heard {
         let heard = self.node.receive(from, bytes);
         if let (Heard::Started, Some(settings)) = (heard, self.node.settings()) {

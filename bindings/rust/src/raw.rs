@@ -146,6 +146,7 @@ pub struct Upgraded {
 
 #[link(name = "zirmegat", kind = "static")]
 extern "C" {
+    pub fn zmg_version() -> u32;
     pub fn zmg_node_new(node: *mut Handle, config: *const Config) -> u32;
     pub fn zmg_node_free(node: *mut Handle);
     pub fn zmg_node_build(node: *mut Handle, keys: u32) -> Coded;

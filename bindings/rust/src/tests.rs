@@ -1,7 +1,7 @@
 //! The whole surface over a world that sums moves.
 
 use crate::*;
-use core::mem::size_of;
+use core::mem::{offset_of, size_of};
 
 #[derive(Default, Debug, PartialEq, Clone)]
 struct Sum {
@@ -164,6 +164,9 @@ fn two_players_agree_and_their_demos_are_read() {
     assert_eq!(upgrade(&one, 1 << 20), Ok(one.clone()));
     assert_eq!(upgrade(&one, 1024), Err(UpgradeError::TooLong));
     assert_eq!(upgrade(&one, 1023), Err(UpgradeError::Limit));
+    assert_eq!(upgrade(&one, 1 << 24), Ok(one.clone()));
+    assert_eq!(upgrade(&one, (1 << 24) + 1), Err(UpgradeError::Limit));
+    assert_eq!(upgrade(&one, usize::MAX), Err(UpgradeError::Limit));
     assert_eq!(
         upgrade(&one[..12], 1024),
         Err(UpgradeError::Demo(DemoError::Short))
@@ -263,10 +266,81 @@ fn packets_are_read_and_written() {
     );
 }
 
+/// Where each field stands; bindings/c/tests/layout.c has the same table.
 #[test]
-fn nodes_may_go_to_other_threads() {
-    let (key, mut other) = pair();
-    let mut key = std::thread::spawn(move || key).join().unwrap();
-    tic(&mut key, &mut other, 1);
-    assert_eq!(key.ran(), 1);
+fn fields_stand_where_the_header_has_them() {
+    const WORD: usize = size_of::<usize>();
+    assert_eq!(offset_of!(raw::Handle, live), 0);
+    assert_eq!(offset_of!(raw::Handle, at), WORD);
+    assert_eq!(offset_of!(raw::Settings, skill), 0);
+    assert_eq!(offset_of!(raw::Settings, deathmatch), 1);
+    assert_eq!(offset_of!(raw::Settings, no_monsters), 2);
+    assert_eq!(offset_of!(raw::Settings, respawn), 3);
+    assert_eq!(offset_of!(raw::Settings, episode), 4);
+    assert_eq!(offset_of!(raw::Settings, map), 5);
+    assert_eq!(offset_of!(raw::Config, limit), 0);
+    assert_eq!(offset_of!(raw::Config, players), 4);
+    assert_eq!(offset_of!(raw::Config, me), 5);
+    assert_eq!(offset_of!(raw::Config, extra), 6);
+    assert_eq!(offset_of!(raw::Config, settings), 7);
+    assert_eq!(offset_of!(raw::Coded, code), 0);
+    assert_eq!(offset_of!(raw::Coded, number), 4);
+    assert_eq!(offset_of!(raw::Number, known), 0);
+    assert_eq!(offset_of!(raw::Number, value), 4);
+    assert_eq!(offset_of!(raw::Aim, known), 0);
+    assert_eq!(offset_of!(raw::Aim, ask), 4);
+    assert_eq!(offset_of!(raw::Aim, start), 12);
+    assert_eq!(offset_of!(raw::Aim, flags), 16);
+    assert_eq!(offset_of!(raw::Aim, count), 17);
+    assert_eq!(offset_of!(raw::Move, turn), 0);
+    assert_eq!(offset_of!(raw::Move, forward), 2);
+    assert_eq!(offset_of!(raw::Move, side), 3);
+    assert_eq!(offset_of!(raw::Move, buttons), 4);
+    assert_eq!(offset_of!(raw::Move, present), 5);
+    assert_eq!(offset_of!(raw::Ran, code), 0);
+    assert_eq!(offset_of!(raw::Ran, tic), 4);
+    assert_eq!(offset_of!(raw::Ran, was), 8);
+    assert_eq!(offset_of!(raw::Ran, should), 10);
+    assert_eq!(offset_of!(raw::Ran, player), 12);
+    assert_eq!(offset_of!(raw::Phase, code), 0);
+    assert_eq!(offset_of!(raw::Phase, cause), 4);
+    assert_eq!(offset_of!(raw::Phase, was), 8);
+    assert_eq!(offset_of!(raw::Phase, should), 10);
+    assert_eq!(offset_of!(raw::Phase, player), 12);
+    assert_eq!(offset_of!(raw::KnownSettings, known), 0);
+    assert_eq!(offset_of!(raw::KnownSettings, settings), 4);
+    assert_eq!(offset_of!(raw::Command, turn), 0);
+    assert_eq!(offset_of!(raw::Command, mark), 2);
+    assert_eq!(offset_of!(raw::Command, forward), 4);
+    assert_eq!(offset_of!(raw::Command, side), 5);
+    assert_eq!(offset_of!(raw::Command, chat), 6);
+    assert_eq!(offset_of!(raw::Command, buttons), 7);
+    assert_eq!(offset_of!(raw::Packet, flags), 0);
+    assert_eq!(offset_of!(raw::Packet, ask), 1);
+    assert_eq!(offset_of!(raw::Packet, start), 2);
+    assert_eq!(offset_of!(raw::Packet, player), 3);
+    assert_eq!(offset_of!(raw::Packet, count), 4);
+    assert_eq!(offset_of!(raw::Packet, commands), 6);
+    assert_eq!(offset_of!(raw::Start, skill), 0);
+    assert_eq!(offset_of!(raw::Start, episode), 1);
+    assert_eq!(offset_of!(raw::Start, map), 2);
+    assert_eq!(offset_of!(raw::Start, deathmatch), 3);
+    assert_eq!(offset_of!(raw::Start, respawn), 4);
+    assert_eq!(offset_of!(raw::Start, fast), 5);
+    assert_eq!(offset_of!(raw::Start, no_monsters), 6);
+    assert_eq!(offset_of!(raw::DemoTold, tics), 0);
+    assert_eq!(offset_of!(raw::DemoTold, cut), WORD);
+    assert_eq!(offset_of!(raw::DemoTold, after), 2 * WORD);
+    assert_eq!(offset_of!(raw::DemoTold, known), 3 * WORD);
+    assert_eq!(offset_of!(raw::DemoTold, version), 3 * WORD + 4);
+    assert_eq!(offset_of!(raw::DemoTold, view), 3 * WORD + 5);
+    assert_eq!(offset_of!(raw::DemoTold, start), 3 * WORD + 6);
+    assert_eq!(offset_of!(raw::DemoTold, present), 3 * WORD + 13);
+    assert_eq!(offset_of!(raw::Upgraded, length), 0);
+    assert_eq!(offset_of!(raw::Upgraded, code), WORD);
+}
+
+#[test]
+fn the_library_has_the_version_of_the_header() {
+    assert_eq!(version(), 0x1_0000);
 }

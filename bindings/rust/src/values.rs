@@ -183,6 +183,7 @@ impl Move {
 
 /// What a build answers.
 #[derive(Clone, Copy, Debug, PartialEq, Eq)]
+#[non_exhaustive]
 pub enum Made {
     /// The command of this tic was made.
     Made(u32),
@@ -194,6 +195,7 @@ pub enum Made {
 
 /// Why a datagram was dropped.
 #[derive(Clone, Copy, Debug, PartialEq, Eq)]
+#[non_exhaustive]
 pub enum Dropped {
     /// It has fewer than 8 bytes.
     Short,
@@ -227,6 +229,7 @@ pub enum Dropped {
 
 /// What came of a datagram.
 #[derive(Clone, Copy, Debug, PartialEq, Eq)]
+#[non_exhaustive]
 pub enum Heard {
     /// The game starts.
     Started,
@@ -246,6 +249,7 @@ pub enum Heard {
 
 /// What a run answers.
 #[derive(Clone, Copy, Debug, PartialEq, Eq)]
+#[non_exhaustive]
 pub enum Ran {
     /// This tic was run.
     Ran(u32),
@@ -262,6 +266,7 @@ pub enum Ran {
 
 /// Why a node ended.
 #[derive(Clone, Copy, Debug, PartialEq, Eq)]
+#[non_exhaustive]
 pub enum Cause {
     /// It quit.
     Quit,
@@ -274,6 +279,7 @@ pub enum Cause {
 
 /// Where a node stands.
 #[derive(Clone, Copy, Debug, PartialEq, Eq)]
+#[non_exhaustive]
 pub enum Phase {
     /// It waits for player 0's settings.
     Listening,

@@ -90,7 +90,8 @@ pub extern "C" fn zmg_node_packet(
 ) -> usize
     ensures given { 104 ≤ length out.old → Calls (node_of node.old) (node_of node.new)
         (λ n k. (given : Option (List ℕ)) × IsGiven given out.old out.new result
-        × Steps n k (λ rules me m. sent_to to rules me m) (λ flight. given ≡ option_map bytes_of flight))
+        × Steps n k (λ rules me m. sent_to to rules me m) (λ flight. given ≡ option_map bytes_of flight)
+        × (given ≡ None → k ≡ n))
         ((result ≡ 0) × (out.new ≡ out.old)) }
     ensures no_room { length out.old < 104 → (result ≡ 0) × (node.new ≡ node.old) × (out.new ≡ out.old) }
 {

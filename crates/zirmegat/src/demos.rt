@@ -1,6 +1,6 @@
 //! Reading demos.
 
-ghost use Rattle.std.specs.Prelude.{◌≡◌, ◌⊎◌, Some, None, is_some};
+ghost use Rattle.std.specs.Prelude.{◌≡◌, ◌≢◌, ◌⊎◌, Some, None, is_some};
 ghost use Rattle.dn_setup.specs.Starts.{bit};
 ghost use Rattle.zirmegat.specs.Answers.{row_told_over};
 ghost use Rattle.zirmegat.specs.Calls.{Calls, Reads};
@@ -61,7 +61,8 @@ pub extern "C" fn zmg_demo_push(alloc: Global, demo: &mut DemoHandle, bytes: &[u
 /// than 13 bytes, 2 another version than 109 and 111, 3 no players, 4 no marker; 9 for no reader.
 #[unsafe(no_mangle)]
 pub extern "C" fn zmg_demo_read(alloc: Global, demo: &mut DemoHandle) -> u32
-    ensures { Calls (demo_of demo.old) (demo_of demo.new) (λ r s. IsReadOut r s result) (result ≡ 9) }
+    ensures reads { Calls (demo_of demo.old) (demo_of demo.new) (λ r s. IsReadOut r s result) (result ≡ 9) }
+    ensures no_memory { result ≢ 5 }
 {
     match demo.take(alloc) {
         Some(mut held) => {

@@ -2,8 +2,8 @@
 //! what needs no node: datagrams as fields, and demos.
 //!
 //! The header is bindings/c/zirmegat.h. Every number is tested here, and a handle that holds nothing
-//! answers as a node that does not play. A caller owes valid pointers, one use of a handle at a time, and
-//! the marks of its own world.
+//! answers as a node that does not play. A caller owes valid pointers, the use of a handle on its own thread
+//! alone, and the marks of its own world.
 #![tactic(auto)]
 
 mod answers;
@@ -20,3 +20,4 @@ mod packets;
 mod reader;
 mod readers;
 mod upgrading;
+mod version;

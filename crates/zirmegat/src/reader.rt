@@ -1,6 +1,6 @@
 //! A demo that is fed in pieces, and then read.
 
-ghost use Rattle.std.specs.Prelude.{◌≡◌, Option};
+ghost use Rattle.std.specs.Prelude.{◌≡◌, ◌≢◌, Option};
 ghost use Rattle.zirmegat.specs.Demos.{Reading, reading_of, told_by, row_by, IsPushed, IsReadOut};
 
 use crate::demo_answers::{DemoAnswer, code_of};
@@ -41,7 +41,8 @@ impl DemoReader {
 
     /// Reads the bytes as a demo, or answers why they are none, and then has none.
     pub(crate) fn read(&mut self, alloc: Global) -> u32
-        ensures { IsReadOut (reading_of self.old) (reading_of self.new) result }
+        ensures reads { IsReadOut (reading_of self.old) (reading_of self.new) result }
+        ensures no_memory { result ≢ 5 }
     {
         let none = DemoReader::Feeding(Vec::new(alloc));
         match mem::replace(self, none) {
