@@ -50,8 +50,8 @@ pub fn play_on<W: World>(
     rounds: u32,
 ) -> Result<Played<W>, GameFault>
     ensures admitted { IsAdmitted config (length worlds.items) result }
-    // What is promised of `play` is so before the rounds, and no losses among the events can make the nodes
-    // wait for good. The rounds are events like any other, so `reached_games_agree` speaks of what they leave.
+    // What is promised of `play` is so before the rounds, no losses among the events can make the nodes
+    // wait for good, and after the rounds it is so too, since they are events like any other.
     ensures promised { IfOk result (λ played. HasPlayedOn W.state
         (rules_in W.physics config (length worlds.items)) config.settings events.now (keys_of keys) rounds played) }
 {
