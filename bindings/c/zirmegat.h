@@ -10,8 +10,9 @@
  *     35 times a second:
  *         zmg_node_build(&node, keys);
  *         each other player: n = zmg_node_packet(&node, player, bytes, sizeof bytes); if (n) send it
- *         each datagram: if (zmg_node_receive(&node, sender, bytes, n).code == ZMG_STARTED) begin the world
- *         while (zmg_node_run(&node, marks of the world, row).code == ZMG_RAN) step the world by row
+ *         each datagram: if (zmg_node_receive(&node, sender, bytes, n).code == ZMG_RECEIVE_STARTED)
+ *             begin the world
+ *         while (zmg_node_run(&node, marks of the world, row).code == ZMG_RUN_RAN) step the world by row
  *     zmg_node_quit(&node);  a few more packets to each player;  zmg_node_free(&node);
  *
  * What the caller owes:
@@ -26,11 +27,14 @@
  *     two up to 16 that divides its size, as to 8 for 24 bytes.
  *   - The marks that zmg_node_run is given are of the caller's own world: one that began with the start of
  *     zmg_node_settings and the players 0 to zmg_node_players - 1 when zmg_node_receive answered
- *     ZMG_STARTED, was stepped by every row that zmg_node_run told and by nothing else, and has marks that
- *     follow from its state alone (no clock, no random numbers but the world's own, no pointers).
- * Every number and every byte is tested inside. A handle that holds nothing may be given to every call: it
- * answers as a node that does not play.
+ *     ZMG_RECEIVE_STARTED, was stepped by every row that zmg_node_run told and by nothing else, and has
+ *     marks that follow from its state alone (no clock, no random numbers but the world's own, no pointers).
+ * Every number and every byte is tested inside. A handle that holds nothing may be given to every call: a
+ * node's calls answer as a node that does not play, with ZMG_PHASE_NO_NODE or 0 where they only read; a
+ * reader's answer ZMG_DEMO_NO_READER, or 0.
  *
+ * The names of a call's answers begin with the word of the call: ZMG_RUN_ of zmg_node_run, ZMG_DEMO_ of the
+ * calls on demos.
  * Names and numbers of this header do not change. New ones may be added.
  */
 #ifndef ZIRMEGAT_H
@@ -52,8 +56,8 @@ uint32_t zmg_version(void);
 /* ---- A node ------------------------------------------------------------------------------------------- */
 
 /* A node, or none. The fields are the library's own. ZMG_NODE_NONE is an initialiser, for a handle that
- * holds nothing yet. To overwrite a handle that holds a node, with it or with another handle, leaks the node's
- * memory. zmg_node_free empties a handle. */
+ * holds nothing yet. To overwrite a handle that holds a node, with it or with another handle, leaks the
+ * node's memory. zmg_node_free empties a handle. */
 typedef struct zmg_node {
     uint8_t live;
     void *at;
@@ -79,20 +83,20 @@ typedef struct zmg_config {
     zmg_settings settings;
 } zmg_config;
 
-/* Answers of zmg_node_new. Player 0's settings are looked at first. ZMG_BAD_KEY is never answered. */
-#define ZMG_MADE_NODE 0u
-#define ZMG_BAD_PLAYERS 1u
-#define ZMG_BAD_ME 2u
-#define ZMG_BAD_KEY 3u
-#define ZMG_BAD_LIMIT 4u
-#define ZMG_NO_MEMORY 5u
-#define ZMG_BAD_SKILL 6u
-#define ZMG_BAD_DEATHMATCH 7u
-#define ZMG_BAD_EPISODE 8u
-#define ZMG_BAD_MAP 9u
+/* Answers of zmg_node_new. Player 0's settings are looked at first. ZMG_NEW_BAD_KEY is never answered. */
+#define ZMG_NEW_OK 0u
+#define ZMG_NEW_BAD_PLAYERS 1u
+#define ZMG_NEW_BAD_ME 2u
+#define ZMG_NEW_BAD_KEY 3u
+#define ZMG_NEW_BAD_LIMIT 4u
+#define ZMG_NEW_NO_MEMORY 5u
+#define ZMG_NEW_BAD_SKILL 6u
+#define ZMG_NEW_BAD_DEATHMATCH 7u
+#define ZMG_NEW_BAD_EPISODE 8u
+#define ZMG_NEW_BAD_MAP 9u
 
 /* Makes a node in the handle. A node that the handle holds is given up first. All memory is taken here: no
- * other call on a node can want any. Where the answer is not ZMG_MADE_NODE the handle holds none. */
+ * other call on a node needs any. Where the answer is not ZMG_NEW_OK the handle holds none. */
 uint32_t zmg_node_new(zmg_node *node, const zmg_config *config);
 
 /* Gives up the node and its memory. The handle then holds none, and may be given to zmg_node_new again. */
@@ -111,11 +115,11 @@ void zmg_node_free(zmg_node *node);
 #define ZMG_KEY_USE (1u << 9)
 #define ZMG_KEY_WEAPON(n) (1u << (9 + (n))) /* n is 1 to 8 */
 
-/* code: ZMG_MADE where the command of `tic` was made, ZMG_AHEAD where five commands wait to be run, and
- * ZMG_MADE_NOT_PLAYING. tic is 0 but for ZMG_MADE. */
-#define ZMG_MADE 0u
-#define ZMG_AHEAD 1u
-#define ZMG_MADE_NOT_PLAYING 2u
+/* code: ZMG_BUILD_MADE where the command of `tic` was made, ZMG_BUILD_AHEAD where five commands wait to be
+ * run, and ZMG_BUILD_NOT_PLAYING. tic is 0 but for ZMG_BUILD_MADE. */
+#define ZMG_BUILD_MADE 0u
+#define ZMG_BUILD_AHEAD 1u
+#define ZMG_BUILD_NOT_PLAYING 2u
 typedef struct zmg_made {
     uint32_t code, tic;
 } zmg_made;
@@ -127,8 +131,9 @@ zmg_made zmg_node_build(zmg_node *node, uint32_t keys);
 #define ZMG_PACKET_SIZE 104u
 
 /* Writes the next packet to player `to` to the front of out, and answers how many bytes it has. Each packet
- * is taken as sent. 0, with the node as it was, where there is none, and where room is below
- * ZMG_PACKET_SIZE. */
+ * is taken as sent. 0, with the node and out as they were, where room is below ZMG_PACKET_SIZE, and where
+ * there is none: to the node's own player, to a number that is no player's, at ZMG_PHASE_LISTENING, and at
+ * ZMG_PHASE_ENDED where no game had started. */
 size_t zmg_node_packet(zmg_node *node, uint8_t to, uint8_t *out, size_t room);
 
 /* A number where known is 1; where there is none both are 0. */
@@ -136,7 +141,7 @@ typedef struct zmg_number {
     uint32_t known, value;
 } zmg_number;
 
-/* The whole numbers of a packet, of which it carries the low bytes. known: 1, or 0 where there is no
+/* The full tic numbers of a packet, of which it carries only the low bytes. known: 1, or 0 where there is no
  * packet, and then all is 0. ask: the tic from which commands are asked for again, at most 5 before start.
  * start: the tic of the first command. count: how many commands. flags: as in zmg_packet. */
 typedef struct zmg_aim {
@@ -150,15 +155,17 @@ typedef struct zmg_aim {
  * transport may send start along, so that its receiver can tell old datagrams: see zmg_node_receive. */
 zmg_aim zmg_node_aim(zmg_node *node, uint8_t to);
 
-/* code: what came of a datagram. number: how many commands were new (ZMG_TAKEN), why it was dropped
- * (ZMG_DROPPED), and else 0. */
-#define ZMG_STARTED 0u /* the game starts: begin your world */
-#define ZMG_TAKEN 1u   /* commands were new, and are kept */
-#define ZMG_STALE 2u /* no command was new */
-#define ZMG_GAP 3u   /* commands before it are missing, and are asked for */
-#define ZMG_LEFT 4u  /* the sender has left, and its last command is known: see zmg_node_end */
-#define ZMG_NOTED 5u /* at ZMG_GATHERING: the sender was heard, others not yet; else this node has ended */
-#define ZMG_DROPPED 6u
+/* code: what came of a datagram. number: how many commands were new (ZMG_RECEIVE_TAKEN), why it was dropped
+ * (ZMG_RECEIVE_DROPPED), and else 0. */
+#define ZMG_RECEIVE_STARTED 0u /* the game starts: begin your world */
+#define ZMG_RECEIVE_TAKEN 1u   /* commands were new, and are kept */
+#define ZMG_RECEIVE_STALE 2u   /* no command was new */
+#define ZMG_RECEIVE_GAP 3u     /* commands before it are missing, and are asked for; the sender may have
+                                * left: see zmg_node_end */
+#define ZMG_RECEIVE_LEFT 4u    /* the sender has left, and all its commands are here: see zmg_node_end */
+#define ZMG_RECEIVE_NOTED 5u   /* at ZMG_PHASE_GATHERING: the sender was heard, others not yet; else this
+                                * node has ended */
+#define ZMG_RECEIVE_DROPPED 6u
 typedef struct zmg_heard {
     uint32_t code, number;
 } zmg_heard;
@@ -168,7 +175,8 @@ typedef struct zmg_heard {
 #define ZMG_DROP_MANY 2u         /* it announces more than twelve commands */
 #define ZMG_DROP_LENGTH 3u       /* its length is not that of the commands it announces */
 #define ZMG_DROP_SUM 4u          /* its sum is wrong */
-#define ZMG_DROP_STRANGER 5u     /* not from another player of the game */
+#define ZMG_DROP_STRANGER 5u     /* not from another player of the game, or it names another player than
+                                  * from */
 #define ZMG_DROP_OUT_OF_PLACE 6u /* settings, not from player 0 or once the game runs */
 #define ZMG_DROP_VERSION 7u      /* the sender plays another version */
 #define ZMG_DROP_SETTINGS 8u     /* settings out of range */
@@ -183,7 +191,9 @@ typedef struct zmg_heard {
  * bytes of tics, so the transport hands in none whose start or ask lies more than 64 tics from
  * zmg_node_made. Where it sends zmg_aim.start along, it drops at receipt what has a start more than 59 away,
  * since ask lies at most 5 before start. Where it goes by age, it drops what is older than 47 tics (1.3
- * seconds at 35 builds a second): a new packet may already lie 17 tics away. A set-up packet may come at any
+ * seconds at 35 builds a second): a new packet may already lie 17 tics away. The packets of a player
+ * who has left keep their start while the others play on, so their age does not tell how far away it lies:
+ * once zmg_node_ran has reached that player's zmg_node_end, they are dropped. A set-up packet may come at any
  * time. */
 zmg_heard zmg_node_receive(zmg_node *node, uint8_t from, const uint8_t *bytes, size_t length);
 
@@ -197,15 +207,15 @@ typedef struct zmg_move {
     uint8_t buttons, present;
 } zmg_move;
 
-/* code: ZMG_RAN where `tic` was run; ZMG_WAITING where the command of `player` is missing; ZMG_DEMO_FULL
- * and ZMG_INCONSISTENT, where the node has ended; ZMG_RAN_NOT_PLAYING. At ZMG_INCONSISTENT the mark of
- * `player` for the next tic was `was` in place of `should`: the worlds differ since twelve tics before, or
- * earlier. Fields that are not named for a code are 0. */
-#define ZMG_RAN 0u
-#define ZMG_WAITING 1u
-#define ZMG_DEMO_FULL 2u
-#define ZMG_INCONSISTENT 3u
-#define ZMG_RAN_NOT_PLAYING 4u
+/* code: ZMG_RUN_RAN where `tic` was run; ZMG_RUN_WAITING where the command of `player` is missing;
+ * ZMG_RUN_DEMO_FULL and ZMG_RUN_INCONSISTENT, where the node has ended; ZMG_RUN_NOT_PLAYING. At
+ * ZMG_RUN_INCONSISTENT the mark of `player` for the next tic was `was` in place of `should`: the worlds
+ * differ since twelve tics before, or earlier. Fields that are not named for a code are 0. */
+#define ZMG_RUN_RAN 0u
+#define ZMG_RUN_WAITING 1u
+#define ZMG_RUN_DEMO_FULL 2u
+#define ZMG_RUN_INCONSISTENT 3u
+#define ZMG_RUN_NOT_PLAYING 4u
 typedef struct zmg_ran {
     uint32_t code, tic;
     int16_t was, should;
@@ -213,20 +223,21 @@ typedef struct zmg_ran {
 } zmg_ran;
 
 /* Runs the next tic. marks: each player's mark in the caller's world as it stands; of seats without a
- * player any. At ZMG_RAN row has the moves by which the world is stepped next; else row stays as it is. */
+ * player any. At ZMG_RUN_RAN row has the moves by which the world is stepped next; else row stays as it
+ * is. */
 zmg_ran zmg_node_run(zmg_node *node, const int16_t marks[4], zmg_move row[4]);
 
-/* Ends the node: 1 where it had not ended, else 0. It still gives packets, which tell the others of its
- * end. */
+/* Ends the node: 1 where it had not ended, else 0. If it has played, it still gives packets, which tell the
+ * others of its end. */
 uint32_t zmg_node_quit(zmg_node *node);
 
 /* What a node tells of itself. */
 
-#define ZMG_NO_NODE 0u
-#define ZMG_LISTENING 1u /* waits for player 0's settings */
-#define ZMG_GATHERING 2u /* player 0, which waits to hear every other */
-#define ZMG_PLAYING 3u
-#define ZMG_ENDED 4u
+#define ZMG_PHASE_NO_NODE 0u
+#define ZMG_PHASE_LISTENING 1u /* waits for player 0's settings */
+#define ZMG_PHASE_GATHERING 2u /* player 0, which waits to hear every other */
+#define ZMG_PHASE_PLAYING 3u
+#define ZMG_PHASE_ENDED 4u
 #define ZMG_CAUSE_NONE 0u
 #define ZMG_CAUSE_QUIT 1u         /* zmg_node_quit */
 #define ZMG_CAUSE_FULL 2u         /* the demo had no room for the next tic, or the most tics were run */
@@ -261,7 +272,8 @@ zmg_known_settings zmg_node_settings(zmg_node *node);
 /* How many bytes the demo has so far. */
 size_t zmg_node_demo_length(zmg_node *node);
 /* Copies the demo from byte `from` on, as far as there is room, and answers how many bytes were copied. It
- * is whole, with its end marker, once the node has ended, or a tic without some player was run. */
+ * is complete, with its end marker, once a node that has played has ended, or a tic without some player was
+ * run. Before the start, and of a node that ended before it, it has no bytes. */
 size_t zmg_node_demo(zmg_node *node, size_t from, uint8_t *out, size_t room);
 
 /* ---- Datagrams, with no node --------------------------------------------------------------------------- */
@@ -322,8 +334,9 @@ void zmg_demo_free(zmg_demo *demo);
 /* Takes the next piece of the demo's bytes and keeps a copy: ZMG_DEMO_DONE; ZMG_DEMO_NO_MEMORY, and the
  * piece is not taken; ZMG_DEMO_IS_READ; ZMG_DEMO_NO_READER. */
 uint32_t zmg_demo_push(zmg_demo *demo, const uint8_t *bytes, size_t length);
-/* Reads the bytes that came: ZMG_DEMO_DONE; the first fault of ZMG_DEMO_SHORT to ZMG_DEMO_NO_MARKER that
- * they have, and then the reader has no bytes and takes others; ZMG_DEMO_NO_READER. It wants no memory. */
+/* Reads the bytes that came: ZMG_DEMO_DONE, and ZMG_DEMO_DONE again for a demo that was read, which stays;
+ * the first fault of ZMG_DEMO_SHORT to ZMG_DEMO_NO_MARKER that they have, and then the reader has no bytes
+ * and takes others; ZMG_DEMO_NO_READER. It takes no memory. */
 uint32_t zmg_demo_read(zmg_demo *demo);
 
 /* What a game started from, as a demo's header has it. */
@@ -333,8 +346,8 @@ typedef struct zmg_start {
 
 /* known: 1 for a demo that was read, else all is 0. tics: how many whole tics it has. cut: how many
  * commands stand between them and the marker. after: how many bytes follow the marker. version: 109, as the
- * 1997 release records, or 111, with whole turns. view: whose view it shows. present: 1 for each seat with
- * a player. */
+ * 1997 release records, or 111, whose turns have both bytes. view: whose view it shows. present: 1 for each
+ * seat with a player. */
 typedef struct zmg_demo_told {
     size_t tics, cut, after;
     uint32_t known;

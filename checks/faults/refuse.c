@@ -79,7 +79,8 @@ ssize_t write(int file, const void *bytes, size_t length) {
   return syscall(SYS_write, file, bytes, length);
 }
 
-ssize_t sendto(int socket, const void *bytes, size_t length, int flags, const struct sockaddr *to, socklen_t size) {
+ssize_t sendto(int socket, const void *bytes, size_t length, int flags, const struct sockaddr *to,
+               socklen_t size) {
   static long sends;
   if (fails("FAIL_SEND", &sends)) { errno = ENOBUFS; return -1; }
   return syscall(SYS_sendto, socket, bytes, length, flags, to, size);

@@ -66,7 +66,7 @@ static void hear(engine *e) {
         unsigned from = (unsigned)ntohs(at.sin_port) - e->base;
         if (at.sin_addr.s_addr == htonl(INADDR_LOOPBACK) && from < PLAYERS) {
             zmg_heard heard = zmg_node_receive(&e->node, (uint8_t)from, bytes, (size_t)length);
-            if (heard.code == ZMG_STARTED) walk_begin(&e->world, zmg_node_players(&e->node));
+            if (heard.code == ZMG_RECEIVE_STARTED) walk_begin(&e->world, zmg_node_players(&e->node));
             e->heard = time(NULL);
         }
         size = sizeof at;
@@ -81,9 +81,9 @@ static int run(engine *e) {
         walk_marks(&e->world, marks);
         zmg_ran ran = zmg_node_run(&e->node, marks, row);
         switch (ran.code) {
-        case ZMG_RAN: walk_step(&e->world, row); break;
-        case ZMG_DEMO_FULL: fprintf(stderr, "the demo is full\n"); return 0;
-        case ZMG_INCONSISTENT:
+        case ZMG_RUN_RAN: walk_step(&e->world, row); break;
+        case ZMG_RUN_DEMO_FULL: fprintf(stderr, "the demo is full\n"); return 0;
+        case ZMG_RUN_INCONSISTENT:
             fprintf(stderr, "worlds differ: player %u, %d for %d\n", ran.player, ran.was, ran.should);
             return 0;
         default: return 1;
@@ -136,7 +136,7 @@ int main(int argc, char **argv) {
     e.tics = (uint32_t)atol(argv[3]);
     e.seed = (uint32_t)atol(argv[4]);
     zmg_config config = { DEMO, PLAYERS, e.me, 0, { 2, 0, 0, 0, 1, 1 } };
-    if (zmg_node_new(&e.node, &config) != ZMG_MADE_NODE || !open_line(&e)) return 2;
+    if (zmg_node_new(&e.node, &config) != ZMG_NEW_OK || !open_line(&e)) return 2;
     int played = play(&e);
     zmg_node_quit(&e.node);
     for (int k = 0; k < FAREWELLS; k++) give(&e);

@@ -1,32 +1,205 @@
 /* Calls every function with any numbers, any bytes and in any order: `fuzz CALLS SEED`. To be run under
  * valgrind or with a compiler's sanitizers. Two of the nodes play with each other now and then, so that all
- * phases come. With a third argument N, every Nth request for memory is refused. */
+ * phases come. With a third argument N, every Nth request for memory is refused.
+ *
+ * Each node has a twin, which is given the same calls and must answer the same. After each call the counts
+ * of a node must not have fallen, and now and then its demo is read and must have the rows that the node
+ * told. */
 #include "failing.h"
 #include "zirmegat.h"
 #include <stdio.h>
 #include <stdlib.h>
 #include <string.h>
 
-enum { NODES = 4, DEMOS = 2, BYTES = 3000 };
+enum { NODES = 4, DEMOS = 2, BYTES = 6000 };
+
+/* What was seen of a node: its counts, and the rows that it told before the first that lacks a player. */
+typedef struct seen {
+    uint32_t made, ran, players, me, phase, got[4], rows, whole;
+    size_t demo;
+    uint64_t world;
+} seen;
 
 static uint32_t seed = 1;
-static zmg_node nodes[NODES];
+static zmg_node nodes[NODES], twins[NODES];
+static seen seens[NODES];
 static zmg_demo demos[DEMOS];
-static uint8_t bytes[BYTES], out[BYTES];
+static uint8_t bytes[BYTES], out[BYTES], again[BYTES];
 static unsigned long calls, answers[32][16];
+
+/* The highest answer of each call that has codes. */
+static const uint32_t highest[32] = { 9, 0, 2, 0, 6, 4, 4, 104, 5, 9, 7, 9, 1, 1, 4, 0, 0, 1, 1, 0, 0, 1, 1 };
+
+#define MUST(holds) must(holds, #holds, __LINE__)
+
+static void must(int holds, const char *what, int line) {
+    if (holds) return;
+    fprintf(stderr, "fuzz.c:%d: not so after %lu calls: %s\n", line, calls, what);
+    exit(1);
+}
 
 static uint32_t draw(void) { return (seed = seed * 1664525u + 1013904223u) >> 8; }
 static uint8_t byte(void) { return (uint8_t)draw(); }
 static uint32_t below(uint32_t n) { return draw() % n; }
-static zmg_node *any_node(void) { return &nodes[below(NODES)]; }
+static unsigned any_node(void) { return below(NODES); }
 static zmg_demo *any_demo(void) { return &demos[below(DEMOS)]; }
-static void count(unsigned call, uint32_t answer) { answers[call][answer < 15 ? answer : 15]++; }
+
+static uint32_t count(unsigned call, uint32_t answer) {
+    MUST(!highest[call] || answer <= highest[call]);
+    answers[call][answer < 15 ? answer : 15]++;
+    return answer;
+}
 
 static void fill(size_t length) {
     for (size_t k = 0; k < length; k++) bytes[k] = byte();
 }
 
-static void new_node(zmg_node *node) {
+static uint64_t stepped(uint64_t world, const zmg_move row[4]) {
+    for (unsigned p = 0; p < 4; p++) {
+        uint64_t move = (uint16_t)row[p].turn;
+        move = move << 8 | (uint8_t)row[p].forward;
+        move = move << 8 | (uint8_t)row[p].side;
+        move = move << 8 | row[p].buttons;
+        move = move << 8 | row[p].present;
+        world = (world ^ move) * 1099511628211u;
+    }
+    return world;
+}
+
+/* What holds after each call. */
+static void watch(unsigned k) {
+    zmg_node *node = &nodes[k];
+    seen *s = &seens[k];
+    seen now = *s;
+    now.made = zmg_node_made(node);
+    now.ran = zmg_node_ran(node);
+    now.phase = zmg_node_phase(node).code;
+    now.demo = zmg_node_demo_length(node);
+    MUST(s->made <= now.made && s->ran <= now.ran && s->demo <= now.demo);
+    MUST(now.ran <= now.made && now.made <= now.ran + 5);
+    MUST(s->players == zmg_node_players(node) && s->me == zmg_node_me(node));
+    /* it listens or gathers, then plays, then has ended */
+    MUST(s->phase == now.phase
+        || (s->phase < ZMG_PHASE_PLAYING ? ZMG_PHASE_PLAYING : s->phase + 1) <= now.phase);
+    for (uint8_t p = 0; p < 4; p++) {
+        zmg_number got = zmg_node_got(node, p);
+        MUST(got.known == (p < s->players) && s->got[p] <= got.value && got.value <= now.ran + 12);
+        now.got[p] = got.value;
+    }
+    MUST(zmg_node_phase(&twins[k]).code == now.phase && zmg_node_made(&twins[k]) == now.made);
+    MUST(zmg_node_ran(&twins[k]) == now.ran && zmg_node_demo_length(&twins[k]) == now.demo);
+    *s = now;
+}
+
+static void give_up(unsigned k) {
+    zmg_node_free(&nodes[k]);
+    zmg_node_free(&twins[k]);
+    memset(&seens[k], 0, sizeof seens[k]);
+}
+
+static void make(unsigned k, const zmg_config *c) {
+    uint32_t code = count(0, zmg_node_new(&nodes[k], c)), twin = zmg_node_new(&twins[k], c);
+    /* of two requests for memory one alone may have been refused */
+    MUST(code == twin || code == ZMG_NEW_NO_MEMORY || twin == ZMG_NEW_NO_MEMORY);
+    memset(&seens[k], 0, sizeof seens[k]);
+    if (code != ZMG_NEW_OK || twin != ZMG_NEW_OK) {
+        give_up(k);
+        return;
+    }
+    seens[k].players = c->players;
+    seens[k].me = c->me;
+    seens[k].phase = c->me ? ZMG_PHASE_LISTENING : ZMG_PHASE_GATHERING;
+    seens[k].whole = 1;
+    watch(k);
+}
+
+static void build(unsigned k, uint32_t keys) {
+    zmg_made made = zmg_node_build(&nodes[k], keys), twin = zmg_node_build(&twins[k], keys);
+    MUST(made.code == twin.code && made.tic == twin.tic);
+    MUST(made.code != ZMG_BUILD_MADE || made.tic == seens[k].made);
+    count(2, made.code);
+    watch(k);
+}
+
+static zmg_heard receive(unsigned k, uint8_t from, const uint8_t *text, size_t length) {
+    zmg_heard heard = zmg_node_receive(&nodes[k], from, text, length);
+    zmg_heard twin = zmg_node_receive(&twins[k], from, text, length);
+    MUST(heard.code == twin.code && heard.number == twin.number);
+    MUST(heard.code == ZMG_RECEIVE_DROPPED ? 1 <= heard.number && heard.number <= ZMG_DROP_END
+        : heard.code == ZMG_RECEIVE_TAKEN ? 1 <= heard.number && heard.number <= 12 : heard.number == 0);
+    count(4, heard.code);
+    watch(k);
+    return heard;
+}
+
+/* The packet is the one that was aimed at, and none is written where none is given. */
+static size_t packet(unsigned k, uint8_t to, size_t room) {
+    zmg_aim aim = zmg_node_aim(&nodes[k], to);
+    uint8_t was = out[0];
+    size_t n = zmg_node_packet(&nodes[k], to, out, room), twin = zmg_node_packet(&twins[k], to, again, room);
+    MUST(n == twin && (n == 0 || memcmp(out, again, n) == 0));
+    MUST(n == (room < ZMG_PACKET_SIZE || !aim.known ? 0 : 8 + 8u * aim.count));
+    MUST(n ? out[5] == (uint8_t)aim.start || aim.flags & ZMG_FLAG_SETUP : out[0] == was);
+    watch(k);
+    return n;
+}
+
+static void run(unsigned k, int honest) {
+    int16_t marks[4] = { 0, 0, 0, 0 };
+    zmg_move row[4], twin_row[4];
+    zmg_ran ran, twin;
+    if (!honest) marks[below(4)] = (int16_t)draw();
+    memset(row, 0xAA, sizeof row);
+    memcpy(twin_row, row, sizeof row);
+    ran = zmg_node_run(&nodes[k], marks, row);
+    twin = zmg_node_run(&twins[k], marks, twin_row);
+    MUST(ran.code == twin.code && ran.tic == twin.tic && ran.player == twin.player);
+    MUST(ran.was == twin.was && ran.should == twin.should && memcmp(row, twin_row, sizeof row) == 0);
+    MUST(ran.code == ZMG_RUN_RAN ? ran.tic == seens[k].ran : ran.tic == 0 && row[0].present == 0xAA);
+    if (ran.code == ZMG_RUN_RAN) {
+        for (unsigned p = 0; p < seens[k].players; p++) seens[k].whole &= row[p].present;
+        if (seens[k].whole) {
+            seens[k].world = stepped(seens[k].world, row);
+            seens[k].rows++;
+        }
+    }
+    count(5, ran.code);
+    watch(k);
+}
+
+static void quit(unsigned k) {
+    uint32_t ended = zmg_node_quit(&nodes[k]);
+    MUST(ended == zmg_node_quit(&twins[k]));
+    MUST(ended == (seens[k].phase != ZMG_PHASE_NO_NODE && seens[k].phase != ZMG_PHASE_ENDED));
+    count(22, ended);
+    watch(k);
+}
+
+/* A node's demo, with a marker behind it, has the rows that the node told. */
+static void replay(unsigned k) {
+    zmg_demo demo = ZMG_DEMO_NONE;
+    zmg_move row[4];
+    uint8_t marker = 0x80;
+    size_t length = zmg_node_demo(&nodes[k], 0, bytes, BYTES);
+    uint64_t world = 0;
+    MUST(length == seens[k].demo || length == BYTES);
+    if (length < 13 || length == BYTES) return;
+    if (count(8, zmg_demo_new(&demo)) == ZMG_DEMO_DONE
+        && count(11, zmg_demo_push(&demo, bytes, length)) == ZMG_DEMO_DONE
+        && count(11, zmg_demo_push(&demo, &marker, 1)) == ZMG_DEMO_DONE) {
+        MUST(count(9, zmg_demo_read(&demo)) == ZMG_DEMO_DONE);
+        MUST(zmg_demo_tell(&demo).tics == seens[k].rows && zmg_demo_tell(&demo).cut == 0);
+        for (size_t t = 0; t < seens[k].rows; t++) {
+            MUST(zmg_demo_row(&demo, t, row) == 1);
+            world = stepped(world, row);
+        }
+        MUST(zmg_demo_row(&demo, seens[k].rows, row) == 0);
+        MUST(world == seens[k].world);
+    }
+    zmg_demo_free(&demo);
+}
+
+static void new_node(unsigned k) {
     uint8_t good = byte() & 3;
     zmg_config c;
     memset(&c, 0, sizeof c);
@@ -40,44 +213,38 @@ static void new_node(zmg_node *node) {
     c.settings.respawn = byte();
     c.settings.episode = (uint8_t)(good ? 1 + below(3) : below(6));
     c.settings.map = (uint8_t)(good ? 1 + below(32) : below(40));
-    count(0, zmg_node_new(node, &c));
+    make(k, &c);
 }
 
 /* A game of two, so that nodes play. */
 static void pair(void) {
-    zmg_config c = { 1024 + 4000, 2, 0, 0, { 1, 0, 0, 0, 1, 1 } };
+    zmg_config c = { 1024, 2, 0, 0, { 1, 0, 0, 0, 1, 1 } };
     size_t n;
     c.extra = byte() & 1;
-    count(0, zmg_node_new(&nodes[0], &c));
+    if (below(2)) c.limit += 4000;
+    make(0, &c);
     c.me = 1;
-    count(0, zmg_node_new(&nodes[1], &c));
-    n = zmg_node_packet(&nodes[0], 1, out, sizeof out);
-    count(4, zmg_node_receive(&nodes[1], 0, out, n).code);
-    n = zmg_node_packet(&nodes[1], 0, out, sizeof out);
-    count(4, zmg_node_receive(&nodes[0], 1, out, n).code);
+    make(1, &c);
+    n = packet(0, 1, sizeof out);
+    receive(1, 0, out, n);
+    n = packet(1, 0, sizeof out);
+    receive(0, 1, out, n);
     calls += 5;
-}
-
-static void run(zmg_node *node, int honest) {
-    int16_t marks[4] = { 0, 0, 0, 0 };
-    zmg_move row[4];
-    if (!honest) marks[below(4)] = (int16_t)draw();
-    count(5, zmg_node_run(node, marks, row).code);
 }
 
 /* A tic of the pair. */
 static void tic(void) {
-    for (unsigned p = 0; p < 2; p++) count(2, zmg_node_build(&nodes[p], draw() ^ draw() << 12).code);
+    for (unsigned p = 0; p < 2; p++) build(p, draw() ^ draw() << 12);
     for (unsigned p = 0; p < 2; p++) {
-        size_t n = zmg_node_packet(&nodes[p], (uint8_t)(1 - p), out, sizeof out);
-        if (n && below(8)) count(4, zmg_node_receive(&nodes[1 - p], (uint8_t)p, out, n).code);
+        size_t n = packet(p, (uint8_t)(1 - p), sizeof out);
+        if (n && below(8)) receive(1 - p, (uint8_t)p, out, n);
     }
-    for (unsigned p = 0; p < 2; p++) run(&nodes[p], below(200) != 0);
+    for (unsigned p = 0; p < 2; p++) run(p, below(200) != 0);
     calls += 7;
 }
 
 static void packets(void) {
-    zmg_packet packet;
+    zmg_packet packet, back;
     size_t length = below(120);
     fill(length);
     memset(&packet, (int)byte(), sizeof packet);
@@ -86,12 +253,18 @@ static void packets(void) {
     if (below(2)) packet.count = (uint8_t)below(13);
     length = zmg_packet_encode(&packet, out, below(120));
     count(7, (uint32_t)length);
-    if (length) count(6, zmg_packet_decode(out, length, &packet));
-    if (length) count(4, zmg_node_receive(any_node(), (uint8_t)below(5), out, length).code);
+    if (length) {
+        MUST(length == 8 + 8u * packet.count);
+        MUST(count(6, zmg_packet_decode(out, length, &back)) == 0);
+        MUST(back.flags == packet.flags && back.ask == packet.ask && back.start == packet.start);
+        MUST(back.player == packet.player && back.count == packet.count);
+        MUST(memcmp(back.commands, packet.commands, packet.count * sizeof(zmg_command)) == 0);
+        receive(any_node(), (uint8_t)below(5), out, length);
+    }
 }
 
 static size_t some_demo(void) {
-    size_t length = zmg_node_demo(any_node(), below(2) ? 0 : below(3000), bytes, below(BYTES));
+    size_t length = zmg_node_demo(&nodes[any_node()], below(2) ? 0 : below(3000), bytes, below(BYTES));
     if (below(4) == 0) {
         length = below(200);
         fill(length);
@@ -99,6 +272,24 @@ static size_t some_demo(void) {
     }
     if (length && below(4) == 0) bytes[below((uint32_t)length)] = byte();
     return length;
+}
+
+/* An upgrade that is refused has no bytes. The bytes of another are read as version 111, where there is
+ * memory for that. */
+static void upgrade(size_t length) {
+    zmg_upgraded made = zmg_demo_upgrade(bytes, length, out, below(2) ? BYTES : below(BYTES));
+    zmg_demo back = ZMG_DEMO_NONE;
+    if (count(10, made.code) != ZMG_DEMO_DONE) {
+        MUST(made.length == 0);
+        return;
+    }
+    if (count(8, zmg_demo_new(&back)) == ZMG_DEMO_DONE
+        && count(11, zmg_demo_push(&back, out, made.length)) == ZMG_DEMO_DONE) {
+        MUST(count(9, zmg_demo_read(&back)) == ZMG_DEMO_DONE);
+        MUST(zmg_demo_tell(&back).version == 111);
+    }
+    zmg_demo_free(&back);
+    calls += 4;
 }
 
 static void read_demos(void) {
@@ -110,7 +301,7 @@ static void read_demos(void) {
     case 0: count(8, zmg_demo_new(demo)); break;
     case 1: zmg_demo_free(demo); break;
     case 2: count(9, zmg_demo_read(demo)); break;
-    case 3: count(10, zmg_demo_upgrade(bytes, length, out, below(2) ? BYTES : below(BYTES)).code); break;
+    case 3: upgrade(length); break;
     default:
         count(8, zmg_demo_new(demo));
         count(11, zmg_demo_push(demo, bytes, at));
@@ -120,43 +311,45 @@ static void read_demos(void) {
     }
     told = zmg_demo_tell(demo);
     count(12, told.known);
-    count(13, zmg_demo_row(demo, below(2) ? told.tics : below((uint32_t)told.tics + 1), row));
+    at = below(2) ? told.tics : below((uint32_t)told.tics + 1);
+    MUST(count(13, zmg_demo_row(demo, at, row)) == (at < told.tics));
     count(11, zmg_demo_push(demo, bytes, below(64)));
     calls += 3;
 }
 
-static void read_node(zmg_node *node) {
+static void read_node(unsigned k) {
+    zmg_node *node = &nodes[k];
+    uint8_t player = (uint8_t)below(6);
+    zmg_number end = zmg_node_end(node, player), twin = zmg_node_end(&twins[k], player);
+    MUST(end.known == twin.known && end.value == twin.value);
+    MUST(zmg_version() == ZMG_VERSION);
     count(14, zmg_node_phase(node).code);
-    count(15, zmg_node_me(node) + zmg_node_players(node));
-    count(23, zmg_version());
-    zmg_node_made(node);
-    zmg_node_ran(node);
-    count(16, zmg_node_got(node, (uint8_t)below(6)).known);
-    count(17, zmg_node_end(node, (uint8_t)below(6)).known);
+    count(17, end.known);
     count(18, zmg_node_settings(node).known);
-    count(19, (uint32_t)zmg_node_demo_length(node));
-    count(20, (uint32_t)zmg_node_demo(node, draw(), out, below(BYTES)));
     count(21, zmg_node_aim(node, (uint8_t)below(6)).known);
+    MUST(zmg_node_demo(node, draw(), out, below(BYTES)) <= seens[k].demo);
     calls += 10;
 }
 
 static void any_call(void) {
     size_t n = below(120);
+    unsigned k = any_node();
     calls++;
     switch (below(24)) {
-    case 0: if (below(20) == 0) new_node(any_node()); break;
-    case 1: if (below(40) == 0) zmg_node_free(any_node()); break;
-    case 2: if (below(40) == 0) count(22, zmg_node_quit(any_node())); break;
-    case 3: count(2, zmg_node_build(any_node(), draw() ^ draw() << 12).code); break;
-    case 4: fill(n); count(4, zmg_node_receive(any_node(), (uint8_t)below(6), bytes, n).code); break;
-    case 5: n = zmg_node_packet(any_node(), (uint8_t)below(6), out, n);
-            if (n) count(4, zmg_node_receive(any_node(), (uint8_t)below(5), out, n).code);
+    case 0: if (below(20) == 0) new_node(k); break;
+    case 1: if (below(40) == 0) give_up(k); break;
+    case 2: if (below(40) == 0) quit(k); break;
+    case 3: build(k, draw() ^ draw() << 12); break;
+    case 4: fill(n); receive(k, (uint8_t)below(6), bytes, n); break;
+    case 5: n = packet(k, (uint8_t)below(6), n);
+            if (n) receive(any_node(), (uint8_t)below(5), out, n);
             break;
-    case 6: run(any_node(), below(2) == 0); break;
+    case 6: run(k, below(2) == 0); break;
     case 7: packets(); break;
     case 8: read_demos(); break;
-    case 9: read_node(any_node()); break;
+    case 9: read_node(k); break;
     case 10: if (below(30) == 0) pair(); break;
+    case 11: if (below(20) == 0) replay(k); break;
     default: tic();
     }
 }
@@ -167,8 +360,9 @@ int main(int argc, char **argv) {
     if (argc > 3) fail_every(strtoul(argv[3], NULL, 10));
     pair();
     while (calls < wanted) any_call();
-    for (unsigned k = 0; k < NODES; k++) { zmg_node_free(&nodes[k]); zmg_node_free(&nodes[k]); }
+    for (unsigned k = 0; k < NODES; k++) { replay(k); give_up(k); give_up(k); }
     for (unsigned k = 0; k < DEMOS; k++) { zmg_demo_free(&demos[k]); zmg_demo_free(&demos[k]); }
+    MUST(blocks_held() == 0);
     printf("%lu calls\n", calls);
     for (unsigned c = 0; c < 32; c++) {
         unsigned long all = 0;

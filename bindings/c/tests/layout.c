@@ -137,11 +137,11 @@ static uint32_t pass(zmg_node *from, zmg_node *to) {
 static void start(uint8_t extra) {
     zmg_config c = config_of(0);
     c.extra = extra;
-    IS(zmg_node_new(&key, &c), ZMG_MADE_NODE);
+    IS(zmg_node_new(&key, &c), ZMG_NEW_OK);
     c.me = 1;
-    IS(zmg_node_new(&other, &c), ZMG_MADE_NODE);
-    IS(pass(&key, &other), ZMG_STARTED);
-    IS(pass(&other, &key), ZMG_STARTED);
+    IS(zmg_node_new(&other, &c), ZMG_NEW_OK);
+    IS(pass(&key, &other), ZMG_RECEIVE_STARTED);
+    IS(pass(&other, &key), ZMG_RECEIVE_STARTED);
 }
 
 static uint32_t run(zmg_node *node) {
@@ -160,27 +160,27 @@ static void tic(void) {
 
 static void configurations(void) {
     zmg_config c = config_of(0);
-    c.players = 1; IS(zmg_node_new(&key, &c), ZMG_BAD_PLAYERS);
-    c = config_of(2); IS(zmg_node_new(&key, &c), ZMG_BAD_ME);
-    c = config_of(0); c.limit = 1023; IS(zmg_node_new(&key, &c), ZMG_BAD_LIMIT);
-    c = config_of(0); c.settings.skill = 5; IS(zmg_node_new(&key, &c), ZMG_BAD_SKILL);
-    c = config_of(0); c.settings.deathmatch = 3; IS(zmg_node_new(&key, &c), ZMG_BAD_DEATHMATCH);
-    c = config_of(0); c.settings.episode = 4; IS(zmg_node_new(&key, &c), ZMG_BAD_EPISODE);
-    c = config_of(0); c.settings.map = 0; IS(zmg_node_new(&key, &c), ZMG_BAD_MAP);
-    c = config_of(1); c.settings.map = 0; IS(zmg_node_new(&key, &c), ZMG_MADE_NODE);
-    IS(zmg_node_phase(&key).code, ZMG_LISTENING);
+    c.players = 1; IS(zmg_node_new(&key, &c), ZMG_NEW_BAD_PLAYERS);
+    c = config_of(2); IS(zmg_node_new(&key, &c), ZMG_NEW_BAD_ME);
+    c = config_of(0); c.limit = 1023; IS(zmg_node_new(&key, &c), ZMG_NEW_BAD_LIMIT);
+    c = config_of(0); c.settings.skill = 5; IS(zmg_node_new(&key, &c), ZMG_NEW_BAD_SKILL);
+    c = config_of(0); c.settings.deathmatch = 3; IS(zmg_node_new(&key, &c), ZMG_NEW_BAD_DEATHMATCH);
+    c = config_of(0); c.settings.episode = 4; IS(zmg_node_new(&key, &c), ZMG_NEW_BAD_EPISODE);
+    c = config_of(0); c.settings.map = 0; IS(zmg_node_new(&key, &c), ZMG_NEW_BAD_MAP);
+    c = config_of(1); c.settings.map = 0; IS(zmg_node_new(&key, &c), ZMG_NEW_OK);
+    IS(zmg_node_phase(&key).code, ZMG_PHASE_LISTENING);
     IS(zmg_node_settings(&key).known, 0);
     IS(zmg_node_packet(&key, 0, bytes, sizeof bytes), 0);
     zmg_node_free(&key);
-    IS(zmg_node_phase(&key).code, ZMG_NO_NODE);
+    IS(zmg_node_phase(&key).code, ZMG_PHASE_NO_NODE);
 }
 
 static void settings(void) {
     zmg_config c = config_of(0);
     zmg_known_settings told;
     zmg_aim aim;
-    IS(zmg_node_new(&key, &c), ZMG_MADE_NODE);
-    IS(zmg_node_phase(&key).code, ZMG_GATHERING);
+    IS(zmg_node_new(&key, &c), ZMG_NEW_OK);
+    IS(zmg_node_phase(&key).code, ZMG_PHASE_GATHERING);
     told = zmg_node_settings(&key);
     IS(told.known, 1);
     IS(told.settings.skill, 3);
@@ -202,20 +202,20 @@ static void moves(void) {
     zmg_aim aim;
     uint32_t keys;
     start(1);
-    IS(zmg_node_phase(&key).code, ZMG_PLAYING);
+    IS(zmg_node_phase(&key).code, ZMG_PHASE_PLAYING);
     IS(zmg_node_build(&key, ZMG_KEY_BACK | ZMG_KEY_RIGHT).tic, 0);
     keys = ZMG_KEY_FORWARD | ZMG_KEY_STRAFE_LEFT | ZMG_KEY_LEFT;
     keys |= ZMG_KEY_ATTACK | ZMG_KEY_USE | ZMG_KEY_WEAPON(3);
-    IS(zmg_node_build(&other, keys).code, ZMG_MADE);
+    IS(zmg_node_build(&other, keys).code, ZMG_BUILD_MADE);
     memset(row, 7, sizeof row);
     ran = zmg_node_run(&key, no_marks, row);
-    IS(ran.code, ZMG_WAITING);
+    IS(ran.code, ZMG_RUN_WAITING);
     IS(ran.player, 1);
     IS(row[3].present, 7);
-    IS(pass(&other, &key), ZMG_TAKEN);
-    IS(pass(&other, &key), ZMG_STALE);
+    IS(pass(&other, &key), ZMG_RECEIVE_TAKEN);
+    IS(pass(&other, &key), ZMG_RECEIVE_STALE);
     ran = zmg_node_run(&key, no_marks, row);
-    IS(ran.code, ZMG_RAN);
+    IS(ran.code, ZMG_RUN_RAN);
     IS(ran.tic, 0);
     IS(row[0].forward, -25);
     IS(row[0].side, 0);
@@ -250,11 +250,15 @@ static void requests(void) {
     zmg_aim aim;
     start(0);
     for (int k = 0; k < 5; k++) IS(zmg_node_build(&key, 0).tic, k);
-    IS(zmg_node_build(&key, 0).code, ZMG_AHEAD);
+    IS(zmg_node_build(&key, 0).code, ZMG_BUILD_AHEAD);
     zmg_node_packet(&key, 1, bytes, sizeof bytes);
-    for (int k = 0; k < 3; k++) { zmg_node_build(&other, 0); IS(pass(&other, &key), ZMG_TAKEN); run(&key); }
+    for (int k = 0; k < 3; k++) {
+        zmg_node_build(&other, 0);
+        IS(pass(&other, &key), ZMG_RECEIVE_TAKEN);
+        run(&key);
+    }
     zmg_node_build(&key, 0);
-    IS(pass(&key, &other), ZMG_GAP);
+    IS(pass(&key, &other), ZMG_RECEIVE_GAP);
     aim = zmg_node_aim(&other, 0);
     IS(aim.known, 1);
     IS(aim.flags, ZMG_FLAG_RETRANSMIT);
@@ -276,7 +280,7 @@ static void drops(void) {
 #define DROPS(why) \
     do { \
         zmg_heard h = zmg_node_receive(&key, 1, bytes, length); \
-        IS(h.code, ZMG_DROPPED); \
+        IS(h.code, ZMG_RECEIVE_DROPPED); \
         IS(h.number, why); \
     } while (0)
     length = 7; DROPS(ZMG_DROP_SHORT);
@@ -295,7 +299,7 @@ static void drops(void) {
     packet.start = 0; packet.commands[0].forward = -128; SENDS(ZMG_DROP_STOP);
     packet.commands[0].forward = 0; packet.start = 12; SENDS(ZMG_DROP_OVERRUN);
     packet.flags = ZMG_FLAG_EXIT; packet.start = 2; length = zmg_packet_encode(&packet, bytes, sizeof bytes);
-    IS(zmg_node_receive(&key, 1, bytes, length).code, ZMG_GAP);
+    IS(zmg_node_receive(&key, 1, bytes, length).code, ZMG_RECEIVE_GAP);
     packet.start = 3; SENDS(ZMG_DROP_END);
     IS(zmg_node_receive(&key, 2, bytes, length).number, ZMG_DROP_STRANGER);
     {
@@ -333,21 +337,21 @@ static void ends(void) {
     IS(zmg_node_quit(&other), 1);
     IS(zmg_node_quit(&other), 0);
     phase = zmg_node_phase(&other);
-    IS(phase.code, ZMG_ENDED);
+    IS(phase.code, ZMG_PHASE_ENDED);
     IS(phase.cause, ZMG_CAUSE_QUIT);
-    IS(zmg_node_build(&other, 0).code, ZMG_MADE_NOT_PLAYING);
-    IS(run(&other), ZMG_RAN_NOT_PLAYING);
-    IS(pass(&other, &key), ZMG_LEFT);
+    IS(zmg_node_build(&other, 0).code, ZMG_BUILD_NOT_PLAYING);
+    IS(run(&other), ZMG_RUN_NOT_PLAYING);
+    IS(pass(&other, &key), ZMG_RECEIVE_LEFT);
     IS(zmg_node_end(&key, 1).known, 1);
     IS(zmg_node_end(&key, 1).value, 3);
-    IS(pass(&key, &other), ZMG_NOTED);
+    IS(pass(&key, &other), ZMG_RECEIVE_NOTED);
     /* a demo of 2,000 bytes has room for 198 tics of two players */
     start(0);
     for (int k = 0; k < 198; k++) tic();
     zmg_node_build(&key, 0);
     zmg_node_build(&other, 0);
     pass(&other, &key);
-    IS(run(&key), ZMG_DEMO_FULL);
+    IS(run(&key), ZMG_RUN_DEMO_FULL);
     IS(zmg_node_phase(&key).cause, ZMG_CAUSE_FULL);
     IS(zmg_node_demo_length(&key), 13 + 198 * 10 + 1);
     /* player 1 has another mark in its own world at tic 1; the first tic that is checked is 13 */
@@ -364,7 +368,7 @@ static void ends(void) {
     zmg_node_build(&other, 0);
     pass(&other, &key);
     ran = zmg_node_run(&key, no_marks, row);
-    IS(ran.code, ZMG_INCONSISTENT);
+    IS(ran.code, ZMG_RUN_INCONSISTENT);
     IS(ran.player, 1);
     IS(ran.was, -77);
     IS(ran.should, 0);
@@ -507,8 +511,8 @@ static void no_memory(void) {
         fail_once(n);
         code = zmg_node_new(&key, &c);
         if (!code) continue;
-        IS(code, ZMG_NO_MEMORY);
-        IS(zmg_node_phase(&key).code, ZMG_NO_NODE);
+        IS(code, ZMG_NEW_NO_MEMORY);
+        IS(zmg_node_phase(&key).code, ZMG_PHASE_NO_NODE);
         IS(blocks_held(), 0);
     }
     IS(n, 4);

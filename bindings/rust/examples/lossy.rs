@@ -48,7 +48,7 @@ impl Luck {
     }
 }
 
-/// One way of the line: datagrams with the rounds after which they come. It is no older than 16 rounds, so
+/// One way of the line: datagrams with the rounds after which they come. None is older than 16 rounds, so
 /// nothing comes from more than 64 tics away.
 #[derive(Default)]
 struct Way {

@@ -2,8 +2,9 @@
 //!
 //! A [`Player`] is one player's part of a game of two to four: a node of the game and a [`World`], kept in
 //! step. It builds a command from keys for each tic, gives and takes Doom's datagrams, steps the world by
-//! the tics that are whole, checks the marks of the other players' worlds, and records a demo. The network
-//! is yours: hand each packet to its player's machine, and each datagram that comes to [`Player::receive`].
+//! each tic whose commands are there, checks the marks of the other players' worlds, and records a demo. The
+//! network is yours: hand each packet to its player's machine, and each datagram that comes to
+//! [`Player::receive`].
 //!
 //! Two players in one process:
 //!
@@ -58,10 +59,11 @@
 //! # }
 //! ```
 //!
-//! Nothing here waits, prints or opens anything. All memory is taken by `Player::new`, but for what `demo`
-//! copies. A [`Node`], [`Player`], [`Reader`] or [`Demo`] stays on the thread that made it, and none is used
-//! in the forked child of a process with threads. The library under it is proved: see the repository. This crate is not; it only passes references
-//! as pointers and numbers as enums.
+//! Nothing here waits, prints or opens anything. A player's memory is all taken by `Player::new`, but for the
+//! copy that `demo` returns; readers of demos, `upgrade` and packets take their own. A [`Node`], [`Player`],
+//! [`Reader`] or [`Demo`] stays on the thread that made it, and none is used in the forked child of a process
+//! with threads. The library under it is proved: see the repository. This crate is not; it only passes
+//! references as pointers and numbers as enums.
 
 #![deny(missing_docs)]
 

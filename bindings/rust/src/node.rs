@@ -99,7 +99,7 @@ impl Node {
         (datagram.length > 0).then_some(datagram)
     }
 
-    /// The whole numbers of the packet that [`packet`](Node::packet) would give now: it is called before
+    /// The full tic numbers of the packet that [`packet`](Node::packet) would give now: it is called before
     /// `packet` for the same player.
     pub fn aim(&mut self, to: u8) -> Option<Aim> {
         let raw = unsafe { raw::zmg_node_aim(&mut self.0, to) };
@@ -134,7 +134,8 @@ impl Node {
         }
     }
 
-    /// Ends the node: whether it had not ended. It still gives packets, which tell the others.
+    /// Ends the node: whether it had not ended. If it has played, it still gives packets, which tell the
+    /// others of its end.
     pub fn quit(&mut self) -> bool {
         unsafe { raw::zmg_node_quit(&mut self.0) != 0 }
     }

@@ -45,7 +45,7 @@ impl<W: World> Player<W> {
         self.node.packet(to)
     }
 
-    /// The whole numbers of the packet that [`packet`](Player::packet) would give now: it is called before
+    /// The full tic numbers of the packet that [`packet`](Player::packet) would give now: it is called before
     /// `packet` for the same player.
     pub fn aim(&mut self, to: u8) -> Option<Aim> {
         self.node.aim(to)
@@ -66,7 +66,7 @@ impl<W: World> Player<W> {
         heard
     }
 
-    /// Runs the next tic if it is whole, and steps the world by it.
+    /// Runs the next tic if its commands are there, and steps the world by it.
     pub fn step(&mut self) -> Ran {
         let players = usize::from(self.node.players());
         let playing = self.node.phase() == Phase::Playing;
@@ -85,7 +85,7 @@ impl<W: World> Player<W> {
         ran
     }
 
-    /// Runs all tics that are whole: why there is no further one.
+    /// Runs every tic whose commands are there, and returns why the next is not run.
     pub fn run(&mut self) -> Ran {
         loop {
             match self.step() {
@@ -95,7 +95,8 @@ impl<W: World> Player<W> {
         }
     }
 
-    /// Ends the node: whether it had not ended. It still gives packets, which tell the others.
+    /// Ends the node: whether it had not ended. If it has played, it still gives packets, which tell the
+    /// others of its end.
     pub fn quit(&mut self) -> bool {
         self.node.quit()
     }

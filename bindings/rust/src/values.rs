@@ -205,7 +205,7 @@ pub enum Dropped {
     Length,
     /// Its sum is wrong.
     Sum,
-    /// It is not from another player of the game.
+    /// It is not from another player of the game, or it names another player than `from`.
     Stranger,
     /// Settings, not from player 0 or once the game runs.
     OutOfPlace,
@@ -233,13 +233,13 @@ pub enum Dropped {
 pub enum Heard {
     /// The game starts.
     Started,
-    /// So many commands were new.
+    /// This many commands were new.
     Taken(u32),
     /// No command was new.
     Stale,
-    /// Commands before it are missing, and are asked for.
+    /// Commands before it are missing, and are asked for. The sender may have left: see `end`.
     Gap,
-    /// The sender has left, and its last command is known.
+    /// The sender has left, and all its commands are here: see `end`.
     Left,
     /// Player 0 waits for others yet, or this node has ended.
     Noted,
@@ -291,7 +291,7 @@ pub enum Phase {
     Ended(Cause),
 }
 
-/// The whole numbers of a packet, of which it carries the low bytes.
+/// The full tic numbers of a packet, of which it carries only the low bytes.
 #[derive(Clone, Copy, Debug, PartialEq, Eq)]
 pub struct Aim {
     /// As in a packet.

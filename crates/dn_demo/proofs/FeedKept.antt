@@ -20,9 +20,11 @@ use Rattle.dn_demo.proofs.HeadersKept.{header_kept, header_of_kept, kept_longer}
 use Rattle.dn_demo.proofs.RowsKept.{unmarked, lt_of_product}
 
 -- behind a whole header that stays, bytes are shown where their rows are
-pub shown_more : {S W : Type 0} (state : W → S) (physics : Physics S) (bytes more : List ℕ) (f g : Feeding W) → 13 ≤ f.taken
+pub shown_more : {S W : Type 0} (state : W → S) (physics : Physics S) (bytes more : List ℕ) (f g : Feeding W)
+    → 13 ≤ f.taken
     → Shows state physics bytes f → g.taken ≡ f.taken + length more → g.header ≡ f.header
-    → ((layout : Layout) → HasHeader layout bytes → ShowsRows state physics layout bytes f → ShowsRows state physics layout (bytes ++ more) g)
+    → ((layout : Layout) → HasHeader layout bytes → ShowsRows state physics layout bytes f
+    → ShowsRows state physics layout (bytes ++ more) g)
     → Shows state physics (bytes ++ more) g
 shown_more state physics bytes more f g long shown taken header rows =
     let whole : 13 ≤ length bytes = omega (arith, shown.taken) in
@@ -31,12 +33,14 @@ shown_more state physics bytes more f g long shown taken header rows =
       taken = omega (arith, taken, shown.taken, length-append bytes more);
       header = header ∙ same;
       rows = λ layout h.
-          let own = header_of_kept layout bytes f.header shown.header (header_kept layout (bytes ++ more) f.header same h) in
+          let own = header_of_kept layout bytes f.header shown.header
+          (header_kept layout (bytes ++ more) f.header same h) in
           rows layout own (shown.rows layout own);
     }
 
 -- of the layout that its header has
-pub shown_in : {S W : Type 0} (state : W → S) (physics : Physics S) (layout : Layout) (bytes more : List ℕ) (f g : Feeding W) → HasHeader layout f.header → 13 ≤ f.taken
+pub shown_in : {S W : Type 0} (state : W → S) (physics : Physics S) (layout : Layout) (bytes more : List ℕ)
+    (f g : Feeding W) → HasHeader layout f.header → 13 ≤ f.taken
     → Shows state physics bytes f → g.taken ≡ f.taken + length more → g.header ≡ f.header
     → (ShowsRows state physics layout bytes f → ShowsRows state physics layout (bytes ++ more) g)
     → Shows state physics (bytes ++ more) g
@@ -47,21 +51,29 @@ shown_in state physics layout bytes more f g h long shown taken header rows =
     subst (λ (l : Layout). ShowsRows state physics l (bytes ++ more) g) same (rows (shown.rows layout mine)))
 
 -- the bytes before the marker are read as the demo that was stepped by
-pub fed_as : {S W : Type 0} (state : W → S) (physics : Physics S) (layout : Layout) (bytes : List ℕ) (f : Feeding W) → HasHeader layout bytes → f.marked ≡ true
+pub fed_as : {S W : Type 0} (state : W → S) (physics : Physics S) (layout : Layout) (bytes : List ℕ)
+    (f : Feeding W) → HasHeader layout bytes → f.marked ≡ true
     → ShowsRows state physics layout bytes f
-    → (demo : Recording) × IsReadAs bytes (Ok demo) × (demo ≡ recording layout bytes (player_count (seats_in bytes) * f.tics + length f.row / command_size layout) f.after)
-    × (f.tics ≡ length demo.rows) × (length f.row / command_size layout ≡ demo.cut) × (state f.world ≡ state_after physics demo)
+    → (demo : Recording) × IsReadAs bytes (Ok demo)
+    × (demo ≡ recording layout bytes
+    (player_count (seats_in bytes) * f.tics + length f.row / command_size layout) f.after)
+    × (f.tics ≡ length demo.rows) × (length f.row / command_size layout ≡ demo.cut)
+    × (state f.world ≡ state_after physics demo)
 fed_as state physics layout bytes f h marked rows =
-    let ends : IsFront layout bytes true rows.front f.after = subst (λ m. IsFront layout bytes m rows.front f.after) marked rows.ends in
+    let ends : IsFront layout bytes true rows.front f.after =
+    subst (λ m. IsFront layout bytes m rows.front f.after) marked rows.ends in
     let commands = ends.0 in
     let players = player_count (seats_in bytes) in
     let size = command_size layout in
     let inside = slice_get_within bytes (place layout commands) marker ends.1.marked in
-    let front : length rows.front ≡ place layout commands = ap length ends.2 ∙ length-take-le (place layout commands) bytes (omega arith) in
+    let front : length rows.front ≡ place layout commands =
+    ap length ends.2 ∙ length-take-le (place layout commands) bytes (omega arith) in
     let row : length f.row ≡ place layout commands - place layout (players * f.tics) =
-    ap length rows.row ∙ length-drop (place layout (players * f.tics)) rows.front ∙ ap (λ n. n - place layout (players * f.tics)) front in
+    ap length rows.row ∙ length-drop (place layout (players * f.tics)) rows.front
+    ∙ ap (λ n. n - place layout (players * f.tics)) front in
     let order : players * f.tics ≤ commands = elim (cases_lt commands (players * f.tics)) [
-      | inl below ↦ let above = place_below layout commands (players * f.tics) below in absurd (omega (arith, above, rows.whole, front))
+      | inl below ↦ let above = place_below layout commands (players * f.tics) below in
+          absurd (omega (arith, above, rows.whole, front))
       | inr within ↦ omega arith
     ] in
     let cut = commands - players * f.tics in
@@ -70,37 +82,49 @@ fed_as state physics layout bytes f h marked rows =
     let spread : size * commands ≡ size * (players * f.tics) + size * cut = ap (λ n. size * n) sum ∙ apart in
     let bytes_cut : length f.row ≡ size * cut = omega (arith, row, spread) in
     let few : cut < players = lt_of_product size cut players (omega (arith, bytes_cut, rows.unfinished)) in
-    let cut_is : length f.row / size ≡ cut = ap (λ n. n / size) bytes_cut ∙ mul-div_cancel_left cut (omega arith) in
+    let cut_is : length f.row / size ≡ cut = ap (λ n. n / size) bytes_cut
+    ∙ mul-div_cancel_left cut (omega arith) in
     let turned : commands ≡ f.tics * players + cut = omega (arith, sum) in
-    let tics : commands / players ≡ f.tics = ap (λ n. n / players) turned ∙ div-mul-add f.tics players cut few in
+    let tics : commands / players ≡ f.tics = ap (λ n. n / players) turned
+    ∙ div-mul-add f.tics players cut few in
     let left : commands % players ≡ cut = ap (λ n. n % players) turned ∙ mod-mul-add f.tics players cut few in
     let demo = recording layout bytes commands f.after in
-    let read : IsReadAs bytes (Ok demo) = (layout, h, (commands, ends.1, ap (recording layout bytes commands) ends.3)) in
+    let read : IsReadAs bytes (Ok demo) =
+    (layout, h, (commands, ends.1, ap (recording layout bytes commands) ends.3)) in
     let same : demo ≡ recording layout bytes (players * f.tics + length f.row / size) f.after =
     ap (λ n. recording layout bytes n f.after) (sum ∙ ap (λ n. players * f.tics + n) (sym cut_is)) in
-    let count : f.tics ≡ length demo.rows = sym tics ∙ sym (length-map-range_with_len (row_in layout bytes) 0 (commands / players)) in
-    let world : state f.world ≡ state_after physics demo = rows.world ∙ ap (state_by physics layout bytes) (sym tics) in
+    let count : f.tics ≡ length demo.rows = sym tics
+    ∙ sym (length-map-range_with_len (row_in layout bytes) 0 (commands / players)) in
+    let world : state f.world ≡ state_after physics demo =
+    rows.world ∙ ap (state_by physics layout bytes) (sym tics) in
     (demo, read, same, count, cut_is ∙ sym left, world)
 
 -- without a marker there is none
-pub no_marker : {S W : Type 0} (state : W → S) (physics : Physics S) (layout : Layout) (bytes : List ℕ) (f : Feeding W) → HasHeader layout bytes → f.marked ≡ false
+pub no_marker : {S W : Type 0} (state : W → S) (physics : Physics S) (layout : Layout) (bytes : List ℕ)
+    (f : Feeding W) → HasHeader layout bytes → f.marked ≡ false
     → ShowsRows state physics layout bytes f → IsReadAs bytes (Err NoMarker)
-no_marker state physics layout bytes f h free rows = (layout, h, (unmarked state physics layout bytes f free rows).none)
+no_marker state physics layout bytes f h free rows =
+    (layout, h, (unmarked state physics layout bytes f free rows).none)
 
 -- a front, and one behind it
-pub front_more : {S W : Type 0} (state : W → S) (physics : Physics S) (f g h : Feeding W) (piece mid rest : List ℕ)
-    → TakesFront state physics f piece mid g → TakesFront state physics g mid rest h → TakesFront state physics f piece rest h
+pub front_more : {S W : Type 0} (state : W → S) (physics : Physics S) (f g h : Feeding W)
+    (piece mid rest : List ℕ)
+    → TakesFront state physics f piece mid g → TakesFront state physics g mid rest h
+    → TakesFront state physics f piece rest h
 front_more state physics f g h piece mid rest one other =
     record {
       front = one.front ++ other.front;
-      split = one.split ∙ ap (λ (t : List ℕ). one.front ++ t) other.split ∙ sym (append_assoc one.front other.front rest);
+      split = one.split ∙ ap (λ (t : List ℕ). one.front ++ t) other.split
+          ∙ sym (append_assoc one.front other.front rest);
       count = omega (arith, one.count, other.count, length-append one.front other.front);
-      shown = λ bytes shown. subst (λ (b : List ℕ). Shows state physics b h) (append_assoc bytes one.front other.front)
+      shown = λ bytes shown. subst (λ (b : List ℕ). Shows state physics b h)
+          (append_assoc bytes one.front other.front)
           (other.shown (bytes ++ one.front) (one.shown bytes shown));
     }
 
 -- all of a piece
-pub front_all : {S W : Type 0} (state : W → S) (physics : Physics S) (f g : Feeding W) (piece rest : List ℕ) → length rest ≡ 0
+pub front_all : {S W : Type 0} (state : W → S) (physics : Physics S) (f g : Feeding W) (piece rest : List ℕ)
+    → length rest ≡ 0
     → TakesFront state physics f piece rest g → Takes state physics f piece g
 front_all state physics f g piece [] empty all =
     subst (λ (p : List ℕ). Takes state physics f p g) (sym (all.split ∙ append-nil all.front)) all.shown

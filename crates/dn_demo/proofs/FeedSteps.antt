@@ -33,13 +33,16 @@ few_players [] = omega arith
 few_players (true ∷ seats) = omega (arith, few_players seats)
 few_players (false ∷ seats) = omega (arith, few_players seats)
 
-pub short_row : (layout : declared.Layout) (bytes : List ℕ) → row_size (layout_of layout) (seats_in bytes) ≤ 20
+pub short_row : (layout : declared.Layout) (bytes : List ℕ)
+    → row_size (layout_of layout) (seats_in bytes) ≤ 20
 short_row Vanilla bytes = omega (arith, few_players (seats_in bytes))
 short_row LongTics bytes = omega (arith, few_players (seats_in bytes))
 
 -- behind the marker
-pub pass_marked : {S W : Type 0} (state : W → S) (physics : Physics S) (f g : Feeding W) (piece : List ℕ) → f.marked ≡ true → 13 ≤ f.taken
-    → g.taken ≡ f.taken + length piece → g.header ≡ f.header → g.tics ≡ f.tics → g.row ≡ f.row → g.after ≡ f.after + length piece → g.marked ≡ true
+pub pass_marked : {S W : Type 0} (state : W → S) (physics : Physics S) (f g : Feeding W) (piece : List ℕ)
+    → f.marked ≡ true → 13 ≤ f.taken
+    → g.taken ≡ f.taken + length piece → g.header ≡ f.header → g.tics ≡ f.tics → g.row ≡ f.row
+    → g.after ≡ f.after + length piece → g.marked ≡ true
     → state g.world ≡ state f.world → Takes state physics f piece g
 pass_marked state physics f g piece was long taken header tics row after marked world = λ bytes shown.
     let whole : 13 ≤ length bytes = omega (arith, shown.taken, long) in
@@ -47,16 +50,20 @@ pass_marked state physics f g piece was long taken header tics row after marked 
     (λ layout h rows. passed state physics layout bytes piece f g was whole rows tics row after marked world)
 
 -- behind a header that is refused
-pub pass_unread : {S W : Type 0} (state : W → S) (physics : Physics S) (f g : Feeding W) (piece : List ℕ) → ((layout : Layout) → HasHeader layout f.header → ⊥) → 13 ≤ f.taken
+pub pass_unread : {S W : Type 0} (state : W → S) (physics : Physics S) (f g : Feeding W) (piece : List ℕ)
+    → ((layout : Layout) → HasHeader layout f.header → ⊥) → 13 ≤ f.taken
     → g.taken ≡ f.taken + length piece → g.header ≡ f.header → Takes state physics f piece g
 pass_unread state physics f g piece none long taken header = λ bytes shown.
     shown_more state physics bytes piece f g long shown taken header
     (λ layout h rows. absurd (none layout (header_kept layout bytes f.header shown.header h)))
 
 -- in the header
-pub in_header : {S W : Type 0} (state : W → S) (physics : Physics S) (f g : Feeding W) (byte : ℕ) → f.taken < 13
-    → g.taken ≡ f.taken + 1 → g.header ≡ f.header ++ byte ∷ [] → g.tics ≡ 0 → g.row ≡ [] → g.marked ≡ false → g.after ≡ 0
-    → ((layout : Layout) → HasHeader layout g.header → state g.world ≡ physics.begin (start_in g.header) (seats_in g.header))
+pub in_header : {S W : Type 0} (state : W → S) (physics : Physics S) (f g : Feeding W) (byte : ℕ)
+    → f.taken < 13
+    → g.taken ≡ f.taken + 1 → g.header ≡ f.header ++ byte ∷ [] → g.tics ≡ 0 → g.row ≡ [] → g.marked ≡ false
+    → g.after ≡ 0
+    → ((layout : Layout) → HasHeader layout g.header
+    → state g.world ≡ physics.begin (start_in g.header) (seats_in g.header))
     → Takes state physics f (byte ∷ []) g
 in_header state physics f g byte below taken header tics row free after world = λ bytes shown.
     let all = bytes ++ byte ∷ [] in
@@ -68,52 +75,70 @@ in_header state physics f g byte below taken header tics row free after world = 
       header = own ∙ sym (take_all 13 all (omega (arith, size, taken, below)));
       rows = λ layout h.
           let there : HasHeader layout g.header = subst (λ (t : List ℕ). HasHeader layout t) (sym own) h in
-          begun state physics layout all g (omega (arith, size, taken, below, h.whole)) h.somebody tics row free after
+          begun state physics layout all g (omega (arith, size, taken, below, h.whole)) h.somebody tics row
+          free after
           (world layout there ∙ (λ i. physics.begin (start_in (own i)) (seats_in (own i))));
     }
 
 -- a marker at a command's place
-pub at_marker : {S W : Type 0} (state : W → S) (physics : Physics S) (layout : Layout) (f g : Feeding W) (byte : ℕ) → HasHeader layout f.header → 13 ≤ f.taken → f.marked ≡ false
+pub at_marker : {S W : Type 0} (state : W → S) (physics : Physics S) (layout : Layout) (f g : Feeding W)
+    (byte : ℕ) → HasHeader layout f.header → 13 ≤ f.taken → f.marked ≡ false
     → byte ≡ marker → length f.row % command_size layout ≡ 0
-    → g.taken ≡ f.taken + 1 → g.header ≡ f.header → g.tics ≡ f.tics → g.row ≡ f.row → g.after ≡ f.after → g.marked ≡ true → state g.world ≡ state f.world
+    → g.taken ≡ f.taken + 1 → g.header ≡ f.header → g.tics ≡ f.tics → g.row ≡ f.row → g.after ≡ f.after
+    → g.marked ≡ true → state g.world ≡ state f.world
     → Takes state physics f (byte ∷ []) g
-at_marker state physics layout f g byte h long free is even taken header tics row after marked world = λ bytes shown.
+at_marker state physics layout f g byte h long free is even taken header tics row after marked world =
+    λ bytes shown.
     shown_in state physics layout bytes (byte ∷ []) f g h long shown taken header (λ rows.
     subst (λ b. ShowsRows state physics layout (bytes ++ b ∷ []) g) (sym is)
-    (marker_came state physics layout bytes f g (unmarked state physics layout bytes f free rows) even tics row after marked world))
+    (marker_came state physics layout bytes f g (unmarked state physics layout bytes f free rows) even tics
+    row after marked world))
 
 -- a byte of a row
-pub in_row : {S W : Type 0} (state : W → S) (physics : Physics S) (layout : Layout) (f g : Feeding W) (byte : ℕ) → HasHeader layout f.header → 13 ≤ f.taken → f.marked ≡ false
+pub in_row : {S W : Type 0} (state : W → S) (physics : Physics S) (layout : Layout) (f g : Feeding W)
+    (byte : ℕ) → HasHeader layout f.header → 13 ≤ f.taken → f.marked ≡ false
     → (byte ≡ marker → length f.row % command_size layout ≢ 0)
-    → g.taken ≡ f.taken + 1 → g.header ≡ f.header → g.tics ≡ f.tics → g.row ≡ f.row ++ byte ∷ [] → g.after ≡ f.after → g.marked ≡ false → state g.world ≡ state f.world
+    → g.taken ≡ f.taken + 1 → g.header ≡ f.header → g.tics ≡ f.tics → g.row ≡ f.row ++ byte ∷ []
+    → g.after ≡ f.after → g.marked ≡ false → state g.world ≡ state f.world
     → length g.row < row_size layout (seats_in f.header) → Takes state physics f (byte ∷ []) g
-in_row state physics layout f g byte h long free not taken header tics row after marked world room = λ bytes shown.
+in_row state physics layout f g byte h long free not taken header tics row after marked world room =
+    λ bytes shown.
     let size = ap (row_size layout) (seats_kept bytes f.header shown.header) in
     shown_in state physics layout bytes (byte ∷ []) f g h long shown taken header (λ rows.
     of_unmarked state physics layout (bytes ++ byte ∷ []) g marked
-    (byte_kept state physics layout bytes f g byte (unmarked state physics layout bytes f free rows) not tics row after world (omega (arith, room, size))))
+    (byte_kept state physics layout bytes f g byte (unmarked state physics layout bytes f free rows) not tics
+    row after world (omega (arith, room, size))))
 
 -- the last byte of a row
-pub ends_row : {S W : Type 0} (state : W → S) (physics : Physics S) (layout : Layout) (f g : Feeding W) (byte : ℕ) (present : List Bool) (moves : List (Option Move))
-    → HasHeader layout f.header → 13 ≤ f.taken → f.marked ≡ false → (byte ≡ marker → length f.row % command_size layout ≢ 0)
-    → g.taken ≡ f.taken + 1 → g.header ≡ f.header → g.tics ≡ f.tics + 1 → g.row ≡ [] → g.after ≡ f.after → g.marked ≡ false
+pub ends_row : {S W : Type 0} (state : W → S) (physics : Physics S) (layout : Layout) (f g : Feeding W)
+    (byte : ℕ) (present : List Bool) (moves : List (Option Move))
+    → HasHeader layout f.header → 13 ≤ f.taken → f.marked ≡ false
+    → (byte ≡ marker → length f.row % command_size layout ≢ 0)
+    → g.taken ≡ f.taken + 1 → g.header ≡ f.header → g.tics ≡ f.tics + 1 → g.row ≡ [] → g.after ≡ f.after
+    → g.marked ≡ false
     → length (f.row ++ byte ∷ []) ≡ row_size layout (seats_in f.header) → present ≡ seats_in f.header
-    → ((front : List ℕ) (command : ℕ) → length front + 0 ≡ place layout command → moves ≡ moves_from layout (front ++ (f.row ++ byte ∷ [])) present command)
+    → ((front : List ℕ) (command : ℕ) → length front + 0 ≡ place layout command
+    → moves ≡ moves_from layout (front ++ (f.row ++ byte ∷ [])) present command)
     → state g.world ≡ physics.step (state f.world) moves → Takes state physics f (byte ∷ []) g
-ends_row state physics layout f g byte present moves h long free not taken header tics row after marked full seats told world = λ bytes shown.
+ends_row state physics layout f g byte present moves h long free not taken header tics row after marked full
+    seats told world = λ bytes shown.
     let kept = seats_kept bytes f.header shown.header in
     shown_in state physics layout bytes (byte ∷ []) f g h long shown taken header (λ rows.
     of_unmarked state physics layout (bytes ++ byte ∷ []) g marked
-    (row_done state physics layout bytes f g byte present moves (unmarked state physics layout bytes f free rows) not tics row after
+    (row_done state physics layout bytes f g byte present moves
+    (unmarked state physics layout bytes f free rows) not tics row after
     (full ∙ ap (row_size layout) kept) (seats ∙ kept) told world))
 
 -- rows at the front of a piece
-pub in_rows : {S W : Type 0} (state : W → S) (physics : Physics S) (layout : Layout) (f g : Feeding W) (piece rest : List ℕ) (present : List Bool)
+pub in_rows : {S W : Type 0} (state : W → S) (physics : Physics S) (layout : Layout) (f g : Feeding W)
+    (piece rest : List ℕ) (present : List Bool)
     → HasHeader layout f.header → 13 ≤ f.taken → f.marked ≡ false → f.row ≡ [] → present ≡ seats_in f.header
     → (steps : Steps state physics layout present f.world piece rest g.world)
-    → g.taken ≡ f.taken + row_size layout present * steps.tics → g.header ≡ f.header → g.tics ≡ f.tics + steps.tics → g.row ≡ [] → g.after ≡ f.after → g.marked ≡ false
+    → g.taken ≡ f.taken + row_size layout present * steps.tics → g.header ≡ f.header
+    → g.tics ≡ f.tics + steps.tics → g.row ≡ [] → g.after ≡ f.after → g.marked ≡ false
     → TakesFront state physics f piece rest g
-in_rows state physics layout f g piece rest present h long free none seats steps taken header tics row after marked =
+in_rows state physics layout f g piece rest present h long free none seats steps taken header tics row after
+    marked =
     let many = row_size layout present * steps.tics in
     let size = length-take-le many piece steps.within in
     record {
@@ -121,25 +146,35 @@ in_rows state physics layout f g piece rest present h long free none seats steps
       split = sym (take-append-drop many piece) ∙ ap (λ (t : List ℕ). take many piece ++ t) (sym steps.left);
       count = omega (arith, taken, size);
       shown = λ bytes shown.
-          shown_in state physics layout bytes (take many piece) f g h long shown (omega (arith, taken, size)) header (λ rows.
+          shown_in state physics layout bytes (take many piece) f g h long shown (omega (arith, taken, size))
+          header (λ rows.
           of_unmarked state physics layout (bytes ++ take many piece) g marked
-          (rows_done state physics layout bytes piece rest f g present (unmarked state physics layout bytes f free rows) none (seats ∙ seats_kept bytes f.header shown.header) steps tics row after));
+          (rows_done state physics layout bytes piece rest f g present
+          (unmarked state physics layout bytes f free rows) none
+          (seats ∙ seats_kept bytes f.header shown.header) steps tics row after));
     }
 
 -- a header that is kept is whole
-pub kept_whole : (layout : Layout) (taken : ℕ) (header : List ℕ) → HasHeader layout (take taken header) → length header ≡ 13 → 13 ≤ taken
+pub kept_whole : (layout : Layout) (taken : ℕ) (header : List ℕ) → HasHeader layout (take taken header)
+    → length header ≡ 13 → 13 ≤ taken
 kept_whole layout taken header h size = omega (arith, h.whole, length-take taken header, size)
 
-pub some_row : (layout : Layout) (header : List ℕ) (present : List Bool) → HasHeader layout header → present ≡ seats_in header → 0 < row_size layout present
-some_row layout header present h seats = some_product (command_size layout) (player_count present) (omega arith) (omega (arith, ap player_count seats, h.somebody))
+pub some_row : (layout : Layout) (header : List ℕ) (present : List Bool) → HasHeader layout header
+    → present ≡ seats_in header → 0 < row_size layout present
+some_row layout header present h seats = some_product (command_size layout) (player_count present)
+    (omega arith) (omega (arith, ap player_count seats, h.somebody))
 
 -- a byte more makes a row longer by one
-pub grown : (kept : ℕ) (row : List ℕ) (byte : ℕ) → kept < length row → length (take (kept + 1) (set row kept byte)) ≡ kept + 1
-grown kept row byte below = length-take-le (kept + 1) (set row kept byte) (omega (arith, below, length-set row kept byte))
+pub grown : (kept : ℕ) (row : List ℕ) (byte : ℕ) → kept < length row
+    → length (take (kept + 1) (set row kept byte)) ≡ kept + 1
+grown kept row byte below = length-take-le (kept + 1) (set row kept byte)
+    (omega (arith, below, length-set row kept byte))
 
 -- a row that is not full has room for another byte
-pub not_full : (layout : Layout) (header : List ℕ) (present : List Bool) (kept count : ℕ) → kept < row_size layout (seats_in header)
-    → present ≡ seats_in header → count ≡ row_size layout present → (kept + 1 ≡ count → ⊥) → kept + 1 < row_size layout (seats_in header)
+pub not_full : (layout : Layout) (header : List ℕ) (present : List Bool) (kept count : ℕ)
+    → kept < row_size layout (seats_in header)
+    → present ≡ seats_in header → count ≡ row_size layout present → (kept + 1 ≡ count → ⊥)
+    → kept + 1 < row_size layout (seats_in header)
 not_full layout header present kept count below seats size not =
     let same = size ∙ ap (row_size layout) seats in
     elim (cases_lt (kept + 1) (row_size layout (seats_in header))) [
@@ -148,8 +183,10 @@ not_full layout header present kept count below seats size not =
     ]
 
 -- a feed that took a byte of a row
-pub still_kept : {W : Type 0} (layout : Layout) (f g : Feeding W) → HasHeader layout f.header → 13 ≤ f.taken → IsKept f
-    → g.taken ≡ f.taken + 1 → g.header ≡ f.header → g.tics ≡ f.tics → g.after ≡ f.after → length g.row < row_size layout (seats_in f.header) → IsKept g
+pub still_kept : {W : Type 0} (layout : Layout) (f g : Feeding W) → HasHeader layout f.header → 13 ≤ f.taken
+    → IsKept f
+    → g.taken ≡ f.taken + 1 → g.header ≡ f.header → g.tics ≡ f.tics → g.after ≡ f.after
+    → length g.row < row_size layout (seats_in f.header) → IsKept g
 still_kept layout f g h long kept taken header tics after room =
     record {
       played = omega (arith, kept.played, taken, tics);
@@ -158,14 +195,17 @@ still_kept layout f g h long kept taken header tics after room =
       unfinished = λ own has.
           let here : HasHeader own f.header = subst (λ (t : List ℕ). HasHeader own t) header has in
           let same : layout ≡ own = same_layout f.header layout own h.known here.known in
-          let back : row_size layout (seats_in f.header) ≡ row_size own (seats_in g.header) = λ i. row_size (same i) (seats_in (sym header i)) in
+          let back : row_size layout (seats_in f.header) ≡ row_size own (seats_in g.header) =
+          λ i. row_size (same i) (seats_in (sym header i)) in
           omega (arith, room, back);
     }
 
 -- what came of a header
-pub header_so_far : (taken n : ℕ) (header : List ℕ) → length header ≡ 13 → n ≡ min 13 taken → take n header ≡ take taken header
+pub header_so_far : (taken n : ℕ) (header : List ℕ) → length header ≡ 13 → n ≡ min 13 taken
+    → take n header ≡ take taken header
 header_so_far taken n header size e =
     elim (cases_lt taken 13) [
       | inl short ↦ let same : n ≡ taken = omega (arith, e) in ap (λ m. take m header) same
-      | inr long ↦ take_all n header (omega (arith, e, size)) ∙ sym (take_all taken header (omega (arith, size)))
+      | inr long ↦ take_all n header (omega (arith, e, size))
+          ∙ sym (take_all taken header (omega (arith, size)))
     ]

@@ -17,7 +17,8 @@ tic_fits players tic commands below =
 -- a front of the bytes that has the whole header tells the same of it
 pub start_in-take : (n : ℕ) (bytes : List ℕ) → 13 ≤ n → start_in (take n bytes) ≡ start_in bytes
 start_in-take n bytes whole =
-    let at : (i : ℕ) → i ≤ 12 → get_or (take n bytes) i 0 ≡ get_or bytes i 0 = λ i small. get_or-take n bytes i 0 (omega arith) in
+    let at : (i : ℕ) → i ≤ 12 → get_or (take n bytes) i 0 ≡ get_or bytes i 0 =
+    λ i small. get_or-take n bytes i 0 (omega arith) in
     let a = at 1 (omega arith) in
     let b = at 2 (omega arith) in
     let c = at 3 (omega arith) in
@@ -25,7 +26,16 @@ start_in-take n bytes whole =
     let e = at 5 (omega arith) in
     let f = at 6 (omega arith) in
     let g = at 7 (omega arith) in
-    λ i. record { skill = a i; episode = b i; map = c i; deathmatch = d i; respawn = e i; fast = f i; no_monsters = g i }
+    λ i. record {
+      skill = a i;
+      episode = b i;
+      map = c i;
+      deathmatch = d i;
+      respawn = e i;
+      fast =
+          f i;
+      no_monsters = g i;
+    }
 
 pub seats_in-take : (n : ℕ) (bytes : List ℕ) → 13 ≤ n → seats_in (take n bytes) ≡ seats_in bytes
 seats_in-take n bytes whole =
@@ -53,12 +63,16 @@ move_at-take : (layout : Layout) (k : ℕ) (bytes : List ℕ) (command : ℕ) �
 move_at-take layout k bytes command below =
     let room = place_below layout command k below in
     let n = command_size layout in
-    let fits : place layout command + (n + (place layout k - (place layout command + n))) ≡ place layout k = omega arith in
+    let fits : place layout command + (n + (place layout k - (place layout command + n))) ≡ place layout k =
+    omega arith in
     let more = place layout k - (place layout command + n) in
-    let rest = ap (λ m. drop (place layout command) (take m bytes)) (sym fits) ∙ drop-take (place layout command) (n + more) bytes in
-    ap (λ t. tell layout (take n t)) rest ∙ ap (tell layout) (take_take n more (drop (place layout command) bytes))
+    let rest = ap (λ m. drop (place layout command) (take m bytes)) (sym fits)
+    ∙ drop-take (place layout command) (n + more) bytes in
+    ap (λ t. tell layout (take n t)) rest ∙ ap (tell layout)
+    (take_take n more (drop (place layout command) bytes))
 
-pub moves_from-take : (layout : Layout) (k : ℕ) (bytes : List ℕ) (seats : List Bool) (command : ℕ) → command + player_count seats ≤ k
+pub moves_from-take : (layout : Layout) (k : ℕ) (bytes : List ℕ) (seats : List Bool) (command : ℕ)
+    → command + player_count seats ≤ k
     → moves_from layout (take (place layout k) bytes) seats command ≡ moves_from layout bytes seats command
 moves_from-take layout k bytes [] command fits = refl
 moves_from-take layout k bytes (true ∷ seats) command fits =
@@ -70,15 +84,18 @@ moves_from-take layout k bytes (false ∷ seats) command fits =
     λ i. None ∷ others i
 
 -- and of the rows
-pub row_in-take : (layout : Layout) (k : ℕ) (bytes : List ℕ) (tic : ℕ) → tic < k / player_count (seats_in bytes)
+pub row_in-take : (layout : Layout) (k : ℕ) (bytes : List ℕ) (tic : ℕ)
+    → tic < k / player_count (seats_in bytes)
     → row_in layout (take (place layout k) bytes) tic ≡ row_in layout bytes tic
 row_in-take layout k bytes tic below =
     let seats = seats_in-take (place layout k) bytes (omega arith) in
     ap (λ (s : List Bool). moves_from layout (take (place layout k) bytes) s (player_count s * tic)) seats
-    ∙ moves_from-take layout k bytes (seats_in bytes) (player_count (seats_in bytes) * tic) (tic_fits (player_count (seats_in bytes)) tic k below)
+    ∙ moves_from-take layout k bytes (seats_in bytes) (player_count (seats_in bytes) * tic)
+    (tic_fits (player_count (seats_in bytes)) tic k below)
 
 -- two functions that agree on a range
-pub map-agree : {X : Type 0} (f g : ℕ → X) (a n : ℕ) → ((i : ℕ) → a ≤ i → i < a + n → f i ≡ g i) → map f (range_with_len a n) ≡ map g (range_with_len a n)
+pub map-agree : {X : Type 0} (f g : ℕ → X) (a n : ℕ) → ((i : ℕ) → a ≤ i → i < a + n → f i ≡ g i)
+    → map f (range_with_len a n) ≡ map g (range_with_len a n)
 map-agree f g a zero same = refl
 map-agree f g a (suc n) same =
     let one = same a (omega arith) (omega arith) in

@@ -27,7 +27,8 @@ abbrev pub IsTold : Layout → Move → Type 0
 IsTold layout m = layout.turn_told (layout.turn_bytes m.turn) ≡ m.turn
 
 -- in one byte a turn of whole multiples of 256
-whole_turn : (turn : ℤ) → FitsSigned w16 turn → int_rem turn (pos 256) ≡ pos 0 → cast_signed w16 (cast_unsigned w16 turn / 256 * 256) ≡ turn
+whole_turn : (turn : ℤ) → FitsSigned w16 turn → int_rem turn (pos 256) ≡ pos 0
+    → cast_signed w16 (cast_unsigned w16 turn / 256 * 256) ≡ turn
 whole_turn (pos n) fits e = ap (cast_signed w16) (omega (arith, ints)) ∙ to_z-of_z w16 (pos n) fits
 whole_turn (negsuc n) fits e =
     let whole : suc n % 256 ≡ 0 = omega (arith, ints) in
@@ -42,27 +43,38 @@ whole_told m fits e = whole_turn m.turn fits.turn e
 pub long_told : (m : Move) → IsMove m → IsTold long_tics m
 long_told m fits =
     let small : cast_unsigned w16 m.turn < 2 ^ 16 = omega (arith, ints) in
-    ap (cast_signed w16) (from_le_bytes-to_le_bytes_2 (cast_unsigned w16 m.turn) small) ∙ to_z-of_z w16 m.turn fits.turn
+    ap (cast_signed w16) (from_le_bytes-to_le_bytes_2 (cast_unsigned w16 m.turn) small)
+    ∙ to_z-of_z w16 m.turn fits.turn
 
 -- a move is told by its bytes, where its turn is
-pub move_told : (layout : Layout) (m : Move) → IsSound layout → IsMove m → IsTold layout m → tell layout (spell layout m) ≡ m
+pub move_told : (layout : Layout) (m : Move) → IsSound layout → IsMove m → IsTold layout m
+    → tell layout (spell layout m) ≡ m
 move_told layout m sound fits is =
     let bytes = layout.turn_bytes m.turn in
     let all = bytes ++ m.buttons ∷ [] in
-    let front : take layout.turn_size all ≡ bytes = ap (λ n. take n all) (sym (sound.sized m.turn)) ∙ take-append_seam bytes (m.buttons ∷ []) in
+    let front : take layout.turn_size all ≡ bytes = ap (λ n. take n all) (sym (sound.sized m.turn))
+    ∙ take-append_seam bytes (m.buttons ∷ []) in
     let forward = to_z-of_z w8 m.forward fits.forward in
     let side = to_z-of_z w8 m.side fits.side in
     let turn = ap layout.turn_told front ∙ is in
-    let size : length (cast_unsigned w8 m.forward ∷ cast_unsigned w8 m.side ∷ bytes) ≡ layout.turn_size + 2 = omega (arith, sound.sized m.turn) in
-    let buttons = get_or_at (cast_unsigned w8 m.forward ∷ cast_unsigned w8 m.side ∷ bytes) m.buttons [] 0 (layout.turn_size + 2) size in
+    let size : length (cast_unsigned w8 m.forward ∷ cast_unsigned w8 m.side ∷ bytes) ≡ layout.turn_size + 2 =
+    omega (arith, sound.sized m.turn) in
+    let buttons = get_or_at (cast_unsigned w8 m.forward ∷ cast_unsigned w8 m.side ∷ bytes) m.buttons [] 0
+    (layout.turn_size + 2) size in
     λ i. record { forward = forward i; side = side i; turn = turn i; buttons = buttons i }
 
 -- how many bytes a move has
-pub length-spell : (layout : Layout) (m : Move) → IsSound layout → length (spell layout m) ≡ command_size layout
-length-spell layout m sound = omega (arith, length-append (layout.turn_bytes m.turn) (m.buttons ∷ []), sound.sized m.turn)
+pub length-spell : (layout : Layout) (m : Move) → IsSound layout
+    → length (spell layout m) ≡ command_size layout
+length-spell layout m sound = omega (
+  arith,
+  length-append (layout.turn_bytes m.turn) (m.buttons ∷ []),
+  sound.sized m.turn,
+)
 
 -- places of commands keep their order
 pub place_below : (layout : Layout) (j k : ℕ) → j < k → place layout j + command_size layout ≤ place layout k
 place_below layout j k below =
-    let more : command_size layout * (j + 1) ≤ command_size layout * k = mul-le-mul_left (command_size layout) (omega arith) in
+    let more : command_size layout * (j + 1) ≤ command_size layout * k =
+    mul-le-mul_left (command_size layout) (omega arith) in
     omega arith

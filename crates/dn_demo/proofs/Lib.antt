@@ -17,3 +17,4 @@ mod FeedSteps
 mod FeedEnds
 mod PiecesJoined
 pub mod Listing
+mod RowsTold

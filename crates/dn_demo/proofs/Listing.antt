@@ -21,40 +21,51 @@ use Rattle.dn_demo.proofs.RowsKept.{unmarked, lt_of_product, place_order}
 use Rattle.dn_demo.proofs.Stepping.{rows_in-append}
 
 -- the row that a byte ends, of whatever bytes were shown
-pub row_told : {S W : Type 0} (state : W → S) (physics : Physics S) (layout : Layout) (bytes : List ℕ) (f : Feeding W) (byte : ℕ)
+pub row_told : {S W : Type 0} (state : W → S) (physics : Physics S) (layout : Layout) (bytes : List ℕ)
+    (f : Feeding W) (byte : ℕ)
     (present : List Bool) (moves : List (Option Move))
     → HasHeader layout f.header → f.marked ≡ false → present ≡ seats_in f.header
-    → ((front : List ℕ) (command : ℕ) → length front + 0 ≡ place layout command → moves ≡ moves_from layout (front ++ (f.row ++ byte ∷ [])) present command)
+    → ((front : List ℕ) (command : ℕ) → length front + 0 ≡ place layout command
+    → moves ≡ moves_from layout (front ++ (f.row ++ byte ∷ [])) present command)
     → Shows state physics bytes f → moves ≡ row_in layout (bytes ++ byte ∷ []) f.tics
 row_told state physics layout bytes f byte present moves h free seats told shown =
     let here = header_of_kept layout bytes f.header shown.header h in
-    kept.row_told state physics layout bytes f byte present moves (unmarked state physics layout bytes f free (shown.rows layout here))
+    kept.row_told state physics layout bytes f byte present moves
+    (unmarked state physics layout bytes f free (shown.rows layout here))
     (seats ∙ seats_kept bytes f.header shown.header) told
 
 -- a header that bytes have once more came behind them
-old_header : (layout : Layout) (bytes more : List ℕ) → 13 ≤ length bytes → HasHeader layout (bytes ++ more) → HasHeader layout bytes
+old_header : (layout : Layout) (bytes more : List ℕ) → 13 ≤ length bytes → HasHeader layout (bytes ++ more)
+    → HasHeader layout bytes
 old_header layout bytes more whole h =
     let kept = kept_longer bytes more (take 13 bytes) refl whole in
-    header_of_kept layout bytes (take 13 bytes) refl (header_kept layout (bytes ++ more) (take 13 bytes) kept h)
+    header_of_kept layout bytes (take 13 bytes) refl
+    (header_kept layout (bytes ++ more) (take 13 bytes) kept h)
 
-longer_header : (layout : Layout) (bytes more : List ℕ) → HasHeader layout bytes → HasHeader layout (bytes ++ more)
+longer_header : (layout : Layout) (bytes more : List ℕ) → HasHeader layout bytes
+    → HasHeader layout (bytes ++ more)
 longer_header layout bytes more h =
     let kept = kept_longer bytes more (take 13 bytes) refl h.whole in
-    header_of_kept layout (bytes ++ more) (take 13 bytes) kept (header_kept layout bytes (take 13 bytes) refl h)
+    header_of_kept layout (bytes ++ more) (take 13 bytes) kept
+    (header_kept layout bytes (take 13 bytes) refl h)
 
 -- the whole tics of the bytes lie within them
-front_within : (layout : Layout) (bytes : List ℕ) (marked : Bool) (front : List ℕ) (after : ℕ) → IsFront layout bytes marked front after → length front ≤ length bytes
+front_within : (layout : Layout) (bytes : List ℕ) (marked : Bool) (front : List ℕ) (after : ℕ)
+    → IsFront layout bytes marked front after → length front ≤ length bytes
 front_within layout bytes true front after ends =
     let inside = slice_get_within bytes (place layout ends.0) marker ends.1.marked in
     omega (arith, ap length ends.2, length-take-le (place layout ends.0) bytes (omega arith))
 front_within layout bytes false front after ends = omega (arith, ap length ends.1)
 
-tics_within : {S W : Type 0} (state : W → S) (physics : Physics S) (layout : Layout) (bytes : List ℕ) (f : Feeding W) → ShowsRows state physics layout bytes f
+tics_within : {S W : Type 0} (state : W → S) (physics : Physics S) (layout : Layout) (bytes : List ℕ)
+    (f : Feeding W) → ShowsRows state physics layout bytes f
     → place layout (player_count (seats_in bytes) * f.tics) ≤ length bytes
-tics_within state physics layout bytes f rows = omega (arith, rows.whole, front_within layout bytes f.marked rows.front f.after rows.ends)
+tics_within state physics layout bytes f rows =
+    omega (arith, rows.whole, front_within layout bytes f.marked rows.front f.after rows.ends)
 
 -- behind a whole header, where no tic ends
-pub lists_none : {S W : Type 0} (state : W → S) (physics : Physics S) (f g : Feeding W) (piece : List ℕ) → 13 ≤ f.taken → g.tics ≡ f.tics
+pub lists_none : {S W : Type 0} (state : W → S) (physics : Physics S) (f g : Feeding W) (piece : List ℕ)
+    → 13 ≤ f.taken → g.tics ≡ f.tics
     → Lists state physics f piece g []
 lists_none state physics f g piece long tics =
     record {
@@ -63,20 +74,24 @@ lists_none state physics f g piece long tics =
         some = λ layout h.
             let here = old_header layout bytes piece (omega (arith, shown.taken, long)) h in
             append-nil before ∙ listed.some layout here
-            ∙ sym (rows_in-append layout bytes piece f.tics (tics_within state physics layout bytes f (shown.rows layout here)))
+            ∙ sym (rows_in-append layout bytes piece f.tics
+            (tics_within state physics layout bytes f (shown.rows layout here)))
             ∙ ap (rows_in layout (bytes ++ piece)) (sym tics);
-        none = λ no. append-nil before ∙ listed.none (λ layout h. no layout (longer_header layout bytes piece h));
+        none = λ no. append-nil before
+            ∙ listed.none (λ layout h. no layout (longer_header layout bytes piece h));
       };
     }
 
 -- in the header
-pub lists_header : {S W : Type 0} (state : W → S) (physics : Physics S) (f g : Feeding W) (byte : ℕ) → f.taken < 13 → f.tics ≡ 0 → g.tics ≡ 0
+pub lists_header : {S W : Type 0} (state : W → S) (physics : Physics S) (f g : Feeding W) (byte : ℕ)
+    → f.taken < 13 → f.tics ≡ 0 → g.tics ≡ 0
     → Lists state physics f (byte ∷ []) g []
 lists_header state physics f g byte short old new =
     record {
       tics = omega (arith, old, new);
       each = λ bytes before shown listed.
-          let empty : before ++ [] ≡ [] = append-nil before ∙ listed.none (λ layout h. omega (arith, shown.taken, short, h.whole)) in
+          let empty : before ++ [] ≡ [] = append-nil before
+          ∙ listed.none (λ layout h. omega (arith, shown.taken, short, h.whole)) in
           record {
             some = λ layout h. empty ∙ ap (rows_in layout (bytes ++ byte ∷ [])) (sym new);
             none = λ no. empty;
@@ -84,11 +99,13 @@ lists_header state physics f g byte short old new =
     }
 
 -- where a tic ends, or none
-pub lists_ended : {S W : Type 0} (state : W → S) (physics : Physics S) (layout : Layout) (f g : Feeding W) (byte : ℕ) (row : Option (List (Option Move)))
+pub lists_ended : {S W : Type 0} (state : W → S) (physics : Physics S) (layout : Layout) (f g : Feeding W)
+    (byte : ℕ) (row : Option (List (Option Move)))
     → HasHeader layout f.header → 13 ≤ f.taken → g.tics ≡ f.tics + length (told row)
     → ((bytes : List ℕ) → Shows state physics bytes f → EndsRow layout (bytes ++ byte ∷ []) f.tics g.tics row)
     → Lists state physics f (byte ∷ []) g (told row)
-lists_ended state physics layout f g byte None h long tics ends = lists_none state physics f g (byte ∷ []) long (omega (arith, tics))
+lists_ended state physics layout f g byte None h long tics ends =
+    lists_none state physics f g (byte ∷ []) long (omega (arith, tics))
 lists_ended state physics layout f g byte (Some row) h long tics ends =
     record {
       tics = tics;
@@ -101,16 +118,19 @@ lists_ended state physics layout f g byte (Some row) h long tics ends =
                 let same : layout ≡ own = same_layout bytes layout own mine.known here.known in
                 let ended = ends bytes shown in
                 let past : before ≡ rows_in own all f.tics = listed.some own here
-                ∙ sym (rows_in-append own bytes (byte ∷ []) f.tics (tics_within state physics own bytes f (shown.rows own here))) in
+                ∙ sym (rows_in-append own bytes (byte ∷ []) f.tics
+                (tics_within state physics own bytes f (shown.rows own here))) in
                 let last : row ≡ row_in own all f.tics = ended.1 ∙ ap (λ l. row_in l all f.tics) same in
-                (λ i. past i ++ last i ∷ []) ∙ sym (map-range_with_len_more (row_in own all) 0 f.tics f.tics (omega arith))
+                (λ i. past i ++ last i ∷ [])
+                ∙ sym (map-range_with_len_more (row_in own all) 0 f.tics f.tics (omega arith))
                 ∙ ap (rows_in own all) (sym ended.0);
             none = λ no. absurd (no layout (longer_header layout bytes (byte ∷ []) mine));
           };
     }
 
 -- nothing came yet
-pub tells_none : {S W : Type 0} (state : W → S) (physics : Physics S) (f : Feeding W) (piece : List ℕ) → TellsFront state physics f piece piece f []
+pub tells_none : {S W : Type 0} (state : W → S) (physics : Physics S) (f : Feeding W) (piece : List ℕ)
+    → TellsFront state physics f piece piece f []
 tells_none state physics f piece =
     record {
       front = [];
@@ -121,39 +141,51 @@ tells_none state physics f piece =
         tics = omega arith;
         each = λ bytes before shown listed.
             subst (λ (b : List ℕ). AreListed b f.tics (before ++ [])) (sym (append-nil bytes))
-            (subst (λ (r : List (List (Option Move))). AreListed bytes f.tics r) (sym (append-nil before)) listed);
+            (subst (λ (r : List (List (Option Move))). AreListed bytes f.tics r) (sym (append-nil before))
+            listed);
       };
     }
 
 -- one byte of a piece
-pub tells_byte : {S W : Type 0} (state : W → S) (physics : Physics S) (f g : Feeding W) (piece rest : List ℕ) (byte : ℕ) (rows : List (List (Option Move)))
-    → piece ≡ byte ∷ rest → g.taken ≡ f.taken + 1 → Takes state physics f (byte ∷ []) g → Lists state physics f (byte ∷ []) g rows
+pub tells_byte : {S W : Type 0} (state : W → S) (physics : Physics S) (f g : Feeding W) (piece rest : List ℕ)
+    (byte : ℕ) (rows : List (List (Option Move)))
+    → piece ≡ byte ∷ rest → g.taken ≡ f.taken + 1 → Takes state physics f (byte ∷ []) g
+    → Lists state physics f (byte ∷ []) g rows
     → TellsFront state physics f piece rest g rows
 tells_byte state physics f g piece rest byte rows split count shown listed =
     record { front = byte ∷ []; split = split; count = count; shown = shown; listed = listed }
 
 -- a front, and one behind it
-pub tells_more : {S W : Type 0} (state : W → S) (physics : Physics S) (f g h : Feeding W) (piece mid rest : List ℕ) (xs ys : List (List (Option Move)))
-    → TellsFront state physics f piece mid g xs → TellsFront state physics g mid rest h ys → TellsFront state physics f piece rest h (xs ++ ys)
+pub tells_more : {S W : Type 0} (state : W → S) (physics : Physics S) (f g h : Feeding W)
+    (piece mid rest : List ℕ) (xs ys : List (List (Option Move)))
+    → TellsFront state physics f piece mid g xs → TellsFront state physics g mid rest h ys
+    → TellsFront state physics f piece rest h (xs ++ ys)
 tells_more state physics f g h piece mid rest xs ys one other =
     record {
       front = one.front ++ other.front;
-      split = one.split ∙ ap (λ (t : List ℕ). one.front ++ t) other.split ∙ sym (append_assoc one.front other.front rest);
+      split = one.split ∙ ap (λ (t : List ℕ). one.front ++ t) other.split
+          ∙ sym (append_assoc one.front other.front rest);
       count = omega (arith, one.count, other.count, length-append one.front other.front);
-      shown = λ bytes shown. subst (λ (b : List ℕ). Shows state physics b h) (append_assoc bytes one.front other.front)
+      shown = λ bytes shown. subst (λ (b : List ℕ). Shows state physics b h)
+          (append_assoc bytes one.front other.front)
           (other.shown (bytes ++ one.front) (one.shown bytes shown));
       listed = record {
         tics = omega (arith, one.listed.tics, other.listed.tics, length-append xs ys);
         each = λ bytes before shown listed.
-            let both = other.listed.each (bytes ++ one.front) (before ++ xs) (one.shown bytes shown) (one.listed.each bytes before shown listed) in
-            subst (λ (b : List ℕ). AreListed b h.tics (before ++ (xs ++ ys))) (append_assoc bytes one.front other.front)
-            (subst (λ (r : List (List (Option Move))). AreListed (bytes ++ one.front ++ other.front) h.tics r) (append_assoc before xs ys) both);
+            let both = other.listed.each (bytes ++ one.front) (before ++ xs) (one.shown bytes shown)
+            (one.listed.each bytes before shown listed) in
+            subst (λ (b : List ℕ). AreListed b h.tics (before ++ (xs ++ ys)))
+            (append_assoc bytes one.front other.front)
+            (subst (λ (r : List (List (Option Move))). AreListed (bytes ++ one.front ++ other.front) h.tics r)
+            (append_assoc before xs ys) both);
       };
     }
 
 -- all of a piece
-pub tells_all : {S W : Type 0} (state : W → S) (physics : Physics S) (f g : Feeding W) (piece : List ℕ) (rows : List (List (Option Move)))
-    → TellsFront state physics f piece [] g rows → Takes state physics f piece g × Lists state physics f piece g rows
+pub tells_all : {S W : Type 0} (state : W → S) (physics : Physics S) (f g : Feeding W) (piece : List ℕ)
+    (rows : List (List (Option Move)))
+    → TellsFront state physics f piece [] g rows → Takes state physics f piece g
+    × Lists state physics f piece g rows
 tells_all state physics f g piece rows all =
     let whole : all.front ≡ piece = sym (all.split ∙ append-nil all.front) in (
       subst (λ (p : List ℕ). Takes state physics f p g) whole all.shown,
@@ -165,24 +197,30 @@ pub listed_none : AreListed [] 0 []
 listed_none = record { some = λ layout h. refl; none = λ no. refl }
 
 -- a number between a product and the next is divided to the factor
-quotient : (players tics commands : ℕ) → players * tics ≤ commands → commands < players * tics + players → commands / players ≡ tics
+quotient : (players tics commands : ℕ) → players * tics ≤ commands → commands < players * tics + players
+    → commands / players ≡ tics
 quotient players tics commands least most =
     let cut = commands - players * tics in
     let turned : commands ≡ tics * players + cut = omega arith in
     ap (λ n. n / players) turned ∙ div-mul-add tics players cut (omega arith)
 
--- the commands before the marker, or before the end, make so many tics
-counted : (layout : Layout) (bytes : List ℕ) (players tics : ℕ) (marked : Bool) (front : List ℕ) (after : ℕ) → IsFront layout bytes marked front after
-    → 13 ≤ length bytes → place layout (players * tics) ≤ length front → length front < place layout (players * tics) + command_size layout * players
+-- the commands before the marker, or before the end, make this many tics
+counted : (layout : Layout) (bytes : List ℕ) (players tics : ℕ) (marked : Bool) (front : List ℕ) (after : ℕ)
+    → IsFront layout bytes marked front after
+    → 13 ≤ length bytes → place layout (players * tics) ≤ length front
+    → length front < place layout (players * tics) + command_size layout * players
     → (commands : ℕ) × HasCommands layout bytes commands × (commands / players ≡ tics)
 counted layout bytes players tics true front after ends long least most =
     let commands = ends.0 in
     let size = command_size layout in
     let inside = slice_get_within bytes (place layout commands) marker ends.1.marked in
-    let same : length front ≡ place layout commands = ap length ends.2 ∙ length-take-le (place layout commands) bytes (omega arith) in
+    let same : length front ≡ place layout commands = ap length ends.2
+    ∙ length-take-le (place layout commands) bytes (omega arith) in
     let next : size * (players * tics + players) ≡ size * (players * tics) + size * players = omega arith in
-    let low : players * tics ≤ commands = place_order layout (players * tics) commands (omega (arith, same, least)) in
-    let high : commands < players * tics + players = lt_of_product size commands (players * tics + players) (omega (arith, same, most, next)) in
+    let low : players * tics ≤ commands = place_order layout (players * tics) commands
+    (omega (arith, same, least)) in
+    let high : commands < players * tics + players =
+    lt_of_product size commands (players * tics + players) (omega (arith, same, most, next)) in
     (commands, inl ends.1, quotient players tics commands low high)
 counted layout bytes players tics false front after ends long least most =
     let size = command_size layout in
@@ -193,12 +231,16 @@ counted layout bytes players tics false front after ends long least most =
     let left : body % size < size = mod-lt body (omega arith) in
     let next : size * (players * tics + players) ≡ size * (players * tics) + size * players = omega arith in
     let more : size * (commands + 1) ≡ size * commands + size = omega arith in
-    let low : players * tics < commands + 1 = lt_of_product size (players * tics) (commands + 1) (omega (arith, same, least, split, left, more)) in
-    let high : commands < players * tics + players = lt_of_product size commands (players * tics + players) (omega (arith, same, most, split, next, long)) in
+    let low : players * tics < commands + 1 =
+    lt_of_product size (players * tics) (commands + 1) (omega (arith, same, least, split, left, more)) in
+    let high : commands < players * tics + players =
+    lt_of_product size commands (players * tics + players)
+    (omega (arith, same, most, split, next, long)) in
     (commands, inr (ends.0, refl), quotient players tics commands (omega (arith, low)) high)
 
 -- the rows told are those that the bytes have
-pub rows_of_listed : {S W : Type 0} (state : W → S) (physics : Physics S) (bytes : List ℕ) (f : Feeding W) (rows : List (List (Option Move)))
+pub rows_of_listed : {S W : Type 0} (state : W → S) (physics : Physics S) (bytes : List ℕ) (f : Feeding W)
+    (rows : List (List (Option Move)))
     → Shows state physics bytes f → AreListed bytes f.tics rows → HasRows bytes rows
 rows_of_listed state physics bytes f rows shown listed =
     record {
@@ -206,7 +248,8 @@ rows_of_listed state physics bytes f rows shown listed =
           let kept = shown.rows layout h in
           let players = player_count (seats_in bytes) in
           let row = ap length kept.row ∙ length-drop (place layout (players * f.tics)) kept.front in
-          let is = counted layout bytes players f.tics f.marked kept.front f.after kept.ends h.whole kept.whole (omega (arith, row, kept.unfinished, kept.whole)) in
+          let is = counted layout bytes players f.tics f.marked kept.front f.after kept.ends h.whole
+          kept.whole (omega (arith, row, kept.unfinished, kept.whole)) in
           (is.0, is.1, listed.some layout h ∙ ap (rows_in layout bytes) (sym is.2));
       none = listed.none;
     }

@@ -23,13 +23,25 @@ recording-take layout k bytes after =
     let version = get_or-take (place layout k) bytes 0 0 (omega arith) in
     let view = get_or-take (place layout k) bytes 8 0 (omega arith) in
     let seats = seats_in-take (place layout k) bytes whole in
-    let tics : k / player_count (seats_in (take (place layout k) bytes)) ≡ k / player_count (seats_in bytes) = ap (λ s. k / player_count s) seats in
+    let tics : k / player_count (seats_in (take (place layout k) bytes)) ≡ k / player_count (seats_in bytes) =
+    ap (λ s. k / player_count s) seats in
     let rows = ap (λ n. map (row_in layout (take (place layout k) bytes)) (range_with_len 0 n)) tics
-    ∙ map-agree (row_in layout (take (place layout k) bytes)) (row_in layout bytes) 0 (k / player_count (seats_in bytes)) (λ i low high. row_in-take layout k bytes i (omega arith)) in
-    λ i. record { version = version i; start = start i; view = view i; present = seats i; rows = rows i; cut = k % player_count (seats i); after = after }
+    ∙ map-agree (row_in layout (take (place layout k) bytes)) (row_in layout bytes) 0
+    (k / player_count (seats_in bytes)) (λ i low high. row_in-take layout k bytes i (omega arith)) in
+    λ i. record {
+      version = version i;
+      start = start i;
+      view = view i;
+      present = seats i;
+      rows = rows i;
+      cut =
+          k % player_count (seats i);
+      after = after;
+    }
 
 -- and in one layout
-pub same_layout : (bytes : List ℕ) (a b : Layout) → layout_in bytes ≡ Some a → layout_in bytes ≡ Some b → a ≡ b
+pub same_layout : (bytes : List ℕ) (a b : Layout) → layout_in bytes ≡ Some a → layout_in bytes ≡ Some b
+    → a ≡ b
 same_layout bytes a b p q = let both = sym p ∙ q in cc
 
 pub same_demo : (bytes : List ℕ) (d e : Recording) → IsReadAs bytes (Ok d) → IsReadAs bytes (Ok e) → d ≡ e
@@ -37,10 +49,12 @@ same_demo bytes d e p q =
     let layout = same_layout bytes p.0 q.0 p.1.known q.1.known in
     let ends : EndsBehind q.0 bytes p.2.0 = subst (λ (l : Layout). EndsBehind l bytes p.2.0) layout p.2.1 in
     let behind = one_end q.0 bytes p.2.0 q.2.0 ends q.2.1 in
-    p.2.2 ∙ (λ i. recording (layout i) bytes (behind i) (length bytes - (place (layout i) (behind i) + 1))) ∙ sym q.2.2
+    p.2.2 ∙ (λ i. recording (layout i) bytes (behind i) (length bytes - (place (layout i) (behind i) + 1)))
+    ∙ sym q.2.2
 
 -- what reads as a demo reads as nothing else, memory aside
-pub one_reading : (bytes : List ℕ) (d : Recording) → IsReadAs bytes (Ok d) → (r : Result Recording DemoFault) → IsReadAs bytes r
+pub one_reading : (bytes : List ℕ) (d : Recording) → IsReadAs bytes (Ok d) → (r : Result Recording DemoFault)
+    → IsReadAs bytes r
     → IsSameButMemory (Ok d) r
 one_reading bytes d p (Ok e) q = inl (ap (λ x. Ok x) (same_demo bytes d e p q))
 one_reading bytes d p (Err Short) q = absurd (omega (arith, p.1.whole))
@@ -53,14 +67,18 @@ one_reading bytes d p (Err NoMarker) q =
 one_reading bytes d p (Err Memory) q = inr (inr refl)
 
 -- a demo that keeps these bytes
-pub read_of_front : (layout : Layout) (bytes front : List ℕ) (k after : ℕ) → HasHeader layout bytes → EndsBehind layout bytes k
+pub read_of_front : (layout : Layout) (bytes front : List ℕ) (k after : ℕ) → HasHeader layout bytes
+    → EndsBehind layout bytes k
     → front ≡ take (place layout k) bytes → after ≡ length bytes - place layout k - 1
     → IsReadAs bytes (Ok (recording layout front (commands_in layout front) after))
 read_of_front layout bytes front k after head behind e f =
     let inside = slice_get_within bytes (place layout k) marker behind.marked in
-    let len : length (take (place layout k) bytes) ≡ place layout k = length-take-le (place layout k) bytes (omega arith) in
+    let len : length (take (place layout k) bytes) ≡ place layout k =
+    length-take-le (place layout k) bytes (omega arith) in
     let count : length front - 13 ≡ command_size layout * k = omega (arith, ap length e) in
-    let commands : commands_in layout front ≡ k = ap (λ n. n / command_size layout) count ∙ mul-div_cancel_left k (omega arith) in
+    let commands : commands_in layout front ≡ k = ap (λ n. n / command_size layout) count
+    ∙ mul-div_cancel_left k (omega arith) in
     let left : after ≡ length bytes - (place layout k + 1) = omega arith in
-    let same = (λ i. recording layout (e i) (commands i) (left i)) ∙ recording-take layout k bytes (length bytes - (place layout k + 1)) in
+    let same = (λ i. recording layout (e i) (commands i) (left i))
+    ∙ recording-take layout k bytes (length bytes - (place layout k + 1)) in
     (layout, head, (k, behind, same))

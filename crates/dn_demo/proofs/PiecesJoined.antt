@@ -12,20 +12,26 @@ use Rattle.dn_demo.specs.declared.fed.FeedFault.{FeedFault}
 use Rattle.dn_demo.specs.declared.fed.FeedFault.TheVariants.{Short, Version, NoPlayers, NoMarker}
 use Rattle.dn_demo.proofs.OneReading.{same_demo, same_layout}
 
-shown_all : {S W : Type 0} (state : W → S) (physics : Physics S) (bytes : List ℕ) (pieces : List (List ℕ)) (f g : Feeding W)
-    → Shows state physics bytes f → TakesAll state physics f pieces g → Shows state physics (bytes ++ concat pieces) g
+shown_all : {S W : Type 0} (state : W → S) (physics : Physics S) (bytes : List ℕ) (pieces : List (List ℕ))
+    (f g : Feeding W)
+    → Shows state physics bytes f → TakesAll state physics f pieces g
+    → Shows state physics (bytes ++ concat pieces) g
 shown_all {W = W} state physics bytes [] f g shown all =
-    subst (λ (b : List ℕ). Shows state physics b g) (sym (append-nil bytes)) (subst (λ (h : Feeding W). Shows state physics bytes h) all shown)
+    subst (λ (b : List ℕ). Shows state physics b g) (sym (append-nil bytes))
+    (subst (λ (h : Feeding W). Shows state physics bytes h) all shown)
 shown_all {W = W} state physics bytes (piece ∷ pieces) f g shown all =
     subst (λ (b : List ℕ). Shows state physics b g) (append_assoc bytes piece (concat pieces))
     (shown_all state physics (bytes ++ piece) pieces all.0 g (all.1 bytes shown) all.2)
 
-pub joined : {S W : Type 0} (state : W → S) (physics : Physics S) (pieces : List (List ℕ)) (result : Result (Fed W) FeedFault)
+pub joined : {S W : Type 0} (state : W → S) (physics : Physics S) (pieces : List (List ℕ))
+    (result : Result (Fed W) FeedFault)
     → PiecesEndAs state physics pieces result → IsFedAs state physics (concat pieces) result
-joined state physics pieces result ends = ends.4 (concat pieces) (shown_all state physics [] pieces ends.0 ends.1 ends.2 ends.3)
+joined state physics pieces result ends =
+    ends.4 (concat pieces) (shown_all state physics [] pieces ends.0 ends.1 ends.2 ends.3)
 
 -- a fault is the first that the bytes have
-one_fault : (bytes : List ℕ) (a b : FeedFault) → IsReadAs bytes (Err (fault_of a)) → IsReadAs bytes (Err (fault_of b)) → a ≡ b
+one_fault : (bytes : List ℕ) (a b : FeedFault) → IsReadAs bytes (Err (fault_of a))
+    → IsReadAs bytes (Err (fault_of b)) → a ≡ b
 one_fault bytes Short Short p q = refl
 one_fault bytes Short Version p q = absurd (omega (arith, p, q.0))
 one_fault bytes Short NoPlayers p q = absurd (omega (arith, p, q.0))
@@ -43,7 +49,8 @@ one_fault bytes NoMarker Version p q = absurd (let both = sym q.1 ∙ p.1.known 
 one_fault bytes NoMarker NoPlayers p q = absurd (omega (arith, q.2, p.1.somebody))
 one_fault bytes NoMarker NoMarker p q = refl
 
-no_fault : (bytes : List ℕ) (demo : Recording) (fault : FeedFault) → IsReadAs bytes (Ok demo) → IsReadAs bytes (Err (fault_of fault)) → ⊥
+no_fault : (bytes : List ℕ) (demo : Recording) (fault : FeedFault) → IsReadAs bytes (Ok demo)
+    → IsReadAs bytes (Err (fault_of fault)) → ⊥
 no_fault bytes demo Short p q = omega (arith, q, p.1.whole)
 no_fault bytes demo Version p q = let both = sym q.1 ∙ p.1.known in cc
 no_fault bytes demo NoPlayers p q = omega (arith, q.2, p.1.somebody)
@@ -52,7 +59,8 @@ no_fault bytes demo NoMarker p q =
     let ends : EndsBehind q.0 bytes p.2.0 = subst (λ (l : Layout). EndsBehind l bytes p.2.0) layout p.2.1 in
     q.2 p.2.0 ends.marked
 
-one_end : {S W : Type 0} (state : W → S) (physics : Physics S) (bytes : List ℕ) (one other : Result (Fed W) FeedFault)
+one_end : {S W : Type 0} (state : W → S) (physics : Physics S) (bytes : List ℕ)
+    (one other : Result (Fed W) FeedFault)
     → IsFedAs state physics bytes one → IsFedAs state physics bytes other → IsSameEnd state physics one other
 one_end state physics bytes (Ok a) (Ok b) p q =
     let same : q.0 ≡ p.0 = same_demo bytes q.0 p.0 q.1 p.1 in
@@ -61,8 +69,11 @@ one_end state physics bytes (Ok a) (Err f) p q = absurd (no_fault bytes p.0 f p.
 one_end state physics bytes (Err f) (Ok b) p q = absurd (no_fault bytes q.0 f q.1 p)
 one_end state physics bytes (Err f) (Err e) p q = one_fault bytes f e p q
 
-pub pieces_same : {S W : Type 0} (state : W → S) (physics : Physics S) (pieces others : List (List ℕ)) (one other : Result (Fed W) FeedFault)
-    → concat pieces ≡ concat others → PiecesEndAs state physics pieces one → PiecesEndAs state physics others other → IsSameEnd state physics one other
+pub pieces_same : {S W : Type 0} (state : W → S) (physics : Physics S) (pieces others : List (List ℕ))
+    (one other : Result (Fed W) FeedFault)
+    → concat pieces ≡ concat others → PiecesEndAs state physics pieces one
+    → PiecesEndAs state physics others other → IsSameEnd state physics one other
 pieces_same state physics pieces others one other same p q =
     one_end state physics (concat others) one other
-    (subst (λ (b : List ℕ). IsFedAs state physics b one) same (joined state physics pieces one p)) (joined state physics others other q)
+    (subst (λ (b : List ℕ). IsFedAs state physics b one) same (joined state physics pieces one p))
+    (joined state physics others other q)

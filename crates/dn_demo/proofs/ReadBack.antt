@@ -18,66 +18,97 @@ use Rattle.dn_demo.proofs.Text.{header-seats}
 use Rattle.dn_demo.proofs.Behind.{RowsOf, rows_of, rows_behind, none_in_rows, length-rows}
 
 -- what a text tells of its header
-start_in-text : (layout : Layout) (start : Start) (view : ℕ) (present : List Bool) (rows : List (List (Option Move))) (closed : Bool)
+start_in-text : (layout : Layout) (start : Start) (view : ℕ) (present : List Bool)
+    (rows : List (List (Option Move))) (closed : Bool)
     → start_in (demo_text layout start view present rows closed) ≡ start
 unfolding demo_text
 start_in-text layout start view present rows closed = refl
 
-view-text : (layout : Layout) (start : Start) (view : ℕ) (present : List Bool) (rows : List (List (Option Move))) (closed : Bool)
+view-text : (layout : Layout) (start : Start) (view : ℕ) (present : List Bool)
+    (rows : List (List (Option Move))) (closed : Bool)
     → get_or (demo_text layout start view present rows closed) 8 0 ≡ view
 unfolding demo_text
 view-text layout start view present rows closed = refl
 
-version-text : (layout : Layout) (start : Start) (view : ℕ) (present : List Bool) (rows : List (List (Option Move))) (closed : Bool)
+version-text : (layout : Layout) (start : Start) (view : ℕ) (present : List Bool)
+    (rows : List (List (Option Move))) (closed : Bool)
     → get_or (demo_text layout start view present rows closed) 0 0 ≡ layout.version
 unfolding demo_text
 version-text layout start view present rows closed = refl
 
-pub seats_in-text : (layout : Layout) (start : Start) (view : ℕ) (present : List Bool) (rows : List (List (Option Move))) (closed : Bool) → length present ≡ 4
+pub seats_in-text : (layout : Layout) (start : Start) (view : ℕ) (present : List Bool)
+    (rows : List (List (Option Move))) (closed : Bool) → length present ≡ 4
     → seats_in (demo_text layout start view present rows closed) ≡ present
 unfolding demo_text
 seats_in-text layout start view present rows closed four =
-    ap seats_in (append_assoc (header layout start view present) (commands_of layout rows) _) ∙ header-seats layout start view present _ four
+    ap seats_in (append_assoc (header layout start view present) (commands_of layout rows) _)
+    ∙ header-seats layout start view present _ four
 
 -- the text up to the marker, and the marker
-pub length-text : (layout : Layout) (start : Start) (view : ℕ) (present : List Bool) (rows : List (List (Option Move))) → length present ≡ 4 → RowsOf layout present rows
-    → IsSound layout → length (header layout start view present ++ commands_of layout rows) ≡ place layout (player_count present * length rows)
+pub length-text : (layout : Layout) (start : Start) (view : ℕ) (present : List Bool)
+    (rows : List (List (Option Move))) → length present ≡ 4 → RowsOf layout present rows
+    → IsSound layout → length (header layout start view present ++ commands_of layout rows)
+    ≡ place layout (player_count present * length rows)
 length-text layout start view present rows four is sound =
-    omega (arith, length-append (header layout start view present) (commands_of layout rows), length-map present bit, length-rows layout present rows sound is)
+    omega (
+      arith,
+      length-append (header layout start view present) (commands_of layout rows),
+      length-map present bit,
+      length-rows layout present rows sound is,
+    )
 
-closed_text : (layout : Layout) (start : Start) (view : ℕ) (present : List Bool) (rows : List (List (Option Move)))
-    → demo_text layout start view present rows true ≡ (header layout start view present ++ commands_of layout rows) ++ marker ∷ []
+closed_text : (layout : Layout) (start : Start) (view : ℕ) (present : List Bool)
+    (rows : List (List (Option Move)))
+    → demo_text layout start view present rows true
+    ≡ (header layout start view present ++ commands_of layout rows) ++ marker ∷ []
 unfolding demo_text
 closed_text layout start view present rows = refl
 
-text_ends : (layout : Layout) (start : Start) (view : ℕ) (present : List Bool) (rows : List (List (Option Move))) → length present ≡ 4 → RowsOf layout present rows
-    → IsSound layout → EndsBehind layout (demo_text layout start view present rows true) (player_count present * length rows)
+text_ends : (layout : Layout) (start : Start) (view : ℕ) (present : List Bool)
+    (rows : List (List (Option Move))) → length present ≡ 4 → RowsOf layout present rows
+    → IsSound layout → EndsBehind layout (demo_text layout start view present rows true)
+    (player_count present * length rows)
 text_ends layout start view present rows four is sound =
     let text = demo_text layout start view present rows true in
     let commands = player_count present * length rows in
     let front = header layout start view present ++ commands_of layout rows in
     let len = length-text layout start view present rows four is sound in
     let shape = closed_text layout start view present rows in
-    let inside : place layout commands < length text = omega (arith, ap length shape, length-append front (marker ∷ [])) in
-    let there : get_or text (place layout commands) 0 ≡ marker = ap (λ (t : List ℕ). get_or t (place layout commands) 0) shape ∙ get_or_at front marker [] 0 (place layout commands) len in
-    let apart = shape ∙ append_assoc (header layout start view present) (commands_of layout rows) (marker ∷ []) in
-    let head : length (header layout start view present) ≡ place layout (player_count present * 0) = omega (arith, length-map present bit) in
+    let inside : place layout commands < length text =
+    omega (arith, ap length shape, length-append front (marker ∷ [])) in
+    let there : get_or text (place layout commands) 0 ≡ marker =
+    ap (λ (t : List ℕ). get_or t (place layout commands) 0) shape
+    ∙ get_or_at front marker [] 0 (place layout commands) len in
+    let apart = shape ∙ append_assoc (header layout start view present) (commands_of layout rows)
+    (marker ∷ []) in
+    let head : length (header layout start view present) ≡ place layout (player_count present * 0) =
+    omega (arith, length-map present bit) in
     record {
       marked = slice_get-get_or text (place layout commands) 0 inside ∙ ap (λ b. Some b) there;
-      first = λ j below. none_in_rows layout text (header layout start view present) (marker ∷ []) present rows 0 sound apart head is j (omega arith) (omega arith);
+      first = λ j below. none_in_rows layout text (header layout start view present) (marker ∷ []) present
+          rows 0 sound apart head is j (omega arith) (omega arith);
     }
 
-rows_in-text : (layout : Layout) (text : List ℕ) (seats present : List Bool) (rows : List (List (Option Move))) → seats ≡ present → 0 < player_count present
-    → map (λ t. moves_from layout text present (player_count present * t)) (range_with_len 0 (length rows)) ≡ rows
-    → map (λ t. moves_from layout text seats (player_count seats * t)) (range_with_len 0 (player_count present * length rows / player_count seats)) ≡ rows
+rows_in-text : (layout : Layout) (text : List ℕ) (seats present : List Bool)
+    (rows : List (List (Option Move))) → seats ≡ present → 0 < player_count present
+    → map (λ t. moves_from layout text present (player_count present * t)) (range_with_len 0 (length rows))
+    ≡ rows
+    → map (λ t. moves_from layout text seats (player_count seats * t))
+    (range_with_len 0 (player_count present * length rows / player_count seats)) ≡ rows
 rows_in-text layout text seats present rows same some all =
-    let tics : player_count present * length rows / player_count present ≡ length rows = mul-div_cancel_left (length rows) some in
-    ap (λ (s : List Bool). map (λ t. moves_from layout text s (player_count s * t)) (range_with_len 0 (player_count present * length rows / player_count s))) same
-    ∙ ap (λ n. map (λ t. moves_from layout text present (player_count present * t)) (range_with_len 0 n)) tics ∙ all
+    let tics : player_count present * length rows / player_count present ≡ length rows =
+    mul-div_cancel_left (length rows) some in
+    ap (λ (s : List Bool). map (λ t. moves_from layout text s (player_count s * t))
+    (range_with_len 0 (player_count present * length rows / player_count s))) same
+    ∙ ap (λ n. map (λ t. moves_from layout text present (player_count present * t)) (range_with_len 0 n)) tics
+    ∙ all
 
 -- the closed text of rows is read as they are
-read_back : (layout : Layout) (start : Start) (view : ℕ) (present : List Bool) (rows : List (List (Option Move))) → IsSound layout
-    → AreWritable present rows → AllMoves (IsTold layout) rows → IsReadAs (demo_text layout start view present rows true) (Ok (written_demo layout start view present rows))
+read_back : (layout : Layout) (start : Start) (view : ℕ) (present : List Bool)
+    (rows : List (List (Option Move))) → IsSound layout
+    → AreWritable present rows → AllMoves (IsTold layout) rows
+    → IsReadAs (demo_text layout start view present rows true)
+    (Ok (written_demo layout start view present rows))
 read_back layout start view present rows sound can told_turns =
     let text = demo_text layout start view present rows true in
     let players = player_count present in
@@ -88,26 +119,55 @@ read_back layout start view present rows sound can told_turns =
     let shape = closed_text layout start view present rows in
     let front = header layout start view present ++ commands_of layout rows in
     let len = length-text layout start view present rows can.four is sound in
-    let whole : length text ≡ place layout commands + 1 = omega (arith, ap length shape, length-append front (marker ∷ [])) in
-    let apart = shape ∙ append_assoc (header layout start view present) (commands_of layout rows) (marker ∷ []) in
-    let head : length (header layout start view present) ≡ place layout (players * 0) = omega (arith, length-map present bit, can.four) in
-    let all = rows_behind layout text (header layout start view present) (marker ∷ []) present rows 0 sound apart head is in
+    let whole : length text ≡ place layout commands + 1 =
+    omega (arith, ap length shape, length-append front (marker ∷ [])) in
+    let apart = shape ∙ append_assoc (header layout start view present) (commands_of layout rows)
+    (marker ∷ []) in
+    let head : length (header layout start view present) ≡ place layout (players * 0) =
+    omega (arith, length-map present bit, can.four) in
+    let all = rows_behind layout text (header layout start view present) (marker ∷ []) present rows 0 sound
+    apart head is in
     let told = rows_in-text layout text (seats_in text) present rows seats can.somebody all in
-    let none_cut : commands % player_count (seats_in text) ≡ 0 = ap (λ s. commands % player_count s) seats ∙ mul-mod_right players (length rows) in
+    let none_cut : commands % player_count (seats_in text) ≡ 0 =
+    ap (λ s. commands % player_count s) seats ∙ mul-mod_right players (length rows) in
     let none_after : length text - (place layout commands + 1) ≡ 0 = omega arith in
     let somebody : 0 < player_count (seats_in text) = omega (arith, can.somebody, ap player_count seats) in (
       layout,
-      record { whole = omega arith; known = ap layout_of_version (version-text layout start view present rows true) ∙ sound.known; somebody = somebody },
-      (commands, ends, λ i. record { version = sym (version-text layout start view present rows true) i; start = sym (start_in-text layout start view present rows true) i; view = sym (view-text layout start view present rows true) i; present = sym seats i; rows = sym told i; cut = sym none_cut i; after = sym none_after i }),
+      record {
+        whole = omega arith;
+        known =
+            ap layout_of_version (version-text layout start view present rows true) ∙ sound.known;
+        somebody =
+            somebody;
+      },
+      (
+        commands,
+        ends,
+        λ i. record {
+          version = sym (version-text layout start view present rows true) i;
+          start =
+              sym (start_in-text layout start view present rows true) i;
+          view =
+              sym (view-text layout start view present rows true) i;
+          present = sym seats i;
+          rows =
+              sym told i;
+          cut = sym none_cut i;
+          after = sym none_after i;
+        },
+      ),
     )
 
 -- a fact that follows from two others
-all_then : {X : Type 0} (P Q R : X → Type 0) → ((x : X) → P x → Q x → R x) → (xs : List X) → All P xs → All Q xs → All R xs
+all_then : {X : Type 0} (P Q R : X → Type 0) → ((x : X) → P x → Q x → R x) → (xs : List X) → All P xs
+    → All Q xs → All R xs
 all_then P Q R follows [] ps qs = All-nil R
 all_then P Q R follows (x ∷ xs) ps qs =
-    All-cons R x xs (follows x (All-head P x xs ps) (All-head Q x xs qs)) (all_then P Q R follows xs (All-tail P x xs ps) (All-tail Q x xs qs))
+    All-cons R x xs (follows x (All-head P x xs ps) (All-head Q x xs qs))
+    (all_then P Q R follows xs (All-tail P x xs ps) (All-tail Q x xs qs))
 
-moves_then : (P Q R : Move → Type 0) → ((m : Move) → P m → Q m → R m) → (rows : List (List (Option Move))) → AllMoves P rows → AllMoves Q rows → AllMoves R rows
+moves_then : (P Q R : Move → Type 0) → ((m : Move) → P m → Q m → R m) → (rows : List (List (Option Move)))
+    → AllMoves P rows → AllMoves Q rows → AllMoves R rows
 moves_then P Q R follows rows ps qs =
     all_then (All (λ step. IfSome step P)) (All (λ step. IfSome step Q)) (All (λ step. IfSome step R))
     (all_then (λ step. IfSome step P) (λ step. IfSome step Q) (λ step. IfSome step R) seat) rows ps qs
@@ -117,12 +177,19 @@ moves_then P Q R follows rows ps qs =
     seat (Some m) p q = follows m p q
 
 -- in either layout
-pub vanilla_read_back : (start : Start) (view : ℕ) (present : List Bool) (rows : List (List (Option Move))) → AreWritable present rows → AllMoves IsWhole rows
-    → IsReadAs (demo_text vanilla start view present rows true) (Ok (written_demo vanilla start view present rows))
+pub vanilla_read_back : (start : Start) (view : ℕ) (present : List Bool) (rows : List (List (Option Move)))
+    → AreWritable present rows → AllMoves IsWhole rows
+    → IsReadAs (demo_text vanilla start view present rows true)
+    (Ok (written_demo vanilla start view present rows))
 vanilla_read_back start view present rows can whole =
-    read_back vanilla start view present rows vanilla_sound can (moves_then IsMove IsWhole (IsTold vanilla) whole_told rows can.moves whole)
+    read_back vanilla start view present rows vanilla_sound can
+    (moves_then IsMove IsWhole (IsTold vanilla) whole_told rows can.moves whole)
 
-pub long_read_back : (start : Start) (view : ℕ) (present : List Bool) (rows : List (List (Option Move))) → AreWritable present rows
-    → IsReadAs (demo_text long_tics start view present rows true) (Ok (written_demo long_tics start view present rows))
+pub long_read_back : (start : Start) (view : ℕ) (present : List Bool) (rows : List (List (Option Move)))
+    → AreWritable present rows
+    → IsReadAs (demo_text long_tics start view present rows true)
+    (Ok (written_demo long_tics start view present rows))
 long_read_back start view present rows can =
-    read_back long_tics start view present rows long_tics_sound can (moves_then IsMove IsMove (IsTold long_tics) (λ m fits same. long_told m fits) rows can.moves can.moves)
+    read_back long_tics start view present rows long_tics_sound can
+    (moves_then IsMove IsMove (IsTold long_tics) (λ m fits same. long_told m fits) rows can.moves
+    can.moves)

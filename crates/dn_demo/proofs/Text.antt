@@ -12,14 +12,16 @@ use Rattle.dn_demo.specs.Recorded.{AddsRow, Closes}
 use Rattle.dn_demo.proofs.Layouts.{IsSound, length-spell}
 
 -- one more row
-pub text-row : (old new : List ℕ) (row : List (Option Move)) → new ≡ old ++ row_bytes long_tics row → AddsRow old new row
+pub text-row : (old new : List ℕ) (row : List (Option Move)) → new ≡ old ++ row_bytes long_tics row
+    → AddsRow old new row
 unfolding demo_text
 text-row old new row e start view present rows text =
     let h = header long_tics start view present in
     let bytes = row_bytes long_tics row in
     let commands : List (List (Option Move)) → List ℕ = commands_of long_tics in
     let more : commands (rows ++ row ∷ []) ≡ commands rows ++ bytes =
-    flat_map-append (row_bytes long_tics) rows (row ∷ []) ∙ ap (λ (t : List ℕ). commands rows ++ t) (append-nil bytes) in
+    flat_map-append (row_bytes long_tics) rows (row ∷ [])
+    ∙ ap (λ (t : List ℕ). commands rows ++ t) (append-nil bytes) in
     let open_text : old ≡ h ++ commands rows = text ∙ append-nil (h ++ commands rows) in
     e ∙ ap (λ (t : List ℕ). t ++ bytes) open_text ∙ append_assoc h (commands rows) bytes
     ∙ ap (λ (t : List ℕ). h ++ t) (sym more) ∙ sym (append-nil (h ++ commands (rows ++ row ∷ [])))
@@ -28,17 +30,24 @@ text-row old new row e start view present rows text =
 pub text-closed : (old new : List ℕ) → new ≡ old ++ marker ∷ [] → Closes old new
 unfolding demo_text
 text-closed old new e start view present rows text =
-    e ∙ ap (λ (t : List ℕ). t ++ marker ∷ []) (text ∙ append-nil (header long_tics start view present ++ commands_of long_tics rows))
+    e ∙ ap (λ (t : List ℕ). t ++ marker ∷ [])
+    (text ∙ append-nil (header long_tics start view present ++ commands_of long_tics rows))
 
 -- a command for each player who is present
-pub length-row_bytes : (layout : Layout) (present : List Bool) (row : List (Option Move)) → IsSound layout → map is_some row ≡ present
+pub length-row_bytes : (layout : Layout) (present : List Bool) (row : List (Option Move)) → IsSound layout
+    → map is_some row ≡ present
     → length (row_bytes layout row) ≡ command_size layout * player_count present
 length-row_bytes layout [] [] sound e = omega arith
 length-row_bytes layout (p ∷ ps) [] sound e = cc
 length-row_bytes layout [] (s ∷ row) sound e = cc
 length-row_bytes layout (true ∷ ps) (Some m ∷ row) sound e =
     let rest : map is_some row ≡ ps = cc in
-    omega (arith, length-append (spell layout m) (row_bytes layout row), length-spell layout m sound, length-row_bytes layout ps row sound rest)
+    omega (
+      arith,
+      length-append (spell layout m) (row_bytes layout row),
+      length-spell layout m sound,
+      length-row_bytes layout ps row sound rest,
+    )
 length-row_bytes layout (false ∷ ps) (None ∷ row) sound e =
     let rest : map is_some row ≡ ps = cc in
     length-row_bytes layout ps row sound rest
@@ -46,16 +55,19 @@ length-row_bytes layout (true ∷ ps) (None ∷ row) sound e = cc
 length-row_bytes layout (false ∷ ps) (Some m ∷ row) sound e = cc
 
 -- no row yet
-pub text-none : (layout : Layout) (start : Start) (view : ℕ) (present : List Bool) → demo_text layout start view present [] false ≡ header layout start view present
+pub text-none : (layout : Layout) (start : Start) (view : ℕ) (present : List Bool)
+    → demo_text layout start view present [] false ≡ header layout start view present
 unfolding demo_text
-text-none layout start view present = append-nil (header layout start view present ++ []) ∙ append-nil (header layout start view present)
+text-none layout start view present = append-nil (header layout start view present ++ [])
+    ∙ append-nil (header layout start view present)
 
 is_set-bit : (b : Bool) → is_set (bit b) ≡ b
 is_set-bit true = refl
 is_set-bit false = refl
 
 -- the flags of a header are those of its players
-pub header-seats : (layout : Layout) (start : Start) (view : ℕ) (present : List Bool) (more : List ℕ) → length present ≡ 4
+pub header-seats : (layout : Layout) (start : Start) (view : ℕ) (present : List Bool) (more : List ℕ)
+    → length present ≡ 4
     → seats_in (header layout start view present ++ more) ≡ present
 header-seats layout start view (a ∷ b ∷ c ∷ d ∷ []) more four =
     λ i. is_set-bit a i ∷ is_set-bit b i ∷ is_set-bit c i ∷ is_set-bit d i ∷ []

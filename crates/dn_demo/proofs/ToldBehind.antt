@@ -5,7 +5,9 @@ use Rattle.dn_demo.specs.Layout.{Layout, command_size, tell}
 use Rattle.dn_demo.specs.Places.{place, move_at}
 
 -- the command that stands at an index of the bytes
-pub told_behind : (layout : Layout) (front bytes : List ℕ) (at command : ℕ) → length front + at ≡ place layout command
+pub told_behind : (layout : Layout) (front bytes : List ℕ) (at command : ℕ)
+    → length front + at ≡ place layout command
     → tell layout (take (command_size layout) (drop at bytes)) ≡ move_at layout (front ++ bytes) command
 told_behind layout front bytes at command e =
-    ap (λ (t : List ℕ). tell layout (take (command_size layout) t)) (sym (ap (λ n. drop n (front ++ bytes)) (sym e) ∙ drop-append-add front bytes at))
+    ap (λ (t : List ℕ). tell layout (take (command_size layout) t))
+    (sym (ap (λ n. drop n (front ++ bytes)) (sym e) ∙ drop-append-add front bytes at))

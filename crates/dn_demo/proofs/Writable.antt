@@ -49,7 +49,8 @@ long_turn bytes fits =
     let small : from_le_bytes w16 bytes < 65536 = omega arith in
     omega (arith, ints)
 
-turn_fits : (version : ℕ) (layout : Layout) → layout_of_version version ≡ Some layout → (bytes : List ℕ) → AreBytes bytes
+turn_fits : (version : ℕ) (layout : Layout) → layout_of_version version ≡ Some layout → (bytes : List ℕ)
+    → AreBytes bytes
     → FitsSigned w16 (layout.turn_told bytes)
 turn_fits version layout e bytes fits =
     elim (cases_eq version vanilla.version) [
@@ -62,7 +63,8 @@ turn_fits version layout e bytes fits =
           elim (cases_eq version long_tics.version) [
             | inl is ↦
                 let long = eq-eqb version long_tics.version is in
-                let same : long_tics ≡ layout = let known : Some long_tics ≡ Some layout = (rw (test, long) at e) in cc in
+                let same : long_tics ≡ layout = let known : Some long_tics ≡ Some layout =
+                (rw (test, long) at e) in cc in
                 subst (λ (l : Layout). FitsSigned w16 (l.turn_told bytes)) same (long_turn bytes fits)
             | inr neither ↦
                 let other = ne_eqb version long_tics.version neither in
@@ -71,7 +73,8 @@ turn_fits version layout e bytes fits =
     ]
 
 -- a move that a command tells
-move_fits : (version : ℕ) (layout : Layout) → layout_of_version version ≡ Some layout → (bytes : List ℕ) (command : ℕ) → AreBytes bytes
+move_fits : (version : ℕ) (layout : Layout) → layout_of_version version ≡ Some layout
+    → (bytes : List ℕ) (command : ℕ) → AreBytes bytes
     → IsMove (move_at layout bytes command)
 move_fits version layout e bytes command fits =
     let own = take_bytes (command_size layout) _ (drop_bytes (place layout command) bytes fits) in
@@ -85,47 +88,62 @@ move_fits version layout e bytes command fits =
     }
 
 -- goes forward by no -128 where no marker stands
-no_stop : (layout : Layout) (bytes : List ℕ) (command : ℕ) → AreBytes bytes → place layout command < length bytes
+no_stop : (layout : Layout) (bytes : List ℕ) (command : ℕ) → AreBytes bytes
+    → place layout command < length bytes
     → slice_get bytes (place layout command) ≢ Some marker → IsRecordable (move_at layout bytes command)
 no_stop layout bytes command fits inside not is =
     let at = place layout command in
     let here : get_or (take (command_size layout) (drop at bytes)) 0 0 ≡ get_or bytes at 0 =
-    get_or-take (command_size layout) (drop at bytes) 0 0 (omega arith) ∙ get_or-drop at bytes 0 0 ∙ ap (λ n. get_or bytes n 0) (omega arith) in
+    get_or-take (command_size layout) (drop at bytes) 0 0 (omega arith) ∙ get_or-drop at bytes 0 0
+    ∙ ap (λ n. get_or bytes n 0) (omega arith) in
     let byte : get_or bytes at 0 ≡ marker =
-    sym (of_z-to_z w8 (get_or bytes at 0) (fits at)) ∙ ap (cast_unsigned w8) (ap (cast_signed w8) (sym here) ∙ is) in
+    sym (of_z-to_z w8 (get_or bytes at 0) (fits at))
+    ∙ ap (cast_unsigned w8) (ap (cast_signed w8) (sym here) ∙ is) in
     not (slice_get-get_or bytes at 0 inside ∙ ap (λ b. Some b) byte)
 
 -- a row that is told
-row_seats : (layout : Layout) (bytes : List ℕ) (seats : List Bool) (command : ℕ) → map is_some (moves_from layout bytes seats command) ≡ seats
+row_seats : (layout : Layout) (bytes : List ℕ) (seats : List Bool) (command : ℕ)
+    → map is_some (moves_from layout bytes seats command) ≡ seats
 row_seats layout bytes [] command = refl
-row_seats layout bytes (true ∷ seats) command = let others = row_seats layout bytes seats (command + 1) in λ i. true ∷ others i
-row_seats layout bytes (false ∷ seats) command = let others = row_seats layout bytes seats command in λ i. false ∷ others i
+row_seats layout bytes (true ∷ seats) command = let others = row_seats layout bytes seats (command + 1) in
+    λ i. true ∷ others i
+row_seats layout bytes (false ∷ seats) command = let others = row_seats layout bytes seats command in
+    λ i. false ∷ others i
 
 -- a fact of every command that a row has
-row_moves : (P : Move → Type 0) (layout : Layout) (bytes : List ℕ) (commands : ℕ) → ((j : ℕ) → j < commands → P (move_at layout bytes j))
-    → (seats : List Bool) (command : ℕ) → command + player_count seats ≤ commands → All (λ step. IfSome step P) (moves_from layout bytes seats command)
+row_moves : (P : Move → Type 0) (layout : Layout) (bytes : List ℕ) (commands : ℕ)
+    → ((j : ℕ) → j < commands → P (move_at layout bytes j))
+    → (seats : List Bool) (command : ℕ) → command + player_count seats ≤ commands
+    → All (λ step. IfSome step P) (moves_from layout bytes seats command)
 row_moves P layout bytes commands each [] command fits = All-nil (λ step. IfSome step P)
 row_moves P layout bytes commands each (true ∷ seats) command fits =
-    All-cons (λ step. IfSome step P) (Some (move_at layout bytes command)) _ (each command (omega arith)) (row_moves P layout bytes commands each seats (command + 1) (omega arith))
+    All-cons (λ step. IfSome step P) (Some (move_at layout bytes command)) _ (each command (omega arith))
+    (row_moves P layout bytes commands each seats (command + 1) (omega arith))
 row_moves P layout bytes commands each (false ∷ seats) command fits =
     All-cons (λ step. IfSome step P) None _ tt (row_moves P layout bytes commands each seats command fits)
 
-pub row_told : (layout : Layout) (bytes : List ℕ) (commands : ℕ) → AreBytes bytes → place layout commands ≤ length bytes → HasNoMarker layout bytes commands
-    → (seats : List Bool) (command : ℕ) → command + player_count seats ≤ commands → IsRow seats (moves_from layout bytes seats command)
+pub row_told : (layout : Layout) (bytes : List ℕ) (commands : ℕ) → AreBytes bytes
+    → place layout commands ≤ length bytes → HasNoMarker layout bytes commands
+    → (seats : List Bool) (command : ℕ) → command + player_count seats ≤ commands
+    → IsRow seats (moves_from layout bytes seats command)
 row_told layout bytes commands fits whole none seats command room =
     record {
       seats = row_seats layout bytes seats command;
       moves = row_moves IsRecordable layout bytes commands
-          (λ j below. let next = place_below layout j commands below in no_stop layout bytes j fits (omega arith) (none j below)) seats command room;
+          (λ j below. let next = place_below layout j commands below in
+          no_stop layout bytes j fits (omega arith) (none j below)) seats command room;
     }
 
 -- a fact of all rows
-all_rows : {X : Type 0} (P : X → Type 0) (f : ℕ → X) (a n : ℕ) → ((i : ℕ) → i < a + n → P (f i)) → All P (map f (range_with_len a n))
+all_rows : {X : Type 0} (P : X → Type 0) (f : ℕ → X) (a n : ℕ) → ((i : ℕ) → i < a + n → P (f i))
+    → All P (map f (range_with_len a n))
 all_rows P f a zero each = All-nil P
-all_rows P f a (suc n) each = All-cons P (f a) _ (each a (omega arith)) (all_rows P f (a + 1) n (λ i below. each i (omega arith)))
+all_rows P f a (suc n) each = All-cons P (f a) _ (each a (omega arith))
+    (all_rows P f (a + 1) n (λ i below. each i (omega arith)))
 
 -- the rows of a demo that was read
-pub rows_writable : (bytes : List ℕ) (demo : Recording) → AreBytes bytes → IsReadAs bytes (Ok demo) → AreWritable demo.present demo.rows
+pub rows_writable : (bytes : List ℕ) (demo : Recording) → AreBytes bytes → IsReadAs bytes (Ok demo)
+    → AreWritable demo.present demo.rows
 rows_writable bytes demo fits read =
     let layout = read.0 in
     let commands = read.2.0 in
@@ -133,8 +151,19 @@ rows_writable bytes demo fits read =
     let players = player_count seats in
     let end = slice_get_within bytes (place layout commands) marker read.2.1.marked in
     let row : (t : ℕ) → t < 0 + commands / players → IsRow seats (row_in layout bytes t) =
-    λ t below. row_told layout bytes commands fits (omega arith) read.2.1.first seats (players * t) (tic_fits players t commands (omega arith)) in
-    let moves : (t : ℕ) → t < 0 + commands / players → All (λ step. IfSome step IsMove) (row_in layout bytes t) =
-    λ t below. row_moves IsMove layout bytes commands (λ j inside. move_fits (get_or bytes 0 0) layout read.1.known bytes j fits) seats (players * t) (tic_fits players t commands (omega arith)) in
+    λ t below. row_told layout bytes commands fits (omega arith) read.2.1.first seats (players * t)
+    (tic_fits players t commands (omega arith)) in
+    let moves : (t : ℕ) → t < 0 + commands / players
+    → All (λ step. IfSome step IsMove) (row_in layout bytes t) =
+    λ t below. row_moves IsMove layout bytes commands
+    (λ j inside. move_fits (get_or bytes 0 0) layout read.1.known bytes j fits) seats (players * t)
+    (tic_fits players t commands (omega arith)) in
     subst (λ (d : Recording). AreWritable d.present d.rows) (sym read.2.2)
-    (record { four = refl; somebody = read.1.somebody; recordable = all_rows (IsRow seats) (row_in layout bytes) 0 (commands / players) row; moves = all_rows (All (λ step. IfSome step IsMove)) (row_in layout bytes) 0 (commands / players) moves })
+    (record {
+      four = refl;
+      somebody = read.1.somebody;
+      recordable =
+          all_rows (IsRow seats) (row_in layout bytes) 0 (commands / players) row;
+      moves =
+          all_rows (All (λ step. IfSome step IsMove)) (row_in layout bytes) 0 (commands / players) moves;
+    })

@@ -1,5 +1,5 @@
--- How a demo's commands are laid out, by its version (g_game.c, G_WriteDemoTiccmd and G_ReadDemoTiccmd). Layouts differ
--- in the version and in the bytes of a turn.
+-- How a demo's commands are laid out, by its version (g_game.c, G_WriteDemoTiccmd and G_ReadDemoTiccmd).
+-- Layouts differ in the version and in the bytes of a turn.
 use Rattle.std.specs.Prelude.{ℕ, ◌+◌, ◌*◌, ◌/◌, ℤ, List, [], ◌∷◌, ◌++◌, ◌==◌, if◌then◌else◌, take, drop, slice_index, Option, Some, None}
 use Rattle.std.specs.Int.{w8, w16, cast_signed, cast_unsigned, to_le_bytes, from_le_bytes}
 use Rattle.dn_tic.specs.declared.command.Move.{Move}
@@ -40,7 +40,8 @@ long_tics =
 -- the layout of a version, if its demos are read
 abbrev pub layout_of_version : ℕ → Option Layout
 layout_of_version version =
-    if version == vanilla.version then Some vanilla else (if version == long_tics.version then Some long_tics else None)
+    if version == vanilla.version then Some vanilla
+    else (if version == long_tics.version then Some long_tics else None)
 
 -- the layout by its name
 abbrev pub layout_of : declared.Layout → Layout
@@ -53,7 +54,8 @@ command_size layout = layout.turn_size + 3
 
 -- the bytes of a move
 abbrev pub spell : Layout → Move → List ℕ
-spell layout m = cast_unsigned w8 m.forward ∷ cast_unsigned w8 m.side ∷ (layout.turn_bytes m.turn ++ m.buttons ∷ [])
+spell layout m = cast_unsigned w8 m.forward ∷ cast_unsigned w8
+    m.side ∷ (layout.turn_bytes m.turn ++ m.buttons ∷ [])
 
 -- the move that such bytes tell
 abbrev pub tell : Layout → List ℕ → Move

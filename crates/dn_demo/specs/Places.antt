@@ -31,7 +31,8 @@ is_set byte = not (byte == 0)
 -- which players are present
 abbrev pub seats_in : List ℕ → List Bool
 seats_in bytes =
-    is_set (slice_index bytes 9) ∷ is_set (slice_index bytes 10) ∷ is_set (slice_index bytes 11) ∷ is_set (slice_index bytes 12) ∷ []
+    is_set (slice_index bytes 9) ∷ is_set (slice_index bytes 10) ∷ is_set (slice_index bytes 11)
+    ∷ is_set (slice_index bytes 12) ∷ []
 
 -- the place of a command, counted from 0
 abbrev pub place : Layout → ℕ → ℕ
@@ -48,7 +49,8 @@ move_at layout bytes command = tell layout (command_in layout bytes command)
 -- a move for each player who is present, and each has the command after that of the one before
 abbrev pub moves_from : Layout → List ℕ → List Bool → ℕ → List (Option Move)
 moves_from layout bytes [] command = []
-moves_from layout bytes (true ∷ seats) command = Some (move_at layout bytes command) ∷ moves_from layout bytes seats (command + 1)
+moves_from layout bytes (true ∷ seats) command =
+    Some (move_at layout bytes command) ∷ moves_from layout bytes seats (command + 1)
 moves_from layout bytes (false ∷ seats) command = None ∷ moves_from layout bytes seats command
 
 -- how many whole commands the bytes have
@@ -68,7 +70,7 @@ abbrev pub HasNoMarker : Layout → List ℕ → ℕ → Type 0
 HasNoMarker layout bytes commands =
     (command : ℕ) → command < commands → slice_get bytes (place layout command) ≢ Some marker
 
--- the marker stands behind so many commands: it is at the place of the next, and at no place before
+-- the marker stands behind `commands` commands: it is at the place of the next, and at no place before
 pub record EndsBehind (layout : Layout) (bytes : List ℕ) (commands : ℕ) : Type 0 where
   pub marked : slice_get bytes (place layout commands) ≡ Some marker
   pub first : HasNoMarker layout bytes commands
@@ -77,7 +79,7 @@ pub record EndsBehind (layout : Layout) (bytes : List ℕ) (commands : ℕ) : Ty
 abbrev pub IsUnmarked : Layout → List ℕ → Type 0
 IsUnmarked layout bytes = (command : ℕ) → slice_get bytes (place layout command) ≢ Some marker
 
--- so many whole commands stand before the marker, or before the end where there is no marker
+-- this many whole commands stand before the marker, or before the end where there is no marker
 abbrev pub HasCommands : Layout → List ℕ → ℕ → Type 0
 HasCommands layout bytes commands =
     EndsBehind layout bytes commands ⊎ (IsUnmarked layout bytes × (commands ≡ commands_in layout bytes))

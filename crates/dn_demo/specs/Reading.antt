@@ -10,8 +10,8 @@ use Rattle.dn_demo.specs.Places.{layout_in, start_in, seats_in, place, rows_in, 
 use Rattle.dn_demo.specs.declared.demo.DemoFault.{DemoFault}
 use Rattle.dn_demo.specs.declared.demo.DemoFault.TheVariants.{Short, Version, NoPlayers, NoMarker, Memory}
 
--- a demo that was read: its header, the rows of its whole tics, how many commands of a cut tic follow them, and how
--- many bytes follow the marker
+-- a demo that was read: its header, the rows of its whole tics, how many commands of a cut tic follow them,
+-- and how many bytes follow the marker
 pub record Recording : Type 0 where
   pub version : ℕ
   pub start : Start
@@ -21,7 +21,7 @@ pub record Recording : Type 0 where
   pub cut : ℕ
   pub after : ℕ
 
--- the demo of these bytes, with so many commands before its marker and so many bytes after it: a tic has a command
+-- the demo of these bytes, with `commands` before its marker and `after` bytes behind it: a tic has a command
 -- for each player who is present
 abbrev pub recording : Layout → List ℕ → ℕ → ℕ → Recording
 recording layout bytes commands after =
@@ -39,7 +39,16 @@ recording layout bytes commands after =
 -- the demo of these rows alone
 abbrev pub written_demo : Layout → Start → ℕ → List Bool → List (List (Option Move)) → Recording
 written_demo layout start view present rows =
-    record { version = layout.version; start = start; view = view; present = present; rows = rows; cut = 0; after = 0 }
+    record {
+      version = layout.version;
+      start = start;
+      view = view;
+      present = present;
+      rows = rows;
+      cut =
+          0;
+      after = 0;
+    }
 
 -- the header of a demo in this layout, in which somebody plays
 pub record HasHeader (layout : Layout) (bytes : List ℕ) : Type 0 where
@@ -47,7 +56,8 @@ pub record HasHeader (layout : Layout) (bytes : List ℕ) : Type 0 where
   pub known : layout_in bytes ≡ Some layout
   pub somebody : 0 < player_count (seats_in bytes)
 
--- What the bytes are read as: a demo, or the first fault that they have. Memory can be wanted only for a demo.
+-- What the bytes are read as: a demo, or the first fault that they have. Memory can be refused only for a
+-- demo.
 abbrev pub IsReadAs : List ℕ → Result Recording DemoFault → Type 0
 IsReadAs bytes (Ok demo) =
     (layout : Layout) × HasHeader layout bytes
@@ -59,9 +69,10 @@ IsReadAs bytes (Err NoPlayers) =
     (header_size ≤ length bytes) × (is_some (layout_in bytes) ≡ true) × (player_count (seats_in bytes) ≡ 0)
 IsReadAs bytes (Err NoMarker) =
     (layout : Layout) × HasHeader layout bytes × IsUnmarked layout bytes
-IsReadAs bytes (Err Memory) = (layout : Layout) × HasHeader layout bytes × ((commands : ℕ) × EndsBehind layout bytes commands)
+IsReadAs bytes (Err Memory) = (layout : Layout) × HasHeader layout bytes
+    × ((commands : ℕ) × EndsBehind layout bytes commands)
 
--- two readings are the same, but that one may be refused for want of memory
+-- two readings are the same, but that one may be refused for `Memory`
 abbrev pub IsSameButMemory : Result Recording DemoFault → Result Recording DemoFault → Type 0
 IsSameButMemory one other = (one ≡ other) ⊎ (one ≡ Err Memory) ⊎ (other ≡ Err Memory)
 
@@ -73,9 +84,10 @@ state_through physics start present rows = fold physics.step (physics.begin star
 abbrev pub state_after : {S : Type 0} → Physics S → Recording → S
 state_after physics demo = state_through physics demo.start demo.present demo.rows
 
--- the rows that bytes have, whether they are a demo or not: those of the whole tics before the marker, or before the end
--- where there is no marker; and none without a whole header in which somebody plays
+-- the rows that bytes have, whether they are a demo or not: those of the whole tics before the marker, or
+-- before the end where there is no marker; and none without a whole header in which somebody plays
 pub record HasRows (bytes : List ℕ) (rows : List (List (Option Move))) : Type 0 where
   pub some : (layout : Layout) → HasHeader layout bytes
-      → (commands : ℕ) × HasCommands layout bytes commands × (rows ≡ rows_in layout bytes (commands / player_count (seats_in bytes)))
+      → (commands : ℕ) × HasCommands layout bytes commands
+      × (rows ≡ rows_in layout bytes (commands / player_count (seats_in bytes)))
   pub none : ((layout : Layout) → ¬ HasHeader layout bytes) → rows ≡ []

@@ -25,11 +25,12 @@ is_closed Closed = true
 abbrev pub IsLimit : ℕ → Type 0
 IsLimit limit = (1024 ≤ limit) × (limit ≤ 16777216)
 
--- the bytes of a recorded demo of so many players and tics: its header, a command for each player and tic, and the marker
+-- how many bytes a recorded demo of this many players and tics has: its header, a command for each player and
+-- tic, and the marker
 abbrev pub recorded_size : ℕ → ℕ → ℕ
 recorded_size players tics = header_size + command_size long_tics * (players * tics) + 1
 
--- how many tics of so many players fit into a demo of so many bytes
+-- how many tics of this many players fit into a demo of this many bytes
 abbrev pub capacity : ℕ → ℕ → ℕ
 capacity limit players = (limit - recorded_size players 0) / (command_size long_tics * players)
 
@@ -37,9 +38,10 @@ capacity limit players = (limit - recorded_size players 0) / (command_size long_
 abbrev pub most_tics : ℕ
 most_tics = 1677720
 
--- what a recorder of this limit is made as: with nothing written, or refused for the limit, or for want of memory
+-- what a recorder of this limit is made as: with nothing written, or refused for the limit, or for `Memory`
 abbrev pub IsMadeAs : ℕ → Result Recorded RecorderFault → Type 0
-IsMadeAs limit (Ok recorder) = IsLimit limit × (recorder ≡ record { limit = limit; stage = Blank; bytes = [] })
+IsMadeAs limit (Ok recorder) = IsLimit limit
+    × (recorder ≡ record { limit = limit; stage = Blank; bytes = [] })
 IsMadeAs limit (Err Limit) = ¬ IsLimit limit
 IsMadeAs limit (Err Memory) = IsLimit limit
 
@@ -47,10 +49,12 @@ IsMadeAs limit (Err Memory) = IsLimit limit
 abbrev pub AddsRow : List ℕ → List ℕ → List (Option Move) → Type 0
 AddsRow old new row =
     (start : Start) (view : ℕ) (present : List Bool) (rows : List (List (Option Move)))
-    → old ≡ demo_text long_tics start view present rows false → new ≡ demo_text long_tics start view present (rows ++ row ∷ []) false
+    → old ≡ demo_text long_tics start view present rows false
+    → new ≡ demo_text long_tics start view present (rows ++ row ∷ []) false
 
 -- the text of an open demo, closed
 abbrev pub Closes : List ℕ → List ℕ → Type 0
 Closes old new =
     (start : Start) (view : ℕ) (present : List Bool) (rows : List (List (Option Move)))
-    → old ≡ demo_text long_tics start view present rows false → new ≡ demo_text long_tics start view present rows true
+    → old ≡ demo_text long_tics start view present rows false
+    → new ≡ demo_text long_tics start view present rows true

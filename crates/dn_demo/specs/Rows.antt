@@ -33,7 +33,7 @@ player_count (false ∷ seats) = player_count seats
 abbrev pub AllMoves : (Move → Type 0) → List (List (Option Move)) → Type 0
 AllMoves Fact rows = All (All (λ step. IfSome step Fact)) rows
 
--- rows that can be written for these players, of whom somebody is present
+-- rows that can be written for these players, where at least one is present
 pub record AreWritable (present : List Bool) (rows : List (List (Option Move))) : Type 0 where
   pub four : length present ≡ 4
   pub somebody : 0 < player_count present

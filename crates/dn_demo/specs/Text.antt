@@ -17,7 +17,8 @@ header_size = 13
 -- the version, what the game starts from, whose view the demo shows, and which players are present, as 0 or 1
 abbrev pub header : Layout → Start → ℕ → List Bool → List ℕ
 header layout start view present =
-    layout.version ∷ start.skill ∷ start.episode ∷ start.map ∷ start.deathmatch ∷ start.respawn ∷ start.fast ∷ start.no_monsters ∷ view ∷ map bit present
+    layout.version ∷ start.skill ∷ start.episode ∷ start.map ∷ start.deathmatch ∷ start.respawn ∷ start.fast
+    ∷ start.no_monsters ∷ view ∷ map bit present
 
 -- a player's command, which is nothing where there is no move
 abbrev pub move_bytes : Layout → Option Move → List ℕ

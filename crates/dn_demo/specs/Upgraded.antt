@@ -13,12 +13,17 @@ use Rattle.dn_demo.specs.declared.upgrading.UpgradeFault.TheVariants.{Limit, Ful
 abbrev pub upgraded_size : Recording → ℕ
 upgraded_size demo = recorded_size (player_count demo.present) (length demo.rows)
 
--- what a demo is upgraded to within a limit: the closed text of its rows, with its start, view and players; or the first
--- refusal
+-- what a demo is upgraded to within a limit: the closed text of its rows, with its start, view and players;
+-- or the first refusal
 abbrev pub IsUpgraded : Recording → ℕ → Result Recorded UpgradeFault → Type 0
 IsUpgraded demo limit (Ok recorder) =
     IsLimit limit × (upgraded_size demo ≤ limit)
-    × (recorder ≡ record { limit = limit; stage = Closed; bytes = demo_text long_tics demo.start demo.view demo.present demo.rows true })
+    × (recorder ≡ record {
+      limit = limit;
+      stage = Closed;
+      bytes =
+          demo_text long_tics demo.start demo.view demo.present demo.rows true;
+    })
 IsUpgraded demo limit (Err Limit) = ¬ IsLimit limit
 IsUpgraded demo limit (Err Full) = IsLimit limit × (limit < upgraded_size demo)
 IsUpgraded demo limit (Err Memory) = IsLimit limit × (upgraded_size demo ≤ limit)

@@ -52,7 +52,8 @@ impl Model for Demo {
 
     ghost Value = { Recording };
 
-    ghost view = { λ d. recording (layout_of d.layout) d.bytes.items (commands_in (layout_of d.layout) d.bytes.items) d.after };
+    ghost view = { λ d. recording (layout_of d.layout) d.bytes.items
+        (commands_in (layout_of d.layout) d.bytes.items) d.after };
 
     ghost invariant = { λ d. HasHeader (layout_of d.layout) d.bytes.items
         × HasNoMarker (layout_of d.layout) d.bytes.items (commands_in (layout_of d.layout) d.bytes.items) };
@@ -78,7 +79,8 @@ pub(crate) fn open(bytes: &[u8]) -> Result<Layout, DemoFault>
 
 /// How the bytes are laid out and where the marker stands, or the first fault that they have.
 fn measure(bytes: &[u8]) -> Result<(Layout, usize), DemoFault>
-    ensures found { IfOk result (λ (layout, commands). HasHeader (layout_of layout) bytes.now × EndsBehind (layout_of layout) bytes.now commands) }
+    ensures found { IfOk result (λ (layout, commands). HasHeader (layout_of layout) bytes.now
+        × EndsBehind (layout_of layout) bytes.now commands) }
     ensures refused { IfErr result (λ fault. IsReadAs bytes.now (Err fault)) }
     ensures only { IfErr result (λ fault. (r : Result Recording DemoFault)
         → IsReadAs bytes.now r → IsSameButMemory (Err fault) r) }

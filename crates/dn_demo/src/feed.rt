@@ -1,6 +1,6 @@
 //! A demo that is fed in pieces.
 
-ghost use Rattle.std.specs.Prelude.{◌≡◌, ◌≢◌, ◌<◌, ◌≤◌, ℕ, ◌+◌, ◌%◌, Bool, true, false, List, [], ◌∷◌, ◌++◌, length, Some, IfSome, IfNone};
+ghost use Rattle.std.specs.Prelude.{◌≡◌, ◌≢◌, ◌<◌, ◌≤◌, ℕ, ◌+◌, ◌%◌, Bool, true, false, List, [], ◌∷◌, ◌++◌, length, Some, None, IfSome, IfNone};
 ghost use Rattle.dn_demo.specs.Layout as specs;
 ghost use Rattle.dn_demo.specs.Layout.{layout_of, command_size};
 ghost use Rattle.dn_demo.specs.Rows.{player_count};
@@ -9,7 +9,7 @@ ghost use Rattle.dn_demo.specs.Places.{seats_in};
 ghost use Rattle.dn_demo.specs.Reading.{HasHeader};
 ghost use Rattle.dn_demo.specs.Feeding.{Feeding, Shows, Takes, TakesFront, row_size};
 ghost use Rattle.dn_demo.specs.Fed.{EndsAs};
-ghost use Rattle.dn_demo.specs.Listed.{told, EndsRow, Lists, TellsFront};
+ghost use Rattle.dn_demo.specs.Listed.{told, EndsRow, Lists, IsBehindTic, TellsFront};
 
 use crate::demo::{self, DemoFault};
 use crate::fed::{Fed, FeedFault};
@@ -43,13 +43,31 @@ impl<W> Model for Feed<W> {
 
     ghost Value = { Feeding W };
 
-    ghost view = { λ f. record { taken = f.taken; header = take f.taken f.header; tics = f.tics; row = take f.kept f.row; marked = f.marked; after = f.after; world = f.world } };
+    ghost view = { λ f. record {
+      taken = f.taken;
+      header = take f.taken f.header;
+      tics = f.tics;
+      row =
+          take f.kept f.row;
+      marked = f.marked;
+      after = f.after;
+      world = f.world;
+    } };
 
     ghost invariant = { λ f. (f.kept ≤ 20)
-        × IsKept (record { taken = f.taken; header = take f.taken f.header; tics = f.tics; row = take f.kept f.row; marked = f.marked; after = f.after; world = f.world }) };
+        × IsKept (record {
+          taken = f.taken;
+          header = take f.taken f.header;
+          tics = f.tics;
+          row =
+              take f.kept f.row;
+          marked = f.marked;
+          after = f.after;
+          world = f.world;
+        }) };
 }
 
-/// Whether a byte is the marker, behind so many bytes of a row: it is at a command's place.
+/// Whether a byte is the marker, behind `kept` bytes of a row: it is at a command's place.
 fn is_marker(byte: u8, kept: usize, layout: Layout) -> bool
     ensures yes { result ≡ true → (byte ≡ marker) × (kept % command_size (layout_of layout) ≡ 0) }
     ensures no { result ≡ false → byte ≡ marker → kept % command_size (layout_of layout) ≢ 0 }
@@ -129,6 +147,8 @@ impl<W: World> Feed<W> {
         ensures row { (bytes : List ℕ) → Shows W.state W.physics bytes self.old
             → EndsRow (layout_of layout) (bytes ++ byte ∷ []) self.old.tics self.new.tics result }
         ensures tics { self.new.tics ≡ self.old.tics + length (told result) }
+        ensures ends { IfSome result (λ _. IsBehindTic self.new) }
+        ensures header { self.new.header ≡ self.old.header }
     {
         self.taken += 1;
         if is_marker(byte, self.kept, layout) {
@@ -172,16 +192,38 @@ impl<W: World> Feed<W> {
     /// refused.
     fn pass(&mut self, piece: &[u8])
         requires whole { header_size ≤ self.old.taken }
-        requires unread { self.old.marked ≡ false → (layout : specs.Layout) → ¬ HasHeader layout self.old.header }
+        requires unread { self.old.marked ≡ false → (layout : specs.Layout)
+            → ¬ HasHeader layout self.old.header }
         requires few { self.old.taken + length piece.now ≤ 4294967295 }
         ensures count { self.new.taken ≡ self.old.taken + length piece.now }
         ensures tics { self.new.tics ≡ self.old.tics }
+        ensures marked { self.new.marked ≡ self.old.marked }
         ensures shown { Takes W.state W.physics self.old piece.now self.new }
     {
         self.taken += piece.len() as u64;
         if self.marked {
             self.after += piece.len() as u64;
         }
+    }
+
+    /// Takes one byte at least, up to the end of a row or to the marker, and answers what is left.
+    fn take_row<'a>(&mut self, piece: &'a [u8], layout: Layout) -> &'a [u8]
+        requires some { 0 < length piece.now }
+        requires header { HasHeader (layout_of layout) self.old.header }
+        requires unmarked { self.old.marked ≡ false }
+        requires few { self.old.taken + length piece.now ≤ 4294967295 }
+        ensures front { TakesFront W.state W.physics self.old piece.now result.now self.new }
+        ensures less { length result.now < length piece.now }
+    {
+        let mut rest = piece;
+        while let Some((byte, behind)) = rest.split_first() {
+            self.take_command(*byte, layout);
+            rest = behind;
+            if self.kept == 0 || self.marked {
+                return rest;
+            }
+        }
+        rest
     }
 
     /// Takes one byte at least, and answers what is left.
@@ -204,11 +246,10 @@ impl<W: World> Feed<W> {
             return &piece[piece.len()..];
         }
         let rest = self.take_rows(piece, layout);
-        let Some((byte, behind)) = rest.split_first() else {
+        if rest.is_empty() {
             return rest;
-        };
-        self.take_command(*byte, layout);
-        behind
+        }
+        self.take_row(rest, layout)
     }
 
     /// Takes a byte, and answers the row that it ends.
@@ -217,6 +258,8 @@ impl<W: World> Feed<W> {
         ensures count { self.new.taken ≡ self.old.taken + 1 }
         ensures shown { Takes W.state W.physics self.old (byte ∷ []) self.new }
         ensures listed { Lists W.state W.physics self.old (byte ∷ []) self.new (told result) }
+        ensures ends { IfSome result (λ _. IsBehindTic self.new) }
+        ensures over { self.old.marked ≡ true → (result ≡ None) × (self.new.marked ≡ true) }
     {
         if self.taken < HEADER as u64 {
             self.take_header(byte);
@@ -233,12 +276,16 @@ impl<W: World> Feed<W> {
         self.take_command(byte, layout)
     }
 
-    /// Takes the next piece up to the end of a tic, and answers the row of this tic and the bytes that are left; or
-    /// takes all of the piece, where no tic ends in it. All pieces together have at most 4,294,967,295 bytes.
+    /// Takes the next piece up to the end of a tic, and answers the row of this tic and the bytes that are
+    /// left; or takes all of the piece, where no tic ends in it. Behind the marker no tic ends. All pieces
+    /// together have at most 4,294,967,295 bytes.
     pub fn next_row<'a>(&mut self, piece: &'a [u8]) -> (Option<[Option<Move>; 4]>, &'a [u8])
         requires { self.old.taken + length piece.now ≤ 4294967295 }
         ensures rows { TellsFront W.state W.physics self.old piece.now result.1.now self.new (told result.0) }
+        ensures ends { IfSome result.0 (λ _. IsBehindTic self.new) }
         ensures whole { IfNone result.0 (result.1.now ≡ []) }
+        ensures empty { piece.now ≡ [] → (result.0 ≡ None) × (self.new ≡ self.old) }
+        ensures over { self.old.marked ≡ true → result.0 ≡ None }
         ensures less { 0 < length piece.now → length result.1.now < length piece.now }
     {
         let mut rest = piece;
@@ -256,6 +303,7 @@ impl<W: World> Feed<W> {
         requires { self.old.taken + length piece.now ≤ 4294967295 }
         ensures count { self.new.taken ≡ self.old.taken + length piece.now }
         ensures shown { Takes W.state W.physics self.old piece.now self.new }
+        ensures empty { piece.now ≡ [] → self.new ≡ self.old }
     {
         let mut rest = piece;
         while !rest.is_empty() {

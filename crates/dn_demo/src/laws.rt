@@ -7,16 +7,19 @@ ghost use Rattle.dn_setup.specs.declared.start.Start.{Start};
 ghost use Rattle.dn_demo.specs.Layout.{vanilla, long_tics, spell, tell};
 ghost use Rattle.dn_demo.specs.Rows.{AreWritable, AllMoves, IsMove, IsWhole};
 ghost use Rattle.dn_demo.specs.Text.{demo_text};
-ghost use Rattle.dn_demo.specs.Reading.{Recording, IsReadAs, written_demo, state_after};
+ghost use Rattle.dn_demo.specs.Reading.{Recording, IsReadAs, HasRows, written_demo, state_after};
 ghost use Rattle.dn_demo.specs.Recorded.{Recorded};
 ghost use Rattle.dn_demo.specs.Upgraded.{IsUpgraded};
+ghost use Rattle.dn_demo.specs.Feeding.{Feeding, Shows};
+ghost use Rattle.dn_demo.specs.Listed.{AreListed};
 ghost use Rattle.dn_demo.specs.Fed.{IsFedAs, PiecesEndAs, IsSameEnd};
 ghost use Rattle.dn_demo.specs.declared.fed.Fed.{Fed};
 ghost use Rattle.dn_demo.specs.declared.fed.FeedFault.{FeedFault};
 
 use dn_world::World;
 
-/// A move is read back from its bytes: as version 109 if its turn is a multiple of 256, and always as version 111.
+/// A move is read back from its bytes: as version 109 if its turn is a multiple of 256, and always as version
+/// 111.
 pub fn spelt_moves_are_told()
     ensures vanilla { (m : Move) → IsMove m → IsWhole m → tell vanilla (spell vanilla m) ≡ m }
     ensures long_tics { (m : Move) → IsMove m → tell long_tics (spell long_tics m) ≡ m }
@@ -27,20 +30,25 @@ pub fn spelt_moves_are_told()
 pub fn written_rows_are_read()
     ensures vanilla { (start : Start) (view : ℕ) (present : List Bool) (rows : List (List (Option Move)))
         → AreWritable present rows → AllMoves IsWhole rows
-        → IsReadAs (demo_text vanilla start view present rows true) (Ok (written_demo vanilla start view present rows)) }
+        → IsReadAs (demo_text vanilla start view present rows true)
+        (Ok (written_demo vanilla start view present rows)) }
     ensures long_tics { (start : Start) (view : ℕ) (present : List Bool) (rows : List (List (Option Move)))
         → AreWritable present rows
-        → IsReadAs (demo_text long_tics start view present rows true) (Ok (written_demo long_tics start view present rows)) }
+        → IsReadAs (demo_text long_tics start view present rows true)
+        (Ok (written_demo long_tics start view present rows)) }
 {}
 
 /// A demo of either version that is read and upgraded is read again as version 111 with the same start, view,
 /// players and rows, nothing cut and nothing after. So it leads any world to the same state.
 pub fn upgraded_demos_play_the_same<W: World>()
-    ensures read { (bytes : List ℕ) (demo : Recording) (limit : ℕ) (recorder : Recorded) → All (λ byte. byte < 256) bytes
+    ensures read { (bytes : List ℕ) (demo : Recording) (limit : ℕ) (recorder : Recorded)
+        → All (λ byte. byte < 256) bytes
         → IsReadAs bytes (Ok demo) → IsUpgraded demo limit (Ok recorder)
         → IsReadAs recorder.bytes (Ok (written_demo long_tics demo.start demo.view demo.present demo.rows)) }
-    ensures played { (bytes : List ℕ) (demo upgraded : Recording) (limit : ℕ) (recorder : Recorded) → All (λ byte. byte < 256) bytes
-        → IsReadAs bytes (Ok demo) → IsUpgraded demo limit (Ok recorder) → IsReadAs recorder.bytes (Ok upgraded)
+    ensures played { (bytes : List ℕ) (demo upgraded : Recording) (limit : ℕ) (recorder : Recorded)
+        → All (λ byte. byte < 256) bytes
+        → IsReadAs bytes (Ok demo) → IsUpgraded demo limit (Ok recorder)
+        → IsReadAs recorder.bytes (Ok upgraded)
         → state_after W.physics upgraded ≡ state_after W.physics demo }
 {}
 
@@ -48,7 +56,18 @@ pub fn upgraded_demos_play_the_same<W: World>()
 pub fn pieces_end_as_their_join<W: World>()
     ensures read { (pieces : List (List ℕ)) (result : Result (Fed W) FeedFault)
         → PiecesEndAs W.state W.physics pieces result → IsFedAs W.state W.physics (concat pieces) result }
-    ensures same { (pieces others : List (List ℕ)) (one other : Result (Fed W) FeedFault) → concat pieces ≡ concat others
+    ensures same { (pieces others : List (List ℕ)) (one other : Result (Fed W) FeedFault)
+        → concat pieces ≡ concat others
         → PiecesEndAs W.state W.physics pieces one → PiecesEndAs W.state W.physics others other
         → IsSameEnd W.state W.physics one other }
+{}
+
+/// The rows that a feed tells are those that its bytes have. Of bytes that are read as a demo they are the
+/// demo's rows, and no others.
+pub fn told_rows_are_read<W: World>()
+    ensures told { (bytes : List ℕ) (feed : Feeding W) (rows : List (List (Option Move)))
+        → Shows W.state W.physics bytes feed → AreListed bytes feed.tics rows → HasRows bytes rows }
+    ensures read { (bytes : List ℕ) (demo : Recording) → IsReadAs bytes (Ok demo) → HasRows bytes demo.rows }
+    ensures only { (bytes : List ℕ) (demo : Recording) (rows : List (List (Option Move)))
+        → IsReadAs bytes (Ok demo) → HasRows bytes rows → rows ≡ demo.rows }
 {}

@@ -18,8 +18,8 @@ pub use demo::{Demo, DemoFault};
 pub use fed::{Fed, FeedFault};
 pub use feed::Feed;
 pub use laws::{
-    pieces_end_as_their_join, spelt_moves_are_told, upgraded_demos_play_the_same,
-    written_rows_are_read,
+    pieces_end_as_their_join, spelt_moves_are_told, told_rows_are_read,
+    upgraded_demos_play_the_same, written_rows_are_read,
 };
 pub use limits::{capacity, is_limit};
 pub use playing::play;

@@ -5,7 +5,7 @@ ghost use Rattle.dn_demo.specs.Recorded.{IsLimit, recorded_size, capacity, most_
 
 use crate::layout::{COMMAND, HEADER};
 
-/// Whether a demo may have so many bytes: 1,024 to 16,777,216.
+/// Whether this number of bytes may limit a demo: 1,024 to 16,777,216.
 pub fn is_limit(bytes: u32) -> bool
     ensures yes { result ≡ true → IsLimit bytes }
     ensures no { IsLimit bytes → result ≡ true }
@@ -13,7 +13,7 @@ pub fn is_limit(bytes: u32) -> bool
     (1024..=16_777_216).contains(&bytes)
 }
 
-/// How many tics of so many players fit into a demo of `limit` bytes, beside its header and marker.
+/// How many tics of `players` players fit into a demo of `limit` bytes, beside its header and marker.
 pub fn capacity(limit: u32, players: u8) -> u32
     requires limit { IsLimit limit }
     requires somebody { 0 < players }

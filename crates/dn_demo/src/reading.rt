@@ -90,9 +90,11 @@ fn told_at(bytes: &[u8], layout: Layout, at: usize) -> Move
 #[inline(always)]
 fn seated(bytes: &[u8], layout: Layout, present: bool, at: usize) -> (Option<Move>, usize)
     requires { at + command_size (layout_of layout) * player_count (present ∷ []) ≤ length bytes.now }
-    ensures step { (front : List ℕ) (command : ℕ) (others : List Bool) → length front + at ≡ place (layout_of layout) command
+    ensures step { (front : List ℕ) (command : ℕ) (others : List Bool)
+        → length front + at ≡ place (layout_of layout) command
         → moves_from (layout_of layout) (front ++ bytes.now) (present ∷ others) command
-        ≡ result.0 ∷ moves_from (layout_of layout) (front ++ bytes.now) others (command + player_count (present ∷ [])) }
+        ≡ result.0 ∷ moves_from (layout_of layout) (front ++ bytes.now) others
+        (command + player_count (present ∷ [])) }
     ensures next { result.1 ≡ at + command_size (layout_of layout) * player_count (present ∷ []) }
 {
     if present {

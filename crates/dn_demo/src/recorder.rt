@@ -102,7 +102,12 @@ impl Recorder {
         requires blank { self.old.stage ≡ Blank }
         requires somebody { 0 < player_count present }
         ensures written { self.new
-            ≡ record { limit = self.old.limit; stage = Open; bytes = demo_text long_tics start.now view present [] false } }
+            ≡ record {
+              limit = self.old.limit;
+              stage = Open;
+              bytes =
+                  demo_text long_tics start.now view present [] false;
+            } }
         ensures seats { seats_in self.new.bytes ≡ present }
     {
         self.stage = Stage::Open;
@@ -133,14 +138,36 @@ impl Recorder {
         self.add(d);
     }
 
-    /// Writes the moves of a tic (`g_game.c`, G_WriteDemoTiccmd), and answers whether they and the marker fit into
-    /// the limit. Where they do not, nothing changes. There is a move for each player who is present.
+    /// Writes the moves of a tic, for which and for the marker there is room. There is a move for each player
+    /// who is present.
+    pub fn add_row(&mut self, moves: &[Option<Move>; 4])
+        requires open { self.old.stage ≡ Open }
+        requires row { IsRow (seats_in self.old.bytes) moves.now }
+        requires room { length self.old.bytes + command_size long_tics
+            * player_count (seats_in self.old.bytes) + 1
+            ≤ self.old.limit }
+        ensures size { length (row_bytes long_tics moves.now)
+            ≡ command_size long_tics * player_count (seats_in self.old.bytes) }
+        ensures written { self.new
+            ≡ record self.old { bytes = self.old.bytes ++ row_bytes long_tics moves.now } }
+        ensures text { AddsRow self.old.bytes self.new.bytes moves.now }
+        ensures seats { seats_in self.new.bytes ≡ seats_in self.old.bytes }
+    {
+        let _ = &self.limit;
+        self.add_all(moves);
+    }
+
+    /// Writes the moves of a tic (`g_game.c`, G_WriteDemoTiccmd), and answers whether they and the marker fit
+    /// into the limit. Where they do not, nothing changes. There is a move for each player who is present.
     pub fn row(&mut self, moves: &[Option<Move>; 4]) -> bool
         requires open { self.old.stage ≡ Open }
         requires row { IsRow (seats_in self.old.bytes) moves.now }
-        ensures fits { result ≡ nat_le (length self.old.bytes + length (row_bytes long_tics moves.now) + 1) self.old.limit }
-        ensures size { length (row_bytes long_tics moves.now) ≡ command_size long_tics * player_count (seats_in self.old.bytes) }
-        ensures written { result ≡ true → self.new ≡ record self.old { bytes = self.old.bytes ++ row_bytes long_tics moves.now } }
+        ensures fits { result ≡ nat_le (length self.old.bytes + length (row_bytes long_tics moves.now) + 1)
+            self.old.limit }
+        ensures size { length (row_bytes long_tics moves.now)
+            ≡ command_size long_tics * player_count (seats_in self.old.bytes) }
+        ensures written { result ≡ true
+            → self.new ≡ record self.old { bytes = self.old.bytes ++ row_bytes long_tics moves.now } }
         ensures text { result ≡ true → AddsRow self.old.bytes self.new.bytes moves.now }
         ensures seats { seats_in self.new.bytes ≡ seats_in self.old.bytes }
         ensures kept { result ≡ false → self.new ≡ self.old }
@@ -148,14 +175,18 @@ impl Recorder {
         if self.bytes.len() + row_size(moves) + 1 > self.limit as usize {
             return false;
         }
-        self.add_all(moves);
+        self.add_row(moves);
         true
     }
 
     /// Writes the marker.
     pub fn close(&mut self)
         requires { self.old.stage ≡ Open }
-        ensures written { self.new ≡ record self.old { stage = Closed; bytes = self.old.bytes ++ marker ∷ [] } }
+        ensures written { self.new ≡ record self.old {
+          stage = Closed;
+          bytes =
+              self.old.bytes ++ marker ∷ [];
+        } }
         ensures text { Closes self.old.bytes self.new.bytes }
     {
         self.stage = Stage::Closed;

@@ -5,6 +5,7 @@ ghost use Rattle.std.specs.Prelude.{◌≡◌, Some};
 mod feeding;
 mod reading;
 mod recording;
+mod telling;
 mod upgrading;
 
 use dn_setup::Start;

@@ -23,8 +23,8 @@ pub enum UpgradeFault {
     Memory,
 }
 
-/// Records the whole tics of a demo anew as version 111, within `limit` bytes, and closes it. The start, the view and
-/// the players stay; commands of a cut tic, and what follows the marker, are left out.
+/// Records the whole tics of a demo anew as version 111, within `limit` bytes, and closes it. The start, the
+/// view and the players stay; commands of a cut tic, and what follows the marker, are left out.
 pub fn upgrade(alloc: Global, demo: &Demo, limit: u32) -> Result<Recorder, UpgradeFault>
     ensures { IsUpgraded demo.now limit result }
 {

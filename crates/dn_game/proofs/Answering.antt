@@ -20,7 +20,8 @@ use Rattle.dn_game.proofs.Applying.{applied_so}
 use Rattle.dn_game.specs.declared.played.Played.{Played}
 
 module _ {S : Type 0} (rules : Rules S) where
-  pub plays_more : (events : List Event) (answers : List (Result Done Refusal)) (event : Event) (answer : Result Done Refusal) (game mid last : Game)
+  pub plays_more : (events : List Event) (answers : List (Result Done Refusal)) (event : Event)
+      (answer : Result Done Refusal) (game mid last : Game)
       → Plays rules game events answers mid → Answers rules mid event answer last
       → Plays rules game (events ++ event ∷ []) (answers ++ answer ∷ []) last
   plays_more [] [] event answer game mid last same next =
@@ -42,75 +43,101 @@ module _ {S : Type 0} (rules : Rules S) where
       (next, inr (send, same), plays_leads events answers next last rest)
 
   -- a send that is left out has its answer
-  left_out : (event : Event) (game next : Game) → IsTrue (is_send event) → next ≡ game → (answer : Result Done Refusal) × Answers rules game event answer next
+  left_out : (event : Event) (game next : Game) → IsTrue (is_send event) → next ≡ game
+      → (answer : Result Done Refusal) × Answers rules game event answer next
   left_out event game next send same = go (refused rules.players game event) refl
     where
-      go : (o : Option Refusal) → o ≡ refused rules.players game event → (answer : Result Done Refusal) × Answers rules game event answer next
+      go : (o : Option Refusal) → o ≡ refused rules.players game event
+          → (answer : Result Done Refusal) × Answers rules game event answer next
       go None free = (Err Refusal.Memory, inr (sym free, send, same, refl))
       go (Some refusal) is =
-          let so = applied_so rules game event (Some refusal) is in
-          (Err refusal, inl (same ∙ ap (λ (x : Game × Result Done Refusal). x.0) (sym so), ap (λ (x : Game × Result Done Refusal). x.1) (sym so)))
+          let so = applied_so rules game event (Some refusal) is in (
+            Err refusal,
+            inl (
+              same ∙ ap (λ (x : Game × Result Done Refusal). x.0) (sym so),
+              ap (λ (x : Game × Result Done Refusal). x.1) (sym so),
+            ),
+          )
 
   -- so each run has its answers
   pub leads_plays : (events : List Event) (game last : Game)
-      → Leads rules game events last → (answers : List (Result Done Refusal)) × Plays rules game events answers last
+      → Leads rules game events last → (answers : List (Result Done Refusal))
+      × Plays rules game events answers last
   leads_plays [] game last same = ([], same)
   leads_plays (e ∷ events) game last (next, inl same, rest) =
-      let more = leads_plays events next last rest in ((applied rules game e).1 ∷ more.0, (next, inl (same, refl), more.1))
+      let more = leads_plays events next last rest in
+      ((applied rules game e).1 ∷ more.0, (next, inl (same, refl), more.1))
   leads_plays (e ∷ events) game last (next, inr (send, same), rest) =
       let more = leads_plays events next last rest in
       let one = left_out e game next send same in
       (one.0 ∷ more.0, (next, one.1, more.1))
 
   -- an answered event is one of a run
-  pub answers_next : (event : Event) (answer : Result Done Refusal) (game next : Game) → Answers rules game event answer next → Next rules game event next
+  pub answers_next : (event : Event) (answer : Result Done Refusal) (game next : Game)
+      → Answers rules game event answer next → Next rules game event next
   answers_next event answer game next (inl (same, answered)) = inl same
   answers_next event answer game next (inr (free, send, same, answered)) = inr (send, same)
 
 -- an event that was applied has its answer
-pub answers_one : {W S : Type 0} (state : W → S) (rules : Rules S) (old new : Contents W) (m : Game) (event : Event) (answer : Result Done Refusal)
+pub answers_one : {W S : Type 0} (state : W → S) (rules : Rules S) (old new : Contents W) (m : Game)
+    (event : Event) (answer : Result Done Refusal)
     → Represents state rules old m → IsApplied state rules old new m event answer
     → (next : Game) × Answers rules m event answer next × Represents state rules new next
-answers_one {W} {S} state rules old new m event answer r (inl after) = ((applied rules m event).0, inl (refl, after.answered), after.game)
+answers_one {W} {S} state rules old new m event answer r (inl after) =
+    ((applied rules m event).0, inl (refl, after.answered), after.game)
 answers_one {W} {S} state rules old new m event answer r (inr (free, left)) =
     let P : Contents W → Type 0 = λ g. Represents state rules g m in
     (m, inr (free, left.send, refl, left.answered), subst P (sym left.same) r)
 
-pub played_more : {W S : Type 0} (state : W → S) (rules : Rules S) (settings : Settings) (events : List Event) (event : Event) (answer : Result Done Refusal) (played next : Played W)
+pub played_more : {W S : Type 0} (state : W → S) (rules : Rules S) (settings : Settings) (events : List Event)
+    (event : Event) (answer : Result Done Refusal) (played next : Played W)
     → (r : IsPlayed state rules settings events played)
     → IsApplied state rules (contents played.game) (contents next.game) r.last event answer
-    → next.done ≡ played.done + count_by is_ok (answer ∷ []) → next.refused ≡ played.refused + count_by is_err (answer ∷ [])
-    → IsPlayed state rules settings (events ++ event ∷ []) next
+    → next.done ≡ played.done + count_by is_ok (answer ∷ [])
+    → next.refused ≡ played.refused + count_by is_err (answer ∷ [])
+    → (p : IsPlayed state rules settings (events ++ event ∷ []) next) × (p.answers ≡ r.answers ++ answer ∷ [])
 played_more state rules settings events event answer played next r is done refused =
-    let one = answers_one state rules (contents played.game) (contents next.game) r.last event answer r.game is in
-    record {
-      last = one.0;
-      answers = r.answers ++ answer ∷ [];
-      plays = plays_more rules events r.answers event answer (opening_game settings) r.last one.0 r.plays one.1;
-      game = one.2;
-      done = done ∙ ap (λ (k : ℕ). k + count_by is_ok (answer ∷ [])) r.done ∙ sym (sum_by-append (λ a. cond (is_ok a) 1 0) r.answers (answer ∷ []));
-      refused = refused ∙ ap (λ (k : ℕ). k + count_by is_err (answer ∷ [])) r.refused ∙ sym (sum_by-append (λ a. cond (is_err a) 1 0) r.answers (answer ∷ []));
-    }
+    let one = answers_one state rules (contents played.game) (contents next.game) r.last event answer r.game
+    is in (
+      record {
+        last = one.0;
+        answers = r.answers ++ answer ∷ [];
+        plays = plays_more rules events r.answers event answer (opening_game settings) r.last one.0 r.plays
+            one.1;
+        game = one.2;
+        done = done ∙ ap (λ (k : ℕ). k + count_by is_ok (answer ∷ [])) r.done
+            ∙ sym (sum_by-append (λ a. cond (is_ok a) 1 0) r.answers (answer ∷ []));
+        refused = refused ∙ ap (λ (k : ℕ). k + count_by is_err (answer ∷ [])) r.refused
+            ∙ sym (sum_by-append (λ a. cond (is_err a) 1 0) r.answers (answer ∷ []));
+      },
+      refl,
+    )
 
 -- whatever events led to a game, they and one that was applied lead to the next
-pub carries : {W S : Type 0} (state : W → S) (physics : Physics S) (old new : Contents W) (event : Event) (answer : Result Done Refusal)
-    → Tells state physics old (λ rules m. IsApplied state rules old new m event answer) → IsCarriedOn state physics old new event answer
+pub carries : {W S : Type 0} (state : W → S) (physics : Physics S) (old new : Contents W) (event : Event)
+    (answer : Result Done Refusal)
+    → Tells state physics old (λ rules m. IsApplied state rules old new m event answer)
+    → IsCarriedOn state physics old new event answer
 carries state physics old new event answer is =
     record {
       reached = λ players extra capacity settings events r.
           let rules = rules_of physics players extra capacity in
-          let one = answers_one state rules old new r.last event answer r.game (is players extra capacity r.last r.game) in
+          let one = answers_one state rules old new r.last event answer r.game
+          (is players extra capacity r.last r.game) in
           record {
             last = one.0;
-            run = goes_on rules settings events event (opening_game settings) r.last one.0 r.run (answers_next rules event answer r.last one.0 one.1);
+            run = goes_on rules settings events event (opening_game settings) r.last one.0 r.run
+                (answers_next rules event answer r.last one.0 one.1);
             game = one.2;
           };
       answered = λ players extra capacity settings events answers r.
           let rules = rules_of physics players extra capacity in
-          let one = answers_one state rules old new r.last event answer r.game (is players extra capacity r.last r.game) in
+          let one = answers_one state rules old new r.last event answer r.game
+          (is players extra capacity r.last r.game) in
           record {
             last = one.0;
-            plays = plays_more rules events answers event answer (opening_game settings) r.last one.0 r.plays one.1;
+            plays = plays_more rules events answers event answer (opening_game settings) r.last one.0 r.plays
+                one.1;
             game = one.2;
           };
     }

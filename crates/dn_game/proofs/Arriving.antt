@@ -1,4 +1,4 @@
--- A packet that was sent and delivered at once, and a round of such packets.
+-- A packet that is delivered as soon as it is sent, and a round of such packets.
 use Rattle.std.proofs.Common.{◌≡◌, ◌≢◌, ℕ, suc, ◌+◌, true, true≢false, ◌++◌, length, Result, Ok, Err, refl, ap, sym, subst, inl, inr, arith}
 use Rattle.dn_machine.specs.declared.events.Done.{Done}
 use Rattle.dn_machine.specs.declared.events.Event.{Event}
@@ -20,9 +20,11 @@ no_step : (step : Game → ℕ → Game) (game : Game) → in_order step 0 game 
 unfolding in_order
 no_step step game = refl
 
-step_more : (step : Game → ℕ → Game) (count : ℕ) (game : Game) → in_order step (count + 1) game ≡ step (in_order step count game) count
+step_more : (step : Game → ℕ → Game) (count : ℕ) (game : Game)
+    → in_order step (count + 1) game ≡ step (in_order step count game) count
 unfolding in_order
-step_more step count game = let more : count + 1 ≡ suc count = omega arith in ap (λ (k : ℕ). in_order step k game) more
+step_more step count game = let more : count + 1 ≡ suc count = omega arith in
+    ap (λ (k : ℕ). in_order step k game) more
 
 module _ {W S : Type 0} (state : W → S) (rules : Rules S) where
   -- an event that is not left out is applied
@@ -35,24 +37,31 @@ module _ {W S : Type 0} (state : W → S) (rules : Rules S) where
   pub exchanges : (old mid new : Contents W) (m : Game) (node to which : ℕ) (sent heard : Result Done Refusal)
       → which ≡ length m.flights → sent ≢ Err Refusal.Memory
       → IsApplied state rules old mid m (Send node to) sent
-      → (Represents state rules mid (after rules (Send node to) m) → IsApplied state rules mid new (after rules (Send node to) m) (Deliver which) heard)
+      → (Represents state rules mid (after rules (Send node to) m)
+      → IsApplied state rules mid new (after rules (Send node to) m) (Deliver which) heard)
       → Represents state rules new (exchange rules node m to)
   unfolding exchange
   exchanges old mid new m node to which sent heard counted some first then =
       let half = after_applied old mid m (Send node to) sent (λ e. some) first in
-      let whole = after_applied mid new (after rules (Send node to) m) (Deliver which) heard (λ e. absurd (true≢false (sym e))) (then half) in
-      subst (λ (k : ℕ). Represents state rules new (after rules (Deliver k) (after rules (Send node to) m))) counted whole
+      let whole = after_applied mid new (after rules (Send node to) m) (Deliver which) heard
+      (λ e. absurd (true≢false (sym e))) (then half) in
+      subst (λ (k : ℕ). Represents state rules new (after rules (Deliver k) (after rules (Send node to) m)))
+      counted whole
 
   -- what is carried out, and what it ends with
-  carried : {A : Type 0} (m good : Game) (g : Contents W) (answer : Result A Refusal) (done : A) → answer ≡ Ok done
+  carried : {A : Type 0} (m good : Game) (g : Contents W) (answer : Result A Refusal) (done : A)
+      → answer ≡ Ok done
       → IsCarriedOut state rules m good g answer → Represents state rules g good
-  carried m good g answer done is all = subst (λ (r : Result _ Refusal). IsCarriedOut state rules m good g r) is all
+  carried m good g answer done is all = subst (λ (r : Result _ Refusal). IsCarriedOut state rules m good g r)
+      is all
 
-  ended : {A B : Type 0} (first good mid good_mid : Game) (g : Contents W) (answer : Result A Refusal) (whole : Result B Refusal) (refusal : Refusal)
+  ended : {A B : Type 0} (first good mid good_mid : Game) (g : Contents W) (answer : Result A Refusal)
+      (whole : Result B Refusal) (refusal : Refusal)
       → answer ≡ Err refusal → whole ≡ Err refusal → machine.IsLed rules first mid
       → IsCarriedOut state rules mid good_mid g answer → IsCarriedOut state rules first good g whole
   ended first good mid good_mid g answer whole refusal is same before some =
-      let at : IsUnsent g refusal × IsLed state rules mid g = subst (λ (r : Result _ Refusal). IsCarriedOut state rules mid good_mid g r) is some in
+      let at : IsUnsent g refusal × IsLed state rules mid g =
+      subst (λ (r : Result _ Refusal). IsCarriedOut state rules mid good_mid g r) is some in
       let led = at.1 in
       subst (λ (r : Result _ Refusal). IsCarriedOut state rules first good g r) (sym same) (
         at.0,
@@ -67,37 +76,52 @@ module _ {W S : Type 0} (state : W → S) (rules : Rules S) where
 
   -- a turn, by its exchanges, whatever keys the others press
   pub has_turn : (before g : Contents W) (keys : ℕ → ℕ) (m : Game) (node : ℕ) (answer : Result Done Refusal)
-      → IsApplied state rules before g (in_order (exchange rules node) rules.players (after rules (Build node (keys node)) m)) (Run node) answer
+      → IsApplied state rules before g
+      (in_order (exchange rules node) rules.players (after rules (Build node (keys node)) m)) (Run node)
+      answer
       → Represents state rules g (turn rules keys m node)
   unfolding turn
-  has_turn before g keys m node answer run = after_applied before g _ (Run node) answer (λ e. absurd (true≢false (sym e))) run
+  has_turn before g keys m node answer run =
+      after_applied before g _ (Run node) answer (λ e. absurd (true≢false (sym e))) run
 
-  pub by_own_keys : {A : Type 0} (keys all : ℕ → ℕ) (m : Game) (node : ℕ) (g : Contents W) (answer : Result A Refusal) → keys node ≡ all node
-      → IsCarriedOut state rules m (turn rules keys m node) g answer → IsCarriedOut state rules m (turn rules all m node) g answer
+  pub by_own_keys : {A : Type 0} (keys all : ℕ → ℕ) (m : Game) (node : ℕ) (g : Contents W)
+      (answer : Result A Refusal) → keys node ≡ all node
+      → IsCarriedOut state rules m (turn rules keys m node) g answer
+      → IsCarriedOut state rules m (turn rules all m node) g answer
   unfolding turn
   by_own_keys keys all m node g answer same =
-      subst (λ (k : ℕ). IsCarriedOut state rules m (after rules (Run node) (in_order (exchange rules node) rules.players (after rules (Build node k) m))) g answer) same
+      subst (λ (k : ℕ). IsCarriedOut state rules m
+      (after rules (Run node)
+      (in_order (exchange rules node) rules.players (after rules (Build node k) m))) g answer) same
 
   -- steps in order that each may end the whole
-  module _ (step : Game → ℕ → Game) (each : (game : Game) (i : ℕ) → machine.IsLed rules game (step game i)) (game : Game) (g : Contents W) where
+  module _ (step : Game → ℕ → Game) (each : (game : Game) (i : ℕ) → machine.IsLed rules game (step game i))
+      (game : Game) (g : Contents W) where
     pub begins : Represents state rules g game → Represents state rules g (in_order step 0 game)
     begins r = subst (λ (m : Game). Represents state rules g m) (sym (no_step step game)) r
 
-    module _ {A : Type 0} (count : ℕ) (answer : Result A Refusal) (one : IsCarriedOut state rules (in_order step count game) (step (in_order step count game) count) g answer) where
+    module _ {A : Type 0} (count : ℕ) (answer : Result A Refusal)
+        (one : IsCarriedOut state rules (in_order step count game) (step (in_order step count game) count) g
+        answer) where
       pub goes_on : (done : A) → answer ≡ Ok done → Represents state rules g (in_order step (count + 1) game)
-      goes_on done is = subst (λ (m : Game). Represents state rules g m) (sym (step_more step count game)) (carried _ _ g answer done is one)
+      goes_on done is = subst (λ (m : Game). Represents state rules g m) (sym (step_more step count game))
+          (carried _ _ g answer done is one)
 
-      pub ends : {B : Type 0} (first good : Game) (whole : Result B Refusal) (refusal : Refusal) → answer ≡ Err refusal → whole ≡ Err refusal
+      pub ends : {B : Type 0} (first good : Game) (whole : Result B Refusal) (refusal : Refusal)
+          → answer ≡ Err refusal → whole ≡ Err refusal
           → machine.IsLed rules first game → IsCarriedOut state rules first good g whole
       ends first good whole refusal is same before =
           ended first good (in_order step count game) _ g answer whole refusal is same
-          (led_on rules first game (in_order step count game) before (led_in_order rules step each count game)) one
+          (led_on rules first game (in_order step count game) before
+          (led_in_order rules step each count game)) one
 
     -- all of them are there
-    pub all_steps : (count all : ℕ) → count ≡ all → Represents state rules g (in_order step count game) → Represents state rules g (in_order step all game)
+    pub all_steps : (count all : ℕ) → count ≡ all → Represents state rules g (in_order step count game)
+        → Represents state rules g (in_order step all game)
     all_steps count all same r = subst (λ (k : ℕ). Represents state rules g (in_order step k game)) same r
 
-  pub has_round : (keys : ℕ → ℕ) (m : Game) (g : Contents W) → Represents state rules g (in_order (turn rules keys) rules.players m)
+  pub has_round : (keys : ℕ → ℕ) (m : Game) (g : Contents W)
+      → Represents state rules g (in_order (turn rules keys) rules.players m)
       → Represents state rules g (good_round rules keys m)
   unfolding good_round
   has_round keys m g r = r

@@ -41,57 +41,70 @@ module _ {W S : Type 0} (state : W → S) (rules : Rules S) (settings : Settings
       let found = node_of g i within in
       let shown = r.nodes i found.0 found.1 in (
         (λ ended. started state rules settings i (node.contents found.0) (m.nodes i) shown
-            (none.started i (node.contents found.0) (found.0, found.1, refl) (ap is_ended shown.lockstep.phase ∙ ended))),
+            (none.started i (node.contents found.0) (found.0, found.1, refl)
+            (ap is_ended shown.lockstep.stands.phase ∙ ended))),
         sym (r.stopped i) ∙ none.moving i within,
       )
 
-  all_ran : (g : Contents W) (m : Game) → Represents state rules g m → (tics : ℕ) → AllRan g g tics → machine.AllRan rules m m tics
+  all_ran : (g : Contents W) (m : Game) → Represents state rules g m → (tics : ℕ) → AllRan g g tics
+      → machine.AllRan rules m m tics
   all_ran g m r tics all i below there =
       let within : i < length g.nodes = let count = r.players in omega arith in
       let found = node_of g i within in
       let shown = r.nodes i found.0 found.1 in
       let here : HasNode g i (node.contents found.0) = (found.0, found.1, refl) in
-      let far = all i (node.contents found.0) (node.contents found.0) here (ap is_ended shown.lockstep.phase ∙ there) here in
-      let same = shown.lockstep.ran in
+      let far = all i (node.contents found.0) (node.contents found.0) here
+      (ap is_ended shown.lockstep.stands.phase ∙ there) here in
+      let same = shown.lockstep.table.ran in
       omega arith
 
-  ran_all : (g later : Contents W) (m last : Game) → Represents state rules g m → Represents state rules later last → (tics : ℕ)
+  ran_all : (g later : Contents W) (m last : Game) → Represents state rules g m
+      → Represents state rules later last → (tics : ℕ)
       → machine.AllRan rules m last tics → AllRan g later tics
   ran_all g later m last r s tics all i n k (one, at, is) there (other, its, so) =
-      let below : i < rules.players = let within = slice_get_within g.nodes i one at in let count = r.players in omega arith in
+      let below : i < rules.players = let within = slice_get_within g.nodes i one at in
+      let count = r.players in omega arith in
       let before = r.nodes i one at in
       let after = s.nodes i other its in
-      let far = all i below (sym (ap is_ended before.lockstep.phase) ∙ (ap (λ (c : node.Contents W). is_ended c.phase) (sym is) ∙ there)) in
-      let same = after.lockstep.ran in
+      let far = all i below (sym (ap is_ended before.lockstep.stands.phase)
+      ∙ (ap (λ (c : node.Contents W). is_ended c.phase) (sym is) ∙ there)) in
+      let same = after.lockstep.table.ran in
       let told = ap (λ (c : node.Contents W). c.ran) so in
       omega arith
 
   -- a node's demo has room for no more tics than a node runs
-  short : (g : Contents W) (m : Game) → Represents state rules g m → 2 ≤ rules.players → rules.capacity ≤ tic_limit
+  short : (g : Contents W) (m : Game) → Represents state rules g m → 2 ≤ rules.players
+      → rules.capacity ≤ tic_limit
   short g m r several =
       let found = node_of g 0 (let count = r.players in omega arith) in
-      let same = (r.nodes 0 found.0 found.1).lockstep.capacity in
+      let same = (r.nodes 0 found.0 found.1).lockstep.whose.capacity in
       let low = found.0.lockstep.short in
       omega arith
 
-  room_of : (g : Contents W) (m : Game) → Represents state rules g m → IsKept rules settings m → (tics most : ℕ)
+  room_of : (g : Contents W) (m : Game) → Represents state rules g m → IsKept rules settings m
+      → (tics most : ℕ)
       → HasRoom rules.capacity g tics most → machine.HasRoom rules m tics most
   room_of g m r kept tics most (inl demos) = inl demos
   room_of g m r kept tics most (inr (i, player, end, n, at, below, known, before, few)) =
       let its : player < rules.players = let count = r.players in omega arith in
-      let told = (Promises.agree rules settings m kept).ends i player end (inside state rules settings g m r i n at) its
+      let told = (Promises.agree rules settings m kept).ends i player end
+      (inside state rules settings g m r i n at) its
       (sym (end_is state rules settings g m r i player n at its) ∙ known) in
       let same = told.1 in
       inr (player, its, told.0, omega arith, few)
 
-  pub continues : (events : List Event) (g later : Contents W) (reached : IsReached state rules settings events g)
+  pub continues : (events : List Event) (g later : Contents W)
+      (reached : IsReached state rules settings events g)
       → 2 ≤ rules.players → (keys : ℕ → ℕ → ℕ) (rounds : ℕ)
-      → Represents state rules later (good_rounds rules keys rounds reached.last) → GoesOn rules.capacity rounds g later
+      → Represents state rules later (good_rounds rules keys rounds reached.last)
+      → GoesOn rules.capacity rounds g later
   continues events g later reached several keys rounds shown none tics more enough room all =
       let kept = always rules settings events reached.last reached.run in
       ran_all g later reached.last _ reached.game shown _
-      (goes_on_with rules settings (short g reached.last reached.game several) several events reached.last reached.run (lost_none g reached.last reached.game none)
-      keys tics more rounds (room_of g reached.last reached.game kept tics (tics + more + 5) room) enough (all_ran g reached.last reached.game tics all))
+      (goes_on_with rules settings (short g reached.last reached.game several) several events reached.last
+      reached.run (lost_none g reached.last reached.game none)
+      keys tics more rounds (room_of g reached.last reached.game kept tics (tics + more + 5) room) enough
+      (all_ran g reached.last reached.game tics all))
 
   pub played_on_promised : (events : List Event) (keys : ℕ → ℕ) (rounds : ℕ) (played : Played W)
       → (p : IsPlayedOn state rules settings events keys rounds played) → 2 ≤ rules.players
@@ -103,14 +116,17 @@ module _ {W S : Type 0} (state : W → S) (rules : Rules S) (settings : Settings
       let reached : IsReached state rules settings (events ++ led.0) (contents played.game) =
       record {
         last = good_rounds rules (λ round. keys) rounds e.last;
-        run = leads_more rules events led.0 (opening_game settings) e.last (good_rounds rules (λ round. keys) rounds e.last) run led.1;
+        run = leads_more rules events led.0 (opening_game settings) e.last
+            (good_rounds rules (λ round. keys) rounds e.last) run led.1;
         game = p.calmed.game;
       } in
       let after = reached_promised state rules settings (events ++ led.0) (contents played.game) reached in
       record {
         on = p;
-        promised = promised state rules settings events e.answers e.last (contents p.before.game) e.plays e.game;
-        goes_on = continues events _ _ (record { last = e.last; run = run; game = e.game }) several (λ round. keys) rounds p.calmed.game;
+        promised = promised state rules settings events e.answers e.last (contents p.before.game) e.plays
+            e.game;
+        goes_on = continues events _ _ (record { last = e.last; run = run; game = e.game }) several
+            (λ round. keys) rounds p.calmed.game;
         more = led.0;
         answers = after.0;
         last = reached.last;

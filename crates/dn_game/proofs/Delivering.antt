@@ -28,33 +28,51 @@ use Rattle.dn_game.proofs.Moving.{places}
 use Rattle.dn_game.proofs.Refusing.{near_unless}
 use Rattle.dn_game.proofs.Standing.{flight_at, node_at, made_at}
 
-delivers_to : {W S : Type 0} (state : W → S) (rules : Rules S) (g : Contents W) (m : machine.Game) (which : ℕ) (flight : exact.Flight) (to : ℕ) (n : Node W) (heard : Heard)
-    → Represents state rules g m → slice_get m.flights which ≡ Some flight → to ≡ flight.to → to < length g.nodes
+delivers_to : {W S : Type 0} (state : W → S) (rules : Rules S) (g : Contents W) (m : machine.Game) (which : ℕ)
+    (flight : exact.Flight) (to : ℕ) (n : Node W) (heard : Heard)
+    → Represents state rules g m → slice_get m.flights which ≡ Some flight → to ≡ flight.to
+    → to < length g.nodes
     → step.IsAfter state rules to (node.contents n) (on_packet rules to (m.nodes to) flight) (λ x. heard ≡ x)
-    → IsAfter state rules (record g { nodes = set g.nodes to n }) (delivered rules m (slice_get m.flights which)) (Done.Heard heard)
+    → IsAfter state rules (record g { nodes = set g.nodes to n })
+    (delivered rules m (slice_get m.flights which)) (Done.Heard heard)
 delivers_to {W} {S} state rules g m which flight to n heard r there is below after =
-    let P : Option exact.Flight → Type 0 = λ x. IsAfter state rules (record g { nodes = set g.nodes to n }) (delivered rules m x) (Done.Heard heard) in
-    let Q : ℕ → Type 0 = λ k. IsAfter state rules (record g { nodes = set g.nodes to n })
-    (machine.with_node m k (on_packet rules k (m.nodes k) flight).0, Done.Heard (on_packet rules k (m.nodes k) flight).1) (Done.Heard heard) in
-    subst P (sym there) (subst Q is (record { game = places state rules g m to n _ r below after.node; answered = ap Done.Heard after.answer }))
+    let P : Option exact.Flight → Type 0 = λ x. IsAfter state rules (record g { nodes = set g.nodes to n })
+    (delivered rules m x) (Done.Heard heard) in
+    let Q : ℕ → Type 0 = λ k. IsAfter state rules (record g { nodes = set g.nodes to n }) (
+      machine.with_node m k (on_packet rules k (m.nodes k) flight).0,
+      Done.Heard (on_packet rules k (m.nodes k) flight).1,
+    ) (Done.Heard heard) in
+    subst P (sym there)
+    (subst Q is
+    (record {
+      game = places state rules g m to n _ r below after.node;
+      answered =
+          ap Done.Heard after.answer;
+    }))
 
 -- a node hears the packets of near flights exactly
 abbrev pub Hears : {W S : Type 0} → (W → S) → Physics S → Node W → Node W → ℕ → List ℕ → Heard → Type 0
 Hears state physics old new from bytes heard =
-    (flight : exact.Flight) → IsFair flight → bytes ≡ text (packet_of flight) → flight.from ≡ from → from < (node.contents old).players → from ≢ (node.contents old).me
+    (flight : exact.Flight) → IsFair flight → bytes ≡ text (packet_of flight) → flight.from ≡ from
+    → from < (node.contents old).players → from ≢ (node.contents old).me
     → is_near (count_of (node.contents old).rings (node.contents old).me) flight ≡ true
-    → Steps state physics (node.contents old) (node.contents new) (λ rules me m. on_packet rules me m flight) (λ x. heard ≡ x)
+    → Steps state physics (node.contents old) (node.contents new) (λ rules me m. on_packet rules me m flight)
+    (λ x. heard ≡ x)
 
-pub delivers : {W S : Type 0} (state : W → S) (physics : Physics S) (players : ℕ) (extra : Bool) (capacity : ℕ) (g : Contents W) (m : machine.Game)
-    (r : Represents state (rules_of physics players extra capacity) g m) (which : ℕ) (entry : Record) → which < length g.flights
+pub delivers : {W S : Type 0} (state : W → S) (physics : Physics S) (players : ℕ) (extra : Bool)
+    (capacity : ℕ) (g : Contents W) (m : machine.Game)
+    (r : Represents state (rules_of physics players extra capacity) g m) (which : ℕ) (entry : Record)
+    → which < length g.flights
     → ((f : Flight) → slice_get g.flights which ≡ Some f → IsRecordOf f entry)
     → refused_flight m (slice_get m.flights which) ≡ None
-    → (to : ℕ) (old new : Node W) (bytes : List ℕ) (heard : Heard) → to ≡ entry.to → old ≡ slice_index_or g.nodes to old
+    → (to : ℕ) (old new : Node W) (bytes : List ℕ) (heard : Heard) → to ≡ entry.to
+    → old ≡ slice_index_or g.nodes to old
     → ((f : Flight) → slice_get g.flights which ≡ Some f → bytes ≡ f.bytes.items)
     → Hears state physics old new entry.from bytes heard
     → IsAfter state (rules_of physics players extra capacity) (record g { nodes = set g.nodes to new })
     (delivered (rules_of physics players extra capacity) m (slice_get m.flights which)) (Done.Heard heard)
-delivers state physics players extra capacity g m r which entry below told free to old new bytes heard is_to is_old is_bytes hears =
+delivers state physics players extra capacity g m r which entry below told free to old new bytes heard is_to
+    is_old is_bytes hears =
     let rules = rules_of physics players extra capacity in
     let at = flight_at state rules g m r which below in
     let flight = at.0 in
@@ -63,10 +81,13 @@ delivers state physics players extra capacity g m r which entry below told free 
     let comes : entry.from ≡ flight.from = of.from in
     let inside : to < length g.nodes = let a = at.1.carried.to in omega (arith, a, goes, r.players) in
     let shown = node_at state rules g m r to old inside is_old in
-    let same : count_of (node.contents old).rings (node.contents old).me ≡ count_of (node.contents old).rings (node.contents old).me = refl in
-    let count = made_at state rules g m r to _ old inside is_old same ∙ ap (λ (k : ℕ). made k (m.nodes k)) goes in
+    let same : count_of (node.contents old).rings (node.contents old).me
+    ≡ count_of (node.contents old).rings (node.contents old).me = refl in
+    let count = made_at state rules g m r to _ old inside is_old same
+    ∙ ap (λ (k : ℕ). made k (m.nodes k)) goes in
     delivers_to state rules g m which flight to new heard r at.1.there goes inside
     (hears flight at.1.carried.fair (is_bytes (flight_of flight) at.1.sent) (sym comes)
-    (let a = at.1.carried.from in omega (arith, a, comes, shown.lockstep.players)) (λ e. at.1.carried.apart (sym comes ∙ e ∙ shown.lockstep.number ∙ goes))
+    (let a = at.1.carried.from in omega (arith, a, comes, shown.lockstep.whose.players))
+    (λ e. at.1.carried.apart (sym comes ∙ e ∙ shown.lockstep.whose.number ∙ goes))
     (ap (λ (k : ℕ). is_near k flight) count ∙ near_unless m which flight at.1.there free)
     players extra capacity to (m.nodes to) shown)

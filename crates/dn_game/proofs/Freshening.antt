@@ -2,6 +2,7 @@
 use Rattle.std.proofs.Common.{◌≡◌, ℕ, zero, suc, ◌⊎◌, false, List, [], ◌∷◌, ◌++◌, length, map, append-nil, Some, ap, sym, ◌∙◌, refl, subst, inl, inr, arith}
 use Rattle.std.specs.Prelude.{slice_get, slice_index_or}
 use Rattle.std.proofs.lemmas.List.{append_assoc}
+use Rattle.std.proofs.lemmas.List.Elements.{All-push}
 use Rattle.std.proofs.lemmas.Option.{same_Some}
 use Rattle.dn_setup.specs.Settings.{Settings}
 use Rattle.dn_machine.specs.Game.{fresh, opening_game}
@@ -9,7 +10,7 @@ use Rattle.dn_machine.specs.Worlds.{Rules}
 use Rattle.dn_node.specs.declared.node.Node.{Node}
 use Rattle.dn_node.specs.Contents.{contents}
 use Rattle.dn_node.specs.Represents.{Represents}
-use Rattle.dn_game.specs.Fresh.{AreFresh}
+use Rattle.dn_game.specs.Fresh.{AreFresh, AreLimited}
 use Rattle.dn_game.proofs.Places.{map_more}
 use Rattle.dn_game.specs.Represents as represents
 use Rattle.dn_game.specs.declared.flight.Flight.{Flight}
@@ -25,16 +26,24 @@ slice_get-more (z ∷ xs) y (suc k) x h = elim (slice_get-more xs y k x h) [
   | inr (at, last) ↦ inr (ap suc at, last)
 ]
 
-pub fresh_more : {W S : Type 0} (state : W → S) (rules : Rules S) (settings : Settings) (nodes : List (Node W)) (node : Node W)
-    → AreFresh state rules settings nodes → Represents state rules (length nodes) (contents node) (fresh settings (length nodes))
+pub fresh_more : {W S : Type 0} (state : W → S) (rules : Rules S) (settings : Settings)
+    (nodes : List (Node W)) (node : Node W)
+    → AreFresh state rules settings nodes → Represents state rules (length nodes) (contents node)
+    (fresh settings (length nodes))
     → AreFresh state rules settings (nodes ++ node ∷ [])
-fresh_more {W} {S} state rules settings nodes node before one i n there = elim (slice_get-more nodes node i n there) [
-  | inl old ↦ before i n old
-  | inr (at, last) ↦
-      let P : Node W → Type 0 = λ x. Represents state rules i (contents x) (fresh settings i) in
-      let Q : ℕ → Type 0 = λ k. Represents state rules k (contents node) (fresh settings k) in
-      subst P (sym last) (subst Q (sym at) one)
-]
+fresh_more {W} {S} state rules settings nodes node before one i n there =
+    elim (slice_get-more nodes node i n there) [
+      | inl old ↦ before i n old
+      | inr (at, last) ↦
+          let P : Node W → Type 0 = λ x. Represents state rules i (contents x) (fresh settings i) in
+          let Q : ℕ → Type 0 = λ k. Represents state rules k (contents node) (fresh settings k) in
+          subst P (sym last) (subst Q (sym at) one)
+    ]
+
+pub limited_more : {W : Type 0} (limit : ℕ) (nodes : List (Node W)) (node : Node W) → AreLimited limit nodes
+    → (contents node).demo.limit ≡ limit → AreLimited limit (nodes ++ node ∷ [])
+limited_more {W} limit nodes node before one =
+    All-push (λ (n : Node W). (contents n).demo.limit ≡ limit) nodes node before one
 
 nobody : (i : ℕ) → slice_index_or (false ∷ false ∷ false ∷ false ∷ []) i false ≡ false
 nobody zero = refl
@@ -43,20 +52,33 @@ nobody (suc (suc zero)) = refl
 nobody (suc (suc (suc zero))) = refl
 nobody (suc (suc (suc (suc i)))) = refl
 
-pub opens : {W S : Type 0} (state : W → S) (rules : Rules S) (settings : Settings) (nodes : List (Node W)) (flights : List Flight)
+pub opens : {W S : Type 0} (state : W → S) (rules : Rules S) (settings : Settings) (nodes : List (Node W))
+    (flights : List Flight)
     → length nodes ≡ rules.players → AreFresh state rules settings nodes → flights ≡ []
-    → represents.Represents state rules (record { nodes = nodes; stopped = false ∷ false ∷ false ∷ false ∷ []; flights = flights }) (opening_game settings)
+    → represents.Represents state rules
+    (record { nodes = nodes; stopped = false ∷ false ∷ false ∷ false ∷ []; flights = flights })
+    (opening_game settings)
 unfolding opening_game
 opens state rules settings nodes flights count nodes_fresh none =
-    record { players = count; nodes = nodes_fresh; stopped = nobody; flights = none; carried = λ k d far. absurd (omega arith) }
+    record {
+      players = count;
+      nodes = nodes_fresh;
+      stopped = nobody;
+      flights = none;
+      carried =
+          λ k d far. absurd (omega arith);
+    }
 
 -- each node has the world that was given for it: those so far, and those that are left
-module _ {X W : Type 0} (view : X → W) (xs : List X) (rest whole : List W) (so_far : map view xs ++ rest ≡ whole) where
-  pub given_more : (more : List X) (x : X) (w : W) (left : List W) → more ≡ xs ++ x ∷ [] → view x ≡ w → rest ≡ w ∷ left → map view more ++ left ≡ whole
+module _ {X W : Type 0} (view : X → W) (xs : List X) (rest whole : List W)
+    (so_far : map view xs ++ rest ≡ whole) where
+  pub given_more : (more : List X) (x : X) (w : W) (left : List W) → more ≡ xs ++ x ∷ [] → view x ≡ w
+      → rest ≡ w ∷ left → map view more ++ left ≡ whole
   given_more more x w left pushed is first =
       ap (λ (ys : List X). map view ys ++ left) pushed ∙ ap (λ (ws : List W). ws ++ left) (map_more view xs x)
       ∙ append_assoc (map view xs) (view x ∷ []) left
-      ∙ ap (λ (v : W). map view xs ++ v ∷ left) is ∙ ap (λ (ws : List W). map view xs ++ ws) (sym first) ∙ so_far
+      ∙ ap (λ (v : W). map view xs ++ v ∷ left) is ∙ ap (λ (ws : List W). map view xs ++ ws) (sym first)
+      ∙ so_far
 
   pub given_all : length rest ≡ 0 → map view xs ≡ whole
   given_all none = go rest so_far none

@@ -16,10 +16,10 @@ use Rattle.dn_machine.specs.declared.events.Event.TheVariants.{Build, Send, Deli
 use Rattle.dn_machine.specs.declared.events.Refusal.{Refusal}
 use Rattle.dn_machine.specs.Worlds.{Rules}
 use Rattle.dn_machine.specs.Flight.{Kind, SetUp, Play, Exit, Flight, is_exit, end_of}
-use Rattle.dn_machine.specs.Node.{Node, put, got, made, ran, lowest}
+use Rattle.dn_machine.specs.Node.{Node, put, ends_of, got, made, ran, lowest}
 use Rattle.dn_machine.specs.Building.{on_build, on_build_in}
 use Rattle.dn_machine.specs.Sending.{on_send, on_send_in}
-use Rattle.dn_machine.specs.Hearing.{on_gathering, is_within, after_request, after_exit, is_strange_end, on_commands, on_ended, on_packet, on_packet_in}
+use Rattle.dn_machine.specs.Hearing.{on_gathering, is_strange_end, on_commands, on_ended, on_packet, on_packet_in}
 use Rattle.dn_machine.specs.Running.{is_awaited, first_off, row_held, full_at, on_run, on_run_in, on_run_playing, on_quit, on_quit_in}
 use Rattle.dn_machine.specs.Game.{Game, opening_game, with_node, posted, delivered, refused, on_event, applied_if, applied}
 use Rattle.dn_machine.specs.Promise.{keys_of}
@@ -31,32 +31,26 @@ use Rattle.dn_game.specs.Played.{Answers, Plays}
 module _ {S : Type 0} (rules : Rules S) (me : ℕ) (node : Node) where
   sent_keeps : (to : ℕ) → (on_send rules me node to).0.keys ≡ node.keys
   unfolding on_send
-  sent_keeps to = cond_both (eqb me to) _ _ (λ (r : Node × Option Flight). r.0.keys ≡ node.keys) (λ own. refl) (λ other. go node.phase)
+  sent_keeps to = cond_both (eqb me to) _ _ (λ (r : Node × Option Flight). r.0.keys ≡ node.keys) (λ own. refl)
+      (λ other. go node.phase)
     where
       go : (phase : Phase) → (on_send_in rules me node to phase).0.keys ≡ node.keys
       go Listening = refl
       go Gathering = refl
       go Playing = refl
       go (Ended cause) =
-          cond_both node.played _ _ (λ (r : Node × Option Flight). r.0.keys ≡ node.keys) (λ gives. refl) (λ silent. refl)
-
-  request_keeps : (peer : ℕ) (request : Option ℕ) → (after_request me node peer request).keys ≡ node.keys
-  request_keeps peer request =
-      cond_both (eqb (node.hold peer) 0 && is_within (made me node) request) _ _ (λ (n : Node). n.keys ≡ node.keys) (λ met. refl) (λ unmet. refl)
-
-  exit_keeps : (exit : Bool) (old : Node) (peer end : ℕ) → (after_exit exit old peer end).keys ≡ old.keys
-  exit_keeps true old peer end = refl
-  exit_keeps false old peer end = refl
+          cond_both node.played _ _ (λ (r : Node × Option Flight). r.0.keys ≡ node.keys) (λ gives. refl)
+          (λ silent. refl)
 
   commands_keep : (flight : Flight) → (on_commands me node flight).0.keys ≡ node.keys
   commands_keep flight =
       let P : Node × Heard → Type 0 = λ r. r.0.keys ≡ node.keys in
       let exit = is_exit flight.kind in
-      let asked = exit_keeps exit (after_request me node flight.from flight.request) flight.from (end_of flight) ∙ request_keeps flight.from flight.request in
       cond_both (ltb (ran node + 12) (end_of flight)) _ _ P (λ over. refl)
-      (λ fits. cond_both (is_strange_end exit (got node flight.from) (node.ends flight.from) (end_of flight)) _ _ P (λ strange. refl)
-      (λ told. cond_both (leb (end_of flight) (got node flight.from)) _ _ P (λ stale. asked)
-      (λ fresh. cond_both (ltb (got node flight.from) flight.start) _ _ P (λ gap. asked) (λ next. asked))))
+      (λ fits. cond_both (is_strange_end exit (got node flight.from) (ends_of node flight.from)
+      (end_of flight)) _ _ P (λ strange. refl)
+      (λ told. cond_both (leb (end_of flight) (got node flight.from)) _ _ P (λ stale. refl)
+      (λ fresh. cond_both (ltb (got node flight.from) flight.start) _ _ P (λ gap. refl) (λ next. refl))))
 
   heard_keeps : (flight : Flight) → (on_packet rules me node flight).0.keys ≡ node.keys
   unfolding on_packet
@@ -64,13 +58,14 @@ module _ {S : Type 0} (rules : Rules S) (me : ℕ) (node : Node) where
     where
       gathers : (on_gathering rules node flight.from).0.keys ≡ node.keys
       gathers =
-          cond_both (all_noted rules.players (put node.noted flight.from true)) _ _ (λ (r : Node × Heard). r.0.keys ≡ node.keys) (λ all. refl) (λ some. refl)
+          cond_both (all_noted rules.players (put node.noted flight.from true)) _ _
+          (λ (r : Node × Heard). r.0.keys ≡ node.keys) (λ all. refl) (λ some. refl)
 
       ended : (played : Bool) (kind : Kind) → (on_ended played me node flight kind).0.keys ≡ node.keys
       ended false kind = refl
       ended true (SetUp settings) = refl
       ended true Exit = refl
-      ended true Play = request_keeps flight.from flight.request
+      ended true Play = refl
 
       go : (phase : Phase) (kind : Kind) → (on_packet_in rules me node flight phase kind).0.keys ≡ node.keys
       go (Ended cause) kind = ended node.played kind
@@ -92,7 +87,8 @@ module _ {S : Type 0} (rules : Rules S) (me : ℕ) (node : Node) where
       playing (Some player) off = refl
       playing None (Some player) = refl
       playing None None =
-          cond_both (eqb (ran node) (full_at rules (row_held rules node))) _ _ (λ (r : Node × Ran). r.0.keys ≡ node.keys) (λ full. refl) (λ runs. refl)
+          cond_both (eqb (ran node) (full_at rules (row_held rules node))) _ _
+          (λ (r : Node × Ran). r.0.keys ≡ node.keys) (λ full. refl) (λ runs. refl)
 
       go : (phase : Phase) → (on_run_in rules node phase).0.keys ≡ node.keys
       go Listening = refl
@@ -127,26 +123,37 @@ module _ {S : Type 0} (rules : Rules S) (game : Game) (player : ℕ) where
   abbrev Grows : Event → Game × Result Done Refusal → Type 0
   Grows event after = (after.0.nodes player).keys ≡ (game.nodes player).keys ++ keys_by event after.1 player
 
-  stays : (node : ℕ) (new : Node) → new.keys ≡ (game.nodes node).keys → (put game.nodes node new player).keys ≡ (game.nodes player).keys ++ []
+  stays : (node : ℕ) (new : Node) → new.keys ≡ (game.nodes node).keys
+      → (put game.nodes node new player).keys ≡ (game.nodes player).keys ++ []
   stays node new same =
-      ap (λ (f : ℕ → List ℕ). f player) (view_kept (λ (n : Node). n.keys) game.nodes node new same) ∙ sym (append-nil (game.nodes player).keys)
+      ap (λ (f : ℕ → List ℕ). f player) (view_kept (λ (n : Node). n.keys) game.nodes node new same)
+      ∙ sym (append-nil (game.nodes player).keys)
 
-  builds : (node state : ℕ) → Grows (Build node state) ((on_event rules game (Build node state)).0, Ok (on_event rules game (Build node state)).1)
+  builds : (node state : ℕ) → Grows (Build node state) (
+    (on_event rules game (Build node state)).0,
+    Ok (on_event rules game (Build node state)).1,
+  )
   unfolding on_build
   builds node state = go (game.nodes node).phase
     where
       P : Node × Made → Type 0
-      P r = (put game.nodes node r.0 player).keys ≡ (game.nodes player).keys ++ keys_by (Build node state) (Ok (Done.Built r.1)) player
+      P r = (put game.nodes node r.0 player).keys ≡ (game.nodes player).keys ++ keys_by (Build node state)
+          (Ok (Done.Built r.1)) player
 
       more : (new : Node) → new.keys ≡ (game.nodes node).keys ++ state ∷ []
-          → (put game.nodes node new player).keys ≡ (game.nodes player).keys ++ (if eqb player node then state ∷ [] else [])
+          → (put game.nodes node new player).keys
+          ≡ (game.nodes player).keys ++ (if eqb player node then state ∷ [] else [])
       more new is = elim (cases_eq player node) [
         | inl e ↦
-            ap (λ (n : Node). n.keys) (put_at game.nodes node player new e) ∙ is ∙ ap (λ (k : ℕ). (game.nodes k).keys ++ state ∷ []) (sym e)
-            ∙ ap (λ (b : Bool). (game.nodes player).keys ++ (if b then state ∷ [] else [])) (sym (eq-eqb player node e))
+            ap (λ (n : Node). n.keys) (put_at game.nodes node player new e) ∙ is
+            ∙ ap (λ (k : ℕ). (game.nodes k).keys ++ state ∷ []) (sym e)
+            ∙ ap (λ (b : Bool). (game.nodes player).keys ++ (if b then state ∷ [] else []))
+            (sym (eq-eqb player node e))
         | inr other ↦
-            ap (λ (n : Node). n.keys) (put_off game.nodes node player new other) ∙ sym (append-nil (game.nodes player).keys)
-            ∙ ap (λ (b : Bool). (game.nodes player).keys ++ (if b then state ∷ [] else [])) (sym (ne_eqb player node other))
+            ap (λ (n : Node). n.keys) (put_off game.nodes node player new other)
+            ∙ sym (append-nil (game.nodes player).keys)
+            ∙ ap (λ (b : Bool). (game.nodes player).keys ++ (if b then state ∷ [] else []))
+            (sym (ne_eqb player node other))
       ]
 
       go : (phase : Phase) → P (on_build_in rules node (game.nodes node) state phase)
@@ -154,28 +161,33 @@ module _ {S : Type 0} (rules : Rules S) (game : Game) (player : ℕ) where
       go Gathering = stays node (game.nodes node) refl
       go (Ended cause) = stays node (game.nodes node) refl
       go Playing =
-          cond_both (leb 5 (made node (game.nodes node) - ran (game.nodes node))) _ _ P (λ full. stays node (game.nodes node) refl) (λ free. more _ refl)
+          cond_both (leb 5 (made node (game.nodes node) - ran (game.nodes node))) _ _ P
+          (λ full. stays node (game.nodes node) refl) (λ free. more _ refl)
 
   posts : (node : ℕ) (after : Node × Option Flight) → after.0.keys ≡ (game.nodes node).keys
       → ((posted (with_node game node after.0) after.1).0.nodes player).keys ≡ (game.nodes player).keys ++ []
   posts node (new, None) same = stays node new same
   posts node (new, Some flight) same = stays node new same
 
-  delivers : (o : Option Flight) → ((delivered rules game o).0.nodes player).keys ≡ (game.nodes player).keys ++ []
+  delivers : (o : Option Flight) → ((delivered rules game o).0.nodes player).keys
+      ≡ (game.nodes player).keys ++ []
   delivers None = sym (append-nil (game.nodes player).keys)
   delivers (Some flight) = stays flight.to _ (heard_keeps rules flight.to (game.nodes flight.to) flight)
 
   happens : (event : Event) → Grows event ((on_event rules game event).0, Ok (on_event rules game event).1)
   happens (Build node keys) = builds node keys
-  happens (Send node to) = posts node (on_send rules node (game.nodes node) to) (sent_keeps rules node (game.nodes node) to)
+  happens (Send node to) = posts node (on_send rules node (game.nodes node) to)
+      (sent_keeps rules node (game.nodes node) to)
   happens (Deliver which) = delivers (slice_get game.flights which)
   happens (Run node) = stays node _ (ran_keeps rules node (game.nodes node))
   happens (Quit node) = stays node _ (quit_keeps (game.nodes node))
   happens (Stop node) = sym (append-nil (game.nodes player).keys)
 
-  unchanged : (event : Event) (refusal : Refusal) → (game.nodes player).keys ≡ (game.nodes player).keys ++ keys_by event (Err refusal) player
+  unchanged : (event : Event) (refusal : Refusal)
+      → (game.nodes player).keys ≡ (game.nodes player).keys ++ keys_by event (Err refusal) player
   unchanged event refusal =
-      sym (append-nil (game.nodes player).keys) ∙ ap (λ (ks : List ℕ). (game.nodes player).keys ++ ks) (sym (refused_none event refusal player))
+      sym (append-nil (game.nodes player).keys) ∙ ap (λ (ks : List ℕ). (game.nodes player).keys ++ ks)
+      (sym (refused_none event refusal player))
 
   grows : (event : Event) → Grows event (applied rules game event)
   unfolding applied
@@ -185,18 +197,23 @@ module _ {S : Type 0} (rules : Rules S) (game : Game) (player : ℕ) where
       go (Some refusal) = unchanged event refusal
       go None = happens event
 
-  answered : (event : Event) (answer : Result Done Refusal) (next : Game) → Answers rules game event answer next
+  answered : (event : Event) (answer : Result Done Refusal) (next : Game)
+      → Answers rules game event answer next
       → (next.nodes player).keys ≡ (game.nodes player).keys ++ keys_by event answer player
   answered event answer next (inl (same, is)) =
-      ap (λ (g : Game). (g.nodes player).keys) same ∙ grows event ∙ ap (λ (a : Result Done Refusal). (game.nodes player).keys ++ keys_by event a player) (sym is)
+      ap (λ (g : Game). (g.nodes player).keys) same ∙ grows event
+      ∙ ap (λ (a : Result Done Refusal). (game.nodes player).keys ++ keys_by event a player) (sym is)
   answered event answer next (inr (free, send, same, is)) =
       ap (λ (g : Game). (g.nodes player).keys) same ∙ unchanged event Refusal.Memory
       ∙ ap (λ (a : Result Done Refusal). (game.nodes player).keys ++ keys_by event a player) (sym is)
 
 -- and by a list of events
-keys_after : {S : Type 0} (rules : Rules S) (player : ℕ) (events : List Event) (answers : List (Result Done Refusal)) (game last : Game)
-    → Plays rules game events answers last → (last.nodes player).keys ≡ (game.nodes player).keys ++ keys_made events answers player
-keys_after rules player [] [] game last same = ap (λ (g : Game). (g.nodes player).keys) same ∙ sym (append-nil (game.nodes player).keys)
+keys_after : {S : Type 0} (rules : Rules S) (player : ℕ) (events : List Event)
+    (answers : List (Result Done Refusal)) (game last : Game)
+    → Plays rules game events answers last → (last.nodes player).keys
+    ≡ (game.nodes player).keys ++ keys_made events answers player
+keys_after rules player [] [] game last same = ap (λ (g : Game). (g.nodes player).keys) same
+    ∙ sym (append-nil (game.nodes player).keys)
 keys_after rules player [] (a ∷ answers) game last way = absurd way
 keys_after rules player (e ∷ events) [] game last way = absurd way
 keys_after rules player (e ∷ events) (a ∷ answers) game last (next, one, rest) =
@@ -204,7 +221,9 @@ keys_after rules player (e ∷ events) (a ∷ answers) game last (next, one, res
     ∙ ap (λ (ks : List ℕ). ks ++ keys_made events answers player) (answered rules game player e a next one)
     ∙ append_assoc (game.nodes player).keys (keys_by e a player) (keys_made events answers player)
 
-pub keys_played : {S : Type 0} (rules : Rules S) (settings : Settings) (events : List Event) (answers : List (Result Done Refusal)) (last : Game)
+pub keys_played : {S : Type 0} (rules : Rules S) (settings : Settings) (events : List Event)
+    (answers : List (Result Done Refusal)) (last : Game)
     → Plays rules (opening_game settings) events answers last → keys_of last ≡ keys_made events answers
 unfolding opening_game
-keys_played rules settings events answers last way = λ i player. keys_after rules player events answers (opening_game settings) last way i
+keys_played rules settings events answers last way =
+    λ i player. keys_after rules player events answers (opening_game settings) last way i

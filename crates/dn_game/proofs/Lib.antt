@@ -13,6 +13,7 @@ pub mod ScriptLines
 pub mod ScriptOneEvent
 pub mod ScriptEvents
 pub mod ScriptReading
+pub mod ScriptWriting
 pub mod Places
 pub mod Packing
 pub mod Standing
@@ -29,4 +30,5 @@ pub mod Sending
 pub mod Arriving
 pub mod Continuing
 pub mod Following
+pub mod Observed
 pub mod NeverStopping

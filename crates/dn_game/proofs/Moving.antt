@@ -17,19 +17,25 @@ use Rattle.dn_game.specs.Contents.{Contents}
 use Rattle.dn_game.specs.Represents.{Represents}
 use Rattle.dn_game.proofs.Places.{set_here, set_elsewhere}
 
-module _ {W S : Type 0} (state : W → S) (rules : Rules S) (g : Contents W) (m : machine.Game) (place : ℕ) (n : Node W) (after : exact.Node)
-    (r : Represents state rules g m) (below : place < length g.nodes) (is : node_to.Represents state rules place (node.contents n) after) where
-  at_place : (i : ℕ) (x : Node W) → slice_get (set g.nodes place n) i ≡ Some x → node_to.Represents state rules i (node.contents x) (put m.nodes place after i)
+module _ {W S : Type 0} (state : W → S) (rules : Rules S) (g : Contents W) (m : machine.Game) (place : ℕ)
+    (n : Node W) (after : exact.Node)
+    (r : Represents state rules g m) (below : place < length g.nodes)
+    (is : node_to.Represents state rules place (node.contents n) after) where
+  at_place : (i : ℕ) (x : Node W) → slice_get (set g.nodes place n) i ≡ Some x
+      → node_to.Represents state rules i (node.contents x) (put m.nodes place after i)
   at_place i x there = elim (cases_eq i place) [
     | inl e ↦
-        let same : n ≡ x = same_Some n x (sym (set_here g.nodes place n below) ∙ ap (slice_get (set g.nodes place n)) (sym e) ∙ there) in
+        let same : n ≡ x =
+        same_Some n x (sym (set_here g.nodes place n below) ∙ ap (slice_get (set g.nodes place n)) (sym e)
+        ∙ there) in
         let P : ℕ → Type 0 = λ k. node_to.Represents state rules k (node.contents n) after in
         let Q : Node W → Type 0 = λ y. node_to.Represents state rules i (node.contents y) after in
         let R : exact.Node → Type 0 = λ y. node_to.Represents state rules i (node.contents x) y in
         subst R (sym (put_at m.nodes place i after e)) (subst Q same (subst P (sym e) is))
     | inr apart ↦
         let R : exact.Node → Type 0 = λ y. node_to.Represents state rules i (node.contents x) y in
-        subst R (sym (put_off m.nodes place i after apart)) (r.nodes i x (sym (set_elsewhere g.nodes place i n apart) ∙ there))
+        subst R (sym (put_off m.nodes place i after apart))
+        (r.nodes i x (sym (set_elsewhere g.nodes place i n apart) ∙ there))
   ]
 
   -- a node that represents another one of the machine, in its place

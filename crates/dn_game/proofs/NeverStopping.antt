@@ -26,7 +26,8 @@ stops _ = false
 
 -- no event of three words is one
 any_of : (p q r s : Bool) (node keys to which : ℕ)
-    → stops (cond p (Build node keys) (cond q (Send node to) (cond r (cond s (Deliver which) (Run node)) (Run node)))) ≡ false
+    → stops (cond p (Build node keys)
+    (cond q (Send node to) (cond r (cond s (Deliver which) (Run node)) (Run node)))) ≡ false
 any_of true q r s node keys to which = refl
 any_of false true r s node keys to which = refl
 any_of false false true true node keys to which = refl
@@ -37,13 +38,16 @@ event_moves : (players : ℕ) (game : Game) (a c node : ℕ) → stops (event_of
 event_moves players game a c node =
     let count = length game.flights in
     any_of (nat_lt (a % 16) 5) (nat_lt (a % 16) 9) (nat_lt (a % 16) 14)
-    (nat_lt 0 count && (nat_lt (recent count c) (2 ^ 32) && is_none (refused_flight game (slice_get game.flights (recent count c)))))
+    (nat_lt 0
+    count && (nat_lt (recent count c) (2 ^ 32)
+    && is_none (refused_flight game (slice_get game.flights (recent count c)))))
     node (c % 2 ^ 18) ((node + 1 + c % (players - 1)) % players) (recent count c)
 
 given_moves : (players : ℕ) (game : Game) (a c : ℕ) (node : Option ℕ) (event : Event)
     → option_map (event_of players game a c) node ≡ Some event → stops event ≡ false
 given_moves players game a c None event e = absurd (cc)
-given_moves players game a c (Some node) event e = ap stops (sym (same_Some _ _ e)) ∙ event_moves players game a c node
+given_moves players game a c (Some node) event e = ap stops (sym (same_Some _ _ e))
+    ∙ event_moves players game a c node
 
 module _ {S : Type 0} (rules : Rules S) where
   posts : (game : Game) (flight : Option Flight) → (posted game flight).0.stopped ≡ game.stopped
@@ -54,7 +58,8 @@ module _ {S : Type 0} (rules : Rules S) where
   delivers game None = refl
   delivers game (Some flight) = refl
 
-  happens : (game : Game) (event : Event) → stops event ≡ false → (on_event rules game event).0.stopped ≡ game.stopped
+  happens : (game : Game) (event : Event) → stops event ≡ false
+      → (on_event rules game event).0.stopped ≡ game.stopped
   happens game (Build node keys) e = refl
   happens game (Send node to) e = posts _ _
   happens game (Deliver which) e = delivers game (slice_get game.flights which)
@@ -67,33 +72,42 @@ module _ {S : Type 0} (rules : Rules S) where
   applies game event (Some refusal) e = refl
   applies game event None e = happens game event e
 
-  one_more : (game : Game) (event : Event) → stops event ≡ false → (applied rules game event).0.stopped ≡ game.stopped
+  one_more : (game : Game) (event : Event) → stops event ≡ false
+      → (applied rules game event).0.stopped ≡ game.stopped
   unfolding applied
   one_more game event e = applies game event (refused rules.players game event) e
 
-  answered : (game next : Game) (event : Event) (answer : Result Done Refusal) → stops event ≡ false → Answers rules game event answer next
+  answered : (game next : Game) (event : Event) (answer : Result Done Refusal) → stops event ≡ false
+      → Answers rules game event answer next
       → next.stopped ≡ game.stopped
-  answered game next event answer e (inl (same, told)) = ap (λ (g : Game). g.stopped) same ∙ one_more game event e
+  answered game next event answer e (inl (same, told)) = ap (λ (g : Game). g.stopped) same
+      ∙ one_more game event e
   answered game next event answer e (inr (free, send, same, told)) = ap (λ (g : Game). g.stopped) same
 
-  pub nobody_stops : (generator : Lcg) (events : List Event) (answers : List (Result Done Refusal)) (rest : Lcg) (game last : Game)
+  pub nobody_stops : (generator : Lcg) (events : List Event) (answers : List (Result Done Refusal))
+      (rest : Lcg) (game last : Game)
       → Follows rules generator game events answers rest last → last.stopped ≡ game.stopped
   nobody_stops generator [] [] rest game last (left, same) = ap (λ (g : Game). g.stopped) same
   nobody_stops generator [] (a ∷ answers) rest game last way = absurd way
   nobody_stops generator (e ∷ events) [] rest game last way = absurd way
   nobody_stops generator (e ∷ events) (a ∷ answers) rest game last (first, (then, one, way)) =
       nobody_stops (behind_three generator) events answers rest then last way
-      ∙ answered game then e a (given_moves rules.players game (word generator) (word (behind (behind generator))) _ e first) one
+      ∙ answered game then e a
+      (given_moves rules.players game (word generator) (word (behind (behind generator))) _ e first) one
 
 opening_moves : (settings : Settings) (node : ℕ) → (opening_game settings).stopped node ≡ false
 unfolding opening_game
 opening_moves settings node = refl
 
 -- so after a storm not all have stopped
-pub storm_goes_on : {W S : Type 0} (state : W → S) (rules : Rules S) (settings : Settings) (seed count : ℕ) (played : Played W)
-    → IsStormed state rules settings seed count played → 2 ≤ length (contents played.game).nodes → AllStopped (contents played.game) → ⊥
+pub storm_goes_on : {W S : Type 0} (state : W → S) (rules : Rules S) (settings : Settings) (seed count : ℕ)
+    (played : Played W)
+    → IsStormed state rules settings seed count played → 2 ≤ length (contents played.game).nodes
+    → AllStopped (contents played.game) → ⊥
 storm_goes_on state rules settings seed count played s two all =
-    let still = ap (λ (f : ℕ → Bool). f 0) (nobody_stops rules (generator_of seed) s.events s.answers s.rest (opening_game settings) s.last s.follows)
+    let still = ap (λ (f : ℕ → Bool). f 0)
+    (nobody_stops rules (generator_of seed) s.events s.answers s.rest (opening_game settings) s.last
+    s.follows)
     ∙ opening_moves settings 0 in
     let stopped = all 0 (omega (arith, two)) in
     let shown = s.game.stopped 0 in

@@ -14,16 +14,19 @@ use Rattle.dn_game.proofs.Places.{there_is, all_at, all_more, map_more}
 
 module _ (bytes more : List ℕ) where
   -- a piece is the same where bytes are appended
-  flight_stays : (entry : Record) → IsPiece bytes entry → flight_in (bytes ++ more) entry ≡ flight_in bytes entry
+  flight_stays : (entry : Record) → IsPiece bytes entry
+      → flight_in (bytes ++ more) entry ≡ flight_in bytes entry
   flight_stays entry piece =
       let inside = piece.inside in
       let long = length-drop entry.place bytes in
-      let same : take entry.length (drop entry.place (bytes ++ more)) ≡ take entry.length (drop entry.place bytes) =
+      let same : take entry.length (drop entry.place (bytes ++ more))
+      ≡ take entry.length (drop entry.place bytes) =
       ap (take entry.length) (drop-append-le entry.place bytes more (omega arith))
       ∙ take-append-le entry.length (drop entry.place bytes) more (omega arith) in
       λ i. record { from = entry.from; to = entry.to; aim = entry.aim; bytes = record { items = same i } }
 
-  flights_stay : (records : List Record) → All (IsPiece bytes) records → flights_in (bytes ++ more) records ≡ flights_in bytes records
+  flights_stay : (records : List Record) → All (IsPiece bytes) records
+      → flights_in (bytes ++ more) records ≡ flights_in bytes records
   flights_stay [] all = refl
   flights_stay (entry ∷ records) all =
       let first = flight_stays entry (All-head (IsPiece bytes) entry records all) in
@@ -41,38 +44,49 @@ module _ (bytes more : List ℕ) where
 
 -- the record of a packet whose datagram is appended
 abbrev pub newest : List ℕ → ℕ → ℕ → Aim → ArrayVec ℕ → Record
-newest bytes from to aim datagram = record { from = from; to = to; length = length datagram.items; aim = aim; place = length bytes }
+newest bytes from to aim datagram =
+    record { from = from; to = to; length = length datagram.items; aim = aim; place = length bytes }
 
-module _ (bytes : List ℕ) (records : List Record) (packed : ArePacked bytes records) (from to : ℕ) (aim : Aim) (datagram : ArrayVec ℕ) (short : length datagram.items ≤ 104) where
-  is_flight : flight_in (bytes ++ datagram.items) (newest bytes from to aim datagram) ≡ record { from = from; to = to; aim = aim; bytes = datagram }
+module _ (bytes : List ℕ) (records : List Record) (packed : ArePacked bytes records) (from to : ℕ) (aim : Aim)
+    (datagram : ArrayVec ℕ) (short : length datagram.items ≤ 104) where
+  is_flight : flight_in (bytes ++ datagram.items) (newest bytes from to aim datagram)
+      ≡ record { from = from; to = to; aim = aim; bytes = datagram }
   is_flight =
-      let same : take (length datagram.items) (drop (length bytes) (bytes ++ datagram.items)) ≡ datagram.items =
-      ap (take (length datagram.items)) (drop-append_seam bytes datagram.items) ∙ take-length datagram.items in
+      let same : take (length datagram.items) (drop (length bytes) (bytes ++ datagram.items))
+      ≡ datagram.items =
+      ap (take (length datagram.items)) (drop-append_seam bytes datagram.items)
+      ∙ take-length datagram.items in
       λ i. record { from = from; to = to; aim = aim; bytes = record { items = same i } }
 
   pub packs_flight : flights_in (bytes ++ datagram.items) (records ++ newest bytes from to aim datagram ∷ [])
       ≡ flights_in bytes records ++ record { from = from; to = to; aim = aim; bytes = datagram } ∷ []
   packs_flight =
       let stay = flights_stay bytes datagram.items records packed.pieces in
-      map_more (flight_in (bytes ++ datagram.items)) records (newest bytes from to aim datagram) ∙ (λ i. stay i ++ is_flight i ∷ [])
+      map_more (flight_in (bytes ++ datagram.items)) records (newest bytes from to aim datagram)
+      ∙ (λ i. stay i ++ is_flight i ∷ [])
 
   pub packs : ArePacked (bytes ++ datagram.items) (records ++ newest bytes from to aim datagram ∷ [])
   packs =
       let long = length-append bytes datagram.items in
       record {
-        pieces = all_more (IsPiece (bytes ++ datagram.items)) records (newest bytes from to aim datagram) (pieces_stay bytes datagram.items records packed.pieces)
+        pieces = all_more (IsPiece (bytes ++ datagram.items)) records (newest bytes from to aim datagram)
+            (pieces_stay bytes datagram.items records packed.pieces)
             (record { inside = omega arith; short = short });
-        whole = ap joined packs_flight ∙ flat_map-append (λ (f : Flight). f.bytes.items) (flights_in bytes records) _
+        whole = ap joined packs_flight ∙ flat_map-append (λ (f : Flight). f.bytes.items)
+            (flights_in bytes records) _
             ∙ (λ i. packed.whole i ++ append-nil datagram.items i);
       }
 
 -- a flight is what its record and its datagram tell
-pub is_told : (flight : Flight) (entry : Record) (bytes : ArrayVec ℕ) → IsRecordOf flight entry → bytes.items ≡ flight.bytes.items
+pub is_told : (flight : Flight) (entry : Record) (bytes : ArrayVec ℕ) → IsRecordOf flight entry
+    → bytes.items ≡ flight.bytes.items
     → ◌≡◌ {A = Flight} (record { from = entry.from; to = entry.to; aim = entry.aim; bytes = bytes }) flight
-is_told flight entry bytes of same = λ i. record { from = of.from i; to = of.to i; aim = of.aim i; bytes = record { items = same i } }
+is_told flight entry bytes of same =
+    λ i. record { from = of.from i; to = of.to i; aim = of.aim i; bytes = record { items = same i } }
 
 -- the receiver of a record is a player's number, if those of all flights are
-pub receiver_below : (flights : List Flight) (which count : ℕ) (entry : Record) → which < length flights → All (λ f. f.to < count) flights
+pub receiver_below : (flights : List Flight) (which count : ℕ) (entry : Record) → which < length flights
+    → All (λ f. f.to < count) flights
     → ((flight : Flight) → slice_get flights which ≡ Some flight → IsRecordOf flight entry) → entry.to < count
 receiver_below flights which count entry below all told =
     let at = there_is flights which below in

@@ -12,28 +12,42 @@ use Rattle.dn_game.specs.Contents.{Contents}
 use Rattle.dn_game.specs.Represents.{Represents, IsCarried, flight_of}
 use Rattle.dn_game.proofs.Places.{all_more, map_more}
 
-module _ {W S : Type 0} (state : W → S) (rules : Rules S) (g : Contents W) (m : machine.Game) (r : Represents state rules g m)
+module _ {W S : Type 0} (state : W → S) (rules : Rules S) (g : Contents W) (m : machine.Game)
+    (r : Represents state rules g m)
     (given : Option exact.Flight) (flights : List Flight) where
   -- where there is none, nothing changes
-  pub posts_none : given ≡ None → flights ≡ g.flights → IsAfter state rules (record g { flights = flights }) (posted m given) Done.Silent
+  pub posts_none : given ≡ None → flights ≡ g.flights
+      → IsAfter state rules (record g { flights = flights }) (posted m given) Done.Silent
   posts_none none same =
-      let P : Option exact.Flight → Type 0 = λ x. IsAfter state rules (record g { flights = flights }) (posted m x) Done.Silent in
+      let P : Option exact.Flight → Type 0 =
+      λ x. IsAfter state rules (record g { flights = flights }) (posted m x) Done.Silent in
       subst P (sym none) (record {
-        game = record { players = r.players; nodes = r.nodes; stopped = r.stopped; flights = same ∙ r.flights; carried = r.carried };
+        game = record {
+          players = r.players;
+          nodes = r.nodes;
+          stopped = r.stopped;
+          flights =
+              same ∙ r.flights;
+          carried = r.carried;
+        };
         answered = refl;
       })
 
-  pub posts_some : (flight : exact.Flight) → given ≡ Some flight → (f : Flight) → f ≡ flight_of flight → IsCarried rules.players flight
+  pub posts_some : (flight : exact.Flight) → given ≡ Some flight → (f : Flight) → f ≡ flight_of flight
+      → IsCarried rules.players flight
       → flights ≡ g.flights ++ f ∷ [] → (which : ℕ) → which ≡ length g.flights
       → IsAfter state rules (record g { flights = flights }) (posted m given) (Done.Sent which)
   posts_some flight some f is carried more which last =
-      let P : Option exact.Flight → Type 0 = λ x. IsAfter state rules (record g { flights = flights }) (posted m x) (Done.Sent which) in
+      let P : Option exact.Flight → Type 0 =
+      λ x. IsAfter state rules (record g { flights = flights }) (posted m x) (Done.Sent which) in
       subst P (sym some) (record {
         game = record {
           players = r.players;
           nodes = r.nodes;
           stopped = r.stopped;
-          flights = more ∙ ap (λ (fs : List Flight). fs ++ f ∷ []) r.flights ∙ ap (λ (x : Flight). map flight_of m.flights ++ x ∷ []) is ∙ sym (map_more flight_of m.flights flight);
+          flights = more ∙ ap (λ (fs : List Flight). fs ++ f ∷ []) r.flights
+              ∙ ap (λ (x : Flight). map flight_of m.flights ++ x ∷ []) is
+              ∙ sym (map_more flight_of m.flights flight);
           carried = all_more (IsCarried rules.players) m.flights flight r.carried carried;
         };
         answered = ap Done.Sent (last ∙ ap length r.flights ∙ length-map m.flights flight_of);

@@ -22,7 +22,8 @@ module _ {W S : Type 0} (state : W → S) (rules : Rules S) (settings : Settings
       → Plays rules (opening_game settings) events answers last → Represents state rules g last
       → IsPromised state rules settings events answers last g
   promised answers last g plays shown =
-      let kept = always rules settings events last (plays_leads rules events answers (opening_game settings) last plays) in
+      let kept = always rules settings events last
+      (plays_leads rules events answers (opening_game settings) last plays) in
       record {
         plays = plays;
         game = shown;
@@ -39,10 +40,16 @@ module _ {W S : Type 0} (state : W → S) (rules : Rules S) (settings : Settings
       let way = leads_plays rules events (opening_game settings) r.last r.run in
       (way.0, promised way.0 r.last g way.1 r.game)
 
-  pub played_promised : (played : Played W) → IsPlayed state rules settings events played → HasPlayed state rules settings events played
-  played_promised played p = record { events_played = p; promised = promised p.answers p.last (contents played.game) p.plays p.game }
+  pub played_promised : (played : Played W) → IsPlayed state rules settings events played
+      → HasPlayed state rules settings events played
+  played_promised played p =
+      record { events_played = p; promised = promised p.answers p.last (contents played.game) p.plays p.game }
 
   pub played_reached : (played : Played W) → IsPlayed state rules settings events played
       → IsReached state rules settings events (contents played.game)
   played_reached played p =
-      record { last = p.last; run = plays_leads rules events p.answers (opening_game settings) p.last p.plays; game = p.game }
+      record {
+        last = p.last;
+        run = plays_leads rules events p.answers (opening_game settings) p.last p.plays;
+        game = p.game;
+      }

@@ -23,7 +23,8 @@ module _ (m : Game) (node c : ℕ) where
 
     pub runs_past : 2 ^ 32 ≤ which → Run node ≡ delivery_or_run m node c
     runs_past past =
-        let test : nat_lt (recent (length m.flights) c) (2 ^ 32) ≡ false = ap (λ (k : ℕ). nat_lt k (2 ^ 32)) (sym is) ∙ le-ltb which (2 ^ 32) past in
+        let test : nat_lt (recent (length m.flights) c) (2 ^ 32) ≡ false =
+        ap (λ (k : ℕ). nat_lt k (2 ^ 32)) (sym is) ∙ le-ltb which (2 ^ 32) past in
         rw (there, test) refl
 
     module _ (fits : which < 2 ^ 32) where
@@ -33,27 +34,32 @@ module _ (m : Game) (node c : ℕ) where
       refusal_is : (refusal : Option Refusal) → refusal ≡ refused_flight m (slice_get m.flights which)
           → is_none (refused_flight m (slice_get m.flights (recent (length m.flights) c))) ≡ is_none refusal
       refusal_is refusal told =
-          ap (λ (k : ℕ). is_none (refused_flight m (slice_get m.flights k))) (sym is) ∙ ap (is_none {T = Refusal}) (sym told)
+          ap (λ (k : ℕ). is_none (refused_flight m (slice_get m.flights k))) (sym is)
+          ∙ ap (is_none {T = Refusal}) (sym told)
 
-      pub runs_refused : (refusal : Option Refusal) → refusal ≡ refused_flight m (slice_get m.flights which) → is_none refusal ≡ false
+      pub runs_refused : (refusal : Option Refusal) → refusal ≡ refused_flight m (slice_get m.flights which)
+          → is_none refusal ≡ false
           → Run node ≡ delivery_or_run m node c
       runs_refused refusal told some_refusal =
           let test = refusal_is refusal told ∙ some_refusal in
           rw (there, small, test) refl
 
-      pub delivers : (refusal : Option Refusal) → refusal ≡ refused_flight m (slice_get m.flights which) → is_none refusal ≡ true
+      pub delivers : (refusal : Option Refusal) → refusal ≡ refused_flight m (slice_get m.flights which)
+          → is_none refusal ≡ true
           → Deliver which ≡ delivery_or_run m node c
       delivers refusal told no_refusal =
           let test = refusal_is refusal told ∙ no_refusal in
           rw (there, small, test) (ap Deliver is)
 
 -- as many packets as flights
-pub flights_are : {W S : Type 0} (state : W → S) (rules : Rules S) (g : Contents W) (m : Game) → Represents state rules g m
+pub flights_are : {W S : Type 0} (state : W → S) (rules : Rules S) (g : Contents W) (m : Game)
+    → Represents state rules g m
     → length g.flights ≡ length m.flights
 flights_are state rules g m r = ap length r.flights ∙ length-map m.flights flight_of
 
 -- and the packet that was looked at is the recent one
-pub place_is : (count flights least which c : ℕ) → count ≡ flights → least ≡ min count 32 → which ≡ count - 1 - c % least → which ≡ recent flights c
+pub place_is : (count flights least which c : ℕ) → count ≡ flights → least ≡ min count 32
+    → which ≡ count - 1 - c % least → which ≡ recent flights c
 place_is count flights least which c counted smaller is =
     is ∙ ap (λ (k : ℕ). count - 1 - c % k) smaller ∙ ap (λ (k : ℕ). recent k c) counted
 

@@ -24,7 +24,8 @@ use Rattle.dn_game.proofs.Standing.{IsFlight, made_at, flight_at}
 
 -- a send to a player is refused as any event of its node is
 both_there : (node to stopped : Bool) → to ≡ true
-    → ◌≡◌ {A = Option Refusal} (if not node then Some Refusal.NoNode else (if stopped then Some Refusal.Stopped else None))
+    → ◌≡◌ {A = Option Refusal}
+    (if not node then Some Refusal.NoNode else (if stopped then Some Refusal.Stopped else None))
     (if not (node && to) then Some Refusal.NoNode else (if stopped then Some Refusal.Stopped else None))
 both_there true to stopped is = rw is refl
 both_there false to stopped is = refl
@@ -34,28 +35,35 @@ pub refused_send : (players : ℕ) (m : machine.Game) (node to : ℕ) → nat_lt
 refused_send players m node to is = both_there (nat_lt node players) (nat_lt to players) (m.stopped node) is
 
 -- a delivery, by what was found of the flight
-module _ (m : machine.Game) (which : ℕ) (flight : exact.Flight) (there : slice_get m.flights which ≡ Some flight) (far : Bool)
+module _ (m : machine.Game) (which : ℕ) (flight : exact.Flight)
+    (there : slice_get m.flights which ≡ Some flight) (far : Bool)
     (is_far : far ≡ not (is_near (made flight.to (m.nodes flight.to)) flight)) where
   is_refused : (refusal : Option Refusal)
-      → refusal ≡ (if far then Some Refusal.Far else (if m.stopped flight.to then Some Refusal.Stopped else None))
+      → refusal
+      ≡ (if far then Some Refusal.Far else (if m.stopped flight.to then Some Refusal.Stopped else None))
       → refusal ≡ refused_flight m (slice_get m.flights which)
   is_refused refusal is =
-      is ∙ ap (λ (b : Bool). if b then Some Refusal.Far else (if m.stopped flight.to then Some Refusal.Stopped else None)) is_far
+      is ∙ ap (λ (b : Bool). if b then Some Refusal.Far
+      else (if m.stopped flight.to then Some Refusal.Stopped else None)) is_far
       ∙ ap (refused_flight m) (sym there)
 
   is_refused_far : far ≡ true → Some Refusal.Far ≡ refused_flight m (slice_get m.flights which)
   is_refused_far so = is_refused (Some Refusal.Far) (rw so refl)
 
-  is_refused_near : far ≡ false → (refusal : Option Refusal) → refusal ≡ (if m.stopped flight.to then Some Refusal.Stopped else None)
+  is_refused_near : far ≡ false → (refusal : Option Refusal)
+      → refusal ≡ (if m.stopped flight.to then Some Refusal.Stopped else None)
       → refusal ≡ refused_flight m (slice_get m.flights which)
   is_refused_near so refusal is = is_refused refusal (rw so is)
 
 -- the same of a game that represents it, whose receiver was asked how many commands it made
-module _ {W S : Type 0} (state : W → S) (rules : Rules S) (g : Contents W) (m : machine.Game) (r : Represents state rules g m)
-    (which : ℕ) (below : which < length g.flights) (entry : Record) (told : (f : Flight) → slice_get g.flights which ≡ Some f → IsRecordOf f entry)
+module _ {W S : Type 0} (state : W → S) (rules : Rules S) (g : Contents W) (m : machine.Game)
+    (r : Represents state rules g m)
+    (which : ℕ) (below : which < length g.flights) (entry : Record)
+    (told : (f : Flight) → slice_get g.flights which ≡ Some f → IsRecordOf f entry)
     (to : ℕ) (n : Node W) (is_to : to ≡ entry.to) (is_n : n ≡ slice_index_or g.nodes to n)
     (count : ℕ) (counted : count ≡ count_of (node.contents n).rings (node.contents n).me)
-    (far : Bool) (tested : (flight : exact.Flight) → entry.aim ≡ aim_of flight → far ≡ not (is_near count flight)) where
+    (far : Bool) (tested : (flight : exact.Flight) → entry.aim ≡ aim_of flight
+    → far ≡ not (is_near count flight)) where
   sent : (flight : exact.Flight) × IsFlight m rules.players g.flights which flight
   sent = flight_at state rules g m r which below
 
@@ -70,36 +78,50 @@ module _ {W S : Type 0} (state : W → S) (rules : Rules S) (g : Contents W) (m 
 
   tells_far : far ≡ not (is_near (made sent.0.to (m.nodes sent.0.to)) sent.0)
   tells_far =
-      let known = made_at state rules g m r to count n (omega (arith, there_is, r.players)) is_n counted ∙ ap (λ (k : ℕ). made k (m.nodes k)) goes_to in
+      let known = made_at state rules g m r to count n (omega (arith, there_is, r.players)) is_n counted
+      ∙ ap (λ (k : ℕ). made k (m.nodes k)) goes_to in
       tested sent.0 of.aim ∙ ap (λ (k : ℕ). not (is_near k sent.0)) known
 
   pub told_far : far ≡ true → Some Refusal.Far ≡ refused_flight m (slice_get m.flights which)
   told_far so = is_refused_far m which sent.0 sent.1.there far tells_far so
 
-  pub told_near : far ≡ false → (place : ℕ) (stopped : Bool) → place ≡ entry.to → stopped ≡ slice_index_or g.stopped place false
+  pub told_near : far ≡ false → (place : ℕ) (stopped : Bool) → place ≡ entry.to
+      → stopped ≡ slice_index_or g.stopped place false
       → (if stopped then Some Refusal.Stopped else None) ≡ refused_flight m (slice_get m.flights which)
   told_near so place stopped there is =
       let same = ap (λ (k : ℕ). slice_index_or g.stopped k false) (there ∙ sym is_to) in
-      is_refused_near m which sent.0 sent.1.there far tells_far so (if stopped then Some Refusal.Stopped else None)
-      (ap (λ (b : Bool). if b then Some Refusal.Stopped else None) (is ∙ same ∙ r.stopped to ∙ ap m.stopped goes_to))
+      is_refused_near m which sent.0 sent.1.there far tells_far so
+      (if stopped then Some Refusal.Stopped else None)
+      (ap (λ (b : Bool). if b then Some Refusal.Stopped else None)
+      (is ∙ same ∙ r.stopped to ∙ ap m.stopped goes_to))
 
 -- an event of one node
 abbrev pub IsOfNode : ℕ → Event → Type 0
-IsOfNode node event = ((keys : Keys) × (event ≡ Build node keys)) ⊎ ((event ≡ Run node) ⊎ ((event ≡ Quit node) ⊎ (event ≡ Stop node)))
+IsOfNode node event = ((keys : Keys) × (event ≡ Build node keys))
+    ⊎ ((event ≡ Run node) ⊎ ((event ≡ Quit node) ⊎ (event ≡ Stop node)))
 
-pub refused_own : (players : ℕ) (m : machine.Game) (node place : ℕ) (event : Event) → place ≡ node → IsOfNode node event
+pub refused_own : (players : ℕ) (m : machine.Game) (node place : ℕ) (event : Event) → place ≡ node
+    → IsOfNode node event
     → refused_at players m place ≡ refused players m event
-refused_own players m node place event e (inl (keys, is)) = ap (refused_at players m) e ∙ ap (refused players m) (sym is)
-refused_own players m node place event e (inr (inl is)) = ap (refused_at players m) e ∙ ap (refused players m) (sym is)
-refused_own players m node place event e (inr (inr (inl is))) = ap (refused_at players m) e ∙ ap (refused players m) (sym is)
-refused_own players m node place event e (inr (inr (inr is))) = ap (refused_at players m) e ∙ ap (refused players m) (sym is)
+refused_own players m node place event e (inl (keys, is)) =
+    ap (refused_at players m) e ∙ ap (refused players m) (sym is)
+refused_own players m node place event e (inr (inl is)) = ap (refused_at players m) e
+    ∙ ap (refused players m) (sym is)
+refused_own players m node place event e (inr (inr (inl is))) =
+    ap (refused_at players m) e ∙ ap (refused players m) (sym is)
+refused_own players m node place event e (inr (inr (inr is))) =
+    ap (refused_at players m) e ∙ ap (refused players m) (sym is)
 
 not_far : (near stopped : Bool)
-    → ◌≡◌ {A = Option Refusal} (if not near then Some Refusal.Far else (if stopped then Some Refusal.Stopped else None)) None → near ≡ true
+    → ◌≡◌ {A = Option Refusal}
+    (if not near then Some Refusal.Far else (if stopped then Some Refusal.Stopped else None)) None
+    → near ≡ true
 not_far true stopped e = refl
 not_far false stopped e = absurd (cc)
 
 -- what is not refused is near
-pub near_unless : (m : machine.Game) (which : ℕ) (flight : exact.Flight) → slice_get m.flights which ≡ Some flight
-    → refused_flight m (slice_get m.flights which) ≡ None → is_near (made flight.to (m.nodes flight.to)) flight ≡ true
+pub near_unless : (m : machine.Game) (which : ℕ) (flight : exact.Flight)
+    → slice_get m.flights which ≡ Some flight
+    → refused_flight m (slice_get m.flights which) ≡ None
+    → is_near (made flight.to (m.nodes flight.to)) flight ≡ true
 near_unless m which flight there free = not_far _ _ (ap (refused_flight m) (sym there) ∙ free)

@@ -22,7 +22,8 @@ use Rattle.dn_game.specs.Demos.{rows_made}
 use Rattle.dn_game.proofs.DemoTexts.{AreFull}
 
 -- a whole row has a move at each player's seat
-whole_seats : (players : ℕ) (f : ℕ → Option TicCmd) → is_whole players (row_of players f) ≡ true → map is_some (row_of players f) ≡ seats_of players
+whole_seats : (players : ℕ) (f : ℕ → Option TicCmd) → is_whole players (row_of players f) ≡ true
+    → map is_some (row_of players f) ≡ seats_of players
 unfolding row_of
 whole_seats players f e =
     let each = whole_each players (row_of players f) e in
@@ -33,12 +34,16 @@ whole_seats players f e =
     λ i. a i ∷ b i ∷ c i ∷ d i ∷ []
 
 -- the move at a player's seat is that of the player's command
-seat_move : (players : ℕ) (f : ℕ → Option TicCmd) (p : ℕ) (c : TicCmd) → p < players → p < 4 → f p ≡ Some c → get_or (row_of players f) p None ≡ Some (used c)
+seat_move : (players : ℕ) (f : ℕ → Option TicCmd) (p : ℕ) (c : TicCmd) → p < players → p < 4 → f p ≡ Some c
+    → get_or (row_of players f) p None ≡ Some (used c)
 unfolding row_of
 seat_move players f zero c l s e = cond-true (ltb 0 players) _ _ (lt-ltb 0 players l) ∙ ap (option_map used) e
-seat_move players f (suc zero) c l s e = cond-true (ltb 1 players) _ _ (lt-ltb 1 players l) ∙ ap (option_map used) e
-seat_move players f (suc (suc zero)) c l s e = cond-true (ltb 2 players) _ _ (lt-ltb 2 players l) ∙ ap (option_map used) e
-seat_move players f (suc (suc (suc zero))) c l s e = cond-true (ltb 3 players) _ _ (lt-ltb 3 players l) ∙ ap (option_map used) e
+seat_move players f (suc zero) c l s e = cond-true (ltb 1 players) _ _ (lt-ltb 1 players l)
+    ∙ ap (option_map used) e
+seat_move players f (suc (suc zero)) c l s e = cond-true (ltb 2 players) _ _ (lt-ltb 2 players l)
+    ∙ ap (option_map used) e
+seat_move players f (suc (suc (suc zero))) c l s e = cond-true (ltb 3 players) _ _ (lt-ltb 3 players l)
+    ∙ ap (option_map used) e
 seat_move players f (suc (suc (suc (suc p)))) c l s e = absurd (omega arith)
 
 module _ {S : Type 0} (rules : Rules S) (settings : Settings) (keys : ℕ → List ℕ) where
@@ -46,16 +51,20 @@ module _ {S : Type 0} (rules : Rules S) (settings : Settings) (keys : ℕ → Li
   seats tic player = if_made (keys player) tic (command rules settings keys player tic)
 
   -- a whole row is one that every player made a command for
-  whole_made : (tic : ℕ) → is_whole rules.players (row rules settings keys tic) ≡ true → (p : ℕ) → p < rules.players → tic < length (keys p)
+  whole_made : (tic : ℕ) → is_whole rules.players (row rules settings keys tic) ≡ true → (p : ℕ)
+      → p < rules.players → tic < length (keys p)
   unfolding row
   whole_made tic e p l =
-      leb-false (length (keys p)) tic (sym (if_made_is (keys p) tic (command rules settings keys p tic)) ∙ whole_has rules.players (seats tic) e p l)
+      leb-false (length (keys p)) tic (sym (if_made_is (keys p) tic (command rules settings keys p tic))
+      ∙ whole_has rules.players (seats tic) e p l)
 
-  made_whole : (tic : ℕ) → rules.players ≤ 4 → ((p : ℕ) → p < rules.players → tic < length (keys p)) → is_whole rules.players (row rules settings keys tic) ≡ true
+  made_whole : (tic : ℕ) → rules.players ≤ 4 → ((p : ℕ) → p < rules.players → tic < length (keys p))
+      → is_whole rules.players (row rules settings keys tic) ≡ true
   unfolding row
   made_whole tic few made =
       ap is_none (lowest_none rules.players (lacks (row_of rules.players (seats tic)))
-      (λ p l. seat_is rules.players (seats tic) p l (omega arith) ∙ if_made_is (keys p) tic (command rules settings keys p tic)
+      (λ p l. seat_is rules.players (seats tic) p l (omega arith)
+      ∙ if_made_is (keys p) tic (command rules settings keys p tic)
       ∙ lt-leb (length (keys p)) tic (made p l)))
 
   module _ (tics : ℕ) where
@@ -66,7 +75,8 @@ module _ {S : Type 0} (rules : Rules S) (settings : Settings) (keys : ℕ → Li
     all = map (row rules settings keys) (range_with_len 0 tics)
 
     pub no_more : length rows ≤ tics
-    no_more = let short = front_short (is_whole rules.players) all in let long = length-map-range_with_len (row rules settings keys) 0 tics in omega arith
+    no_more = let short = front_short (is_whole rules.players) all in
+        let long = length-map-range_with_len (row rules settings keys) 0 tics in omega arith
 
     row_at : (tic : ℕ) → tic < length rows → get_or rows tic [] ≡ row rules settings keys tic
     row_at tic l =
@@ -78,7 +88,9 @@ module _ {S : Type 0} (rules : Rules S) (settings : Settings) (keys : ℕ → Li
     whole_at : (tic : ℕ) → tic < length rows → is_whole rules.players (row rules settings keys tic) ≡ true
     whole_at tic l =
         let within = no_more in
-        ap (is_whole rules.players) (sym (get_or-map-range_with_len (row rules settings keys) 0 tics tic tic [] (omega arith) (omega arith)))
+        ap (is_whole rules.players)
+        (sym (get_or-map-range_with_len (row rules settings keys) 0 tics tic tic [] (omega arith)
+        (omega arith)))
         ∙ front_passes (is_whole rules.players) all tic [] l
 
     -- each of the rows has a move of every player
@@ -93,19 +105,22 @@ module _ {S : Type 0} (rules : Rules S) (settings : Settings) (keys : ℕ → Li
     move_made tic player l below four =
         let made = whole_made tic (whole_at tic l) player below in
         ap (λ (r : List (Option Move)). get_or r player None) (row_at tic l)
-        ∙ seat_move rules.players (seats tic) player _ below four (cond-true (ltb tic (length (keys player))) _ _ (lt-ltb tic (length (keys player)) made))
+        ∙ seat_move rules.players (seats tic) player _ below four
+        (cond-true (ltb tic (length (keys player))) _ _ (lt-ltb tic (length (keys player)) made))
 
     pub moves_before : (tic player : ℕ) → tic < length rows → player ≤ rules.players → (i : ℕ) → i < player
         → is_some (get_or (get_or rows tic []) i None) ≡ true
     moves_before tic player l below i less =
         ap (λ (r : List (Option Move)). is_some (get_or r i None)) (row_at tic l)
-        ∙ not-false _ (whole_each rules.players (row rules settings keys tic) (whole_at tic l) i (lt-ltb i rules.players (omega arith)))
+        ∙ not-false _ (whole_each rules.players (row rules settings keys tic) (whole_at tic l) i
+        (lt-ltb i rules.players (omega arith)))
 
     -- they are those of the tics for which every player made a command
     pub made_by_all : (tic : ℕ) → tic < length rows → (p : ℕ) → p < rules.players → tic < length (keys p)
     made_by_all tic l = whole_made tic (whole_at tic l)
 
-    pub is_made : rules.players ≤ 4 → (tic : ℕ) → tic < tics → ((p : ℕ) → p < rules.players → tic < length (keys p)) → tic < length rows
+    pub is_made : rules.players ≤ 4 → (tic : ℕ) → tic < tics
+        → ((p : ℕ) → p < rules.players → tic < length (keys p)) → tic < length rows
     is_made few tic early made = elim (cases_lt tic (length rows)) [
       | inl there ↦ there
       | inr past ↦
@@ -113,7 +128,8 @@ module _ {S : Type 0} (rules : Rules S) (settings : Settings) (keys : ℕ → Li
           let many = length-map-range_with_len (row rules settings keys) 0 tics in
           let first = prefix_len (is_whole rules.players) all in
           let stops = prefix_len_stops (is_whole rules.players) all [] (omega arith) in
-          let read = get_or-map-range_with_len (row rules settings keys) 0 tics first first [] (omega arith) (omega arith) in
+          let read = get_or-map-range_with_len (row rules settings keys) 0 tics first first [] (omega arith)
+          (omega arith) in
           let whole = made_whole first few (λ p l. let m = made p l in omega arith) in
           absurd (true≢false (sym whole ∙ ap (is_whole rules.players) (sym read) ∙ stops))
     ]

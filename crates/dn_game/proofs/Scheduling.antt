@@ -12,7 +12,8 @@ use Rattle.dn_game.specs.Schedule.{word, behind, first_moving, event_of, next_ev
 use Rattle.dn_game.proofs.GoingRound.{same_moving}
 
 module _ (players : ℕ) (m : Game) (g g1 g2 g3 : Lcg) (a b c : ℕ)
-    (first : ◌≡◌ {A = ℕ × Lcg} (a, g1) (pcg32 g)) (second : ◌≡◌ {A = ℕ × Lcg} (b, g2) (pcg32 g1)) (third : ◌≡◌ {A = ℕ × Lcg} (c, g3) (pcg32 g2)) where
+    (first : ◌≡◌ {A = ℕ × Lcg} (a, g1) (pcg32 g)) (second : ◌≡◌ {A = ℕ × Lcg} (b, g2) (pcg32 g1))
+    (third : ◌≡◌ {A = ℕ × Lcg} (c, g3) (pcg32 g2)) where
   a_is : a ≡ word g
   a_is = ap (λ (p : ℕ × Lcg). p.0) first
 
@@ -20,7 +21,8 @@ module _ (players : ℕ) (m : Game) (g g1 g2 g3 : Lcg) (a b c : ℕ)
   b_is = ap (λ (p : ℕ × Lcg). p.0) second ∙ ap word (ap (λ (p : ℕ × Lcg). p.1) first)
 
   c_is : c ≡ word (behind (behind g))
-  c_is = ap (λ (p : ℕ × Lcg). p.0) third ∙ ap word (ap (λ (p : ℕ × Lcg). p.1) second ∙ ap behind (ap (λ (p : ℕ × Lcg). p.1) first))
+  c_is = ap (λ (p : ℕ × Lcg). p.0) third
+      ∙ ap word (ap (λ (p : ℕ × Lcg). p.1) second ∙ ap behind (ap (λ (p : ℕ × Lcg). p.1) first))
 
   pub of_words : next_event players m a b c ≡ scheduled players m g
   of_words =
@@ -28,7 +30,8 @@ module _ (players : ℕ) (m : Game) (g g1 g2 g3 : Lcg) (a b c : ℕ)
       ∙ ap (next_event players m (word g) (word (behind g))) c_is
 
 -- by the player who moves
-module _ {W S : Type 0} (state : W → S) (rules : Rules S) (g : Contents W) (m : Game) (r : Represents state rules g m) (a b c count : ℕ)
+module _ {W S : Type 0} (state : W → S) (rules : Rules S) (g : Contents W) (m : Game)
+    (r : Represents state rules g m) (a b c count : ℕ)
     (counted : count ≡ length g.nodes) (moving : Option ℕ)
     (found : moving ≡ first_moving (length g.nodes) (λ p. slice_index_or g.stopped p false) (b % count)) where
   pub event_by : option_map (event_of rules.players m a c) moving ≡ next_event rules.players m a b c

@@ -10,40 +10,45 @@ use Rattle.dn_game.specs.Script.{size_limit, AreEventsOf, none, skipped, told, S
 use Rattle.dn_game.specs.declared.script.ScriptFault.TheVariants.{Line, Memory}
 
 -- a line more that is skipped, and one that is an event's
-AreEventsOf-skipped : {all : List (List ℕ)} {events : List Event} (line : List ℕ) → AreEventsOf all events → IsSkipped line
+AreEventsOf-skipped : {all : List (List ℕ)} {events : List Event} (line : List ℕ) → AreEventsOf all events
+    → IsSkipped line
     → AreEventsOf (all ++ line ∷ []) events
 AreEventsOf-skipped line none s = skipped s none
 AreEventsOf-skipped line (skipped t more) s = skipped t (AreEventsOf-skipped line more s)
 AreEventsOf-skipped line (told t more) s = told t (AreEventsOf-skipped line more s)
 
-AreEventsOf-told : {all : List (List ℕ)} {events : List Event} (line : List ℕ) (event : Event) → AreEventsOf all events → IsLineOf event line
+AreEventsOf-told : {all : List (List ℕ)} {events : List Event} (line : List ℕ) (event : Event)
+    → AreEventsOf all events → IsLineOf event line
     → AreEventsOf (all ++ line ∷ []) (events ++ event ∷ [])
 AreEventsOf-told line event none s = told s none
 AreEventsOf-told line event (skipped t more) s = skipped t (AreEventsOf-told line event more s)
 AreEventsOf-told line event (told t more) s = told t (AreEventsOf-told line event more s)
 
--- a text of which so many lines were read
+-- a text whose first `count` lines were read
 pub record HaveRead (text : List ℕ) (count number : ℕ) (events : List Event) : Type 0 where
   pub short : length text ≤ size_limit
   pub counted : number ≡ count
   pub good : AreEventsOf (take count (lines text)) events
 
--- the line behind so many
+-- the line behind `count` others
 pub record IsNext (text : List ℕ) (count : ℕ) (line : List ℕ) : Type 0 where
   pub within : count < length (lines text)
   pub here : line ≡ get_or (lines text) count line
 
-pub number_fits : {text : List ℕ} {count number : ℕ} {events : List Event} {line : List ℕ} → HaveRead text count number events → IsNext text count line
+pub number_fits : {text : List ℕ} {count number : ℕ} {events : List Event} {line : List ℕ}
+    → HaveRead text count number events → IsNext text count line
     → number ≤ size_limit
 number_fits {text} h n =
     let few = count_by-le-length (λ byte. byte == 10) text in
     omega (arith, h.short, h.counted, n.within, length-slice_split (λ byte. byte == 10) text, few)
 
-take_next : (text : List ℕ) (count : ℕ) (line : List ℕ) → IsNext text count line → take (count + 1) (lines text) ≡ take count (lines text) ++ line ∷ []
+take_next : (text : List ℕ) (count : ℕ) (line : List ℕ) → IsNext text count line
+    → take (count + 1) (lines text) ≡ take count (lines text) ++ line ∷ []
 take_next text count line n =
     take_more (lines text) count line n.within ∙ ap (λ l. take count (lines text) ++ l ∷ []) (sym n.here)
 
-pub more_skipped : {text : List ℕ} {count number : ℕ} {events : List Event} {line : List ℕ} → HaveRead text count number events → IsNext text count line
+pub more_skipped : {text : List ℕ} {count number : ℕ} {events : List Event} {line : List ℕ}
+    → HaveRead text count number events → IsNext text count line
     → IsSkipped line → HaveRead text (count + 1) (number + 1) events
 more_skipped {text} {count} {number} {events} {line} h n s = record {
   short = h.short;
@@ -51,19 +56,23 @@ more_skipped {text} {count} {number} {events} {line} h n s = record {
   good = rw (take_next text count line n) (AreEventsOf-skipped line h.good s);
 }
 
-pub more_told : {text : List ℕ} {count number : ℕ} {events : List Event} {line : List ℕ} (event : Event) → HaveRead text count number events
-    → IsNext text count line → IsLineOf event line → HaveRead text (count + 1) (number + 1) (events ++ event ∷ [])
+pub more_told : {text : List ℕ} {count number : ℕ} {events : List Event} {line : List ℕ} (event : Event)
+    → HaveRead text count number events
+    → IsNext text count line → IsLineOf event line
+    → HaveRead text (count + 1) (number + 1) (events ++ event ∷ [])
 more_told {text} {count} {number} {events} {line} event h n s = record {
   short = h.short;
   counted = omega (arith, h.counted);
   good = rw (take_next text count line n) (AreEventsOf-told line event h.good s);
 }
 
-pub stands : {text : List ℕ} {count number : ℕ} {events : List Event} {line : List ℕ} → HaveRead text count number events → IsNext text count line
+pub stands : {text : List ℕ} {count number : ℕ} {events : List Event} {line : List ℕ}
+    → HaveRead text count number events → IsNext text count line
     → StandsBehind (lines text) line count
 stands {text} {count} {number} {events} {line} h n =
     let next : drop count (lines text) ≡ line ∷ drop (count + 1) (lines text) =
-    rw add-one (drop-cons (lines text) count line n.within) ∙ ap (λ l. l ∷ drop (count + 1) (lines text)) (sym n.here) in
+    rw add-one (drop-cons (lines text) count line n.within)
+    ∙ ap (λ l. l ∷ drop (count + 1) (lines text)) (sym n.here) in
     record {
       before = take count (lines text);
       after = drop (count + 1) (lines text);
@@ -73,18 +82,23 @@ stands {text} {count} {number} {events} {line} h n =
       good = h.good;
     }
 
-pub bad_line : {text : List ℕ} {count number : ℕ} {events : List Event} {line : List ℕ} → HaveRead text count number events → IsNext text count line
+pub bad_line : {text : List ℕ} {count number : ℕ} {events : List Event} {line : List ℕ}
+    → HaveRead text count number events → IsNext text count line
     → IsBad line → IsReadAs text (Err (Line (number + 1)))
-bad_line {text} {count} {number} {events} {line} h n bad = (h.short, (line, count, stands h n, bad, ap (λ k. k + 1) h.counted))
+bad_line {text} {count} {number} {events} {line} h n bad =
+    (h.short, (line, count, stands h n, bad, ap (λ k. k + 1) h.counted))
 
-pub no_room : {text : List ℕ} {count number : ℕ} {events : List Event} {line : List ℕ} (event : Event) → HaveRead text count number events
+pub no_room : {text : List ℕ} {count number : ℕ} {events : List Event} {line : List ℕ} (event : Event)
+    → HaveRead text count number events
     → IsNext text count line → IsLineOf event line → IsReadAs text (Err Memory)
 no_room {text} {count} {number} {events} {line} event h n s = (h.short, (line, count, event, stands h n, s))
 
-pub all_read : {text : List ℕ} {count number : ℕ} {events : List Event} → HaveRead text count number events → count ≡ length (lines text)
+pub all_read : {text : List ℕ} {count number : ℕ} {events : List Event} → HaveRead text count number events
+    → count ≡ length (lines text)
     → IsReadAs text (Ok events)
 all_read {text} {count} {number} {events} h all =
-    let whole : take count (lines text) ≡ lines text = ap (λ n. take n (lines text)) all ∙ take-length (lines text) in
+    let whole : take count (lines text) ≡ lines text = ap (λ n. take n (lines text)) all
+    ∙ take-length (lines text) in
     (h.short, rw whole at h.good)
 
 pub nothing_read : {text : List ℕ} → length text ≤ size_limit → HaveRead text 0 0 []

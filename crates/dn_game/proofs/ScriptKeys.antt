@@ -26,7 +26,11 @@ unfolding every
 every_at test zero i h within = absurd (omega arith)
 every_at test (suc n) i h within =
     let both = and_parts (test n) (every test n) h in
-    elim (cases_lt i n) [ inl below ↦ every_at test n i both.1 below | inr above ↦ subst (λ k. test k ≡ true) (omega arith) both.0 ]
+    elim (cases_lt i n) [
+      | inl below ↦ every_at test n i both.1 below
+      | inr above ↦
+          subst (λ k. test k ≡ true) (omega arith) both.0
+    ]
 
 -- the keys in the order of their bits
 key_at : ℕ → Key
@@ -37,7 +41,7 @@ place_at : (i : ℕ) → i < 18 → place_of (key_at i) ≡ i
 unfolding every key_at
 place_at i h = eqb-true _ _ (every_at (λ k. eqb (place_of (key_at k)) k) 18 i refl h)
 
-place_small : (key : Key) → place_of key < 18
+pub place_small : (key : Key) → place_of key < 18
 place_small Forward = lit< tt
 place_small Back = lit< tt
 place_small Left = lit< tt
@@ -62,10 +66,12 @@ some_from None i e h = absurd (omega (arith, e))
 some_from (Some x) i e h = ap (λ k. Some k) e
 
 -- each letter stands at one place
-letter_found : (i : ℕ) → i < 18 → place_in_letters (get_or letters i 0) ≡ Some i
+pub letter_found : (i : ℕ) → i < 18 → place_in_letters (get_or letters i 0) ≡ Some i
 unfolding every
 letter_found i h =
-    some_from _ i (eqb-true _ _ (every_at (λ k. eqb (unwrap_or (place_in_letters (get_or letters k 0)) 18) k) 18 i refl h)) h
+    some_from _ i
+    (eqb-true _ _ (every_at (λ k. eqb (unwrap_or (place_in_letters (get_or letters k 0)) 18) k) 18 i refl
+    h)) h
 
 -- a byte that is found is the letter at its place
 found_letter : (byte i : ℕ) → place_in_letters byte ≡ Some i → (i < 18) × (get_or letters i 0 ≡ byte)
@@ -74,7 +80,8 @@ found_letter byte i e =
     (at.0, eqb-true _ _ at.1)
 
 -- a byte that is found at one place is the letter of no other
-one_place : (byte place i : ℕ) → place_in_letters byte ≡ Some place → i < 18 → byte ≡ get_or letters i 0 → i ≡ place
+one_place : (byte place i : ℕ) → place_in_letters byte ≡ Some place → i < 18 → byte ≡ get_or letters i 0
+    → i ≡ place
 one_place byte place i found small same =
     same_Some i place (sym (letter_found i small) ∙ ap place_in_letters (sym same) ∙ found)
 
@@ -96,7 +103,15 @@ pub record AreBits (word : List ℕ) (keys : ℕ) : Type 0 where
   pub set : (i : ℕ) → i < 18 → (bit_at keys i ≡ 1) ↔ Contains word (get_or letters i 0)
 
 no_bits : AreBits [] 0
-no_bits = record { below = lit< tt; set = λ i h. (λ e. absurd (omega (arith, e, bit_at-zero i)), λ (k, within, _). absurd (omega (arith, within))) }
+no_bits =
+    record {
+      below = lit< tt;
+      set =
+          λ i h. (
+            λ e. absurd (omega (arith, e, bit_at-zero i)),
+            λ (k, within, _). absurd (omega (arith, within)),
+          );
+    }
 
 push_bits : (word : List ℕ) (keys byte place : ℕ) → AreBits word keys → place_in_letters byte ≡ Some place
     → AreBits (word ++ byte ∷ []) (bit_or keys (1 * 2 ^ place % 2 ^ 32))
@@ -111,7 +126,8 @@ push_bits word keys byte place h found =
         | inl same ↦
             let letter : byte ≡ get_or letters i 0 = sym at.1 ∙ ap (λ k. get_or letters k 0) (sym same) in (
               λ _. subst (Contains (word ++ byte ∷ [])) letter (Contains-push word byte),
-              λ _. ap (bit_at (bit_or keys (1 * 2 ^ place % 2 ^ 32))) same ∙ bit_at_set_same w32 keys place within,
+              λ _. ap (bit_at (bit_or keys (1 * 2 ^ place % 2 ^ 32))) same
+                  ∙ bit_at_set_same w32 keys place within,
             )
         | inr other ↦
             let kept = bit_at_set_other w32 keys place within i other in (
@@ -132,14 +148,22 @@ pub record AreLettersUpTo (word : List ℕ) (i keys : ℕ) : Type 0 where
   pub bits : AreBits (take i word) keys
 
 pub no_letters : (word : List ℕ) → word ≢ codes "-" → 1 ≤ length word → AreLettersUpTo word 0 0
-no_letters word other some = record { other = other; some = some; known = All-nil (Contains letters); bits = no_bits }
+no_letters word other some = record {
+  other = other;
+  some = some;
+  known = All-nil (Contains letters);
+  bits =
+      no_bits;
+}
 
 pub more_letters : (word : List ℕ) (i keys place : ℕ) → AreLettersUpTo word i keys → i < length word
-    → Some place ≡ place_in_letters (get_or word i 0) → AreLettersUpTo word (i + 1) (bit_or keys (1 * 2 ^ place % 2 ^ 32))
+    → Some place ≡ place_in_letters (get_or word i 0)
+    → AreLettersUpTo word (i + 1) (bit_or keys (1 * 2 ^ place % 2 ^ 32))
 more_letters word i keys place h within found =
     let at = found_letter (get_or word i 0) place (sym found) in
     let next = take_more word i 0 within in
-    let letter : get_or letters place (get_or word i 0) ≡ get_or word i 0 = get_or_default letters place _ 0 at.0 ∙ at.1 in
+    let letter : get_or letters place (get_or word i 0) ≡ get_or word i 0 =
+    get_or_default letters place _ 0 at.0 ∙ at.1 in
     record {
       other = h.other;
       some = h.some;
@@ -147,12 +171,14 @@ more_letters word i keys place h within found =
       bits = rw next (push_bits _ _ _ _ h.bits (sym found));
     }
 
-pub not_keys : (word : List ℕ) (i keys : ℕ) → AreLettersUpTo word i keys → i < length word → None ≡ place_in_letters (get_or word i 0)
+pub not_keys : (word : List ℕ) (i keys : ℕ) → AreLettersUpTo word i keys → i < length word
+    → None ≡ place_in_letters (get_or word i 0)
     → (k : ℕ) → ¬ AreKeys word k
 not_keys word i keys h within none k (inl minus) = h.other minus.0
 not_keys word i keys h within none k (inr some) = letter_is_not _ _ (some.known i 0 within) (sym none) refl
 
-pub whole_keys : (word : List ℕ) (i keys : ℕ) → AreLettersUpTo word i keys → i ≡ length word → AreKeys word (keys % 2 ^ 18)
+pub whole_keys : (word : List ℕ) (i keys : ℕ) → AreLettersUpTo word i keys → i ≡ length word
+    → AreKeys word (keys % 2 ^ 18)
 whole_keys word i keys h all =
     let whole : take i word ≡ word = ap (λ n. take n word) all ∙ take-length word in
     let bits : AreBits word keys = subst (λ w. AreBits w keys) whole h.bits in
@@ -167,7 +193,8 @@ whole_keys word i keys h all =
     }))
 
 -- bits are the same where each is set with the other
-same_bit : (a b i : ℕ) → (bit_at a i ≡ 1 → bit_at b i ≡ 1) → (bit_at b i ≡ 1 → bit_at a i ≡ 1) → bit_at a i ≡ bit_at b i
+same_bit : (a b i : ℕ) → (bit_at a i ≡ 1 → bit_at b i ≡ 1) → (bit_at b i ≡ 1 → bit_at a i ≡ 1)
+    → bit_at a i ≡ bit_at b i
 same_bit a b i p q =
     elim (cases_eq (bit_at a i) 1) [
       | inl one ↦ one ∙ sym (p one)
@@ -177,14 +204,17 @@ same_bit a b i p q =
       ]
     ]
 
-same_keys : (word : List ℕ) (a b : ℕ) → AreLetters word a → AreLetters word b → (key : Key) → bit_at a (place_of key) ≡ 1 → bit_at b (place_of key) ≡ 1
+same_keys : (word : List ℕ) (a b : ℕ) → AreLetters word a → AreLetters word b → (key : Key)
+    → bit_at a (place_of key) ≡ 1 → bit_at b (place_of key) ≡ 1
 same_keys word a b p q key set = eqb-true _ _ ((q.down key).1 ((p.down key).0 (eq-eqb _ _ set)))
 
 -- a word is one set of keys
 pub one_keys : (word : List ℕ) (a b : ℕ) → AreKeys word a → AreKeys word b → a ≡ b
 one_keys word a b (inl p) (inl q) = p.1 ∙ sym q.1
-one_keys word a b (inl p) (inr q) = absurd (letter_is_not _ 45 (q.known 0 0 q.some) refl (ap (λ w. get_or w 0 0) p.0))
-one_keys word a b (inr p) (inl q) = absurd (letter_is_not _ 45 (p.known 0 0 p.some) refl (ap (λ w. get_or w 0 0) q.0))
+one_keys word a b (inl p) (inr q) =
+    absurd (letter_is_not _ 45 (q.known 0 0 q.some) refl (ap (λ w. get_or w 0 0) p.0))
+one_keys word a b (inr p) (inl q) =
+    absurd (letter_is_not _ 45 (p.known 0 0 p.some) refl (ap (λ w. get_or w 0 0) q.0))
 one_keys word a b (inr p) (inr q) = same_from_bits_below 18 a b p.small q.small (λ i h.
     let key = key_at i in
     let same = same_bit a b (place_of key) (same_keys word a b p q key) (same_keys word b a q p key) in

@@ -30,7 +30,8 @@ one_cut (x ∷ a) [] c d p q e =
 one_cut (x ∷ a) (y ∷ b) c d p q e =
     let same : x ≡ y = cc in
     let rest : a ++ 32 ∷ c ≡ b ++ 32 ∷ d = cc in
-    let more : a ≡ b = one_cut a b c d (All-tail (λ z. eqb z 32 ≡ false) x a p) (All-tail (λ z. eqb z 32 ≡ false) y b q) rest in
+    let more : a ≡ b = one_cut a b c d (All-tail (λ z. eqb z 32 ≡ false) x a p)
+    (All-tail (λ z. eqb z 32 ≡ false) y b q) rest in
     cc
 
 -- and one text behind it
@@ -49,15 +50,18 @@ number_no_space word n h i d within =
     ap (λ byte. eqb byte 32) (get_or_default word i d 0 within) ∙ ne_eqb _ _ other
 
 -- a text is cut at its first space in one way
-pub one_way : (text a b n m : List ℕ) → HasNoSpace a → HasNoSpace n → text ≡ (a ++ codes " ") ++ b → text ≡ (n ++ codes " ") ++ m
+pub one_way : (text a b n m : List ℕ) → HasNoSpace a → HasNoSpace n → text ≡ (a ++ codes " ") ++ b
+    → text ≡ (n ++ codes " ") ++ m
     → (n ≡ a) × (m ≡ b)
 one_way text a b n m p q e f =
-    let both : a ++ 32 ∷ b ≡ n ++ 32 ∷ m = sym (append_assoc a (codes " ") b) ∙ sym e ∙ f ∙ append_assoc n (codes " ") m in
+    let both : a ++ 32 ∷ b ≡ n ++ 32 ∷ m = sym (append_assoc a (codes " ") b) ∙ sym e ∙ f
+    ∙ append_assoc n (codes " ") m in
     (sym (one_cut a n b m p q both), sym (one_rest a n b m p q both))
 
 -- what a line that begins with send tells
 sent : (text : List ℕ) (e : Event) → IsLineOf e (codes "send " ++ text)
-    → (n : List ℕ) × (m : List ℕ) × (node : ℕ) × (to : ℕ) × IsNumber n node × IsNumber m to × (text ≡ (n ++ codes " ") ++ m)
+    → (n : List ℕ) × (m : List ℕ) × (node : ℕ) × (to : ℕ) × IsNumber n node × IsNumber m to
+    × (text ≡ (n ++ codes " ") ++ m)
 sent text (Send node to) (n, m, sender, receiver, line) = (n, m, node, to, sender, receiver, cc)
 sent text (Build node keys) (n, k, _, _, line) = absurd (heads_differ refl line)
 sent text (Deliver flight) (n, _, line) = absurd (heads_differ refl line)
@@ -67,7 +71,8 @@ sent text (Stop node) (n, _, line) = absurd (seconds_differ refl line)
 
 -- what a line that begins with build tells
 built : (text : List ℕ) (e : Event) → IsLineOf e (codes "build " ++ text)
-    → (n : List ℕ) × (k : List ℕ) × (node : ℕ) × (keys : ℕ) × IsNumber n node × AreKeys k keys × (text ≡ (n ++ codes " ") ++ k)
+    → (n : List ℕ) × (k : List ℕ) × (node : ℕ) × (keys : ℕ) × IsNumber n node × AreKeys k keys
+    × (text ≡ (n ++ codes " ") ++ k)
 built text (Build node keys) (n, k, number, held, line) = (n, k, node, keys, number, held, cc)
 built text (Send node to) (n, m, _, _, line) = absurd (heads_differ refl line)
 built text (Deliver flight) (n, _, line) = absurd (heads_differ refl line)
@@ -106,21 +111,29 @@ pub spelled : (word : List ℕ) → AllByRecursion (λ byte. eqb byte 32 ≡ fal
 spelled word h = All-from_recursion (λ byte. eqb byte 32 ≡ false) word h
 
 -- one word behind another that is neither build nor send: where it is no number, the line is that of no event
-pub no_number : (verb word line : List ℕ) → HasNoSpace verb → verb ≢ codes "build" → verb ≢ codes "send" → line ≡ verb ++ 32 ∷ word
+pub no_number : (verb word line : List ℕ) → HasNoSpace verb → verb ≢ codes "build" → verb ≢ codes "send"
+    → line ≡ verb ++ 32 ∷ word
     → ((n : ℕ) → ¬ IsNumber word n) → (e : Event) → ¬ IsLineOf e line
 no_number verb word line p build send whole bad (Build node keys) (n, k, _, _, same) =
-    build (one_cut verb (codes "build") word _ p (spelled (codes "build") (refl, (refl, (refl, (refl, (refl, tt)))))) (sym whole ∙ same))
+    build (one_cut verb (codes "build") word _ p
+    (spelled (codes "build") (refl, (refl, (refl, (refl, (refl, tt)))))) (sym whole ∙ same))
 no_number verb word line p build send whole bad (Send node to) (n, m, _, _, same) =
-    send (one_cut verb (codes "send") word _ p (spelled (codes "send") (refl, (refl, (refl, (refl, tt))))) (sym whole ∙ same))
+    send (one_cut verb (codes "send") word _ p (spelled (codes "send") (refl, (refl, (refl, (refl, tt)))))
+    (sym whole ∙ same))
 no_number verb word line p build send whole bad (Deliver flight) (n, number, same) =
-    let rest = one_rest verb (codes "deliver") word n p (spelled (codes "deliver") (refl, (refl, (refl, (refl, (refl, (refl, (refl, tt)))))))) (sym whole ∙ same) in
+    let rest = one_rest verb (codes "deliver") word n p
+    (spelled (codes "deliver") (refl, (refl, (refl, (refl, (refl, (refl, (refl, tt))))))))
+    (sym whole ∙ same) in
     bad flight (subst (λ w. IsNumber w flight) (sym rest) number)
 no_number verb word line p build send whole bad (Run node) (n, number, same) =
-    let rest = one_rest verb (codes "run") word n p (spelled (codes "run") (refl, (refl, (refl, tt)))) (sym whole ∙ same) in
+    let rest = one_rest verb (codes "run") word n p (spelled (codes "run") (refl, (refl, (refl, tt))))
+    (sym whole ∙ same) in
     bad node (subst (λ w. IsNumber w node) (sym rest) number)
 no_number verb word line p build send whole bad (Quit node) (n, number, same) =
-    let rest = one_rest verb (codes "quit") word n p (spelled (codes "quit") (refl, (refl, (refl, (refl, tt))))) (sym whole ∙ same) in
+    let rest = one_rest verb (codes "quit") word n p
+    (spelled (codes "quit") (refl, (refl, (refl, (refl, tt))))) (sym whole ∙ same) in
     bad node (subst (λ w. IsNumber w node) (sym rest) number)
 no_number verb word line p build send whole bad (Stop node) (n, number, same) =
-    let rest = one_rest verb (codes "stop") word n p (spelled (codes "stop") (refl, (refl, (refl, (refl, tt))))) (sym whole ∙ same) in
+    let rest = one_rest verb (codes "stop") word n p
+    (spelled (codes "stop") (refl, (refl, (refl, (refl, tt))))) (sym whole ∙ same) in
     bad node (subst (λ w. IsNumber w node) (sym rest) number)

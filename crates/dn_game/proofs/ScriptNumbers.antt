@@ -21,13 +21,15 @@ pub few_digits : (word : List ℕ) (i number : ℕ) → AreDigits word i number 
 few_digits word i number h within =
     let few : i ≤ 8 = omega (arith, h.few) in
     let len : length (take i word) ≡ i = length-take-le i word (omega arith) in
-    let small : digits_value 10 (take i word) < 10 ^ length (take i word) = digits_value-lt 10 (take i word) h.digits in
+    let small : digits_value 10 (take i word) < 10 ^ length (take i word) =
+    digits_value-lt 10 (take i word) h.digits in
     let short : length (take i word) ≤ 8 = omega arith in
     let low : 10 ^ length (take i word) ≤ 10 ^ 8 = pow-le-pow_right (omega arith) short in
     omega (arith, h.value)
 
 -- one digit more
-pub more_digits : (word : List ℕ) (i number : ℕ) → AreDigits word i number → i < length word → IsInRange 48 57 (get_or word i 0)
+pub more_digits : (word : List ℕ) (i number : ℕ) → AreDigits word i number → i < length word
+    → IsInRange 48 57 (get_or word i 0)
     → AreDigits word (i + 1) (10 * number + (get_or word i 0 - 48))
 more_digits word i number h within digit =
     let value = digit_value_digit (get_or word i 0) digit in
@@ -39,13 +41,15 @@ more_digits word i number h within digit =
     }
 
 -- a word with another byte is no number
-pub not_number : (word : List ℕ) (i : ℕ) → i < length word → IsOutOfRange 48 57 (get_or word i 0) → (n : ℕ) → ¬ IsNumber word n
+pub not_number : (word : List ℕ) (i : ℕ) → i < length word → IsOutOfRange 48 57 (get_or word i 0) → (n : ℕ)
+    → ¬ IsNumber word n
 not_number word i within other n number =
     let digit = digit_at word i number.digits within in
     omega (arith, other, digit)
 
 -- a word of digits is a number
-pub whole_number : (word : List ℕ) (i number : ℕ) → AreDigits word i number → i ≡ length word → 1 ≤ length word → IsNumber word number
+pub whole_number : (word : List ℕ) (i number : ℕ) → AreDigits word i number → i ≡ length word
+    → 1 ≤ length word → IsNumber word number
 whole_number word i number h all some =
     let whole : take i word ≡ word = ap (λ n. take n word) all ∙ take-length word in
     record { some = some; few = h.few; digits = rw whole at h.digits; value = rw whole at h.value }

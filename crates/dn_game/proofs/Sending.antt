@@ -38,45 +38,56 @@ use Rattle.dn_game.proofs.Posting.{posts_none, posts_some}
 abbrev IsBetween : ℕ → ℕ → exact.Flight → Type 0
 IsBetween me to flight = (flight.from ≡ me) × (flight.to ≡ to)
 
-between : (me to : ℕ) (flight given : exact.Flight) → Some flight ≡ Some given → IsBetween me to flight → IsBetween me to given
-between me to flight given e is = let P : exact.Flight → Type 0 = λ x. IsBetween me to x in subst P (same_Some flight given e) is
+between : (me to : ℕ) (flight given : exact.Flight) → Some flight ≡ Some given → IsBetween me to flight
+    → IsBetween me to given
+between me to flight given e is = let P : exact.Flight → Type 0 = λ x. IsBetween me to x in
+    subst P (same_Some flight given e) is
 
 module _ {S : Type 0} (rules : Rules S) (me to : ℕ) (m : machine_node.Node) where
-  set_up_between : (settings : Option Settings) (given : exact.Flight) → set_up_flight me to settings ≡ Some given → IsBetween me to given
+  set_up_between : (settings : Option Settings) (given : exact.Flight)
+      → set_up_flight me to settings ≡ Some given → IsBetween me to given
   set_up_between None given e = absurd (cc)
   set_up_between (Some settings) given e = between me to _ given e (refl, refl)
 
   if_between : (test : Bool) (next : machine_node.Node) (flight given : exact.Flight) → IsBetween me to flight
-      → (cond {A = machine_node.Node × Option exact.Flight} test (next, Some flight) (m, None)).1 ≡ Some given → IsBetween me to given
+      → (cond {A = machine_node.Node × Option exact.Flight} test (next, Some flight) (m, None)).1 ≡ Some given
+      → IsBetween me to given
   if_between true next flight given is e = between me to flight given e is
   if_between false next flight given is e = absurd (cc)
 
-  between_in : (phase : Phase) (given : exact.Flight) → (on_send_in rules me m to phase).1 ≡ Some given → IsBetween me to given
+  between_in : (phase : Phase) (given : exact.Flight) → (on_send_in rules me m to phase).1 ≡ Some given
+      → IsBetween me to given
   between_in Listening given e = absurd (cc)
   between_in Gathering given e = set_up_between m.settings given e
   between_in Playing given e = between me to _ given e (refl, refl)
   between_in (Ended cause) given e = if_between _ _ _ given (refl, refl) e
 
 -- a packet that a node gives is carried
-module _ {W S : Type 0} (state : W → S) (rules : Rules S) (me to : ℕ) (n : node.Contents W) (m : machine_node.Node) where
-  given_between : node_to.Represents state rules me n m → Gives n to → (given : exact.Flight) → (sent_to to rules me m).1 ≡ Some given → IsBetween me to given
+module _ {W S : Type 0} (state : W → S) (rules : Rules S) (me to : ℕ) (n : node.Contents W)
+    (m : machine_node.Node) where
+  given_between : node_to.Represents state rules me n m → Gives n to → (given : exact.Flight)
+      → (sent_to to rules me m).1 ≡ Some given → IsBetween me to given
   given_between r gives given e =
-      let sends = sends_in rules me (node.locked n) m to m.phase r.lockstep gives.below gives.other r.lockstep.phase in
-      between_in rules me to m m.phase given (sym (ap (λ (x : machine_node.Node × Option exact.Flight). x.1) sends) ∙ e)
+      let sends = sends_in rules me (node.locked n) m to m.phase r.lockstep gives.below gives.other
+      r.lockstep.stands.phase in
+      between_in rules me to m m.phase given
+      (sym (ap (λ (x : machine_node.Node × Option exact.Flight). x.1) sends) ∙ e)
 
-  carries : node_to.Represents state rules me n m → Gives n to → (given : exact.Flight) → (sent_to to rules me m).1 ≡ Some given → me < rules.players
+  carries : node_to.Represents state rules me n m → Gives n to → (given : exact.Flight)
+      → (sent_to to rules me m).1 ≡ Some given → me < rules.players
       → IsFair given → IsCarried rules.players given
   carries r gives given e mine fair =
       let ends = given_between r gives given e in
       record {
         from = let is = ends.0 in omega (arith, is, mine);
-        to = let is = ends.1 in omega (arith, is, gives.below, r.lockstep.players);
-        apart = λ is. gives.other (sym ends.1 ∙ sym is ∙ ends.0 ∙ sym r.lockstep.number);
+        to = let is = ends.1 in omega (arith, is, gives.below, r.lockstep.whose.players);
+        apart = λ is. gives.other (sym ends.1 ∙ sym is ∙ ends.0 ∙ sym r.lockstep.whose.number);
         fair = fair;
       }
 
 -- a send by what its node gives
-module _ {W S : Type 0} (state : W → S) (rules : Rules S) (g : Contents W) (m : machine.Game) (r : Represents state rules g m) (me to : ℕ)
+module _ {W S : Type 0} (state : W → S) (rules : Rules S) (g : Contents W) (m : machine.Game)
+    (r : Represents state rules g m) (me to : ℕ)
     (below : me < length g.nodes) (there : to < length g.nodes) (new : Node W) (flights : List Flight) where
   asked : sent_to to rules me (m.nodes me) ≡ on_send rules me (m.nodes me) to
   asked = cond-true (nat_lt to rules.players) _ _ (lt-ltb to rules.players (omega (arith, there, r.players)))
@@ -84,47 +95,65 @@ module _ {W S : Type 0} (state : W → S) (rules : Rules S) (g : Contents W) (m 
   sends_if : (done : Done)
       → IsAfter state rules (record g { nodes = set g.nodes me new; flights = flights })
       (posted (with_node m me (sent_to to rules me (m.nodes me)).0) (sent_to to rules me (m.nodes me)).1) done
-      → IsAfter state rules (record g { nodes = set g.nodes me new; flights = flights }) (on_event rules m (Send me to)) done
+      → IsAfter state rules (record g { nodes = set g.nodes me new; flights = flights })
+      (on_event rules m (Send me to)) done
   sends_if done is =
       let P : machine_node.Node × Option exact.Flight → Type 0 =
-      λ x. IsAfter state rules (record g { nodes = set g.nodes me new; flights = flights }) (posted (with_node m me x.0) x.1) done in
+      λ x. IsAfter state rules (record g { nodes = set g.nodes me new; flights = flights })
+      (posted (with_node m me x.0) x.1) done in
       subst P asked is
 
   pub sends_none : node_to.Represents state rules me (node.contents new) (sent_to to rules me (m.nodes me)).0
       → (sent_to to rules me (m.nodes me)).1 ≡ None → flights ≡ g.flights
-      → IsAfter state rules (record g { nodes = set g.nodes me new; flights = flights }) (on_event rules m (Send me to)) Done.Silent
+      → IsAfter state rules (record g { nodes = set g.nodes me new; flights = flights })
+      (on_event rules m (Send me to)) Done.Silent
   sends_none is none same =
       let sent = sent_to to rules me (m.nodes me) in
-      sends_if Done.Silent (posts_none state rules (record g { nodes = set g.nodes me new }) (with_node m me sent.0)
+      sends_if Done.Silent (posts_none state rules (record g { nodes = set g.nodes me new })
+      (with_node m me sent.0)
       (places state rules g m me new sent.0 r below is) sent.1 flights none same)
 
   -- the packet has the numbers that were aimed at
   pub sends_packet : (old : node.Contents W) (aim : Aim) (bytes : ArrayVec ℕ) (which : ℕ)
       → node_to.Represents state rules me old (m.nodes me) → Gives old to
       → Some aim ≡ option_map aim_of (sent_to to rules me (m.nodes me)).1
-      → step.IsAfter state rules me (node.contents new) (sent_to to rules me (m.nodes me)) (λ x. Some bytes.items ≡ option_map bytes_of x)
+      → step.IsAfter state rules me (node.contents new) (sent_to to rules me (m.nodes me))
+      (λ x. Some bytes.items ≡ option_map bytes_of x)
       → IfSome (sent_to to rules me (m.nodes me)).1 IsFair
-      → flights ≡ g.flights ++ record { from = me; to = to; aim = aim; bytes = bytes } ∷ [] → which ≡ length g.flights
-      → IsAfter state rules (record g { nodes = set g.nodes me new; flights = flights }) (on_event rules m (Send me to)) (Done.Sent which)
+      → flights ≡ g.flights ++ record { from = me; to = to; aim = aim; bytes = bytes } ∷ []
+      → which ≡ length g.flights
+      → IsAfter state rules (record g { nodes = set g.nodes me new; flights = flights })
+      (on_event rules m (Send me to)) (Done.Sent which)
   sends_packet old aim bytes which shown gives aimed after fair more last =
       let sent = sent_to to rules me (m.nodes me) in
       let some = some_flight bytes_of bytes.items sent.1 after.answer in
       let flight = some.0 in
       let numbers = same_Some aim (aim_of flight) (aimed ∙ ap (option_map aim_of) some.1) in
       let P : Option exact.Flight → Type 0 = λ x. IfSome x IsFair in
-      let carried = carries state rules me to old (m.nodes me) shown gives flight some.1 (omega (arith, below, r.players)) (subst P some.1 fair) in
+      let carried = carries state rules me to old (m.nodes me) shown gives flight some.1
+      (omega (arith, below, r.players)) (subst P some.1 fair) in
       let ends = given_between state rules me to old (m.nodes me) shown gives flight some.1 in
       let is : ◌≡◌ {A = Flight} (record { from = me; to = to; aim = aim; bytes = bytes }) (flight_of flight) =
-      λ k. record { from = sym ends.0 k; to = sym ends.1 k; aim = numbers k; bytes = record { items = some.2 k } } in
-      sends_if (Done.Sent which) (posts_some state rules (record g { nodes = set g.nodes me new }) (with_node m me sent.0)
-      (places state rules g m me new sent.0 r below after.node) sent.1 flights flight some.1 _ is carried more which last)
+      λ k. record {
+        from = sym ends.0 k;
+        to = sym ends.1 k;
+        aim = numbers k;
+        bytes =
+            record { items = some.2 k };
+      } in
+      sends_if (Done.Sent which)
+      (posts_some state rules (record g { nodes = set g.nodes me new }) (with_node m me sent.0)
+      (places state rules g m me new sent.0 r below after.node) sent.1 flights flight some.1 _ is carried more
+      which last)
 
 -- a list took one more
-pub joins : (new old before : List Flight) (f : Flight) → new ≡ old ++ f ∷ [] → old ≡ before → new ≡ before ++ f ∷ []
+pub joins : (new old before : List Flight) (f : Flight) → new ≡ old ++ f ∷ [] → old ≡ before
+    → new ≡ before ++ f ∷ []
 joins new old before f is kept = is ∙ ap (λ (fs : List Flight). fs ++ f ∷ []) kept
 
 -- and all receivers are players still
-pub still_below : (count after : ℕ) (old new : List Flight) (f : Flight) → new ≡ old ++ f ∷ [] → All (λ x. x.to < count) old → f.to < count → after ≡ count
+pub still_below : (count after : ℕ) (old new : List Flight) (f : Flight) → new ≡ old ++ f ∷ []
+    → All (λ x. x.to < count) old → f.to < count → after ≡ count
     → All (λ x. x.to < after) new
 still_below count after old new f is all one same =
     let P : Flight → Type 0 = λ x. x.to < count in

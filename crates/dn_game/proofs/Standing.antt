@@ -19,26 +19,39 @@ use Rattle.dn_game.specs.Represents.{Represents, IsCarried, flight_of}
 use Rattle.dn_game.proofs.Places.{there_is, all_at}
 
 -- the machine's flight of a packet that was sent
-pub record IsFlight (m : machine.Game) (players : ℕ) (flights : List Flight) (which : ℕ) (flight : exact.Flight) : Type 0 where
+pub record IsFlight (m : machine.Game) (players : ℕ) (flights : List Flight) (which : ℕ)
+    (flight : exact.Flight) : Type 0 where
   pub there : slice_get m.flights which ≡ Some flight
   pub sent : slice_get flights which ≡ Some (flight_of flight)
   pub carried : IsCarried players flight
 
-module _ {W S : Type 0} (state : W → S) (rules : Rules S) (g : Contents W) (m : machine.Game) (r : Represents state rules g m) where
+module _ {W S : Type 0} (state : W → S) (rules : Rules S) (g : Contents W) (m : machine.Game)
+    (r : Represents state rules g m) where
   -- the node at a place represents the machine's
   pub node_at : (i : ℕ) (n : Node W) → i < length g.nodes → n ≡ slice_index_or g.nodes i n
       → node_to.Represents state rules i (node.contents n) (m.nodes i)
-  node_at i n h is = let same : length g.nodes ≡ length g.nodes = refl in r.nodes i n (slice_get_read g.nodes (length g.nodes) i n same h is)
+  node_at i n h is = let same : length g.nodes ≡ length g.nodes = refl in
+      r.nodes i n (slice_get_read g.nodes (length g.nodes) i n same h is)
 
   -- and has made as many commands
   pub made_at : (i count : ℕ) (n : Node W) → i < length g.nodes → n ≡ slice_index_or g.nodes i n
       → count ≡ count_of (node.contents n).rings (node.contents n).me → count ≡ made i (m.nodes i)
-  made_at i count n h is c = c ∙ made_is rules i (node.locked (node.contents n)) (m.nodes i) (node_at i n h is).lockstep n.lockstep.me_below
+  made_at i count n h is c = c ∙ made_is rules i (node.locked (node.contents n)) (m.nodes i)
+      (node_at i n h is).lockstep n.lockstep.me_below
 
   -- a packet that was sent is that of a flight
-  pub flight_at : (which : ℕ) → which < length g.flights → (flight : exact.Flight) × IsFlight m rules.players g.flights which flight
+  pub flight_at : (which : ℕ) → which < length g.flights → (flight : exact.Flight)
+      × IsFlight m rules.players g.flights which flight
   flight_at which below =
       let count = ap length r.flights ∙ length-map m.flights flight_of in
       let at = there_is m.flights which (omega (arith, below, count)) in
-      let sent = ap (λ (fs : List Flight). slice_get fs which) r.flights ∙ slice_get-map flight_of m.flights which ∙ ap (option_map flight_of) at.1 in
-      (at.0, record { there = at.1; sent = sent; carried = all_at (IsCarried rules.players) m.flights which at.0 r.carried at.1 })
+      let sent = ap (λ (fs : List Flight). slice_get fs which) r.flights
+      ∙ slice_get-map flight_of m.flights which ∙ ap (option_map flight_of) at.1 in (
+        at.0,
+        record {
+          there = at.1;
+          sent = sent;
+          carried =
+              all_at (IsCarried rules.players) m.flights which at.0 r.carried at.1;
+        },
+      )

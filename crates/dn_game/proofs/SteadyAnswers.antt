@@ -27,7 +27,8 @@ use Rattle.dn_game.specs.Promised.{IsSteady}
 -- a run that is answered by a mark that is off ends the node for it
 module _ {S : Type 0} (rules : Rules S) (node : Node) (player : ℕ) (was should : ℤ) where
   abbrev EndsFor : Node × Ran → Type 0
-  EndsFor r = r.1 ≡ Ran.Inconsistent player was should → r.0.phase ≡ Ended (Cause.Inconsistent player was should)
+  EndsFor r = r.1 ≡ Ran.Inconsistent player was should
+      → r.0.phase ≡ Ended (Cause.Inconsistent player was should)
 
   off_ends : EndsFor (on_run rules node)
   unfolding on_run
@@ -36,7 +37,8 @@ module _ {S : Type 0} (rules : Rules S) (node : Node) (player : ℕ) (was should
       playing : (awaited off : Option ℕ) → EndsFor (on_run_playing rules node awaited off)
       playing (Some other) off = λ e. absurd (cc)
       playing None (Some other) = λ e. cc
-      playing None None = cond_both (eqb (ran node) (full_at rules (row_held rules node))) _ _ EndsFor (λ full e. absurd (cc)) (λ runs e. absurd (cc))
+      playing None None = cond_both (eqb (ran node) (full_at rules (row_held rules node))) _ _ EndsFor
+          (λ full e. absurd (cc)) (λ runs e. absurd (cc))
 
       go : (phase : Phase) → EndsFor (on_run_in rules node phase)
       go Listening = λ e. absurd (cc)
@@ -45,28 +47,40 @@ module _ {S : Type 0} (rules : Rules S) (node : Node) (player : ℕ) (was should
       go Playing = playing (lowest rules.players (is_awaited node)) (first_off rules node)
 
 refused_steady : (refusal : Refusal) → IsSteady (Err refusal)
-refused_steady refusal = record { consistent = λ player was should e. absurd (cc); kept = λ number e. absurd (cc) }
+refused_steady refusal = record {
+  consistent = λ player was should e. absurd (cc);
+  kept =
+      λ number e. absurd (cc);
+}
 
 -- an event of a number that is not refused is one of a player
 passes : (b : Bool) (x : Refusal) (rest : Option Refusal) → cond (not b) (Some x) rest ≡ None → b ≡ true
 passes true x rest free = refl
 passes false x rest free = absurd (cc)
 
-module _ {S : Type 0} (rules : Rules S) (settings : Settings) (game : Game) (kept : IsKept rules settings game) where
+module _ {S : Type 0} (rules : Rules S) (settings : Settings) (game : Game)
+    (kept : IsKept rules settings game) where
   sends : (game : Game) (flight : Option Flight) → IsSteady (Ok (posted game flight).1)
   sends game None = record { consistent = λ player was should e. absurd (cc); kept = λ number e. absurd (cc) }
-  sends game (Some flight) = record { consistent = λ player was should e. absurd (cc); kept = λ number e. absurd (cc) }
+  sends game (Some flight) = record {
+    consistent = λ player was should e. absurd (cc);
+    kept =
+        λ number e. absurd (cc);
+  }
 
-  delivers : (which : ℕ) (flight : Option Flight) → slice_get game.flights which ≡ flight → refused_flight game flight ≡ None
+  delivers : (which : ℕ) (flight : Option Flight) → slice_get game.flights which ≡ flight
+      → refused_flight game flight ≡ None
       → IsSteady (Ok (delivered rules game flight).1)
   delivers which None there free = absurd (cc)
   delivers which (Some flight) there free =
       record {
         consistent = λ player was should e. absurd (cc);
-        kept = λ number e. (Promises.steady rules settings game kept).kept which flight number there free (cc);
+        kept = λ number e. (Promises.steady rules settings game kept).kept which flight number there free
+            (cc);
       }
 
-  runs : (node : ℕ) → refused rules.players game (Run node) ≡ None → IsSteady (Ok (on_event rules game (Run node)).1)
+  runs : (node : ℕ) → refused rules.players game (Run node) ≡ None
+      → IsSteady (Ok (on_event rules game (Run node)).1)
   runs node free =
       let next = happens_keeps rules settings game kept (Run node) free in
       let below = ltb-true node rules.players (passes (ltb node rules.players) _ _ free) in
@@ -78,24 +92,36 @@ module _ {S : Type 0} (rules : Rules S) (settings : Settings) (game : Game) (kep
         kept = λ number e. absurd (cc);
       }
 
-  happens : (event : Event) → refused rules.players game event ≡ None → IsSteady (Ok (on_event rules game event).1)
-  happens (Build node keys) free = record { consistent = λ player was should e. absurd (cc); kept = λ number e. absurd (cc) }
+  happens : (event : Event) → refused rules.players game event ≡ None
+      → IsSteady (Ok (on_event rules game event).1)
+  happens (Build node keys) free =
+      record { consistent = λ player was should e. absurd (cc); kept = λ number e. absurd (cc) }
   happens (Send node to) free = sends _ _
   happens (Deliver which) free = delivers which (slice_get game.flights which) refl free
   happens (Run node) free = runs node free
-  happens (Quit node) free = record { consistent = λ player was should e. absurd (cc); kept = λ number e. absurd (cc) }
-  happens (Stop node) free = record { consistent = λ player was should e. absurd (cc); kept = λ number e. absurd (cc) }
+  happens (Quit node) free = record {
+    consistent = λ player was should e. absurd (cc);
+    kept =
+        λ number e. absurd (cc);
+  }
+  happens (Stop node) free = record {
+    consistent = λ player was should e. absurd (cc);
+    kept =
+        λ number e. absurd (cc);
+  }
 
   pub applied_steady : (event : Event) → IsSteady (applied rules game event).1
   unfolding applied
   applied_steady event = go (refused rules.players game event) refl
     where
-      go : (o : Option Refusal) → refused rules.players game event ≡ o → IsSteady (applied_if rules game event o).1
+      go : (o : Option Refusal) → refused rules.players game event ≡ o
+          → IsSteady (applied_if rules game event o).1
       go (Some refusal) e = refused_steady refusal
       go None e = happens event e
 
 -- nor is one of a list
-steady_from : {S : Type 0} (rules : Rules S) (settings : Settings) (events : List Event) (answers : List (Result Done Refusal)) (game last : Game)
+steady_from : {S : Type 0} (rules : Rules S) (settings : Settings) (events : List Event)
+    (answers : List (Result Done Refusal)) (game last : Game)
     → IsKept rules settings game → Plays rules game events answers last → All IsSteady answers
 steady_from rules settings [] [] game last kept way = All-nil IsSteady
 steady_from rules settings [] (a ∷ answers) game last kept way = absurd way
@@ -103,13 +129,16 @@ steady_from rules settings (e ∷ events) [] game last kept way = absurd way
 steady_from rules settings (e ∷ events) (a ∷ answers) game last kept (next, inl (same, answered), rest) =
     let P : Game → Type 0 = λ g. IsKept rules settings g in
     All-cons IsSteady a answers (subst IsSteady (sym answered) (applied_steady rules settings game kept e))
-    (steady_from rules settings events answers next last (subst P (sym same) (applied_keeps rules settings game kept e)) rest)
-steady_from rules settings (e ∷ events) (a ∷ answers) game last kept (next, inr (free, send, same, answered), rest) =
+    (steady_from rules settings events answers next last
+    (subst P (sym same) (applied_keeps rules settings game kept e)) rest)
+steady_from rules settings (e ∷ events) (a ∷ answers) game last kept
+    (next, inr (free, send, same, answered), rest) =
     let P : Game → Type 0 = λ g. IsKept rules settings g in
     All-cons IsSteady a answers (subst IsSteady (sym answered) (refused_steady Refusal.Memory))
     (steady_from rules settings events answers next last (subst P (sym same) kept) rest)
 
-pub steady_answers : {S : Type 0} (rules : Rules S) (settings : Settings) (events : List Event) (answers : List (Result Done Refusal)) (last : Game)
+pub steady_answers : {S : Type 0} (rules : Rules S) (settings : Settings) (events : List Event)
+    (answers : List (Result Done Refusal)) (last : Game)
     → Plays rules (opening_game settings) events answers last → All IsSteady answers
 steady_answers rules settings events answers last way =
     steady_from rules settings events answers (opening_game settings) last (opens rules settings) way

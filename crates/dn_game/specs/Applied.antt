@@ -13,26 +13,32 @@ use Rattle.dn_game.specs.Contents.{Contents}
 use Rattle.dn_game.specs.Represents.{Represents}
 
 -- whatever game of the machine a game represents, this holds of it
-abbrev pub Tells : {W S : Type 0} → (W → S) → Physics S → Contents W → (Rules S → machine.Game → Type 0) → Type 0
+abbrev pub Tells : {W S : Type 0} → (W → S) → Physics S → Contents W → (Rules S → machine.Game → Type 0)
+    → Type 0
 Tells {W} {S} state physics g Fact =
     (players : ℕ) (extra : Bool) (capacity : ℕ) (m : machine.Game)
-    → Represents state (rules_of physics players extra capacity) g m → Fact (rules_of physics players extra capacity) m
+    → Represents state (rules_of physics players extra capacity) g m
+    → Fact (rules_of physics players extra capacity) m
 
 -- the game represents this one of the machine, and this is the answer
-pub record IsAfter {W S A : Type 0} (state : W → S) (rules : Rules S) (new : Contents W) (after : machine.Game × A) (answer : A) : Type 0 where
+pub record IsAfter {W S A : Type 0} (state : W → S) (rules : Rules S) (new : Contents W)
+    (after : machine.Game × A) (answer : A) : Type 0 where
   pub game : Represents state rules new after.0
   pub answered : answer ≡ after.1
 
--- a send is left out for want of memory, and nothing changes
-pub record IsLeftOut {W : Type 0} (old new : Contents W) (event : Event) (answer : Result Done Refusal) : Type 0 where
+-- a send is left out since memory was refused, and nothing changes
+pub record IsLeftOut {W : Type 0} (old new : Contents W) (event : Event)
+    (answer : Result Done Refusal) : Type 0 where
   pub send : IsTrue (is_send event)
   pub same : new ≡ old
   pub answered : answer ≡ Err Refusal.Memory
 
 -- an event is applied as the machine applies it, or it is a send that is left out, which nothing else refuses
-abbrev pub IsApplied : {W S : Type 0} → (W → S) → Rules S → Contents W → Contents W → machine.Game → Event → Result Done Refusal → Type 0
+abbrev pub IsApplied : {W S : Type 0} → (W → S) → Rules S → Contents W → Contents W → machine.Game → Event
+    → Result Done Refusal → Type 0
 IsApplied state rules old new m event answer =
-    IsAfter state rules new (applied rules m event) answer ⊎ ((refused rules.players m event ≡ None) × IsLeftOut old new event answer)
+    IsAfter state rules new (applied rules m event) answer
+    ⊎ ((refused rules.players m event ≡ None) × IsLeftOut old new event answer)
 
 -- the nodes and the packet that the event names are there
 abbrev pub IsAddressed : {W : Type 0} → Contents W → Event → Type 0

@@ -1,5 +1,5 @@
 -- The nodes of a game that opens.
-use Rattle.std.specs.Prelude.{◌≡◌, ℕ, List, map, Some, slice_get}
+use Rattle.std.specs.Prelude.{◌≡◌, ℕ, List, All, map, Some, slice_get}
 use Rattle.dn_setup.specs.Settings.{Settings}
 use Rattle.dn_machine.specs.Game.{fresh}
 use Rattle.dn_machine.specs.Worlds.{Rules}
@@ -10,7 +10,16 @@ use Rattle.dn_node.specs.Represents.{Represents}
 -- each represents a node of no history
 abbrev pub AreFresh : {W S : Type 0} → (W → S) → Rules S → Settings → List (Node W) → Type 0
 AreFresh {W} state rules settings nodes =
-    (i : ℕ) (n : Node W) → slice_get nodes i ≡ Some n → Represents state rules i (contents n) (fresh settings i)
+    (i : ℕ) (n : Node W) → slice_get nodes i ≡ Some n
+    → Represents state rules i (contents n) (fresh settings i)
+
+-- how many bytes each node's demo has memory for
+abbrev pub limits_of : {W : Type 0} → List (Node W) → List ℕ
+limits_of nodes = map (λ n. (contents n).demo.limit) nodes
+
+-- each has memory for this many
+abbrev pub AreLimited : {W : Type 0} → ℕ → List (Node W) → Type 0
+AreLimited limit nodes = All (λ n. (contents n).demo.limit ≡ limit) nodes
 
 -- the worlds of nodes, in order
 abbrev pub worlds_of : {W : Type 0} → List (Node W) → List W

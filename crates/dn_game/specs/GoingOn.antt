@@ -26,40 +26,45 @@ pub record NoneLost {W : Type 0} (g : Contents W) : Type 0 where
 -- every node that had not ended before has now run at least `tics` tics
 abbrev pub AllRan : {W : Type 0} → Contents W → Contents W → ℕ → Type 0
 AllRan {W} before g tics =
-    (i : ℕ) (n k : node.Contents W) → HasNode before i n → is_ended n.phase ≡ false → HasNode g i k → tics ≤ k.ran
+    (i : ℕ) (n k : node.Contents W) → HasNode before i n → is_ended n.phase ≡ false → HasNode g i k
+    → tics ≤ k.ran
 
--- there is room for `most` tics: in the demos; or, if some node knows that a player's commands end at `tics` or before,
--- below the limit of tics
+-- there is room for `most` tics: in the demos; or, if some node knows that a player's commands end at `tics`
+-- or before, below the limit of tics
 abbrev pub HasRoom : {W : Type 0} → (capacity : ℕ) → Contents W → (tics most : ℕ) → Type 0
 HasRoom {W} capacity g tics most =
     (most ≤ capacity)
     ⊎ ((i player end : ℕ) × (n : node.Contents W) × HasNode g i n × (player < length g.nodes)
     × (end_in n player ≡ Some end) × (end ≤ tics) × (most ≤ tic_limit))
 
--- after `rounds` good rounds: if no node was lost, every node that had not ended has run `more` tics beyond `tics`, where
--- 13 * more < rounds, and there is room for five more than those
+-- after `rounds` good rounds: if no node was lost, every node that had not ended has run `more` tics beyond
+-- `tics`, where 13 * more < rounds, and there is room for five more than those
 abbrev pub GoesOn : {W : Type 0} → (capacity rounds : ℕ) → Contents W → Contents W → Type 0
 GoesOn capacity rounds before g =
     NoneLost before → (tics more : ℕ) → 13 * more < rounds → HasRoom capacity before tics (tics + more + 5)
     → AllRan before before tics → AllRan before g (tics + more)
 
 -- the rounds lead from the machine's game `m` to the one represented now, and the counts are unchanged
-pub record IsCalmed {W S : Type 0} (state : W → S) (rules : Rules S) (keys : ℕ → ℕ) (rounds : ℕ) (m : machine.Game) (before played : Played W) : Type 0 where
+pub record IsCalmed {W S : Type 0} (state : W → S) (rules : Rules S) (keys : ℕ → ℕ) (rounds : ℕ)
+    (m : machine.Game) (before played : Played W) : Type 0 where
   pub game : Represents state rules (contents played.game) (good_rounds rules (λ round. keys) rounds m)
   pub done : played.done ≡ before.done
   pub refused : played.refused ≡ before.refused
 
 -- the events were played, then `rounds` good rounds
-pub record IsPlayedOn {W S : Type 0} (state : W → S) (rules : Rules S) (settings : Settings) (events : List Event) (keys : ℕ → ℕ) (rounds : ℕ) (played : Played W) : Type 0 where
+pub record IsPlayedOn {W S : Type 0} (state : W → S) (rules : Rules S) (settings : Settings)
+    (events : List Event) (keys : ℕ → ℕ) (rounds : ℕ) (played : Played W) : Type 0 where
   pub before : Played W
   pub events_played : IsPlayed state rules settings events before
   pub calmed : IsCalmed state rules keys rounds events_played.last before played
 
--- the game before the rounds is promised, the rounds went on, and the game after them is promised too, since they are
--- events like any other
-pub record HasPlayedOn {W S : Type 0} (state : W → S) (rules : Rules S) (settings : Settings) (events : List Event) (keys : ℕ → ℕ) (rounds : ℕ) (played : Played W) : Type 0 where
+-- the game before the rounds is promised, the rounds went on, and the game after them is promised too, since
+-- they are events like any other
+pub record HasPlayedOn {W S : Type 0} (state : W → S) (rules : Rules S) (settings : Settings)
+    (events : List Event) (keys : ℕ → ℕ) (rounds : ℕ) (played : Played W) : Type 0 where
   pub on : IsPlayedOn state rules settings events keys rounds played
-  pub promised : IsPromised state rules settings events on.events_played.answers on.events_played.last (contents on.before.game)
+  pub promised : IsPromised state rules settings events on.events_played.answers on.events_played.last
+      (contents on.before.game)
   pub goes_on : GoesOn rules.capacity rounds (contents on.before.game) (contents played.game)
   pub more : List Event
   pub answers : List (Result Done Refusal)

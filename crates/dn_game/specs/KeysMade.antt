@@ -13,5 +13,6 @@ keys_by _ _ player = []
 
 -- the key states of each player's builds that made a command, in order
 abbrev pub keys_made : List Event → List (Result Done Refusal) → ℕ → List ℕ
-keys_made (event ∷ events) (answer ∷ answers) player = keys_by event answer player ++ keys_made events answers player
+keys_made (event ∷ events) (answer ∷ answers) player =
+    keys_by event answer player ++ keys_made events answers player
 keys_made _ _ player = []

@@ -16,6 +16,8 @@ pub mod Schedule
 pub mod ScriptWords
 pub mod ScriptLines
 pub mod Script
+pub mod Written
 pub mod Stormed
+pub mod Observed
 pub mod Pool
 pub mod Room

@@ -9,15 +9,15 @@ use Rattle.dn_game.specs.declared.config.GameConfig.{GameConfig}
 use Rattle.dn_game.specs.declared.config.GameFault.{GameFault}
 use Rattle.dn_game.specs.declared.config.GameFault.TheVariants.{Players, Limit, Memory}
 
--- a game of so many worlds is made where nothing is wrong, and else refused for the first thing that is; memory can be
--- wanted only where nothing is
+-- a game of this many worlds is made where nothing is wrong, and else refused for the first thing that is;
+-- memory can be refused only where nothing is
 abbrev pub IsAdmitted : {A : Type 0} → GameConfig → ℕ → Result A GameFault → Type 0
 IsAdmitted config worlds (Ok game) = IsGame worlds × IsLimit config.limit
 IsAdmitted config worlds (Err Players) = ¬ IsGame worlds
 IsAdmitted config worlds (Err Limit) = IsGame worlds × ¬ IsLimit config.limit
 IsAdmitted config worlds (Err Memory) = IsGame worlds × IsLimit config.limit
 
--- what never changes in a game of so many worlds
+-- what never changes in a game of this many worlds
 abbrev pub rules_in : {S : Type 0} → Physics S → GameConfig → ℕ → Rules S
 rules_in physics config worlds = rules_of physics worlds config.extra (capacity config.limit worlds)
 

@@ -14,14 +14,18 @@ use Rattle.dn_game.specs.Applied.{Tells, IsApplied}
 use Rattle.dn_game.specs.Contents.{Contents, contents}
 use Rattle.dn_game.specs.Represents.{Represents}
 
--- an event leads from a game to the next with this answer; a send that nothing else refuses may be left out, for want of memory
-abbrev pub Answers : {S : Type 0} → Rules S → machine.Game → Event → Result Done Refusal → machine.Game → Type 0
+-- an event leads from a game to the next with this answer; a send that nothing else refuses may be left out,
+-- where memory is refused
+abbrev pub Answers : {S : Type 0} → Rules S → machine.Game → Event → Result Done Refusal → machine.Game
+    → Type 0
 Answers rules game event answer next =
     ((next ≡ (applied rules game event).0) × (answer ≡ (applied rules game event).1))
-    ⊎ ((refused rules.players game event ≡ None) × IsTrue (is_send event) × (next ≡ game) × (answer ≡ Err Refusal.Memory))
+    ⊎ ((refused rules.players game event ≡ None) × IsTrue (is_send event) × (next ≡ game)
+    × (answer ≡ Err Refusal.Memory))
 
 -- a list of events leads from a game to another, and each event has its answer
-abbrev pub Plays : {S : Type 0} → Rules S → machine.Game → List Event → List (Result Done Refusal) → machine.Game → Type 0
+abbrev pub Plays : {S : Type 0} → Rules S → machine.Game → List Event → List (Result Done Refusal)
+    → machine.Game → Type 0
 Plays rules game [] [] last = last ≡ game
 Plays rules game (event ∷ events) (answer ∷ answers) last =
     (next : machine.Game) × Answers rules game event answer next × Plays rules next events answers last
@@ -29,13 +33,15 @@ Plays rules game [] (answer ∷ answers) last = ⊥
 Plays rules game (event ∷ events) [] last = ⊥
 
 -- the events lead from the opening to the game that this one represents, and each has its answer
-pub record IsReachedWith {W S : Type 0} (state : W → S) (rules : Rules S) (settings : Settings) (events : List Event) (answers : List (Result Done Refusal)) (g : Contents W) : Type 0 where
+pub record IsReachedWith {W S : Type 0} (state : W → S) (rules : Rules S) (settings : Settings)
+    (events : List Event) (answers : List (Result Done Refusal)) (g : Contents W) : Type 0 where
   pub last : machine.Game
   pub plays : Plays rules (opening_game settings) events answers last
   pub game : Represents state rules g last
 
 -- the game that is left represents one that the events lead to, and the answers are counted
-pub record IsPlayed {W S : Type 0} (state : W → S) (rules : Rules S) (settings : Settings) (events : List Event) (played : Played W) : Type 0 where
+pub record IsPlayed {W S : Type 0} (state : W → S) (rules : Rules S) (settings : Settings)
+    (events : List Event) (played : Played W) : Type 0 where
   pub last : machine.Game
   pub answers : List (Result Done Refusal)
   pub plays : Plays rules (opening_game settings) events answers last
@@ -43,9 +49,10 @@ pub record IsPlayed {W S : Type 0} (state : W → S) (rules : Rules S) (settings
   pub done : played.done ≡ count_by is_ok answers
   pub refused : played.refused ≡ count_by is_err answers
 
--- one event more was applied, and counted by its answer
-pub record AppliesOne {W S : Type 0} (state : W → S) (physics : Physics S) (old new : Played W) (event : Event) : Type 0 where
-  pub answer : Result Done Refusal
-  pub applied : Tells state physics (contents old.game) (λ rules m. IsApplied state rules (contents old.game) (contents new.game) m event answer)
+-- one more event was applied, and counted by its answer
+pub record AppliesOne {W S : Type 0} (state : W → S) (physics : Physics S) (old new : Played W)
+    (event : Event) (answer : Result Done Refusal) : Type 0 where
+  pub applied : Tells state physics (contents old.game)
+      (λ rules m. IsApplied state rules (contents old.game) (contents new.game) m event answer)
   pub done : new.done ≡ old.done + count_by is_ok (answer ∷ [])
   pub refused : new.refused ≡ old.refused + count_by is_err (answer ∷ [])

@@ -13,12 +13,12 @@ pub record Room : Type 0 where
   pub bytes : ℕ
   pub records : ℕ
 
--- how much room a list of so many has once it was asked to take `more`: as before where they fit, and else for twice as
--- many as there are, or just for these
+-- how much room a list of this many has once it was asked to take `more`: as before where they fit, and else
+-- for twice as many as there are, or just for these
 abbrev pub grown : (count more room : ℕ) → ℕ
 grown count more room = if nat_le (count + more) room then room else count + max count more
 
--- room that has grown for one packet more, or is as before
+-- room that has grown for one more packet, or is as before
 pub record HasGrown (flights : List Flight) (old new : Room) : Type 0 where
   pub bytes : (new.bytes ≡ old.bytes) ⊎ (new.bytes ≡ grown (length (joined flights)) 104 old.bytes)
   pub records : (new.records ≡ old.records) ⊎ (new.records ≡ grown (length flights) 1 old.records)
@@ -33,7 +33,7 @@ pub record Pool : Type 0 where
   -- how many bytes and records it has memory for
   pub room : Room
 
--- one packet more needs no memory, however long it is
+-- one more packet needs no memory, however long it is
 pub record HasRoom (pool : Pool) : Type 0 where
   pub bytes : 104 ≤ pool.free_bytes
   pub records : 1 ≤ pool.free_records

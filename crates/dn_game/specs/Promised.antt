@@ -7,6 +7,7 @@ use Rattle.dn_machine.specs.declared.answers.Ran.{Ran}
 use Rattle.dn_machine.specs.declared.events.Done.{Done}
 use Rattle.dn_machine.specs.declared.events.Event.{Event}
 use Rattle.dn_machine.specs.declared.events.Refusal.{Refusal}
+use Rattle.dn_machine.specs.Drops as drops
 use Rattle.dn_machine.specs.Game as machine
 use Rattle.dn_machine.specs.Game.{opening_game}
 use Rattle.dn_machine.specs.Promise.{Agree, Fits, Steady}
@@ -20,30 +21,38 @@ use Rattle.dn_game.specs.Played.{Plays, IsPlayed, IsReachedWith}
 use Rattle.dn_game.specs.Represents.{Represents}
 
 -- it represents a game that the events may leave
-pub record IsReached {W S : Type 0} (state : W → S) (rules : Rules S) (settings : Settings) (events : List Event) (g : Contents W) : Type 0 where
+pub record IsReached {W S : Type 0} (state : W → S) (rules : Rules S) (settings : Settings)
+    (events : List Event) (g : Contents W) : Type 0 where
   pub last : machine.Game
   pub run : Runs rules settings events last
   pub game : Represents state rules g last
 
 -- whatever events led to a game, they and this one lead to the next, with its answer
-pub record IsCarriedOn {W S : Type 0} (state : W → S) (physics : Physics S) (old new : Contents W) (event : Event) (answer : Result Done Refusal) : Type 0 where
+pub record IsCarriedOn {W S : Type 0} (state : W → S) (physics : Physics S) (old new : Contents W)
+    (event : Event) (answer : Result Done Refusal) : Type 0 where
   pub reached : (players : ℕ) (extra : Bool) (capacity : ℕ) (settings : Settings) (events : List Event)
       → IsReached state (rules_of physics players extra capacity) settings events old
       → IsReached state (rules_of physics players extra capacity) settings (events ++ event ∷ []) new
-  pub answered : (players : ℕ) (extra : Bool) (capacity : ℕ) (settings : Settings) (events : List Event) (answers : List (Result Done Refusal))
+  pub answered : (players : ℕ) (extra : Bool) (capacity : ℕ) (settings : Settings) (events : List Event)
+      (answers : List (Result Done Refusal))
       → IsReachedWith state (rules_of physics players extra capacity) settings events answers old
-      → IsReachedWith state (rules_of physics players extra capacity) settings (events ++ event ∷ []) (answers ++ answer ∷ []) new
+      → IsReachedWith state (rules_of physics players extra capacity) settings (events ++ event ∷ [])
+      (answers ++ answer ∷ []) new
 
--- an answer that tells of no failed check: no mark was off, and a packet was dropped only as set-up out of place, or by a
--- node that does not play
+-- an answer that tells of no failed check: no mark was off, and a packet was dropped only as set-up out of
+-- place, or by a node that does not play
 pub record IsSteady (answer : Result Done Refusal) : Type 0 where
   pub consistent : (player : ℕ) (was should : ℤ) → answer ≢ Ok (Done.Ran (Ran.Inconsistent player was should))
-  pub kept : (number : ℕ) → answer ≡ Ok (Done.Heard (Heard.Dropped number)) → (number ≡ 6) ⊎ (number ≡ 13)
+  pub kept : (number : ℕ) → answer ≡ Ok (Done.Heard (Heard.Dropped number))
+      → (number ≡ drops.out_of_place) ⊎ (number ≡ drops.not_playing)
 
--- What is promised of a game that these events leave with these answers: by the game of the machine that it represents, by
--- its answers, and by what its nodes tell.
-pub record IsPromised {W S : Type 0} (state : W → S) (rules : Rules S) (settings : Settings) (events : List Event) (answers : List (Result Done Refusal)) (last : machine.Game) (g : Contents W) : Type 0 where
-  -- each event was applied as the machine applies it, but for sends that were left out for want of memory
+-- What is promised of a game that these events leave with these answers: by the game of the machine that it
+-- represents, by its answers, and by what its nodes tell.
+pub record IsPromised {W S : Type 0} (state : W → S) (rules : Rules S) (settings : Settings)
+    (events : List Event) (answers : List (Result Done Refusal)) (last : machine.Game)
+    (g : Contents W) : Type 0 where
+  -- each event was applied as the machine applies it, but for sends that were left out since memory was
+  -- refused
   pub plays : Plays rules (opening_game settings) events answers last
   pub game : Represents state rules g last
   -- all nodes agree, no ring overwrites a command that is still needed, and no check failed
@@ -56,6 +65,8 @@ pub record IsPromised {W S : Type 0} (state : W → S) (rules : Rules S) (settin
   pub agreed : AreAgreed state rules settings (keys_made events answers) g
 
 -- the events were played, and the game that is left is promised
-pub record HasPlayed {W S : Type 0} (state : W → S) (rules : Rules S) (settings : Settings) (events : List Event) (played : Played W) : Type 0 where
+pub record HasPlayed {W S : Type 0} (state : W → S) (rules : Rules S) (settings : Settings)
+    (events : List Event) (played : Played W) : Type 0 where
   pub events_played : IsPlayed state rules settings events played
-  pub promised : IsPromised state rules settings events events_played.answers events_played.last (contents played.game)
+  pub promised : IsPromised state rules settings events events_played.answers events_played.last
+      (contents played.game)

@@ -14,7 +14,13 @@ use Rattle.dn_game.specs.Contents.{Contents}
 -- the packet of a flight: its exact numbers and its bytes
 abbrev pub flight_of : exact.Flight → Flight
 flight_of flight =
-    record { from = flight.from; to = flight.to; aim = aim_of flight; bytes = record { items = bytes_of flight } }
+    record {
+      from = flight.from;
+      to = flight.to;
+      aim = aim_of flight;
+      bytes =
+          record { items = bytes_of flight };
+    }
 
 -- a flight between two players that a packet can carry
 pub record IsCarried (players : ℕ) (flight : exact.Flight) : Type 0 where
@@ -23,7 +29,8 @@ pub record IsCarried (players : ℕ) (flight : exact.Flight) : Type 0 where
   pub apart : flight.from ≢ flight.to
   pub fair : IsFair flight
 
-pub record Represents {W S : Type 0} (state : W → S) (rules : Rules S) (g : Contents W) (m : machine.Game) : Type 0 where
+pub record Represents {W S : Type 0} (state : W → S) (rules : Rules S) (g : Contents W)
+    (m : machine.Game) : Type 0 where
   pub players : length g.nodes ≡ rules.players
   -- each node represents the machine's node of its number
   pub nodes : (i : ℕ) (n : Node W) → slice_get g.nodes i ≡ Some n

@@ -28,12 +28,14 @@ first_moving players stopped from =
 abbrev pub recent : ℕ → ℕ → ℕ
 recent count c = count - 1 - c % min count 32
 
--- the delivery of a recent packet, where there is one, its number fits an event, and it is not refused; and else a run
+-- the delivery of a recent packet, where there is one, its number fits an event, and it is not refused; and
+-- else a run
 abbrev pub delivery_or_run : Game → ℕ → ℕ → Event
 delivery_or_run game node c =
     let count = length game.flights in
     let which = recent count c in
-    if nat_lt 0 count && (nat_lt which (2 ^ 32) && is_none (refused_flight game (slice_get game.flights which)))
+    if nat_lt 0
+    count && (nat_lt which (2 ^ 32) && is_none (refused_flight game (slice_get game.flights which)))
     then Deliver which
     else Run node
 
@@ -49,7 +51,8 @@ event_of players game a c node =
 
 -- none where every player has stopped
 abbrev pub next_event : ℕ → Game → ℕ → ℕ → ℕ → Option Event
-next_event players game a b c = option_map (event_of players game a c) (first_moving players game.stopped (b % players))
+next_event players game a b c = option_map (event_of players game a c)
+    (first_moving players game.stopped (b % players))
 
 -- the event that the generator gives, by its next three words
 abbrev pub scheduled : ℕ → Game → Lcg → Option Event

@@ -5,8 +5,8 @@ use Rattle.dn_machine.specs.declared.events.Event.{Event}
 use Rattle.dn_machine.specs.declared.events.Event.TheVariants.{Build, Send, Deliver, Run, Quit, Stop}
 use Rattle.dn_game.specs.ScriptWords.{IsNumber, AreKeys}
 
--- the lines of a text, without their line feeds. What follows the last line feed counts as a line too: where it is
--- empty it is skipped, like every empty line.
+-- the lines of a text, without their line feeds. What follows the last line feed counts as a line too: where
+-- it is empty it is skipped, like every empty line.
 abbrev pub lines : List ℕ → List (List ℕ)
 lines text = slice_split (λ byte. byte == 10) text
 
@@ -14,16 +14,35 @@ lines text = slice_split (λ byte. byte == 10) text
 abbrev pub IsSkipped : List ℕ → Type 0
 IsSkipped line = (line ≡ []) ⊎ ((rest : List ℕ) × (line ≡ codes "#" ++ rest))
 
+-- the lines of events, by the words for their numbers and keys
+abbrev pub build_line : (node keys : List ℕ) → List ℕ
+build_line node keys = codes "build " ++ node ++ codes " " ++ keys
+
+abbrev pub send_line : (node to : List ℕ) → List ℕ
+send_line node to = codes "send " ++ node ++ codes " " ++ to
+
+abbrev pub deliver_line : List ℕ → List ℕ
+deliver_line flight = codes "deliver " ++ flight
+
+abbrev pub run_line : List ℕ → List ℕ
+run_line node = codes "run " ++ node
+
+abbrev pub quit_line : List ℕ → List ℕ
+quit_line node = codes "quit " ++ node
+
+abbrev pub stop_line : List ℕ → List ℕ
+stop_line node = codes "stop " ++ node
+
 -- the line of an event
 abbrev pub IsLineOf : Event → List ℕ → Type 0
 IsLineOf (Build node keys) line =
-    (n : List ℕ) × (k : List ℕ) × IsNumber n node × AreKeys k keys × (line ≡ codes "build " ++ n ++ codes " " ++ k)
+    (n : List ℕ) × (k : List ℕ) × IsNumber n node × AreKeys k keys × (line ≡ build_line n k)
 IsLineOf (Send node to) line =
-    (n : List ℕ) × (m : List ℕ) × IsNumber n node × IsNumber m to × (line ≡ codes "send " ++ n ++ codes " " ++ m)
-IsLineOf (Deliver flight) line = (n : List ℕ) × IsNumber n flight × (line ≡ codes "deliver " ++ n)
-IsLineOf (Run node) line = (n : List ℕ) × IsNumber n node × (line ≡ codes "run " ++ n)
-IsLineOf (Quit node) line = (n : List ℕ) × IsNumber n node × (line ≡ codes "quit " ++ n)
-IsLineOf (Stop node) line = (n : List ℕ) × IsNumber n node × (line ≡ codes "stop " ++ n)
+    (n : List ℕ) × (m : List ℕ) × IsNumber n node × IsNumber m to × (line ≡ send_line n m)
+IsLineOf (Deliver flight) line = (n : List ℕ) × IsNumber n flight × (line ≡ deliver_line n)
+IsLineOf (Run node) line = (n : List ℕ) × IsNumber n node × (line ≡ run_line n)
+IsLineOf (Quit node) line = (n : List ℕ) × IsNumber n node × (line ≡ quit_line n)
+IsLineOf (Stop node) line = (n : List ℕ) × IsNumber n node × (line ≡ stop_line n)
 
 -- the event of a line, or none where it is that of no event
 abbrev pub IsEventOf : List ℕ → Option Event → Type 0

@@ -11,8 +11,8 @@ pub record IsNumber (word : List ℕ) (number : ℕ) : Type 0 where
   pub digits : AllDigits 10 word
   pub value : number ≡ digits_value 10 word
 
--- the letters of the keys, in the order of their bits: forward, back, left, right, strafe left, strafe right, strafe,
--- speed, attack, use, and the weapons 1 to 8
+-- the letters of the keys, in the order of their bits: forward, back, left, right, strafe left, strafe right,
+-- strafe, speed, attack, use, and the weapons 1 to 8
 abbrev pub letters : List ℕ
 letters = codes "fblradtsxu12345678"
 

@@ -15,18 +15,22 @@ use Rattle.dn_game.specs.Promised.{IsPromised}
 use Rattle.dn_game.specs.Represents.{Represents}
 use Rattle.dn_game.specs.Schedule.{generator_of, behind_three, scheduled}
 
--- events that lead from a game to another, each with its answer, and each the one that the generator gives for the game so
--- far; the generator that is left
-abbrev pub Follows : {S : Type 0} → Rules S → Lcg → machine.Game → List Event → List (Result Done Refusal) → Lcg → machine.Game → Type 0
+-- events that lead from a game to another, each with its answer, and each the one that the generator gives
+-- for the game so far; the generator that is left
+abbrev pub Follows : {S : Type 0} → Rules S → Lcg → machine.Game → List Event → List (Result Done Refusal)
+    → Lcg → machine.Game → Type 0
 Follows rules generator game [] [] rest last = (rest ≡ generator) × (last ≡ game)
 Follows rules generator game (event ∷ events) (answer ∷ answers) rest last =
     (scheduled rules.players game generator ≡ Some event)
-    × ((next : machine.Game) × Answers rules game event answer next × Follows rules (behind_three generator) next events answers rest last)
+    × ((next : machine.Game) × Answers rules game event answer next
+    × Follows rules (behind_three generator) next events answers rest last)
 Follows rules generator game [] (answer ∷ answers) rest last = ⊥
 Follows rules generator game (event ∷ events) [] rest last = ⊥
 
--- the game that is left represents one that so many events of the seed's schedule lead to, and the answers are counted
-pub record IsStormed {W S : Type 0} (state : W → S) (rules : Rules S) (settings : Settings) (seed count : ℕ) (played : Played W) : Type 0 where
+-- the game that is left represents one that `count` events of the seed's schedule lead to, and the answers
+-- are counted
+pub record IsStormed {W S : Type 0} (state : W → S) (rules : Rules S) (settings : Settings) (seed count : ℕ)
+    (played : Played W) : Type 0 where
   pub events : List Event
   pub answers : List (Result Done Refusal)
   pub rest : Lcg
@@ -37,7 +41,9 @@ pub record IsStormed {W S : Type 0} (state : W → S) (rules : Rules S) (setting
   pub done : played.done ≡ count_by is_ok answers
   pub refused : played.refused ≡ count_by is_err answers
 
--- so many events of the schedule were played, and the game that is left is promised
-pub record HasStormed {W S : Type 0} (state : W → S) (rules : Rules S) (settings : Settings) (seed count : ℕ) (played : Played W) : Type 0 where
+-- `count` events of the schedule were played, and the game that is left is promised
+pub record HasStormed {W S : Type 0} (state : W → S) (rules : Rules S) (settings : Settings) (seed count : ℕ)
+    (played : Played W) : Type 0 where
   pub stormed : IsStormed state rules settings seed count played
-  pub promised : IsPromised state rules settings stormed.events stormed.answers stormed.last (contents played.game)
+  pub promised : IsPromised state rules settings stormed.events stormed.answers stormed.last
+      (contents played.game)

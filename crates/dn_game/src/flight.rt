@@ -8,8 +8,8 @@ use arrayvec::ArrayVec;
 use dn_node::Aim;
 use dn_packet::SETUP;
 
-/// A packet's tics may lie so far from what its receiver has made (`d_net.c`, ExpandTics).
-const FARTHEST: u32 = 64;
+/// The farthest that a packet's tics may lie from its receiver's own count (`d_net.c`, ExpandTics).
+const REACH: u32 = 64;
 
 /// A packet that was sent. It stays where it is, however often it is delivered.
 #[derive(Debug, Drop, PartialEq, Eq)]
@@ -28,10 +28,10 @@ pub struct Flight {
 fn is_close(made: u32, tic: u32) -> bool
     ensures { result ≡ is_close made tic }
 {
-    made.abs_diff(tic) <= FARTHEST
+    made.abs_diff(tic) <= REACH
 }
 
-/// Whether these numbers are too far from a receiver that has made so many commands; those of a set-up
+/// Whether these numbers are too far from a receiver that has made `made` commands; those of a set-up
 /// packet never are.
 pub(crate) fn is_far(aim: &Aim, made: u32) -> bool
     ensures { (flight : Exact) → aim.now ≡ aim_of flight → result ≡ not (is_near made flight) }

@@ -24,13 +24,16 @@ use std::alloc::Global;
 /// a node that has not ended, and every thirteen rounds more raise them again, as long as there is room for
 /// five tics beyond those.
 pub fn reached_games_go_on<W: World>()
-    ensures fourteen { (players : ℕ) (extra : Bool) (capacity : ℕ) (settings : Settings) (events : List Event) (g later : Contents W)
+    ensures fourteen { (players : ℕ) (extra : Bool) (capacity : ℕ) (settings : Settings) (events : List Event)
+        (g later : Contents W)
         → (reached : IsReached W.state (rules_of W.physics players extra capacity) settings events g)
         → 2 ≤ players → (keys : ℕ → ℕ → ℕ)
         → Represents W.state (rules_of W.physics players extra capacity) later
         (good_rounds (rules_of W.physics players extra capacity) keys 14 reached.last)
-        → NoneLost g → (tics : ℕ) → HasRoom capacity g tics (tics + 6) → AllRan g g tics → AllRan g later (tics + 1) }
-    ensures goes_on { (players : ℕ) (extra : Bool) (capacity : ℕ) (settings : Settings) (events : List Event) (g later : Contents W)
+        → NoneLost g → (tics : ℕ) → HasRoom capacity g tics (tics + 6) → AllRan g g tics
+        → AllRan g later (tics + 1) }
+    ensures goes_on { (players : ℕ) (extra : Bool) (capacity : ℕ) (settings : Settings) (events : List Event)
+        (g later : Contents W)
         → (reached : IsReached W.state (rules_of W.physics players extra capacity) settings events g)
         → 2 ≤ players → (keys : ℕ → ℕ → ℕ) (rounds : ℕ)
         → Represents W.state (rules_of W.physics players extra capacity) later
@@ -53,7 +56,8 @@ pub fn play_on<W: World>(
     // What is promised of `play` is so before the rounds, no losses among the events can make the nodes
     // wait for good, and after the rounds it is so too, since they are events like any other.
     ensures promised { IfOk result (λ played. HasPlayedOn W.state
-        (rules_in W.physics config (length worlds.items)) config.settings events.now (keys_of keys) rounds played) }
+        (rules_in W.physics config (length worlds.items)) config.settings events.now (keys_of keys) rounds
+        played) }
 {
     let mut played = play(alloc, config, worlds, events)?;
     match played.game.good_rounds(keys, rounds) {

@@ -18,19 +18,27 @@ use dn_world::World;
 /// Whatever game of the machine a game represents: if a list of events may leave it, it has all that is
 /// promised, and the nodes agree in what they tell of themselves.
 pub fn reached_games_agree<W: World>()
-    ensures promised { (players : ℕ) (extra : Bool) (capacity : ℕ) (settings : Settings) (events : List Event) (g : Contents W)
+    ensures promised { (players : ℕ) (extra : Bool) (capacity : ℕ) (settings : Settings) (events : List Event)
+        (g : Contents W)
         → (reached : IsReached W.state (rules_of W.physics players extra capacity) settings events g)
         → (answers : List (Result Done Refusal))
-        × IsPromised W.state (rules_of W.physics players extra capacity) settings events answers reached.last g }
+        × IsPromised W.state (rules_of W.physics players extra capacity) settings events answers reached.last
+        g }
     // Where the answers are known, it is promised of these.
-    ensures answered { (players : ℕ) (extra : Bool) (capacity : ℕ) (settings : Settings) (events : List Event) (answers : List (Result Done Refusal)) (g : Contents W)
-        → (reached : IsReachedWith W.state (rules_of W.physics players extra capacity) settings events answers g)
-        → IsPromised W.state (rules_of W.physics players extra capacity) settings events answers reached.last g }
-    ensures agreed { (players : ℕ) (extra : Bool) (capacity : ℕ) (settings : Settings) (events : List Event) (g : Contents W)
+    ensures answered { (players : ℕ) (extra : Bool) (capacity : ℕ) (settings : Settings) (events : List Event)
+        (answers : List (Result Done Refusal)) (g : Contents W)
+        → (reached : IsReachedWith W.state (rules_of W.physics players extra capacity) settings events answers
+        g)
+        → IsPromised W.state (rules_of W.physics players extra capacity) settings events answers reached.last
+        g }
+    ensures agreed { (players : ℕ) (extra : Bool) (capacity : ℕ) (settings : Settings) (events : List Event)
+        (g : Contents W)
         → (reached : IsReached W.state (rules_of W.physics players extra capacity) settings events g)
         → AreAgreed W.state (rules_of W.physics players extra capacity) settings (keys_of reached.last) g }
-    // No event more is answered by a failed check.
-    ensures steady { (players : ℕ) (extra : Bool) (capacity : ℕ) (settings : Settings) (events : List Event) (g : Contents W)
+    // No further event is answered by a failed check.
+    ensures steady { (players : ℕ) (extra : Bool) (capacity : ℕ) (settings : Settings) (events : List Event)
+        (g : Contents W)
         → (reached : IsReached W.state (rules_of W.physics players extra capacity) settings events g)
-        → (event : Event) → IsSteady (applied (rules_of W.physics players extra capacity) reached.last event).1 }
+        → (event : Event) → IsSteady (applied (rules_of W.physics players extra capacity) reached.last
+        event).1 }
 {}

@@ -1,11 +1,13 @@
 //! Playing a list of events: what the whole project promises.
 
 ghost use Rattle.std.specs.Prelude.{length, IfOk};
+ghost use Rattle.dn_game.specs.Observed.{IsPlayedObserved};
 ghost use Rattle.dn_game.specs.Opening.{IsAdmitted, rules_in};
 ghost use Rattle.dn_game.specs.Promised.{HasPlayed};
 
 use crate::config::{GameConfig, GameFault};
 use crate::game::Game;
+use crate::observing::{Nobody, Observer};
 use crate::played::Played;
 use dn_machine::Event;
 use dn_world::World;
@@ -21,12 +23,30 @@ pub fn play<W: World>(
     events: &[Event],
 ) -> Result<Played<W>, GameFault>
     ensures admitted { IsAdmitted config (length worlds.items) result }
-    // Each event is applied as the machine applies it, but for sends that are left out for want of
-    // memory, and each is counted by its answer. In the game that is left any two nodes that ran a tic
+    // Each event is applied as the machine applies it, but for sends that are left out since memory was
+    // refused, and each is counted by its answer. In the game that is left any two nodes that ran a tic
     // used the same command of every player, no ring overwrote an unread command, no consistency check
     // failed, and of any two demos one's commands are a prefix of the other's.
     ensures promised { IfOk result (λ played. HasPlayed W.state
         (rules_in W.physics config (length worlds.items)) config.settings events.now played) }
+{
+    play_observed(alloc, config, worlds, events, &mut Nobody)
+}
+
+/// Plays the events, and tells the observer of each once it is applied. Where the observer has no memory,
+/// the answer is `Memory`.
+pub fn play_observed<W: World, L: Observer>(
+    alloc: Global,
+    config: GameConfig,
+    worlds: Vec<W>,
+    events: &[Event],
+    observer: &mut L,
+) -> Result<Played<W>, GameFault>
+    ensures admitted { IsAdmitted config (length worlds.items) result }
+    // What is promised of `play` is so, and the observer was told of the events with their answers.
+    ensures promised { IfOk result (λ played. IsPlayedObserved W.state
+        (rules_in W.physics config (length worlds.items)) L.observes config.settings events.now observer.old
+        observer.new played) }
 {
     let game = Game::new(alloc, config, worlds)?;
     let mut played = Played {
@@ -35,7 +55,9 @@ pub fn play<W: World>(
         refused: 0,
     };
     for event in events {
-        played.apply(*event);
+        let Ok(()) = played.apply_observed(event, observer) else {
+            return Err(GameFault::Memory);
+        };
     }
     Ok(played)
 }

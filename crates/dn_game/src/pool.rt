@@ -8,11 +8,9 @@ ghost use Rattle.dn_game.specs.Pool.{HasGrown, HasRoom, IsRecordOf, grown, joine
 use crate::flight::Flight;
 use arrayvec::ArrayVec;
 use dn_node::Aim;
+use dn_packet::MAX_DATAGRAM;
 use std::alloc::{AllocError, Global};
 use std::marker::Model;
-
-/// The longest datagram: eight bytes, and eight for each of twelve commands.
-const LONGEST: usize = 104;
 
 /// What is known of a packet, and where in the pool its datagram stands.
 #[derive(Clone, Copy, Debug)]
@@ -37,13 +35,14 @@ pub(crate) struct Pool {
     records: Vec<Record>,
 }
 
-/// Makes room for so many more things: where they do not fit, for twice as many as there are, or just for
+/// Makes room for `more` things: where they do not fit, for twice as many as there are, or just for
 /// these.
 fn grow<T>(list: &mut Vec<T>, more: usize) -> Result<(), AllocError>
     ensures items { list.new.items ≡ list.old.items }
     ensures len { vec_len list.new ≡ vec_len list.old }
     ensures room { OnOk result (vec_len list.new + more ≤ vec_capacity list.new) }
-    ensures grown { OnOk result (vec_capacity list.new ≡ grown (vec_len list.old) more (vec_capacity list.old)) }
+    ensures grown { OnOk result
+        (vec_capacity list.new ≡ grown (vec_len list.old) more (vec_capacity list.old)) }
     ensures kept { OnErr result (vec_capacity list.new ≡ vec_capacity list.old) }
 {
     let count = list.len();
@@ -109,7 +108,8 @@ impl Pool {
     /// The record of a packet.
     pub(crate) fn record(&self, which: usize) -> &Record
         requires { which < length self.now.flights }
-        ensures { (flight : Flight) → slice_get self.now.flights which ≡ Some flight → IsRecordOf flight result.now }
+        ensures { (flight : Flight) → slice_get self.now.flights which ≡ Some flight
+            → IsRecordOf flight result.now }
     {
         &self.records[which]
     }
@@ -117,7 +117,8 @@ impl Pool {
     /// The datagram of a packet.
     pub(crate) fn datagram(&self, which: usize) -> &[u8]
         requires { which < length self.now.flights }
-        ensures bytes { (flight : Flight) → slice_get self.now.flights which ≡ Some flight → result.now ≡ flight.bytes.items }
+        ensures bytes { (flight : Flight) → slice_get self.now.flights which ≡ Some flight
+            → result.now ≡ flight.bytes.items }
         ensures short { length result.now ≤ 104 }
     {
         let record = &self.records[which];
@@ -142,20 +143,26 @@ impl Pool {
         })
     }
 
-    /// Makes room for one packet more, however long it is.
+    /// Makes room for one more packet, however long it is.
     pub(crate) fn reserve(&mut self) -> Result<(), AllocError>
         ensures kept { self.new.flights ≡ self.old.flights }
         ensures room { OnOk result (HasRoom self.new) }
         ensures grown { HasGrown self.old.flights self.old.room self.new.room }
     {
-        grow(&mut self.bytes, LONGEST)?;
+        grow(&mut self.bytes, MAX_DATAGRAM)?;
         grow(&mut self.records, 1)
     }
 
     /// A packet joins the others.
     pub(crate) fn push(&mut self, from: u8, to: u8, aim: Aim, bytes: &ArrayVec<u8, 104>)
         requires { HasRoom self.old }
-        ensures flights { self.new.flights ≡ self.old.flights ++ record { from = from; to = to; aim = aim; bytes = bytes.now } ∷ [] }
+        ensures flights { self.new.flights ≡ self.old.flights ++ record {
+          from = from;
+          to = to;
+          aim =
+              aim;
+          bytes = bytes.now;
+        } ∷ [] }
         ensures kept { self.new.room ≡ self.old.room }
     {
         let place = self.bytes.len();

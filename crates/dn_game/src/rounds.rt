@@ -5,6 +5,7 @@ ghost use Rattle.dn_machine.specs.declared.events.Refusal.{Refusal};
 ghost use Rattle.dn_machine.specs.Progress.{exchange, turn, good_round, good_rounds};
 ghost use Rattle.dn_game.specs.Applied.{Tells};
 ghost use Rattle.dn_game.specs.Contents.{contents};
+ghost use Rattle.dn_game.specs.Room.{KeepsLimits};
 ghost use Rattle.dn_game.specs.Rounds.{keys_of, IsCarriedOut};
 
 use crate::game::Game;
@@ -30,10 +31,11 @@ fn keys_at(keys: &[Keys; 4], node: u32) -> Keys
 }
 
 impl<W: World> Game<W> {
-    /// Asks a node for a packet to another, which is delivered at once. To itself a node sends nothing.
+    /// Asks a node for a packet to another, and delivers it. To itself a node sends nothing.
     fn exchange(&mut self, node: u32, to: u32) -> Result<(), Refusal>
-        ensures { Tells W.state W.physics (contents self.old) (λ rules m.
+        ensures good { Tells W.state W.physics (contents self.old) (λ rules m.
             IsCarriedOut W.state rules m (exchange rules node m to) (contents self.new) result) }
+        ensures limits { KeepsLimits (contents self.old) (contents self.new) }
     {
         let Ok(which) = u32::try_from(self.flights()) else {
             return Err(Refusal::NoPacket);
@@ -47,8 +49,9 @@ impl<W: World> Game<W> {
 
     /// A node's turn: it builds a command, exchanges packets with each player, and runs a tic.
     fn turn(&mut self, node: u32, keys: Keys) -> Result<(), Refusal>
-        ensures { Tells W.state W.physics (contents self.old) (λ rules m.
+        ensures good { Tells W.state W.physics (contents self.old) (λ rules m.
             IsCarriedOut W.state rules m (turn rules (λ me. keys) m node) (contents self.new) result) }
+        ensures limits { KeepsLimits (contents self.old) (contents self.new) }
     {
         let _ = self.apply(Event::Build { node, keys });
         for to in 0..self.players() {
@@ -59,12 +62,13 @@ impl<W: World> Game<W> {
     }
 
     /// A round in which every packet arrives: each node in turn builds a command with its keys, sends
-    /// each other node a packet, which is delivered at once, and runs a tic.
+    /// each other node a packet, which is delivered, and runs a tic.
     ///
     /// It stops where there is no memory for a packet, or where 2^32 packets were sent already.
     pub fn good_round(&mut self, keys: [Keys; 4]) -> Result<(), Refusal>
-        ensures { Tells W.state W.physics (contents self.old) (λ rules m.
+        ensures good { Tells W.state W.physics (contents self.old) (λ rules m.
             IsCarriedOut W.state rules m (good_round rules (keys_of keys) m) (contents self.new) result) }
+        ensures limits { KeepsLimits (contents self.old) (contents self.new) }
     {
         for node in 0..self.players() {
             self.turn(node, keys_at(&keys, node))?;
@@ -74,8 +78,10 @@ impl<W: World> Game<W> {
 
     /// Plays `count` rounds in which every packet arrives, with the same keys in each.
     pub fn good_rounds(&mut self, keys: [Keys; 4], count: u32) -> Result<(), Refusal>
-        ensures { Tells W.state W.physics (contents self.old) (λ rules m.
-            IsCarriedOut W.state rules m (good_rounds rules (λ round. keys_of keys) count m) (contents self.new) result) }
+        ensures good { Tells W.state W.physics (contents self.old) (λ rules m.
+            IsCarriedOut W.state rules m (good_rounds rules (λ round. keys_of keys) count m)
+            (contents self.new) result) }
+        ensures limits { KeepsLimits (contents self.old) (contents self.new) }
     {
         for _ in 0..count {
             self.good_round(keys)?;

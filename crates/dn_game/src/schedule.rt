@@ -18,7 +18,7 @@ use std::marker::Model;
 /// The stream of the generator's words.
 const STREAM: u64 = 54;
 
-/// A delivery is one of the last so many packets.
+/// A delivery is one of this many last packets.
 const RECENT: usize = 32;
 
 /// Gives one event after another, by a seed. A contract sees its generator.
@@ -36,6 +36,7 @@ impl Model for Schedule {
 }
 
 /// The first node from this number on, going round, that has not stopped.
+#[inline(always)]
 fn first_moving<W: World>(game: &Game<W>, from: u32) -> Option<u32>
     requires { from < length (contents game.now).nodes }
     ensures value { result ≡ first_moving (length (contents game.now).nodes)
@@ -54,10 +55,13 @@ fn first_moving<W: World>(game: &Game<W>, from: u32) -> Option<u32>
 }
 
 /// The delivery of a recent packet, where it can be delivered, and else a run.
+#[inline(always)]
 fn delivery_or_run<W: World>(game: &Game<W>, node: u32, word: u32) -> Event
     requires { IsMoving (contents game.now) node }
-    ensures told { Tells W.state W.physics (contents game.now) (λ rules m. result ≡ delivery_or_run m node word) }
-    ensures allowed { Tells W.state W.physics (contents game.now) (λ rules m. refused rules.players m result ≡ None) }
+    ensures told { Tells W.state W.physics (contents game.now)
+        (λ rules m. result ≡ delivery_or_run m node word) }
+    ensures allowed { Tells W.state W.physics (contents game.now)
+        (λ rules m. refused rules.players m result ≡ None) }
 {
     let count = game.flights();
     if count == 0 {
@@ -74,10 +78,13 @@ fn delivery_or_run<W: World>(game: &Game<W>, node: u32, word: u32) -> Event
 }
 
 /// The event of a node that has not stopped, by two words.
+#[inline(always)]
 fn event_of<W: World>(game: &Game<W>, node: u32, a: u32, c: u32) -> Event
     requires { IsMoving (contents game.now) node }
-    ensures told { Tells W.state W.physics (contents game.now) (λ rules m. result ≡ event_of rules.players m a c node) }
-    ensures allowed { Tells W.state W.physics (contents game.now) (λ rules m. refused rules.players m result ≡ None) }
+    ensures told { Tells W.state W.physics (contents game.now)
+        (λ rules m. result ≡ event_of rules.players m a c node) }
+    ensures allowed { Tells W.state W.physics (contents game.now)
+        (λ rules m. refused rules.players m result ≡ None) }
 {
     let players = game.players();
     let kind = a % 16;
@@ -106,8 +113,11 @@ impl Schedule {
 
     /// The next event for this game, and None where every node has stopped. It draws three words
     /// whatever it gives, and gives neither a quit nor a stop.
+    // Inlined, so that a caller that applies the event does not ask for its kind again.
+    #[inline(always)]
     pub fn next<W: World>(&mut self, game: &Game<W>) -> Option<Event>
-        ensures given { Tells W.state W.physics (contents game.now) (λ rules m. result ≡ scheduled rules.players m self.old) }
+        ensures given { Tells W.state W.physics (contents game.now)
+            (λ rules m. result ≡ scheduled rules.players m self.old) }
         ensures drawn { self.new ≡ behind_three self.old }
         ensures allowed { Tells W.state W.physics (contents game.now)
             (λ rules m. IfSome result (λ event. refused rules.players m event ≡ None)) }

@@ -5,12 +5,14 @@ ghost use Rattle.dn_machine.specs.declared.events.Event.{Event};
 ghost use Rattle.dn_game.specs.declared.script.ScriptFault.{ScriptFault};
 ghost use Rattle.dn_game.specs.Script.{IsReadAs, IsSameButMemory, answered};
 
+mod laws;
 mod line;
 #[cfg(test)]
 mod tests;
 mod words;
 
 use dn_machine::Event;
+pub use laws::written_scripts_are_read;
 use std::alloc::Global;
 use thiserror::Error;
 
@@ -35,7 +37,8 @@ const LONGEST: usize = 1 << 20;
 /// `deliver 0`, `run 0`, `quit 0` or `stop 0`. Empty lines and lines that begin with `#` are skipped.
 pub fn read_script(alloc: Global, text: &[u8]) -> Result<Vec<Event>, ScriptFault>
     ensures reads { IsReadAs text.now (answered result) }
-    ensures only { (r : Result (List Event) ScriptFault) → IsReadAs text.now r → IsSameButMemory (answered result) r }
+    ensures only { (r : Result (List Event) ScriptFault) → IsReadAs text.now r
+        → IsSameButMemory (answered result) r }
 {
     if text.len() > LONGEST {
         return Err(ScriptFault::TooLong);

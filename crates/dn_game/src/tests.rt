@@ -2,7 +2,7 @@
 
 mod agreeing;
 mod applying;
-mod belt;
+mod belts;
 mod far;
 mod leaving;
 mod memory;

@@ -27,7 +27,8 @@ front from bytes = record { from = from; bytes = record { items = take 105 bytes
 -- two players, and the receiver's queue has room
 abbrev pub is_taken : Hub → ℕ → ℕ → Bool
 is_taken hub me to =
-    nat_lt me (players_of hub) && (nat_lt to (players_of hub) && (not (me == to) && nat_lt (length (queue hub to)) 64))
+    nat_lt me (players_of hub)
+    && (nat_lt to (players_of hub) && (not (me == to) && nat_lt (length (queue hub to)) 64))
 
 -- another queue for a player
 abbrev pub with_queue : Hub → ℕ → List Datagram → Hub
@@ -36,7 +37,8 @@ with_queue hub player waiting = record hub { queues = slice_set hub.queues playe
 -- the hub after a send, but for its count, and the answer
 abbrev pub hub_taken : Hub → ℕ → ℕ → List ℕ → Hub × Result Done LineFault
 hub_taken hub me to bytes =
-    if is_taken hub me to then (with_queue hub to (queue hub to ++ front me bytes ∷ []), Ok tt) else (hub, Err Send)
+    if is_taken hub me to then (with_queue hub to (queue hub to ++ front me bytes ∷ []), Ok tt)
+    else (hub, Err Send)
 
 -- the first of a queue is given, if there is one
 abbrev pub first_given : Hub → ℕ → List Datagram → Hub × Result (Option Datagram) LineFault
@@ -52,7 +54,8 @@ abbrev pub counted : {A : Type 0} → Hub × Result A LineFault → Hub
 counted after = record after.0 { failed = count_after after.1 after.0.failed }
 
 abbrev pub HubSends : Hub → ℕ → ℕ → List ℕ → Result Done LineFault → Hub → Type 0
-HubSends old me to bytes answer new = (answer ≡ (hub_taken old me to bytes).1) × (new ≡ counted (hub_taken old me to bytes))
+HubSends old me to bytes answer new = (answer ≡ (hub_taken old me to bytes).1)
+    × (new ≡ counted (hub_taken old me to bytes))
 
 abbrev pub HubPolls : Hub → ℕ → Result (Option Datagram) LineFault → Hub → Type 0
 HubPolls old me answer new = (answer ≡ (hub_given old me).1) × (new ≡ counted (hub_given old me))

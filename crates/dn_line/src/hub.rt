@@ -4,20 +4,19 @@ ghost use Rattle.std.specs.Prelude.{◌≡◌, ◌⊎◌, ◌<◌, ◌≤◌, �
 ghost use Rattle.dn_line.specs.Hub.{empty_hub, is_taken, queue, hub_taken, hub_given, HubSends, HubPolls, front};
 ghost use Rattle.dn_line.specs.declared.hub.HubFault.TheVariants.{Players};
 
-use crate::line::{Datagram, Line, LineFault};
+use crate::line::{Datagram, KEPT, Line, LineFault};
 use arrayvec::ArrayVec;
 use std::alloc::Global;
 use std::marker::Model;
 use thiserror::Error;
 
-/// So many bytes of a datagram are kept.
-const KEPT: usize = 105;
-
 /// Why there is no hub.
 #[derive(Clone, Copy, Debug, PartialEq, Eq, Error)]
 pub enum HubFault {
+    /// There are not 2 to 4 players.
     #[error("players")]
     Players,
+    /// There was no room for the queues.
     #[error("out of memory")]
     Memory,
 }

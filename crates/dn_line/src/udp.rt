@@ -4,16 +4,13 @@ ghost use Rattle.std.specs.Prelude.{◌≡◌, ◌⊎◌, ◌<◌, ◌≤◌, �
 ghost use Rattle.dn_line.specs.Udp.{is_bound, is_route, UdpSends, UdpPolls};
 ghost use Rattle.dn_line.specs.declared.line.LineFault.TheVariants.{Bind, Send, Poll};
 
-use crate::line::{Datagram, Line, LineFault};
+use crate::line::{Datagram, KEPT, Line, LineFault};
 use arrayvec::ArrayVec;
 use std::alloc::Global;
 use std::io;
 use std::io::ErrorKind;
 use std::marker::Model;
 use std::net::{Ipv4Addr, Net, SocketAddr, UdpSocket};
-
-/// So many bytes of a datagram are kept.
-const KEPT: usize = 105;
 
 /// Who is at none of the players' ports.
 const STRANGER: u8 = 255;
@@ -137,7 +134,8 @@ impl UdpLine {
     fn get(&self, me: u8) -> Result<Option<Datagram>, LineFault>
         ensures bound { is_bound self.now me ≡ false → IsErr result }
         ensures fault { IfErr result (λ fault. fault ≡ Poll) }
-        ensures from { IfOk result (λ found. IfSome found (λ datagram. (datagram.from < self.now.players) ⊎ (datagram.from ≡ 255))) }
+        ensures from { IfOk result
+            (λ found. IfSome found (λ datagram. (datagram.from < self.now.players) ⊎ (datagram.from ≡ 255))) }
     {
         let Some(socket) = self.socket(me) else {
             return Err(LineFault::Poll);

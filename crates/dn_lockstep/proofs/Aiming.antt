@@ -12,38 +12,50 @@ use Rattle.dn_machine.specs.Sending.{on_send_in, commands_flight, first_sent, re
 use Rattle.dn_lockstep.specs.declared.lockstep.sending.Aim.{Aim}
 use Rattle.dn_lockstep.specs.Sent.{aim_of, sent_to}
 
-pub aim_is : {S : Type 0} (rules : Rules S) (me : ℕ) (m : machine.Node) (to flags : ℕ) (ask : Option ℕ) (start count made : ℕ)
-    → flags ≡ request_flag ask → ask ≡ request_to m to → start ≡ first_sent rules me m to → made ≡ machine.made me m → count ≡ made - start
-    → ◌≡◌ {A = Aim} (record { flags = flags; ask = ask; start = start; count = count }) (aim_of (commands_flight rules me m to Play (request_to m to)))
+pub aim_is : {S : Type 0} (rules : Rules S) (me : ℕ) (m : machine.Node) (to flags : ℕ) (ask : Option ℕ)
+    (start count made : ℕ)
+    → flags ≡ request_flag ask → ask ≡ request_to m to → start ≡ first_sent rules me m to
+    → made ≡ machine.made me m → count ≡ made - start
+    → ◌≡◌ {A = Aim} (record { flags = flags; ask = ask; start = start; count = count })
+    (aim_of (commands_flight rules me m to Play (request_to m to)))
 aim_is rules me m to flags ask start count made f a s e c =
     let flag : flags ≡ 0 + request_flag (request_to m to) = f ∙ ap request_flag a ∙ (omega arith) in
     let long : count ≡ length (drop (first_sent rules me m to) (m.held me)) =
-    c ∙ ap (λ (k : ℕ). k - start) e ∙ ap (λ (k : ℕ). machine.made me m - k) s ∙ sym (length-drop (first_sent rules me m to) (m.held me)) in
+    c ∙ ap (λ (k : ℕ). k - start) e ∙ ap (λ (k : ℕ). machine.made me m - k) s
+    ∙ sym (length-drop (first_sent rules me m to) (m.held me)) in
     λ i. record { flags = flag i; ask = a i; start = s i; count = long i }
 
 pub exit_is : {S : Type 0} (rules : Rules S) (me : ℕ) (m : machine.Node) (to start count made : ℕ)
     → start ≡ first_sent rules me m to → made ≡ machine.made me m → count ≡ made - start
-    → ◌≡◌ {A = Aim} (record { flags = 8; ask = None; start = start; count = count }) (aim_of (commands_flight rules me m to Exit None))
+    → ◌≡◌ {A = Aim} (record { flags = 8; ask = None; start = start; count = count })
+    (aim_of (commands_flight rules me m to Exit None))
 exit_is rules me m to start count made s e c =
     let long : count ≡ length (drop (first_sent rules me m to) (m.held me)) =
-    c ∙ ap (λ (k : ℕ). k - start) e ∙ ap (λ (k : ℕ). machine.made me m - k) s ∙ sym (length-drop (first_sent rules me m to) (m.held me)) in
+    c ∙ ap (λ (k : ℕ). k - start) e ∙ ap (λ (k : ℕ). machine.made me m - k) s
+    ∙ sym (length-drop (first_sent rules me m to) (m.held me)) in
     λ i. record { flags = 8; ask = None; start = s i; count = long i }
 
-pub exit_given : {S : Type 0} (rules : Rules S) (me : ℕ) (m : machine.Node) (to : ℕ) (cause : Cause) (aim : Aim) → m.played ≡ true
+pub exit_given : {S : Type 0} (rules : Rules S) (me : ℕ) (m : machine.Node) (to : ℕ) (cause : Cause)
+    (aim : Aim) → m.played ≡ true
     → aim ≡ aim_of (commands_flight rules me m to Exit None)
     → ◌≡◌ {A = Option Aim} (Some aim) (option_map aim_of (on_send_in rules me m to (Ended cause)).1)
 exit_given rules me m to cause aim has is = rw has (ap (λ (a : Aim). Some a) is)
 
-pub none_given : {S : Type 0} (rules : Rules S) (me : ℕ) (m : machine.Node) (to : ℕ) (cause : Cause) → m.played ≡ false
+pub none_given : {S : Type 0} (rules : Rules S) (me : ℕ) (m : machine.Node) (to : ℕ) (cause : Cause)
+    → m.played ≡ false
     → ◌≡◌ {A = Option Aim} None (option_map aim_of (on_send_in rules me m to (Ended cause)).1)
 none_given rules me m to cause never = rw never refl
 
 pub aim_of_set_up : (me to : ℕ) (settings : Option Settings) → settings ≢ None
-    → ◌≡◌ {A = Option Aim} (Some (record { flags = 2; ask = None; start = 0; count = 0 })) (option_map aim_of (set_up_flight me to settings))
+    → ◌≡◌ {A = Option Aim} (Some (record { flags = 2; ask = None; start = 0; count = 0 }))
+    (option_map aim_of (set_up_flight me to settings))
 aim_of_set_up me to None n = absurd (n refl)
 aim_of_set_up me to (Some settings) n = refl
 
 -- the aim of what is sent, where what is sent is known
-pub aimed : {S : Type 0} (rules : Rules S) (me : ℕ) (m : machine.Node) (to : ℕ) (next : machine.Node × Option Flight) (aim : Option Aim)
-    → sent_to to rules me m ≡ next → aim ≡ option_map aim_of next.1 → aim ≡ option_map aim_of (sent_to to rules me m).1
-aimed rules me m to next aim e is = is ∙ ap (λ (x : machine.Node × Option Flight). option_map aim_of x.1) (sym e)
+pub aimed : {S : Type 0} (rules : Rules S) (me : ℕ) (m : machine.Node) (to : ℕ)
+    (next : machine.Node × Option Flight) (aim : Option Aim)
+    → sent_to to rules me m ≡ next → aim ≡ option_map aim_of next.1
+    → aim ≡ option_map aim_of (sent_to to rules me m).1
+aimed rules me m to next aim e is = is ∙ ap (λ (x : machine.Node × Option Flight). option_map aim_of x.1)
+    (sym e)

@@ -12,7 +12,7 @@ use Rattle.dn_machine.specs.declared.answers.Made.{Made}
 use Rattle.dn_machine.specs.Running.{is_over}
 use Rattle.dn_machine.specs.Worlds.{Rules}
 use Rattle.dn_machine.specs.Node as machine
-use Rattle.dn_machine.specs.Node.{put, own_mark}
+use Rattle.dn_machine.specs.Node.{put, ends_of, own_mark}
 use Rattle.dn_machine.specs.Building.{on_build, on_build_in}
 use Rattle.dn_machine.proofs.Put.{put_at, put_off}
 use Rattle.dn_lockstep.specs.Contents.{Contents}
@@ -26,16 +26,22 @@ next_command rules me m state = pressed (m.keys ++ state ∷ []) (own_mark rules
 -- the machine's node once it has built
 abbrev pub built : {S : Type 0} → Rules S → ℕ → machine.Node → ℕ → machine.Node
 built rules me m state =
-    record m { keys = m.keys ++ state ∷ []; held = put m.held me (m.held me ++ next_command rules me m state ∷ []) }
+    record m {
+      keys = m.keys ++ state ∷ [];
+      held =
+          put m.held me (m.held me ++ next_command rules me m state ∷ []);
+    }
 
 module _ {S : Type 0} (rules : Rules S) (me : ℕ) (m : machine.Node) (state : ℕ) where
-  not_in : (phase : Phase) → phase ≢ Playing → ◌≡◌ {A = machine.Node × Made} (on_build_in rules me m state phase) (m, Made.NotPlaying)
+  not_in : (phase : Phase) → phase ≢ Playing
+      → ◌≡◌ {A = machine.Node × Made} (on_build_in rules me m state phase) (m, Made.NotPlaying)
   not_in Listening n = refl
   not_in Gathering n = refl
   not_in Playing n = absurd (n refl)
   not_in (Ended cause) n = refl
 
-  pub build_not : m.phase ≢ Playing → ◌≡◌ {A = machine.Node × Made} (on_build rules me m state) (m, Made.NotPlaying)
+  pub build_not : m.phase ≢ Playing → ◌≡◌ {A = machine.Node × Made} (on_build rules me m state)
+      (m, Made.NotPlaying)
   unfolding on_build
   build_not n = not_in m.phase n
 
@@ -47,50 +53,52 @@ module _ {S : Type 0} (rules : Rules S) (me : ℕ) (m : machine.Node) (state : �
       ap (on_build_in rules me m state) on ∙ rw many refl
 
   pub build_makes : m.phase ≡ Playing → machine.made me m - machine.ran m < 5
-      → ◌≡◌ {A = machine.Node × Made} (on_build rules me m state) (built rules me m state, Made.Made (machine.made me m))
+      → ◌≡◌ {A = machine.Node × Made} (on_build rules me m state)
+      (built rules me m state, Made.Made (machine.made me m))
   unfolding on_build
   build_makes on near =
       let few = lt-leb 5 (machine.made me m - machine.ran m) near in
       ap (on_build_in rules me m state) on ∙ rw few refl
 
 -- one more command in the own ring
-pub shows_built : {S : Type 0} (rules : Rules S) (me : ℕ) (n : Contents) (m : machine.Node) (keys : ℕ) (hold : ℕ) (rings : ℕ → Ring)
+pub shows_built : {S : Type 0} (rules : Rules S) (me : ℕ) (n : Contents) (m : machine.Node) (keys : ℕ)
+    (hold : ℕ) (rings : ℕ → Ring)
     → Represents rules me n m → hold ≡ turn_hold (m.keys ++ keys ∷ [])
-    → rings me ≡ ring_of (m.held me ++ next_command rules me m keys ∷ []) → ((p : ℕ) → p ≢ me → rings p ≡ n.rings p)
+    → rings me ≡ ring_of (m.held me ++ next_command rules me m keys ∷ [])
+    → ((p : ℕ) → p ≢ me → rings p ≡ n.rings p)
     → Represents rules me (record n { hold = hold; rings = rings }) (built rules me m keys)
 shows_built rules me n m keys hold rings r holds own others =
     record {
-      players = r.players;
-      number = r.number;
-      extra = r.extra;
-      capacity = r.capacity;
-      gathers = r.gathers;
-      phase = r.phase;
-      played = r.played;
-      settings = r.settings;
-      hold = holds;
-      ran = r.ran;
-      rings = λ p below. elim (cases_eq p me) [
-        | inl same ↦ ap rings same ∙ own ∙ ap ring_of (sym (put_at m.held me p _ same))
-        | inr other ↦ others p other ∙ r.rings p below ∙ ap ring_of (sym (put_off m.held me p _ other))
-      ];
+      whose = r.whose;
+      stands = r.stands;
+      commands = record {
+        hold = holds;
+        rings = λ p below. elim (cases_eq p me) [
+          | inl same ↦ ap rings same ∙ own ∙ ap ring_of (sym (put_at m.held me p _ same))
+          | inr other ↦ others p other ∙ r.commands.rings p below
+              ∙ ap ring_of (sym (put_off m.held me p _ other))
+        ];
+      };
       peers = r.peers;
-      noted = r.noted;
-      marks = r.marks;
+      table = r.table;
       demo = r.demo;
-      closed = r.closed;
-      writable = r.writable;
     }
 
 -- the own ring with the command that was built
-pub own_ring : {S : Type 0} (rules : Rules S) (me : ℕ) (n : Contents) (m : machine.Node) (keys tic : ℕ) (mark : ℤ) (command : TicCmd) (ring : Ring)
-    → Represents rules me n m → n.me < n.players → tic ≡ machine.made me m → machine.ran m ≤ tic → tic < machine.ran m + 12
-    → m.ends me ≡ None → mark ≡ n.marks n.me (tic % 12) → command ≡ pressed (m.keys ++ keys ∷ []) mark → ring ≡ last.put (n.rings n.me) command
+pub own_ring : {S : Type 0} (rules : Rules S) (me : ℕ) (n : Contents) (m : machine.Node) (keys tic : ℕ)
+    (mark : ℤ) (command : TicCmd) (ring : Ring)
+    → Represents rules me n m → n.me < n.players → tic ≡ machine.made me m → machine.ran m ≤ tic
+    → tic < machine.ran m + 12
+    → ends_of m me ≡ None → mark ≡ n.marks n.me (tic % 12) → command ≡ pressed (m.keys ++ keys ∷ []) mark
+    → ring ≡ last.put (n.rings n.me) command
     → ring ≡ ring_of (m.held me ++ next_command rules me m keys ∷ [])
 own_ring rules me n m keys tic mark command ring r h made low high endless marked is e =
     let below = mine rules me n m r h in
     let own : mark ≡ own_mark rules m me (machine.made me m) =
-    marked ∙ ap (λ (p : ℕ). n.marks p (tic % 12)) r.number ∙ r.marks me tic below low high (ap (λ (o : Option ℕ). is_over o (tic - 12)) endless) ∙ ap (own_mark rules m me) made in
-    let kept : n.rings n.me ≡ ring_of (m.held me) = ap n.rings r.number ∙ r.rings me below in
+    marked ∙ ap (λ (p : ℕ). n.marks p (tic % 12)) r.whose.number
+    ∙ r.table.marks me tic below low high (ap (λ (o : Option ℕ). is_over o (tic - 12)) endless)
+    ∙ ap (own_mark rules m me) made in
+    let kept : n.rings n.me ≡ ring_of (m.held me) = ap n.rings r.whose.number ∙ r.commands.rings me below in
     let next : command ≡ next_command rules me m keys = is ∙ ap (pressed (m.keys ++ keys ∷ [])) own in
-    e ∙ ap (λ (k : Ring). last.put k command) kept ∙ put-ring_of (m.held me) command ∙ ap (λ (c : TicCmd). ring_of (m.held me ++ c ∷ [])) next
+    e ∙ ap (λ (k : Ring). last.put k command) kept ∙ put-ring_of (m.held me) command
+    ∙ ap (λ (c : TicCmd). ring_of (m.held me ++ c ∷ [])) next

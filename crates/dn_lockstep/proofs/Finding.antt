@@ -10,107 +10,137 @@ use Rattle.dn_machine.specs.Worlds.{Rules, four, row_of}
 use Rattle.dn_machine.specs.Node as machine
 use Rattle.dn_tic.specs.declared.command.Move.{Move}
 use Rattle.dn_machine.proofs.Demos.{seat_is}
-use Rattle.dn_machine.specs.Node.{blank, held_at, own_mark, lowest}
+use Rattle.dn_machine.specs.Node.{ends_of, blank, held_at, own_mark, lowest}
 use Rattle.dn_machine.specs.Running.{is_over, is_absent, is_awaited, is_off, first_off, row_held, tic_limit, full_at}
 use Rattle.dn_lockstep.specs.Contents.{Contents}
 use Rattle.dn_lockstep.specs.Represents.{Represents}
 use Rattle.dn_lockstep.specs.Rings.{count_of}
-use Rattle.dn_lockstep.specs.Rows.{mark_in_command, mark_at, differs, move_at, is_missing, is_gone}
+use Rattle.dn_lockstep.specs.Rows.{mark_in_command, mark_at, differs, move_held, is_missing, is_gone}
 use Rattle.dn_lockstep.proofs.Counting.{below, got_is}
 use Rattle.dn_lockstep.proofs.Keeping.{get_kept, get_some}
 use Rattle.std.proofs.lemmas.Option.{none-some}
 use Rattle.dn_lockstep.proofs.Lowest.{lowest_same, lowest_passes}
 
 -- the mark of a command that may be missing
-mark_or_blank : (commands : List TicCmd) (tic : ℕ) → mark_in_command (slice_get commands tic) ≡ (get_or commands tic blank).mark
+mark_or_blank : (commands : List TicCmd) (tic : ℕ) → mark_in_command (slice_get commands tic)
+    ≡ (get_or commands tic blank).mark
 mark_or_blank [] tic = refl
 mark_or_blank (c ∷ commands) zero = refl
 mark_or_blank (c ∷ commands) (suc tic) = mark_or_blank commands tic
 
 -- what is not over at a tic was not before
-over_before : (o : Option ℕ) (before tic : ℕ) → before ≤ tic → is_over o tic ≡ false → is_over o before ≡ false
+over_before : (o : Option ℕ) (before tic : ℕ) → before ≤ tic → is_over o tic ≡ false
+    → is_over o before ≡ false
 over_before None before tic l h = refl
 over_before (Some end) before tic l h = let low = leb-false end tic h in lt-leb end before (omega arith)
 
-module _ {S : Type 0} (rules : Rules S) (me : ℕ) (n : Contents) (m : machine.Node) (r : Represents rules me n m) where
+module _ {S : Type 0} (rules : Rules S) (me : ℕ) (n : Contents) (m : machine.Node)
+    (r : Represents rules me n m) where
   inside : (p : ℕ) → p < rules.players → p < n.players
-  inside p h = let P : ℕ → Type 0 = λ k. p < k in subst P (sym r.players) h
+  inside p h = let P : ℕ → Type 0 = λ k. p < k in subst P (sym r.whose.players) h
 
   -- who is gone is absent
   gone_is : (p : ℕ) → p < n.players → is_gone n.peers n.ran p ≡ is_absent m p
-  gone_is p h = λ i. is_over ((r.peers p (below rules me n m r p h)) i).end (r.ran i)
+  gone_is p h = λ i. is_over ((r.peers.known p (below rules me n m r p h)) i).end (r.table.ran i)
 
   awaited_is : lowest n.players (is_missing n.rings n.peers n.ran) ≡ lowest rules.players (is_awaited m)
   awaited_is =
-      ap (λ (k : ℕ). lowest k (is_missing n.rings n.peers n.ran)) r.players
-      ∙ lowest_same rules.players _ _ (λ p h. λ i. not (gone_is p (inside p h) i) && nat_le (got_is rules me n m r p (inside p h) i) (r.ran i))
+      ap (λ (k : ℕ). lowest k (is_missing n.rings n.peers n.ran)) r.whose.players
+      ∙ lowest_same rules.players _ _
+      (λ p h. λ i. not (gone_is p (inside p h) i) && nat_le (got_is rules me n m r p (inside p h) i)
+      (r.table.ran i))
 
-  pub finds_awaited : (found : Option ℕ) → found ≡ lowest n.players (is_missing n.rings n.peers n.ran) → lowest rules.players (is_awaited m) ≡ found
+  pub finds_awaited : (found : Option ℕ) → found ≡ lowest n.players (is_missing n.rings n.peers n.ran)
+      → lowest rules.players (is_awaited m) ≡ found
   finds_awaited found e = sym (e ∙ awaited_is)
 
   -- where no ring is more than twelve ahead
   module _ (window : (p : ℕ) → p < n.players → count_of n.rings p ≤ n.ran + 12) where
     pub mark_is : (p : ℕ) → p < n.players → mark_at n.rings n.ran p ≡ (held_at m p (machine.ran m)).mark
     mark_is p h =
-        ap mark_in_command (get_kept (m.held p) (n.rings p) n.ran (window p h) (r.rings p (below rules me n m r p h)))
-        ∙ mark_or_blank (m.held p) n.ran ∙ ap (λ (tic : ℕ). (held_at m p tic).mark) r.ran
+        ap mark_in_command (get_kept (m.held p) (n.rings p) n.ran (window p h)
+        (r.commands.rings p (below rules me n m r p h)))
+        ∙ mark_or_blank (m.held p) n.ran ∙ ap (λ (tic : ℕ). (held_at m p tic).mark) r.table.ran
 
-    pub should_is : (p : ℕ) → p < n.players → is_absent m p ≡ false → n.marks p (n.ran % 12) ≡ own_mark rules m p (machine.ran m)
+    pub should_is : (p : ℕ) → p < n.players → is_absent m p ≡ false
+        → n.marks p (n.ran % 12) ≡ own_mark rules m p (machine.ran m)
     should_is p h present =
-        ap (λ (tic : ℕ). n.marks p (tic % 12)) r.ran ∙ r.marks p (machine.ran m) (below rules me n m r p h) (omega arith) (omega arith) (over_before (m.ends p) (machine.ran m - 12) (machine.ran m) (omega arith) present)
+        ap (λ (tic : ℕ). n.marks p (tic % 12)) r.table.ran
+        ∙ r.table.marks p (machine.ran m) (below rules me n m r p h) (omega arith) (omega arith)
+        (over_before (ends_of m p) (machine.ran m - 12) (machine.ran m) (omega arith) present)
 
     differs_is : (p : ℕ) → p < rules.players → differs n.rings n.peers n.marks n.ran p ≡ is_off rules m p
     differs_is p h = elim (cases_Bool (is_absent m p)) [
       | inl gone ↦
           let here = gone_is p (inside p h) ∙ gone in
           rw (here, gone) refl
-      | inr present ↦ λ i. not (gone_is p (inside p h) i) && not (int_eq (mark_is p (inside p h) i) (should_is p (inside p h) present i))
+      | inr present ↦ λ i. not (gone_is p (inside p h) i)
+          && not (int_eq (mark_is p (inside p h) i) (should_is p (inside p h) present i))
     ]
 
-    pub finds_off : (found : Option ℕ) → found ≡ (if nat_lt 12 n.ran then lowest n.players (differs n.rings n.peers n.marks n.ran) else None) → first_off rules m ≡ found
+    pub finds_off : (found : Option ℕ)
+        → found ≡ (if nat_lt 12 n.ran then lowest n.players (differs n.rings n.peers n.marks n.ran) else None)
+        → first_off rules m ≡ found
     finds_off found e =
-        let same = ap (λ (k : ℕ). lowest k (differs n.rings n.peers n.marks n.ran)) r.players ∙ lowest_same rules.players _ _ differs_is in
-        sym (e ∙ (λ i. if nat_lt 12 (r.ran i) then same i else None))
+        let same = ap (λ (k : ℕ). lowest k (differs n.rings n.peers n.marks n.ran)) r.whose.players
+        ∙ lowest_same rules.players _ _ differs_is in
+        sym (e ∙ (λ i. if nat_lt 12 (r.table.ran i) then same i else None))
 
     -- one whose mark is off is not absent
     pub off_present : (p : ℕ) → first_off rules m ≡ Some p → is_absent m p ≡ false
     off_present p e = go (nat_lt 12 (machine.ran m)) e
       where
-        go : (late : Bool) → (if late then lowest rules.players (is_off rules m) else None) ≡ Some p → is_absent m p ≡ false
-        go true e = not-true (is_absent m p) (and_parts (not (is_absent m p)) _ (lowest_passes rules.players p (is_off rules m) e)).0
+        go : (late : Bool) → (if late then lowest rules.players (is_off rules m) else None) ≡ Some p
+            → is_absent m p ≡ false
+        go true e =
+            not-true (is_absent m p)
+            (and_parts (not (is_absent m p)) _ (lowest_passes rules.players p (is_off rules m) e)).0
         go false e = absurd (none-some p e)
 
     -- where the command of every player who is not gone is there
-    module _ (there : (p : ℕ) → p < n.players → is_gone n.peers n.ran p ≡ false → n.ran < count_of n.rings p) where
-      move_is : (p : ℕ) → move_at n.rings n.peers n.players n.ran p ≡ (if nat_lt p rules.players then option_map used (if is_absent m p then None else Some (held_at m p (machine.ran m))) else None)
-      move_is p = elim (cases_lt p n.players) [
-        | inl h ↦ elim (cases_Bool (is_absent m p)) [
-          | inl gone ↦
-              let here = gone_is p h ∙ gone in
-              let first = lt-ltb p n.players h in
-              let second = lt-ltb p rules.players (below rules me n m r p h) in
-              rw (first, second, here, gone) refl
-          | inr present ↦
-              let here = gone_is p h ∙ present in
-              let first = lt-ltb p n.players h in
-              let second = lt-ltb p rules.players (below rules me n m r p h) in
-              rw (first, second, here, present) (ap (option_map used) (get_some (m.held p) (n.rings p) n.ran (there p h here) (window p h) (r.rings p (below rules me n m r p h)))
-              ∙ ap (λ (tic : ℕ). option_map used (Some (held_at m p tic))) r.ran)
+    module _ (there : (p : ℕ) → p < n.players → is_gone n.peers n.ran p ≡ false → n.ran < count_of n.rings p)
+      where
+        move_is : (p : ℕ) → move_held n.rings n.peers n.players n.ran p
+            ≡ (if nat_lt p rules.players then option_map used
+            (if is_absent m p then None else Some (held_at m p (machine.ran m))) else None)
+        move_is p = elim (cases_lt p n.players) [
+          | inl h ↦ elim (cases_Bool (is_absent m p)) [
+            | inl gone ↦
+                let here = gone_is p h ∙ gone in
+                let first = lt-ltb p n.players h in
+                let second = lt-ltb p rules.players (below rules me n m r p h) in
+                rw (first, second, here, gone) refl
+            | inr present ↦
+                let here = gone_is p h ∙ present in
+                let first = lt-ltb p n.players h in
+                let second = lt-ltb p rules.players (below rules me n m r p h) in
+                rw (first, second, here, present)
+                (ap (option_map used)
+                (get_some (m.held p) (n.rings p) n.ran (there p h here) (window p h)
+                (r.commands.rings p (below rules me n m r p h)))
+                ∙ ap (λ (tic : ℕ). option_map used (Some (held_at m p tic))) r.table.ran)
+          ]
+          | inr past ↦
+              let first = le-ltb p n.players past in
+              let second : nat_lt p rules.players ≡ false = ap (nat_lt p) (sym r.whose.players) ∙ first in
+              rw (first, second) refl
         ]
-        | inr past ↦
-            let first = le-ltb p n.players past in
-            let second : nat_lt p rules.players ≡ false = ap (nat_lt p) (sym r.players) ∙ first in
-            rw (first, second) refl
-      ]
 
-      pub row_is : four (move_at n.rings n.peers n.players n.ran) ≡ row_held rules m
-      unfolding row_of
-      row_is = λ i. move_is 0 i ∷ move_is 1 i ∷ move_is 2 i ∷ move_is 3 i ∷ []
+        pub row_is : four (move_held n.rings n.peers n.players n.ran) ≡ row_held rules m
+        unfolding row_of
+        row_is = λ i. move_is 0 i ∷ move_is 1 i ∷ move_is 2 i ∷ move_is 3 i ∷ []
 
-      -- a player who is not absent has a move in the row
-      pub seat_held : (p : ℕ) → p < n.players → p < 4 → is_absent m p ≡ false → machine.lacks (row_held rules m) p ≡ false
-      seat_held p h seat present = seat_is rules.players (λ q. if is_absent m q then None else Some (held_at m q (machine.ran m))) p (below rules me n m r p h) seat ∙ rw present refl
+        -- a player who is not absent has a move in the row
+        pub seat_held : (p : ℕ) → p < n.players → p < 4 → is_absent m p ≡ false
+            → machine.lacks (row_held rules m) p ≡ false
+        seat_held p h seat present =
+            seat_is rules.players (λ q. if is_absent m q then None else Some (held_at m q (machine.ran m))) p
+            (below rules me n m r p h) seat ∙ rw present refl
 
-      -- the tic at which it ends is that of the row by its rings
-      pub full_is : (row : List (Option Move)) (capacity full : ℕ) → row ≡ row_held rules m → capacity ≡ rules.capacity → full ≡ (if machine.is_whole n.players row then capacity else tic_limit) → full ≡ full_at rules (row_held rules m)
-      full_is row capacity full is held e = e ∙ (λ i. if machine.is_whole (r.players i) (is i) then held i else tic_limit)
+        -- the tic at which it ends is that of the row by its rings
+        pub full_is : (row : List (Option Move)) (capacity full : ℕ) → row ≡ row_held rules m
+            → capacity ≡ rules.capacity
+            → full ≡ (if machine.is_whole n.players row then capacity else tic_limit)
+            → full ≡ full_at rules (row_held rules m)
+        full_is row capacity full is held e =
+            e ∙ (λ i. if machine.is_whole (r.whose.players i) (is i) then held i else tic_limit)

@@ -28,7 +28,8 @@ all_same one other low zero same = refl
 all_same one other low (suc count) same =
     let first : one low ≡ other low = same low (omega arith) (omega arith) in
     let rest = all_same one other (low + 1) count (λ p h k. same p (omega arith) (omega arith)) in
-    ap (λ (b : Bool). b && list_all one (range_with_len (low + 1) count)) first ∙ ap (λ (b : Bool). other low && b) rest
+    ap (λ (b : Bool). b && list_all one (range_with_len (low + 1) count)) first
+    ∙ ap (λ (b : Bool). other low && b) rest
 
 -- the peers are noted by one as by the other
 noted_same : (players : ℕ) (one other : ℕ → Bool) → ((p : ℕ) → is_peer players p ≡ true → one p ≡ other p)
@@ -39,61 +40,68 @@ noted_same players one other same =
     let below : p < players = omega arith in
     same p (and_from _ _ (lt-ltb 0 p some) (lt-ltb p players below)))
 
-module _ {S : Type 0} (rules : Rules S) (me : ℕ) (n : Contents) (m : machine.Node) (r : Represents rules me n m)
+module _ {S : Type 0} (rules : Rules S) (me : ℕ) (n : Contents) (m : machine.Node)
+    (r : Represents rules me n m)
     (from : ℕ) (gather : Gathered) (players : gather.players ≡ n.gather.players)
-    (heard : (p : ℕ) → is_noted gather p ≡ (is_noted n.gather p || (p == from && is_peer n.gather.players p))) where
-  now_noted : (p : ℕ) → is_peer rules.players p ≡ true → is_noted gather p ≡ put m.noted from true p
-  now_noted p peer =
-      let counted : is_peer n.gather.players p ≡ true = ap (λ (k : ℕ). is_peer k p) r.gathers ∙ peer in
-      elim (cases_eq p from) [
-        | inl same ↦
-            let one = eq-eqb p from same in
-            heard p ∙ or_right _ _ (and_from _ _ one counted) ∙ sym (put_at m.noted from p true same)
-        | inr other ↦
-            let off = ne_eqb p from other in
-            heard p ∙ or-false _ _ (and_left _ _ off) ∙ r.noted p peer ∙ sym (put_off m.noted from p true other)
-      ]
+    (heard : (p : ℕ) → is_noted gather p ≡ (is_noted n.gather p || (p == from && is_peer n.gather.players p)))
+  where
+    now_noted : (p : ℕ) → is_peer rules.players p ≡ true → is_noted gather p ≡ put m.noted from true p
+    now_noted p peer =
+        let counted : is_peer n.gather.players p ≡ true = ap (λ (k : ℕ). is_peer k p) r.whose.gathers
+        ∙ peer in
+        elim (cases_eq p from) [
+          | inl same ↦
+              let one = eq-eqb p from same in
+              heard p ∙ or_right _ _ (and_from _ _ one counted) ∙ sym (put_at m.noted from p true same)
+          | inr other ↦
+              let off = ne_eqb p from other in
+              heard p ∙ or-false _ _ (and_left _ _ off) ∙ r.peers.noted p peer
+              ∙ sym (put_off m.noted from p true other)
+        ]
 
-  pub shows_noted : Represents rules me (record n { gather = gather }) (record m { noted = put m.noted from true })
-  shows_noted =
-      record {
-        players = r.players;
-        number = r.number;
-        extra = r.extra;
-        capacity = r.capacity;
-        gathers = players ∙ r.gathers;
-        phase = r.phase;
-        played = r.played;
-        settings = r.settings;
-        hold = r.hold;
-        ran = r.ran;
-        rings = r.rings;
-        peers = r.peers;
-        noted = now_noted;
-        marks = r.marks;
-        demo = r.demo;
-        closed = r.closed;
-        writable = r.writable;
-      }
+    pub shows_noted : Represents rules me (record n { gather = gather })
+        (record m { noted = put m.noted from true })
+    shows_noted =
+        record {
+          whose = record {
+            players = r.whose.players;
+            number = r.whose.number;
+            extra = r.whose.extra;
+            capacity = r.whose.capacity;
+            gathers = players ∙ r.whose.gathers;
+          };
+          stands = r.stands;
+          commands = r.commands;
+          peers = record {
+            known = r.peers.known;
+            noted = now_noted;
+          };
+          table = r.table;
+          demo = r.demo;
+        }
 
-  all_heard : (complete : Bool) → complete ≡ all_noted gather.players (is_noted gather) → all_noted rules.players (put m.noted from true) ≡ complete
-  all_heard complete is =
-      sym (is ∙ ap (λ (k : ℕ). all_noted k (is_noted gather)) (players ∙ r.gathers)
-      ∙ noted_same rules.players (is_noted gather) (put m.noted from true) now_noted)
+    all_heard : (complete : Bool) → complete ≡ all_noted gather.players (is_noted gather)
+        → all_noted rules.players (put m.noted from true) ≡ complete
+    all_heard complete is =
+        sym (is ∙ ap (λ (k : ℕ). all_noted k (is_noted gather)) (players ∙ r.whose.gathers)
+        ∙ noted_same rules.players (is_noted gather) (put m.noted from true) now_noted)
 
-  pub noted_shows : false ≡ all_noted gather.players (is_noted gather)
-      → IsAfter rules me (record n { gather = gather }) (on_gathering rules m from) (λ answer. Heard.Noted ≡ answer)
-  noted_shows some =
-      let more = all_heard false some in
-      after (record m { noted = put m.noted from true }) Heard.Noted (rw more refl) shows_noted refl
+    pub noted_shows : false ≡ all_noted gather.players (is_noted gather)
+        → IsAfter rules me (record n { gather = gather }) (on_gathering rules m from)
+        (λ answer. Heard.Noted ≡ answer)
+    noted_shows some =
+        let more = all_heard false some in
+        after (record m { noted = put m.noted from true }) Heard.Noted (rw more refl) shows_noted refl
 
-  pub started_shows : (settings : Settings) (started_as : Contents)
-      → true ≡ all_noted gather.players (is_noted gather) → n.settings ≡ Some settings
-      → Represents rules me started_as (started (record m { noted = put m.noted from true }) settings)
-      → IsAfter rules me started_as (on_gathering rules m from) (λ answer. Heard.Started ≡ answer)
-  started_shows settings started_as every known shows =
-      let none = all_heard true every in
-      let P : Option Settings → Type 0 = λ s.
-      Represents rules me started_as (record m { phase = Playing; played = true; settings = s; noted = put m.noted from true }) in
-      after (record m { phase = Playing; played = true; noted = put m.noted from true }) Heard.Started (rw none refl)
-      (subst P (sym known ∙ r.settings) shows) refl
+    pub started_shows : (settings : Settings) (started_as : Contents)
+        → true ≡ all_noted gather.players (is_noted gather) → n.settings ≡ Some settings
+        → Represents rules me started_as (started (record m { noted = put m.noted from true }) settings)
+        → IsAfter rules me started_as (on_gathering rules m from) (λ answer. Heard.Started ≡ answer)
+    started_shows settings started_as every known shows =
+        let none = all_heard true every in
+        let P : Option Settings → Type 0 = λ s.
+        Represents rules me started_as
+        (record m { phase = Playing; played = true; settings = s; noted = put m.noted from true }) in
+        after (record m { phase = Playing; played = true; noted = put m.noted from true }) Heard.Started
+        (rw none refl)
+        (subst P (sym known ∙ r.stands.settings) shows) refl

@@ -1,4 +1,4 @@
--- What a node keeps of a peer whom it gave a packet.
+-- A node that was asked for a packet.
 use Rattle.std.proofs.Common.{◌≡◌, ℕ, Bool, true, false, cond, Option, Some, None, refl, ap, sym, ◌∙◌, inl, inr}
 use Rattle.std.specs.Option.{option_map}
 use Rattle.std.proofs.lemmas.Bool.{cases_lt, cases_eq}
@@ -9,25 +9,13 @@ use Rattle.dn_machine.specs.Worlds.{Rules}
 use Rattle.dn_machine.specs.Flight.{Flight, packet_of}
 use Rattle.dn_machine.specs.Sending.{on_send_in}
 use Rattle.dn_machine.specs.Node as machine
-use Rattle.dn_machine.specs.Node.{put}
 use Rattle.dn_packet.specs.declared.packet.Packet.{Packet}
 use Rattle.dn_lockstep.specs.Contents.{Contents}
 use Rattle.dn_lockstep.specs.Giving.{Gives}
-use Rattle.dn_lockstep.specs.Peers.{peer_of}
 use Rattle.dn_lockstep.specs.Represents.{Represents}
 use Rattle.dn_lockstep.specs.Sent.{sent_to, after_giving}
 use Rattle.dn_lockstep.proofs.After.{along}
-use Rattle.dn_lockstep.proofs.Peering.{with_peer, put_same}
 use Rattle.dn_lockstep.proofs.Sending.{to_itself, to_nobody, to_peer, sends_in}
-
-module _ (m : machine.Node) (to tic : ℕ) where
-  pub resent : record m { resend = put m.resend to tic } ≡ with_peer m to (record (peer_of m to) { resend = tic })
-  resent = λ k. record m {
-    resend = put m.resend to tic;
-    want = put_same m.want to k;
-    hold = put_same m.hold to k;
-    ends = put_same m.ends to k;
-  }
 
 -- the machine's node once it was asked for a packet: as it was where it gave none, and else as noted
 module _ {S : Type 0} (rules : Rules S) (me : ℕ) (m : machine.Node) (to : ℕ) where
@@ -43,7 +31,8 @@ module _ {S : Type 0} (rules : Rules S) (me : ℕ) (m : machine.Node) (to : ℕ)
   ended_some true next flight given e = refl
   ended_some false next flight given e = absurd (cc)
 
-  none_in : (phase : Phase) → (on_send_in rules me m to phase).1 ≡ None → (on_send_in rules me m to phase).0 ≡ m
+  none_in : (phase : Phase) → (on_send_in rules me m to phase).1 ≡ None
+      → (on_send_in rules me m to phase).0 ≡ m
   none_in Listening e = refl
   none_in Gathering e = refl
   none_in Playing e = absurd (cc)
@@ -56,10 +45,12 @@ module _ {S : Type 0} (rules : Rules S) (me : ℕ) (m : machine.Node) (to : ℕ)
   some_in Playing given e = refl
   some_in (Ended cause) given e = ended_some _ _ _ given e
 
-  through : (next : machine.Node × Option Flight) → sent_to to rules me m ≡ next → (next.1 ≡ None → next.0 ≡ m)
+  through : (next : machine.Node × Option Flight) → sent_to to rules me m ≡ next
+      → (next.1 ≡ None → next.0 ≡ m)
       → (sent_to to rules me m).1 ≡ None → (sent_to to rules me m).0 ≡ m
   through next e known none =
-      ap (λ (x : machine.Node × Option Flight). x.0) e ∙ known (sym (ap (λ (x : machine.Node × Option Flight). x.1) e) ∙ none)
+      ap (λ (x : machine.Node × Option Flight). x.0) e
+      ∙ known (sym (ap (λ (x : machine.Node × Option Flight). x.1) e) ∙ none)
 
   pub none_sent : (sent_to to rules me m).1 ≡ None → (sent_to to rules me m).0 ≡ m
   none_sent = elim (cases_lt to rules.players) [
@@ -71,21 +62,26 @@ module _ {S : Type 0} (rules : Rules S) (me : ℕ) (m : machine.Node) (to : ℕ)
   ]
 
 -- nothing comes of nothing
-pub no_flight : {A : Type 0} (view : Flight → A) (sent : Option Flight) → None ≡ option_map view sent → sent ≡ None
+pub no_flight : {A : Type 0} (view : Flight → A) (sent : Option Flight) → None ≡ option_map view sent
+    → sent ≡ None
 no_flight view None e = refl
 no_flight view (Some flight) e = absurd (cc)
 
-pub some_flight : {A : Type 0} (view : Flight → A) (a : A) (sent : Option Flight) → Some a ≡ option_map view sent
+pub some_flight : {A : Type 0} (view : Flight → A) (a : A) (sent : Option Flight)
+    → Some a ≡ option_map view sent
     → (flight : Flight) × (sent ≡ Some flight) × (a ≡ view flight)
 some_flight view a None e = absurd (cc)
 some_flight view a (Some flight) e = (flight, refl, same_Some _ _ e)
 
 -- a node that gave a packet, and noted it
-pub given_shows : {S : Type 0} (rules : Rules S) (me : ℕ) (n new : Contents) (m : machine.Node) (to : ℕ) (packet : Packet)
+pub given_shows : {S : Type 0} (rules : Rules S) (me : ℕ) (n new : Contents) (m : machine.Node) (to : ℕ)
+    (packet : Packet)
     → Represents rules me n m → Gives n to → Some packet ≡ option_map packet_of (sent_to to rules me m).1
-    → Represents rules me new (after_giving rules me m to m.phase) → Represents rules me new (sent_to to rules me m).0
+    → Represents rules me new (after_giving rules me m to m.phase)
+    → Represents rules me new (sent_to to rules me m).0
 given_shows rules me n new m to packet r given is shows =
     let some = some_flight packet_of packet _ is in
-    let sends = sends_in rules me n m to _ r given.below given.other r.phase in
+    let sends = sends_in rules me n m to _ r given.below given.other r.stands.phase in
     along (ap (λ (x : machine.Node × Option Flight). x.0) sends
-    ∙ some_in rules me m to m.phase some.0 (sym (ap (λ (x : machine.Node × Option Flight). x.1) sends) ∙ some.1)) shows
+    ∙ some_in rules me m to m.phase some.0 (sym (ap (λ (x : machine.Node × Option Flight). x.1) sends)
+    ∙ some.1)) shows

@@ -10,29 +10,23 @@ use Rattle.dn_machine.proofs.Put.{put_at, put_off}
 use Rattle.dn_lockstep.specs.Contents.{Contents}
 use Rattle.dn_lockstep.specs.Represents.{Represents}
 
-pub shows_ring : {S : Type 0} (rules : Rules S) (me : ℕ) (n : Contents) (m : machine.Node) (player : ℕ) (commands : List TicCmd) (rings : ℕ → Ring)
+pub shows_ring : {S : Type 0} (rules : Rules S) (me : ℕ) (n : Contents) (m : machine.Node) (player : ℕ)
+    (commands : List TicCmd) (rings : ℕ → Ring)
     → Represents rules me n m → rings player ≡ ring_of commands → ((p : ℕ) → p ≢ player → rings p ≡ n.rings p)
     → Represents rules me (record n { rings = rings }) (record m { held = put m.held player commands })
 shows_ring rules me n m player commands rings r new others =
     record {
-      players = r.players;
-      number = r.number;
-      extra = r.extra;
-      capacity = r.capacity;
-      gathers = r.gathers;
-      phase = r.phase;
-      played = r.played;
-      settings = r.settings;
-      hold = r.hold;
-      ran = r.ran;
-      rings = λ p below. elim (cases_eq p player) [
-        | inl same ↦ ap rings same ∙ new ∙ ap ring_of (sym (put_at m.held player p commands same))
-        | inr other ↦ others p other ∙ r.rings p below ∙ ap ring_of (sym (put_off m.held player p commands other))
-      ];
+      whose = r.whose;
+      stands = r.stands;
+      commands = record {
+        hold = r.commands.hold;
+        rings = λ p below. elim (cases_eq p player) [
+          | inl same ↦ ap rings same ∙ new ∙ ap ring_of (sym (put_at m.held player p commands same))
+          | inr other ↦ others p other ∙ r.commands.rings p below
+              ∙ ap ring_of (sym (put_off m.held player p commands other))
+        ];
+      };
       peers = r.peers;
-      noted = r.noted;
-      marks = r.marks;
+      table = r.table;
       demo = r.demo;
-      closed = r.closed;
-      writable = r.writable;
     }

@@ -14,6 +14,7 @@ pub mod Lowest
 pub mod Spelling
 pub mod Replaying
 pub mod Seats
+pub mod Rowing
 pub mod Running
 pub mod Finding
 pub mod Moving
@@ -23,7 +24,6 @@ pub mod Flags
 pub mod Holding
 pub mod Starting
 pub mod Rests
-pub mod Asking
 pub mod Taking
 pub mod Gone
 pub mod Telling

@@ -21,7 +21,7 @@ use Rattle.std.proofs.lemmas.List.Folds.{length-prefix_len}
 use Rattle.dn_machine.specs.declared.answers.Phase.TheVariants.{Playing}
 use Rattle.dn_machine.specs.Worlds.{Rules, mark_in, opening}
 use Rattle.dn_machine.specs.Node as machine
-use Rattle.dn_machine.specs.Node.{own_mark, own_world, world_after, is_ended, is_whole, demo_rows}
+use Rattle.dn_machine.specs.Node.{ends_of, own_mark, own_world, world_after, is_ended, is_whole, demo_rows}
 use Rattle.dn_lockstep.specs.Contents.{Contents}
 use Rattle.dn_lockstep.specs.Represents.{Represents, CanBeWritten, is_demo_closed}
 use Rattle.dn_lockstep.specs.Rows.{seats_of}
@@ -32,20 +32,27 @@ use Rattle.dn_lockstep.proofs.Starting.{early_mark}
 abbrev pub moved : machine.Node → List (Option Move) → machine.Node
 moved m row = record m { rows = m.rows ++ row ∷ [] }
 
-module _ {S : Type 0} (rules : Rules S) (settings : Settings) (rows : List (List (Option Move))) (row : List (Option Move)) where
+module _ {S : Type 0} (rules : Rules S) (settings : Settings) (rows : List (List (Option Move)))
+    (row : List (Option Move)) where
   -- an earlier world
-  world_before : (tic : ℕ) → tic ≤ length rows → world_after rules settings (rows ++ row ∷ []) tic ≡ world_after rules settings rows tic
+  world_before : (tic : ℕ) → tic ≤ length rows → world_after rules settings (rows ++ row ∷ []) tic
+      ≡ world_after rules settings rows tic
   unfolding world_after
-  world_before tic low = ap (fold rules.physics.step (opening rules settings)) (take-append-le tic rows (row ∷ []) low)
+  world_before tic low = ap (fold rules.physics.step (opening rules settings))
+      (take-append-le tic rows (row ∷ []) low)
 
-module _ {S : Type 0} (rules : Rules S) (m : machine.Node) (settings : Settings) (known : m.settings ≡ Some settings) (row : List (Option Move)) where
-  own_world_before : (tic : ℕ) → tic ≤ machine.ran m → own_world rules (moved m row) tic ≡ own_world rules m tic
+module _ {S : Type 0} (rules : Rules S) (m : machine.Node) (settings : Settings)
+    (known : m.settings ≡ Some settings) (row : List (Option Move)) where
+  own_world_before : (tic : ℕ) → tic ≤ machine.ran m
+      → own_world rules (moved m row) tic ≡ own_world rules m tic
   own_world_before tic low =
-      own_world_is rules (moved m row) settings known tic ∙ ap (λ (w : S). Some w) (world_before rules settings m.rows row tic low)
+      own_world_is rules (moved m row) settings known tic
+      ∙ ap (λ (w : S). Some w) (world_before rules settings m.rows row tic low)
       ∙ sym (own_world_is rules m settings known tic)
 
   -- up to twelve tics on the marks are as before
-  own_mark_before : (p tic : ℕ) → tic ≤ machine.ran m + 12 → own_mark rules (moved m row) p tic ≡ own_mark rules m p tic
+  own_mark_before : (p tic : ℕ) → tic ≤ machine.ran m + 12
+      → own_mark rules (moved m row) p tic ≡ own_mark rules m p tic
   own_mark_before p tic low = elim (cases_lt tic 12) [
     | inl early ↦ early_mark rules (moved m row) m p tic early
     | inr late ↦
@@ -55,61 +62,78 @@ module _ {S : Type 0} (rules : Rules S) (m : machine.Node) (settings : Settings)
   ]
 
   -- and twelve tics on there are those of the world now
-  own_mark_now : (p : ℕ) → own_mark rules (moved m row) p (machine.ran m + 12) ≡ rules.physics.mark (world_after rules settings m.rows (machine.ran m)) p
+  own_mark_now : (p : ℕ) → own_mark rules (moved m row) p (machine.ran m + 12)
+      ≡ rules.physics.mark (world_after rules settings m.rows (machine.ran m)) p
   own_mark_now p =
       let back : machine.ran m + 12 - 12 ≡ machine.ran m = omega arith in
       cond-false (nat_lt (machine.ran m + 12) 12) _ _ (le-ltb (machine.ran m + 12) 12 (omega arith))
       ∙ ap (λ (tic : ℕ). mark_in rules.physics (own_world rules (moved m row) tic) p) back
-      ∙ ap (λ (w : Option S). mark_in rules.physics w p) (own_world_before (machine.ran m) (omega arith) ∙ own_world_is rules m settings known (machine.ran m))
+      ∙ ap (λ (w : Option S). mark_in rules.physics w p)
+      (own_world_before (machine.ran m) (omega arith)
+      ∙ own_world_is rules m settings known (machine.ran m))
 
--- what is written of a row: itself at the end of an open demo where it is whole, and else the marker, if it is not there
-pub record IsWritten {S : Type 0} (rules : Rules S) (old new : Recorded) (row : List (Option Move)) : Type 0 where
-  pub begun : old.stage ≢ Blank
-  pub open_while : is_whole rules.players row ≡ true → old.stage ≡ Open
-  pub stage : new.stage ≡ cond (is_whole rules.players row) Open Closed
-  pub added : is_whole rules.players row ≡ true → AddsRow old.bytes new.bytes row
-  pub closes : is_whole rules.players row ≡ false → old.stage ≡ Open → Closes old.bytes new.bytes
-  pub stays : is_whole rules.players row ≡ false → old.stage ≡ Closed → new.bytes ≡ old.bytes
-  pub fits : is_whole rules.players row ≡ true → IsRow (seats_of rules.players) row
-  pub ranged : All (λ step. IfSome step IsMove) row
+-- what is written of a row: itself at the end of an open demo where it is whole, and else the marker, if it
+-- is not there
+pub record IsWritten {S : Type 0} (rules : Rules S) (old new : Recorded) (row : List (Option Move)) : Type 0
+  where
+    pub begun : old.stage ≢ Blank
+    pub open_while : is_whole rules.players row ≡ true → old.stage ≡ Open
+    pub stage : new.stage ≡ cond (is_whole rules.players row) Open Closed
+    pub added : is_whole rules.players row ≡ true → AddsRow old.bytes new.bytes row
+    pub closes : is_whole rules.players row ≡ false → old.stage ≡ Open → Closes old.bytes new.bytes
+    pub stays : is_whole rules.players row ≡ false → old.stage ≡ Closed → new.bytes ≡ old.bytes
+    pub fits : is_whole rules.players row ≡ true → IsRow (seats_of rules.players) row
+    pub ranged : All (λ step. IfSome step IsMove) row
 
-module _ {S : Type 0} (rules : Rules S) (me : ℕ) (m : machine.Node) (settings : Settings) (row : List (Option Move)) (playing : m.phase ≡ Playing) (old new : Recorded) (written : IsWritten rules old new row) where
+module _ {S : Type 0} (rules : Rules S) (me : ℕ) (m : machine.Node) (settings : Settings)
+    (row : List (Option Move)) (playing : m.phase ≡ Playing) (old new : Recorded)
+    (written : IsWritten rules old new row) where
   -- while a node plays its demo is closed where not all rows are whole
-  closed_so : (x : machine.Node) → x.phase ≡ Playing → is_demo_closed rules x ≡ nat_lt (length (demo_rows rules x)) (machine.ran x)
+  closed_so : (x : machine.Node) → x.phase ≡ Playing
+      → is_demo_closed rules x ≡ nat_lt (length (demo_rows rules x)) (machine.ran x)
   closed_so x on = ap (λ (p : Phase). is_ended p || nat_lt (length (demo_rows rules x)) (machine.ran x)) on
 
   all_rows : is_closed old.stage ≡ is_demo_closed rules m → old.stage ≡ Open → demo_rows rules m ≡ m.rows
   all_rows told at =
-      let none = ltb-false (length (demo_rows rules m)) (machine.ran m) (sym (closed_so m playing) ∙ sym told ∙ ap is_closed at) in
+      let none = ltb-false (length (demo_rows rules m)) (machine.ran m)
+      (sym (closed_so m playing) ∙ sym told ∙ ap is_closed at) in
       let long = length-prefix_len (is_whole rules.players) m.rows in
       take_all (prefix_len (is_whole rules.players) m.rows) m.rows (omega arith)
 
-  more_rows : is_whole rules.players row ≡ true → is_closed old.stage ≡ is_demo_closed rules m → demo_rows rules (moved m row) ≡ m.rows ++ row ∷ []
-  more_rows each told = front_goes_on (is_whole rules.players) m.rows row (all_rows told (written.open_while each)) each
+  more_rows : is_whole rules.players row ≡ true → is_closed old.stage ≡ is_demo_closed rules m
+      → demo_rows rules (moved m row) ≡ m.rows ++ row ∷ []
+  more_rows each told = front_goes_on (is_whole rules.players) m.rows row
+      (all_rows told (written.open_while each)) each
 
   same_rows : is_whole rules.players row ≡ false → demo_rows rules (moved m row) ≡ demo_rows rules m
   same_rows lacks = front_stops (is_whole rules.players) m.rows row lacks
 
-  closed_now : is_closed old.stage ≡ is_demo_closed rules m → is_demo_closed rules (moved m row) ≡ not (is_whole rules.players row)
+  closed_now : is_closed old.stage ≡ is_demo_closed rules m
+      → is_demo_closed rules (moved m row) ≡ not (is_whole rules.players row)
   closed_now told = elim (cases_Bool (is_whole rules.players row)) [
     | inl each ↦
         let long = ap (length {A = List (Option Move)}) (more_rows each told) in
-        closed_so (moved m row) playing ∙ le-ltb (length (demo_rows rules (moved m row))) (machine.ran (moved m row)) (omega arith) ∙ sym (ap not each)
+        closed_so (moved m row) playing ∙ le-ltb (length (demo_rows rules (moved m row)))
+        (machine.ran (moved m row)) (omega arith) ∙ sym (ap not each)
     | inr lacks ↦
         let long = ap (length {A = List (Option Move)}) (same_rows lacks) in
         let short = front_short (is_whole rules.players) m.rows in
         let count = length_push m.rows row in
-        closed_so (moved m row) playing ∙ lt-ltb (length (demo_rows rules (moved m row))) (machine.ran (moved m row)) (omega arith) ∙ sym (ap not lacks)
+        closed_so (moved m row) playing ∙ lt-ltb (length (demo_rows rules (moved m row)))
+        (machine.ran (moved m row)) (omega arith) ∙ sym (ap not lacks)
   ]
 
   stage_now : (b : Bool) → is_closed (cond b Open Closed) ≡ not b
   stage_now true = refl
   stage_now false = refl
 
-  pub closed_moved : is_closed old.stage ≡ is_demo_closed rules m → is_closed new.stage ≡ is_demo_closed rules (moved m row)
-  closed_moved told = ap is_closed written.stage ∙ stage_now (is_whole rules.players row) ∙ sym (closed_now told)
+  pub closed_moved : is_closed old.stage ≡ is_demo_closed rules m
+      → is_closed new.stage ≡ is_demo_closed rules (moved m row)
+  closed_moved told = ap is_closed written.stage ∙ stage_now (is_whole rules.players row)
+      ∙ sym (closed_now told)
 
-  pub writable_moved : is_closed old.stage ≡ is_demo_closed rules m → CanBeWritten rules.players (demo_rows rules m)
+  pub writable_moved : is_closed old.stage ≡ is_demo_closed rules m
+      → CanBeWritten rules.players (demo_rows rules m)
       → CanBeWritten rules.players (demo_rows rules (moved m row))
   unfolding CanBeWritten
   writable_moved told before =
@@ -120,7 +144,8 @@ module _ {S : Type 0} (rules : Rules S) (me : ℕ) (m : machine.Node) (settings 
             subst Fits (sym (more_rows each told)) (record {
               four = kept.four;
               somebody = kept.somebody;
-              recordable = All-push (IsRow (seats_of rules.players)) m.rows row kept.recordable (written.fits each);
+              recordable = All-push (IsRow (seats_of rules.players)) m.rows row kept.recordable
+                  (written.fits each);
               moves = All-push (All (λ step. IfSome step IsMove)) m.rows row kept.moves written.ranged;
             })
         | inr lacks ↦ subst Fits (sym (same_rows lacks)) before
@@ -131,23 +156,34 @@ module _ {S : Type 0} (rules : Rules S) (me : ℕ) (m : machine.Node) (settings 
   stages Open n = inl refl
   stages Closed n = inr refl
 
-  pub demo_moved : old.bytes ≡ demo_text long_tics (start_of settings) me (seats_of rules.players) (demo_rows rules m) (is_demo_closed rules m)
+  pub demo_moved : old.bytes ≡ demo_text long_tics (start_of settings) me (seats_of rules.players)
+      (demo_rows rules m) (is_demo_closed rules m)
       → is_closed old.stage ≡ is_demo_closed rules m
-      → new.bytes ≡ demo_text long_tics (start_of settings) me (seats_of rules.players) (demo_rows rules (moved m row)) (is_demo_closed rules (moved m row))
+      → new.bytes ≡ demo_text long_tics (start_of settings) me (seats_of rules.players)
+      (demo_rows rules (moved m row)) (is_demo_closed rules (moved m row))
   demo_moved text told =
-      let Text : List (List (Option Move)) → Bool → List ℕ = λ rows closed. demo_text long_tics (start_of settings) me (seats_of rules.players) rows closed in
+      let Text : List (List (Option Move)) → Bool → List ℕ =
+      λ rows closed. demo_text long_tics (start_of settings) me (seats_of rules.players) rows closed in
       elim (cases_Bool (is_whole rules.players row)) [
         | inl each ↦
             let at = written.open_while each in
-            let before : old.bytes ≡ Text m.rows false = text ∙ ap (λ (rs : List (List (Option Move))). Text rs (is_demo_closed rules m)) (all_rows told at) ∙ ap (Text m.rows) (sym told ∙ ap is_closed at) in
+            let before : old.bytes ≡ Text m.rows false =
+            text ∙ ap (λ (rs : List (List (Option Move))). Text rs (is_demo_closed rules m))
+            (all_rows told at) ∙ ap (Text m.rows) (sym told ∙ ap is_closed at) in
             written.added each (start_of settings) me (seats_of rules.players) m.rows before
-            ∙ ap (λ (rs : List (List (Option Move))). Text rs false) (sym (more_rows each told)) ∙ ap (Text (demo_rows rules (moved m row))) (sym (closed_now told ∙ ap not each))
+            ∙ ap (λ (rs : List (List (Option Move))). Text rs false) (sym (more_rows each told))
+            ∙ ap (Text (demo_rows rules (moved m row))) (sym (closed_now told ∙ ap not each))
         | inr lacks ↦
-            let after : Text (demo_rows rules m) true ≡ Text (demo_rows rules (moved m row)) (is_demo_closed rules (moved m row)) =
-            ap (λ (rs : List (List (Option Move))). Text rs true) (sym (same_rows lacks)) ∙ ap (Text (demo_rows rules (moved m row))) (sym (closed_now told ∙ ap not lacks)) in
+            let after : Text (demo_rows rules m) true ≡ Text (demo_rows rules (moved m row))
+            (is_demo_closed rules (moved m row)) =
+            ap (λ (rs : List (List (Option Move))). Text rs true) (sym (same_rows lacks))
+            ∙ ap (Text (demo_rows rules (moved m row))) (sym (closed_now told ∙ ap not lacks)) in
             elim (stages old.stage written.begun) [
-              | inl at ↦ written.closes lacks at (start_of settings) me (seats_of rules.players) (demo_rows rules m) (text ∙ ap (Text (demo_rows rules m)) (sym told ∙ ap is_closed at)) ∙ after
-              | inr at ↦ written.stays lacks at ∙ text ∙ ap (Text (demo_rows rules m)) (sym told ∙ ap is_closed at) ∙ after
+              | inl at ↦ written.closes lacks at (start_of settings) me (seats_of rules.players)
+                  (demo_rows rules m) (text ∙ ap (Text (demo_rows rules m)) (sym told ∙ ap is_closed at))
+                  ∙ after
+              | inr at ↦ written.stays lacks at ∙ text
+                  ∙ ap (Text (demo_rows rules m)) (sym told ∙ ap is_closed at) ∙ after
             ]
       ]
 
@@ -155,48 +191,50 @@ pub known_by : (settings : Option Settings) → settings ≢ None → (s : Setti
 known_by None n = absurd (n refl)
 known_by (Some s) n = (s, refl)
 
-pub shows_moved : {S : Type 0} (rules : Rules S) (me : ℕ) (n : Contents) (m : machine.Node) (row : List (Option Move)) (marks : ℕ → ℕ → ℤ) (demo : Recorded)
+pub shows_moved : {S : Type 0} (rules : Rules S) (me : ℕ) (n : Contents) (m : machine.Node)
+    (row : List (Option Move)) (marks : ℕ → ℕ → ℤ) (demo : Recorded)
     → Represents rules me n m → n.phase ≡ Playing → n.played ≡ true → n.settings ≢ None
-    → ((p : ℕ) → p < n.players → is_over (m.ends p) (machine.ran m) ≡ false
+    → ((p : ℕ) → p < n.players → is_over (ends_of m p) (machine.ran m) ≡ false
     → marks p (n.ran % 12) ≡ mark_in rules.physics (own_world rules m (machine.ran m)) p)
     → ((p j : ℕ) → j ≢ n.ran % 12 → marks p j ≡ n.marks p j)
     → IsWritten rules n.demo demo row
     → Represents rules me (record n { ran = n.ran + 1; marks = marks; demo = demo }) (moved m row)
 shows_moved {S} rules me n m row marks demo r on has_played has_settings new others written =
-    let playing : m.phase ≡ Playing = sym r.phase ∙ on in
-    let played : m.played ≡ true = sym r.played ∙ has_played in
-    let s = known_by m.settings (λ e. has_settings (r.settings ∙ e)) in
+    let playing : m.phase ≡ Playing = sym r.stands.phase ∙ on in
+    let played : m.played ≡ true = sym r.stands.played ∙ has_played in
+    let s = known_by m.settings (λ e. has_settings (r.stands.settings ∙ e)) in
     let settings : Settings = s.0 in
     let known : m.settings ≡ Some settings = s.1 in
     let count : machine.ran (moved m row) ≡ machine.ran m + 1 = length_push m.rows row in
-    let ran : n.ran ≡ machine.ran m = r.ran in
+    let ran : n.ran ≡ machine.ran m = r.table.ran in
     record {
-      players = r.players;
-      number = r.number;
-      extra = r.extra;
-      capacity = r.capacity;
-      gathers = r.gathers;
-      phase = r.phase;
-      played = r.played;
-      settings = r.settings;
-      hold = r.hold;
-      ran = ap (λ (k : ℕ). k + 1) ran ∙ sym count;
-      rings = r.rings;
+      whose = r.whose;
+      stands = r.stands;
+      commands = r.commands;
       peers = r.peers;
-      noted = r.noted;
-      marks = λ p tic below low high present. elim (cases_eq tic (machine.ran m + 12)) [
-        | inl e ↦
-            let place : tic % 12 ≡ n.ran % 12 = omega arith in
-            let mine : p < n.players = omega (arith, below, r.players) in
-            let back : tic - 12 ≡ machine.ran m = omega arith in
-            ap (marks p) place ∙ new p mine (ap (is_over (m.ends p)) (sym back) ∙ present) ∙ ap (λ (w : Option S). mark_in rules.physics w p) (own_world_is rules m settings known (machine.ran m))
-            ∙ sym (own_mark_now rules m settings known row p) ∙ ap (own_mark rules (moved m row) p) (sym e)
-        | inr other ↦
-            let apart : tic % 12 ≢ n.ran % 12 = λ h. absurd (omega arith) in
-            others p (tic % 12) apart ∙ r.marks p tic below (omega arith) (omega arith) present ∙ sym (own_mark_before rules m settings known row p tic (omega arith))
-      ];
-      demo = demo_moved rules me m settings row playing n.demo demo written (r.demo ∙ demo_is rules m settings known me played) (r.closed played)
-          ∙ sym (demo_is rules (moved m row) settings known me played);
-      closed = λ e. closed_moved rules me m settings row playing n.demo demo written (r.closed played);
-      writable = writable_moved rules me m settings row playing n.demo demo written (r.closed played) r.writable;
+      table = record {
+        ran = ap (λ (k : ℕ). k + 1) ran ∙ sym count;
+        marks = λ p tic below low high present. elim (cases_eq tic (machine.ran m + 12)) [
+          | inl e ↦
+              let place : tic % 12 ≡ n.ran % 12 = omega arith in
+              let mine : p < n.players = omega (arith, below, r.whose.players) in
+              let back : tic - 12 ≡ machine.ran m = omega arith in
+              ap (marks p) place ∙ new p mine (ap (is_over (ends_of m p)) (sym back) ∙ present)
+              ∙ ap (λ (w : Option S). mark_in rules.physics w p)
+              (own_world_is rules m settings known (machine.ran m))
+              ∙ sym (own_mark_now rules m settings known row p) ∙ ap (own_mark rules (moved m row) p) (sym e)
+          | inr other ↦
+              let apart : tic % 12 ≢ n.ran % 12 = λ h. absurd (omega arith) in
+              others p (tic % 12) apart ∙ r.table.marks p tic below (omega arith) (omega arith) present
+              ∙ sym (own_mark_before rules m settings known row p tic (omega arith))
+        ];
+      };
+      demo = record {
+        bytes = demo_moved rules me m settings row playing n.demo demo written
+            (r.demo.bytes ∙ demo_is rules m settings known me played) (r.demo.closed played)
+            ∙ sym (demo_is rules (moved m row) settings known me played);
+        closed = λ e. closed_moved rules me m settings row playing n.demo demo written (r.demo.closed played);
+        writable = writable_moved rules me m settings row playing n.demo demo written (r.demo.closed played)
+            r.demo.writable;
+      };
     }

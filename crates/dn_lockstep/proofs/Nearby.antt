@@ -6,9 +6,7 @@ use Rattle.std.proofs.lemmas.Bool.{ltb-false, eqb-true, not-true, not-false, and
 use Rattle.dn_tic.specs.Tics.{exact_tic}
 use Rattle.dn_tic.proofs.Near.{exact-near}
 use Rattle.dn_packet.specs.declared.packet.Packet.{Packet}
-use Rattle.dn_packet.specs.declared.packet.PacketFault.{PacketFault}
-use Rattle.dn_packet.specs.Read.{IsReadAs}
-use Rattle.dn_packet.specs.Text.{text}
+use Rattle.dn_packet.specs.Flags as flag
 use Rattle.dn_setup.specs.Settings.{Settings}
 use Rattle.dn_setup.specs.Setup.{IsSetupReadAs}
 use Rattle.dn_setup.specs.declared.setup.SetupFault.{SetupFault}
@@ -17,27 +15,29 @@ use Rattle.dn_machine.specs.declared.answers.Cause.{Cause}
 use Rattle.dn_machine.specs.declared.answers.Heard.{Heard}
 use Rattle.dn_machine.specs.declared.answers.Phase.{Phase}
 use Rattle.dn_machine.specs.declared.answers.Phase.TheVariants.{Listening, Gathering, Playing, Ended}
+use Rattle.dn_machine.specs.Drops as drops
 use Rattle.dn_machine.specs.Worlds.{Rules, rules_of}
 use Rattle.dn_machine.specs.Flight.{Kind, SetUp, Play, Exit, Flight, packet_of, commands_packet, is_close, is_request_close, is_near}
 use Rattle.dn_machine.specs.Node as machine
 use Rattle.dn_machine.specs.Node.{made}
 use Rattle.dn_machine.specs.Hearing.{on_packet, on_packet_in, on_ended}
+use Rattle.dn_lockstep.specs.Hearing.{HearsAny, HearsNear}
 use Rattle.dn_lockstep.specs.Near.{IsFair, IsFairKind}
 use Rattle.dn_lockstep.specs.Phases.{hears_none}
 use Rattle.dn_lockstep.specs.Reading.{has_flag, kind_in, start_at, start_in, request_in}
-use Rattle.dn_lockstep.specs.Received.{received, IsTold, on_read, on_set_up, on_player, on_start, is_counted}
-use Rattle.dn_lockstep.specs.Rings.{is_stop, count_of}
+use Rattle.dn_lockstep.specs.Received.{received, on_read, on_set_up, on_player, is_counted}
+use Rattle.dn_lockstep.specs.Rings.{is_stop}
 use Rattle.dn_lockstep.specs.Contents.{Contents}
 use Rattle.dn_lockstep.specs.Marking.{free}
-use Rattle.dn_lockstep.specs.Steps.{Steps}
 use Rattle.dn_lockstep.proofs.After.{after}
-use Rattle.dn_lockstep.proofs.Flags.{kind_flagged, read_unheard, read_player, counted, player_gathers, left_leaves}
+use Rattle.dn_lockstep.proofs.Flags.{on_start, kind_flagged, read_unheard, read_player, counted, player_gathers, left_leaves}
 use Rattle.dn_lockstep.proofs.Counting.{made_is}
 
 -- a close tic is read from its low byte
 read_close : (made tic : ℕ) → is_close made tic ≡ true → exact_tic made (tic % 256) ≡ Some tic
 read_close made tic close =
-    let apart : (tic - made) + (made - tic) ≤ 64 = ltb-false 64 ((tic - made) + (made - tic)) (not-true _ close) in
+    let apart : (tic - made) + (made - tic) ≤ 64 =
+    ltb-false 64 ((tic - made) + (made - tic)) (not-true _ close) in
     exact-near made tic (omega arith) (omega arith)
 
 -- and so is a close request
@@ -45,7 +45,8 @@ read_request : (made : ℕ) (flight : Flight) → is_request_close made flight.r
     → request_in made (commands_packet 0 flight) ≡ flight.request
 read_request made flight close = go flight.request close
   where
-    go : (request : Option ℕ) → is_request_close made request ≡ true → request_in made (commands_packet 0 (record flight { request = request })) ≡ request
+    go : (request : Option ℕ) → is_request_close made request ≡ true
+        → request_in made (commands_packet 0 (record flight { request = request })) ≡ request
     go None close = refl
     go (Some tic) close = read_close made tic close
 
@@ -53,16 +54,19 @@ read_request_exit : (made : ℕ) (flight : Flight) → is_request_close made fli
     → request_in made (commands_packet 8 flight) ≡ flight.request
 read_request_exit made flight close = go flight.request close
   where
-    go : (request : Option ℕ) → is_request_close made request ≡ true → request_in made (commands_packet 8 (record flight { request = request })) ≡ request
+    go : (request : Option ℕ) → is_request_close made request ≡ true
+        → request_in made (commands_packet 8 (record flight { request = request })) ≡ request
     go None close = refl
     go (Some tic) close = read_close made tic close
 
 -- flags that a packet of commands has not, whether it asks or not
 module _ (flight : Flight) where
-  unset : (flags flag : ℕ) → bit_and (flags + 0) flag ≡ 0 → bit_and (flags + 4) flag ≡ 0 → has_flag (commands_packet flags flight) flag ≡ false
+  unset : (flags flag : ℕ) → bit_and (flags + 0) flag ≡ 0 → bit_and (flags + 4) flag ≡ 0
+      → has_flag (commands_packet flags flight) flag ≡ false
   unset flags flag plain asks = go flight.request
     where
-      go : (request : Option ℕ) → has_flag (commands_packet flags (record flight { request = request })) flag ≡ false
+      go : (request : Option ℕ) → has_flag (commands_packet flags (record flight { request = request })) flag
+          ≡ false
       go None = rw plain refl
       go (Some tic) = rw asks refl
 
@@ -74,8 +78,8 @@ module _ (flight : Flight) where
       go (Some tic) = refl
 
 -- a packet whose kind is that of one who leaves has the flag
-flag_of : (packet : Packet) → kind_in packet ≡ Exit → has_flag packet 8 ≡ true
-flag_of packet e = go (has_flag packet 8) e
+flag_of : (packet : Packet) → kind_in packet ≡ Exit → has_flag packet flag.exit ≡ true
+flag_of packet e = go (has_flag packet flag.exit) e
   where
     go : (flag : Bool) → (if flag then Exit else Play) ≡ Exit → flag ≡ true
     go true e = refl
@@ -88,18 +92,22 @@ told_by Play = Err NotSetup
 told_by Exit = Err NotSetup
 
 -- a test of a bit, as a fact
-no_bit : (packet : Packet) → has_flag packet 2 ≡ false → IsSetupReadAs packet (Err NotSetup)
+no_bit : (packet : Packet) → has_flag packet flag.set_up ≡ false → IsSetupReadAs packet (Err NotSetup)
 no_bit packet off set = set (eqb-true (bit_and packet.flags 2) 0 (not-false _ off))
 
-told_is : (flight : Flight) (kind : Kind) → IsFairKind flight kind → IsSetupReadAs (packet_of (record flight { kind = kind })) (told_by kind)
-told_is flight (SetUp settings) fair = (λ e. absurd (omega arith), refl, record { in_range = fair.1; ask = refl; start = refl })
+told_is : (flight : Flight) (kind : Kind) → IsFairKind flight kind
+    → IsSetupReadAs (packet_of (record flight { kind = kind })) (told_by kind)
+told_is flight (SetUp settings) fair =
+    (λ e. absurd (omega arith), refl, record { in_range = fair.1; ask = refl; start = refl })
 told_is flight Play fair = no_bit (commands_packet 0 flight) (unset flight 0 2 refl refl)
 told_is flight Exit fair = no_bit (commands_packet 8 flight) (unset flight 8 2 refl refl)
 
 module _ {S : Type 0} (rules : Rules S) (me : ℕ) (m : machine.Node) (flight : Flight) where
   -- a set-up packet
-  set_up_heard : (settings : Settings) (phase : Phase) → m.phase ≡ phase → flight.from ≡ 0 → hears_none m.phase m.played ≡ false
-      → ◌≡◌ {A = machine.Node × Heard} (on_set_up m flight.from (Ok settings) phase) (on_packet_in rules me m flight phase (SetUp settings))
+  set_up_heard : (settings : Settings) (phase : Phase) → m.phase ≡ phase → flight.from ≡ 0
+      → hears_none m.phase m.played ≡ false
+      → ◌≡◌ {A = machine.Node × Heard} (on_set_up rules me m flight.from (Ok settings) phase)
+      (on_packet_in rules me m flight phase (SetUp settings))
   set_up_heard settings Listening at key on = let first = eq-eqb flight.from 0 key in rw first refl
   set_up_heard settings Gathering at key on = refl
   set_up_heard settings Playing at key on = refl
@@ -114,8 +122,8 @@ module _ {S : Type 0} (rules : Rules S) (me : ℕ) (m : machine.Node) (flight : 
   -- a packet of the flight's commands: of a player who leaves, or who plays on
   record IsSpelt (packet : Packet) (kind : Kind) : Type 0 where
     player : packet.player ≡ flight.from
-    plain : has_flag packet 2 ≡ false
-    alive : has_flag packet 1 ≡ false
+    plain : has_flag packet flag.set_up ≡ false
+    alive : has_flag packet flag.kill ≡ false
     kinded : kind_in packet ≡ kind
     same : flight.kind ≡ kind
     begins : start_in (made me m) packet ≡ Ok flight.start
@@ -125,32 +133,57 @@ module _ {S : Type 0} (rules : Rules S) (me : ℕ) (m : machine.Node) (flight : 
   module _ (packet : Packet) (kind : Kind) (spelt : IsSpelt packet kind) where
     -- where its numbers are looked at they are the flight's
     numbers_heard : (phase : Phase) → is_counted phase kind ≡ true
-        → ◌≡◌ {A = machine.Node × Heard} (on_player rules me m flight.from packet phase) (on_packet_in rules me m (record flight { to = me }) phase kind)
+        → ◌≡◌ {A = machine.Node × Heard} (on_player rules me m flight.from packet phase)
+        (on_packet_in rules me m (record flight { to = me }) phase kind)
     numbers_heard phase looks =
-        counted rules me m flight.from packet phase kind spelt.kinded looks ∙ ap (on_start rules me m flight.from packet phase) spelt.begins
-        ∙ (λ i. on_packet_in rules me m (record { from = flight.from; to = me; kind = (spelt.kinded ∙ sym spelt.same) i; start = flight.start; request = spelt.asks i; commands = spelt.items i }) phase (spelt.kinded i))
+        counted rules me m flight.from packet phase kind spelt.kinded looks
+        ∙ ap (on_start rules me m flight.from packet phase) spelt.begins
+        ∙ (λ i. on_packet_in rules me m
+        (record {
+          from = flight.from;
+          to = me;
+          kind = (spelt.kinded ∙ sym spelt.same) i;
+          start =
+              flight.start;
+          request = spelt.asks i;
+          commands = spelt.items i;
+        }) phase (spelt.kinded i))
 
     read_heard : (phase : Phase) → m.phase ≡ phase → phase ≢ Listening
-        → ◌≡◌ {A = machine.Node × Heard} (on_read rules me m flight.from (Err NotSetup) (Ok packet)) (on_player rules me m flight.from packet phase)
+        → ◌≡◌ {A = machine.Node × Heard} (on_read rules me m flight.from (Err NotSetup) (Ok packet))
+        (on_player rules me m flight.from packet phase)
     read_heard phase at heard =
-        read_player rules me m flight.from (Err NotSetup) packet spelt.plain (λ e. heard (sym at ∙ e)) spelt.player spelt.alive
+        read_player rules me m flight.from (Err NotSetup) packet spelt.plain (λ e. heard (sym at ∙ e))
+        spelt.player spelt.alive
         ∙ ap (on_player rules me m flight.from packet) at
 
-  play_heard : (packet : Packet) → IsSpelt packet Play → (phase : Phase) → m.phase ≡ phase → hears_none m.phase m.played ≡ false
-      → ◌≡◌ {A = machine.Node × Heard} (on_read rules me m flight.from (Err NotSetup) (Ok packet)) (on_packet_in rules me m flight phase Play)
-  play_heard packet spelt Listening at on = read_unheard rules me m flight.from (Err NotSetup) packet spelt.plain at
-  play_heard packet spelt Gathering at on = read_heard packet Play spelt Gathering at (λ e. cc) ∙ player_gathers rules me m flight.from packet
-  play_heard packet spelt Playing at on = read_heard packet Play spelt Playing at (λ e. cc) ∙ numbers_heard packet Play spelt Playing refl
+  play_heard : (packet : Packet) → IsSpelt packet Play → (phase : Phase) → m.phase ≡ phase
+      → hears_none m.phase m.played ≡ false
+      → ◌≡◌ {A = machine.Node × Heard} (on_read rules me m flight.from (Err NotSetup) (Ok packet))
+      (on_packet_in rules me m flight phase Play)
+  play_heard packet spelt Listening at on = read_unheard rules me m flight.from (Err NotSetup) packet
+      spelt.plain at
+  play_heard packet spelt Gathering at on = read_heard packet Play spelt Gathering at (λ e. cc)
+      ∙ player_gathers rules me m flight.from packet
+  play_heard packet spelt Playing at on = read_heard packet Play spelt Playing at (λ e. cc)
+      ∙ numbers_heard packet Play spelt Playing refl
   play_heard packet spelt (Ended cause) at on =
       let has = has_played cause at on in
-      read_heard packet Play spelt (Ended cause) at (λ e. cc) ∙ numbers_heard packet Play spelt (Ended cause) refl
-      ∙ ap (λ (b : Bool). on_ended b me m (record flight { to = me }) Play) has ∙ sym (ap (λ (b : Bool). on_ended b me m flight Play) has)
+      read_heard packet Play spelt (Ended cause) at (λ e. cc)
+      ∙ numbers_heard packet Play spelt (Ended cause) refl
+      ∙ ap (λ (b : Bool). on_ended b me m (record flight { to = me }) Play) has
+      ∙ sym (ap (λ (b : Bool). on_ended b me m flight Play) has)
 
-  exit_heard : (packet : Packet) → IsSpelt packet Exit → (phase : Phase) → m.phase ≡ phase → hears_none m.phase m.played ≡ false
-      → ◌≡◌ {A = machine.Node × Heard} (on_read rules me m flight.from (Err NotSetup) (Ok packet)) (on_packet_in rules me m flight phase Exit)
-  exit_heard packet spelt Listening at on = read_unheard rules me m flight.from (Err NotSetup) packet spelt.plain at
-  exit_heard packet spelt Gathering at on = read_heard packet Exit spelt Gathering at (λ e. cc) ∙ player_gathers rules me m flight.from packet
-  exit_heard packet spelt Playing at on = read_heard packet Exit spelt Playing at (λ e. cc) ∙ numbers_heard packet Exit spelt Playing refl
+  exit_heard : (packet : Packet) → IsSpelt packet Exit → (phase : Phase) → m.phase ≡ phase
+      → hears_none m.phase m.played ≡ false
+      → ◌≡◌ {A = machine.Node × Heard} (on_read rules me m flight.from (Err NotSetup) (Ok packet))
+      (on_packet_in rules me m flight phase Exit)
+  exit_heard packet spelt Listening at on = read_unheard rules me m flight.from (Err NotSetup) packet
+      spelt.plain at
+  exit_heard packet spelt Gathering at on = read_heard packet Exit spelt Gathering at (λ e. cc)
+      ∙ player_gathers rules me m flight.from packet
+  exit_heard packet spelt Playing at on = read_heard packet Exit spelt Playing at (λ e. cc)
+      ∙ numbers_heard packet Exit spelt Playing refl
   exit_heard packet spelt (Ended cause) at on =
       let has = has_played cause at on in
       read_heard packet Exit spelt (Ended cause) at (λ e. cc)
@@ -159,9 +192,11 @@ module _ {S : Type 0} (rules : Rules S) (me : ℕ) (m : machine.Node) (flight : 
 
   -- a close flight's packet is spelt so
   spelt_as : (flags : ℕ) (kind : Kind) → kind_in (commands_packet flags flight) ≡ kind → flight.kind ≡ kind
-      → bit_and (flags + 0) 2 ≡ 0 → bit_and (flags + 4) 2 ≡ 0 → bit_and (flags + 0) 1 ≡ 0 → bit_and (flags + 4) 1 ≡ 0
+      → bit_and (flags + 0) 2 ≡ 0 → bit_and (flags + 4) 2 ≡ 0 → bit_and (flags + 0) 1 ≡ 0
+      → bit_and (flags + 4) 1 ≡ 0
       → request_in (made me m) (commands_packet flags flight) ≡ flight.request
-      → is_close (made me m) flight.start ≡ true → list_any is_stop flight.commands ≡ false → IsSpelt (commands_packet flags flight) kind
+      → is_close (made me m) flight.start ≡ true → list_any is_stop flight.commands ≡ false
+      → IsSpelt (commands_packet flags flight) kind
   spelt_as flags kind kinded same a b c d asks close fine =
       record {
         player = refl;
@@ -169,33 +204,46 @@ module _ {S : Type 0} (rules : Rules S) (me : ℕ) (m : machine.Node) (flight : 
         alive = unset flight flags 1 c d;
         kinded = kinded;
         same = same;
-        begins = ap (start_at (commands_packet flags flight)) (read_close (made me m) flight.start close) ∙ rw fine refl;
+        begins = ap (start_at (commands_packet flags flight)) (read_close (made me m) flight.start close)
+            ∙ rw fine refl;
         asks = asks;
         items = refl;
       }
 
-  near_read : (kind : Kind) → flight.kind ≡ kind → IsFairKind flight kind → is_near (made me m) (record flight { kind = kind }) ≡ true → hears_none m.phase m.played ≡ false
-      → ◌≡◌ {A = machine.Node × Heard} (on_read rules me m flight.from (told_by kind) (Ok (packet_of (record flight { kind = kind })))) (on_packet_in rules me m flight m.phase kind)
+  near_read : (kind : Kind) → flight.kind ≡ kind → IsFairKind flight kind
+      → is_near (made me m) (record flight { kind = kind }) ≡ true → hears_none m.phase m.played ≡ false
+      → ◌≡◌ {A = machine.Node × Heard}
+      (on_read rules me m flight.from (told_by kind) (Ok (packet_of (record flight { kind = kind }))))
+      (on_packet_in rules me m flight m.phase kind)
   near_read (SetUp settings) is fair near on = set_up_heard settings m.phase refl fair.0 on
   near_read Play is fair near on =
       let close = and_parts _ _ near in
       let plays = kind_flagged (commands_packet 0 flight) false (unset flight 0 8 refl refl) in
-      play_heard (commands_packet 0 flight) (spelt_as 0 Play plays is refl refl refl refl (read_request (made me m) flight close.1) close.0 fair) m.phase refl on
+      play_heard (commands_packet 0 flight)
+      (spelt_as 0 Play plays is refl refl refl refl (read_request (made me m) flight close.1) close.0
+      fair) m.phase refl on
   near_read Exit is fair near on =
       let close = and_parts _ _ near in
       let leaves = kind_flagged (commands_packet 8 flight) true (set_exit flight) in
-      exit_heard (commands_packet 8 flight) (spelt_as 8 Exit leaves is refl refl refl refl (read_request_exit (made me m) flight close.1) close.0 fair) m.phase refl on
+      exit_heard (commands_packet 8 flight)
+      (spelt_as 8 Exit leaves is refl refl refl refl (read_request_exit (made me m) flight close.1)
+      close.0 fair) m.phase refl on
 
-  ended_heard : (phase : Phase) (played : Bool) (kind : Kind) → m.played ≡ played → hears_none phase played ≡ true
-      → ◌≡◌ {A = machine.Node × Heard} (m, Heard.Dropped 13) (on_packet_in rules me m flight phase kind)
+  ended_heard : (phase : Phase) (played : Bool) (kind : Kind) → m.played ≡ played
+      → hears_none phase played ≡ true
+      → ◌≡◌ {A = machine.Node × Heard} (m, Heard.Dropped drops.not_playing)
+      (on_packet_in rules me m flight phase kind)
   ended_heard (Ended cause) false kind at done = ap (λ (b : Bool). on_ended b me m flight kind) (sym at)
   ended_heard (Ended cause) true kind at done = absurd (cc)
   ended_heard Listening played kind at done = absurd (cc)
   ended_heard Gathering played kind at done = absurd (cc)
   ended_heard Playing played kind at done = absurd (cc)
 
-  pub near_received : IsFair flight → flight.from < rules.players → flight.from ≢ me → is_near (made me m) flight ≡ true
-      → ◌≡◌ {A = machine.Node × Heard} (received rules me m flight.from (told_by flight.kind) (Ok (packet_of flight))) (on_packet rules me m flight)
+  pub near_received : IsFair flight → flight.from < rules.players → flight.from ≢ me
+      → is_near (made me m) flight ≡ true
+      → ◌≡◌ {A = machine.Node × Heard}
+      (received rules me m flight.from (told_by flight.kind) (Ok (packet_of flight)))
+      (on_packet rules me m flight)
   unfolding on_packet
   near_received fair below other near = elim (cases_Bool (hears_none m.phase m.played)) [
     | inl done ↦ rw done (ended_heard m.phase m.played flight.kind refl done)
@@ -207,17 +255,16 @@ module _ {S : Type 0} (rules : Rules S) (me : ℕ) (m : machine.Node) (flight : 
 
 -- hence who hears any bytes by the tests hears a near flight as the machine does
 pub near_from_any : (old new : Contents) (from : ℕ) (bytes : List ℕ) (answer : Heard)
-    → ((read : Result Packet PacketFault) (told : Result Settings SetupFault) → IsReadAs bytes read → IsTold read told
-    → Steps old new (λ rules me m. received rules me m from told read) (λ heard. answer ≡ heard))
-    → old.me < old.players
-    → (flight : Flight) → IsFair flight → bytes ≡ text (packet_of flight) → flight.from ≡ from → from < old.players → from ≢ old.me
-    → is_near (count_of old.rings old.me) flight ≡ true
-    → Steps old new (λ rules me m. on_packet rules me m flight) (λ heard. answer ≡ heard)
-near_from_any old new from bytes answer any own flight fair spelled sent below other near marking players extra capacity me m r =
+    → HearsAny from bytes old new answer → old.me < old.players → HearsNear from bytes old new answer
+near_from_any old new from bytes answer any own flight fair spelled sent below other near marking players
+    extra capacity me m r =
     let rules = rules_of (free marking) players extra capacity in
-    let peer : flight.from < players = omega (arith, sent, below, r.players) in
-    let apart : flight.from ≢ me = λ e. other (sym sent ∙ e ∙ sym r.number) in
-    let close : is_near (made me m) flight ≡ true = ap (λ (k : ℕ). is_near k flight) (sym (made_is rules me old m r own)) ∙ near in
-    let step = ap (λ (k : ℕ). received rules me m k (told_by flight.kind) (Ok (packet_of flight))) (sym sent) ∙ near_received rules me m flight fair peer apart close in
-    let heard = any (Ok (packet_of flight)) (told_by flight.kind) (fair.packet, spelled) (told_is flight flight.kind fair.kind) marking players extra capacity me m r in
+    let peer : flight.from < players = omega (arith, sent, below, r.whose.players) in
+    let apart : flight.from ≢ me = λ e. other (sym sent ∙ e ∙ sym r.whose.number) in
+    let close : is_near (made me m) flight ≡ true =
+    ap (λ (k : ℕ). is_near k flight) (sym (made_is rules me old m r own)) ∙ near in
+    let step = ap (λ (k : ℕ). received rules me m k (told_by flight.kind) (Ok (packet_of flight))) (sym sent)
+    ∙ near_received rules me m flight fair peer apart close in
+    let heard = any (Ok (packet_of flight)) (told_by flight.kind) (fair.packet, spelled)
+    (told_is flight flight.kind fair.kind) marking players extra capacity me m r in
     after _ _ (sym step) heard.node heard.answer

@@ -15,7 +15,8 @@ module _ (m : Node) where
   unfolding on_quit
   quit_ended cause e = ap (on_quit_in m) e
 
-  pub quit_playing : m.phase ≡ Playing → ◌≡◌ {A = Node × Bool} (on_quit m) (record m { phase = Ended Quit }, true)
+  pub quit_playing : m.phase ≡ Playing → ◌≡◌ {A = Node × Bool} (on_quit m)
+      (record m { phase = Ended Quit }, true)
   unfolding on_quit
   quit_playing e = ap (on_quit_in m) e
 
@@ -30,25 +31,23 @@ pub shows_unplayed : {S : Type 0} (rules : Rules S) (me : ℕ) (n : Contents) (m
     → Represents rules me n m → n.played ≡ false
     → Represents rules me (record n { phase = Ended cause }) (record m { phase = Ended cause })
 shows_unplayed rules me n m cause r unplayed =
-    let not : m.played ≡ false = sym r.played ∙ unplayed in
+    let not : m.played ≡ false = sym r.stands.played ∙ unplayed in
     record {
-      players = r.players;
-      number = r.number;
-      extra = r.extra;
-      capacity = r.capacity;
-      gathers = r.gathers;
-      phase = refl;
-      played = r.played;
-      settings = r.settings;
-      hold = r.hold;
-      ran = r.ran;
-      rings = r.rings;
+      whose = r.whose;
+      stands = record {
+        phase = refl;
+        played = r.stands.played;
+        settings = r.stands.settings;
+      };
+      commands = r.commands;
       peers = r.peers;
-      noted = r.noted;
-      marks = r.marks;
-      demo = r.demo
-          ∙ ap (λ (b : Bool). if b then demo_with rules me m m.settings else []) not
-          ∙ sym (ap (λ (b : Bool). if b then demo_with rules me (record m { phase = Ended cause }) m.settings else []) not);
-      closed = λ e. absurd (true≢false (sym e ∙ not));
-      writable = r.writable;
+      table = r.table;
+      demo = record {
+        bytes = r.demo.bytes
+            ∙ ap (λ (b : Bool). if b then demo_with rules me m m.settings else []) not
+            ∙ sym (ap (λ (b : Bool). if b then demo_with rules me (record m { phase = Ended cause })
+            m.settings else []) not);
+        closed = λ e. absurd (true≢false (sym e ∙ not));
+        writable = r.demo.writable;
+      };
     }

@@ -9,22 +9,26 @@ use Rattle.dn_setup.specs.Settings.{Settings}
 use Rattle.dn_setup.specs.declared.setup.SetupFault.{SetupFault}
 use Rattle.dn_machine.specs.declared.answers.Heard.{Heard}
 use Rattle.dn_machine.specs.declared.answers.Phase.{Phase}
+use Rattle.dn_machine.specs.Drops as drops
 use Rattle.dn_machine.specs.Worlds.{Rules, rules_of}
 use Rattle.dn_machine.specs.Node as machine
 use Rattle.dn_lockstep.specs.Contents.{Contents}
-use Rattle.dn_lockstep.specs.Marking.{History, free}
+use Rattle.dn_lockstep.specs.Marking.{free}
 use Rattle.dn_lockstep.specs.Phases.{hears_none}
-use Rattle.dn_lockstep.specs.Received.{received, on_read, IsTold}
+use Rattle.dn_lockstep.specs.Received.{received, on_read, packet_drop, IsTold}
 use Rattle.dn_lockstep.specs.Represents.{Represents}
 use Rattle.dn_lockstep.specs.Steps.{Steps}
 use Rattle.dn_lockstep.proofs.After.{after}
 
-module _ {S : Type 0} (rules : Rules S) (me : ℕ) (m : machine.Node) (from : ℕ) (told : Result Settings SetupFault) (read : Result Packet PacketFault) where
-  received_ended : hears_none m.phase m.played ≡ true → ◌≡◌ {A = machine.Node × Heard} (received rules me m from told read) (m, Heard.Dropped 13)
+module _ {S : Type 0} (rules : Rules S) (me : ℕ) (m : machine.Node) (from : ℕ)
+    (told : Result Settings SetupFault) (read : Result Packet PacketFault) where
+  received_ended : hears_none m.phase m.played ≡ true
+      → ◌≡◌ {A = machine.Node × Heard} (received rules me m from told read)
+      (m, Heard.Dropped drops.not_playing)
   received_ended done = rw done refl
 
   received_strange : hears_none m.phase m.played ≡ false → (rules.players ≤ from) ⊎ (from ≡ me)
-      → ◌≡◌ {A = machine.Node × Heard} (received rules me m from told read) (m, Heard.Dropped 5)
+      → ◌≡◌ {A = machine.Node × Heard} (received rules me m from told read) (m, Heard.Dropped drops.stranger)
   received_strange on (inl past) = let none = le-ltb from rules.players past in rw (on, none) refl
   received_strange on (inr own) = elim (cases_lt from rules.players) [
     | inl below ↦
@@ -35,7 +39,8 @@ module _ {S : Type 0} (rules : Rules S) (me : ℕ) (m : machine.Node) (from : �
   ]
 
   received_read : hears_none m.phase m.played ≡ false → from < rules.players → from ≢ me
-      → ◌≡◌ {A = machine.Node × Heard} (received rules me m from told read) (on_read rules me m from told read)
+      → ◌≡◌ {A = machine.Node × Heard} (received rules me m from told read)
+      (on_read rules me m from told read)
   received_read on below other =
       let there = lt-ltb from rules.players below in
       let apart = ne_eqb from me other in
@@ -43,46 +48,69 @@ module _ {S : Type 0} (rules : Rules S) (me : ℕ) (m : machine.Node) (from : �
 
 module _ (old : Contents) (from : ℕ) (bytes : List ℕ) where
   -- a node that has ended without having played drops it
-  pub any_ended : hears_none old.phase old.played ≡ true → (read : Result Packet PacketFault) (told : Result Settings SetupFault) → IsReadAs bytes read → IsTold read told
-      → Steps old old (λ rules me m. received rules me m from told read) (λ heard. Heard.Dropped 13 ≡ heard)
+  pub any_ended : hears_none old.phase old.played ≡ true
+      → (read : Result Packet PacketFault) (told : Result Settings SetupFault) → IsReadAs bytes read
+      → IsTold read told
+      → Steps old old (λ rules me m. received rules me m from told read)
+      (λ heard. Heard.Dropped drops.not_playing ≡ heard)
   any_ended done read told is tells marking players extra capacity me m r =
-      after m (Heard.Dropped 13) (received_ended (rules_of (free marking) players extra capacity) me m from told read (ap (λ (p : Phase). hears_none p m.played) (sym r.phase) ∙ ap (λ (b : Bool). hears_none old.phase b) (sym r.played) ∙ done)) r refl
+      after m (Heard.Dropped drops.not_playing)
+      (received_ended (rules_of (free marking) players extra capacity) me m from told read
+      (ap (λ (p : Phase). hears_none p m.played) (sym r.stands.phase)
+      ∙ ap (λ (b : Bool). hears_none old.phase b) (sym r.stands.played) ∙ done)) r refl
 
   module _ (on : hears_none old.phase old.played ≡ false) where
-    goes_on : {S : Type 0} (rules : Rules S) (me : ℕ) (m : machine.Node) → Represents rules me old m → hears_none m.phase m.played ≡ false
-    goes_on rules me m r = ap (λ (p : Phase). hears_none p m.played) (sym r.phase) ∙ ap (λ (b : Bool). hears_none old.phase b) (sym r.played) ∙ on
+    goes_on : {S : Type 0} (rules : Rules S) (me : ℕ) (m : machine.Node) → Represents rules me old m
+        → hears_none m.phase m.played ≡ false
+    goes_on rules me m r = ap (λ (p : Phase). hears_none p m.played) (sym r.stands.phase)
+        ∙ ap (λ (b : Bool). hears_none old.phase b) (sym r.stands.played) ∙ on
 
     -- who is no peer is not heard
-    pub any_strange : (old.players ≤ from) ⊎ (from ≡ old.me) → (read : Result Packet PacketFault) (told : Result Settings SetupFault) → IsReadAs bytes read → IsTold read told
-        → Steps old old (λ rules me m. received rules me m from told read) (λ heard. Heard.Dropped 5 ≡ heard)
+    pub any_strange : (old.players ≤ from) ⊎ (from ≡ old.me)
+        → (read : Result Packet PacketFault) (told : Result Settings SetupFault) → IsReadAs bytes read
+        → IsTold read told
+        → Steps old old (λ rules me m. received rules me m from told read)
+        (λ heard. Heard.Dropped drops.stranger ≡ heard)
     any_strange (inl past) read told is tells marking players extra capacity me m r =
-        after m (Heard.Dropped 5) (received_strange (rules_of (free marking) players extra capacity) me m from told read (goes_on (rules_of (free marking) players extra capacity) me m r)
-        (inl (omega (arith, past, r.players)))) r refl
+        after m (Heard.Dropped drops.stranger)
+        (received_strange (rules_of (free marking) players extra capacity) me m from told read
+        (goes_on (rules_of (free marking) players extra capacity) me m r)
+        (inl (omega (arith, past, r.whose.players)))) r refl
     any_strange (inr own) read told is tells marking players extra capacity me m r =
-        after m (Heard.Dropped 5) (received_strange (rules_of (free marking) players extra capacity) me m from told read (goes_on (rules_of (free marking) players extra capacity) me m r)
-        (inr (own ∙ r.number))) r refl
+        after m (Heard.Dropped drops.stranger)
+        (received_strange (rules_of (free marking) players extra capacity) me m from told read
+        (goes_on (rules_of (free marking) players extra capacity) me m r)
+        (inr (own ∙ r.whose.number))) r refl
 
     -- a peer's bytes are heard as what they are read as
-    pub any_read : (new : Contents) (answer : Heard) (found : Result Packet PacketFault) → from < old.players → from ≢ old.me
+    pub any_read : (new : Contents) (answer : Heard) (found : Result Packet PacketFault) → from < old.players
+        → from ≢ old.me
         → ((read : Result Packet PacketFault) → IsReadAs bytes read → found ≡ read)
-        → ((told : Result Settings SetupFault) → IsTold found told → Steps old new (λ rules me m. on_read rules me m from told found) (λ heard. answer ≡ heard))
-        → (read : Result Packet PacketFault) (told : Result Settings SetupFault) → IsReadAs bytes read → IsTold read told
+        → ((told : Result Settings SetupFault) → IsTold found told
+        → Steps old new (λ rules me m. on_read rules me m from told found) (λ heard. answer ≡ heard))
+        → (read : Result Packet PacketFault) (told : Result Settings SetupFault) → IsReadAs bytes read
+        → IsTold read told
         → Steps old new (λ rules me m. received rules me m from told read) (λ heard. answer ≡ heard)
-    any_read new answer found below other only hears read told is tells marking players extra capacity me m r =
+    any_read new answer found below other only hears read told is tells marking players extra capacity me m
+        r =
         let P : Result Packet PacketFault → Type 0 = λ x. IsTold x told in
         let heard = hears told (subst P (sym (only read is)) tells) marking players extra capacity me m r in
         let rules = rules_of (free marking) players extra capacity in
-        let step = received_read rules me m from told read (goes_on rules me m r) (omega (arith, below, r.players)) (λ e. other (e ∙ sym r.number))
+        let step = received_read rules me m from told read (goes_on rules me m r)
+        (omega (arith, below, r.whose.players)) (λ e. other (e ∙ sym r.whose.number))
         ∙ ap (on_read rules me m from told) (sym (only read is)) in
         after _ _ step heard.node heard.answer
 
     -- bytes that are no packet are dropped by the number of their fault
-    pub any_fault : (fault : PacketFault) (number : ℕ) → from < old.players → from ≢ old.me
-        → ((read : Result Packet PacketFault) → IsReadAs bytes read → ◌≡◌ {A = Result Packet PacketFault} (Err fault) read)
-        → ((rules : Rules History) (me : ℕ) (m : machine.Node) (told : Result Settings SetupFault)
-        → ◌≡◌ {A = machine.Node × Heard} (on_read rules me m from told (Err fault)) (m, Heard.Dropped number))
-        → (read : Result Packet PacketFault) (told : Result Settings SetupFault) → IsReadAs bytes read → IsTold read told
-        → Steps old old (λ rules me m. received rules me m from told read) (λ heard. Heard.Dropped number ≡ heard)
-    any_fault fault number below other only drops =
+    pub any_fault : (fault : PacketFault) (number : ℕ) → number ≡ packet_drop fault → from < old.players
+        → from ≢ old.me
+        → ((read : Result Packet PacketFault) → IsReadAs bytes read
+        → ◌≡◌ {A = Result Packet PacketFault} (Err fault) read)
+        → (read : Result Packet PacketFault) (told : Result Settings SetupFault) → IsReadAs bytes read
+        → IsTold read told
+        → Steps old old (λ rules me m. received rules me m from told read)
+        (λ heard. Heard.Dropped number ≡ heard)
+    any_fault fault number drop below other only =
         any_read old (Heard.Dropped number) (Err fault) below other only
-        (λ told is marking players extra capacity me m r. after m (Heard.Dropped number) (drops (rules_of (free marking) players extra capacity) me m told) r refl)
+        (λ told is marking players extra capacity me m r. after m (Heard.Dropped number)
+        (ap (λ (k : ℕ). (m, Heard.Dropped k)) (sym drop)) r refl)

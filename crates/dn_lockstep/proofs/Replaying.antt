@@ -22,31 +22,41 @@ use Rattle.dn_machine.specs.Node.{is_ended, is_whole, demo_rows}
 use Rattle.dn_lockstep.specs.Represents.{Represents, CanBeWritten, demo_of, demo_with, is_demo_closed}
 use Rattle.dn_lockstep.specs.Rows.{seats_of}
 
-module _ {S : Type 0} (rules : Rules S) (m : machine.Node) (settings : Settings) (known : m.settings ≡ Some settings) where
+module _ {S : Type 0} (rules : Rules S) (m : machine.Node) (settings : Settings)
+    (known : m.settings ≡ Some settings) where
   pub own_world_is : (tic : ℕ) → own_world rules m tic ≡ Some (world_after rules settings m.rows tic)
   own_world_is tic = ap (option_map (λ (s : Settings). world_after rules s m.rows tic)) known
 
   -- where the demo has as many rows as were run, it has all
   pub all_recorded : machine.ran m ≡ length (demo_rows rules m) → demo_rows rules m ≡ m.rows
-  all_recorded e = let long = length-prefix_len (is_whole rules.players) m.rows in take_all (prefix_len (is_whole rules.players) m.rows) m.rows (omega arith)
+  all_recorded e = let long = length-prefix_len (is_whole rules.players) m.rows in
+      take_all (prefix_len (is_whole rules.players) m.rows) m.rows (omega arith)
 
   pub demo_is : (me : ℕ) → m.played ≡ true
-      → demo_of rules me m ≡ demo_text long_tics (start_of settings) me (seats_of rules.players) (demo_rows rules m) (is_demo_closed rules m)
+      → demo_of rules me m ≡ demo_text long_tics (start_of settings) me (seats_of rules.players)
+      (demo_rows rules m) (is_demo_closed rules m)
   demo_is me played =
       ap (λ (b : Bool). if b then demo_with rules me m m.settings else []) played
       ∙ ap (demo_with rules me m) known
 
 module _ {S : Type 0} (rules : Rules S) (me : ℕ) (n : Contents) (m : machine.Node) (settings : Settings)
     (r : Represents rules me n m) (played : m.played ≡ true) (known : m.settings ≡ Some settings) where
-  pub demo_ended : (cause : Cause) → m.phase ≡ Ended cause → n.demo.bytes ≡ demo_text long_tics (start_of settings) me (seats_of rules.players) (demo_rows rules m) true
+  pub demo_ended : (cause : Cause) → m.phase ≡ Ended cause
+      → n.demo.bytes ≡ demo_text long_tics (start_of settings) me (seats_of rules.players) (demo_rows rules m)
+      true
   demo_ended cause ended =
-      r.demo ∙ demo_is rules m settings known me played
-      ∙ ap (λ (p : Phase). demo_text long_tics (start_of settings) me (seats_of rules.players) (demo_rows rules m) (is_ended p || nat_lt (length (demo_rows rules m)) (machine.ran m))) ended
+      r.demo.bytes ∙ demo_is rules m settings known me played
+      ∙ ap (λ (p : Phase). demo_text long_tics (start_of settings) me (seats_of rules.players)
+      (demo_rows rules m) (is_ended p || nat_lt (length (demo_rows rules m)) (machine.ran m))) ended
 
   -- and is read back
   pub read_back : (cause : Cause) → m.phase ≡ Ended cause
-      → IsReadAs n.demo.bytes (Ok (written_demo long_tics (start_of settings) me (seats_of rules.players) (demo_rows rules m)))
+      → IsReadAs n.demo.bytes
+      (Ok (written_demo long_tics (start_of settings) me (seats_of rules.players) (demo_rows rules m)))
   unfolding CanBeWritten
   read_back cause ended =
-      let P : List ℕ → Type 0 = λ bytes. IsReadAs bytes (Ok (written_demo long_tics (start_of settings) me (seats_of rules.players) (demo_rows rules m))) in
-      subst P (sym (demo_ended cause ended)) (long_read_back (start_of settings) me (seats_of rules.players) (demo_rows rules m) r.writable)
+      let P : List ℕ → Type 0 =
+      λ bytes. IsReadAs bytes
+      (Ok (written_demo long_tics (start_of settings) me (seats_of rules.players) (demo_rows rules m))) in
+      subst P (sym (demo_ended cause ended))
+      (long_read_back (start_of settings) me (seats_of rules.players) (demo_rows rules m) r.demo.writable)

@@ -1,58 +1,46 @@
 -- The seats of a row.
-use Rattle.std.proofs.Common.{◌≡◌, ◌<◌, ◌≤◌, ℕ, zero, suc, Bool, true, false, true≢false, not, cond, Option, Some, None, is_some, List, [], ◌∷◌, ltb, leb, refl, ap, sym, ◌∙◌, arith, inl, inr}
-use Rattle.std.specs.Prelude.{if◌then◌else◌}
-use Rattle.std.specs.Option.{is_none, option_map}
+use Rattle.std.proofs.Common.{◌≡◌, ◌<◌, ℕ, Bool, true, false, true≢false, not, cond, Option, Some, None, is_some, List, ltb, leb, refl, ap, sym, ◌∙◌, inl, inr}
+use Rattle.std.specs.Option.{is_none}
 use Rattle.std.proofs.lemmas.Bool.{not-false, ltb-true, le-leb, and_from, cases_lt}
-use Rattle.dn_tic.specs.declared.command.TicCmd.{TicCmd}
 use Rattle.dn_tic.specs.declared.command.Move.{Move}
-use Rattle.dn_tic.specs.Command.{used}
 use Rattle.dn_ring.specs.Ring.{Ring}
 use Rattle.dn_machine.specs.Node.{lowest, lacks, is_whole}
 use Rattle.dn_machine.proofs.Demos.{none_is}
 use Rattle.dn_machine.proofs.Marks.{lowest_none_each}
 use Rattle.dn_lockstep.specs.Rings.{count_of}
 use Rattle.dn_lockstep.specs.Rows.{is_gone, is_missing}
-use Rattle.dn_lockstep.specs.declared.peers.Peer.{Peer}
+use Rattle.dn_machine.specs.declared.peer.Peer.{Peer}
 use Rattle.dn_lockstep.proofs.Lowest.{lowest_same}
 
 -- a seat of a whole row
-pub whole_seat : (b : Bool) (a x : Option Move) → a ≡ cond b x None → (b ≡ true → is_none a ≡ false) → is_some a ≡ b
+pub whole_seat : (b : Bool) (a x : Option Move) → a ≡ cond b x None → (b ≡ true → is_none a ≡ false)
+    → is_some a ≡ b
 whole_seat true a x e h = not-false (is_some a) (h refl)
 whole_seat false a x e h = ap is_some e
 
-pub whole_each : (players : ℕ) (row : List (Option Move)) → is_whole players row ≡ true → (p : ℕ) → ltb p players ≡ true → lacks row p ≡ false
-whole_each players row e p l = lowest_none_each players (lacks row) (none_is (lowest players (lacks row)) e) p (ltb-true p players l)
-
--- a seat is empty where its player is gone
-pub seat_gone : (a : Option Move) (gone inside : Bool) (x : Option TicCmd) → a ≡ (if inside then option_map used (if gone then None else x) else None) → inside ≡ true
-    → (gone ≡ false → is_some a ≡ true) → is_none a ≡ gone
-seat_gone a gone false x e l h = absurd (cc)
-seat_gone a true true x e l h = ap is_none e
-seat_gone a false true x e l h = ap not (h refl)
+pub whole_each : (players : ℕ) (row : List (Option Move)) → is_whole players row ≡ true → (p : ℕ)
+    → ltb p players ≡ true → lacks row p ≡ false
+whole_each players row e p l = lowest_none_each players (lacks row) (none_is (lowest players (lacks row)) e) p
+    (ltb-true p players l)
 
 -- a row is whole where nobody is gone
-pub whole_gone : (a b c d : Option Move) (players : ℕ) (gone : ℕ → Bool) → players ≤ 4
-    → (0 < players → is_none a ≡ gone 0) → (1 < players → is_none b ≡ gone 1) → (2 < players → is_none c ≡ gone 2) → (3 < players → is_none d ≡ gone 3)
-    → is_whole players (a ∷ b ∷ c ∷ d ∷ []) ≡ not (is_some (lowest players gone))
-whole_gone a b c d players gone few e f g h = ap is_none (lowest_same players _ _ seat) ∙ none_some (lowest players gone)
+pub whole_gone : (row : List (Option Move)) (players : ℕ) (gone : ℕ → Bool)
+    → ((p : ℕ) → p < players → lacks row p ≡ gone p)
+    → is_whole players row ≡ not (is_some (lowest players gone))
+whole_gone row players gone seat = ap is_none (lowest_same players _ _ seat) ∙ none_some (lowest players gone)
   where
-    seat : (p : ℕ) → p < players → lacks (a ∷ b ∷ c ∷ d ∷ []) p ≡ gone p
-    seat zero l = e l
-    seat (suc zero) l = f l
-    seat (suc (suc zero)) l = g l
-    seat (suc (suc (suc zero))) l = h l
-    seat (suc (suc (suc (suc p)))) l = absurd (omega arith)
-
     none_some : (o : Option ℕ) → is_none o ≡ not (is_some o)
     none_some None = refl
     none_some (Some x) = refl
 
 -- where nobody's command is missing, that of a player who is not gone is there
-pub here_all : (rings : ℕ → Ring) (peers : ℕ → Peer) (players tic : ℕ) → lowest players (is_missing rings peers tic) ≡ None
+pub here_all : (rings : ℕ → Ring) (peers : ℕ → Peer) (players tic : ℕ)
+    → lowest players (is_missing rings peers tic) ≡ None
     → (p : ℕ) → p < players → is_gone peers tic p ≡ false → tic < count_of rings p
 here_all rings peers players tic none p l stays = elim (cases_lt tic (count_of rings p)) [
   | inl here ↦ here
   | inr past ↦
-      let waits = and_from (not (is_gone peers tic p)) (leb (count_of rings p) tic) (ap not stays) (le-leb (count_of rings p) tic past) in
+      let waits = and_from (not (is_gone peers tic p)) (leb (count_of rings p) tic) (ap not stays)
+      (le-leb (count_of rings p) tic past) in
       absurd (true≢false (sym waits ∙ lowest_none_each players (is_missing rings peers tic) none p l))
 ]

@@ -26,7 +26,8 @@ use Rattle.dn_lockstep.proofs.Sending.{sends_in}
 -- only a gathering node sends anything but its own commands
 module _ {S : Type 0} (rules : Rules S) (me : ℕ) (m : machine.Node) (to : ℕ) where
   exits : (test : Bool) (next : machine.Node)
-      → IfSome (cond {A = machine.Node × Option Flight} test (next, Some (commands_flight rules me m to Exit None)) (m, None)).1 (IsOwn m me)
+      → IfSome (cond {A = machine.Node × Option Flight} test
+      (next, Some (commands_flight rules me m to Exit None)) (m, None)).1 (IsOwn m me)
   exits true next = record { from = refl; kind = inr refl; commands = refl }
   exits false next = tt
 
@@ -38,29 +39,39 @@ module _ {S : Type 0} (rules : Rules S) (me : ℕ) (m : machine.Node) (to : ℕ)
 
 -- so does a node that represents it
 pub own_sent : {S : Type 0} (rules : Rules S) (me : ℕ) (n : Contents) (m : machine.Node) (to : ℕ)
-    → Represents rules me n m → Gives n to → n.phase ≢ Gathering → IfSome (sent_to to rules me m).1 (IsOwn m me)
+    → Represents rules me n m → Gives n to → n.phase ≢ Gathering
+    → IfSome (sent_to to rules me m).1 (IsOwn m me)
 own_sent rules me n m to r given on =
     let P : machine.Node × Option Flight → Type 0 = λ x. IfSome x.1 (IsOwn m me) in
-    subst P (sym (sends_in rules me n m to _ r given.below given.other r.phase)) (sends_own rules me m to m.phase (λ e. on (r.phase ∙ e)))
+    subst P (sym (sends_in rules me n m to _ r given.below given.other r.stands.phase))
+    (sends_own rules me m to m.phase (λ e. on (r.stands.phase ∙ e)))
 
-module _ (m : machine.Node) (me : ℕ) (aim : Aim) (packet : Packet) (spelled : (flight : Flight) → IsOwn m me flight → aim ≡ aim_of flight → packet ≡ packet_of flight) where
+module _ (m : machine.Node) (me : ℕ) (aim : Aim) (packet : Packet)
+    (spelled : (flight : Flight) → IsOwn m me flight → aim ≡ aim_of flight → packet ≡ packet_of flight) where
   -- the packet of its numbers is the flight's
-  pub own_packet : (sent : Option Flight) → IfSome sent (IsOwn m me) → ◌≡◌ {A = Option Aim} (Some aim) (option_map aim_of sent)
+  pub own_packet : (sent : Option Flight) → IfSome sent (IsOwn m me)
+      → ◌≡◌ {A = Option Aim} (Some aim) (option_map aim_of sent)
       → ◌≡◌ {A = Option Packet} (Some packet) (option_map packet_of sent)
   own_packet None own e = absurd (cc)
   own_packet (Some flight) own e = ap Some (spelled flight own (same_Some _ _ e))
 
-  no_stop_in : (flight : Flight) (kind : Kind) → flight.kind ≡ kind → packet ≡ packet_of flight → list_any is_stop packet.cmds.items ≡ false
+  no_stop_in : (flight : Flight) (kind : Kind) → flight.kind ≡ kind → packet ≡ packet_of flight
+      → list_any is_stop packet.cmds.items ≡ false
       → list_any is_stop (packet_of_kind flight kind).cmds.items ≡ false
   no_stop_in flight kind is e fine =
-      ap (λ (k : Kind). list_any is_stop (packet_of_kind flight k).cmds.items) (sym is) ∙ ap (λ (p : Packet). list_any is_stop p.cmds.items) (sym e) ∙ fine
+      ap (λ (k : Kind). list_any is_stop (packet_of_kind flight k).cmds.items) (sym is)
+      ∙ ap (λ (p : Packet). list_any is_stop p.cmds.items) (sym e) ∙ fine
 
-  kind_fair : (flight : Flight) → packet ≡ packet_of flight → list_any is_stop packet.cmds.items ≡ false → (flight.kind ≡ Play) ⊎ (flight.kind ≡ Exit) → IsFairKind flight flight.kind
-  kind_fair flight e fine (inl is) = let P : Kind → Type 0 = IsFairKind flight in subst P (sym is) (no_stop_in flight Play is e fine)
-  kind_fair flight e fine (inr is) = let P : Kind → Type 0 = IsFairKind flight in subst P (sym is) (no_stop_in flight Exit is e fine)
+  kind_fair : (flight : Flight) → packet ≡ packet_of flight → list_any is_stop packet.cmds.items ≡ false
+      → (flight.kind ≡ Play) ⊎ (flight.kind ≡ Exit) → IsFairKind flight flight.kind
+  kind_fair flight e fine (inl is) = let P : Kind → Type 0 = IsFairKind flight in
+      subst P (sym is) (no_stop_in flight Play is e fine)
+  kind_fair flight e fine (inr is) = let P : Kind → Type 0 = IsFairKind flight in
+      subst P (sym is) (no_stop_in flight Exit is e fine)
 
   -- and a fair one
-  pub own_fair : (sent : Option Flight) → IfSome sent (IsOwn m me) → ◌≡◌ {A = Option Aim} (Some aim) (option_map aim_of sent)
+  pub own_fair : (sent : Option Flight) → IfSome sent (IsOwn m me)
+      → ◌≡◌ {A = Option Aim} (Some aim) (option_map aim_of sent)
       → IsPacket packet → list_any is_stop packet.cmds.items ≡ false → IfSome sent IsFair
   own_fair None own e valid fine = tt
   own_fair (Some flight) own e valid fine =
@@ -71,7 +82,8 @@ module _ (m : machine.Node) (me : ℕ) (aim : Aim) (packet : Packet) (spelled : 
 pub set_up_packet : (me to : ℕ) (settings : Settings) (own : Option Settings) (packet : Packet)
     → own ≡ Some settings → packet ≡ setup_packet settings
     → ◌≡◌ {A = Option Packet} (Some packet) (option_map packet_of (set_up_flight me to own))
-set_up_packet me to settings own packet e is = ap Some is ∙ ap (λ (o : Option Settings). option_map packet_of (set_up_flight me to o)) (sym e)
+set_up_packet me to settings own packet e is = ap Some is
+    ∙ ap (λ (o : Option Settings). option_map packet_of (set_up_flight me to o)) (sym e)
 
 pub set_up_fair : (me to : ℕ) (settings : Settings) (own : Option Settings) (packet : Packet)
     → own ≡ Some settings → packet ≡ setup_packet settings → me ≡ 0 → IsPacket packet → IsSettings settings

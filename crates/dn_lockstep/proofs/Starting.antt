@@ -26,7 +26,8 @@ none_there [] e = refl
 none_there (x ∷ xs) e = absurd (omega arith)
 
 -- how long a demo without rows is
-pub head_length : (start : Start) (view players : ℕ) → length (demo_text long_tics start view (seats_of players) [] false) ≡ 13
+pub head_length : (start : Start) (view players : ℕ)
+    → length (demo_text long_tics start view (seats_of players) [] false) ≡ 13
 unfolding demo_text
 head_length start view players = refl
 
@@ -35,29 +36,38 @@ pub early_mark : {S : Type 0} (rules : Rules S) (m other : machine.Node) (p tic 
     → own_mark rules m p tic ≡ own_mark rules other p tic
 early_mark rules m other p tic low = sym (first_marks rules m p tic low) ∙ first_marks rules other p tic low
 
-pub shows_start : {S : Type 0} (rules : Rules S) (me : ℕ) (n : Contents) (m : machine.Node) (settings : Settings) (demo : Recorded)
+pub shows_start : {S : Type 0} (rules : Rules S) (me : ℕ) (n : Contents) (m : machine.Node)
+    (settings : Settings) (demo : Recorded)
     → Represents rules me n m → n.ran ≡ 0
-    → demo.stage ≡ Open → demo.bytes ≡ demo_text long_tics (start_of settings) me (seats_of rules.players) [] false
-    → Represents rules me (record n { phase = Playing; played = true; settings = Some settings; demo = demo }) (started m settings)
+    → demo.stage ≡ Open → demo.bytes ≡ demo_text long_tics (start_of settings) me (seats_of rules.players) []
+    false
+    → Represents rules me (record n { phase = Playing; played = true; settings = Some settings; demo = demo })
+    (started m settings)
 shows_start {S} rules me n m settings demo r unrun is_open written =
-    let none : m.rows ≡ [] = none_there m.rows (sym r.ran ∙ unrun) in
-    let zero : length m.rows ≡ 0 = sym r.ran ∙ unrun in
+    let none : m.rows ≡ [] = none_there m.rows (sym r.table.ran ∙ unrun) in
+    let zero : length m.rows ≡ 0 = sym r.table.ran ∙ unrun in
     record {
-      players = r.players;
-      number = r.number;
-      extra = r.extra;
-      capacity = r.capacity;
-      gathers = r.gathers;
-      phase = refl;
-      played = refl;
-      settings = refl;
-      hold = r.hold;
-      ran = r.ran;
-      rings = r.rings;
+      whose = r.whose;
+      stands = record {
+        phase = refl;
+        played = refl;
+        settings = refl;
+      };
+      commands = r.commands;
       peers = r.peers;
-      noted = r.noted;
-      marks = λ p tic below low high present. r.marks p tic below low high present ∙ early_mark rules m (started m settings) p tic (omega (arith, zero, high));
-      demo = written ∙ ap (λ (rs : List (List (Option Move))). demo_text long_tics (start_of settings) me (seats_of rules.players) (take_while (is_whole rules.players) rs) (nat_lt (length (take_while (is_whole rules.players) rs)) (length rs))) (sym none);
-      closed = λ e. ap is_closed is_open ∙ ap (λ (rs : List (List (Option Move))). nat_lt (length (take_while (is_whole rules.players) rs)) (length rs)) (sym none);
-      writable = r.writable;
+      table = record {
+        ran = r.table.ran;
+        marks = λ p tic below low high present. r.table.marks p tic below low high present
+            ∙ early_mark rules m (started m settings) p tic (omega (arith, zero, high));
+      };
+      demo = record {
+        bytes = written
+            ∙ ap (λ (rs : List (List (Option Move))). demo_text long_tics (start_of settings) me
+            (seats_of rules.players) (take_while (is_whole rules.players) rs)
+            (nat_lt (length (take_while (is_whole rules.players) rs)) (length rs))) (sym none);
+        closed = λ e. ap is_closed is_open
+            ∙ ap (λ (rs : List (List (Option Move))). nat_lt (length (take_while (is_whole rules.players) rs))
+            (length rs)) (sym none);
+        writable = r.demo.writable;
+      };
     }

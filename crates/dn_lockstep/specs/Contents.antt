@@ -6,7 +6,7 @@ use Rattle.dn_setup.specs.Gathered.{Gathered}
 use Rattle.dn_demo.specs.Recorded.{Recorded}
 use Rattle.dn_machine.specs.declared.answers.Phase.{Phase}
 use Rattle.dn_lockstep.specs.declared.lockstep.Lockstep.{Lockstep}
-use Rattle.dn_lockstep.specs.declared.peers.Peer.{Peer}
+use Rattle.dn_machine.specs.declared.peer.Peer.{Peer}
 use Rattle.dn_machine.specs.Node.{is_ended}
 use Rattle.dn_lockstep.specs.Rings.{ring_at, count_of}
 use Rattle.dn_lockstep.specs.Peers.{peer_at}
@@ -21,7 +21,7 @@ pub record Contents : Type 0 where
   pub phase : Phase
   pub played : Bool
   pub settings : Option Settings
-  -- of whom it has heard
+  -- which players it has heard
   pub gather : Gathered
   -- its turn hold
   pub hold : ℕ

@@ -1,10 +1,16 @@
 -- What a node must know to give a packet.
-use Rattle.std.specs.Prelude.{◌≡◌, ◌≢◌, ◌<◌, ◌≤◌, ◌⊎◌, ℕ, ◌+◌, drop}
+use Rattle.std.specs.Prelude.{◌≡◌, ◌≢◌, ◌<◌, ◌≤◌, ◌⊎◌, ℕ, ◌+◌, ◌==◌, nat_lt, drop, Bool, true, false, not, ◌&&◌, List, Option}
+use Rattle.std.specs.Option.{option_map}
+use Rattle.dn_packet.specs.Written.{IsGiven}
+use Rattle.dn_machine.specs.declared.answers.Phase.{Phase}
+use Rattle.dn_machine.specs.declared.answers.Phase.TheVariants.{Listening, Gathering, Playing, Ended}
 use Rattle.dn_machine.specs.Flight.{Play, Exit, Flight}
 use Rattle.dn_machine.specs.Node as machine
 use Rattle.dn_lockstep.specs.declared.lockstep.sending.Aim.{Aim}
 use Rattle.dn_lockstep.specs.Contents.{Contents}
 use Rattle.dn_lockstep.specs.Rings.{count_of}
+use Rattle.dn_lockstep.specs.Sent.{sent_to, bytes_of}
+use Rattle.dn_lockstep.specs.Steps.{Steps}
 
 -- the commands from its start on are all kept
 pub record Reaches (n : Contents) (aim : Aim) : Type 0 where
@@ -22,3 +28,26 @@ pub record IsOwn (m : machine.Node) (me : ℕ) (flight : Flight) : Type 0 where
 pub record Gives (n : Contents) (to : ℕ) : Type 0 where
   pub below : to < n.players
   pub other : to ≢ n.me
+
+-- whether it gives packets: not while it listens, and not where it has ended without a game
+abbrev pub is_giving : Phase → Bool → Bool
+is_giving Listening played = false
+is_giving Gathering played = true
+is_giving Playing played = true
+is_giving (Ended cause) played = played
+
+-- whether it gives one to this number: to every other player, where it gives any
+abbrev pub gives : Contents → ℕ → Bool
+gives n to = nat_lt to n.players && (not (to == n.me) && is_giving n.phase n.played)
+
+-- the packet that the machine sends is written to the front of a room, and nothing where it sends none
+abbrev pub IsSentTo : ℕ → Contents → Contents → List ℕ → List ℕ → ℕ → Type 0
+IsSentTo to old new room written count =
+    (given : Option (List ℕ)) × IsGiven given room written count
+    × Steps old new (λ rules me m. sent_to to rules me m) (λ flight. given ≡ option_map bytes_of flight)
+
+-- nothing is written where none is given, and the node stays as it is; and else at least the eight bytes of a
+-- packet's head
+abbrev pub IsSilent : ℕ → Contents → Contents → List ℕ → List ℕ → ℕ → Type 0
+IsSilent to old new room written count =
+    (gives old to ≡ true → 8 ≤ count) × (gives old to ≡ false → (count ≡ 0) × (new ≡ old) × (written ≡ room))

@@ -15,3 +15,4 @@ pub mod Sent
 pub mod Giving
 pub mod Received
 pub mod Near
+pub mod Hearing

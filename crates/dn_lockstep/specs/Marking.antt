@@ -10,7 +10,8 @@ pub record History : Type 0 where
   pub present : List Bool
   pub rows : List (List (Option Move))
 
--- each player's mark, by the history: any world whose marks follow from its start and its moves has such a law
+-- each player's mark, by the history: any world whose marks follow from its start and its moves has such a
+-- law
 abbrev pub Marking : Type 0
 Marking = History → ℕ → ℤ
 

@@ -17,15 +17,19 @@ use Rattle.dn_lockstep.specs.Contents.{Contents}
 use Rattle.dn_lockstep.specs.Represents.{Represents, is_demo_closed}
 use Rattle.dn_lockstep.specs.Rows.{seats_of}
 
--- each player's lockstep represents the player's node of one game of the machine, which these events leave. The contracts of
--- the calls keep this true, as long as every call is one of the events and every caller hands in its own world's marks
-pub record AreOneGame {S : Type 0} (rules : Rules S) (settings : Settings) (events : List Event) (locksteps : ℕ → Contents) : Type 0 where
+-- each player's lockstep represents the player's node of one game of the machine, which these events leave.
+-- The contracts of the calls keep this true, as long as every call is one of the events and every caller
+-- hands in its own world's marks
+pub record AreOneGame {S : Type 0} (rules : Rules S) (settings : Settings) (events : List Event)
+    (locksteps : ℕ → Contents) : Type 0 where
   pub last : Game
   pub runs : Runs rules settings events last
-  pub nodes : (player : ℕ) → player < rules.players → Represents rules player (locksteps player) (last.nodes player)
+  pub nodes : (player : ℕ) → player < rules.players
+      → Represents rules player (locksteps player) (last.nodes player)
 
 -- what is promised of them: all that is promised of nodes with worlds
-pub record ArePromised {S : Type 0} (rules : Rules S) (settings : Settings) (game : Game) (locksteps : ℕ → Contents) : Type 0 where
+pub record ArePromised {S : Type 0} (rules : Rules S) (settings : Settings) (game : Game)
+    (locksteps : ℕ → Contents) : Type 0 where
   -- the rows told for a tic are the same at all of them, and those of the key states of all builds
   pub agree : Agree rules settings game
   pub ran : (p : ℕ) → p < rules.players → (locksteps p).ran ≡ machine.ran (game.nodes p)
@@ -35,8 +39,10 @@ pub record ArePromised {S : Type 0} (rules : Rules S) (settings : Settings) (gam
   pub steady : Steady rules game
   pub consistent : (p player : ℕ) (was should : ℤ) → p < rules.players
       → (locksteps p).phase ≢ Ended (Cause.Inconsistent player was should)
-  -- whoever has started has the key player's settings, and as its demo the rows before the first that lacks a player
-  pub settings_same : (p : ℕ) → p < rules.players → (locksteps p).played ≡ true → (locksteps p).settings ≡ Some settings
+  -- whoever has started has the key player's settings, and as its demo the rows before the first that lacks a
+  -- player
+  pub settings_same : (p : ℕ) → p < rules.players → (locksteps p).played ≡ true
+      → (locksteps p).settings ≡ Some settings
   pub demos : (p : ℕ) → p < rules.players → (locksteps p).played ≡ true
       → (locksteps p).demo.bytes ≡ demo_text long_tics (start_of settings) p (seats_of rules.players)
       (demo_rows rules (game.nodes p)) (is_demo_closed rules (game.nodes p))

@@ -1,27 +1,29 @@
--- What a packet is read as, by a node that has made so many commands.
+-- What a packet is read as, by a node that has made `made` commands.
 use Rattle.std.specs.Prelude.{ℕ, Bool, not, ◌==◌, bit_and, if◌then◌else◌, Option, Some, None, Result, Ok, Err}
 use Rattle.std.specs.List.{list_any}
 use Rattle.dn_packet.specs.declared.packet.Packet.{Packet}
+use Rattle.dn_packet.specs.Flags as flag
 use Rattle.dn_tic.specs.Tics.{exact_tic}
+use Rattle.dn_machine.specs.Drops as drops
 use Rattle.dn_machine.specs.Flight.{Kind, Play, Exit, Flight}
 use Rattle.dn_lockstep.specs.Rings.{is_stop}
 
--- a flag is set, of those in d_net.h: EXIT 8, RETRANSMIT 4, SETUP 2, KILL 1
+-- a flag is set
 abbrev pub has_flag : Packet → ℕ → Bool
-has_flag packet flag = not (bit_and packet.flags flag == 0)
+has_flag packet which = not (bit_and packet.flags which == 0)
 
 -- the kind of a packet of commands
 abbrev pub kind_in : Packet → Kind
-kind_in packet = if has_flag packet 8 then Exit else Play
+kind_in packet = if has_flag packet flag.exit then Exit else Play
 
 -- the tic that a packet asks for
 abbrev pub request_in : ℕ → Packet → Option ℕ
-request_in made packet = if has_flag packet 4 then exact_tic made packet.ask else None
+request_in made packet = if has_flag packet flag.retransmit then exact_tic made packet.ask else None
 
 -- the tic at which commands start, if they do at any; or the number of their drop, since none may end a demo
 abbrev pub start_at : Packet → Option ℕ → Result ℕ ℕ
-start_at packet None = Err 10
-start_at packet (Some start) = if list_any is_stop packet.cmds.items then Err 11 else Ok start
+start_at packet None = Err drops.strange_tic
+start_at packet (Some start) = if list_any is_stop packet.cmds.items then Err drops.stopper else Ok start
 
 -- the tic of a packet's first command, or the number of its drop
 abbrev pub start_in : ℕ → Packet → Result ℕ ℕ

@@ -1,21 +1,23 @@
 -- When a lockstep represents a node of the machine.
-use Rattle.std.specs.Prelude.{◌≡◌, ℕ, ◌+◌, ◌-◌, ◌%◌, ◌<◌, ◌≤◌, Bool, true, false, ◌||◌, nat_lt, List, [], length, Option, Some, None, if◌then◌else◌}
+use Rattle.std.specs.Prelude.{◌≡◌, ℕ, ◌+◌, ◌-◌, ◌%◌, ◌<◌, ◌≤◌, ℤ, Bool, true, false, ◌||◌, nat_lt, List, [], length, Option, Some, None, if◌then◌else◌}
 use Rattle.dn_tic.specs.Pressed.{turn_hold}
 use Rattle.dn_tic.specs.declared.command.Move.{Move}
-use Rattle.dn_ring.specs.Ring.{ring_of}
+use Rattle.dn_tic.specs.declared.command.TicCmd.{TicCmd}
+use Rattle.dn_ring.specs.Ring.{Ring, ring_of}
 use Rattle.dn_setup.specs.Settings.{Settings}
 use Rattle.dn_setup.specs.Starts.{start_of}
 use Rattle.dn_setup.specs.Gathered.{is_noted, is_peer}
 use Rattle.dn_demo.specs.Layout.{long_tics}
 use Rattle.dn_demo.specs.Text.{demo_text}
-use Rattle.dn_demo.specs.Recorded.{is_closed}
+use Rattle.dn_demo.specs.Recorded.{Recorded, is_closed}
 use Rattle.dn_demo.specs.Rows.{AreWritable}
+use Rattle.dn_machine.specs.declared.answers.Phase.{Phase}
 use Rattle.dn_machine.specs.Worlds.{Rules}
 use Rattle.dn_machine.specs.Node as machine
-use Rattle.dn_machine.specs.Node.{own_mark, is_ended, demo_rows}
+use Rattle.dn_machine.specs.Node.{own_mark, ends_of, is_ended, demo_rows}
 use Rattle.dn_machine.specs.Running.{is_over}
+use Rattle.dn_machine.specs.declared.peer.Peer.{Peer}
 use Rattle.dn_lockstep.specs.Contents.{Contents}
-use Rattle.dn_lockstep.specs.Peers.{peer_of}
 use Rattle.dn_lockstep.specs.Rows.{seats_of}
 
 -- the demo is closed once a row that lacks a player was run, or the node has ended
@@ -26,7 +28,8 @@ is_demo_closed rules m = is_ended m.phase || nat_lt (length (demo_rows rules m))
 abbrev pub demo_with : {S : Type 0} → Rules S → ℕ → machine.Node → Option Settings → List ℕ
 demo_with rules me m None = []
 demo_with rules me m (Some settings) =
-    demo_text long_tics (start_of settings) me (seats_of rules.players) (demo_rows rules m) (is_demo_closed rules m)
+    demo_text long_tics (start_of settings) me (seats_of rules.players) (demo_rows rules m)
+    (is_demo_closed rules m)
 
 -- nothing before the start
 abbrev pub demo_of : {S : Type 0} → Rules S → ℕ → machine.Node → List ℕ
@@ -36,31 +39,60 @@ demo_of rules me m = if m.played then demo_with rules me m m.settings else []
 unfoldable pub CanBeWritten : ℕ → List (List (Option Move)) → Type 0
 CanBeWritten players rows = AreWritable (seats_of players) rows
 
-pub record Represents {S : Type 0} (rules : Rules S) (me : ℕ) (n : Contents) (m : machine.Node) : Type 0 where
-  -- whose it is, and of what game
-  pub players : n.players ≡ rules.players
-  pub number : n.me ≡ me
-  pub extra : n.extra ≡ rules.extra
-  pub capacity : n.capacity ≡ rules.capacity
-  pub gathers : n.gather.players ≡ rules.players
-  -- where it stands
-  pub phase : n.phase ≡ m.phase
-  pub played : n.played ≡ m.played
-  pub settings : n.settings ≡ m.settings
+-- whose it is, and of what game
+pub record BelongsTo {S : Type 0} (rules : Rules S) (me count own : ℕ) (repeats : Bool)
+    (tics gathered : ℕ) : Type 0 where
+  pub players : count ≡ rules.players
+  pub number : own ≡ me
+  pub extra : repeats ≡ rules.extra
+  pub capacity : tics ≡ rules.capacity
+  pub gathers : gathered ≡ rules.players
+
+-- where it stands, and where the machine's does
+pub record StandsAs (here there : Phase) (has_played played_there : Bool)
+    (chosen chosen_there : Option Settings) : Type 0 where
+  pub phase : here ≡ there
+  pub played : has_played ≡ played_there
+  pub settings : chosen ≡ chosen_there
+
+-- what it has of the players' commands
+pub record HasCommands (players turned : ℕ) (kept : ℕ → Ring) (keys : List ℕ)
+    (held : ℕ → List TicCmd) : Type 0 where
   -- the turn hold is that of the key states of its builds
-  pub hold : n.hold ≡ turn_hold m.keys
-  -- it ran as many tics
-  pub ran : n.ran ≡ machine.ran m
+  pub hold : turned ≡ turn_hold keys
   -- each ring counts the commands held of its player and keeps the last twelve
-  pub rings : (p : ℕ) → p < rules.players → n.rings p ≡ ring_of (m.held p)
-  pub peers : (p : ℕ) → p < rules.players → n.peers p ≡ peer_of m p
-  pub noted : (p : ℕ) → is_peer rules.players p ≡ true → is_noted n.gather p ≡ m.noted p
-  -- for each of the next twelve tics the table has the mark of the world twelve tics before, and 0 below tic 12; but no mark
-  -- is kept of a tic from a player's known end on
-  pub marks : (p tic : ℕ) → p < rules.players → machine.ran m ≤ tic → tic < machine.ran m + 12
-      → is_over (m.ends p) (tic - 12) ≡ false → n.marks p (tic % 12) ≡ own_mark rules m p tic
+  pub rings : (p : ℕ) → p < players → kept p ≡ ring_of (held p)
+
+-- what it keeps of its peers
+pub record KnowsPeers (players : ℕ) (peers there : ℕ → Peer) (heard noted_there : ℕ → Bool) : Type 0 where
+  pub known : (p : ℕ) → p < players → peers p ≡ there p
+  pub noted : (p : ℕ) → is_peer players p ≡ true → heard p ≡ noted_there p
+
+-- what it keeps of its world
+pub record HasTable (players count : ℕ) (table : ℕ → ℕ → ℤ) (tics : ℕ) (own : ℕ → ℕ → ℤ)
+    (ends : ℕ → Option ℕ) : Type 0 where
+  -- it ran as many tics
+  pub ran : count ≡ tics
+  -- for each of the next twelve tics the table has the mark of the world twelve tics before, and 0 below tic
+  -- 12; but no mark is kept of a tic from a player's known end on
+  pub marks : (p tic : ℕ) → p < players → tics ≤ tic → tic < tics + 12
+      → is_over (ends p) (tic - 12) ≡ false → table p (tic % 12) ≡ own p tic
+
+-- what it has recorded
+pub record HasRecorded (players : ℕ) (recorded : Recorded) (played : Bool) (text : List ℕ) (is_done : Bool)
+    (rows : List (List (Option Move))) : Type 0 where
   -- its demo is that of its rows, and the marker is written where they say so
-  pub demo : n.demo.bytes ≡ demo_of rules me m
-  pub closed : m.played ≡ true → is_closed n.demo.stage ≡ is_demo_closed rules m
+  pub bytes : recorded.bytes ≡ text
+  pub closed : played ≡ true → is_closed recorded.stage ≡ is_done
   -- and no move of those rows would read as the marker
-  pub writable : CanBeWritten rules.players (demo_rows rules m)
+  pub writable : CanBeWritten players rows
+
+-- the parts; each speaks only of the fields that it names, so a step that does not change those keeps it
+pub record Represents {S : Type 0} (rules : Rules S) (me : ℕ) (n : Contents) (m : machine.Node) : Type 0 where
+  pub whose : BelongsTo rules me n.players n.me n.extra n.capacity n.gather.players
+  pub stands : StandsAs n.phase m.phase n.played m.played n.settings m.settings
+  pub commands : HasCommands rules.players n.hold n.rings m.keys m.held
+  pub peers : KnowsPeers rules.players n.peers m.peers (is_noted n.gather) m.noted
+  pub table : HasTable rules.players n.ran n.marks (machine.ran m) (own_mark rules m) (ends_of m)
+  pub demo : HasRecorded rules.players n.demo m.played (demo_of rules me m) (is_demo_closed rules m)
+      (demo_rows rules m)

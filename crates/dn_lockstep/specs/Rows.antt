@@ -9,9 +9,9 @@ use Rattle.dn_ring.specs.Ring.{Ring, get}
 use Rattle.dn_machine.specs.Worlds.{four}
 use Rattle.dn_machine.specs.Node.{lowest}
 use Rattle.dn_machine.specs.Running.{is_over}
-use Rattle.dn_lockstep.specs.declared.peers.Peer.{Peer}
+use Rattle.dn_machine.specs.declared.peer.Peer.{Peer}
 
--- which seats so many players take
+-- which seats this many players take
 abbrev pub seats_of : ℕ → List Bool
 seats_of players = four (λ seat. nat_lt seat players)
 
@@ -41,8 +41,8 @@ differs rings peers marks tic player =
     not (is_gone peers tic player) && not (int_eq (mark_at rings tic player) (marks player (tic % 12)))
 
 -- the used move of a player's command for a tic, and none of one who is gone
-abbrev pub move_at : (ℕ → Ring) → (ℕ → Peer) → ℕ → ℕ → ℕ → Option Move
-move_at rings peers players tic player =
+abbrev pub move_held : (ℕ → Ring) → (ℕ → Peer) → ℕ → ℕ → ℕ → Option Move
+move_held rings peers players tic player =
     if nat_lt player players
     then option_map used (if is_gone peers tic player then None else get (rings player) tic)
     else None

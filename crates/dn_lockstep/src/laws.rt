@@ -20,7 +20,8 @@ ghost use Rattle.dn_lockstep.specs.Rows.{seats_of};
 /// The locksteps of one game, whose callers step worlds of one law and hand in their marks, are promised what
 /// nodes with such a world are.
 pub fn locksteps_agree()
-    ensures { (marking : Marking) (players : ℕ) (extra : Bool) (capacity : ℕ) (settings : Settings) (events : List Event)
+    ensures { (marking : Marking) (players : ℕ) (extra : Bool) (capacity : ℕ) (settings : Settings)
+        (events : List Event)
         (locksteps : ℕ → Contents)
         → (game : AreOneGame (rules_of (free marking) players extra capacity) settings events locksteps)
         → ArePromised (rules_of (free marking) players extra capacity) settings game.last locksteps }
@@ -29,7 +30,8 @@ pub fn locksteps_agree()
 /// The demo of a lockstep that has played and ended is read back to what it was played from, with its own
 /// number as view, to its players and to the rows that it told before the first that lacks a player.
 pub fn ended_demos_are_read()
-    ensures { (marking : Marking) (players : ℕ) (extra : Bool) (capacity me : ℕ) (n : Contents) (m : machine.Node) (settings : Settings) (cause : Cause)
+    ensures { (marking : Marking) (players : ℕ) (extra : Bool) (capacity me : ℕ) (n : Contents)
+        (m : machine.Node) (settings : Settings) (cause : Cause)
         → Represents (rules_of (free marking) players extra capacity) me n m
         → m.played ≡ true → m.phase ≡ Ended cause → m.settings ≡ Some settings
         → IsReadAs n.demo.bytes (Ok (written_demo long_tics (start_of settings) me (seats_of players)

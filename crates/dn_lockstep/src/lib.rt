@@ -1,17 +1,17 @@
 //! One player's node without a world, for an engine that steps its own. It builds commands from keys, gives
-//! and takes datagrams, says when a tic is run and by which moves, checks the marks of the engine's world, and
-//! records a demo. Each call is a step of the machine of `dn_machine`.
+//! and takes datagrams, says when a tic is run and by which moves, checks the marks of the engine's world,
+//! and records a demo. Each call is a step of the machine of `dn_machine`.
 //!
 //! The engine begins its world when `receive` answers `Started`, with `settings()`'s start and the seats of
-//! `present()`. It hands each player's mark in that world to `run`, and where a row is told, it steps the world
-//! by the row.
+//! `present()`. It hands each player's mark in that world to `run`, and where a row is told, it steps the
+//! world by the row.
 #![tactic(auto)]
 
 mod config;
+mod drops;
 mod laws;
 mod lockstep;
 mod marks;
-mod numbers;
 mod peers;
 mod reading;
 mod recording;
@@ -22,6 +22,7 @@ pub use config::{Config, NodeFault};
 pub use dn_machine::{Cause, Heard, Made, Phase, Ran};
 pub use laws::{ended_demos_are_read, locksteps_agree};
 pub use lockstep::Lockstep;
+pub use lockstep::opening::is_game;
 pub use lockstep::sending::Aim;
 
 #[cfg(test)]

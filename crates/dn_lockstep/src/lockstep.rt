@@ -16,7 +16,7 @@ mod building;
 mod ending;
 mod giving;
 mod hearing;
-mod opening;
+pub(crate) mod opening;
 mod running;
 pub(crate) mod sending;
 mod starting;
@@ -53,7 +53,7 @@ pub struct Lockstep {
     ghost me_below: { me < players },
     ghost few: { players ≤ 4 },
     ghost short: { capacity ≤ tic_limit },
-    // so many tics fit into the demo
+    // the demo has room for `capacity` tics
     ghost room: { recorded_size players capacity ≤ demo.limit },
     ghost ran_fits: { ran ≤ tic_limit },
     // it knows no end of its own
@@ -75,7 +75,8 @@ pub struct Lockstep {
     ghost size: { phase ≡ Playing → demo.stage ≡ Open → length demo.bytes ≤ place long_tics (players * ran) },
     // it has the commands of the tics that it ran, but for players who are gone, and at most twelve more of a
     // peer, and five of its own
-    ghost ahead: { (p : ℕ) → p < players → is_gone (peer_at peers) ran p ≡ false → ran ≤ (ring_at rings p).count },
+    ghost ahead: { (p : ℕ) → p < players → is_gone (peer_at peers) ran p ≡ false
+        → ran ≤ (ring_at rings p).count },
     ghost window: { (p : ℕ) → p < players → (ring_at rings p).count ≤ ran + 12 },
     ghost near: { (ring_at rings me).count ≤ ran + 5 },
     // no resend starts past what it made
@@ -85,7 +86,7 @@ pub struct Lockstep {
 impl Lockstep {
     ghost use Rattle.dn_machine.specs.Node.{known_end};
     ghost use Rattle.dn_lockstep.specs.Contents.{contents, end_in};
-    ghost use Rattle.dn_lockstep.specs.Steps.{Steps};
+    ghost use Rattle.dn_lockstep.specs.Steps.{Tells};
 
     /// The number of its player.
     pub fn me(&self) -> u8
@@ -151,9 +152,11 @@ impl Lockstep {
     /// The tic after a player's last command: of another player once an EXIT packet has told it, and its own
     /// once it has played and ended. From that tic on no tic has a move of the player.
     pub fn end(&self, player: u8) -> Option<u32>
-        ensures value { result ≡ (if nat_lt player (contents self.now).players then end_in (contents self.now) player else None) }
-        ensures step { Steps (contents self.now) (contents self.now)
-            (λ rules me m. (m, if nat_lt player rules.players then known_end me m player else None)) (λ end. result ≡ end) }
+        ensures value { result
+            ≡ (if nat_lt player (contents self.now).players then end_in (contents self.now) player
+            else None) }
+        ensures told { Tells (contents self.now)
+            (λ rules me m. result ≡ (if nat_lt player rules.players then known_end me m player else None)) }
     {
         if player >= self.players {
             return None;

@@ -19,7 +19,8 @@ impl Slots {
     fn put(&mut self, place: usize, mark: i16)
         requires { place < 12 }
         ensures put { slice_index_or self.new.slots place (pos 0) ≡ mark }
-        ensures others { (j : ℕ) → j ≢ place → slice_index_or self.new.slots j (pos 0) ≡ slice_index_or self.old.slots j (pos 0) }
+        ensures others { (j : ℕ) → j ≢ place → slice_index_or self.new.slots j (pos 0)
+            ≡ slice_index_or self.old.slots j (pos 0) }
     {
         self.slots[place] = mark;
     }
@@ -71,7 +72,8 @@ impl Marks {
 
     /// Keeps, for the tic twelve on, the mark of each player who has a move in the row.
     pub(crate) fn stamp(&mut self, marks: &[i16; 4], row: &[Option<Move>; 4], tic: u32)
-        ensures marks { (p : ℕ) → p < 4 → lacks row.now p ≡ false → slot self.new p (tic % 12) ≡ get_or marks.now p (pos 0) }
+        ensures marks { (p : ℕ) → p < 4 → lacks row.now p ≡ false
+            → slot self.new p (tic % 12) ≡ get_or marks.now p (pos 0) }
         ensures absent { (p j : ℕ) → p < 4 → lacks row.now p ≡ true → slot self.new p j ≡ slot self.old p j }
         ensures others { (p j : ℕ) → j ≢ tic % 12 → slot self.new p j ≡ slot self.old p j }
     {

@@ -1,83 +1,67 @@
 //! What a node keeps of each peer.
 
 ghost use Rattle.std.specs.Prelude.{◌≡◌, ◌≢◌, ◌<◌, ℕ};
-ghost use Rattle.dn_machine.specs.Hearing.{is_strange_end};
-ghost use Rattle.dn_lockstep.specs.Peers.{no_peer, peer_at, after_asking, after_telling};
+ghost use Rattle.dn_machine.specs.Node.{no_peer};
+ghost use Rattle.dn_machine.specs.Hearing.{after_request, after_exit, is_strange_end};
+ghost use Rattle.dn_lockstep.specs.Peers.{peer_at};
 
 use crate::rings::PLACES;
+use dn_machine::Peer;
 use std::marker::Model;
 
-/// Within so many packets after a request no other is heard (`d_net.c`, RESENDCOUNT).
-const HOLD: u8 = 10;
+/// After honouring a request, ignore further ones for this many packets (`d_net.c`, RESENDCOUNT).
+const PAUSE: u8 = 10;
 
-/// What a node keeps of a peer.
-#[derive(Clone, Copy, Debug)]
-pub(crate) struct Peer {
-    /// The first tic of the next packet to it.
-    pub(crate) resend: u32,
-    /// Whether the next packet asks it for a resend.
-    pub(crate) want: bool,
-    /// For how many of its packets no request is heard.
-    pub(crate) hold: u8,
-    /// The tic after its last command, once an EXIT packet has told it.
-    pub(crate) end: Option<u32>,
+/// A peer of which nothing is known.
+fn no_peer() -> Peer
+    ensures { result ≡ no_peer }
+{
+    Peer {
+        resend: 0,
+        want: false,
+        pause: 0,
+        end: None,
+    }
 }
 
-impl Peer {
-    /// A peer of which nothing is known.
-    pub(crate) fn new() -> Peer
-        ensures { result ≡ no_peer }
-    {
+/// The peer after a packet with this request, if it has one.
+pub(crate) fn after_request(made: u32, peer: Peer, request: Option<u32>) -> Peer
+    ensures { result ≡ after_request made peer request }
+{
+    match request {
+        Some(tic) if peer.pause == 0 && tic <= made && made.saturating_sub(PLACES) <= tic => Peer {
+            resend: tic,
+            pause: PAUSE,
+            ..peer
+        },
+        _ => Peer {
+            pause: peer.pause.saturating_sub(1),
+            ..peer
+        },
+    }
+}
+
+/// Whether a packet ends where it cannot, by how many commands were had of the peer and by its known end.
+pub(crate) fn is_strange_end(exit: bool, got: u32, known: Option<u32>, end: u32) -> bool
+    ensures { result ≡ is_strange_end exit got known end }
+{
+    match known {
+        Some(known) => exit && end < got || known < end || exit && end != known,
+        None => exit && end < got,
+    }
+}
+
+/// The peer after a packet that ends at this tic, which is the peer's own end if it is an EXIT packet.
+pub(crate) fn after_exit(peer: Peer, exit: bool, end: u32) -> Peer
+    ensures { result ≡ after_exit peer exit end }
+{
+    if exit {
         Peer {
-            resend: 0,
-            want: false,
-            hold: 0,
-            end: None,
+            end: Some(end),
+            ..peer
         }
-    }
-
-    /// The peer after a packet with this request, if it has one.
-    pub(crate) fn after_asking(&self, made: u32, request: Option<u32>) -> Peer
-        ensures { result ≡ after_asking self.now made request }
-    {
-        match request {
-            Some(tic) if self.hold == 0 && tic <= made && made.saturating_sub(PLACES) <= tic => {
-                Peer {
-                    resend: tic,
-                    hold: HOLD,
-                    ..*self
-                }
-            }
-            _ => Peer {
-                hold: self.hold.saturating_sub(1),
-                ..*self
-            },
-        }
-    }
-
-    /// Whether a packet ends where it cannot, by how many commands were had of the peer and by its known
-    /// end.
-    pub(crate) fn is_strange_end(&self, exit: bool, got: u32, end: u32) -> bool
-        ensures { result ≡ is_strange_end exit got self.now.end end }
-    {
-        match self.end {
-            Some(known) => exit && end < got || known < end || exit && end != known,
-            None => exit && end < got,
-        }
-    }
-
-    /// The peer after a packet that ends at this tic, which is the peer's own end if it is an EXIT packet.
-    pub(crate) fn after_telling(&self, exit: bool, end: u32) -> Peer
-        ensures { result ≡ after_telling self.now exit end }
-    {
-        if exit {
-            Peer {
-                end: Some(end),
-                ..*self
-            }
-        } else {
-            *self
-        }
+    } else {
+        peer
     }
 }
 
@@ -89,7 +73,7 @@ pub(crate) struct Peers {
 
 impl Model for Peers {
     ghost use Rattle.std.specs.Prelude.{List};
-    ghost use Rattle.dn_lockstep.specs.declared.peers.Peer.{Peer};
+    ghost use Rattle.dn_machine.specs.declared.peer.Peer.{Peer};
 
     ghost Value = { List Peer };
 
@@ -102,7 +86,7 @@ impl Peers {
         ensures { (p : ℕ) → peer_at result p ≡ no_peer }
     {
         Peers {
-            peers: [Peer::new(), Peer::new(), Peer::new(), Peer::new()],
+            peers: [no_peer(), no_peer(), no_peer(), no_peer()],
         }
     }
 

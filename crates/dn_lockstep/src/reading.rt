@@ -5,7 +5,7 @@ ghost use Rattle.std.specs.List.{list_any};
 ghost use Rattle.dn_lockstep.specs.Rings.{is_stop};
 ghost use Rattle.dn_lockstep.specs.Reading.{request_in, start_in, has_flag};
 
-use crate::numbers::{STOPPER, STRANGE_TIC};
+use crate::drops::{STOPPER, STRANGE_TIC};
 use dn_packet::{Packet, RETRANSMIT};
 use dn_tic::{TicCmd, expand};
 

@@ -29,18 +29,20 @@ pub(crate) fn write(demo: &mut Recorder, row: &[Option<Move>; 4], whole: bool)
     requires open { whole ≡ true → demo.old.stage ≡ Open }
     requires row { whole ≡ true → IsRow (seats_in demo.old.bytes) row.now }
     requires room { whole ≡ true
-        → length demo.old.bytes + command_size long_tics * player_count (seats_in demo.old.bytes) + 1 ≤ demo.old.limit }
+        → length demo.old.bytes + command_size long_tics * player_count (seats_in demo.old.bytes) + 1
+        ≤ demo.old.limit }
     ensures limit { demo.new.limit ≡ demo.old.limit }
     ensures stage { demo.new.stage ≡ (if whole then Open else Closed) }
     ensures text { whole ≡ true → AddsRow demo.old.bytes demo.new.bytes row.now }
     ensures size { whole ≡ true
-        → length demo.new.bytes ≡ length demo.old.bytes + command_size long_tics * player_count (seats_in demo.old.bytes) }
+        → length demo.new.bytes ≡ length demo.old.bytes + command_size long_tics * player_count (seats_in
+        demo.old.bytes) }
     ensures seats { whole ≡ true → seats_in demo.new.bytes ≡ seats_in demo.old.bytes }
     ensures closes { whole ≡ false → demo.old.stage ≡ Open → Closes demo.old.bytes demo.new.bytes }
     ensures closed { whole ≡ false → demo.old.stage ≡ Closed → demo.new.bytes ≡ demo.old.bytes }
 {
     if whole {
-        demo.row(row);
+        demo.add_row(row);
     } else {
         close(demo);
     }

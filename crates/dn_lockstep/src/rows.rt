@@ -1,6 +1,6 @@
 //! The commands of one tic, of all players.
 
-ghost use Rattle.std.specs.Prelude.{◌≡◌, ◌<◌, ◌≤◌, ◌+◌, ◌%◌, ℕ, nat_le, nat_lt, not, All, None, true, false, is_some, IfSome, if◌then◌else◌};
+ghost use Rattle.std.specs.Prelude.{◌≡◌, ◌<◌, ◌≤◌, ◌+◌, ◌%◌, ℕ, nat_le, nat_lt, not, All, None, [], ◌∷◌, true, false, is_some, IfSome, if◌then◌else◌};
 ghost use Rattle.std.specs.Ordering.{int_eq};
 ghost use Rattle.dn_demo.specs.Rows.{IsMove, IsRow, IsRecordable};
 ghost use Rattle.dn_machine.specs.Node.{lowest, is_whole};
@@ -9,7 +9,7 @@ ghost use Rattle.dn_machine.specs.Worlds.{four};
 ghost use Rattle.dn_lockstep.specs.Rings.{ring_at};
 ghost use Rattle.dn_lockstep.specs.Marks.{slot};
 ghost use Rattle.dn_lockstep.specs.Peers.{peer_at};
-ghost use Rattle.dn_lockstep.specs.Rows.{seats_of, mark_at, move_at, differs, is_missing, is_gone, has_gone};
+ghost use Rattle.dn_lockstep.specs.Rows.{seats_of, mark_at, move_held, differs, is_missing, is_gone, has_gone};
 
 use crate::marks::Marks;
 use crate::peers::Peers;
@@ -19,7 +19,7 @@ use dn_tic::{Move, round};
 /// The last tic whose marks are not compared (`g_game.c`, G_Ticker).
 const LAST_UNCHECKED: u32 = 12;
 
-/// So many tics are run at most: the next is not run, where it lacks a player.
+/// The most tics that are run: the next is not run, where it lacks a player.
 const TIC_LIMIT: u32 = 2_097_150;
 
 /// Which seats are taken.
@@ -40,7 +40,7 @@ fn gone(peers: &Peers, player: u8, tic: u32) -> bool
     }
 }
 
-/// The lowest player, of those who are not gone, of whom no command for the tic is there.
+/// The lowest player who is not gone and whose command for the tic is missing.
 pub(crate) fn awaited(rings: &Rings, peers: &Peers, players: u8, tic: u32) -> Option<u8>
     requires { players ≤ 4 }
     ensures { result ≡ lowest players (is_missing (ring_at rings.now) (peer_at peers.now) tic) }
@@ -55,20 +55,23 @@ pub(crate) fn awaited(rings: &Rings, peers: &Peers, players: u8, tic: u32) -> Op
 
 /// The mark of the player's command for the tic.
 pub(crate) fn mark_of(rings: &Rings, player: u8, tic: u32) -> i16
-    requires { player < 4 }
+    requires place { player < 4 }
+    requires there { tic < (ring_at rings.now player).count }
+    requires kept { (ring_at rings.now player).count ≤ tic + 12 }
     ensures { result ≡ mark_at (ring_at rings.now) tic player }
 {
-    match rings.get(player, tic) {
-        Some(command) => command.mark,
-        None => 0,
-    }
+    rings.at(player, tic).mark
 }
 
 /// The lowest player, of those who are not gone, whose command carries another mark than the table has.
 fn differing(rings: &Rings, peers: &Peers, marks: &Marks, players: u8, tic: u32) -> Option<u8>
-    requires { players ≤ 4 }
+    requires few { players ≤ 4 }
+    requires there { lowest players (is_missing (ring_at rings.now) (peer_at peers.now) tic) ≡ None }
+    requires kept { (p : ℕ) → p < players → (ring_at rings.now p).count ≤ tic + 12 }
     ensures below { IfSome result (λ p. p < players) }
-    ensures lowest { result ≡ lowest players (differs (ring_at rings.now) (peer_at peers.now) (slot marks.now) tic) }
+    ensures there { IfSome result (λ p. tic < (ring_at rings.now p).count) }
+    ensures lowest { result ≡ lowest players
+        (differs (ring_at rings.now) (peer_at peers.now) (slot marks.now) tic) }
 {
     for player in 0..players {
         if !gone(peers, player, tic) && mark_of(rings, player, tic) != marks.get(player, tic) {
@@ -87,63 +90,47 @@ pub(crate) fn first_off(
     players: u8,
     tic: u32,
 ) -> Option<u8>
-    requires { players ≤ 4 }
-    ensures below { IfSome result (λ p. p < players) }
-    ensures lowest { result ≡ (if nat_lt 12 tic
-        then lowest players (differs (ring_at rings.now) (peer_at peers.now) (slot marks.now) tic) else None) }
-{
-    if tic > LAST_UNCHECKED {
-        differing(rings, peers, marks, players, tic)
-    } else {
-        None
-    }
-}
-
-/// The used move of the player's command for the tic, and none of one who is gone.
-fn move_of(rings: &Rings, peers: &Peers, players: u8, player: u8, tic: u32) -> Option<Move>
-    requires place { player < 4 }
-    ensures value { result ≡ move_at (ring_at rings.now) (peer_at peers.now) players tic player }
-    ensures there { player < players → is_gone (peer_at peers.now) tic player ≡ false
-        → tic < (ring_at rings.now player).count → (ring_at rings.now player).count ≤ tic + 12 → is_some result ≡ true }
-    ensures recordable { IfSome result IsRecordable }
-    ensures ranged { IfSome result IsMove }
-{
-    if player < players && !gone(peers, player, tic) {
-        Some(round(&rings.get(player, tic)?))
-    } else {
-        None
-    }
-}
-
-/// The used moves for the tic of all players who are not gone, whose commands are there.
-pub(crate) fn row_at(rings: &Rings, peers: &Peers, players: u8, tic: u32) -> [Option<Move>; 4]
     requires few { players ≤ 4 }
     requires there { lowest players (is_missing (ring_at rings.now) (peer_at peers.now) tic) ≡ None }
     requires kept { (p : ℕ) → p < players → (ring_at rings.now p).count ≤ tic + 12 }
-    ensures row { result ≡ four (move_at (ring_at rings.now) (peer_at peers.now) players tic) }
-    ensures whole { is_whole players result ≡ not (has_gone (peer_at peers.now) players tic) }
-    ensures recordable { is_whole players result ≡ true → IsRow (seats_of players) result }
-    ensures ranged { All (λ step. IfSome step IsMove) result }
+    ensures below { IfSome result (λ p. p < players) }
+    ensures there { IfSome result (λ p. tic < (ring_at rings.now p).count) }
+    ensures lowest { result ≡ (if nat_lt 12 tic
+        then lowest players (differs (ring_at rings.now) (peer_at peers.now) (slot marks.now) tic)
+        else None) }
 {
-    [
-        move_of(rings, peers, players, 0, tic),
-        move_of(rings, peers, players, 1, tic),
-        move_of(rings, peers, players, 2, tic),
-        move_of(rings, peers, players, 3, tic),
-    ]
+    let off = differing(rings, peers, marks, players, tic);
+    if tic > LAST_UNCHECKED { off } else { None }
 }
 
-/// Whether each player has a move in the row.
-pub(crate) fn is_whole(row: &[Option<Move>; 4], players: u8) -> bool
-    requires { players ≤ 4 }
-    ensures { result ≡ is_whole players row.now }
+/// Fills in the used moves for the tic of all players who are not gone, whose commands are there, and answers
+/// whether each player has one.
+pub(crate) fn fill_row(
+    rings: &Rings,
+    peers: &Peers,
+    players: u8,
+    tic: u32,
+    row: &mut [Option<Move>; 4],
+) -> bool
+    requires few { players ≤ 4 }
+    requires there { lowest players (is_missing (ring_at rings.now) (peer_at peers.now) tic) ≡ None }
+    requires kept { (p : ℕ) → p < players → (ring_at rings.now p).count ≤ tic + 12 }
+    requires empty { row.old ≡ None ∷ None ∷ None ∷ None ∷ [] }
+    ensures row { row.new ≡ four (move_held (ring_at rings.now) (peer_at peers.now) players tic) }
+    ensures whole { result ≡ is_whole players row.new }
+    ensures nobody { result ≡ not (has_gone (peer_at peers.now) players tic) }
+    ensures recordable { is_whole players row.new ≡ true → IsRow (seats_of players) row.new }
+    ensures ranged { All (λ step. IfSome step IsMove) row.new }
 {
+    let mut whole = true;
     for player in 0..players {
-        if row[usize::from(player)].is_none() {
-            return false;
+        if gone(peers, player, tic) {
+            whole = false;
+        } else {
+            row[usize::from(player)] = Some(round(&rings.at(player, tic)));
         }
     }
-    true
+    whole
 }
 
 /// The tic at which a node ends in place of running a row, which lacks a player or is whole.

@@ -103,7 +103,7 @@ fn tic(key: &mut Lockstep, other: &mut Lockstep, (first, second): (u32, u32)) ->
     (run(key), run(other))
 }
 
-/// So many such tics.
+/// Plays `count` such tics.
 fn tics(key: &mut Lockstep, other: &mut Lockstep, count: u32, keys: (u32, u32)) {
     for _ in 0..count {
         let _ = tic(key, other, keys);

@@ -16,48 +16,68 @@ use Rattle.dn_machine.proofs.Marks.{lowest_none, lowest_none_each}
 
 -- the front of a longer list
 
-cond_front : {A : Type 0} (b : Bool) (x : A) (xs ys : List A) → IsPrefixOf xs ys → IsPrefixOf (cond b (x ∷ xs) []) (cond b (x ∷ ys) [])
+cond_front : {A : Type 0} (b : Bool) (x : A) (xs ys : List A) → IsPrefixOf xs ys
+    → IsPrefixOf (cond b (x ∷ xs) []) (cond b (x ∷ ys) [])
 cond_front true x xs ys h = (h.0, ap (λ zs. x ∷ zs) h.1)
 cond_front false x xs ys h = ([], refl)
 
-front_grows : {A : Type 0} (test : A → Bool) (xs rest : List A) → IsPrefixOf (take_while test xs) (take_while test (xs ++ rest))
+front_grows : {A : Type 0} (test : A → Bool) (xs rest : List A)
+    → IsPrefixOf (take_while test xs) (take_while test (xs ++ rest))
 front_grows test [] rest = (take_while test rest, refl)
 front_grows {A} test (x ∷ xs) rest =
     let longer : IsPrefixOf (cond (test x) (x ∷ take_while test xs) []) (take_while test (x ∷ (xs ++ rest))) =
-    subst (λ (zs : List A). IsPrefixOf (cond (test x) (x ∷ take_while test xs) []) zs) (sym (take_while-cons test x (xs ++ rest))) (cond_front (test x) x (take_while test xs) (take_while test (xs ++ rest)) (front_grows test xs rest)) in
-    subst (λ (zs : List A). IsPrefixOf zs (take_while test (x ∷ (xs ++ rest)))) (sym (take_while-cons test x xs)) longer
+    subst (λ (zs : List A). IsPrefixOf (cond (test x) (x ∷ take_while test xs) []) zs)
+    (sym (take_while-cons test x (xs ++ rest)))
+    (cond_front (test x) x (take_while test xs) (take_while test (xs ++ rest))
+    (front_grows test xs rest)) in
+    subst (λ (zs : List A). IsPrefixOf zs (take_while test (x ∷ (xs ++ rest))))
+    (sym (take_while-cons test x xs)) longer
 
-pub front_prefix : {A : Type 0} (test : A → Bool) (xs ys : List A) → IsPrefixOf xs ys → IsPrefixOf (take_while test xs) (take_while test ys)
-front_prefix {A} test xs ys h = subst (λ (zs : List A). IsPrefixOf (take_while test xs) (take_while test zs)) h.1 (front_grows test xs h.0)
+pub front_prefix : {A : Type 0} (test : A → Bool) (xs ys : List A) → IsPrefixOf xs ys
+    → IsPrefixOf (take_while test xs) (take_while test ys)
+front_prefix {A} test xs ys h = subst (λ (zs : List A). IsPrefixOf (take_while test xs) (take_while test zs))
+    h.1 (front_grows test xs h.0)
 
 -- one more element that fails is not of the front
-pub front_stops : {A : Type 0} (test : A → Bool) (xs : List A) (y : A) → test y ≡ false → take_while test (xs ++ y ∷ []) ≡ take_while test xs
+pub front_stops : {A : Type 0} (test : A → Bool) (xs : List A) (y : A) → test y ≡ false
+    → take_while test (xs ++ y ∷ []) ≡ take_while test xs
 front_stops test [] y h = take_while-cons test y [] ∙ ap (λ (b : Bool). cond b (y ∷ take_while test []) []) h
-front_stops {A} test (x ∷ xs) y h = take_while-cons test x (xs ++ y ∷ []) ∙ (ap (λ (zs : List A). cond (test x) (x ∷ zs) []) (front_stops test xs y h) ∙ sym (take_while-cons test x xs))
+front_stops {A} test (x ∷ xs) y h = take_while-cons test x (xs ++ y ∷ [])
+    ∙ (ap (λ (zs : List A). cond (test x) (x ∷ zs) []) (front_stops test xs y h)
+    ∙ sym (take_while-cons test x xs))
 
 -- where all pass, and one more does
-all_pass : {A : Type 0} (b : Bool) (x : A) (front xs : List A) → cond b (x ∷ front) [] ≡ x ∷ xs → (b ≡ true) × (front ≡ xs)
+all_pass : {A : Type 0} (b : Bool) (x : A) (front xs : List A) → cond b (x ∷ front) [] ≡ x ∷ xs
+    → (b ≡ true) × (front ≡ xs)
 all_pass true x front xs e = (refl, cc)
 all_pass false x front xs e = absurd (cc)
 
-pub front_goes_on : {A : Type 0} (test : A → Bool) (xs : List A) (y : A) → take_while test xs ≡ xs → test y ≡ true → take_while test (xs ++ y ∷ []) ≡ xs ++ y ∷ []
-front_goes_on test [] y e h = take_while-cons test y [] ∙ ap (λ (b : Bool). cond b (y ∷ take_while test []) []) h
+pub front_goes_on : {A : Type 0} (test : A → Bool) (xs : List A) (y : A) → take_while test xs ≡ xs
+    → test y ≡ true → take_while test (xs ++ y ∷ []) ≡ xs ++ y ∷ []
+front_goes_on test [] y e h = take_while-cons test y []
+    ∙ ap (λ (b : Bool). cond b (y ∷ take_while test []) []) h
 front_goes_on {A} test (x ∷ xs) y e h =
     let parts = all_pass (test x) x (take_while test xs) xs (sym (take_while-cons test x xs) ∙ e) in
-    take_while-cons test x (xs ++ y ∷ []) ∙ (ap (λ (b : Bool). cond b (x ∷ take_while test (xs ++ y ∷ [])) []) parts.0 ∙ ap (λ (zs : List A). x ∷ zs) (front_goes_on test xs y parts.1 h))
+    take_while-cons test x (xs ++ y ∷ [])
+    ∙ (ap (λ (b : Bool). cond b (x ∷ take_while test (xs ++ y ∷ [])) []) parts.0
+    ∙ ap (λ (zs : List A). x ∷ zs) (front_goes_on test xs y parts.1 h))
 
 -- each element of the front passes
-pub front_passes : {A : Type 0} (test : A → Bool) (xs : List A) (k : ℕ) (d : A) → k < length (take_while test xs) → test (get_or xs k d) ≡ true
-front_passes test xs k d l = prefix_len_passes test xs k d (let long = length-prefix_len test xs in omega arith)
+pub front_passes : {A : Type 0} (test : A → Bool) (xs : List A) (k : ℕ) (d : A)
+    → k < length (take_while test xs) → test (get_or xs k d) ≡ true
+front_passes test xs k d l = prefix_len_passes test xs k d (let long = length-prefix_len test xs in
+    omega arith)
 
 -- and is the element of that place
-pub front_each : {A : Type 0} (test : A → Bool) (xs : List A) (k : ℕ) (d : A) → k < length (take_while test xs) → test (get_or (take_while test xs) k d) ≡ true
+pub front_each : {A : Type 0} (test : A → Bool) (xs : List A) (k : ℕ) (d : A)
+    → k < length (take_while test xs) → test (get_or (take_while test xs) k d) ≡ true
 front_each test xs k d l =
     let long = length-prefix_len test xs in
     ap test (get_or-take (prefix_len test xs) xs k d (omega arith)) ∙ front_passes test xs k d l
 
 pub front_short : {A : Type 0} (test : A → Bool) (xs : List A) → length (take_while test xs) ≤ length xs
-front_short test xs = let long = length-prefix_len test xs in let low = prefix_len-le-length test xs in omega arith
+front_short test xs = let long = length-prefix_len test xs in let low = prefix_len-le-length test xs in
+    omega arith
 
 -- seats
 
@@ -71,23 +91,32 @@ seat_some true (Some c) h = refl
 seat_some false x h = absurd (cc)
 
 -- a seat of one row is taken where that of another is
-seats_more : (players : ℕ) (f g : ℕ → Option TicCmd) → ((p : ℕ) → p < players → is_none (f p) ≡ false → is_none (g p) ≡ false)
-    → (p : ℕ) → p < players → is_none (get_or (row_of players f) p None) ≡ false → is_none (get_or (row_of players g) p None) ≡ false
+seats_more : (players : ℕ) (f g : ℕ → Option TicCmd)
+    → ((p : ℕ) → p < players → is_none (f p) ≡ false → is_none (g p) ≡ false)
+    → (p : ℕ) → p < players → is_none (get_or (row_of players f) p None) ≡ false
+    → is_none (get_or (row_of players g) p None) ≡ false
 unfolding row_of
-seats_more players f g h zero l e = seat_some (ltb 0 players) (g 0) (lt-ltb 0 players l) ∙ h 0 l (sym (seat_some (ltb 0 players) (f 0) (lt-ltb 0 players l)) ∙ e)
-seats_more players f g h (suc zero) l e = seat_some (ltb 1 players) (g 1) (lt-ltb 1 players l) ∙ h 1 l (sym (seat_some (ltb 1 players) (f 1) (lt-ltb 1 players l)) ∙ e)
-seats_more players f g h (suc (suc zero)) l e = seat_some (ltb 2 players) (g 2) (lt-ltb 2 players l) ∙ h 2 l (sym (seat_some (ltb 2 players) (f 2) (lt-ltb 2 players l)) ∙ e)
-seats_more players f g h (suc (suc (suc zero))) l e = seat_some (ltb 3 players) (g 3) (lt-ltb 3 players l) ∙ h 3 l (sym (seat_some (ltb 3 players) (f 3) (lt-ltb 3 players l)) ∙ e)
+seats_more players f g h zero l e = seat_some (ltb 0 players) (g 0) (lt-ltb 0 players l)
+    ∙ h 0 l (sym (seat_some (ltb 0 players) (f 0) (lt-ltb 0 players l)) ∙ e)
+seats_more players f g h (suc zero) l e = seat_some (ltb 1 players) (g 1) (lt-ltb 1 players l)
+    ∙ h 1 l (sym (seat_some (ltb 1 players) (f 1) (lt-ltb 1 players l)) ∙ e)
+seats_more players f g h (suc (suc zero)) l e = seat_some (ltb 2 players) (g 2) (lt-ltb 2 players l)
+    ∙ h 2 l (sym (seat_some (ltb 2 players) (f 2) (lt-ltb 2 players l)) ∙ e)
+seats_more players f g h (suc (suc (suc zero))) l e = seat_some (ltb 3 players) (g 3) (lt-ltb 3 players l)
+    ∙ h 3 l (sym (seat_some (ltb 3 players) (f 3) (lt-ltb 3 players l)) ∙ e)
 seats_more players f g h (suc (suc (suc (suc p)))) l e = e
 
-pub whole_more : (players : ℕ) (f g : ℕ → Option TicCmd) → ((p : ℕ) → p < players → is_none (f p) ≡ false → is_none (g p) ≡ false)
+pub whole_more : (players : ℕ) (f g : ℕ → Option TicCmd)
+    → ((p : ℕ) → p < players → is_none (f p) ≡ false → is_none (g p) ≡ false)
     → is_whole players (row_of players f) ≡ true → is_whole players (row_of players g) ≡ true
 whole_more players f g h e =
     let each = lowest_none_each players (λ p. is_none (get_or (row_of players f) p None)) (none_is _ e) in
-    ap is_none (lowest_none players (λ p. is_none (get_or (row_of players g) p None)) (λ p l. seats_more players f g h p l (each p l)))
+    ap is_none (lowest_none players (λ p. is_none (get_or (row_of players g) p None))
+    (λ p l. seats_more players f g h p l (each p l)))
 
 -- a seat is empty where its player has no command
-pub seat_is : (players : ℕ) (f : ℕ → Option TicCmd) (p : ℕ) → p < players → p < 4 → lacks (row_of players f) p ≡ is_none (f p)
+pub seat_is : (players : ℕ) (f : ℕ → Option TicCmd) (p : ℕ) → p < players → p < 4
+    → lacks (row_of players f) p ≡ is_none (f p)
 unfolding row_of
 seat_is players f zero l s = seat_some (ltb 0 players) (f 0) (lt-ltb 0 players l)
 seat_is players f (suc zero) l s = seat_some (ltb 1 players) (f 1) (lt-ltb 1 players l)
@@ -95,31 +124,42 @@ seat_is players f (suc (suc zero)) l s = seat_some (ltb 2 players) (f 2) (lt-ltb
 seat_is players f (suc (suc (suc zero))) l s = seat_some (ltb 3 players) (f 3) (lt-ltb 3 players l)
 seat_is players f (suc (suc (suc (suc p)))) l s = absurd (omega arith)
 
-pub if_made_is : (keys : List ℕ) (tic : ℕ) (command : TicCmd) → is_none (if_made keys tic command) ≡ leb (length keys) tic
+pub if_made_is : (keys : List ℕ) (tic : ℕ) (command : TicCmd)
+    → is_none (if_made keys tic command) ≡ leb (length keys) tic
 if_made_is keys tic command = elim (cases_lt tic (length keys)) [
-  | inl made ↦ ap (λ (b : Bool). is_none (cond b (Some command) None)) (lt-ltb tic (length keys) made) ∙ sym (lt-leb (length keys) tic made)
-  | inr past ↦ ap (λ (b : Bool). is_none (cond b (Some command) None)) (le-ltb tic (length keys) past) ∙ sym (le-leb (length keys) tic past)
+  | inl made ↦ ap (λ (b : Bool). is_none (cond b (Some command) None)) (lt-ltb tic (length keys) made)
+      ∙ sym (lt-leb (length keys) tic made)
+  | inr past ↦ ap (λ (b : Bool). is_none (cond b (Some command) None)) (le-ltb tic (length keys) past)
+      ∙ sym (le-leb (length keys) tic past)
 ]
 
 -- a taken seat has its player's command
-seat_taken : (players : ℕ) (f : ℕ → Option TicCmd) (p : ℕ) → p < players → is_none (get_or (row_of players f) p None) ≡ false → is_none (f p) ≡ false
+seat_taken : (players : ℕ) (f : ℕ → Option TicCmd) (p : ℕ) → p < players
+    → is_none (get_or (row_of players f) p None) ≡ false → is_none (f p) ≡ false
 unfolding row_of
 seat_taken players f zero l e = sym (seat_some (ltb 0 players) (f 0) (lt-ltb 0 players l)) ∙ e
 seat_taken players f (suc zero) l e = sym (seat_some (ltb 1 players) (f 1) (lt-ltb 1 players l)) ∙ e
 seat_taken players f (suc (suc zero)) l e = sym (seat_some (ltb 2 players) (f 2) (lt-ltb 2 players l)) ∙ e
-seat_taken players f (suc (suc (suc zero))) l e = sym (seat_some (ltb 3 players) (f 3) (lt-ltb 3 players l)) ∙ e
+seat_taken players f (suc (suc (suc zero))) l e = sym (seat_some (ltb 3 players) (f 3) (lt-ltb 3 players l))
+    ∙ e
 seat_taken players f (suc (suc (suc (suc p)))) l e = absurd (true≢false e)
 
-pub whole_has : (players : ℕ) (f : ℕ → Option TicCmd) → is_whole players (row_of players f) ≡ true → (p : ℕ) → p < players → is_none (f p) ≡ false
-whole_has players f e p l = seat_taken players f p l (lowest_none_each players (λ q. is_none (get_or (row_of players f) q None)) (none_is _ e) p l)
+pub whole_has : (players : ℕ) (f : ℕ → Option TicCmd) → is_whole players (row_of players f) ≡ true → (p : ℕ)
+    → p < players → is_none (f p) ≡ false
+whole_has players f e p l =
+    seat_taken players f p l (lowest_none_each players (λ q. is_none (get_or (row_of players f) q None))
+    (none_is _ e) p l)
 
 absent_none : (b : Bool) (c : TicCmd) → is_none (cond b None (Some c)) ≡ b
 absent_none true c = refl
 absent_none false c = refl
 
--- the next row of a node is whole where that of another is, and whoever is absent at the one is absent at the other
-pub whole_held : {S : Type 0} (rules : Rules S) (new old : Node) → ((p : ℕ) → p < rules.players → is_absent new p ≡ false → is_absent old p ≡ false)
+-- the next row of a node is whole where that of another is, and whoever is absent at the one is absent at the
+-- other
+pub whole_held : {S : Type 0} (rules : Rules S) (new old : Node)
+    → ((p : ℕ) → p < rules.players → is_absent new p ≡ false → is_absent old p ≡ false)
     → is_whole rules.players (row_held rules new) ≡ true → is_whole rules.players (row_held rules old) ≡ true
 whole_held rules new old h e =
     whole_more rules.players _ _ (λ p l s.
-    absent_none (is_absent old p) (held_at old p (ran old)) ∙ h p l (sym (absent_none (is_absent new p) (held_at new p (ran new))) ∙ s)) e
+    absent_none (is_absent old p) (held_at old p (ran old))
+    ∙ h p l (sym (absent_none (is_absent new p) (held_at new p (ran new))) ∙ s)) e

@@ -9,12 +9,13 @@ use Rattle.dn_machine.specs.declared.answers.Phase.{Phase}
 use Rattle.dn_machine.specs.declared.answers.Phase.TheVariants.{Playing}
 use Rattle.dn_machine.specs.declared.answers.Heard.{Heard}
 use Rattle.dn_machine.specs.declared.events.Event.{Event}
+use Rattle.dn_machine.specs.declared.peer.Peer.{Peer}
 use Rattle.dn_machine.specs.declared.events.Event.TheVariants.{Send, Deliver}
 use Rattle.dn_machine.specs.Worlds.{Rules}
 use Rattle.dn_machine.specs.Flight.{Flight, end_of, is_exit, is_near}
-use Rattle.dn_machine.specs.Node.{Node, put, got, made, ran, is_ended, has_left}
-use Rattle.dn_machine.specs.Sending.{lag, commands_flight, after_sent, on_send}
-use Rattle.dn_machine.specs.Hearing.{is_within, after_request, is_past_end, is_strange_end, after_exit, on_commands, on_ended, on_packet, on_packet_in}
+use Rattle.dn_machine.specs.Node.{Node, put, with_peer, ends_of, got, made, ran, is_ended, has_left}
+use Rattle.dn_machine.specs.Sending.{commands_flight, after_sent, on_send}
+use Rattle.dn_machine.specs.Hearing.{is_within, after_request, is_past_end, is_strange_end, after_exit, after_flight, on_commands, on_ended, on_packet, on_packet_in}
 use Rattle.dn_machine.specs.Game.{Game, with_node}
 use Rattle.dn_machine.specs.Invariant.{HoldsAll, history_of}
 use Rattle.dn_machine.specs.Progress.{after, exchange}
@@ -22,7 +23,7 @@ use Rattle.dn_machine.proofs.Put.{put_at, put_off, same_functions}
 use Rattle.dn_machine.proofs.Games.{applied_keeps}
 use Rattle.dn_machine.proofs.Growth.{IsPatient, applied_grows}
 use Rattle.dn_machine.proofs.Lists
-use Rattle.dn_machine.proofs.Pairs.{Peer, peer, same_peer, Holds, holds_same, Taken, Asked, IsAsked, asks, IsLive, accepted}
+use Rattle.dn_machine.proofs.Pairs.{side, same_side, Holds, holds_same, Taken, Asked, IsAsked, asks, IsLive, accepted}
 use Rattle.dn_machine.proofs.Pairs
 use Rattle.dn_machine.proofs.Roomy.{ended_cause, IsRoomy, roomy_after}
 
@@ -30,12 +31,13 @@ use Rattle.dn_machine.proofs.Roomy.{ended_cause, IsRoomy, roomy_after}
 abbrev pub IsFar : {S : Type 0} → Rules S → ℕ → (ℕ → Bool) → Game → Type 0
 IsFar rules cap stay game = (q : ℕ) → q < rules.players → stay q ≡ true → cap ≤ ran (game.nodes q) + 5
 
--- those that stay have run the first tics, so many
+-- those that stay have run this many tics
 abbrev pub StayRan : {S : Type 0} → Rules S → (ℕ → Bool) → Game → ℕ → Type 0
 StayRan rules stay game tics = (q : ℕ) → q < rules.players → stay q ≡ true → tics ≤ ran (game.nodes q)
 
--- a game that goes on, where those that stay play and have run the first tics, so many, and the others have left
-pub record IsOn {S : Type 0} (rules : Rules S) (settings : Settings) (cap : ℕ) (stay : ℕ → Bool) (tic : ℕ) (game : Game) : Type 0 where
+-- a game that goes on, where those that stay play and have run `tic` tics, and the others have left
+pub record IsOn {S : Type 0} (rules : Rules S) (settings : Settings) (cap : ℕ) (stay : ℕ → Bool) (tic : ℕ)
+    (game : Game) : Type 0 where
   pub live : IsLive rules settings game
   pub plays : (q : ℕ) → q < rules.players → stay q ≡ true → (game.nodes q).phase ≡ Playing
   pub left : (q : ℕ) → q < rules.players → stay q ≡ false → has_left (game.nodes q) ≡ true
@@ -44,93 +46,78 @@ pub record IsOn {S : Type 0} (rules : Rules S) (settings : Settings) (cap : ℕ)
 
 -- what a node keeps of the others is as it was
 abbrev pub IsQuiet : Game → Game → Type 0
-IsQuiet old new = (r s : ℕ) → r ≢ s → peer (new.nodes r) s ≡ peer (old.nodes r) s
+IsQuiet old new = (r s : ℕ) → r ≢ s → side (new.nodes r) s ≡ side (old.nodes r) s
 
 -- what an exchange leaves
 pub record IsExchanged (stay : ℕ → Bool) (tic start : ℕ) (i j : ℕ) (old new : Game) : Type 0 where
-  pub other : (r s : ℕ) → (r ≡ i → s ≢ j) → (r ≡ j → s ≢ i) → peer (new.nodes r) s ≡ peer (old.nodes r) s
-  pub mine_hold : (new.nodes i).hold j ≡ (old.nodes i).hold j
+  pub other : (r s : ℕ) → (r ≡ i → s ≢ j) → (r ≡ j → s ≢ i) → side (new.nodes r) s ≡ side (old.nodes r) s
+  pub mine_pause : ((new.nodes i).peers j).pause ≡ ((old.nodes i).peers j).pause
   pub mine_got : length ((new.nodes i).held j) ≡ length ((old.nodes i).held j)
-  pub mine_want : (new.nodes i).want j ≡ (old.nodes i).want j
-  pub mine_end : (new.nodes i).ends j ≡ (old.nodes i).ends j
-  pub begins : stay j ≡ true → (old.nodes i).resend j ≡ length ((old.nodes j).held i) → start ≡ length ((old.nodes j).held i)
-  pub taken : stay j ≡ true → Taken tic start (peer (old.nodes j) i) (peer (new.nodes j) i)
-  pub asked : stay i ≡ true → Holds tic (peer (old.nodes i) j) ⊎ Asked (length ((old.nodes i).held j)) ((old.nodes i).want j) (peer (old.nodes j) i) (peer (new.nodes j) i)
+  pub mine_want : ((new.nodes i).peers j).want ≡ ((old.nodes i).peers j).want
+  pub mine_end : ends_of (new.nodes i) j ≡ ends_of (old.nodes i) j
+  pub begins : stay j ≡ true → ((old.nodes i).peers j).resend ≡ length ((old.nodes j).held i)
+      → start ≡ length ((old.nodes j).held i)
+  pub taken : stay j ≡ true → Taken tic start (side (old.nodes j) i) (side (new.nodes j) i)
+  pub asked : stay i ≡ true → Holds tic (side (old.nodes i) j)
+      ⊎ Asked (length ((old.nodes i).held j)) ((old.nodes i).peers j).want ((old.nodes j).peers i)
+      ((new.nodes j).peers i)
   pub phase : (r : ℕ) → (new.nodes r).phase ≡ (old.nodes r).phase
   pub played : (r : ℕ) → (new.nodes r).played ≡ (old.nodes r).played
   pub stopped : new.stopped ≡ old.stopped
 
-pub far_after : {S : Type 0} (rules : Rules S) (cap : ℕ) (stay : ℕ → Bool) (event : Event) (game : Game) → IsFar rules cap stay game → IsFar rules cap stay (after rules event game)
-far_after rules cap stay event game far q l s = let old = far q l s in let more = (applied_grows rules game q event).rows in omega arith
+pub far_after : {S : Type 0} (rules : Rules S) (cap : ℕ) (stay : ℕ → Bool) (event : Event) (game : Game)
+    → IsFar rules cap stay game → IsFar rules cap stay (after rules event game)
+far_after rules cap stay event game far q l s = let old = far q l s in
+    let more = (applied_grows rules game q event).rows in omega arith
 
-pub ran_after : {S : Type 0} (rules : Rules S) (stay : ℕ → Bool) (event : Event) (game : Game) (tic : ℕ) → StayRan rules stay game tic → StayRan rules stay (after rules event game) tic
-ran_after rules stay event game tic far q l s = let old = far q l s in let more = (applied_grows rules game q event).rows in omega arith
+pub ran_after : {S : Type 0} (rules : Rules S) (stay : ℕ → Bool) (event : Event) (game : Game) (tic : ℕ)
+    → StayRan rules stay game tic → StayRan rules stay (after rules event game) tic
+ran_after rules stay event game tic far q l s = let old = far q l s in
+    let more = (applied_grows rules game q event).rows in omega arith
 
-pub patient_after : {S : Type 0} (rules : Rules S) (event : Event) (game : Game) → IsPatient game → IsPatient (after rules event game)
-patient_after rules event game patient q s = (applied_grows rules game q event).hold s (patient q s)
+pub patient_after : {S : Type 0} (rules : Rules S) (event : Event) (game : Game) → IsPatient game
+    → IsPatient (after rules event game)
+patient_after rules event game patient q s = (applied_grows rules game q event).pause s (patient q s)
 
 -- where one demo is full, every demo is as good as full
-pub full_far : {S : Type 0} (rules : Rules S) (settings : Settings) (cap : ℕ) (stay : ℕ → Bool) (game : Game) (live : IsLive rules settings game)
+pub full_far : {S : Type 0} (rules : Rules S) (settings : Settings) (cap : ℕ) (stay : ℕ → Bool) (game : Game)
+    (live : IsLive rules settings game)
     → ((q : ℕ) → q < rules.players → stay q ≡ true → is_ended (game.nodes q).phase ≡ false)
     → (r : ℕ) → r < rules.players → cap ≤ ran (game.nodes r) → IsFar rules cap stay game
 full_far rules settings cap stay game live there r mine full q l s =
-    let a = Lists.ran_below rules settings (history_of game) game.flights live.kept.from_keys r q mine l (Pairs.stays rules settings game live q (there q l s)) in
+    let a = Lists.ran_below rules settings (history_of game) game.flights live.kept.from_keys r q mine l
+    (Pairs.stays rules settings game live q (there q l s)) in
     let b = live.kept.from_keys.ahead q l in
     omega arith
 
--- what a request, and an end that is told, leave
-record IsTold (exit want : Bool) (request i end : ℕ) (old new : Node) : Type 0 where
-  phase : new.phase ≡ old.phase
-  played : new.played ≡ old.played
-  held : new.held ≡ old.held
+-- what a packet that is not dropped leaves of what is kept of its sender
+record IsTold (exit want : Bool) (request end : ℕ) (old new : Peer) : Type 0 where
   want_same : new.want ≡ old.want
-  resend : (s : ℕ) → s ≢ i → new.resend s ≡ old.resend s
-  hold : (s : ℕ) → s ≢ i → new.hold s ≡ old.hold s
-  asked : Asked request want (peer old i) (peer new i)
-  ends : (s : ℕ) → s ≢ i → new.ends s ≡ old.ends s
-  told : exit ≡ true → new.ends i ≡ Some end
-  untold : exit ≡ false → new.ends i ≡ old.ends i
+  asked : Asked request want old new
+  told : exit ≡ true → new.end ≡ Some end
 
-tells : (exit want : Bool) (request i end : ℕ) (old mid : Node) → IsAsked want request i old mid → IsTold exit want request i end old (after_exit exit mid i end)
-tells true want request i end old mid a = record {
-  phase = a.phase;
-  played = a.played;
-  held = a.held;
-  want_same = a.want_same;
-  resend = a.resend;
-  hold = a.hold;
-  asked = a.asked;
-  ends = λ s n. put_off mid.ends i s (Some end) n ∙ ap (λ (f : ℕ → Option ℕ). f s) a.ends;
-  told = λ e. put_at mid.ends i i (Some end) refl;
-  untold = λ e. absurd (true≢false e);
-}
-tells false want request i end old mid a = record {
-  phase = a.phase;
-  played = a.played;
-  held = a.held;
-  want_same = a.want_same;
-  resend = a.resend;
-  hold = a.hold;
-  asked = a.asked;
-  ends = λ s n. ap (λ (f : ℕ → Option ℕ). f s) a.ends;
-  told = λ e. absurd (true≢false (sym e));
-  untold = λ e. ap (λ (f : ℕ → Option ℕ). f i) a.ends;
-}
+tells : (exit want : Bool) (request end : ℕ) (old mid : Peer) → IsAsked want request old mid
+    → IsTold exit want request end old (after_exit mid exit end)
+tells true want request end old mid a = record { want_same = a.want_same; asked = a.asked; told = λ e. refl }
+tells false want request end old mid a =
+    record { want_same = a.want_same; asked = a.asked; told = λ e. absurd (true≢false (sym e)) }
 
 -- what a receiver is left as
-record IsHeard (tic start request : ℕ) (want : Bool) (stays asks_too : Type 0) (i : ℕ) (old new : Node) : Type 0 where
+record IsHeard (tic start request : ℕ) (want : Bool) (stays asks_too : Type 0) (i : ℕ)
+    (old new : Node) : Type 0 where
   phase : new.phase ≡ old.phase
   played : new.played ≡ old.played
-  other : (s : ℕ) → s ≢ i → peer new s ≡ peer old s
-  taken : stays → Taken tic start (peer old i) (peer new i)
-  asked : asks_too → Asked request want (peer old i) (peer new i)
+  other : (s : ℕ) → s ≢ i → side new s ≡ side old s
+  taken : stays → Taken tic start (side old i) (side new i)
+  asked : asks_too → Asked request want (old.peers i) (new.peers i)
 
-module _ {S : Type 0} (rules : Rules S) (settings : Settings) (cap : ℕ) (stay : ℕ → Bool) (tic : ℕ) (game : Game) (on : IsOn rules settings cap stay tic game) where
+module _ {S : Type 0} (rules : Rules S) (settings : Settings) (cap : ℕ) (stay : ℕ → Bool) (tic : ℕ)
+    (game : Game) (on : IsOn rules settings cap stay tic game) where
   -- who stays has not ended
   pub in_play : (q : ℕ) → q < rules.players → stay q ≡ true → is_ended (game.nodes q).phase ≡ false
   in_play q l s = ap is_ended (on.plays q l s)
 
-  holds_all : (q p : ℕ) → HoldsAll (history_of game) q p → Holds tic (peer (game.nodes q) p)
+  holds_all : (q p : ℕ) → HoldsAll (history_of game) q p → Holds tic (side (game.nodes q) p)
   holds_all q p h =
       let low = h.2 in
       elim (cases_lt tic (got (game.nodes q) p)) [
@@ -138,7 +125,17 @@ module _ {S : Type 0} (rules : Rules S) (settings : Settings) (cap : ℕ) (stay 
         | inr m ↦ inr (h.0, h.1, omega arith)
       ]
 
-  module _ (i : ℕ) (j : ℕ) (mine : i < rules.players) (its : j < rules.players) (apart : i ≢ j) (built : stay i ≡ true → tic < made i (game.nodes i)) (gone asks_it : Bool) (sends : on_send rules i (game.nodes i) j ≡ (after_sent rules i (game.nodes i) j, Some (commands_flight rules i (game.nodes i) j (Pairs.kind_of rules settings game on.live gone) (cond asks_it (Some (got (game.nodes i) j)) None)))) (goes : gone ≡ true → (stay i ≡ false) × (has_left (game.nodes i) ≡ true)) (here : gone ≡ false → stay i ≡ true) (asker : asks_it ≡ true → stay i ≡ true) (same_want : stay i ≡ true → (game.nodes i).want j ≡ asks_it) where
+  module _ (i : ℕ) (j : ℕ) (mine : i < rules.players) (its : j < rules.players) (apart : i ≢ j)
+      (built : stay i ≡ true → tic < made i (game.nodes i)) (gone asks_it : Bool)
+      (sends : on_send rules i (game.nodes i) j
+      ≡ (
+        after_sent rules i (game.nodes i) j,
+        Some (commands_flight rules i (game.nodes i) j (Pairs.kind_of rules settings game on.live gone)
+            (cond asks_it (Some (got (game.nodes i) j)) None)),
+      ))
+      (goes : gone ≡ true → (stay i ≡ false) × (has_left (game.nodes i) ≡ true))
+      (here : gone ≡ false → stay i ≡ true) (asker : asks_it ≡ true → stay i ≡ true)
+      (same_want : stay i ≡ true → ((game.nodes i).peers j).want ≡ asks_it) where
     abbrev I : Node
     I = game.nodes i
 
@@ -157,56 +154,68 @@ module _ {S : Type 0} (rules : Rules S) (settings : Settings) (cap : ℕ) (stay 
         (f.held i j mine its, f.unheard i j mine its (in_play i mine (asker w)))
 
     -- a packet to one that stays is near, or that one needs no more
-    near_j : stay j ≡ true → (is_near (made j J) flight ≡ true) ⊎ Holds tic (peer J i)
+    near_j : stay j ≡ true → (is_near (made j J) flight ≡ true) ⊎ Holds tic (side J i)
     near_j s = elim (cases_Bool gone) [
       | inr stays ↦
           let f = Pairs.fits rules settings game on.live in
-          inl (Pairs.near rules settings game on.live i j mine its apart gone asks_it sends (f.close i j mine its (in_play j its s)) (f.close j i its mine (in_play i mine (here stays))) request_within)
+          inl (Pairs.near rules settings game on.live i j mine its apart gone asks_it sends
+          (f.close i j mine its (in_play j its s)) (f.close j i its mine (in_play i mine (here stays)))
+          request_within)
       | inl left ↦
           let f = Pairs.fits rules settings game on.live in
           let a = f.close i j mine its (in_play j its s) in
           let b = f.ahead j its in
           let c = f.held j i its mine in
           elim (on.live.kept.from_keys.run j i its mine) [
-            | inl le ↦ inl (Pairs.near rules settings game on.live i j mine its apart gone asks_it sends a (omega arith) request_within)
+            | inl le ↦
+                inl (Pairs.near rules settings game on.live i j mine its apart gone asks_it sends a
+                (omega arith) request_within)
             | inr h ↦ inr (holds_all j i h)
           ]
     ]
 
     -- and so is one from one that stays
-    near_i : stay i ≡ true → (is_near (made j J) flight ≡ true) ⊎ Holds tic (peer I j)
+    near_i : stay i ≡ true → (is_near (made j J) flight ≡ true) ⊎ Holds tic (side I j)
     near_i s =
         let f = Pairs.fits rules settings game on.live in
         let a = f.close j i its mine (in_play i mine s) in
         let b = f.ahead i mine in
         let c = f.held i j mine its in
         elim (on.live.kept.from_keys.run i j mine its) [
-          | inl le ↦ inl (Pairs.near rules settings game on.live i j mine its apart gone asks_it sends (omega arith) a request_within)
+          | inl le ↦
+              inl (Pairs.near rules settings game on.live i j mine its apart gone asks_it sends (omega arith)
+              a request_within)
           | inr h ↦ inr (holds_all i j h)
         ]
 
     -- an end that is known is that of all that were made
-    known : (e : ℕ) → J.ends i ≡ Some e → e ≡ made i I
-    known e h = (on.live.kept.from_keys.ended j i e its mine h).1 ∙ sym (on.live.kept.from_keys.counted i mine)
+    known : (e : ℕ) → ends_of J i ≡ Some e → e ≡ made i I
+    known e h = (on.live.kept.from_keys.ended j i e its mine h).1
+        ∙ sym (on.live.kept.from_keys.counted i mine)
 
-    no_strange : (exit : Bool) → ((exit && ltb (end_of flight) (got J i)) || is_past_end exit (J.ends i) (end_of flight)) ≡ true → ⊥
+    no_strange : (exit : Bool)
+        → ((exit && ltb (end_of flight) (got J i)) || is_past_end exit (ends_of J i) (end_of flight)) ≡ true
+        → ⊥
     no_strange exit h =
         let f = Pairs.fits rules settings game on.live in
         let bound = f.held j i its mine in
         let tip = end in
         elim (or_cases _ _ h) [
-          | inl before ↦ let low = ltb-true (end_of flight) (got J i) (and_parts exit (ltb (end_of flight) (got J i)) before).1 in omega arith
-          | inr past ↦ past_known (J.ends i) refl past
+          | inl before ↦ let low = ltb-true (end_of flight) (got J i)
+              (and_parts exit (ltb (end_of flight) (got J i)) before).1 in omega arith
+          | inr past ↦ past_known (ends_of J i) refl past
         ]
       where
-        past_known : (o : Option ℕ) → J.ends i ≡ o → is_past_end exit o (end_of flight) ≡ true → ⊥
+        past_known : (o : Option ℕ) → ends_of J i ≡ o → is_past_end exit o (end_of flight) ≡ true → ⊥
         past_known None e p = true≢false (sym p)
         past_known (Some k) e p =
             let same = known k e in
             let tip = end in
             elim (or_cases (ltb k (end_of flight)) (exit && not (eqb (end_of flight) k)) p) [
               | inl less ↦ let low = ltb-true k (end_of flight) less in omega arith
-              | inr differs ↦ eqb-false (end_of flight) k (not-true (eqb (end_of flight) k) (and_parts exit (not (eqb (end_of flight) k)) differs).1) (omega arith)
+              | inr differs ↦ eqb-false (end_of flight) k
+                  (not-true (eqb (end_of flight) k) (and_parts exit (not (eqb (end_of flight) k)) differs).1)
+                  (omega arith)
             ]
 
     within : asks_it ≡ true → is_within (made j J) (Some (got I j)) ≡ true
@@ -214,48 +223,58 @@ module _ {S : Type 0} (rules : Rules S) (settings : Settings) (cap : ℕ) (stay 
         let f = request_within w in
         let a = f.0 in
         let b = f.1 in
-        and_from (leb (got I j) (made j J)) (leb (made j J - 12) (got I j)) (le-leb (got I j) (made j J) a) (le-leb (made j J - 12) (got I j) (omega arith))
+        and_from (leb (got I j) (made j J)) (leb (made j J - 12) (got I j)) (le-leb (got I j) (made j J) a)
+        (le-leb (made j J - 12) (got I j) (omega arith))
 
     abbrev Heard_so : Node → Type 0
     Heard_so new = IsHeard tic flight.start (got I j) asks_it (stay j ≡ true) (stay i ≡ true) i J new
 
+    -- a node that keeps this of the sender, and these commands
+    heard_as : (peer : Peer) (held : ℕ → List TicCmd) → ((s : ℕ) → s ≢ i → length (held s) ≡ got J s)
+        → Asked (got I j) asks_it (J.peers i) peer
+        → (stay j ≡ true → Taken tic flight.start (side J i) (record { kept = peer; got = length (held i) }))
+        → Heard_so (record (with_peer J i peer) { held = held })
+    heard_as peer held same asked taken =
+        let at = put_at J.peers i i peer refl in
+        record {
+          phase = refl;
+          played = refl;
+          other = λ s n. same_side (put_off J.peers i s peer n) (same s n);
+          taken = λ u. subst (λ (x : Peer). Taken tic flight.start (side J i)
+              (record { kept = x; got = length (held i) })) (sym at) (taken u);
+          asked = λ u. subst (λ (x : Peer). Asked (got I j) asks_it (J.peers i) x) (sym at) asked;
+        }
+
     -- a playing node hears commands, and maybe an end
-    heard : (exit : Bool) → (exit ≡ gone) → stay j ≡ true → is_exit flight.kind ≡ exit → Heard_so (on_commands j J flight).0
+    heard : (exit : Bool) → (exit ≡ gone) → stay j ≡ true → is_exit flight.kind ≡ exit
+        → Heard_so (on_commands j J flight).0
     heard exit is_gone s kind_is =
         let f = Pairs.fits rules settings game on.live in
         let tip = end in
         let a = f.close i j mine its (in_play j its s) in
         let b = f.ahead j its in
-        let base : Node = after_exit (is_exit flight.kind) (after_request j J i flight.request) i (end_of flight) in
-        let t : IsTold (is_exit flight.kind) asks_it (got I j) i (end_of flight) J base = tells (is_exit flight.kind) asks_it (got I j) i (end_of flight) J (after_request j J i flight.request) (asks j i J asks_it (got I j) within) in
-        let same = λ (k : ℕ). ap (λ (h : ℕ → List TicCmd). length (h k)) t.held in
-        let at_i = same i in
+        let mid : Peer = after_request (made j J) (J.peers i) flight.request in
+        let base : Peer = after_flight (made j J) (J.peers i) flight in
+        let t : IsTold (is_exit flight.kind) asks_it (got I j) (end_of flight) (J.peers i) base =
+        tells (is_exit flight.kind) asks_it (got I j) (end_of flight) (J.peers i) mid
+        (asks (made j J) (J.peers i) asks_it (got I j) within) in
         cond_both (ltb (ran J + 12) (end_of flight)) _ _ (λ (r : Node × Heard). Heard_so r.0)
         (λ over. let x = ltb-true (ran J + 12) (end_of flight) over in absurd (omega arith))
-        (λ x. cond_both (is_strange_end (is_exit flight.kind) (got J i) (J.ends i) (end_of flight)) _ _ (λ (r : Node × Heard). Heard_so r.0)
+        (λ x. cond_both (is_strange_end (is_exit flight.kind) (got J i) (ends_of J i) (end_of flight)) _ _
+        (λ (r : Node × Heard). Heard_so r.0)
         (λ strange. absurd (no_strange (is_exit flight.kind) strange))
         (λ x. cond_both (leb (end_of flight) (got J i)) _ _ (λ (r : Node × Heard). Heard_so r.0)
-        (λ stale. let y = leb-true (end_of flight) (got J i) stale in record {
-          phase = t.phase;
-          played = t.played;
-          other = λ k n. same_peer (t.resend k n) (t.hold k n) (same k) (ap (λ (w : ℕ → Bool). w k) t.want_same) (t.ends k n);
-          taken = λ u. elim reach [
-            | inl more ↦ inl (inl (omega arith))
-            | inr done ↦ inl (inr (end_of flight, t.told (kind_is ∙ (is_gone ∙ done.0)), done.1))
-          ];
-          asked = λ u. t.asked;
-        })
+        (λ stale. let y = leb-true (end_of flight) (got J i) stale in
+        heard_as base J.held (λ s n. refl) t.asked (λ u. elim reach [
+          | inl more ↦ inl (inl (omega arith))
+          | inr done ↦ inl (inr (end_of flight, t.told (kind_is ∙ (is_gone ∙ done.0)), done.1))
+        ]))
         (λ later. cond_both (ltb (got J i) flight.start) _ _ (λ (r : Node × Heard). Heard_so r.0)
-        (λ gap. let y = ltb-true (got J i) flight.start gap in record {
-          phase = t.phase;
-          played = t.played;
-          other = λ k n. same_peer (t.resend k n) (t.hold k n) (same k) (put_off J.want i k true n) (t.ends k n);
-          taken = λ u. elim reach [
-            | inl more ↦ inr (at_i, y, put_at J.want i i true refl, λ holds. inl (still_has more holds at_i))
-            | inr done ↦ inl (inr (end_of flight, t.told (kind_is ∙ (is_gone ∙ done.0)), done.1))
-          ];
-          asked = λ u. t.asked;
-        })
+        (λ gap. let y = ltb-true (got J i) flight.start gap in
+        heard_as (record base { want = true }) J.held (λ s n. refl) t.asked (λ u. elim reach [
+          | inl more ↦ inr (refl, y, refl, λ holds. inl (still_has more holds refl))
+          | inr done ↦ inl (inr (end_of flight, t.told (kind_is ∙ (is_gone ∙ done.0)), done.1))
+        ]))
         (λ joins.
         let y = ltb-false (got J i) flight.start joins in
         let z = leb-false (end_of flight) (got J i) later in
@@ -263,16 +282,11 @@ module _ {S : Type 0} (rules : Rules S) (settings : Settings) (cap : ℕ) (stay 
         let c = length-append (J.held i) (drop (got J i - flight.start) flight.commands) in
         let d = length-drop (got J i - flight.start) flight.commands in
         let at = ap (length {A = TicCmd}) (put_at J.held i i new refl) in
-        record {
-          phase = t.phase;
-          played = t.played;
-          other = λ k n. same_peer (t.resend k n) (t.hold k n) (ap (length {A = TicCmd}) (put_off J.held i k new n)) (put_off J.want i k false n) (t.ends k n);
-          taken = λ u. elim reach [
-            | inl more ↦ inl (inl (omega arith))
-            | inr done ↦ inl (inr (end_of flight, t.told (kind_is ∙ (is_gone ∙ done.0)), done.1))
-          ];
-          asked = λ u. t.asked;
-        }))))
+        heard_as (record base { want = false }) (put J.held i new)
+        (λ s n. ap (length {A = TicCmd}) (put_off J.held i s new n)) t.asked (λ u. elim reach [
+          | inl more ↦ inl (inl (omega arith))
+          | inr done ↦ inl (inr (end_of flight, t.told (kind_is ∙ (is_gone ∙ done.0)), done.1))
+        ])))))
       where
         reach : (tic < end_of flight) ⊎ ((gone ≡ true) × (end_of flight ≤ tic))
         reach =
@@ -285,9 +299,10 @@ module _ {S : Type 0} (rules : Rules S) (settings : Settings) (cap : ℕ) (stay 
               ]
             ]
 
-        still_has : {n : ℕ} → tic < end_of flight → Holds tic (peer J i) → n ≡ got J i → tic < n
+        still_has : {n : ℕ} → tic < end_of flight → Holds tic (side J i) → n ≡ got J i → tic < n
         still_has more (inl has) e = omega arith
-        still_has more (inr over) e = let same = known over.0 over.1 in let tip = end in let low = over.2 in absurd (omega arith)
+        still_has more (inr over) e = let same = known over.0 over.1 in let tip = end in let low = over.2 in
+            absurd (omega arith)
 
     heard_kind : stay j ≡ true → Heard_so (on_commands j J flight).0
     heard_kind s = heard (is_exit flight.kind) (exit_gone gone) s refl
@@ -296,12 +311,15 @@ module _ {S : Type 0} (rules : Rules S) (settings : Settings) (cap : ℕ) (stay 
         exit_gone true = refl
         exit_gone false = refl
 
-    receives : (phase : Phase) (b : Bool) → stay j ≡ true → J.phase ≡ Playing → (on_packet_in rules j J flight Playing (Pairs.kind_of rules settings game on.live b)).0 ≡ (on_commands j J flight).0
+    receives : (phase : Phase) (b : Bool) → stay j ≡ true → J.phase ≡ Playing
+        → (on_packet_in rules j J flight Playing (Pairs.kind_of rules settings game on.live b)).0
+        ≡ (on_commands j J flight).0
     receives phase true s e = refl
     receives phase false s e = refl
 
     -- one that has left hears the request
-    left_hears : (b : Bool) → b ≡ gone → stay j ≡ false → Heard_so (on_ended true j J flight (Pairs.kind_of rules settings game on.live b)).0
+    left_hears : (b : Bool) → b ≡ gone → stay j ≡ false
+        → Heard_so (on_ended true j J flight (Pairs.kind_of rules settings game on.live b)).0
     left_hears true e s = record {
       phase = refl;
       played = refl;
@@ -310,24 +328,21 @@ module _ {S : Type 0} (rules : Rules S) (settings : Settings) (cap : ℕ) (stay 
       asked = λ u. absurd (true≢false (sym u ∙ (goes (sym e)).0));
     }
     left_hears false e s =
-        let a = asks j i J asks_it (got I j) within in
-        record {
-          phase = a.phase;
-          played = a.played;
-          other = λ k n. same_peer (a.resend k n) (a.hold k n) (ap (λ (h : ℕ → List TicCmd). length (h k)) a.held) (ap (λ (w : ℕ → Bool). w k) a.want_same) (ap (λ (f : ℕ → Option ℕ). f k) a.ends);
-          taken = λ u. absurd (true≢false (sym u ∙ s));
-          asked = λ u. a.asked;
-        }
+        heard_as (after_request (made j J) (J.peers i) flight.request) J.held (λ k n. refl)
+        (asks (made j J) (J.peers i) asks_it (got I j) within).asked (λ u. absurd (true≢false (sym u ∙ s)))
 
     hears : Heard_so (on_packet rules j J flight).0
     unfolding on_packet
     hears = elim (cases_Bool (stay j)) [
-      | inl s ↦ subst (λ (ph : Phase). Heard_so (on_packet_in rules j J flight ph flight.kind).0) (sym (on.plays j its s)) (subst (λ (n : Node). Heard_so n) (sym (receives Playing gone s (on.plays j its s))) (heard_kind s))
+      | inl s ↦ subst (λ (ph : Phase). Heard_so (on_packet_in rules j J flight ph flight.kind).0)
+          (sym (on.plays j its s))
+          (subst (λ (n : Node). Heard_so n) (sym (receives Playing gone s (on.plays j its s))) (heard_kind s))
       | inr s ↦
           let both = and_parts J.played (is_ended J.phase) (on.left j its s) in
           let cause = ended_cause J.phase both.1 in
           subst (λ (ph : Phase). Heard_so (on_packet_in rules j J flight ph flight.kind).0) (sym cause.1)
-          (subst (λ (b : Bool). Heard_so (on_ended b j J flight flight.kind).0) (sym both.0) (left_hears gone refl s))
+          (subst (λ (b : Bool). Heard_so (on_ended b j J flight flight.kind).0) (sym both.0)
+          (left_hears gone refl s))
     ]
 
     abbrev new_i : Node
@@ -337,40 +352,57 @@ module _ {S : Type 0} (rules : Rules S) (settings : Settings) (cap : ℕ) (stay 
     sent_game = Pairs.sent rules settings game on.live i j mine its apart gone asks_it sends
 
     -- the game after an exchange, with this receiver
-    placed : (y : Node) → y.phase ≡ J.phase → y.played ≡ J.played → ((s : ℕ) → s ≢ i → peer y s ≡ peer J s) → (stay j ≡ true → Taken tic flight.start (peer J i) (peer y i)) → (stay i ≡ true → Holds tic (peer I j) ⊎ Asked (got I j) (I.want j) (peer J i) (peer y i)) → IsExchanged stay tic flight.start i j game (with_node sent_game j y)
+    placed : (y : Node) → y.phase ≡ J.phase → y.played ≡ J.played → ((s : ℕ) → s ≢ i → side y s ≡ side J s)
+        → (stay j ≡ true → Taken tic flight.start (side J i) (side y i))
+        → (stay i ≡ true → Holds tic (side I j) ⊎ Asked (got I j) (I.peers j).want (J.peers i) (y.peers i))
+        → IsExchanged stay tic flight.start i j game (with_node sent_game j y)
     placed y y_phase y_played y_other y_taken y_asked =
         let back : j ≢ i = λ e. apart (sym e) in
         let N : ℕ → Node = put (put game.nodes i new_i) j y in
         let at_j : (r : ℕ) → r ≡ j → N r ≡ y = λ r e. put_at (put game.nodes i new_i) j r y e in
-        let at_i : (r : ℕ) → r ≡ i → N r ≡ new_i = λ r e. put_off (put game.nodes i new_i) j r y (λ d. apart (sym e ∙ d)) ∙ put_at game.nodes i r new_i e in
-        let off : (r : ℕ) → r ≢ i → r ≢ j → N r ≡ game.nodes r = λ r n m. put_off (put game.nodes i new_i) j r y m ∙ put_off game.nodes i r new_i n in
+        let at_i : (r : ℕ) → r ≡ i → N r ≡ new_i =
+        λ r e. put_off (put game.nodes i new_i) j r y (λ d. apart (sym e ∙ d))
+        ∙ put_at game.nodes i r new_i e in
+        let off : (r : ℕ) → r ≢ i → r ≢ j → N r ≡ game.nodes r =
+        λ r n m. put_off (put game.nodes i new_i) j r y m ∙ put_off game.nodes i r new_i n in
         record {
           other = λ r s n m. elim (cases_eq r j) [
-            | inl e ↦ ap (λ (x : Node). peer x s) (at_j r e) ∙ (y_other s (m e) ∙ ap (λ (k : ℕ). peer (game.nodes k) s) (sym e))
+            | inl e ↦ ap (λ (x : Node). side x s) (at_j r e)
+                ∙ (y_other s (m e) ∙ ap (λ (k : ℕ). side (game.nodes k) s) (sym e))
             | inr d ↦ elim (cases_eq r i) [
-              | inl e ↦ ap (λ (x : Node). peer x s) (at_i r e) ∙ (same_peer (put_off I.resend j s (made i I - lag rules) (n e)) refl refl refl refl ∙ ap (λ (k : ℕ). peer (game.nodes k) s) (sym e))
-              | inr c ↦ ap (λ (x : Node). peer x s) (off r c d)
+              | inl e ↦ ap (λ (x : Node). side x s) (at_i r e)
+                  ∙ (same_side (put_off I.peers j s _ (n e)) refl
+                  ∙ ap (λ (k : ℕ). side (game.nodes k) s) (sym e))
+              | inr c ↦ ap (λ (x : Node). side x s) (off r c d)
             ]
           ];
-          mine_hold = ap (λ (x : Node). x.hold j) (at_i i refl);
+          mine_pause = ap (λ (x : Node). (x.peers j).pause) (at_i i refl)
+              ∙ ap (λ (x : Peer). x.pause) (put_at I.peers j j _ refl);
           mine_got = ap (λ (x : Node). length (x.held j)) (at_i i refl);
-          mine_want = ap (λ (x : Node). x.want j) (at_i i refl);
-          mine_end = ap (λ (x : Node). x.ends j) (at_i i refl);
+          mine_want = ap (λ (x : Node). (x.peers j).want) (at_i i refl)
+              ∙ ap (λ (x : Peer). x.want) (put_at I.peers j j _ refl);
+          mine_end = ap (λ (x : Node). ends_of x j) (at_i i refl)
+              ∙ ap (λ (x : Peer). x.end) (put_at I.peers j j _ refl);
           begins = λ u e.
               let f = Pairs.fits rules settings game on.live in
               let low = f.unheard j i its mine (in_play j its u) in
-              cond-false (ltb (I.resend j) (made i I - 12)) _ _ (le-ltb (I.resend j) (made i I - 12) (omega arith)) ∙ e;
-          taken = λ u. subst (λ (x : Node). Taken tic flight.start (peer J i) (peer x i)) (sym (at_j j refl)) (y_taken u);
-          asked = λ u. subst (λ (x : Node). Holds tic (peer I j) ⊎ Asked (got I j) (I.want j) (peer J i) (peer x i)) (sym (at_j j refl)) (y_asked u);
+              cond-false (ltb (I.peers j).resend (made i I - 12)) _ _
+              (le-ltb (I.peers j).resend (made i I - 12) (omega arith)) ∙ e;
+          taken = λ u. subst (λ (x : Node). Taken tic flight.start (side J i) (side x i)) (sym (at_j j refl))
+              (y_taken u);
+          asked = λ u. subst (λ (x : Node). Holds tic (side I j)
+              ⊎ Asked (got I j) (I.peers j).want (J.peers i) (x.peers i)) (sym (at_j j refl)) (y_asked u);
           phase = λ r. elim (cases_eq r j) [
-            | inl e ↦ ap (λ (x : Node). x.phase) (at_j r e) ∙ (y_phase ∙ ap (λ (k : ℕ). (game.nodes k).phase) (sym e))
+            | inl e ↦ ap (λ (x : Node). x.phase) (at_j r e)
+                ∙ (y_phase ∙ ap (λ (k : ℕ). (game.nodes k).phase) (sym e))
             | inr d ↦ elim (cases_eq r i) [
               | inl e ↦ ap (λ (x : Node). x.phase) (at_i r e) ∙ ap (λ (k : ℕ). (game.nodes k).phase) (sym e)
               | inr c ↦ ap (λ (x : Node). x.phase) (off r c d)
             ]
           ];
           played = λ r. elim (cases_eq r j) [
-            | inl e ↦ ap (λ (x : Node). x.played) (at_j r e) ∙ (y_played ∙ ap (λ (k : ℕ). (game.nodes k).played) (sym e))
+            | inl e ↦ ap (λ (x : Node). x.played) (at_j r e)
+                ∙ (y_played ∙ ap (λ (k : ℕ). (game.nodes k).played) (sym e))
             | inr d ↦ elim (cases_eq r i) [
               | inl e ↦ ap (λ (x : Node). x.played) (at_i r e) ∙ ap (λ (k : ℕ). (game.nodes k).played) (sym e)
               | inr c ↦ ap (λ (x : Node). x.played) (off r c d)
@@ -381,10 +413,13 @@ module _ {S : Type 0} (rules : Rules S) (settings : Settings) (cap : ℕ) (stay 
 
     -- where the packet is refused, nodes are as if it came to nothing
     same_game : sent_game ≡ with_node sent_game j J
-    same_game = ap (λ (n : ℕ → Node). record sent_game { nodes = n }) (same_functions (λ q. elim (cases_eq q j) [
-      | inl e ↦ ap (put game.nodes i new_i) e ∙ (put_off game.nodes i j new_i (λ d. apart (sym d)) ∙ sym (put_at (put game.nodes i new_i) j q J e))
-      | inr n ↦ sym (put_off (put game.nodes i new_i) j q J n)
-    ]))
+    same_game = ap (λ (n : ℕ → Node). record sent_game { nodes = n })
+        (same_functions (λ q. elim (cases_eq q j) [
+          | inl e ↦ ap (put game.nodes i new_i) e
+              ∙ (put_off game.nodes i j new_i (λ d. apart (sym d))
+              ∙ sym (put_at (put game.nodes i new_i) j q J e))
+          | inr n ↦ sym (put_off (put game.nodes i new_i) j q J n)
+        ]))
 
     pub exchanges_by : IsExchanged stay tic flight.start i j game (exchange rules i game j)
     exchanges_by = elim (cases_Bool (is_near (made j J) flight)) [
@@ -392,20 +427,35 @@ module _ {S : Type 0} (rules : Rules S) (settings : Settings) (cap : ℕ) (stay 
           let h = hears in
           subst (λ (g : Game). IsExchanged stay tic flight.start i j game g)
           (sym (Pairs.exchanged rules settings game on.live i j mine its apart gone asks_it sends near))
-          (placed _ h.phase h.played h.other h.taken (λ u. inr (subst (λ (w : Bool). Asked (got I j) w (peer J i) (peer (on_packet rules j J flight).0 i)) (sym (same_want u)) (h.asked u))))
+          (placed _ h.phase h.played h.other h.taken
+          (λ u. inr (subst (λ (w : Bool). Asked (got I j) w (J.peers i)
+          ((on_packet rules j J flight).0.peers i)) (sym (same_want u)) (h.asked u))))
       | inr far ↦
           subst (λ (g : Game). IsExchanged stay tic flight.start i j game g)
-          (sym (Pairs.not_exchanged rules settings game on.live i j mine its apart gone asks_it sends far ∙ same_game))
+          (sym (Pairs.not_exchanged rules settings game on.live i j mine its apart gone asks_it sends far
+          ∙ same_game))
           (placed J refl refl (λ s n. refl)
           (λ u. elim (near_j u) [ inl near ↦ absurd (true≢false (sym near ∙ far)) | inr holds ↦ inl holds ])
           (λ u. elim (near_i u) [ inl near ↦ absurd (true≢false (sym near ∙ far)) | inr holds ↦ inl holds ]))
     ]
 
-  module _ (i : ℕ) (j : ℕ) (mine : i < rules.players) (its : j < rules.players) (apart : i ≢ j) (built : stay i ≡ true → tic < made i (game.nodes i)) where
+  module _ (i : ℕ) (j : ℕ) (mine : i < rules.players) (its : j < rules.players) (apart : i ≢ j)
+      (built : stay i ≡ true → tic < made i (game.nodes i)) where
     pub exchanges : (start : ℕ) × IsExchanged stay tic start i j game (exchange rules i game j)
     exchanges = elim (cases_Bool (stay i)) [
-      | inl s ↦ (_, exchanges_by i j mine its apart built false ((game.nodes i).want j) (Pairs.sends_playing rules settings game on.live i j apart (on.plays i mine s)) (λ e. absurd (true≢false (sym e))) (λ e. s) (λ e. s) (λ e. refl))
-      | inr s ↦ (_, exchanges_by i j mine its apart built true false (Pairs.sends_left rules settings game on.live i j apart (on.left i mine s)) (λ e. (s, on.left i mine s)) (λ e. absurd (true≢false e)) (λ e. absurd (true≢false (sym e))) (λ e. absurd (true≢false (sym e ∙ s))))
+      | inl s ↦ (
+        _,
+        exchanges_by i j mine its apart built false ((game.nodes i).peers j).want
+            (Pairs.sends_playing rules settings game on.live i j apart (on.plays i mine s))
+            (λ e. absurd (true≢false (sym e))) (λ e. s) (λ e. s) (λ e. refl),
+      )
+      | inr s ↦ (
+        _,
+        exchanges_by i j mine its apart built true false
+            (Pairs.sends_left rules settings game on.live i j apart (on.left i mine s))
+            (λ e. (s, on.left i mine s)) (λ e. absurd (true≢false e)) (λ e. absurd (true≢false (sym e)))
+            (λ e. absurd (true≢false (sym e ∙ s))),
+      )
     ]
 
     pub exchange_on : IsOn rules settings cap stay tic (exchange rules i game j)
@@ -416,12 +466,18 @@ module _ {S : Type 0} (rules : Rules S) (settings : Settings) (cap : ℕ) (stay 
         let x = exchanges.1 in
         record {
           live = record {
-            kept = applied_keeps rules settings mid (applied_keeps rules settings game on.live.kept (Send i j)) (Deliver which);
-            patient = patient_after rules (Deliver which) mid (patient_after rules (Send i j) game on.live.patient);
+            kept = applied_keeps rules settings mid
+                (applied_keeps rules settings game on.live.kept (Send i j)) (Deliver which);
+            patient = patient_after rules (Deliver which) mid
+                (patient_after rules (Send i j) game on.live.patient);
             running = λ q l. ap (λ (s : ℕ → Bool). s q) x.stopped ∙ on.live.running q l;
           };
           plays = λ q l s. x.phase q ∙ on.plays q l s;
-          left = λ q l s. ap (λ (b : Bool). b && is_ended ((exchange rules i game j).nodes q).phase) (x.played q) ∙ (ap (λ (ph : Phase). (game.nodes q).played && is_ended ph) (x.phase q) ∙ on.left q l s);
-          ran = ran_after rules stay (Deliver which) mid tic (ran_after rules stay (Send i j) game tic on.ran);
-          room = roomy_after rules cap tic mid (Deliver which) (roomy_after rules cap tic game (Send i j) on.room);
+          left = λ q l s. ap (λ (b : Bool). b && is_ended ((exchange rules i game j).nodes q).phase)
+              (x.played q) ∙ (ap (λ (ph : Phase). (game.nodes q).played && is_ended ph) (x.phase q)
+              ∙ on.left q l s);
+          ran = ran_after rules stay (Deliver which) mid tic
+              (ran_after rules stay (Send i j) game tic on.ran);
+          room = roomy_after rules cap tic mid (Deliver which)
+              (roomy_after rules cap tic game (Send i j) on.room);
         }

@@ -17,7 +17,10 @@ use Rattle.dn_machine.proofs.Steps
 use Rattle.dn_machine.specs.Runs.{Next, Leads, Runs}
 
 -- the phases and the settings of the nodes as a game opens
-opening_phase : (settings : Settings) (b : Bool) → (cond b Gathering Listening ≢ Playing) × (cond b Gathering Listening ≡ Gathering → cond b (Some settings) None ≡ Some settings) × ((player : ℕ) (was should : ℤ) → cond b Gathering Listening ≢ Ended (Cause.Inconsistent player was should))
+opening_phase : (settings : Settings) (b : Bool) → (cond b Gathering Listening ≢ Playing)
+    × (cond b Gathering Listening ≡ Gathering → cond b (Some settings) None ≡ Some settings)
+    × ((player : ℕ) (was should : ℤ) → cond b Gathering Listening
+    ≢ Ended (Cause.Inconsistent player was should))
 opening_phase settings true = (λ e. cc, λ e. refl, λ p w s e. cc)
 opening_phase settings false = (λ e. cc, λ e. absurd (cc), λ p w s e. cc)
 
@@ -58,17 +61,21 @@ module _ {S : Type 0} (rules : Rules S) (settings : Settings) where
     named : (node : ℕ) → refused_at rules.players game node ≡ None → node < rules.players
     named node h = ltb-true node rules.players (passes (ltb node rules.players) _ _ h)
 
-    delivers : (o : Option Flight) (which : ℕ) → slice_get game.flights which ≡ o → IsKept rules settings (delivered rules game o).0
+    delivers : (o : Option Flight) (which : ℕ) → slice_get game.flights which ≡ o
+        → IsKept rules settings (delivered rules game o).0
     delivers None which h = kept
     delivers (Some flight) which h =
         let piece = kept.from_keys.pieces which flight h in
         Steps.hears rules settings game kept flight.to piece.receiver flight piece refl
 
-    pub happens_keeps : (event : Event) → refused rules.players game event ≡ None → IsKept rules settings (on_event rules game event).0
+    pub happens_keeps : (event : Event) → refused rules.players game event ≡ None
+        → IsKept rules settings (on_event rules game event).0
     happens_keeps (Build node keys) h = Steps.builds rules settings game kept node (named node h) keys
     happens_keeps (Send node to) h =
-        let both = and_parts (ltb node rules.players) (ltb to rules.players) (passes (ltb node rules.players && ltb to rules.players) _ _ h) in
-        Steps.sends rules settings game kept node (ltb-true node rules.players both.0) to (ltb-true to rules.players both.1)
+        let both = and_parts (ltb node rules.players) (ltb to rules.players)
+        (passes (ltb node rules.players && ltb to rules.players) _ _ h) in
+        Steps.sends rules settings game kept node (ltb-true node rules.players both.0) to
+        (ltb-true to rules.players both.1)
     happens_keeps (Deliver which) h = delivers (slice_get game.flights which) which refl
     happens_keeps (Run node) h = Steps.runs rules settings game kept node (named node h)
     happens_keeps (Quit node) h = Steps.quits rules settings game kept node (named node h)
@@ -78,23 +85,32 @@ module _ {S : Type 0} (rules : Rules S) (settings : Settings) where
     unfolding applied
     applied_keeps event = go (refused rules.players game event) refl
       where
-        go : (o : Option Refusal) → refused rules.players game event ≡ o → IsKept rules settings (applied_if rules game event o).0
+        go : (o : Option Refusal) → refused rules.players game event ≡ o
+            → IsKept rules settings (applied_if rules game event o).0
         go (Some refusal) h = kept
         go None h = happens_keeps event h
 
-  pub next_keeps : (game next : Game) (event : Event) → IsKept rules settings game → Next rules game event next → IsKept rules settings next
-  next_keeps game next event kept (inl same) = subst (λ (g : Game). IsKept rules settings g) (sym same) (applied_keeps game kept event)
+  pub next_keeps : (game next : Game) (event : Event) → IsKept rules settings game
+      → Next rules game event next → IsKept rules settings next
+  next_keeps game next event kept (inl same) =
+      subst (λ (g : Game). IsKept rules settings g) (sym same) (applied_keeps game kept event)
   next_keeps game next event kept (inr left) = subst (λ (g : Game). IsKept rules settings g) (sym left.1) kept
 
-  pub leads_keeps : (events : List Event) (game last : Game) → IsKept rules settings game → Leads rules game events last → IsKept rules settings last
+  pub leads_keeps : (events : List Event) (game last : Game) → IsKept rules settings game
+      → Leads rules game events last → IsKept rules settings last
   leads_keeps [] game last kept same = subst (λ (g : Game). IsKept rules settings g) (sym same) kept
-  leads_keeps (event ∷ events) game last kept way = leads_keeps events way.0 last (next_keeps game way.0 event kept way.1) way.2
+  leads_keeps (event ∷ events) game last kept way =
+      leads_keeps events way.0 last (next_keeps game way.0 event kept way.1) way.2
 
   -- what every event keeps holds after every list of events
-  pub always : (events : List Event) (game : Game) → Runs rules settings events game → IsKept rules settings game
+  pub always : (events : List Event) (game : Game) → Runs rules settings events game
+      → IsKept rules settings game
   always events game run = leads_keeps events (opening_game settings) game opens run
 
-  -- one event more, applied or left out
-  pub goes_on : (events : List Event) (event : Event) (game mid last : Game) → Leads rules game events mid → Next rules mid event last → Leads rules game (events ++ event ∷ []) last
-  goes_on [] event game mid last same next = (last, subst (λ (g : Game). Next rules g event last) same next, refl)
-  goes_on (e ∷ events) event game mid last way next = (way.0, way.1, goes_on events event way.0 mid last way.2 next)
+  -- one more event, applied or left out
+  pub goes_on : (events : List Event) (event : Event) (game mid last : Game) → Leads rules game events mid
+      → Next rules mid event last → Leads rules game (events ++ event ∷ []) last
+  goes_on [] event game mid last same next =
+      (last, subst (λ (g : Game). Next rules g event last) same next, refl)
+  goes_on (e ∷ events) event game mid last way next =
+      (way.0, way.1, goes_on events event way.0 mid last way.2 next)

@@ -1,4 +1,5 @@
--- How a game opens: the key player gathers and the others listen, and the key player starts once all others have played.
+-- How a game opens: the key player gathers and the others listen, and the key player starts once all others
+-- have played.
 use Rattle.std.proofs.Common.{◌≡◌, ℕ, zero, suc, ◌+◌, ◌-◌, ◌<◌, ◌≤◌, ◌≢◌, Bool, true, false, true≢false, ◌&&◌, List, [], ◌∷◌, length, refl, sym, ◌∙◌, ap, subst, arith, Option, Some, None, inl, inr, ltb, leb, eqb}
 use Rattle.std.specs.Prelude.{slice_get}
 use Rattle.std.specs.List.{list_all, range_with_len}
@@ -17,10 +18,10 @@ use Rattle.dn_machine.specs.declared.events.Event.TheVariants.{Build, Send, Deli
 use Rattle.dn_machine.specs.declared.events.Refusal.{Refusal}
 use Rattle.dn_machine.specs.Worlds.{Rules}
 use Rattle.dn_machine.specs.Flight.{Kind, SetUp, Play, Exit, Flight, is_exit, end_of}
-use Rattle.dn_machine.specs.Node.{Node, put, got, made, ran, lowest, is_ended}
+use Rattle.dn_machine.specs.Node.{Node, put, ends_of, got, made, ran, lowest, is_ended}
 use Rattle.dn_machine.specs.Building.{on_build, on_build_in}
 use Rattle.dn_machine.specs.Sending.{on_send, on_send_in, set_up_flight}
-use Rattle.dn_machine.specs.Hearing.{on_gathering, is_within, after_request, is_strange_end, after_exit, on_commands, on_ended, on_packet, on_packet_in}
+use Rattle.dn_machine.specs.Hearing.{on_gathering, is_strange_end, on_commands, on_ended, on_packet, on_packet_in}
 use Rattle.dn_machine.specs.Running.{is_awaited, first_off, row_held, full_at, on_run_playing, on_run_in, on_run, on_quit, on_quit_in}
 use Rattle.dn_machine.specs.Game.{Game, fresh, opening_game, with_node, posted, refused_at, refused, delivered, on_event, applied_if, applied}
 use Rattle.dn_machine.specs.Invariant.{IsKept}
@@ -30,7 +31,8 @@ use Rattle.dn_machine.proofs.Games.{opens, next_keeps, passes}
 use Rattle.dn_machine.proofs.Growth.{Grows, build_grows, send_grows, run_grows, quit_grows, hear_grows, placed_grows}
 
 -- all are noted: each from 1 on
-list_passes : (test : ℕ → Bool) (low count k : ℕ) → list_all test (range_with_len low count) ≡ true → low ≤ k → k < low + count → test k ≡ true
+list_passes : (test : ℕ → Bool) (low count k : ℕ) → list_all test (range_with_len low count) ≡ true → low ≤ k
+    → k < low + count → test k ≡ true
 list_passes test low zero k e a b = absurd (omega arith)
 list_passes test low (suc count) k e a b =
     let both = and_parts (test low) (list_all test (range_with_len (low + 1) count)) e in
@@ -39,23 +41,35 @@ list_passes test low (suc count) k e a b =
       | inr n ↦ list_passes test (low + 1) count k both.1 (omega arith) (omega arith)
     ]
 
-passes_list : (test : ℕ → Bool) (low count : ℕ) → ((k : ℕ) → low ≤ k → k < low + count → test k ≡ true) → list_all test (range_with_len low count) ≡ true
+passes_list : (test : ℕ → Bool) (low count : ℕ) → ((k : ℕ) → low ≤ k → k < low + count → test k ≡ true)
+    → list_all test (range_with_len low count) ≡ true
 passes_list test low zero h = refl
-passes_list test low (suc count) h = and_from (test low) (list_all test (range_with_len (low + 1) count)) (h low (omega arith) (omega arith)) (passes_list test (low + 1) count (λ k a b. h k (omega arith) (omega arith)))
+passes_list test low (suc count) h = and_from (test low) (list_all test (range_with_len (low + 1) count))
+    (h low (omega arith) (omega arith))
+    (passes_list test (low + 1) count (λ k a b. h k (omega arith) (omega arith)))
 
-pub each_noted : (players : ℕ) (noted : ℕ → Bool) (k : ℕ) → all_noted players noted ≡ true → 0 < k → k < players → noted k ≡ true
+pub each_noted : (players : ℕ) (noted : ℕ → Bool) (k : ℕ) → all_noted players noted ≡ true → 0 < k
+    → k < players → noted k ≡ true
 each_noted players noted k e a b = list_passes noted 1 (players - 1) k e (omega arith) (omega arith)
 
-pub noted_all : (players : ℕ) (noted : ℕ → Bool) → ((k : ℕ) → 0 < k → k < players → noted k ≡ true) → all_noted players noted ≡ true
+pub noted_all : (players : ℕ) (noted : ℕ → Bool) → ((k : ℕ) → 0 < k → k < players → noted k ≡ true)
+    → all_noted players noted ≡ true
 noted_all players noted h = passes_list noted 1 (players - 1) (λ k a b. h k (omega arith) (omega arith))
 
 -- What a call on a node does to its phase and to whom it has noted, where a packet from this player came.
 pub data Change (players : ℕ) (from : ℕ) (spoke ends : Type 0) (old new : Node) : Type 0 where
-  Same : new.phase ≡ old.phase → new.played ≡ old.played → new.noted ≡ old.noted → (old.phase ≡ Gathering → length new.rows ≡ length old.rows) → Change players from spoke ends old new
-  Starts : old.phase ≡ Listening → new.phase ≡ Playing → new.played ≡ true → new.noted ≡ old.noted → Change players from spoke ends old new
-  Notes : spoke → old.phase ≡ Gathering → new.phase ≡ Gathering → new.played ≡ old.played → new.noted ≡ put old.noted from true → all_noted players new.noted ≡ false → length new.rows ≡ length old.rows → Change players from spoke ends old new
-  Completes : spoke → old.phase ≡ Gathering → new.phase ≡ Playing → new.played ≡ true → new.noted ≡ put old.noted from true → all_noted players new.noted ≡ true → Change players from spoke ends old new
-  Gone : ends → is_ended new.phase ≡ true → new.played ≡ old.played → new.noted ≡ old.noted → Change players from spoke ends old new
+  Same : new.phase ≡ old.phase → new.played ≡ old.played → new.noted ≡ old.noted
+      → (old.phase ≡ Gathering → length new.rows ≡ length old.rows) → Change players from spoke ends old new
+  Starts : old.phase ≡ Listening → new.phase ≡ Playing → new.played ≡ true → new.noted ≡ old.noted
+      → Change players from spoke ends old new
+  Notes : spoke → old.phase ≡ Gathering → new.phase ≡ Gathering → new.played ≡ old.played
+      → new.noted ≡ put old.noted from true → all_noted players new.noted ≡ false
+      → length new.rows ≡ length old.rows → Change players from spoke ends old new
+  Completes : spoke → old.phase ≡ Gathering → new.phase ≡ Playing → new.played ≡ true
+      → new.noted ≡ put old.noted from true → all_noted players new.noted ≡ true
+      → Change players from spoke ends old new
+  Gone : ends → is_ended new.phase ≡ true → new.played ≡ old.played → new.noted ≡ old.noted
+      → Change players from spoke ends old new
 
 -- the packet is not set-up
 abbrev pub IsWord : Kind → Type 0
@@ -70,28 +84,38 @@ module _ {S : Type 0} (rules : Rules S) (i : ℕ) (node : Node) where
       go Listening = Same refl refl refl (λ e. refl)
       go Gathering = Same refl refl refl (λ e. refl)
       go (Ended cause) = Same refl refl refl (λ e. refl)
-      go Playing = cond_both (leb 5 (made i node - ran node)) _ _ (λ (r : Node × Made). Change rules.players 0 ⊥ ⊥ node r.0) (λ full. Same refl refl refl (λ e. refl)) (λ free. Same refl refl refl (λ e. refl))
+      go Playing = cond_both (leb 5 (made i node - ran node)) _ _
+          (λ (r : Node × Made). Change rules.players 0 ⊥ ⊥ node r.0) (λ full. Same refl refl refl (λ e. refl))
+          (λ free. Same refl refl refl (λ e. refl))
 
   pub send_change : (to : ℕ) → Change rules.players 0 ⊥ ⊥ node (on_send rules i node to).0
   unfolding on_send
-  send_change to = cond_both (eqb i to) _ _ (λ (r : Node × Option Flight). Change rules.players 0 ⊥ ⊥ node r.0) (λ own. Same refl refl refl (λ e. refl)) (λ other. go node.phase)
+  send_change to =
+      cond_both (eqb i to) _ _ (λ (r : Node × Option Flight). Change rules.players 0 ⊥ ⊥ node r.0)
+      (λ own. Same refl refl refl (λ e. refl)) (λ other. go node.phase)
     where
       go : (phase : Phase) → Change rules.players 0 ⊥ ⊥ node (on_send_in rules i node to phase).0
       go Listening = Same refl refl refl (λ e. refl)
       go Gathering = Same refl refl refl (λ e. refl)
       go Playing = Same refl refl refl (λ e. refl)
-      go (Ended cause) = cond_both node.played _ _ (λ (r : Node × Option Flight). Change rules.players 0 ⊥ ⊥ node r.0) (λ gives. Same refl refl refl (λ e. refl)) (λ never. Same refl refl refl (λ e. refl))
+      go (Ended cause) = cond_both node.played _ _
+          (λ (r : Node × Option Flight). Change rules.players 0 ⊥ ⊥ node r.0)
+          (λ gives. Same refl refl refl (λ e. refl)) (λ never. Same refl refl refl (λ e. refl))
 
   pub run_change : Change rules.players 0 ⊥ (Unit {0}) node (on_run rules node).0
   unfolding on_run
   run_change = go node.phase refl
     where
-      run : node.phase ≡ Playing → (a b : Option ℕ) → Change rules.players 0 ⊥ (Unit {0}) node (on_run_playing rules node a b).0
+      run : node.phase ≡ Playing → (a b : Option ℕ)
+          → Change rules.players 0 ⊥ (Unit {0}) node (on_run_playing rules node a b).0
       run plays (Some awaited) b = Same refl refl refl (λ h. refl)
       run plays None (Some off) = Gone tt refl refl refl
-      run plays None None = cond_both (eqb (ran node) (full_at rules (row_held rules node))) _ _ (λ (r : Node × Ran). Change rules.players 0 ⊥ (Unit {0}) node r.0) (λ full. Gone tt refl refl refl) (λ free. Same refl refl refl (λ g. absurd (cc)))
+      run plays None None = cond_both (eqb (ran node) (full_at rules (row_held rules node))) _ _
+          (λ (r : Node × Ran). Change rules.players 0 ⊥ (Unit {0}) node r.0) (λ full. Gone tt refl refl refl)
+          (λ free. Same refl refl refl (λ g. absurd (cc)))
 
-      go : (phase : Phase) → node.phase ≡ phase → Change rules.players 0 ⊥ (Unit {0}) node (on_run_in rules node phase).0
+      go : (phase : Phase) → node.phase ≡ phase
+          → Change rules.players 0 ⊥ (Unit {0}) node (on_run_in rules node phase).0
       go Listening e = Same refl refl refl (λ h. refl)
       go Gathering e = Same refl refl refl (λ h. refl)
       go (Ended cause) e = Same refl refl refl (λ h. refl)
@@ -109,50 +133,49 @@ module _ {S : Type 0} (rules : Rules S) (i : ℕ) (node : Node) where
 
   -- a node that differs in no phase and no note
   IsAlike : Node → Type 0
-  IsAlike new = (new.phase ≡ node.phase) × (new.played ≡ node.played) × (new.noted ≡ node.noted) × (new.rows ≡ node.rows)
-
-  request_alike : (peer : ℕ) (request : Option ℕ) → IsAlike (after_request i node peer request)
-  unfolding IsAlike
-  request_alike peer request = cond_both (eqb (node.hold peer) 0 && is_within (made i node) request) _ _ (λ (r : Node). (r.phase ≡ node.phase) × (r.played ≡ node.played) × (r.noted ≡ node.noted) × (r.rows ≡ node.rows)) (λ met. (refl, refl, refl, refl)) (λ off. (refl, refl, refl, refl))
-
-  exit_alike : (exit : Bool) (peer end : ℕ) (request : Option ℕ) → IsAlike (after_exit exit (after_request i node peer request) peer end)
-  unfolding IsAlike
-  exit_alike true peer end request = request_alike peer request
-  exit_alike false peer end request = request_alike peer request
+  IsAlike new = (new.phase ≡ node.phase) × (new.played ≡ node.played) × (new.noted ≡ node.noted)
+      × (new.rows ≡ node.rows)
 
   commands_alike : (flight : Flight) → IsAlike (on_commands i node flight).0
   unfolding IsAlike
   commands_alike flight =
-      let old = exit_alike (is_exit flight.kind) flight.from (end_of flight) flight.request in
       cond_both (ltb (ran node + 12) (end_of flight)) _ _ (λ (r : Node × Heard). IsAlike r.0)
       (λ a. (refl, refl, refl, refl))
-      (λ a. cond_both (is_strange_end (is_exit flight.kind) (got node flight.from) (node.ends flight.from) (end_of flight)) _ _ (λ (r : Node × Heard). IsAlike r.0)
+      (λ a. cond_both (is_strange_end (is_exit flight.kind) (got node flight.from) (ends_of node flight.from)
+      (end_of flight)) _ _ (λ (r : Node × Heard). IsAlike r.0)
       (λ b. (refl, refl, refl, refl))
       (λ b. cond_both (leb (end_of flight) (got node flight.from)) _ _ (λ (r : Node × Heard). IsAlike r.0)
-      (λ c. old)
+      (λ c. (refl, refl, refl, refl))
       (λ c. cond_both (ltb (got node flight.from) flight.start) _ _ (λ (r : Node × Heard). IsAlike r.0)
-      (λ d. (old.0, old.1, old.2, old.3))
-      (λ d. (old.0, old.1, old.2, old.3)))))
+      (λ d. (refl, refl, refl, refl))
+      (λ d. (refl, refl, refl, refl)))))
 
-  pub hear_change : (flight : Flight) → Change rules.players flight.from (IsWord flight.kind) ⊥ node (on_packet rules i node flight).0
+  pub hear_change : (flight : Flight) → Change rules.players flight.from (IsWord flight.kind) ⊥ node
+      (on_packet rules i node flight).0
   unfolding on_packet IsAlike
   hear_change flight = go node.phase flight.kind refl refl
     where
       same : (new : Node) → IsAlike new → Change rules.players flight.from (IsWord flight.kind) ⊥ node new
       same new like = Same like.0 like.1 like.2 (λ e. ap (length {A = List (Option Move)}) like.3)
 
-      gathers : IsWord flight.kind → node.phase ≡ Gathering → Change rules.players flight.from (IsWord flight.kind) ⊥ node (on_gathering rules node flight.from).0
-      gathers word e = cond_both (all_noted rules.players (put node.noted flight.from true)) _ _ (λ (r : Node × Heard). Change rules.players flight.from (IsWord flight.kind) ⊥ node r.0)
+      gathers : IsWord flight.kind → node.phase ≡ Gathering
+          → Change rules.players flight.from (IsWord flight.kind) ⊥ node
+          (on_gathering rules node flight.from).0
+      gathers word e = cond_both (all_noted rules.players (put node.noted flight.from true)) _ _
+          (λ (r : Node × Heard). Change rules.players flight.from (IsWord flight.kind) ⊥ node r.0)
           (λ all. Completes word e refl refl refl all)
           (λ some. Notes word e e refl refl some refl)
 
-      ended : (played : Bool) (kind : Kind) → Change rules.players flight.from (IsWord flight.kind) ⊥ node (on_ended played i node flight kind).0
+      ended : (played : Bool) (kind : Kind) → Change rules.players flight.from (IsWord flight.kind) ⊥ node
+          (on_ended played i node flight kind).0
       ended false kind = Same refl refl refl (λ e. refl)
       ended true (SetUp s) = Same refl refl refl (λ e. refl)
       ended true Exit = Same refl refl refl (λ e. refl)
-      ended true Play = same _ (request_alike flight.from flight.request)
+      ended true Play = Same refl refl refl (λ e. refl)
 
-      go : (phase : Phase) (kind : Kind) → node.phase ≡ phase → flight.kind ≡ kind → Change rules.players flight.from (IsWord flight.kind) ⊥ node (on_packet_in rules i node flight phase kind).0
+      go : (phase : Phase) (kind : Kind) → node.phase ≡ phase → flight.kind ≡ kind
+          → Change rules.players flight.from (IsWord flight.kind) ⊥ node
+          (on_packet_in rules i node flight phase kind).0
       go (Ended cause) kind e k = ended node.played kind
       go Listening (SetUp s) e k = Starts e refl refl refl
       go Gathering (SetUp s) e k = Same refl refl refl (λ e. refl)
@@ -171,16 +194,20 @@ pub data Stands (i : ℕ) (node : Node) : Type 0 where
   Plays : node.phase ≡ Playing → Stands i node
   HasGone : is_ended node.phase ≡ true → Stands i node
 
-pub stands_on : (players from : ℕ) (spoke ends : Type 0) (i : ℕ) (old new : Node) → Change players from spoke ends old new → Stands i old → Stands i new
-stands_on players from spoke ends i old new (Same p d n r) (Gathers z e f k) = Gathers z (p ∙ e) (d ∙ f) (r e ∙ k)
+pub stands_on : (players from : ℕ) (spoke ends : Type 0) (i : ℕ) (old new : Node)
+    → Change players from spoke ends old new → Stands i old → Stands i new
+stands_on players from spoke ends i old new (Same p d n r) (Gathers z e f k) =
+    Gathers z (p ∙ e) (d ∙ f) (r e ∙ k)
 stands_on players from spoke ends i old new (Same p d n r) (Listens z e f) = Listens z (p ∙ e) (d ∙ f)
 stands_on players from spoke ends i old new (Same p d n r) (Plays e) = Plays (p ∙ e)
 stands_on players from spoke ends i old new (Same p d n r) (HasGone e) = HasGone (ap is_ended p ∙ e)
 stands_on players from spoke ends i old new (Starts l p d n) stands = Plays p
-stands_on players from spoke ends i old new (Notes w g p d n a r) (Gathers z e f k) = Gathers z p (d ∙ f) (r ∙ k)
+stands_on players from spoke ends i old new (Notes w g p d n a r) (Gathers z e f k) =
+    Gathers z p (d ∙ f) (r ∙ k)
 stands_on players from spoke ends i old new (Notes w g p d n a r) (Listens z e f) = absurd (cc)
 stands_on players from spoke ends i old new (Notes w g p d n a r) (Plays e) = absurd (cc)
-stands_on players from spoke ends i old new (Notes w g p d n a r) (HasGone e) = absurd (true≢false (sym e ∙ ap is_ended g))
+stands_on players from spoke ends i old new (Notes w g p d n a r) (HasGone e) =
+    absurd (true≢false (sym e ∙ ap is_ended g))
 stands_on players from spoke ends i old new (Completes w g p d n a) stands = Plays p
 stands_on players from spoke ends i old new (Gone x p d n) stands = HasGone p
 
@@ -190,7 +217,8 @@ pub record IsOpen {S : Type 0} (rules : Rules S) (game : Game) : Type 0 where
   pub noted : (p : ℕ) → (game.nodes 0).noted p ≡ true → (game.nodes p).played ≡ true
   pub all : (game.nodes 0).played ≡ true → (p : ℕ) → 0 < p → p < rules.players → (game.nodes p).played ≡ true
   pub missing : (game.nodes 0).phase ≡ Gathering → all_noted rules.players (game.nodes 0).noted ≡ false
-  pub sent : (which : ℕ) (flight : Flight) → slice_get game.flights which ≡ Some flight → IsWord flight.kind → (game.nodes flight.from).played ≡ true
+  pub sent : (which : ℕ) (flight : Flight) → slice_get game.flights which ≡ Some flight → IsWord flight.kind
+      → (game.nodes flight.from).played ≡ true
 
 -- a node that plays has not just listened
 never_listens : (i : ℕ) (node : Node) → i ≡ 0 → Stands i node → node.phase ≡ Listening → ⊥
@@ -201,12 +229,17 @@ never_listens i node z (HasGone e) l = true≢false (sym e ∙ ap is_ended l)
 
 module _ {S : Type 0} (rules : Rules S) (game : Game) (is_open : IsOpen rules game) where
   -- one node after a call, and the packets as they were
-  module _ (i from : ℕ) (spoke ends : Type 0) (new : Node) (change : Change rules.players from spoke ends (game.nodes i) new) (spoken : spoke → (game.nodes from).played ≡ true) (grows : (q : ℕ) → Grows (game.nodes q) (put game.nodes i new q)) where
+  module _ (i from : ℕ) (spoke ends : Type 0) (new : Node)
+      (change : Change rules.players from spoke ends (game.nodes i) new)
+      (spoken : spoke → (game.nodes from).played ≡ true)
+      (grows : (q : ℕ) → Grows (game.nodes q) (put game.nodes i new q)) where
     abbrev next : Game
     next = with_node game i new
 
     -- what the key player's node is like, by whether it is this one
-    key_noted : (old : Node) (here : Node) → Change rules.players from spoke ends old here → ((p : ℕ) → old.noted p ≡ true → (game.nodes p).played ≡ true) → (p : ℕ) → here.noted p ≡ true → (game.nodes p).played ≡ true
+    key_noted : (old : Node) (here : Node) → Change rules.players from spoke ends old here
+        → ((p : ℕ) → old.noted p ≡ true → (game.nodes p).played ≡ true) → (p : ℕ) → here.noted p ≡ true
+        → (game.nodes p).played ≡ true
     key_noted old here (Same a b c r) was p h = was p (ap (λ (f : ℕ → Bool). f p) (sym c) ∙ h)
     key_noted old here (Starts l a b c) was p h = was p (ap (λ (f : ℕ → Bool). f p) (sym c) ∙ h)
     key_noted old here (Gone x a b c) was p h = was p (ap (λ (f : ℕ → Bool). f p) (sym c) ∙ h)
@@ -219,14 +252,21 @@ module _ {S : Type 0} (rules : Rules S) (game : Game) (is_open : IsOpen rules ga
       | inr n ↦ was p (sym (ap (λ (f : ℕ → Bool). f p) c ∙ put_off old.noted from p true n) ∙ h)
     ]
 
-    key_all : (old : Node) (here : Node) → Change rules.players from spoke ends old here → (old.phase ≡ Listening → ⊥) → ((p : ℕ) → old.noted p ≡ true → (game.nodes p).played ≡ true) → (old.played ≡ true → (p : ℕ) → 0 < p → p < rules.players → (game.nodes p).played ≡ true) → here.played ≡ true → (p : ℕ) → 0 < p → p < rules.players → (game.nodes p).played ≡ true
+    key_all : (old : Node) (here : Node) → Change rules.players from spoke ends old here
+        → (old.phase ≡ Listening → ⊥) → ((p : ℕ) → old.noted p ≡ true → (game.nodes p).played ≡ true)
+        → (old.played ≡ true → (p : ℕ) → 0 < p → p < rules.players → (game.nodes p).played ≡ true)
+        → here.played ≡ true → (p : ℕ) → 0 < p → p < rules.players → (game.nodes p).played ≡ true
     key_all old here (Same a b c r) never marks was h = was (sym b ∙ h)
     key_all old here (Starts l a b c) never marks was h = absurd (never l)
     key_all old here (Gone x a b c) never marks was h = was (sym b ∙ h)
     key_all old here (Notes w g a b c d r) never marks was h = was (sym b ∙ h)
-    key_all old here (Completes w g a b c d) never marks was h = λ p l m. key_noted old here (Completes w g a b c d) marks p (each_noted rules.players here.noted p d l m)
+    key_all old here (Completes w g a b c d) never marks was h =
+        λ p l m. key_noted old here (Completes w g a b c d) marks p
+        (each_noted rules.players here.noted p d l m)
 
-    key_missing : (old : Node) (here : Node) → Change rules.players from spoke ends old here → (old.phase ≡ Gathering → all_noted rules.players old.noted ≡ false) → here.phase ≡ Gathering → all_noted rules.players here.noted ≡ false
+    key_missing : (old : Node) (here : Node) → Change rules.players from spoke ends old here
+        → (old.phase ≡ Gathering → all_noted rules.players old.noted ≡ false) → here.phase ≡ Gathering
+        → all_noted rules.players here.noted ≡ false
     key_missing old here (Same a b c r) was h = ap (all_noted rules.players) c ∙ was (sym a ∙ h)
     key_missing old here (Starts l a b c) was h = absurd (cc)
     key_missing old here (Gone x a b c) was h = absurd (true≢false (sym a ∙ ap is_ended h))
@@ -235,23 +275,34 @@ module _ {S : Type 0} (rules : Rules S) (game : Game) (is_open : IsOpen rules ga
 
     key_change : Change rules.players from spoke ends (game.nodes 0) (next.nodes 0)
     key_change = elim (cases_eq 0 i) [
-      | inl e ↦ subst (λ (n : Node). Change rules.players from spoke ends (game.nodes 0) n) (sym (put_at game.nodes i 0 new e)) (subst (λ (k : ℕ). Change rules.players from spoke ends (game.nodes k) new) (sym e) change)
-      | inr n ↦ let off = put_off game.nodes i 0 new n in Same (ap (λ (m : Node). m.phase) off) (ap (λ (m : Node). m.played) off) (ap (λ (m : Node). m.noted) off) (λ e. ap (λ (m : Node). length m.rows) off)
+      | inl e ↦ subst (λ (n : Node). Change rules.players from spoke ends (game.nodes 0) n)
+          (sym (put_at game.nodes i 0 new e))
+          (subst (λ (k : ℕ). Change rules.players from spoke ends (game.nodes k) new) (sym e) change)
+      | inr n ↦ let off = put_off game.nodes i 0 new n in
+          Same (ap (λ (m : Node). m.phase) off) (ap (λ (m : Node). m.played) off)
+          (ap (λ (m : Node). m.noted) off) (λ e. ap (λ (m : Node). length m.rows) off)
     ]
 
     pub placed_open : IsOpen rules next
     placed_open = record {
       stands = λ q. elim (cases_eq q i) [
-        | inl e ↦ subst (λ (n : Node). Stands q n) (sym (put_at game.nodes i q new e)) (stands_on rules.players from spoke ends q (game.nodes q) new (subst (λ (k : ℕ). Change rules.players from spoke ends (game.nodes k) new) (sym e) change) (is_open.stands q))
+        | inl e ↦ subst (λ (n : Node). Stands q n) (sym (put_at game.nodes i q new e))
+            (stands_on rules.players from spoke ends q (game.nodes q) new
+            (subst (λ (k : ℕ). Change rules.players from spoke ends (game.nodes k) new) (sym e) change)
+            (is_open.stands q))
         | inr n ↦ subst (λ (m : Node). Stands q m) (sym (put_off game.nodes i q new n)) (is_open.stands q)
       ];
       noted = λ p h. (grows p).played (key_noted (game.nodes 0) (next.nodes 0) key_change is_open.noted p h);
-      all = λ h p l m. (grows p).played (key_all (game.nodes 0) (next.nodes 0) key_change (never_listens 0 (game.nodes 0) refl (is_open.stands 0)) is_open.noted is_open.all h p l m);
+      all = λ h p l m. (grows p).played
+          (key_all (game.nodes 0) (next.nodes 0) key_change
+          (never_listens 0 (game.nodes 0) refl (is_open.stands 0)) is_open.noted is_open.all h p l m);
       missing = λ h. key_missing (game.nodes 0) (next.nodes 0) key_change is_open.missing h;
       sent = λ which flight e w. (grows flight.from).played (is_open.sent which flight e w);
     }
 
-  posted_open : (base : Game) (o : Option Flight) → IsOpen rules base → ((flight : Flight) → o ≡ Some flight → IsWord flight.kind → (base.nodes flight.from).played ≡ true) → IsOpen rules (posted base o).0
+  posted_open : (base : Game) (o : Option Flight) → IsOpen rules base
+      → ((flight : Flight) → o ≡ Some flight → IsWord flight.kind → (base.nodes flight.from).played ≡ true)
+      → IsOpen rules (posted base o).0
   posted_open base None was spoke = was
   posted_open base (Some flight) was spoke = record {
     stands = was.stands;
@@ -260,57 +311,97 @@ module _ {S : Type 0} (rules : Rules S) (game : Game) (is_open : IsOpen rules ga
     missing = was.missing;
     sent = λ which other e w. elim (slice_get_push base.flights flight which other e) [
       | inl before ↦ was.sent which other before w
-      | inr last ↦ ap (λ (f : Flight). (base.nodes f.from).played) last ∙ spoke flight refl (λ s h. w s (ap (λ (f : Flight). f.kind) last ∙ h))
+      | inr last ↦ ap (λ (f : Flight). (base.nodes f.from).played) last
+          ∙ spoke flight refl (λ s h. w s (ap (λ (f : Flight). f.kind) last ∙ h))
     ];
   }
 
-module _ {S : Type 0} (rules : Rules S) (settings : Settings) (game : Game) (kept : IsKept rules settings game) (is_open : IsOpen rules game) where
+module _ {S : Type 0} (rules : Rules S) (settings : Settings) (game : Game)
+    (kept : IsKept rules settings game) (is_open : IsOpen rules game) where
   -- whoever sends commands has played
-  send_played : (i : ℕ) → i < rules.players → (to : ℕ) (flight : Flight) → (on_send rules i (game.nodes i) to).1 ≡ Some flight → IsWord flight.kind → (game.nodes flight.from).played ≡ true
+  send_played : (i : ℕ) → i < rules.players → (to : ℕ) (flight : Flight)
+      → (on_send rules i (game.nodes i) to).1 ≡ Some flight → IsWord flight.kind
+      → (game.nodes flight.from).played ≡ true
   unfolding on_send
-  send_played i l to flight e w = cond_both (eqb i to) _ _ (λ (r : Node × Option Flight). r.1 ≡ Some flight → (game.nodes flight.from).played ≡ true) (λ own h. absurd (none-some flight h)) (λ other h. go (game.nodes i).phase refl h) e
+  send_played i l to flight e w =
+      cond_both (eqb i to) _ _ (λ (r : Node × Option Flight). r.1 ≡ Some flight
+      → (game.nodes flight.from).played ≡ true) (λ own h. absurd (none-some flight h))
+      (λ other h. go (game.nodes i).phase refl h) e
     where
       from_i : (f : Flight) → f.from ≡ i → Some f ≡ Some flight → flight.from ≡ i
       from_i f a h = let same : f ≡ flight = cc in sym (ap (λ (x : Flight). x.from) same) ∙ a
 
-      set_up : (o : Option Settings) → set_up_flight i to o ≡ Some flight → (game.nodes flight.from).played ≡ true
+      set_up : (o : Option Settings) → set_up_flight i to o ≡ Some flight
+          → (game.nodes flight.from).played ≡ true
       set_up None h = absurd (none-some flight h)
-      set_up (Some s) h = absurd (w s (let same : record { from = i; to = to; kind = SetUp s; start = 0; request = None; commands = [] } ≡ flight = cc in sym (ap (λ (x : Flight). x.kind) same)))
+      set_up (Some s) h =
+          absurd (w s
+          (let same : record { from = i; to = to; kind = SetUp s; start = 0; request = None; commands = [] }
+          ≡ flight = cc in sym (ap (λ (x : Flight). x.kind) same)))
 
-      go : (phase : Phase) → (game.nodes i).phase ≡ phase → (on_send_in rules i (game.nodes i) to phase).1 ≡ Some flight → (game.nodes flight.from).played ≡ true
+      go : (phase : Phase) → (game.nodes i).phase ≡ phase
+          → (on_send_in rules i (game.nodes i) to phase).1 ≡ Some flight
+          → (game.nodes flight.from).played ≡ true
       go Listening p h = absurd (none-some flight h)
       go Gathering p h = set_up (game.nodes i).settings h
       go Playing p h = ap (λ (k : ℕ). (game.nodes k).played) (from_i _ refl h) ∙ (kept.sound i l).playing p
-      go (Ended cause) p h = cond_both (game.nodes i).played _ _ (λ (r : Node × Option Flight). r.1 ≡ Some flight → (game.nodes flight.from).played ≡ true) (λ has x. ap (λ (k : ℕ). (game.nodes k).played) (from_i _ refl x) ∙ has) (λ never x. absurd (none-some flight x)) h
+      go (Ended cause) p h = cond_both (game.nodes i).played _ _
+          (λ (r : Node × Option Flight). r.1 ≡ Some flight → (game.nodes flight.from).played ≡ true)
+          (λ has x. ap (λ (k : ℕ). (game.nodes k).played) (from_i _ refl x) ∙ has)
+          (λ never x. absurd (none-some flight x)) h
 
-  delivers_open : (o : Option Flight) (which : ℕ) → slice_get game.flights which ≡ o → IsOpen rules (delivered rules game o).0
+  delivers_open : (o : Option Flight) (which : ℕ) → slice_get game.flights which ≡ o
+      → IsOpen rules (delivered rules game o).0
   delivers_open None which h = is_open
   delivers_open (Some flight) which h =
-      placed_open rules game is_open flight.to flight.from (IsWord flight.kind) ⊥ _ (hear_change rules flight.to (game.nodes flight.to) flight) (is_open.sent which flight h)
+      placed_open rules game is_open flight.to flight.from (IsWord flight.kind) ⊥ _
+      (hear_change rules flight.to (game.nodes flight.to) flight) (is_open.sent which flight h)
       (λ q. placed_grows rules game q flight.to _ (hear_grows rules flight.to (game.nodes flight.to) flight))
 
   -- an event that is not refused
   named : (node : ℕ) → refused_at rules.players game node ≡ None → node < rules.players
   named node h = ltb-true node rules.players (passes (ltb node rules.players) _ _ h)
 
-  happens_open : (event : Event) → refused rules.players game event ≡ None → IsOpen rules (on_event rules game event).0
-  happens_open (Build node keys) h = placed_open rules game is_open node 0 ⊥ ⊥ _ (build_change rules node (game.nodes node) keys) (λ x. absurd x) (λ q. placed_grows rules game q node _ (build_grows rules node (game.nodes node) keys))
+  happens_open : (event : Event) → refused rules.players game event ≡ None
+      → IsOpen rules (on_event rules game event).0
+  happens_open (Build node keys) h = placed_open rules game is_open node 0 ⊥ ⊥ _
+      (build_change rules node (game.nodes node) keys) (λ x. absurd x)
+      (λ q. placed_grows rules game q node _ (build_grows rules node (game.nodes node) keys))
   happens_open (Send node to) h =
-      let both = and_parts (ltb node rules.players) (ltb to rules.players) (passes (ltb node rules.players && ltb to rules.players) _ _ h) in
-      let grows : (q : ℕ) → Grows (game.nodes q) (put game.nodes node (on_send rules node (game.nodes node) to).0 q) = λ q. placed_grows rules game q node _ (send_grows rules node (game.nodes node) to) in
-      posted_open rules game is_open (with_node game node (on_send rules node (game.nodes node) to).0) (on_send rules node (game.nodes node) to).1
-      (placed_open rules game is_open node 0 ⊥ ⊥ _ (send_change rules node (game.nodes node) to) (λ x. absurd x) grows)
-      (λ flight e w. (grows flight.from).played (send_played node (ltb-true node rules.players both.0) to flight e w))
+      let both = and_parts (ltb node rules.players) (ltb to rules.players)
+      (passes (ltb node rules.players && ltb to rules.players) _ _ h) in
+      let grows : (q : ℕ)
+      → Grows (game.nodes q) (put game.nodes node (on_send rules node (game.nodes node) to).0 q) =
+      λ q. placed_grows rules game q node _ (send_grows rules node (game.nodes node) to) in
+      posted_open rules game is_open (with_node game node (on_send rules node (game.nodes node) to).0)
+      (on_send rules node (game.nodes node) to).1
+      (placed_open rules game is_open node 0 ⊥ ⊥ _ (send_change rules node (game.nodes node) to)
+      (λ x. absurd x) grows)
+      (λ flight e w. (grows flight.from).played
+      (send_played node (ltb-true node rules.players both.0) to flight e w))
   happens_open (Deliver which) h = delivers_open (slice_get game.flights which) which refl
-  happens_open (Run node) h = placed_open rules game is_open node 0 ⊥ (Unit {0}) _ (run_change rules node (game.nodes node)) (λ x. absurd x) (λ q. placed_grows rules game q node _ (run_grows rules node (game.nodes node)))
-  happens_open (Quit node) h = placed_open rules game is_open node 0 ⊥ (Unit {0}) _ (quit_change rules node (game.nodes node)) (λ x. absurd x) (λ q. placed_grows rules game q node _ (quit_grows rules node (game.nodes node)))
-  happens_open (Stop node) h = record { stands = is_open.stands; noted = is_open.noted; all = is_open.all; missing = is_open.missing; sent = is_open.sent }
+  happens_open (Run node) h = placed_open rules game is_open node 0 ⊥ (Unit {0}) _
+      (run_change rules node (game.nodes node)) (λ x. absurd x)
+      (λ q. placed_grows rules game q node _ (run_grows rules node (game.nodes node)))
+  happens_open (Quit node) h = placed_open rules game is_open node 0 ⊥ (Unit {0}) _
+      (quit_change rules node (game.nodes node)) (λ x. absurd x)
+      (λ q. placed_grows rules game q node _ (quit_grows rules node (game.nodes node)))
+  happens_open (Stop node) h =
+      record {
+        stands = is_open.stands;
+        noted = is_open.noted;
+        all = is_open.all;
+        missing =
+            is_open.missing;
+        sent = is_open.sent;
+      }
 
   pub applied_open : (event : Event) → IsOpen rules (applied rules game event).0
   unfolding applied
   applied_open event = go (refused rules.players game event) refl
     where
-      go : (o : Option Refusal) → refused rules.players game event ≡ o → IsOpen rules (applied_if rules game event o).0
+      go : (o : Option Refusal) → refused rules.players game event ≡ o
+          → IsOpen rules (applied_if rules game event o).0
       go (Some refusal) h = is_open
       go None h = happens_open event h
 
@@ -334,13 +425,18 @@ module _ {S : Type 0} (rules : Rules S) (settings : Settings) (several : 2 ≤ r
     sent = λ which flight h w. absurd (none-some flight h);
   }
 
-  leads_open : (events : List Event) (game last : Game) → IsKept rules settings game → IsOpen rules game → Leads rules game events last → IsOpen rules last
+  leads_open : (events : List Event) (game last : Game) → IsKept rules settings game → IsOpen rules game
+      → Leads rules game events last → IsOpen rules last
   leads_open [] game last kept is_open same = subst (λ (g : Game). IsOpen rules g) (sym same) is_open
-  leads_open (event ∷ events) game last kept is_open way = leads_open events way.0 last (next_keeps rules settings game way.0 event kept way.1) (next way.0 way.1) way.2
+  leads_open (event ∷ events) game last kept is_open way =
+      leads_open events way.0 last (next_keeps rules settings game way.0 event kept way.1) (next way.0 way.1)
+      way.2
     where
       next : (mid : Game) → Next rules game event mid → IsOpen rules mid
-      next mid (inl same) = subst (λ (g : Game). IsOpen rules g) (sym same) (applied_open rules settings game kept is_open event)
+      next mid (inl same) = subst (λ (g : Game). IsOpen rules g) (sym same)
+          (applied_open rules settings game kept is_open event)
       next mid (inr left) = subst (λ (g : Game). IsOpen rules g) (sym left.1) is_open
 
   pub always_open : (events : List Event) (game : Game) → Runs rules settings events game → IsOpen rules game
-  always_open events game run = leads_open events (opening_game settings) game (opens rules settings) opening_open run
+  always_open events game run = leads_open events (opening_game settings) game (opens rules settings)
+      opening_open run

@@ -23,21 +23,27 @@ use Rattle.dn_machine.proofs.StartUp.{IsBegun, all_play, round_starts}
 
 module _ {S : Type 0} (rules : Rules S) where
   -- some rounds and then more
-  rounds_add : (keys : ℕ → ℕ → ℕ) (game : Game) (first more all : ℕ) → all ≡ more + first → good_rounds rules keys all game ≡ good_rounds rules (λ round. keys (round + first)) more (good_rounds rules keys first game)
+  rounds_add : (keys : ℕ → ℕ → ℕ) (game : Game) (first more all : ℕ) → all ≡ more + first
+      → good_rounds rules keys all game ≡ good_rounds rules (λ round. keys (round + first)) more
+      (good_rounds rules keys first game)
   unfolding good_rounds in_order
-  rounds_add keys game first zero all e = let same : all ≡ first = omega arith in ap (λ (n : ℕ). in_order (λ before round. good_round rules (keys round) before) n game) same
+  rounds_add keys game first zero all e = let same : all ≡ first = omega arith in
+      ap (λ (n : ℕ). in_order (λ before round. good_round rules (keys round) before) n game) same
   rounds_add keys game first (suc more) zero e = absurd (omega arith)
   rounds_add keys game first (suc more) (suc all) e =
       let same : all ≡ more + first = omega arith in
       ap (good_round rules (keys all)) (rounds_add keys game first more all same)
-      ∙ ap (λ (n : ℕ). good_round rules (keys n) (good_rounds rules (λ round. keys (round + first)) more (good_rounds rules keys first game))) same
+      ∙ ap (λ (n : ℕ). good_round rules (keys n)
+      (good_rounds rules (λ round. keys (round + first)) more (good_rounds rules keys first game))) same
 
-  rounds_far : (cap : ℕ) (stay : ℕ → Bool) (keys : ℕ → ℕ → ℕ) (count : ℕ) (game : Game) → IsFar rules cap stay game → IsFar rules cap stay (good_rounds rules keys count game)
-  rounds_far cap stay keys count game far q l s = let old = far q l s in let more = rounds_ran rules keys count q (ran (game.nodes q)) game (omega arith) in omega arith
+  rounds_far : (cap : ℕ) (stay : ℕ → Bool) (keys : ℕ → ℕ → ℕ) (count : ℕ) (game : Game)
+      → IsFar rules cap stay game → IsFar rules cap stay (good_rounds rules keys count game)
+  rounds_far cap stay keys count game far q l s = let old = far q l s in
+      let more = rounds_ran rules keys count q (ran (game.nodes q)) game (omega arith) in omega arith
 
 module _ {S : Type 0} (rules : Rules S) (settings : Settings) (cap : ℕ) (several : 2 ≤ rules.players) where
   module _ (stay : ℕ → Bool) (one : ℕ) (in_game : one < rules.players) (stays : stay one ≡ true) where
-    -- a started game, of which all who stay have run so many tics, unless every demo is as good as full
+    -- a started game, where all who stay have run this many tics, unless every demo is as good as full
     abbrev Settled : ℕ → Game → Type 0
     Settled tic game = IsFar rules cap stay game ⊎ IsOn rules settings cap stay tic game
 
@@ -49,26 +55,33 @@ module _ {S : Type 0} (rules : Rules S) (settings : Settings) (cap : ℕ) (sever
 
     -- how far another player is from giving the one a command
     abbrev AtPair : ℕ → ℕ → Game → Type 0
-    AtPair tic rounds game = At rules settings cap stay tic another.0 one another.1 in_game stays another.2 rounds game
+    AtPair tic rounds game = At rules settings cap stay tic another.0 one another.1 in_game stays another.2
+        rounds game
 
     settled : (tic rounds : ℕ) (game : Game) → AtPair tic rounds game → Settled tic game
     settled tic rounds game (AtFar far) = inl far
     settled tic rounds game (AtOn on stage) = inr on
 
     -- one good round
-    settled_round : (tic : ℕ) (keys : ℕ → ℕ) (game : Game) → IsOn rules settings cap stay tic game → Settled tic (good_round rules keys game)
-    settled_round tic keys game on = settled tic 12 (good_round rules keys game) (round_nearer rules settings cap stay tic another.0 one another.1 in_game stays another.2 keys 12 (omega arith) game (AtOn on (Unknown (omega arith))))
+    settled_round : (tic : ℕ) (keys : ℕ → ℕ) (game : Game) → IsOn rules settings cap stay tic game
+        → Settled tic (good_round rules keys game)
+    settled_round tic keys game on = settled tic 12 (good_round rules keys game)
+        (round_nearer rules settings cap stay tic another.0 one another.1 in_game stays another.2 keys 12
+        (omega arith) game (AtOn on (Unknown (omega arith))))
 
-    settled_thirteen : (tic : ℕ) (keys : ℕ → ℕ → ℕ) (game : Game) → IsOn rules settings cap stay tic game → Settled tic (good_rounds rules keys 13 game)
+    settled_thirteen : (tic : ℕ) (keys : ℕ → ℕ → ℕ) (game : Game) → IsOn rules settings cap stay tic game
+        → Settled tic (good_rounds rules keys 13 game)
     unfolding good_rounds good_round in_order
     settled_thirteen tic keys game on =
         settled tic 0 (good_rounds rules keys 13 game)
         (each_of (AtPair tic 0) (turn rules (keys 12)) rules.players (good_rounds rules keys 12 game)
-        (λ i g l at. turn_keeps rules settings cap stay tic another.0 one another.1 in_game stays another.2 (keys 12) i l g at)
+        (λ i g l at. turn_keeps rules settings cap stay tic another.0 one another.1 in_game stays another.2
+        (keys 12) i l g at)
         (has_after rules settings cap stay tic another.0 one another.1 in_game stays another.2 keys game on))
 
     -- a tic more after thirteen good rounds
-    next_tic : (tic : ℕ) → tic + 6 ≤ cap → (keys : ℕ → ℕ → ℕ) (game : Game) → Settled tic game → Settled (suc tic) (good_rounds rules keys 13 game)
+    next_tic : (tic : ℕ) → tic + 6 ≤ cap → (keys : ℕ → ℕ → ℕ) (game : Game) → Settled tic game
+        → Settled (suc tic) (good_rounds rules keys 13 game)
     next_tic tic room keys game (inl far) = inl (rounds_far rules cap stay keys 13 game far)
     next_tic tic room keys game (inr on) = elim (settled_thirteen tic keys game on) [
       | inl far ↦ inl far
@@ -76,24 +89,31 @@ module _ {S : Type 0} (rules : Rules S) (settings : Settings) (cap : ℕ) (sever
         live = more.live;
         plays = more.plays;
         left = more.left;
-        ran = λ q l s. let past = thirteen rules settings cap stay tic room several q l s keys game on in omega arith;
+        ran = λ q l s. let past = thirteen rules settings cap stay tic room several q l s keys game on in
+            omega arith;
         room = roomy_on rules cap tic (good_rounds rules keys 13 game) more.room;
       })
     ]
 
-    pub tics : (tic count last rounds : ℕ) → last ≡ tic + count → last + 5 ≤ cap → rounds ≡ 13 * count → (keys : ℕ → ℕ → ℕ) (game : Game) → Settled tic game → Settled last (good_rounds rules keys rounds game)
+    pub tics : (tic count last rounds : ℕ) → last ≡ tic + count → last + 5 ≤ cap → rounds ≡ 13 * count
+        → (keys : ℕ → ℕ → ℕ) (game : Game) → Settled tic game
+        → Settled last (good_rounds rules keys rounds game)
     unfolding good_rounds in_order
     tics tic zero last rounds e room f keys game at =
         let none : rounds ≡ 0 = omega arith in
         let same : tic ≡ last = omega arith in
-        subst (λ (n : ℕ). Settled last (in_order (λ before round. good_round rules (keys round) before) n game)) (sym none) (subst (λ (n : ℕ). Settled n game) same at)
+        subst (λ (n : ℕ). Settled last
+        (in_order (λ before round. good_round rules (keys round) before) n game)) (sym none)
+        (subst (λ (n : ℕ). Settled n game) same at)
     tics tic (suc count) zero rounds e room f keys game at = absurd (omega arith)
     tics tic (suc count) (suc last) rounds e room f keys game at =
         let first : ℕ = 13 * count in
-        subst (λ (g : Game). Settled (suc last) g) (sym (rounds_add rules keys game first 13 rounds (omega arith)))
-        (next_tic last (omega arith) (λ round. keys (round + first)) (good_rounds rules keys first game) (tics tic count last first (omega arith) (omega arith) refl keys game at))
+        subst (λ (g : Game). Settled (suc last) g)
+        (sym (rounds_add rules keys game first 13 rounds (omega arith)))
+        (next_tic last (omega arith) (λ round. keys (round + first)) (good_rounds rules keys first game)
+        (tics tic count last first (omega arith) (omega arith) refl keys game at))
 
-    -- and so the one has run so many
+    -- and so the one has run this many
     pub one_ran : (tic : ℕ) (game : Game) → tic + 5 ≤ cap → Settled tic game → tic ≤ ran (game.nodes one)
     one_ran tic game room (inl full) = let x = full one in_game stays in omega arith
     one_ran tic game room (inr on) = on.ran one in_game stays
@@ -101,52 +121,80 @@ module _ {S : Type 0} (rules : Rules S) (settings : Settings) (cap : ℕ) (sever
   first : 0 < rules.players
   first = omega arith
 
-  module _ (events : List Event) (game : Game) (run : Runs rules settings events game) (none_lost : NoneLost rules game) where
+  module _ (events : List Event) (game : Game) (run : Runs rules settings events game)
+      (none_lost : NoneLost rules game) where
     -- who has not ended
     abbrev staying : ℕ → Bool
     staying q = not (is_ended (game.nodes q).phase)
 
-    begun : (tic : ℕ) → AllRan rules game game tic → IsRoomy rules cap tic game → IsBegun rules settings cap staying tic game
+    begun : (tic : ℕ) → AllRan rules game game tic → IsRoomy rules cap tic game
+        → IsBegun rules settings cap staying tic game
     begun tic far roomy = record {
-      live = record { kept = always rules settings events game run; patient = always_patient rules settings events game run; running = λ q l. (none_lost q l).1 };
+      live = record {
+        kept = always rules settings events game run;
+        patient =
+            always_patient rules settings events game run;
+        running = λ q l. (none_lost q l).1;
+      };
       there = λ q l s. not-true (is_ended (game.nodes q).phase) s;
-      left = λ q l s. let ended = not-false (is_ended (game.nodes q).phase) s in and_from (game.nodes q).played (is_ended (game.nodes q).phase) ((none_lost q l).0 ended) ended;
+      left = λ q l s. let ended = not-false (is_ended (game.nodes q).phase) s in
+          and_from (game.nodes q).played (is_ended (game.nodes q).phase) ((none_lost q l).0 ended) ended;
       is_open = always_open rules settings several events game run;
       ran = λ q l s. far q l (not-true (is_ended (game.nodes q).phase) s);
       room = roomy;
     }
 
     -- one good round for the start
-    starts : (q : ℕ) → q < rules.players → staying q ≡ true → (tic : ℕ) → AllRan rules game game tic → IsRoomy rules cap tic game → (keys : ℕ → ℕ) → IsFar rules cap staying (good_round rules keys game) ⊎ IsOn rules settings cap staying tic (good_round rules keys game)
+    starts : (q : ℕ) → q < rules.players → staying q ≡ true → (tic : ℕ) → AllRan rules game game tic
+        → IsRoomy rules cap tic game → (keys : ℕ → ℕ) → IsFar rules cap staying (good_round rules keys game)
+        ⊎ IsOn rules settings cap staying tic (good_round rules keys game)
     starts q l s tic far roomy keys = go ((begun tic far roomy).is_open.stands 0)
       where
-        go : Stands 0 (game.nodes 0) → IsFar rules cap staying (good_round rules keys game) ⊎ IsOn rules settings cap staying tic (good_round rules keys game)
-        go (Gathers z e f k) = round_starts rules settings cap staying tic first (ap (λ (p : Phase). not (is_ended p)) e) keys several game (begun tic far roomy) e
+        go : Stands 0 (game.nodes 0) → IsFar rules cap staying (good_round rules keys game)
+            ⊎ IsOn rules settings cap staying tic (good_round rules keys game)
+        go (Gathers z e f k) = round_starts rules settings cap staying tic first
+            (ap (λ (p : Phase). not (is_ended p)) e) keys several game (begun tic far roomy) e
         go (Listens z e f) = absurd (z refl)
-        go (Plays e) = settled_round staying q l s tic keys game (all_play rules settings cap staying tic game (begun tic far roomy) (((begun tic far roomy).live.kept.sound 0 first).playing e))
-        go (HasGone e) = settled_round staying q l s tic keys game (all_play rules settings cap staying tic game (begun tic far roomy) ((none_lost 0 first).0 e))
+        go (Plays e) = settled_round staying q l s tic keys game
+            (all_play rules settings cap staying tic game (begun tic far roomy)
+            (((begun tic far roomy).live.kept.sound 0 first).playing e))
+        go (HasGone e) = settled_round staying q l s tic keys game
+            (all_play rules settings cap staying tic game (begun tic far roomy) ((none_lost 0 first).0 e))
 
-    -- in so many rounds exactly
-    goes_on_in : (keys : ℕ → ℕ → ℕ) (tic count : ℕ) → AllRan rules game game tic → IsRoomy rules cap tic game → tic + count + 5 ≤ cap → AllRan rules game (good_rounds rules keys (13 * count + 1) game) (tic + count)
+    -- in exactly this many rounds
+    goes_on_in : (keys : ℕ → ℕ → ℕ) (tic count : ℕ) → AllRan rules game game tic → IsRoomy rules cap tic game
+        → tic + count + 5 ≤ cap → AllRan rules game (good_rounds rules keys (13 * count + 1) game)
+        (tic + count)
     unfolding good_rounds in_order
     goes_on_in keys tic count far roomy room q l in_play =
         let s : staying q ≡ true = ap not in_play in
         one_ran staying q l s (tic + count) (good_rounds rules keys (13 * count + 1) game) room
-        (subst (λ (g : Game). IsFar rules cap staying g ⊎ IsOn rules settings cap staying (tic + count) g) (sym (rounds_add rules keys game 1 (13 * count) (13 * count + 1) refl))
-        (tics staying q l s tic count (tic + count) (13 * count) refl room refl (λ round. keys (round + 1)) (good_round rules (keys 0) game) (starts q l s tic far roomy (keys 0))))
+        (subst (λ (g : Game). IsFar rules cap staying g ⊎ IsOn rules settings cap staying (tic + count) g)
+        (sym (rounds_add rules keys game 1 (13 * count) (13 * count + 1) refl))
+        (tics staying q l s tic count (tic + count) (13 * count) refl room refl (λ round. keys (round + 1))
+        (good_round rules (keys 0) game) (starts q l s tic far roomy (keys 0))))
 
-    pub goes_on_by : (keys : ℕ → ℕ → ℕ) (tic count rounds : ℕ) → AllRan rules game game tic → IsRoomy rules cap tic game → tic + count + 5 ≤ cap → 13 * count < rounds → AllRan rules game (good_rounds rules keys rounds game) (tic + count)
+    pub goes_on_by : (keys : ℕ → ℕ → ℕ) (tic count rounds : ℕ) → AllRan rules game game tic
+        → IsRoomy rules cap tic game → tic + count + 5 ≤ cap → 13 * count < rounds
+        → AllRan rules game (good_rounds rules keys rounds game) (tic + count)
     goes_on_by keys tic count rounds far roomy room enough q l in_play =
         let first : ℕ = 13 * count + 1 in
         let rest : ℕ = rounds - first in
         let whole : rounds ≡ rest + first = omega arith in
-        subst (λ (g : Game). tic + count ≤ ran (g.nodes q)) (sym (rounds_add rules keys game first rest rounds whole))
-        (rounds_ran rules (λ round. keys (round + first)) rest q (tic + count) (good_rounds rules keys first game) (goes_on_in keys tic count far roomy room q l in_play))
+        subst (λ (g : Game). tic + count ≤ ran (g.nodes q))
+        (sym (rounds_add rules keys game first rest rounds whole))
+        (rounds_ran rules (λ round. keys (round + first)) rest q (tic + count)
+        (good_rounds rules keys first game) (goes_on_in keys tic count far roomy room q l in_play))
 
-module _ {S : Type 0} (rules : Rules S) (settings : Settings) (fits : rules.capacity ≤ tic_limit) (several : 2 ≤ rules.players) (events : List Event) (game : Game) (run : Runs rules settings events game) (none_lost : NoneLost rules game) where
-  pub goes_on_with : (keys : ℕ → ℕ → ℕ) (tic count rounds : ℕ) → HasRoom rules game tic (tic + count + 5) → 13 * count < rounds → AllRan rules game game tic
+module _ {S : Type 0} (rules : Rules S) (settings : Settings) (fits : rules.capacity ≤ tic_limit)
+    (several : 2 ≤ rules.players) (events : List Event) (game : Game) (run : Runs rules settings events game)
+    (none_lost : NoneLost rules game) where
+  pub goes_on_with : (keys : ℕ → ℕ → ℕ) (tic count rounds : ℕ) → HasRoom rules game tic (tic + count + 5)
+      → 13 * count < rounds → AllRan rules game game tic
       → AllRan rules game (good_rounds rules keys rounds game) (tic + count)
   goes_on_with keys tic count rounds (inl demos) enough far =
-      goes_on_by rules settings rules.capacity several events game run none_lost keys tic count rounds far (InDemos (omega arith) fits) demos enough
+      goes_on_by rules settings rules.capacity several events game run none_lost keys tic count rounds far
+      (InDemos (omega arith) fits) demos enough
   goes_on_with keys tic count rounds (inr (p, l, left, few, most)) enough far =
-      goes_on_by rules settings tic_limit several events game run none_lost keys tic count rounds far (Without p l left few (omega arith)) most enough
+      goes_on_by rules settings tic_limit several events game run none_lost keys tic count rounds far
+      (Without p l left few (omega arith)) most enough

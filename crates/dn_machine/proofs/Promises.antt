@@ -12,7 +12,7 @@ use Rattle.dn_machine.specs.declared.answers.Phase.TheVariants.{Listening, Gathe
 use Rattle.dn_machine.specs.declared.answers.Heard.{Heard}
 use Rattle.dn_machine.specs.Worlds.{Rules, row, if_made, command}
 use Rattle.dn_machine.specs.Flight.{Kind, SetUp, Play, Exit, Flight, is_exit, end_of}
-use Rattle.dn_machine.specs.Node.{Node, blank, got, made, ran, put, is_ended, has_left, known_end, lacks, is_whole, demo_rows}
+use Rattle.dn_machine.specs.Node.{Node, ends_of, blank, got, made, ran, put, is_ended, has_left, known_end, lacks, is_whole, demo_rows}
 use Rattle.dn_machine.specs.Game.{Game}
 use Rattle.dn_machine.specs.Invariant.{IsKept, history_of}
 use Rattle.dn_machine.specs.Promise.{IsPrefixOf, keys_of, Agree, Fits, Steady, end_or}
@@ -25,41 +25,60 @@ use Rattle.dn_machine.specs.Hearing.{on_gathering, is_past_end, is_strange_end, 
 use Rattle.dn_setup.specs.Gathered.{all_noted}
 
 -- of two lists that agree as far as both go, the one that is no longer is a prefix
-prefix_from_reads : {A : Type 0} (d : A) (xs ys : List A) → length xs ≤ length ys → ((k : ℕ) → k < length xs → get_or ys k d ≡ get_or xs k d) → IsPrefixOf xs ys
+prefix_from_reads : {A : Type 0} (d : A) (xs ys : List A) → length xs ≤ length ys
+    → ((k : ℕ) → k < length xs → get_or ys k d ≡ get_or xs k d) → IsPrefixOf xs ys
 prefix_from_reads d xs ys l h = (drop (length xs) ys, sym (front_from_reads d ys xs l h))
 
-module _ {S : Type 0} (rules : Rules S) (settings : Settings) (game : Game) (kept : IsKept rules settings game) where
-  row_at : (q tic : ℕ) → q < rules.players → tic < ran (game.nodes q) → slice_get (game.nodes q).rows tic ≡ Some (row rules settings (keys_of game) tic)
-  row_at q tic l m = slice_get-get_or (game.nodes q).rows tic [] m ∙ ap (λ (r : List (Option Move)). Some r) (kept.from_keys.moves q tic l m)
+module _ {S : Type 0} (rules : Rules S) (settings : Settings) (game : Game)
+    (kept : IsKept rules settings game) where
+  row_at : (q tic : ℕ) → q < rules.players → tic < ran (game.nodes q)
+      → slice_get (game.nodes q).rows tic ≡ Some (row rules settings (keys_of game) tic)
+  row_at q tic l m = slice_get-get_or (game.nodes q).rows tic [] m
+      ∙ ap (λ (r : List (Option Move)). Some r) (kept.from_keys.moves q tic l m)
 
-  begins : (q r : ℕ) → q < rules.players → r < rules.players → ran (game.nodes q) ≤ ran (game.nodes r) → IsPrefixOf (demo_rows rules (game.nodes q)) (demo_rows rules (game.nodes r))
-  begins q r l m le = front_prefix (is_whole rules.players) (game.nodes q).rows (game.nodes r).rows (prefix_from_reads [] (game.nodes q).rows (game.nodes r).rows le (λ k n. kept.from_keys.moves r k m (omega arith) ∙ sym (kept.from_keys.moves q k l n)))
+  begins : (q r : ℕ) → q < rules.players → r < rules.players → ran (game.nodes q) ≤ ran (game.nodes r)
+      → IsPrefixOf (demo_rows rules (game.nodes q)) (demo_rows rules (game.nodes r))
+  begins q r l m le = front_prefix (is_whole rules.players) (game.nodes q).rows (game.nodes r).rows
+      (prefix_from_reads [] (game.nodes q).rows (game.nodes r).rows le
+      (λ k n. kept.from_keys.moves r k m (omega arith) ∙ sym (kept.from_keys.moves q k l n)))
 
   -- a player who has not left has made a command for every tic that was run
-  whole : (q p tic : ℕ) → q < rules.players → p < rules.players → tic < ran (game.nodes q) → has_left (game.nodes p) ≡ false → tic < length (keys_of game p)
-  whole q p tic l m n stays = let below = Lists.ran_below rules settings (history_of game) game.flights kept.from_keys q p l m stays in omega arith
+  whole : (q p tic : ℕ) → q < rules.players → p < rules.players → tic < ran (game.nodes q)
+      → has_left (game.nodes p) ≡ false → tic < length (keys_of game p)
+  whole q p tic l m n stays = let below = Lists.ran_below rules settings (history_of game) game.flights
+      kept.from_keys q p l m stays in omega arith
 
   -- the row of a tic lacks a player where the player has made no command for it
-  row_lacks : (p tic : ℕ) → p < rules.players → p < 4 → lacks (row rules settings (keys_of game) tic) p ≡ nat_le (length (keys_of game p)) tic
+  row_lacks : (p tic : ℕ) → p < rules.players → p < 4
+      → lacks (row rules settings (keys_of game) tic) p ≡ nat_le (length (keys_of game p)) tic
   unfolding row
   row_lacks p tic m s =
-      seat_is rules.players (λ r. if_made (keys_of game r) tic (command rules settings (keys_of game) r tic)) p m s ∙ if_made_is (keys_of game p) tic (command rules settings (keys_of game) p tic)
+      seat_is rules.players (λ r. if_made (keys_of game r) tic (command rules settings (keys_of game) r tic))
+      p m s ∙ if_made_is (keys_of game p) tic (command rules settings (keys_of game) p tic)
 
-  without : (q p tic : ℕ) → q < rules.players → p < rules.players → p < 4 → tic < ran (game.nodes q) → lacks (get_or (game.nodes q).rows tic []) p ≡ (has_left (game.nodes p) && nat_le (made p (game.nodes p)) tic)
+  without : (q p tic : ℕ) → q < rules.players → p < rules.players → p < 4 → tic < ran (game.nodes q)
+      → lacks (get_or (game.nodes q).rows tic []) p
+      ≡ (has_left (game.nodes p) && nat_le (made p (game.nodes p)) tic)
   without q p tic l m s n =
       let count = kept.from_keys.counted p m in
       ap (λ (r : List (Option Move)). lacks r p) (kept.from_keys.moves q tic l n) ∙ row_lacks p tic m s
       ∙ elim (cases_Bool (has_left (game.nodes p))) [
-        | inl gone ↦ ap (λ (k : ℕ). nat_le k tic) (sym count) ∙ sym (ap (λ (b : Bool). b && nat_le (made p (game.nodes p)) tic) gone)
-        | inr stays ↦ lt-leb (length (keys_of game p)) tic (whole q p tic l m n stays) ∙ sym (ap (λ (b : Bool). b && nat_le (made p (game.nodes p)) tic) stays)
+        | inl gone ↦ ap (λ (k : ℕ). nat_le k tic) (sym count)
+            ∙ sym (ap (λ (b : Bool). b && nat_le (made p (game.nodes p)) tic) gone)
+        | inr stays ↦ lt-leb (length (keys_of game p)) tic (whole q p tic l m n stays)
+            ∙ sym (ap (λ (b : Bool). b && nat_le (made p (game.nodes p)) tic) stays)
       ]
 
   -- an end that a node knows is that of one who has left
-  known : (q p end : ℕ) → q < rules.players → p < rules.players → known_end q (game.nodes q) p ≡ Some end → (has_left (game.nodes p) ≡ true) × (end ≡ made p (game.nodes p))
+  known : (q p end : ℕ) → q < rules.players → p < rules.players → known_end q (game.nodes q) p ≡ Some end
+      → (has_left (game.nodes p) ≡ true) × (end ≡ made p (game.nodes p))
   known q p end l m h = elim (cases_eq p q) [
     | inl e ↦
-        let own = cond_some (has_left (game.nodes q)) (made q (game.nodes q)) end (sym (cond-true (eqb p q) _ _ (eq-eqb p q e)) ∙ h) in
-        (ap (λ (r : ℕ). has_left (game.nodes r)) e ∙ own.0, sym own.1 ∙ ap (λ (r : ℕ). made r (game.nodes r)) (sym e))
+        let own = cond_some (has_left (game.nodes q)) (made q (game.nodes q)) end
+        (sym (cond-true (eqb p q) _ _ (eq-eqb p q e)) ∙ h) in (
+          ap (λ (r : ℕ). has_left (game.nodes r)) e ∙ own.0,
+          sym own.1 ∙ ap (λ (r : ℕ). made r (game.nodes r)) (sym e),
+        )
     | inr n ↦
         let told = kept.from_keys.ended q p end l m (sym (cond-false (eqb p q) _ _ (ne_eqb p q n)) ∙ h) in
         (told.0, told.1 ∙ sym (kept.from_keys.counted p m))
@@ -74,15 +93,22 @@ module _ {S : Type 0} (rules : Rules S) (settings : Settings) (game : Game) (kep
     ends = known;
     ends_same = λ q r p a b l m n g h. (known q p a l n g).1 ∙ sym (known r p b m n h).1;
     demo_whole = λ q p tic m l.
-        lowest_none_each rules.players (lacks (get_or (demo_rows rules (game.nodes q)) tic [])) (none_is _ (front_each (is_whole rules.players) (game.nodes q).rows tic [] l)) p m;
+        lowest_none_each rules.players (lacks (get_or (demo_rows rules (game.nodes q)) tic []))
+        (none_is _ (front_each (is_whole rules.players) (game.nodes q).rows tic [] l)) p m;
     held = λ q p tic l m n. kept.from_keys.commands q p tic l m n;
-    begins = λ q p l m. prefix_from_reads blank ((game.nodes q).held p) _ (let a = kept.from_keys.got q p l m in let b = length-commands_to rules settings (keys_of game) p (length (keys_of game p)) in omega arith) (λ k n. let a = kept.from_keys.got q p l m in get_or-commands_to rules settings (keys_of game) p (length (keys_of game p)) k blank (omega arith) ∙ sym (kept.from_keys.commands q p k l m n));
+    begins = λ q p l m. prefix_from_reads blank ((game.nodes q).held p) _
+        (let a = kept.from_keys.got q p l m in
+        let b = length-commands_to rules settings (keys_of game) p (length (keys_of game p)) in
+        omega arith) (λ k n. let a = kept.from_keys.got q p l m in
+        get_or-commands_to rules settings (keys_of game) p (length (keys_of game p)) k blank (omega arith)
+        ∙ sym (kept.from_keys.commands q p k l m n));
     settings_same = λ q l e. (kept.sound q l).played e;
     demos = λ q r l m. elim (cases_lt (ran (game.nodes q)) (ran (game.nodes r))) [
       | inl less ↦ inl (begins q r l m (omega arith))
       | inr more ↦ inr (begins r q m l more)
     ];
-    worlds = λ q l. world_after_true rules settings (keys_of game) (game.nodes q).rows (ran (game.nodes q)) (omega arith) (λ k m. kept.from_keys.moves q k l m);
+    worlds = λ q l. world_after_true rules settings (keys_of game) (game.nodes q).rows (ran (game.nodes q))
+        (omega arith) (λ k m. kept.from_keys.moves q k l m);
   }
 
   -- a node that has not ended has not left
@@ -90,22 +116,29 @@ module _ {S : Type 0} (rules : Rules S) (settings : Settings) (game : Game) (kep
   stays_in q goes_on = and_right (game.nodes q).played (is_ended (game.nodes q).phase) goes_on
 
   -- no row of a demo is past any player's last command
-  not_whole : (p tic : ℕ) → p < rules.players → length (keys_of game p) ≤ tic → is_whole rules.players (row rules settings (keys_of game) tic) ≡ true → ⊥
+  not_whole : (p tic : ℕ) → p < rules.players → length (keys_of game p) ≤ tic
+      → is_whole rules.players (row rules settings (keys_of game) tic) ≡ true → ⊥
   unfolding row
   not_whole p tic l m e =
-      true≢false (sym (ap (λ (b : Bool). is_none (cond b (Some (command rules settings (keys_of game) p tic)) None)) (le-ltb tic (length (keys_of game p)) m))
-      ∙ whole_has rules.players (λ r. if_made (keys_of game r) tic (command rules settings (keys_of game) r tic)) e p l)
+      true≢false
+      (sym (ap (λ (b : Bool). is_none (cond b (Some (command rules settings (keys_of game) p tic)) None))
+      (le-ltb tic (length (keys_of game p)) m))
+      ∙ whole_has rules.players
+      (λ r. if_made (keys_of game r) tic (command rules settings (keys_of game) r tic)) e p l)
 
-  least : (q p : ℕ) → q < rules.players → p < rules.players → length (demo_rows rules (game.nodes q)) ≤ made p (game.nodes p)
+  least : (q p : ℕ) → q < rules.players → p < rules.players
+      → length (demo_rows rules (game.nodes q)) ≤ made p (game.nodes p)
   least q p l m =
       let count = kept.from_keys.counted p m in
       let short = front_short (is_whole rules.players) (game.nodes q).rows in
       elim (cases_lt (length (keys_of game p)) (length (demo_rows rules (game.nodes q)))) [
         | inr fits ↦ omega arith
         | inl past ↦
-            let passes = front_passes (is_whole rules.players) (game.nodes q).rows (length (keys_of game p)) [] past in
+            let passes = front_passes (is_whole rules.players) (game.nodes q).rows (length (keys_of game p))
+            [] past in
             let true_row = kept.from_keys.moves q (length (keys_of game p)) l (omega arith) in
-            absurd (not_whole p (length (keys_of game p)) m (omega arith) (sym (ap (is_whole rules.players) true_row) ∙ passes))
+            absurd (not_whole p (length (keys_of game p)) m (omega arith)
+            (sym (ap (is_whole rules.players) true_row) ∙ passes))
       ]
 
   pub fits : Fits rules game
@@ -117,7 +150,8 @@ module _ {S : Type 0} (rules : Rules S) (settings : Settings) (game : Game) (kep
           let count = kept.from_keys.counted p m in
           let low = h.2 in
           let tip = end.1 in
-          let at : end_or game p (ran (game.nodes q)) ≡ made p (game.nodes p) = cond-true (has_left (game.nodes p)) (made p (game.nodes p)) (ran (game.nodes q)) end.0 in
+          let at : end_or game p (ran (game.nodes q)) ≡ made p (game.nodes p) =
+          cond-true (has_left (game.nodes p)) (made p (game.nodes p)) (ran (game.nodes q)) end.0 in
           omega arith
     ];
     unread = λ q p l m. kept.from_keys.unread q p l m;
@@ -146,92 +180,111 @@ module _ {S : Type 0} (rules : Rules S) (settings : Settings) (game : Game) (kep
     most = λ q l. (kept.sound q l).most;
   }
 
-  module _ (which : ℕ) (flight : Flight) (number : ℕ) (posted : slice_get game.flights which ≡ Some flight) where
-    abbrev Fine : Heard → Type 0
-    Fine answer = answer ≡ Heard.Dropped number → (number ≡ 6) ⊎ (number ≡ 13)
+  module _ (which : ℕ) (flight : Flight) (number : ℕ) (posted : slice_get game.flights which ≡ Some flight)
+    where
+      abbrev Fine : Heard → Type 0
+      Fine answer = answer ≡ Heard.Dropped number → (number ≡ 6) ⊎ (number ≡ 13)
 
-    -- a playing node has not left
-    plays_on : (game.nodes flight.to).phase ≡ Playing → has_left (game.nodes flight.to) ≡ false
-    plays_on e = ap (λ (p : Phase). (game.nodes flight.to).played && is_ended p) e ∙ and_right (game.nodes flight.to).played false refl
+      -- a playing node has not left
+      plays_on : (game.nodes flight.to).phase ≡ Playing → has_left (game.nodes flight.to) ≡ false
+      plays_on e = ap (λ (p : Phase). (game.nodes flight.to).played && is_ended p) e
+          ∙ and_right (game.nodes flight.to).played false refl
 
-    -- no packet reaches further than ten past what a playing receiver ran
-    within : (game.nodes flight.to).phase ≡ Playing → end_of flight ≤ ran (game.nodes flight.to) + 10
-    within e =
-        let piece = kept.from_keys.pieces which flight posted in
-        let a = piece.reached in
-        let b = Lists.close rules settings (history_of game) game.flights kept.from_keys flight.from flight.to piece.sender piece.receiver (plays_on e) in
-        let c = kept.from_keys.ahead flight.to piece.receiver in
-        omega arith
+      -- no packet reaches further than ten past what a playing receiver ran
+      within : (game.nodes flight.to).phase ≡ Playing → end_of flight ≤ ran (game.nodes flight.to) + 10
+      within e =
+          let piece = kept.from_keys.pieces which flight posted in
+          let a = piece.reached in
+          let b = Lists.close rules settings (history_of game) game.flights kept.from_keys flight.from
+          flight.to
+          piece.sender piece.receiver (plays_on e) in
+          let c = kept.from_keys.ahead flight.to piece.receiver in
+          omega arith
 
-    -- no end is strange
-    no_strange_of : (exit : Bool) → (exit ≡ true → flight.kind ≡ Exit) → is_strange_end exit (got (game.nodes flight.to) flight.from) ((game.nodes flight.to).ends flight.from) (end_of flight) ≡ true → ⊥
-    no_strange_of exit leaving h =
-        elim (or_cases _ _ h) [
-          | inl before ↦
-              let both = and_parts exit (ltb (end_of flight) (got (game.nodes flight.to) flight.from)) before in
-              let low = ltb-true (end_of flight) (got (game.nodes flight.to) flight.from) both.1 in
-              let tip = ((kept.from_keys.pieces which flight posted).exit (leaving both.0)).1 in
-              let bound = kept.from_keys.got flight.to flight.from (kept.from_keys.pieces which flight posted).receiver (kept.from_keys.pieces which flight posted).sender in
-              omega arith
-          | inr past ↦ past_known ((game.nodes flight.to).ends flight.from) refl past
-        ]
-      where
-        past_known : (o : Option ℕ) → (game.nodes flight.to).ends flight.from ≡ o → is_past_end exit o (end_of flight) ≡ true → ⊥
-        past_known None e p = true≢false (sym p)
-        past_known (Some end) e p =
-            let piece = kept.from_keys.pieces which flight posted in
-            let tip = (kept.from_keys.ended flight.to flight.from end piece.receiver piece.sender e).1 in
-            let reached = piece.reached in
-            elim (or_cases (ltb end (end_of flight)) (exit && not (eqb (end_of flight) end)) p) [
-              | inl less ↦ let low = ltb-true end (end_of flight) less in omega arith
-              | inr other ↦
-                  let both = and_parts exit (not (eqb (end_of flight) end)) other in
-                  let same = (piece.exit (leaving both.0)).1 in
-                  eqb-false (end_of flight) end (not-true (eqb (end_of flight) end) both.1) (omega arith)
-            ]
+      -- no end is strange
+      no_strange_of : (exit : Bool) → (exit ≡ true → flight.kind ≡ Exit)
+          → is_strange_end exit (got (game.nodes flight.to) flight.from)
+          (ends_of (game.nodes flight.to) flight.from) (end_of flight) ≡ true → ⊥
+      no_strange_of exit leaving h =
+          elim (or_cases _ _ h) [
+            | inl before ↦
+                let both = and_parts exit (ltb (end_of flight) (got (game.nodes flight.to) flight.from))
+                before in
+                let low = ltb-true (end_of flight) (got (game.nodes flight.to) flight.from) both.1 in
+                let tip = ((kept.from_keys.pieces which flight posted).exit (leaving both.0)).1 in
+                let bound = kept.from_keys.got flight.to flight.from
+                (kept.from_keys.pieces which flight posted).receiver
+                (kept.from_keys.pieces which flight posted).sender in
+                omega arith
+            | inr past ↦ past_known (ends_of (game.nodes flight.to) flight.from) refl past
+          ]
+        where
+          past_known : (o : Option ℕ) → ends_of (game.nodes flight.to) flight.from ≡ o
+              → is_past_end exit o (end_of flight) ≡ true → ⊥
+          past_known None e p = true≢false (sym p)
+          past_known (Some end) e p =
+              let piece = kept.from_keys.pieces which flight posted in
+              let tip = (kept.from_keys.ended flight.to flight.from end piece.receiver piece.sender e).1 in
+              let reached = piece.reached in
+              elim (or_cases (ltb end (end_of flight)) (exit && not (eqb (end_of flight) end)) p) [
+                | inl less ↦ let low = ltb-true end (end_of flight) less in omega arith
+                | inr other ↦
+                    let both = and_parts exit (not (eqb (end_of flight) end)) other in
+                    let same = (piece.exit (leaving both.0)).1 in
+                    eqb-false (end_of flight) end (not-true (eqb (end_of flight) end) both.1) (omega arith)
+              ]
 
-    no_strange : is_strange_end (is_exit flight.kind) (got (game.nodes flight.to) flight.from) ((game.nodes flight.to).ends flight.from) (end_of flight) ≡ true → ⊥
-    no_strange h = no_strange_of (is_exit flight.kind) (exit_is flight.kind) h
+      no_strange : is_strange_end (is_exit flight.kind) (got (game.nodes flight.to) flight.from)
+          (ends_of (game.nodes flight.to) flight.from) (end_of flight) ≡ true → ⊥
+      no_strange h = no_strange_of (is_exit flight.kind) (exit_is flight.kind) h
 
-    takes : (game.nodes flight.to).phase ≡ Playing → Fine (on_commands flight.to (game.nodes flight.to) flight).1
-    takes plays =
-        cond_both (ltb (ran (game.nodes flight.to) + 12) (end_of flight)) _ _ (λ (r : Node × Heard). Fine r.1)
-        (λ over e.
-        let far = ltb-true (ran (game.nodes flight.to) + 12) (end_of flight) over in
-        let near = within plays in
-        absurd (omega arith))
-        (λ a. cond_both (is_strange_end (is_exit flight.kind) (got (game.nodes flight.to) flight.from) ((game.nodes flight.to).ends flight.from) (end_of flight)) _ _ (λ (r : Node × Heard). Fine r.1)
-        (λ strange e. absurd (no_strange strange))
-        (λ b. cond_both (leb (end_of flight) (got (game.nodes flight.to) flight.from)) _ _ (λ (r : Node × Heard). Fine r.1)
-        (λ c. cond_both (is_exit flight.kind) _ _ Fine (λ d e. absurd (cc)) (λ d e. absurd (cc)))
-        (λ c. cond_both (ltb (got (game.nodes flight.to) flight.from) flight.start) _ _ (λ (r : Node × Heard). Fine r.1)
-        (λ d e. absurd (cc))
-        (λ d. cond_both (is_exit flight.kind) _ _ Fine (λ f e. absurd (cc)) (λ f e. absurd (cc))))))
+      takes : (game.nodes flight.to).phase ≡ Playing
+          → Fine (on_commands flight.to (game.nodes flight.to) flight).1
+      takes plays =
+          cond_both (ltb (ran (game.nodes flight.to) + 12) (end_of flight)) _ _
+          (λ (r : Node × Heard). Fine r.1)
+          (λ over e.
+          let far = ltb-true (ran (game.nodes flight.to) + 12) (end_of flight) over in
+          let near = within plays in
+          absurd (omega arith))
+          (λ a. cond_both (is_strange_end (is_exit flight.kind) (got (game.nodes flight.to) flight.from)
+          (ends_of (game.nodes flight.to) flight.from) (end_of flight)) _ _ (λ (r : Node × Heard). Fine r.1)
+          (λ strange e. absurd (no_strange strange))
+          (λ b. cond_both (leb (end_of flight) (got (game.nodes flight.to) flight.from)) _ _
+          (λ (r : Node × Heard). Fine r.1)
+          (λ c. cond_both (is_exit flight.kind) _ _ Fine (λ d e. absurd (cc)) (λ d e. absurd (cc)))
+          (λ c. cond_both (ltb (got (game.nodes flight.to) flight.from) flight.start) _ _
+          (λ (r : Node × Heard). Fine r.1)
+          (λ d e. absurd (cc))
+          (λ d. cond_both (is_exit flight.kind) _ _ Fine (λ f e. absurd (cc)) (λ f e. absurd (cc))))))
 
-    ended : (played : Bool) (kind : Kind) → Fine (on_ended played flight.to (game.nodes flight.to) flight kind).1
-    ended false kind e = inr (cc)
-    ended true (SetUp s) e = inl (cc)
-    ended true Exit e = inr (cc)
-    ended true Play e = absurd (cc)
+      ended : (played : Bool) (kind : Kind)
+          → Fine (on_ended played flight.to (game.nodes flight.to) flight kind).1
+      ended false kind e = inr (cc)
+      ended true (SetUp s) e = inl (cc)
+      ended true Exit e = inr (cc)
+      ended true Play e = absurd (cc)
 
-    gathers : (player : ℕ) → Fine (on_gathering rules (game.nodes flight.to) player).1
-    gathers player = cond_both (all_noted rules.players (put (game.nodes flight.to).noted player true)) _ _ (λ (r : Node × Heard). Fine r.1) (λ a e. absurd (cc)) (λ a e. absurd (cc))
+      gathers : (player : ℕ) → Fine (on_gathering rules (game.nodes flight.to) player).1
+      gathers player = cond_both (all_noted rules.players (put (game.nodes flight.to).noted player true)) _ _
+          (λ (r : Node × Heard). Fine r.1) (λ a e. absurd (cc)) (λ a e. absurd (cc))
 
-    pub drops : Fine (on_packet rules flight.to (game.nodes flight.to) flight).1
-    unfolding on_packet
-    drops = go (game.nodes flight.to).phase flight.kind refl refl
-      where
-        go : (phase : Phase) (kind : Kind) → (game.nodes flight.to).phase ≡ phase → flight.kind ≡ kind → Fine (on_packet_in rules flight.to (game.nodes flight.to) flight phase kind).1
-        go (Ended cause) kind h k e = ended (game.nodes flight.to).played kind e
-        go Listening (SetUp s) h k e = absurd (cc)
-        go Gathering (SetUp s) h k e = inl (cc)
-        go Playing (SetUp s) h k e = inl (cc)
-        go Listening Play h k e = inr (cc)
-        go Listening Exit h k e = inr (cc)
-        go Gathering Play h k e = gathers flight.from e
-        go Gathering Exit h k e = gathers flight.from e
-        go Playing Exit h k e = takes h e
-        go Playing Play h k e = takes h e
+      pub drops : Fine (on_packet rules flight.to (game.nodes flight.to) flight).1
+      unfolding on_packet
+      drops = go (game.nodes flight.to).phase flight.kind refl refl
+        where
+          go : (phase : Phase) (kind : Kind) → (game.nodes flight.to).phase ≡ phase → flight.kind ≡ kind
+              → Fine (on_packet_in rules flight.to (game.nodes flight.to) flight phase kind).1
+          go (Ended cause) kind h k e = ended (game.nodes flight.to).played kind e
+          go Listening (SetUp s) h k e = absurd (cc)
+          go Gathering (SetUp s) h k e = inl (cc)
+          go Playing (SetUp s) h k e = inl (cc)
+          go Listening Play h k e = inr (cc)
+          go Listening Exit h k e = inr (cc)
+          go Gathering Play h k e = gathers flight.from e
+          go Gathering Exit h k e = gathers flight.from e
+          go Playing Exit h k e = takes h e
+          go Playing Play h k e = takes h e
 
   pub steady : Steady rules game
   steady = record {

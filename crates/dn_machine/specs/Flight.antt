@@ -2,6 +2,7 @@
 use Rattle.std.specs.Prelude.{ℕ, ◌+◌, ◌-◌, ◌%◌, Bool, true, false, not, ◌&&◌, nat_lt, List, length, Option, Some, None}
 use Rattle.dn_tic.specs.declared.command.TicCmd.{TicCmd}
 use Rattle.dn_packet.specs.declared.packet.Packet.{Packet}
+use Rattle.dn_packet.specs.Flags as flag
 use Rattle.dn_setup.specs.Settings.{Settings}
 use Rattle.dn_setup.specs.Setup.{setup_packet}
 
@@ -31,10 +32,10 @@ is_exit Exit = true
 abbrev pub end_of : Flight → ℕ
 end_of flight = flight.start + length flight.commands
 
--- the flag RETRANSMIT with a request (d_net.h)
+-- the flag of a packet with a request
 abbrev pub request_flag : Option ℕ → ℕ
 request_flag None = 0
-request_flag (Some tic) = 4
+request_flag (Some tic) = flag.retransmit
 
 -- the low byte of a request, and 0 for none
 abbrev pub request_byte : Option ℕ → ℕ
@@ -52,11 +53,11 @@ commands_packet flags flight =
       cmds = record { items = flight.commands };
     }
 
--- the packet that a flight goes out as; the flag EXIT is 8 (d_net.h)
+-- the packet that a flight goes out as
 abbrev pub packet_of_kind : Flight → Kind → Packet
 packet_of_kind flight (SetUp settings) = setup_packet settings
 packet_of_kind flight Play = commands_packet 0 flight
-packet_of_kind flight Exit = commands_packet 8 flight
+packet_of_kind flight Exit = commands_packet flag.exit flight
 
 abbrev pub packet_of : Flight → Packet
 packet_of flight = packet_of_kind flight flight.kind
@@ -74,7 +75,7 @@ abbrev pub is_request_close : ℕ → Option ℕ → Bool
 is_request_close made None = true
 is_request_close made (Some tic) = is_close made tic
 
--- a packet is near a node that made so many commands; a set-up packet always is
+-- a packet is near a node that made this many commands; a set-up packet always is
 abbrev pub is_near : ℕ → Flight → Bool
 is_near made flight =
     elim flight.kind [

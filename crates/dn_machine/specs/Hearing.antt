@@ -1,15 +1,17 @@
--- What a packet does to the node that it comes to (d_net.c, GetPackets). That an overrun is dropped, that a request is
--- bounded, and that EXIT tells its sender's end are rules of this project; ten packets after a request is RESENDCOUNT of
--- d_net.c.
+-- What a packet does to the node that it comes to (d_net.c, GetPackets). That an overrun is dropped, that a
+-- request is bounded, and that EXIT tells its sender's end are rules of this project; ten packets after a
+-- request is RESENDCOUNT of d_net.c.
 use Rattle.std.specs.Prelude.{ℕ, ◌+◌, ◌-◌, Bool, true, false, not, ◌&&◌, ◌||◌, ◌++◌, nat_lt, nat_le, ◌==◌, if◌then◌else◌, drop, Option, Some, None}
 use Rattle.dn_setup.specs.Settings.{Settings}
 use Rattle.dn_setup.specs.Gathered.{all_noted}
 use Rattle.dn_machine.specs.declared.answers.Phase.{Phase}
 use Rattle.dn_machine.specs.declared.answers.Phase.TheVariants.{Listening, Gathering, Playing, Ended}
 use Rattle.dn_machine.specs.declared.answers.Heard.{Heard}
+use Rattle.dn_machine.specs.declared.peer.Peer.{Peer}
+use Rattle.dn_machine.specs.Drops as drops
 use Rattle.dn_machine.specs.Worlds.{Rules}
 use Rattle.dn_machine.specs.Flight.{Kind, SetUp, Play, Exit, Flight, is_exit, end_of}
-use Rattle.dn_machine.specs.Node.{Node, put, got, made, ran}
+use Rattle.dn_machine.specs.Node.{Node, put, with_peer, ends_of, got, made, ran}
 
 -- the node begins to play
 abbrev pub started : Node → Settings → Node
@@ -33,71 +35,79 @@ requested_tic None = 0
 requested_tic (Some tic) = tic
 
 -- a request is met unless one was met within the last ten packets of that peer
-abbrev pub after_request : ℕ → Node → ℕ → Option ℕ → Node
-after_request me node peer request =
-    if node.hold peer == 0 && is_within (made me node) request
-    then record node { resend = put node.resend peer (requested_tic request); hold = put node.hold peer 10 }
-    else record node { hold = put node.hold peer (node.hold peer - 1) }
+abbrev pub after_request : ℕ → Peer → Option ℕ → Peer
+after_request made peer request =
+    if peer.pause == 0 && is_within made request
+    then record peer { resend = requested_tic request; pause = 10 }
+    else record peer { pause = peer.pause - 1 }
 
 -- a packet reaches past its sender's known end, or is an EXIT packet that tells another
 abbrev pub is_past_end : Bool → Option ℕ → ℕ → Bool
 is_past_end exit None end = false
 is_past_end exit (Some known) end = nat_lt known end || (exit && not (end == known))
 
--- a packet ends where it cannot: an EXIT packet before what the node has of its sender, any packet past a known end
+-- a packet ends where it cannot: an EXIT packet before what the node has of its sender, any packet past a
+-- known end
 abbrev pub is_strange_end : Bool → ℕ → Option ℕ → ℕ → Bool
 is_strange_end exit got known end = (exit && nat_lt end got) || is_past_end exit known end
 
 -- an EXIT packet tells where its sender's commands end
-abbrev pub after_exit : Bool → Node → ℕ → ℕ → Node
-after_exit true node peer end = record node { ends = put node.ends peer (Some end) }
-after_exit false node peer end = node
+abbrev pub after_exit : Peer → Bool → ℕ → Peer
+after_exit peer exit end = if exit then record peer { end = Some end } else peer
 
--- the answer where nothing is missing up to a packet's end: for an EXIT packet that its sender has left, else this one
+-- what is kept of the sender of a packet that is not dropped
+abbrev pub after_flight : ℕ → Peer → Flight → Peer
+after_flight made peer flight = after_exit (after_request made peer flight.request) (is_exit flight.kind)
+    (end_of flight)
+
+-- the answer where nothing is missing up to a packet's end: for an EXIT packet that its sender has left, else
+-- this one
 abbrev pub left_or : Bool → Heard → Heard
 left_or exit heard = if exit then Heard.Left else heard
 
--- what a playing node does with the commands of a packet: an overrun and a strange end are dropped; old ones are stale;
--- past a gap a resend is wanted; and the others are taken from the first that is missing on
+-- what a playing node does with the commands of a packet: an overrun and a strange end are dropped; old ones
+-- are stale; past a gap a resend is wanted; and the others are taken from the first that is missing on
 abbrev pub on_commands : ℕ → Node → Flight → Node × Heard
 on_commands me node flight =
-    let peer = flight.from in
+    let from = flight.from in
     let exit = is_exit flight.kind in
     if nat_lt (ran node + 12) (end_of flight)
-    then (node, Heard.Dropped 12)
+    then (node, Heard.Dropped drops.overrun)
     else (
-    if is_strange_end exit (got node peer) (node.ends peer) (end_of flight)
-    then (node, Heard.Dropped 14)
+    if is_strange_end exit (got node from) (ends_of node from) (end_of flight)
+    then (node, Heard.Dropped drops.strange_end)
     else (
-    let after = after_exit exit (after_request me node peer flight.request) peer (end_of flight) in
-    if nat_le (end_of flight) (got node peer)
-    then (after, left_or exit Heard.Stale)
+    let peer = after_flight (made me node) (node.peers from) flight in
+    if nat_le (end_of flight) (got node from)
+    then (with_peer node from peer, left_or exit Heard.Stale)
     else (
-    if nat_lt (got node peer) flight.start
-    then (record after { want = put node.want peer true }, Heard.Gap)
+    if nat_lt (got node from) flight.start
+    then (with_peer node from (record peer { want = true }), Heard.Gap)
     else (
-      record after {
-        want = put node.want peer false;
-        held = put node.held peer (node.held peer ++ drop (got node peer - flight.start) flight.commands);
+      record (with_peer node from (record peer { want = false })) {
+        held = put node.held from (node.held from ++ drop (got node from - flight.start) flight.commands);
       },
-      left_or exit (Heard.Taken (end_of flight - got node peer)),
+      left_or exit (Heard.Taken (end_of flight - got node from)),
     ))))
 
 -- a node that has ended hears requests if it has played, and takes no commands
 abbrev pub on_ended : Bool → ℕ → Node → Flight → Kind → Node × Heard
-on_ended false me node flight kind = (node, Heard.Dropped 13)
-on_ended true me node flight (SetUp settings) = (node, Heard.Dropped 6)
-on_ended true me node flight Exit = (node, Heard.Dropped 13)
-on_ended true me node flight Play = (after_request me node flight.from flight.request, Heard.Noted)
+on_ended false me node flight kind = (node, Heard.Dropped drops.not_playing)
+on_ended true me node flight (SetUp settings) = (node, Heard.Dropped drops.out_of_place)
+on_ended true me node flight Exit = (node, Heard.Dropped drops.not_playing)
+on_ended true me node flight Play = (
+  with_peer node flight.from (after_request (made me node) (node.peers flight.from) flight.request),
+  Heard.Noted,
+)
 
 -- by the phase and the packet's kind
 abbrev pub on_packet_in : {S : Type 0} → Rules S → ℕ → Node → Flight → Phase → Kind → Node × Heard
 on_packet_in rules me node flight (Ended cause) kind = on_ended node.played me node flight kind
 on_packet_in rules me node flight Listening (SetUp settings) = (started node settings, Heard.Started)
-on_packet_in rules me node flight Gathering (SetUp settings) = (node, Heard.Dropped 6)
-on_packet_in rules me node flight Playing (SetUp settings) = (node, Heard.Dropped 6)
-on_packet_in rules me node flight Listening Play = (node, Heard.Dropped 13)
-on_packet_in rules me node flight Listening Exit = (node, Heard.Dropped 13)
+on_packet_in rules me node flight Gathering (SetUp settings) = (node, Heard.Dropped drops.out_of_place)
+on_packet_in rules me node flight Playing (SetUp settings) = (node, Heard.Dropped drops.out_of_place)
+on_packet_in rules me node flight Listening Play = (node, Heard.Dropped drops.not_playing)
+on_packet_in rules me node flight Listening Exit = (node, Heard.Dropped drops.not_playing)
 on_packet_in rules me node flight Gathering Play = on_gathering rules node flight.from
 on_packet_in rules me node flight Gathering Exit = on_gathering rules node flight.from
 on_packet_in rules me node flight Playing Exit = on_commands me node flight

@@ -7,12 +7,13 @@ use Rattle.dn_machine.specs.declared.answers.Phase.TheVariants.{Playing, Gatheri
 use Rattle.dn_machine.specs.declared.answers.Cause.TheVariants as Cause
 use Rattle.dn_machine.specs.Worlds.{Rules, command, row}
 use Rattle.dn_machine.specs.Flight.{SetUp, Exit, Flight, end_of}
-use Rattle.dn_machine.specs.Node.{Node, blank, has_left, is_whole, demo_rows}
+use Rattle.dn_machine.specs.Node.{Node, ends_of, blank, has_left, is_whole, demo_rows}
 use Rattle.dn_machine.specs.Running.{tic_limit, row_held}
 use Rattle.dn_machine.specs.Game.{Game}
 
 -- A packet that was sent is a piece of what its sender has.
-pub record IsPiece {S : Type 0} (rules : Rules S) (settings : Settings) (keys : ℕ → List ℕ) (left : ℕ → Bool) (flight : Flight) : Type 0 where
+pub record IsPiece {S : Type 0} (rules : Rules S) (settings : Settings) (keys : ℕ → List ℕ) (left : ℕ → Bool)
+    (flight : Flight) : Type 0 where
   pub sender : flight.from < rules.players
   pub receiver : flight.to < rules.players
   pub apart : flight.from ≢ flight.to
@@ -27,7 +28,8 @@ pub record IsPiece {S : Type 0} (rules : Rules S) (settings : Settings) (keys : 
   -- an EXIT packet ends with the last command of one who has left
   pub exit : flight.kind ≡ Exit → (left flight.from ≡ true) × (end_of flight ≡ length (keys flight.from))
 
--- What all nodes together have done: the key states, the commands held, the rows run, the ends known, and who has left.
+-- What all nodes together have done: the key states, the commands held, the rows run, the ends known, and who
+-- has left.
 pub record History : Type 0 where
   pub keys : ℕ → List ℕ
   pub held : ℕ → ℕ → List TicCmd
@@ -39,18 +41,22 @@ pub record History : Type 0 where
 abbrev pub HoldsAll : History → ℕ → ℕ → Type 0
 HoldsAll history q p = (end : ℕ) × (history.ends q p ≡ Some end) × (end ≤ length (history.held q p))
 
--- All that was held, run and sent is what the players' keys make, and no node is ahead of what it has been sent.
-pub record ComesFromKeys {S : Type 0} (rules : Rules S) (settings : Settings) (history : History) (flights : List Flight) : Type 0 where
+-- All that was held, run and sent is what the players' keys make, and no node is ahead of what it has been
+-- sent.
+pub record ComesFromKeys {S : Type 0} (rules : Rules S) (settings : Settings) (history : History)
+    (flights : List Flight) : Type 0 where
   -- a node has as many own commands as key states
   pub counted : (p : ℕ) → p < rules.players → length (history.held p p) ≡ length (history.keys p)
-  -- tics run, commands held, commands made: each at most the next, and the last at most five ahead of its own first; but
-  -- the tics run go on past the commands of a player of whom all are held
+  -- tics run, commands held, commands made: each at most the next, and the last at most five ahead of its own
+  -- first; but the tics run go on past the commands of a player all of whose commands are held
   pub run : (q p : ℕ) → q < rules.players → p < rules.players
       → (length (history.rows q) ≤ length (history.held q p)) ⊎ HoldsAll history q p
-  pub got : (q p : ℕ) → q < rules.players → p < rules.players → length (history.held q p) ≤ length (history.keys p)
+  pub got : (q p : ℕ) → q < rules.players → p < rules.players
+      → length (history.held q p) ≤ length (history.keys p)
   pub ahead : (p : ℕ) → p < rules.players → length (history.keys p) ≤ length (history.rows p) + 5
   -- a node has at most ten commands of a player that it has not run yet
-  pub unread : (q p : ℕ) → q < rules.players → p < rules.players → length (history.held q p) ≤ length (history.rows q) + 10
+  pub unread : (q p : ℕ) → q < rules.players → p < rules.players
+      → length (history.held q p) ≤ length (history.rows q) + 10
   -- what was held and run is true
   pub commands : (q p tic : ℕ) → q < rules.players → p < rules.players → tic < length (history.held q p)
       → get_or (history.held q p) tic blank ≡ command rules settings history.keys p tic
@@ -71,7 +77,7 @@ pub record IsSound {S : Type 0} (rules : Rules S) (settings : Settings) (me : �
   -- no mark was off
   pub consistent : (player : ℕ) (was should : ℤ) → node.phase ≢ Ended (Cause.Inconsistent player was should)
   -- no resend starts past what was built
-  pub resend : (to : ℕ) → node.resend to ≤ length (node.held me)
+  pub resend : (to : ℕ) → (node.peers to).resend ≤ length (node.held me)
   -- the demo's rows fit into it, and they are all rows while the next lacks nobody
   pub room : length (demo_rows rules node) ≤ rules.capacity
   pub whole : is_whole rules.players (row_held rules node) ≡ true → demo_rows rules node ≡ node.rows
@@ -83,7 +89,7 @@ history_of game =
       keys = λ q. (game.nodes q).keys;
       held = λ q. (game.nodes q).held;
       rows = λ q. (game.nodes q).rows;
-      ends = λ q. (game.nodes q).ends;
+      ends = λ q. ends_of (game.nodes q);
       left = λ q. has_left (game.nodes q);
     }
 

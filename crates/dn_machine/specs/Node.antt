@@ -7,6 +7,7 @@ use Rattle.dn_tic.specs.declared.command.Move.{Move}
 use Rattle.dn_setup.specs.Settings.{Settings}
 use Rattle.dn_machine.specs.declared.answers.Phase.{Phase}
 use Rattle.dn_machine.specs.declared.answers.Phase.TheVariants.{Listening, Gathering, Playing, Ended}
+use Rattle.dn_machine.specs.declared.peer.Peer.{Peer}
 use Rattle.dn_machine.specs.Worlds.{Rules, opening, mark_in}
 
 pub record Node : Type 0 where
@@ -20,20 +21,26 @@ pub record Node : Type 0 where
   pub held : ℕ → List TicCmd
   -- the rows that it ran
   pub rows : List (List (Option Move))
-  -- for each peer: the first tic of the next packet to it
-  pub resend : ℕ → ℕ
-  -- whether the next packet to it asks for a resend
-  pub want : ℕ → Bool
-  -- for how many of its packets no request is heard
-  pub hold : ℕ → ℕ
-  -- the tic after its last command, once an EXIT packet has told it
-  pub ends : ℕ → Option ℕ
+  -- what it keeps of each peer
+  pub peers : ℕ → Peer
   -- whether it was heard while gathering
   pub noted : ℕ → Bool
 
 -- at one place another thing
 abbrev pub put : {A : Type 0} → (ℕ → A) → ℕ → A → ℕ → A
 put all place new other = if other == place then new else all other
+
+-- a peer of which nothing is known
+abbrev pub no_peer : Peer
+no_peer = record { resend = 0; want = false; pause = 0; end = None }
+
+-- the node, where it keeps this of a peer
+abbrev pub with_peer : Node → ℕ → Peer → Node
+with_peer node player peer = record node { peers = put node.peers player peer }
+
+-- the ends of its peers, as they were told
+abbrev pub ends_of : Node → ℕ → Option ℕ
+ends_of node player = (node.peers player).end
 
 -- the command of no key and no mark
 abbrev pub blank : TicCmd
@@ -66,10 +73,11 @@ is_ended (Ended cause) = true
 abbrev pub has_left : Node → Bool
 has_left node = node.played && is_ended node.phase
 
--- a player's end, the tic after the last command, as node `me` knows it: its own once it has left, another's once told
+-- a player's end, the tic after the last command, as node `me` knows it: its own once it has left, another's
+-- once told
 abbrev pub known_end : ℕ → Node → ℕ → Option ℕ
 known_end me node player =
-    if player == me then (if has_left node then Some (made me node) else None) else node.ends player
+    if player == me then (if has_left node then Some (made me node) else None) else ends_of node player
 
 -- the world after the first `tic` of these rows
 unfoldable pub world_after : {S : Type 0} → Rules S → Settings → List (List (Option Move)) → ℕ → S
@@ -79,7 +87,8 @@ world_after rules settings rows tic = fold rules.physics.step (opening rules set
 abbrev pub own_world : {S : Type 0} → Rules S → Node → ℕ → Option S
 own_world rules node tic = option_map (λ settings. world_after rules settings node.rows tic) node.settings
 
--- the consistency mark for a tic by a node's own world: the player's mark before the tic twelve back, and 0 below tic 12
+-- the consistency mark for a tic by a node's own world: the player's mark before the tic twelve back, and 0
+-- below tic 12
 abbrev pub own_mark : {S : Type 0} → Rules S → Node → ℕ → ℕ → ℤ
 own_mark rules node player tic =
     if nat_lt tic 12 then pos 0 else mark_in rules.physics (own_world rules node (tic - 12)) player

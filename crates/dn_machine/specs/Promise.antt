@@ -4,7 +4,8 @@ use Rattle.dn_setup.specs.Settings.{Settings}
 use Rattle.dn_machine.specs.declared.answers.Phase.TheVariants.{Ended}
 use Rattle.dn_machine.specs.declared.answers.Cause.TheVariants as Cause
 use Rattle.dn_machine.specs.declared.answers.Heard.TheVariants.{Dropped}
-use Rattle.dn_machine.specs.Worlds.{Rules, command, commands_of, row, world}
+use Rattle.dn_machine.specs.Drops as drops
+use Rattle.dn_machine.specs.Worlds.{Rules, command, commands_made, row, world}
 use Rattle.dn_machine.specs.Flight.{Flight}
 use Rattle.dn_machine.specs.Node.{got, made, ran, held_at, is_ended, has_left, known_end, world_after, lacks, demo_rows}
 use Rattle.dn_machine.specs.Hearing.{on_packet}
@@ -24,11 +25,13 @@ pub record Agree {S : Type 0} (rules : Rules S) (settings : Settings) (game : Ga
   pub rows : (q tic : ℕ) → q < rules.players → tic < ran (game.nodes q)
       → slice_get (game.nodes q).rows tic ≡ Some (row rules settings (keys_of game) tic)
   -- any two nodes that ran a tic ran the same row
-  pub same : (q r tic : ℕ) → q < rules.players → r < rules.players → tic < ran (game.nodes q) → tic < ran (game.nodes r)
+  pub same : (q r tic : ℕ) → q < rules.players → r < rules.players → tic < ran (game.nodes q)
+      → tic < ran (game.nodes r)
       → slice_get (game.nodes q).rows tic ≡ slice_get (game.nodes r).rows tic
   -- a tic is run without a player from that player's end on, and never before, by every node
   pub without : (q p tic : ℕ) → q < rules.players → p < rules.players → p < 4 → tic < ran (game.nodes q)
-      → lacks (get_or (game.nodes q).rows tic []) p ≡ (has_left (game.nodes p) && nat_le (made p (game.nodes p)) tic)
+      → lacks (get_or (game.nodes q).rows tic []) p
+      ≡ (has_left (game.nodes p) && nat_le (made p (game.nodes p)) tic)
   -- every player who has not left has made a command for each tic that any node ran
   pub whole : (q p tic : ℕ) → q < rules.players → p < rules.players → tic < ran (game.nodes q)
       → has_left (game.nodes p) ≡ false → tic < length (keys_of game p)
@@ -42,9 +45,10 @@ pub record Agree {S : Type 0} (rules : Rules S) (settings : Settings) (game : Ga
   pub held : (q p tic : ℕ) → q < rules.players → p < rules.players → tic < got (game.nodes q) p
       → held_at (game.nodes q) p tic ≡ command rules settings (keys_of game) p tic
   pub begins : (q p : ℕ) → q < rules.players → p < rules.players
-      → IsPrefixOf ((game.nodes q).held p) (commands_of rules settings (keys_of game) p)
+      → IsPrefixOf ((game.nodes q).held p) (commands_made rules settings (keys_of game) p)
   -- every node that has started has the key player's settings
-  pub settings_same : (q : ℕ) → q < rules.players → (game.nodes q).played ≡ true → (game.nodes q).settings ≡ Some settings
+  pub settings_same : (q : ℕ) → q < rules.players → (game.nodes q).played ≡ true
+      → (game.nodes q).settings ≡ Some settings
   -- of the rows in any two nodes' demos one list is a prefix of the other
   pub demos : (q r : ℕ) → q < rules.players → r < rules.players
       → IsPrefixOf (demo_rows rules (game.nodes q)) (demo_rows rules (game.nodes r))
@@ -54,7 +58,8 @@ pub record Agree {S : Type 0} (rules : Rules S) (settings : Settings) (game : Ga
       → lacks (get_or (demo_rows rules (game.nodes q)) tic []) p ≡ false
   -- a node's own world is that of the players' keys
   pub worlds : (q : ℕ) → q < rules.players
-      → world_after rules settings (game.nodes q).rows (ran (game.nodes q)) ≡ world rules settings (keys_of game) (ran (game.nodes q))
+      → world_after rules settings (game.nodes q).rows (ran (game.nodes q))
+      ≡ world rules settings (keys_of game) (ran (game.nodes q))
 
 -- a player's end, and this tic for one who has not left
 abbrev pub end_or : Game → ℕ → ℕ → ℕ
@@ -62,10 +67,12 @@ end_or game player tic = if has_left (game.nodes player) then made player (game.
 
 -- Windows: no ring of twelve overwrites a command that a node that has not ended still needs.
 pub record Fits {S : Type 0} (rules : Rules S) (game : Game) : Type 0 where
-  -- a node has every command of the tics that it ran, up to its player's end, and at most ten that it has not run yet
+  -- a node has every command of the tics that it ran, up to its player's end, and at most ten that it has not
+  -- run yet
   pub run : (q p : ℕ) → q < rules.players → p < rules.players
       → min (ran (game.nodes q)) (end_or game p (ran (game.nodes q))) ≤ got (game.nodes q) p
-  pub unread : (q p : ℕ) → q < rules.players → p < rules.players → got (game.nodes q) p ≤ ran (game.nodes q) + 10
+  pub unread : (q p : ℕ) → q < rules.players → p < rules.players
+      → got (game.nodes q) p ≤ ran (game.nodes q) + 10
   -- it has no command that was not made, and at most ten that were made are missing
   pub held : (q p : ℕ) → q < rules.players → p < rules.players → got (game.nodes q) p ≤ made p (game.nodes p)
   pub unheard : (q p : ℕ) → q < rules.players → p < rules.players → is_ended (game.nodes q).phase ≡ false
@@ -86,7 +93,9 @@ pub record Steady {S : Type 0} (rules : Rules S) (game : Game) : Type 0 where
   -- no consistency check failed
   pub consistent : (q : ℕ) (player : ℕ) (was should : ℤ) → q < rules.players
       → (game.nodes q).phase ≢ Ended (Cause.Inconsistent player was should)
-  -- a packet whose delivery is not refused is dropped only as set-up out of place, or by a node that does not play
+  -- a packet whose delivery is not refused is dropped only as set-up out of place, or by a node that does not
+  -- play
   pub kept : (which : ℕ) (flight : Flight) (number : ℕ) → slice_get game.flights which ≡ Some flight
       → refused_flight game (Some flight) ≡ None
-      → (on_packet rules flight.to (game.nodes flight.to) flight).1 ≡ Dropped number → (number ≡ 6) ⊎ (number ≡ 13)
+      → (on_packet rules flight.to (game.nodes flight.to) flight).1 ≡ Dropped number
+      → (number ≡ drops.out_of_place) ⊎ (number ≡ drops.not_playing)

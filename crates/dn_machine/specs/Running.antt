@@ -7,14 +7,14 @@ use Rattle.dn_machine.specs.declared.answers.Phase.{Phase}
 use Rattle.dn_machine.specs.declared.answers.Phase.TheVariants.{Listening, Gathering, Playing, Ended}
 use Rattle.dn_machine.specs.declared.answers.Ran.{Ran}
 use Rattle.dn_machine.specs.Worlds.{Rules, row_of}
-use Rattle.dn_machine.specs.Node.{Node, got, ran, held_at, own_mark, lowest, is_whole}
+use Rattle.dn_machine.specs.Node.{Node, ends_of, got, ran, held_at, own_mark, lowest, is_whole}
 
--- a node runs at most so many tics; while nobody has left, its demo is full before
+-- the most tics that a node runs; while nobody has left, its demo is full before
 abbrev pub tic_limit : ℕ
 tic_limit = 2097150
 
--- the tic at which a node ends instead of running this row: a whole row needs room in the demo; a row that lacks a player
--- goes into no demo, and only the limit of tics stops it
+-- the tic at which a node ends instead of running this row: a whole row needs room in the demo; a row that
+-- lacks a player goes into no demo, and only the limit of tics stops it
 abbrev pub full_at : {S : Type 0} → Rules S → List (Option Move) → ℕ
 full_at rules row = if is_whole rules.players row then rules.capacity else tic_limit
 
@@ -25,7 +25,7 @@ is_over (Some end) tic = nat_le end tic
 
 -- the next tic is not before the player's known end, so it is run without the player
 abbrev pub is_absent : Node → ℕ → Bool
-is_absent node player = is_over (node.ends player) (ran node)
+is_absent node player = is_over (ends_of node player) (ran node)
 
 -- a present player's command for the next tic is not there yet
 abbrev pub is_awaited : Node → ℕ → Bool
@@ -34,7 +34,8 @@ is_awaited node player = not (is_absent node player) && nat_le (got node player)
 -- a present player's command for the next tic carries another mark than the node's own world has
 abbrev pub is_off : {S : Type 0} → Rules S → Node → ℕ → Bool
 is_off rules node player =
-    not (is_absent node player) && not (int_eq (held_at node player (ran node)).mark (own_mark rules node player (ran node)))
+    not (is_absent node player) && not (int_eq (held_at node player (ran node)).mark
+    (own_mark rules node player (ran node)))
 
 -- the player whose mark is off in the next tic; none is looked at up to tic 12
 abbrev pub first_off : {S : Type 0} → Rules S → Node → Option ℕ
@@ -43,7 +44,8 @@ first_off rules node = if nat_lt 12 (ran node) then lowest rules.players (is_off
 -- the row of the commands that a node has of the present players for the next tic
 abbrev pub row_held : {S : Type 0} → Rules S → Node → List (Option Move)
 row_held rules node =
-    row_of rules.players (λ player. if is_absent node player then None else Some (held_at node player (ran node)))
+    row_of rules.players (λ player. if is_absent node player then None
+    else Some (held_at node player (ran node)))
 
 -- a playing node runs a tic, by the player that it waits for and the player whose mark is off
 abbrev pub on_run_playing : {S : Type 0} → Rules S → Node → Option ℕ → Option ℕ → Node × Ran
@@ -59,7 +61,8 @@ on_run_playing rules node None None =
 
 -- a node is asked to run a tic, in this phase
 abbrev pub on_run_in : {S : Type 0} → Rules S → Node → Phase → Node × Ran
-on_run_in rules node Playing = on_run_playing rules node (lowest rules.players (is_awaited node)) (first_off rules node)
+on_run_in rules node Playing = on_run_playing rules node (lowest rules.players (is_awaited node))
+    (first_off rules node)
 on_run_in rules node Listening = (node, Ran.NotPlaying)
 on_run_in rules node Gathering = (node, Ran.NotPlaying)
 on_run_in rules node (Ended cause) = (node, Ran.NotPlaying)

@@ -16,28 +16,36 @@ one_of_one : {X : Type 0} (x y : X) (i : ℕ) → slice_get (x ∷ []) i ≡ Som
 one_of_one x y zero h = same_Some x y h
 one_of_one x y (suc i) h = absurd (cc)
 
-pub alone : {W S : Type 0} (state : W → S) (physics : Physics S) (nodes : List (Node W)) (node : Node W) (seat : Seat)
+pub alone : {W S : Type 0} (state : W → S) (physics : Physics S) (nodes : List (Node W)) (node : Node W)
+    (seat : Seat)
     → nodes ≡ node ∷ [] → Represents state (rules_at physics seat) seat.me (contents node) seat.node
     → AreSeated state physics nodes (λ place. seat)
 alone {W} {S} state physics nodes node seat one is i n there =
     let Q : Node W → Type 0 = λ y. Represents state (rules_at physics seat) seat.me (contents y) seat.node in
     subst Q (one_of_one node n i (ap (λ (ns : List (Node W)). slice_get ns i) (sym one) ∙ there)) is
 
-pub unbound : (config : Config) (base seed count : ℕ) (raw : Bool) → IsPlay config base seed count raw (codes "socket fault\n") 3
+pub unbound : (config : Config) (base seed count : ℕ) (raw : Bool)
+    → IsPlay config base seed count raw (codes "socket fault\n") 3
 unbound config base seed count raw = inl (refl, refl)
 
-pub played_raw : (config : Config) (base seed count : ℕ) (raw : Bool) (found : Option (Node Spots)) (node : Node Spots)
+pub played_raw : (config : Config) (base seed count : ℕ) (raw : Bool) (found : Option (Node Spots))
+    (node : Node Spots)
     → found ≡ Some node → IfSome found (λ n. HasEverPlayed config base seed count (contents n)) → raw ≡ true
     → IsPlay config base seed count raw (contents node).demo.bytes 0
 played_raw config base seed count raw found node is played on =
-    let P : Option (Node Spots) → Type 0 = λ o. IfSome o (λ n. HasEverPlayed config base seed count (contents n)) in
-    let Q : Bool → Type 0 = λ b. (contents node).demo.bytes ≡ (if b then (contents node).demo.bytes else node_line (contents node) false) in
+    let P : Option (Node Spots) → Type 0 =
+    λ o. IfSome o (λ n. HasEverPlayed config base seed count (contents n)) in
+    let Q : Bool → Type 0 = λ b. (contents node).demo.bytes
+    ≡ (if b then (contents node).demo.bytes else node_line (contents node) false) in
     inr (contents node, subst P is played, subst Q (sym on) refl, refl)
 
-pub played_line : (config : Config) (base seed count : ℕ) (raw : Bool) (found : Option (Node Spots)) (node : Node Spots)
+pub played_line : (config : Config) (base seed count : ℕ) (raw : Bool) (found : Option (Node Spots))
+    (node : Node Spots)
     → found ≡ Some node → IfSome found (λ n. HasEverPlayed config base seed count (contents n)) → raw ≡ false
     → IsPlay config base seed count raw (node_line (contents node) false) 0
 played_line config base seed count raw found node is played off =
-    let P : Option (Node Spots) → Type 0 = λ o. IfSome o (λ n. HasEverPlayed config base seed count (contents n)) in
-    let Q : Bool → Type 0 = λ b. node_line (contents node) false ≡ (if b then (contents node).demo.bytes else node_line (contents node) false) in
+    let P : Option (Node Spots) → Type 0 =
+    λ o. IfSome o (λ n. HasEverPlayed config base seed count (contents n)) in
+    let Q : Bool → Type 0 = λ b. node_line (contents node) false
+    ≡ (if b then (contents node).demo.bytes else node_line (contents node) false) in
     inr (contents node, subst P is played, subst Q (sym off) refl, refl)

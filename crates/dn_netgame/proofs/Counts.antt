@@ -10,12 +10,14 @@ use Rattle.dn_netgame.specs.NodeLines.{counts_from}
 -- the count of the first player, and those of the others
 counts_step : (player players : ℕ) (rings : ℕ → Ring) → player < players
     → counts_from player (players - player) rings
-    ≡ codes " " ++ (signed_decimal (pos (count_of rings player)) ++ counts_from (player + 1) (players - (player + 1)) rings)
+    ≡ codes " " ++ (signed_decimal (pos (count_of rings player)) ++ counts_from (player + 1)
+    (players - (player + 1)) rings)
 counts_step player players rings h =
     let e : players - player ≡ suc (players - (player + 1)) = omega arith in rw e refl
 
 -- the count that a node tells, and that there is one
-counted_if : (b : Bool) (held count : ℕ) → Some count ≡ (if b then Some held else None) → (b ≡ true) × (count ≡ held)
+counted_if : (b : Bool) (held count : ℕ) → Some count ≡ (if b then Some held else None)
+    → (b ≡ true) × (count ≡ held)
 counted_if true held count h = (refl, cc)
 counted_if false held count h = absurd (cc)
 

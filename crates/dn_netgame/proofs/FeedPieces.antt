@@ -9,10 +9,13 @@ use Rattle.dn_demo.specs.Feeding.{Feeding, Shows, Takes}
 use Rattle.dn_netgame.specs.Transfer.{TakesUpTo}
 
 -- a front of what was read is fed
-pub fed_more : {S W : Type 0} (state : W → S) (physics : Physics S) (f g : Feeding W) (xs buffer tail : List ℕ) (n : ℕ) → n ≤ length buffer
-    → Shows state physics xs f → Takes state physics f (take n (buffer ++ tail)) g → Shows state physics (xs ++ take n buffer) g
+pub fed_more : {S W : Type 0} (state : W → S) (physics : Physics S) (f g : Feeding W)
+    (xs buffer tail : List ℕ) (n : ℕ) → n ≤ length buffer
+    → Shows state physics xs f → Takes state physics f (take n (buffer ++ tail)) g
+    → Shows state physics (xs ++ take n buffer) g
 fed_more state physics f g xs buffer tail n fits shown takes =
-    subst (λ (ys : List ℕ). Shows state physics (xs ++ ys) g) (take-append-le n buffer tail fits) (takes xs shown)
+    subst (λ (ys : List ℕ). Shows state physics (xs ++ ys) g) (take-append-le n buffer tail fits)
+    (takes xs shown)
 
 -- all of a list is its front
 take_long : (n : ℕ) (xs : List ℕ) → length xs ≤ n → take n xs ≡ xs
@@ -24,7 +27,8 @@ all_taken : (n : ℕ) (xs : List ℕ) → length (take n xs) < n → take n xs �
 all_taken n xs short = take_long n xs (omega (arith, length-take n xs, short))
 
 -- an input that ended
-whole_of : (old mid new : Option (List ℕ)) (xs ys : List ℕ) (n limit : ℕ) → length xs + n ≤ limit → Consumes old mid xs → TakesUpTo n mid new ys
+whole_of : (old mid new : Option (List ℕ)) (xs ys : List ℕ) (n limit : ℕ) → length xs + n ≤ limit
+    → Consumes old mid xs → TakesUpTo n mid new ys
     → length ys < n → IfSome old (λ all. xs ++ ys ≡ take limit all)
 whole_of None mid new xs ys n limit room p q short = tt
 whole_of (Some all) None new xs ys n limit room p q short = absurd p
@@ -33,7 +37,8 @@ whole_of (Some all) (Some rest) new xs ys n limit room p q short =
     let same : xs ++ ys ≡ all = ap (λ (t : List ℕ). xs ++ t) (q.whole ∙ part) ∙ sym p in
     same ∙ sym (take_long limit all (omega (arith, ap length same, length-append xs ys, room, short)))
 
-pub up_to_more : (old mid new : Option (List ℕ)) (xs ys : List ℕ) (n limit : ℕ) → length xs + n ≤ limit → Consumes old mid xs → TakesUpTo n mid new ys
+pub up_to_more : (old mid new : Option (List ℕ)) (xs ys : List ℕ) (n limit : ℕ) → length xs + n ≤ limit
+    → Consumes old mid xs → TakesUpTo n mid new ys
     → length ys < n → TakesUpTo limit old new (xs ++ ys)
 up_to_more old mid new xs ys n limit room p q short =
     record {
@@ -43,11 +48,14 @@ up_to_more old mid new xs ys n limit room p q short =
     }
 
 -- an input of which enough came
-full_of : (old new : Option (List ℕ)) (xs : List ℕ) (limit : ℕ) → length xs ≡ limit → Consumes old new xs → IfSome old (λ all. xs ≡ take limit all)
+full_of : (old new : Option (List ℕ)) (xs : List ℕ) (limit : ℕ) → length xs ≡ limit → Consumes old new xs
+    → IfSome old (λ all. xs ≡ take limit all)
 full_of None new xs limit full p = tt
 full_of (Some all) None xs limit full p = absurd p
 full_of (Some all) (Some rest) xs limit full p =
     sym (take-append_seam xs rest) ∙ ap (λ n. take n (xs ++ rest)) full ∙ ap (take limit) (sym p)
 
-pub up_to_full : (old new : Option (List ℕ)) (xs : List ℕ) (limit : ℕ) → length xs ≡ limit → Consumes old new xs → TakesUpTo limit old new xs
-up_to_full old new xs limit full p = record { taken = p; within = omega (arith, full); whole = full_of old new xs limit full p }
+pub up_to_full : (old new : Option (List ℕ)) (xs : List ℕ) (limit : ℕ) → length xs ≡ limit
+    → Consumes old new xs → TakesUpTo limit old new xs
+up_to_full old new xs limit full p =
+    record { taken = p; within = omega (arith, full); whole = full_of old new xs limit full p }

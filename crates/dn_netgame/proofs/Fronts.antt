@@ -11,4 +11,12 @@ pub datagram_front : (i i' o o' : Option (List ℕ)) (bytes : List ℕ) (read : 
     → TakesUpTo datagram_limit i i' bytes → IsReadAs bytes read → AppendsFront o o' (lines_of read)
     → ShowsFront datagram_limit IsDatagram i i' o o'
 datagram_front i i' o o' bytes read t r w =
-    record { bytes = bytes; lines = lines_of read; status = status_of read; taken = t; shown = (read, r, refl, refl); written = w }
+    record {
+      bytes = bytes;
+      lines = lines_of read;
+      status = status_of read;
+      taken = t;
+      shown =
+          (read, r, refl, refl);
+      written = w;
+    }

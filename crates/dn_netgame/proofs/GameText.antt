@@ -9,8 +9,10 @@ use Rattle.dn_game.specs.declared.played.Played.{Played}
 use Rattle.dn_netgame.specs.GameLines.{game_lines, IsGameShown}
 
 -- the text of a game that came about so is shown for it
-pub game_text : {E : Type 0} (text : Result (String Global) E) (CameAbout : Played Spots → Type 0) (played : Played Spots) → CameAbout played
-    → IfOk text (λ t. string_bytes t ≡ game_lines played) → IfOk text (λ t. IsGameShown CameAbout (string_bytes t) 0)
+pub game_text : {E : Type 0} (text : Result (String Global) E) (CameAbout : Played Spots → Type 0)
+    (played : Played Spots) → CameAbout played
+    → IfOk text (λ t. string_bytes t ≡ game_lines played)
+    → IfOk text (λ t. IsGameShown CameAbout (string_bytes t) 0)
 game_text text CameAbout played came told =
     IfOk-weaker text (λ t. string_bytes t ≡ game_lines played) (λ t. IsGameShown CameAbout (string_bytes t) 0)
     (λ t lines. (played, came, lines, refl)) told

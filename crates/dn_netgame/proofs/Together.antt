@@ -10,7 +10,8 @@ use Rattle.dn_game.specs.Opening.{rules_in}
 use Rattle.dn_netgame.specs.LoopLines.{new_seats, IsLoop}
 
 -- nodes of no history are in the seats of new ones
-pub together : {W S : Type 0} (state : W → S) (physics : Physics S) (config : GameConfig) (players worlds : ℕ) (nodes : List (Node W))
+pub together : {W S : Type 0} (state : W → S) (physics : Physics S) (config : GameConfig) (players worlds : ℕ)
+    (nodes : List (Node W))
     → worlds ≡ players → AreFresh state (rules_in physics config worlds) config.settings nodes
     → AreSeated state physics nodes (new_seats config players)
 together {W} {S} state physics config players worlds nodes same fresh =
@@ -18,10 +19,12 @@ together {W} {S} state physics config players worlds nodes same fresh =
     let here : P worlds = λ i n there. fresh i n there in
     subst P same here
 
-pub unbound : (config : GameConfig) (players base seed count : ℕ) → IsLoop config players base seed count (codes "socket fault\n") 3
+pub unbound : (config : GameConfig) (players base seed count : ℕ)
+    → IsLoop config players base seed count (codes "socket fault\n") 3
 unbound config players base seed count = inl (refl, refl)
 
-pub played : (config : GameConfig) (players base seed count : ℕ) {A : Type 0} (bytes : A → List ℕ) (found : Option A) (text : A)
+pub played : (config : GameConfig) (players base seed count : ℕ) {A : Type 0} (bytes : A → List ℕ)
+    (found : Option A) (text : A)
     → found ≡ Some text → IfSome found (λ t. IsLoop config players base seed count (bytes t) 0)
     → IsLoop config players base seed count (bytes text) 0
 played config players base seed count {A} bytes found text is all =

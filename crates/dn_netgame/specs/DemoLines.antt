@@ -33,7 +33,8 @@ header_fields version start view = labelled (
 -- the line of a demo's header
 abbrev pub header_line : ℕ → Start → ℕ → List Bool → List ℕ
 header_line version start view present =
-    header_fields version start view ++ (codes " players" ++ (labelled (players_present 0 present) ++ codes "\n"))
+    header_fields version start
+    view ++ (codes " players" ++ (labelled (players_present 0 present) ++ codes "\n"))
 
 -- the line of how much a demo has
 unfoldable pub size_line : (tics cut after : ℕ) → List ℕ
@@ -65,13 +66,15 @@ player_lines spots = flat_map (λ player. seat_line player (spot_at spots player
 -- the lines of a demo, with the players where they are once all of it was played
 abbrev pub demo_lines : Recording → List ℕ
 demo_lines d =
-    header_line d.version d.start d.view d.present ++ (size_line (length d.rows) d.cut d.after ++ player_lines (state_after walking d))
+    header_line d.version d.start d.view d.present
+    ++ (size_line (length d.rows) d.cut d.after ++ player_lines (state_after walking d))
 
 -- the lines of a demo that was fed, and played as it came
 abbrev pub fed_lines : Fed Spots → List ℕ
-fed_lines d = header_line d.version d.start d.view d.present ++ (size_line d.tics d.cut d.after ++ player_lines d.world)
+fed_lines d = header_line d.version d.start d.view d.present
+    ++ (size_line d.tics d.cut d.after ++ player_lines d.world)
 
--- the line of a fault; there is none for want of memory
+-- the line of a fault; there is none for `Memory`
 abbrev pub IsFaultLine : DemoFault → List ℕ → Type 0
 IsFaultLine Short line = line ≡ codes "demo: short\n"
 IsFaultLine Version line = line ≡ codes "demo: version\n"
@@ -79,7 +82,7 @@ IsFaultLine NoPlayers line = line ≡ codes "demo: no players\n"
 IsFaultLine NoMarker line = line ≡ codes "demo: no marker\n"
 IsFaultLine Memory line = ⊥
 
--- a demo has at most so many bytes
+-- the most bytes of a demo
 abbrev pub demo_limit : ℕ
 demo_limit = 33554432
 
@@ -91,12 +94,15 @@ IsGiven bytes demo = (length bytes ≤ demo_limit) × IsReadAs bytes (Ok demo)
 abbrev pub IsRefused : List ℕ → List ℕ → Type 0
 IsRefused bytes line =
     ((demo_limit < length bytes) × (line ≡ codes "demo: too long\n"))
-    ⊎ ((length bytes ≤ demo_limit) × ((fault : DemoFault) × IsReadAs bytes (Err fault) × IsFaultLine fault line))
+    ⊎ ((length bytes ≤ demo_limit)
+    × ((fault : DemoFault) × IsReadAs bytes (Err fault) × IsFaultLine fault line))
 
--- what is written for these bytes, and the exit status: what is said of the demo, or else a refusal, with status 1
+-- what is written for these bytes, and the exit status: what is said of the demo, or else a refusal, with
+-- status 1
 abbrev pub IsWritten : (Recording → List ℕ → ℕ → Type 0) → List ℕ → List ℕ → ℕ → Type 0
 IsWritten IsSaid bytes text status =
-    ((demo : Recording) × IsGiven bytes demo × IsSaid demo text status) ⊎ (IsRefused bytes text × (status ≡ 1))
+    ((demo : Recording) × IsGiven bytes demo × IsSaid demo text status)
+    ⊎ (IsRefused bytes text × (status ≡ 1))
 
 -- the lines and the exit status are those of the demo, or of a refusal
 abbrev pub IsDemo : List ℕ → List ℕ → ℕ → Type 0

@@ -28,4 +28,5 @@ game_lines p = node_lines (contents p.game).stopped 0 (contents p.game).nodes ++
 
 -- the lines and the exit status are those of a game of walks that came about so
 abbrev pub IsGameShown : (Played Spots → Type 0) → List ℕ → ℕ → Type 0
-IsGameShown CameAbout lines status = (played : Played Spots) × CameAbout played × (lines ≡ game_lines played) × (status ≡ 0)
+IsGameShown CameAbout lines status = (played : Played Spots) × CameAbout played × (lines ≡ game_lines played)
+    × (status ≡ 0)

@@ -13,13 +13,15 @@ use Rattle.dn_netgame.specs.NetLines.{new_ports, new_seat}
 abbrev pub new_seats : GameConfig → ℕ → ℕ → Seat
 new_seats config players place = new_seat (config_of config players place) config.settings
 
--- nodes that have played so many rounds with each other, all over ports that are bound here, from their beginning on
-pub record HavePlayed (config : GameConfig) (players base seed count : ℕ) (nodes : List (Node Spots)) : Type 0 where
-  pub last : Table Ports
-  pub rounds : TakeRounds UdpSends UdpPolls walking seed players count
-      (new_seats config players, new_ports base 0 (players - 1) players) last
-  pub seated : AreSeated (λ spots. spots) walking nodes last.0
-  pub each : length nodes ≡ players
+-- nodes that have played `count` rounds with each other, all over ports that are bound here, from their
+-- beginning on
+pub record HavePlayed (config : GameConfig) (players base seed count : ℕ) (nodes : List (Node Spots)) : Type 0
+  where
+    pub last : Table Ports
+    pub rounds : TakeRounds UdpSends UdpPolls walking seed players count
+        (new_seats config players, new_ports base 0 (players - 1) players) last
+    pub seated : AreSeated (λ spots. spots) walking nodes last.0
+    pub each : length nodes ≡ players
 
 -- the output and the exit status are those of such nodes, or tell that a socket cannot be bound
 abbrev pub IsLoop : GameConfig → (players base seed count : ℕ) → List ℕ → ℕ → Type 0

@@ -18,25 +18,36 @@ use Rattle.dn_netgame.specs.NodeLines.{node_line}
 
 -- ports of players that are bound here, and no call has failed
 abbrev pub new_ports : (base first last players : ℕ) → Ports
-new_ports base first last players = record { base = base; first = first; last = last; players = players; failed = 0 }
+new_ports base first last players =
+    record { base = base; first = first; last = last; players = players; failed = 0 }
 
 -- the seat of a new node
 abbrev pub new_seat : Config → Settings → Seat
 new_seat config settings =
-    record { players = config.players; extra = config.extra; capacity = capacity config.limit config.players; me = config.me; node = fresh settings config.me }
+    record {
+      players = config.players;
+      extra = config.extra;
+      capacity =
+          capacity config.limit config.players;
+      me = config.me;
+      node = fresh settings config.me;
+    }
 
 -- the node at a place quits
 abbrev pub with_quit : {L : Type 0} → ℕ → Table L → Table L
-with_quit place table = (put table.0 place (record (table.0 place) { node = (on_quit (table.0 place).node).0 }), table.1)
+with_quit place table =
+    (put table.0 place (record (table.0 place) { node = (on_quit (table.0 place).node).0 }), table.1)
 
--- so many rounds of one node, which then quits, and four rounds more
-pub record PlaysOut {S L : Type 0} (sends : Sends L) (polls : Polls L) (physics : Physics S) (seed count : ℕ) (old new : Table L) : Type 0 where
+-- `count` rounds of one node, which then quits, and four rounds more
+pub record PlaysOut {S L : Type 0} (sends : Sends L) (polls : Polls L) (physics : Physics S) (seed count : ℕ)
+    (old new : Table L) : Type 0 where
   pub mid : Table L
   pub rounds : TakeRounds sends polls physics seed 1 count old mid
   pub farewells : TakeRounds sends polls physics seed 1 4 (with_quit 0 mid) new
 
 -- a node that has played so from its beginning on
-pub record HasPlayed (config : Config) (settings : Settings) (base seed count : ℕ) (n : Contents Spots) : Type 0 where
+pub record HasPlayed (config : Config) (settings : Settings) (base seed count : ℕ)
+    (n : Contents Spots) : Type 0 where
   pub last : Table Ports
   pub plays : PlaysOut UdpSends UdpPolls walking seed count
       (λ place. new_seat config settings, new_ports base config.me config.me config.players) last
@@ -45,7 +56,8 @@ pub record HasPlayed (config : Config) (settings : Settings) (base seed count : 
 -- whatever settings are taken where there are none, since only player 0 has some
 abbrev pub HasEverPlayed : Config → (base seed count : ℕ) → Contents Spots → Type 0
 HasEverPlayed config base seed count n =
-    (settings : Settings) → (config.me ≡ 0 → config.settings ≡ Some settings) → HasPlayed config settings base seed count n
+    (settings : Settings) → (config.me ≡ 0 → config.settings ≡ Some settings)
+    → HasPlayed config settings base seed count n
 
 -- the output and the exit status are those of such a node, or tell that the socket cannot be bound
 abbrev pub IsPlay : Config → (base seed count : ℕ) → Bool → List ℕ → ℕ → Type 0

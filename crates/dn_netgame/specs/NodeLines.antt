@@ -16,11 +16,13 @@ phase_text Gathering = codes "gathering"
 phase_text Playing = codes "playing"
 phase_text (Ended Quit) = codes "ended quit"
 phase_text (Ended Full) = codes "ended full"
-phase_text (Ended (Inconsistent player was should)) = labelled ((codes "ended inconsistent ", pos player) ∷ [])
+phase_text (Ended (Inconsistent player was should)) =
+    labelled ((codes "ended inconsistent ", pos player) ∷ [])
 
--- how many commands a node has of each of so many players, from this one on
+-- how many commands a node has of each player, for this many players from this one on
 abbrev pub counts_from : ℕ → ℕ → (ℕ → Ring) → List ℕ
-counts_from player more rings = labelled (map (λ p. (codes " ", pos (count_of rings p))) (range_with_len player more))
+counts_from player more rings =
+    labelled (map (λ p. (codes " ", pos (count_of rings p))) (range_with_len player more))
 
 -- how many commands a node has of each player
 abbrev pub counts : ℕ → (ℕ → Ring) → List ℕ

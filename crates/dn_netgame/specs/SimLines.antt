@@ -12,7 +12,7 @@ use Rattle.dn_game.specs.Script.{IsReadAs}
 use Rattle.dn_netgame.specs.Fields.{labelled}
 use Rattle.dn_netgame.specs.GameLines.{IsGameShown}
 
--- a game of so many players, who walk, has played these events
+-- a game of this many walkers has played these events
 abbrev pub WalksBy : GameConfig → ℕ → List Event → Played Spots → Type 0
 WalksBy config players events played =
     IsPlayed (λ spots. spots) (rules_in walking config players) config.settings events played
@@ -21,14 +21,24 @@ WalksBy config players events played =
 unfoldable pub bad_line : ℕ → List ℕ
 bad_line number = labelled ((codes "script: line ", pos number) ∷ []) ++ codes "\n"
 
--- the lines and the exit status for what a text is read as; there are none for want of memory
-abbrev pub IsScriptShown : GameConfig → ℕ → Result (List Event) ScriptFault → List ℕ → ℕ → Type 0
-IsScriptShown config players (Ok events) lines status = IsGameShown (WalksBy config players events) lines status
-IsScriptShown config players (Err TooLong) lines status = (lines ≡ codes "script: too long\n") × (status ≡ 1)
-IsScriptShown config players (Err (Line number)) lines status = (lines ≡ bad_line number) × (status ≡ 1)
-IsScriptShown config players (Err Memory) lines status = ⊥
+-- the line and the exit status for a text that is no script; there is none for `Memory`
+abbrev pub IsFaultShown : ScriptFault → List ℕ → ℕ → Type 0
+IsFaultShown TooLong lines status = (lines ≡ codes "script: too long\n") × (status ≡ 1)
+IsFaultShown (Line number) lines status = (lines ≡ bad_line number) × (status ≡ 1)
+IsFaultShown Memory lines status = ⊥
+
+-- the lines and the exit status for what a text is read as, where those of events are shown so
+abbrev pub IsScriptShownBy : (List Event → List ℕ → ℕ → Type 0) → Result (List Event) ScriptFault → List ℕ → ℕ
+    → Type 0
+IsScriptShownBy AreShown (Ok events) lines status = AreShown events lines status
+IsScriptShownBy AreShown (Err fault) lines status = IsFaultShown fault lines status
+
+-- the lines and the exit status are those of a game of walks that has played these events
+abbrev pub ArePlayed : GameConfig → ℕ → List Event → List ℕ → ℕ → Type 0
+ArePlayed config players events lines status = IsGameShown (WalksBy config players events) lines status
 
 -- the lines and the exit status are those of what the bytes are read as
 abbrev pub IsSim : GameConfig → ℕ → List ℕ → List ℕ → ℕ → Type 0
 IsSim config players bytes lines status =
-    (read : Result (List Event) ScriptFault) × IsReadAs bytes read × IsScriptShown config players read lines status
+    (read : Result (List Event) ScriptFault) × IsReadAs bytes read
+    × IsScriptShownBy (ArePlayed config players) read lines status

@@ -1,18 +1,19 @@
 //! A storm and the calm after it: the lines of a game whose packets come to arrive.
 
-ghost use Rattle.std.specs.Prelude.{◌≡◌, ◌≢◌, Err, IfOk, IfErr};
+ghost use Rattle.std.specs.Prelude.{◌≡◌, ◌≢◌, Err, IfOk, IfErr, OnOk};
 ghost use Rattle.std.specs.String.{string_bytes};
 ghost use Rattle.dn_demo.specs.Recorded.{IsLimit};
 ghost use Rattle.dn_lockstep.specs.Opening.{IsGame};
-ghost use Rattle.dn_netgame.specs.CalmLines.{no_keys, IsCalm};
+ghost use Rattle.dn_netgame.specs.CalmLines.{no_keys, Calms, IsCalm};
 ghost use Rattle.dn_netgame.specs.Shown.{Prints, PrintsFront};
 ghost use Rattle.dn_netgame.specs.declared.fault.RunFault.{RunFault};
 
 use crate::fault::RunFault;
-use crate::games::{new_walks, text_of_game};
+use crate::games::{storm_walks, text_of_game};
 use crate::transfer::put;
-use dn_game::{GameConfig, GameFault, storm};
+use dn_game::{GameConfig, Nobody, Played};
 use dn_tic::Keys;
+use dn_world::Walk;
 use std::alloc::{AllocError, Global};
 use std::io::Write;
 
@@ -22,6 +23,16 @@ fn no_keys() -> [Keys; 4]
 {
     let none = Keys::from_bits(0);
     [none, none, none, none]
+}
+
+/// Plays `calm` rounds in which every packet arrives and nobody presses a key.
+pub(crate) fn calm_down(played: &mut Played<Walk>, calm: u32) -> Result<(), AllocError>
+    ensures { OnOk result (Calms calm played.old played.new) }
+{
+    match played.game.good_rounds(no_keys(), calm) {
+        Ok(()) => Ok(()),
+        Err(_) => Err(AllocError),
+    }
 }
 
 /// The lines of a game of Walks after `count` events of the seed's schedule and `calm` rounds in which
@@ -38,15 +49,9 @@ fn text_of(
     requires limit { IsLimit config.limit }
     ensures { IfOk result (λ text. IsCalm config players seed count calm (string_bytes text) 0) }
 {
-    let walks = new_walks(alloc, players)?;
-    match storm(alloc, config, walks, seed, count) {
-        Ok(mut played) => match played.game.good_rounds(no_keys(), calm) {
-            Ok(()) => text_of_game(alloc, &played),
-            Err(_) => Err(AllocError),
-        },
-        Err(GameFault::Memory) => Err(AllocError),
-        Err(GameFault::Players | GameFault::Limit) => unreachable!(),
-    }
+    let mut played = storm_walks(alloc, config, players, seed, count, &mut Nobody)?;
+    calm_down(&mut played, calm)?;
+    text_of_game(alloc, &played)
 }
 
 /// Plays `count` events of the seed's schedule in a game of `players` new Walks, then `calm` rounds in
@@ -55,7 +60,7 @@ fn text_of(
 /// always 0.
 ///
 /// A write that fails or takes no bytes is the fault `Write`, and `Memory` is answered where memory
-/// for the game, a packet of the rounds or the lines was refused. Each ends the run at once. A packet
+/// for the game, a packet of the rounds or the lines was refused. Each ends the run there. A packet
 /// of the storm that found no room is no fault: its event counts as refused.
 pub fn run_calm<W: Write>(
     alloc: Global,
@@ -75,8 +80,9 @@ pub fn run_calm<W: Write>(
 
     // A write fault comes before the last byte of the lines is written.
     ensures write { result ≡ Err RunFault.Write
-        → PrintsFront (IsCalm config players seed count calm) (W.contents output.old) (W.contents output.new) }
-    // The only other fault is want of memory, which leaves the output as it was.
+        → PrintsFront (IsCalm config players seed count calm) (W.contents output.old)
+        (W.contents output.new) }
+    // The only other fault is `Memory`, which leaves the output as it was.
     ensures fault { IfErr result (λ fault. fault ≢ RunFault.Read) }
     ensures unwritten { result ≡ Err RunFault.Memory → output.new ≡ output.old }
 {

@@ -37,7 +37,8 @@ fn push_present(text: &mut String, present: [bool; 4]) -> Result<(), AllocError>
 /// The end of the first line, which names the players who are present.
 fn push_players(text: &mut String, present: [bool; 4]) -> Result<(), AllocError>
     ensures { OnOk result (string_bytes text.new
-        ≡ string_bytes text.old ++ (codes " players" ++ (labelled (players_present 0 present) ++ codes "\n"))) }
+        ≡ string_bytes text.old ++ (codes " players"
+        ++ (labelled (players_present 0 present) ++ codes "\n"))) }
 {
     text.push_str(" players")?;
     push_present(text, present)?;
@@ -46,7 +47,8 @@ fn push_players(text: &mut String, present: [bool; 4]) -> Result<(), AllocError>
 
 #[tactic(auto, unfolding(crate::specs::DemoLines::header_fields))]
 fn push_header(text: &mut String, version: u8, start: &Start, view: u8) -> Result<(), AllocError>
-    ensures { OnOk result (string_bytes text.new ≡ string_bytes text.old ++ header_fields version start.now view) }
+    ensures { OnOk result (string_bytes text.new ≡ string_bytes text.old ++ header_fields version start.now
+        view) }
 {
     let fields = [
         ("version ", version as i128),
@@ -126,7 +128,8 @@ fn text_of_demo(alloc: Global, fed: &Fed<Walk>) -> Result<String, AllocError>
 
 /// The lines of what the bytes of a feed are read as, and the exit status.
 pub(crate) fn text_of(alloc: Global, feed: Feed<Walk>) -> Result<(String, u8), RunFault>
-    ensures shown { IfOk result (λ shown. (bytes : List ℕ) → Shows (λ w. w) walking bytes feed → IsDemo bytes (string_bytes shown.0) shown.1) }
+    ensures shown { IfOk result (λ shown. (bytes : List ℕ) → Shows (λ w. w) walking bytes feed
+        → IsDemo bytes (string_bytes shown.0) shown.1) }
     ensures fault { IfErr result (λ fault. fault ≡ RunFault.Memory) }
 {
     match fed_demo(feed) {
@@ -135,12 +138,11 @@ pub(crate) fn text_of(alloc: Global, feed: Feed<Walk>) -> Result<(String, u8), R
     }
 }
 
-/// Reads a demo of at most 33,554,432 bytes, plays it as it comes, and writes its lines. The answer is the exit
-/// status: 0 for a demo, 1 for bytes that are none.
+/// Reads a demo of at most 33,554,432 bytes, plays it as it comes, and writes its lines. The answer is the
+/// exit status: 0 for a demo, 1 for bytes that are none.
 ///
-/// A read that fails is the fault `Read`, a write that fails or takes no bytes is `Write`, and
-/// `Memory` is answered where memory for the lines was refused. Each ends the run at
-/// once.
+/// A read that fails is the fault `Read`, a write that fails or takes no bytes is `Write`, and `Memory` is
+/// answered where memory for the lines was refused. Each ends the run there.
 pub fn run_demo<R: Read, W: Write>(
     alloc: Global,
     input: &mut R,

@@ -16,10 +16,10 @@ use dn_demo::{Fed, Feed};
 use dn_world::Walk;
 use std::io::Read;
 
-/// So many bytes are read before they are fed.
+/// How many bytes are read before they are fed.
 pub(crate) const PIECE: usize = 4096;
 
-/// So many bytes are read of an input: one more than a demo may have.
+/// The most bytes that are read of an input: one more than a demo may have.
 pub(crate) const ENOUGH: u64 = INPUT_LIMIT as u64 + 1;
 
 /// Reads until more bytes came than a demo may have or the input ends, and plays what comes.

@@ -6,7 +6,7 @@ ghost use Rattle.dn_netgame.specs.DemoLines.{IsFaultLine, IsGiven, IsRefused};
 
 use dn_demo::{Demo, DemoFault, FeedFault};
 
-/// A demo that is read has at most so many bytes.
+/// The most bytes of a demo that is read.
 pub(crate) const INPUT_LIMIT: usize = 33_554_432;
 
 /// The line of an input that has more.

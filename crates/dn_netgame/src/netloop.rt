@@ -53,7 +53,7 @@ fn text_of<W: World>(alloc: Global, nodes: &[Node<W>]) -> Result<String, AllocEr
     Ok(text)
 }
 
-/// So many rounds of nodes, and then their lines.
+/// Plays `count` rounds of the nodes, and answers their lines.
 fn play_rounds<W: World, L: Line>(
     alloc: Global,
     nodes: &mut [Node<W>],
@@ -62,7 +62,10 @@ fn play_rounds<W: World, L: Line>(
     count: u32,
 ) -> Result<String, AllocError>
     ensures rounds { LeadAll W.state W.physics nodes.old nodes.new (λ seats after.
-        TakeRounds L.sends L.polls W.physics seed (length nodes.old) count (seats, line.old) (after, line.new)) }
+        TakeRounds L.sends L.polls W.physics seed (length nodes.old) count (seats, line.old) (
+          after,
+          line.new,
+        )) }
     ensures each { length nodes.new ≡ length nodes.old }
     ensures text { IfOk result (λ text. string_bytes text ≡ node_lines [] 0 nodes.new) }
 {
@@ -70,8 +73,8 @@ fn play_rounds<W: World, L: Line>(
     text_of(alloc, nodes)
 }
 
-/// The lines of new nodes that have played so many rounds with each other over UDP; None where a socket cannot
-/// be bound.
+/// The lines of new nodes that have played `count` rounds with each other over UDP; None where a socket
+/// cannot be bound.
 fn play_all<R: Net>(
     rt: &R,
     alloc: Global,
@@ -84,7 +87,8 @@ fn play_all<R: Net>(
     requires base { (1024 ≤ base) × (base ≤ 65532) }
     requires players { IsGame players }
     requires limit { IsLimit config.limit }
-    ensures played { IfOk result (λ found. IfSome found (λ text. IsLoop config players base seed count (string_bytes text) 0)) }
+    ensures played { IfOk result
+        (λ found. IfSome found (λ text. IsLoop config players base seed count (string_bytes text) 0)) }
     ensures fault { IfErr result (λ fault. fault ≡ RunFault.Memory) }
 {
     let walks = new_walks(alloc, players)?;
@@ -98,12 +102,12 @@ fn play_all<R: Net>(
     Ok(Some(text))
 }
 
-/// Plays so many rounds of a game of so many new walks, each over a socket of its own, and writes the lines
-/// of its nodes. The answer is the exit status: 0, and 3 where a socket cannot be bound. A send or a poll that
-/// fails ends nothing.
+/// Plays `count` rounds of a game of `players` new walks, each over a socket of its own, and writes the lines
+/// of its nodes. The answer is the exit status: 0, and 3 where a socket cannot be bound. A send or a poll
+/// that fails ends nothing.
 ///
-/// A write that fails or takes no bytes is the fault `Write`, and `Memory` is answered where memory
-/// for the nodes or the lines was refused. Each ends the run at once.
+/// A write that fails or takes no bytes is the fault `Write`, and `Memory` is answered where memory for the
+/// nodes or the lines was refused. Each ends the run there.
 pub fn run_loop<R: Net, W: Write>(
     rt: &R,
     alloc: Global,
@@ -122,8 +126,9 @@ pub fn run_loop<R: Net, W: Write>(
         (W.contents output.old) (W.contents output.new) status) }
     // A write fault comes before the last byte is written.
     ensures write { result ≡ Err RunFault.Write
-        → PrintsFront (IsLoop config players base seed count) (W.contents output.old) (W.contents output.new) }
-    // The only other fault is want of memory, which leaves the output as it was.
+        → PrintsFront (IsLoop config players base seed count) (W.contents output.old)
+        (W.contents output.new) }
+    // The only other fault is `Memory`, which leaves the output as it was.
     ensures fault { IfErr result (λ fault. fault ≢ RunFault.Read) }
     ensures unwritten { result ≡ Err RunFault.Memory → output.new ≡ output.old }
 {

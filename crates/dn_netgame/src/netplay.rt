@@ -29,10 +29,10 @@ pub(crate) const NO_SOCKET: &str = "socket fault\n";
 /// The exit status where a socket cannot be bound.
 pub(crate) const UNBOUND: u8 = 3;
 
-/// So many rounds a node still takes once it has quit, to tell the others.
+/// How many rounds a node takes once it has quit, to tell the others.
 const FAREWELLS: u32 = 4;
 
-/// So many rounds of a node, which then quits and tells the others.
+/// Plays `count` rounds of a node, which then quits and tells the others.
 fn play_out<W: World, L: Line>(nodes: &mut [Node<W>], line: &mut L, seed: u64, count: u32)
     requires { length nodes.old ≡ 1 }
     ensures played { LeadAll W.state W.physics nodes.old nodes.new (λ seats after.
@@ -52,7 +52,7 @@ fn text_of<W: World>(alloc: Global, node: &Node<W>) -> Result<String, AllocError
     Ok(text)
 }
 
-/// A new node that has played so many rounds as one player over UDP, and told the others of its end; None
+/// A new node that has played `count` rounds as one player over UDP, and told the others of its end; None
 /// where its socket cannot be bound.
 fn play<R: Net>(
     rt: &R,
@@ -67,7 +67,8 @@ fn play<R: Net>(
     requires me { config.me < config.players }
     requires keyed { IsKeyed config }
     requires limit { IsLimit config.limit }
-    ensures played { IfOk result (λ found. IfSome found (λ node. HasEverPlayed config base seed count (contents node))) }
+    ensures played { IfOk result
+        (λ found. IfSome found (λ node. HasEverPlayed config base seed count (contents node))) }
     ensures fault { IfErr result (λ fault. fault ≡ RunFault.Memory) }
 {
     let (me, players) = (config.me, config.players);
@@ -81,12 +82,12 @@ fn play<R: Net>(
     Ok(Some(node))
 }
 
-/// Plays so many rounds as one player over UDP, quits, tells the others in four rounds more, and writes
+/// Plays `count` rounds as one player over UDP, quits, tells the others in four rounds more, and writes
 /// the node's line, or its demo if `raw` is set. The answer is the exit status: 0, and 3 where the socket
 /// cannot be bound. A send or a poll that fails ends nothing.
 ///
 /// A write that fails or takes no bytes is the fault `Write`, and `Memory` is answered where memory
-/// for the node or the line was refused. Each ends the run at once.
+/// for the node or the line was refused. Each ends the run there.
 pub fn run_play<R: Net, W: Write>(
     rt: &R,
     alloc: Global,
@@ -108,7 +109,7 @@ pub fn run_play<R: Net, W: Write>(
     // A write fault comes before the last byte is written.
     ensures write { result ≡ Err RunFault.Write
         → PrintsFront (IsPlay config base seed count raw) (W.contents output.old) (W.contents output.new) }
-    // The only other fault is want of memory, which leaves the output as it was.
+    // The only other fault is `Memory`, which leaves the output as it was.
     ensures fault { IfErr result (λ fault. fault ≢ RunFault.Read) }
     ensures unwritten { result ≡ Err RunFault.Memory → output.new ≡ output.old }
 {

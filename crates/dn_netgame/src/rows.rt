@@ -120,13 +120,13 @@ fn list_rows<R: Read, W: Write>(
     Ok(feed)
 }
 
-/// Reads a demo of at most 33,554,432 bytes, and writes a line for each player and tic as they come: the tic, the
-/// player, and the move. Then it writes what `run_demo` would, and answers its exit status.
+/// Reads a demo of at most 33,554,432 bytes, and writes a line for each player and tic as they come: the tic,
+/// the player, and the move. Then it writes what `run_demo` would, and answers its exit status.
 ///
 /// It reads pieces of 4,096 bytes, and writes the lines of the tics that end in each before it reads the
-/// next. A read that fails is the fault `Read`, a write that fails or takes no bytes is `Write`, and `Memory` is
-/// answered where memory for the lines of a piece or the last lines was refused. Each ends the run at
-/// once, and what was written stays.
+/// next. A read that fails is the fault `Read`, a write that fails or takes no bytes is `Write`, and `Memory`
+/// is answered where memory for the lines of a piece or the last lines was refused. Each ends the run there,
+/// and what was written stays.
 pub fn run_rows<R: Read, W: Write>(
     alloc: Global,
     input: &mut R,

@@ -1,26 +1,26 @@
 //! Playing a script: the lines of its game, or why it is none.
 
-ghost use Rattle.std.specs.Prelude.{◌≡◌, ◌≢◌, ◌+◌, ◌++◌, Err, IfOk, IfErr, MatchResult};
+ghost use Rattle.std.specs.Prelude.{◌≡◌, ◌≢◌, ◌+◌, ◌++◌, Err, IfOk, IfErr};
 ghost use Rattle.std.specs.String.{string_bytes};
 ghost use Rattle.dn_demo.specs.Recorded.{IsLimit};
 ghost use Rattle.dn_lockstep.specs.Opening.{IsGame};
 ghost use Rattle.dn_game.specs.Script.{size_limit};
 ghost use Rattle.dn_netgame.specs.GameLines.{IsGameShown};
 ghost use Rattle.dn_netgame.specs.Shown.{Shows, ShowsFront};
-ghost use Rattle.dn_netgame.specs.SimLines.{WalksBy, IsSim, bad_line};
+ghost use Rattle.dn_netgame.specs.SimLines.{WalksBy, IsFaultShown, IsSim, bad_line};
 ghost use Rattle.dn_netgame.specs.Transfer.{TakesFewer, TakesAtMost};
 ghost use Rattle.dn_netgame.specs.declared.fault.RunFault.{RunFault};
 
 use crate::fault::RunFault;
 use crate::fields::push_line;
-use crate::games::{new_walks, text_of_game};
+use crate::games::{play_walks, text_of_game};
 use crate::transfer::{gather, put};
-use dn_game::{Event, GameConfig, GameFault, ScriptFault, play, read_script};
+use dn_game::{Event, GameConfig, Nobody, ScriptFault, read_script};
 use std::alloc::{AllocError, Global};
 use std::io::{Read, Write};
 
-/// A script has at most so many bytes.
-const SCRIPT_LIMIT: usize = 1 << 20;
+/// The most bytes of a script.
+pub(crate) const SCRIPT_LIMIT: usize = 1 << 20;
 
 #[tactic(auto, unfolding(crate::specs::SimLines::bad_line))]
 fn text_of_bad_line(alloc: Global, number: usize) -> Result<String, AllocError>
@@ -42,11 +42,19 @@ fn text_of_events(
     requires limit { IsLimit config.limit }
     ensures { IfOk result (λ text. IsGameShown (WalksBy config players events.now) (string_bytes text) 0) }
 {
-    let walks = new_walks(alloc, players)?;
-    match play(alloc, config, walks, events) {
-        Ok(played) => text_of_game(alloc, &played),
-        Err(GameFault::Memory) => Err(AllocError),
-        Err(GameFault::Players | GameFault::Limit) => unreachable!(),
+    let played = play_walks(alloc, config, players, events, &mut Nobody)?;
+    text_of_game(alloc, &played)
+}
+
+/// The line of bytes that are no script, and the exit status.
+pub(crate) fn text_of_fault(alloc: Global, fault: ScriptFault) -> Result<(String, u8), RunFault>
+    ensures shown { IfOk result (λ shown. IsFaultShown fault (string_bytes shown.0) shown.1) }
+    ensures fault { IfErr result (λ fault. fault ≡ RunFault.Memory) }
+{
+    match fault {
+        ScriptFault::TooLong => Ok((String::from_str(alloc, "script: too long\n")?, 1)),
+        ScriptFault::Line(number) => Ok((text_of_bad_line(alloc, number)?, 1)),
+        ScriptFault::Memory => Err(RunFault::Memory),
     }
 }
 
@@ -67,19 +75,17 @@ fn text_of(
             text_of_events(alloc, config, players, events.as_slice())?,
             0,
         )),
-        Err(ScriptFault::TooLong) => Ok((String::from_str(alloc, "script: too long\n")?, 1)),
-        Err(ScriptFault::Line(number)) => Ok((text_of_bad_line(alloc, number)?, 1)),
-        Err(ScriptFault::Memory) => Err(RunFault::Memory),
+        Err(fault) => text_of_fault(alloc, fault),
     }
 }
 
-/// Reads a script of at most 1,048,576 bytes, plays its events in a game of so many new walks, and
+/// Reads a script of at most 1,048,576 bytes, plays its events in a game of `players` new walks, and
 /// writes the lines of the game. The answer is the exit status: 0 for a script, 1 for bytes that are
 /// none.
 ///
 /// A read that fails is the fault `Read`, a write that fails or takes no bytes is `Write`, and
 /// `Memory` is answered where memory for the script, the game or the lines was refused. Each ends
-/// the run at once. A packet that found no room is no fault: its event counts as refused.
+/// the run there. A packet that found no room is no fault: its event counts as refused.
 pub fn run_sim<R: Read, W: Write>(
     alloc: Global,
     config: GameConfig,

@@ -9,13 +9,13 @@ ghost use Rattle.dn_netgame.specs.StormLines.{IsStorm};
 ghost use Rattle.dn_netgame.specs.declared.fault.RunFault.{RunFault};
 
 use crate::fault::RunFault;
-use crate::games::{new_walks, text_of_game};
+use crate::games::{storm_walks, text_of_game};
 use crate::transfer::put;
-use dn_game::{GameConfig, GameFault, storm};
+use dn_game::{GameConfig, Nobody};
 use std::alloc::{AllocError, Global};
 use std::io::Write;
 
-/// The lines of a game of walks that has played so many events of the seed's schedule.
+/// The lines of a game of walks that has played `count` events of the seed's schedule.
 fn text_of(
     alloc: Global,
     config: GameConfig,
@@ -27,19 +27,15 @@ fn text_of(
     requires limit { IsLimit config.limit }
     ensures { IfOk result (λ text. IsStorm config players seed count (string_bytes text) 0) }
 {
-    let walks = new_walks(alloc, players)?;
-    match storm(alloc, config, walks, seed, count) {
-        Ok(played) => text_of_game(alloc, &played),
-        Err(GameFault::Memory) => Err(AllocError),
-        Err(GameFault::Players | GameFault::Limit) => unreachable!(),
-    }
+    let played = storm_walks(alloc, config, players, seed, count, &mut Nobody)?;
+    text_of_game(alloc, &played)
 }
 
-/// Plays so many events of the seed's schedule in a game of so many new walks, and writes the lines
+/// Plays `count` events of the seed's schedule in a game of `players` new walks, and writes the lines
 /// of the game. The answer is the exit status, which is always 0.
 ///
 /// A write that fails or takes no bytes is the fault `Write`, and `Memory` is answered where memory
-/// for the game or the lines was refused. Each ends the run at once. A packet that found no room is no
+/// for the game or the lines was refused. Each ends the run there. A packet that found no room is no
 /// fault: its event counts as refused.
 pub fn run_storm<W: Write>(
     alloc: Global,
@@ -59,7 +55,7 @@ pub fn run_storm<W: Write>(
     // A write fault comes before the last byte of the lines is written.
     ensures write { result ≡ Err RunFault.Write
         → PrintsFront (IsStorm config players seed count) (W.contents output.old) (W.contents output.new) }
-    // The only other fault is want of memory, which leaves the output as it was.
+    // The only other fault is `Memory`, which leaves the output as it was.
     ensures fault { IfErr result (λ fault. fault ≢ RunFault.Read) }
     ensures unwritten { result ≡ Err RunFault.Memory → output.new ≡ output.old }
 {

@@ -11,6 +11,7 @@ mod script_faults;
 mod scripts;
 mod storms;
 mod streams;
+mod traces;
 mod upgrades;
 
 use super::*;
@@ -145,7 +146,7 @@ fn a_writer_that_once_takes_no_bytes_has_a_front(rt: HostRuntime) {
 
 /// Each request for memory may be refused: then the answer says so, and nothing is written.
 #[test]
-fn want_of_memory_is_told(rt: HostRuntime) {
+fn refused_memory_is_told(rt: HostRuntime) {
     let mut room = [0; 256];
     let mut rest = room.as_mut_slice();
     let shown = run_show(rt.alloc(), &mut ONE.as_slice(), &mut rest);

@@ -48,7 +48,7 @@ fn bytes_of(alloc: Global, bytes: Vec<u8>, limit: u32) -> Result<(Vec<u8>, u8), 
 /// bytes that are none or that do not fit.
 ///
 /// A read that fails is the fault `Read`, a write that fails or takes no bytes is `Write`, and `Memory`
-/// is answered where memory for the bytes or the upgraded demo was refused. Each ends the run at once.
+/// is answered where memory for the bytes or the upgraded demo was refused. Each ends the run there.
 pub fn run_upgrade<R: Read, W: Write>(
     alloc: Global,
     limit: u32,

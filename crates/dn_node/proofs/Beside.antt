@@ -4,27 +4,26 @@ use Rattle.std.specs.Prelude.{Result, Ok, Err}
 use Rattle.dn_tic.specs.Pressed.{pressed}
 use Rattle.dn_packet.specs.declared.packet.Packet.{Packet}
 use Rattle.dn_packet.specs.declared.packet.PacketFault.{PacketFault}
-use Rattle.dn_packet.specs.declared.packet.PacketFault.TheVariants.{Short, Many, Length, Sum}
 use Rattle.dn_setup.specs.Settings.{Settings}
 use Rattle.dn_setup.specs.declared.setup.SetupFault.{SetupFault}
-use Rattle.dn_setup.specs.declared.setup.SetupFault.TheVariants.{NotSetup, Version, Range}
 use Rattle.dn_machine.specs.declared.answers.Phase.{Phase}
 use Rattle.dn_machine.specs.declared.answers.Phase.TheVariants.{Listening, Gathering, Playing, Ended}
 use Rattle.dn_machine.specs.declared.answers.Cause.{Cause}
 use Rattle.dn_machine.specs.declared.answers.Heard.{Heard}
 use Rattle.dn_machine.specs.declared.answers.Made.{Made}
 use Rattle.dn_machine.specs.declared.answers.Ran.{Ran}
+use Rattle.dn_machine.specs.declared.peer.Peer.{Peer}
+use Rattle.dn_machine.specs.Drops as drops
 use Rattle.dn_machine.specs.Building.{on_build, on_build_in}
 use Rattle.dn_machine.specs.Running.{is_awaited, first_off, row_held, on_run, on_run_in, on_run_playing, on_quit, on_quit_in}
 use Rattle.dn_machine.specs.Sending.{on_send_in, on_send, after_sent, commands_flight}
 use Rattle.dn_machine.specs.Flight.{Flight, Kind, SetUp, Play, Exit, is_exit, end_of}
-use Rattle.dn_machine.specs.Hearing.{on_packet, on_packet_in, on_commands, on_ended, on_gathering, after_request, after_exit, left_or, requested_tic}
+use Rattle.dn_machine.specs.Hearing.{on_packet, on_packet_in, on_commands, on_ended, on_gathering, after_flight, left_or}
 use Rattle.dn_machine.specs.Node as machine
-use Rattle.dn_machine.specs.Node.{put, own_mark, lowest}
+use Rattle.dn_machine.specs.Node.{put, with_peer, own_mark, lowest}
 use Rattle.dn_machine.specs.Worlds.{Rules}
 use Rattle.dn_lockstep.specs.Phases.{is_waiting}
-use Rattle.dn_lockstep.specs.Reading.{kind_in, start_in, flight_in}
-use Rattle.dn_lockstep.specs.Received.{received, on_read, on_player, on_start, on_set_up, on_told}
+use Rattle.dn_lockstep.specs.Received.{heard_as, flight_from, received}
 use Rattle.dn_lockstep.specs.Runs.{row_told}
 use Rattle.dn_lockstep.specs.Sent.{sent_to}
 
@@ -55,21 +54,6 @@ module _ {S : Type 0} (rules : Rules S) (me : ℕ) (m : machine.Node) where
   dropped : (phase : Phase) (number : ℕ) → Hears m phase (m, Heard.Dropped number)
   dropped phase number = GoesOn (stays m) refl
 
-  either : (phase : Phase) (test : Bool) (one other : machine.Node × Heard) → Hears m phase one → Hears m phase other → Hears m phase (cond test one other)
-  either phase true one other first second = first
-  either phase false one other first second = second
-
-  requests : (peer : ℕ) (request : Option ℕ) → IsBeside m (after_request me m peer request)
-  requests peer request = go _
-    where
-      go : (test : Bool) → IsBeside m (cond test (record m { resend = put m.resend peer (requested_tic request); hold = put m.hold peer 10 }) (record m { hold = put m.hold peer (m.hold peer - 1) }))
-      go true = record { played = refl; settings = refl; rows = refl }
-      go false = record { played = refl; settings = refl; rows = refl }
-
-  exits : (exit : Bool) (other : machine.Node) (peer end : ℕ) → IsBeside m other → IsBeside m (after_exit exit other peer end)
-  exits true other peer end is = record { played = is.played; settings = is.settings; rows = is.rows }
-  exits false other peer end is = is
-
   left_starts : (exit : Bool) (heard : Heard) → is_start heard ≡ false → is_start (left_or exit heard) ≡ false
   left_starts true heard other = refl
   left_starts false heard other = other
@@ -81,41 +65,56 @@ module _ {S : Type 0} (rules : Rules S) (me : ℕ) (m : machine.Node) where
       exit : Bool
       exit = is_exit flight.kind
 
-      is : IsBeside m (after_exit exit (after_request me m flight.from flight.request) flight.from (end_of flight))
-      is = exits exit (after_request me m flight.from flight.request) flight.from (end_of flight) (requests flight.from flight.request)
+      peer : Peer
+      peer = after_flight (machine.made me m) (m.peers flight.from) flight
 
-      go : (over strange old gap : Bool) → Hears m Playing (cond {A = machine.Node × Heard} over (m, Heard.Dropped 12) (cond strange (m, Heard.Dropped 14)
-          (cond old (after_exit (is_exit flight.kind) (after_request me m flight.from flight.request) flight.from (end_of flight), left_or (is_exit flight.kind) Heard.Stale)
-          (cond gap (record (after_exit (is_exit flight.kind) (after_request me m flight.from flight.request) flight.from (end_of flight)) { want = put m.want flight.from true }, Heard.Gap)
-          (record (after_exit (is_exit flight.kind) (after_request me m flight.from flight.request) flight.from (end_of flight)) { want = put m.want flight.from false; held = put m.held flight.from (m.held flight.from ++ drop (machine.got m flight.from - flight.start) flight.commands) }, left_or (is_exit flight.kind) (Heard.Taken (end_of flight - machine.got m flight.from)))))))
-      go true strange old gap = dropped Playing 12
-      go false true old gap = dropped Playing 14
-      go false false true gap = GoesOn is (left_starts exit Heard.Stale refl)
-      go false false false true = GoesOn (record { played = is.played; settings = is.settings; rows = is.rows }) refl
-      go false false false false = GoesOn (record { played = is.played; settings = is.settings; rows = is.rows }) (left_starts exit (Heard.Taken (end_of flight - machine.got m flight.from)) refl)
+      go : (over strange old gap : Bool)
+          → Hears m Playing (cond {A = machine.Node × Heard} over (m, Heard.Dropped drops.overrun)
+          (cond strange (m, Heard.Dropped drops.strange_end)
+          (cond old (with_peer m flight.from peer, left_or exit Heard.Stale)
+          (cond gap (with_peer m flight.from (record peer { want = true }), Heard.Gap) (
+            record (with_peer m flight.from (record peer { want = false })) {
+              held = put m.held flight.from
+                  (m.held flight.from ++ drop (machine.got m flight.from - flight.start) flight.commands);
+            },
+            left_or exit (Heard.Taken (end_of flight - machine.got m flight.from)),
+          )))))
+      go true strange old gap = dropped Playing drops.overrun
+      go false true old gap = dropped Playing drops.strange_end
+      go false false true gap = GoesOn (record { played = refl; settings = refl; rows = refl })
+          (left_starts exit Heard.Stale refl)
+      go false false false true = GoesOn (record { played = refl; settings = refl; rows = refl }) refl
+      go false false false false = GoesOn (record { played = refl; settings = refl; rows = refl })
+          (left_starts exit (Heard.Taken (end_of flight - machine.got m flight.from)) refl)
 
   gathering_beside : (from : ℕ) → Hears m Gathering (on_gathering rules m from)
   gathering_beside from = go _
     where
-      go : (all : Bool) → Hears m Gathering (cond {A = machine.Node × Heard} all (record m { phase = Playing; played = true; noted = put m.noted from true }, Heard.Started) (record m { noted = put m.noted from true }, Heard.Noted))
+      go : (all : Bool)
+          → Hears m Gathering
+          (cond {A = machine.Node × Heard} all
+          (record m { phase = Playing; played = true; noted = put m.noted from true }, Heard.Started)
+          (record m { noted = put m.noted from true }, Heard.Noted))
       go true = Starts refl refl refl
       go false = GoesOn (record { played = refl; settings = refl; rows = refl }) refl
 
-  ended_beside : (cause : Cause) (played : Bool) (flight : Flight) (kind : Kind) → Hears m (Ended cause) (on_ended played me m flight kind)
-  ended_beside cause false flight kind = dropped (Ended cause) 13
-  ended_beside cause true flight (SetUp settings) = dropped (Ended cause) 6
-  ended_beside cause true flight Exit = dropped (Ended cause) 13
-  ended_beside cause true flight Play = GoesOn (requests flight.from flight.request) refl
+  ended_beside : (cause : Cause) (played : Bool) (flight : Flight) (kind : Kind)
+      → Hears m (Ended cause) (on_ended played me m flight kind)
+  ended_beside cause false flight kind = dropped (Ended cause) drops.not_playing
+  ended_beside cause true flight (SetUp settings) = dropped (Ended cause) drops.out_of_place
+  ended_beside cause true flight Exit = dropped (Ended cause) drops.not_playing
+  ended_beside cause true flight Play = GoesOn (record { played = refl; settings = refl; rows = refl }) refl
 
-  packet_in : (flight : Flight) (phase : Phase) (kind : Kind) → Hears m phase (on_packet_in rules me m flight phase kind)
+  packet_in : (flight : Flight) (phase : Phase) (kind : Kind)
+      → Hears m phase (on_packet_in rules me m flight phase kind)
   packet_in flight (Ended cause) kind = ended_beside cause m.played flight kind
   packet_in flight Listening (SetUp settings) = Starts refl refl refl
-  packet_in flight Listening Play = dropped Listening 13
-  packet_in flight Listening Exit = dropped Listening 13
-  packet_in flight Gathering (SetUp settings) = dropped Gathering 6
+  packet_in flight Listening Play = dropped Listening drops.not_playing
+  packet_in flight Listening Exit = dropped Listening drops.not_playing
+  packet_in flight Gathering (SetUp settings) = dropped Gathering drops.out_of_place
   packet_in flight Gathering Play = gathering_beside flight.from
   packet_in flight Gathering Exit = gathering_beside flight.from
-  packet_in flight Playing (SetUp settings) = dropped Playing 6
+  packet_in flight Playing (SetUp settings) = dropped Playing drops.out_of_place
   packet_in flight Playing Play = commands_beside flight
   packet_in flight Playing Exit = commands_beside flight
 
@@ -123,41 +122,14 @@ module _ {S : Type 0} (rules : Rules S) (me : ℕ) (m : machine.Node) where
   unfolding on_packet
   packet_beside flight = packet_in flight m.phase flight.kind
 
-  start_beside : (from : ℕ) (packet : Packet) (phase : Phase) (start : Result ℕ ℕ) → Hears m phase (on_start rules me m from packet phase start)
-  start_beside from packet phase (Err number) = dropped phase number
-  start_beside from packet phase (Ok start) = packet_in (flight_in from me (machine.made me m) packet start) phase (kind_in packet)
+  heard_beside : (phase : Phase) (flight : Result Flight ℕ) → Hears m phase (heard_as rules me m phase flight)
+  heard_beside phase (Err number) = dropped phase number
+  heard_beside phase (Ok flight) = packet_in flight phase flight.kind
 
-  player_beside : (from : ℕ) (packet : Packet) (phase : Phase) → Hears m phase (on_player rules me m from packet phase)
-  player_beside from packet phase =
-      either phase _ _ _ (start_beside from packet phase (start_in (machine.made me m) packet))
-      (packet_in (flight_in from me (machine.made me m) packet 0) phase (kind_in packet))
-
-  told_beside : (told : Result Settings SetupFault) → Hears m Listening (on_told m told)
-  told_beside (Ok settings) = Starts refl refl refl
-  told_beside (Err NotSetup) = dropped Listening 6
-  told_beside (Err Version) = dropped Listening 7
-  told_beside (Err Range) = dropped Listening 8
-
-  set_up_beside : (from : ℕ) (told : Result Settings SetupFault) (phase : Phase) → Hears m phase (on_set_up m from told phase)
-  set_up_beside from told Listening = either Listening _ _ _ (told_beside told) (dropped Listening 6)
-  set_up_beside from told Gathering = dropped Gathering 6
-  set_up_beside from told Playing = dropped Playing 6
-  set_up_beside from told (Ended cause) = dropped (Ended cause) 6
-
-  read_beside : (from : ℕ) (told : Result Settings SetupFault) (read : Result Packet PacketFault) → Hears m m.phase (on_read rules me m from told read)
-  read_beside from told (Err Short) = dropped m.phase 1
-  read_beside from told (Err Many) = dropped m.phase 2
-  read_beside from told (Err Length) = dropped m.phase 3
-  read_beside from told (Err Sum) = dropped m.phase 4
-  read_beside from told (Ok packet) =
-      either m.phase _ _ _ (set_up_beside from told m.phase)
-      (either m.phase _ _ _ (dropped m.phase 13)
-      (either m.phase _ _ _ (dropped m.phase 5)
-      (either m.phase _ _ _ (dropped m.phase 9) (player_beside from packet m.phase))))
-
-  pub received_beside : (from : ℕ) (told : Result Settings SetupFault) (read : Result Packet PacketFault) → Hears m m.phase (received rules me m from told read)
+  pub received_beside : (from : ℕ) (told : Result Settings SetupFault) (read : Result Packet PacketFault)
+      → Hears m m.phase (received rules me m from told read)
   received_beside from told read =
-      either m.phase _ _ _ (dropped m.phase 13) (either m.phase _ _ _ (dropped m.phase 5) (read_beside from told read))
+      heard_beside m.phase (flight_from rules.players from me (machine.made me m) m.played told read m.phase)
 
   -- a build, a send and a quit
   build_in : (keys : ℕ) (phase : Phase) → IsBeside m (on_build_in rules me m keys phase).0
@@ -166,7 +138,16 @@ module _ {S : Type 0} (rules : Rules S) (me : ℕ) (m : machine.Node) where
   build_in keys (Ended cause) = stays m
   build_in keys Playing = go _
     where
-      go : (test : Bool) → IsBeside m (cond {A = machine.Node × Made} test (m, Made.Full) (record m { keys = m.keys ++ keys ∷ []; held = put m.held me (m.held me ++ pressed (m.keys ++ keys ∷ []) (own_mark rules m me (machine.made me m)) ∷ []) }, Made.Made (machine.made me m))).0
+      go : (test : Bool)
+          → IsBeside m (cond {A = machine.Node × Made} test (m, Made.Full) (
+            record m {
+              keys = m.keys ++ keys ∷ [];
+              held =
+                  put m.held me (m.held me ++ pressed (m.keys ++ keys ∷ [])
+                  (own_mark rules m me (machine.made me m)) ∷ []);
+            },
+            Made.Made (machine.made me m),
+          )).0
       go true = stays m
       go false = record { played = refl; settings = refl; rows = refl }
 
@@ -180,7 +161,9 @@ module _ {S : Type 0} (rules : Rules S) (me : ℕ) (m : machine.Node) where
   send_in to Playing = record { played = refl; settings = refl; rows = refl }
   send_in to (Ended cause) = go m.played
     where
-      go : (played : Bool) → IsBeside m (cond {A = machine.Node × Option Flight} played (after_sent rules me m to, Some (commands_flight rules me m to Exit None)) (m, None)).0
+      go : (played : Bool)
+          → IsBeside m (cond {A = machine.Node × Option Flight} played
+          (after_sent rules me m to, Some (commands_flight rules me m to Exit None)) (m, None)).0
       go true = record { played = refl; settings = refl; rows = refl }
       go false = stays m
 
@@ -188,7 +171,9 @@ module _ {S : Type 0} (rules : Rules S) (me : ℕ) (m : machine.Node) where
   unfolding on_send
   send_beside to = go _ _
     where
-      go : (below own : Bool) → IsBeside m (cond {A = machine.Node × Option Flight} below (cond own (m, None) (on_send_in rules me m to m.phase)) (m, None)).0
+      go : (below own : Bool)
+          → IsBeside m (cond {A = machine.Node × Option Flight} below
+          (cond own (m, None) (on_send_in rules me m to m.phase)) (m, None)).0
       go true true = stays m
       go true false = send_in to m.phase
       go false own = stays m
@@ -206,7 +191,8 @@ module _ {S : Type 0} (rules : Rules S) (me : ℕ) (m : machine.Node) where
 -- a run tells no row and leaves the world, or moves on by the row that it tells
 pub data Runs {S : Type 0} (rules : Rules S) (m : machine.Node) (after : machine.Node × Ran) : Type 0 where
   Stays : IsBeside m after.0 → row_told rules m after.1 ≡ None → Runs rules m after
-  Moves : after.0 ≡ record m { rows = m.rows ++ row_held rules m ∷ [] } → row_told rules m after.1 ≡ Some (row_held rules m) → Runs rules m after
+  Moves : after.0 ≡ record m { rows = m.rows ++ row_held rules m ∷ [] }
+      → row_told rules m after.1 ≡ Some (row_held rules m) → Runs rules m after
 
 module _ {S : Type 0} (rules : Rules S) (m : machine.Node) where
   run_playing : (awaited off : Option ℕ) → Runs rules m (on_run_playing rules m awaited off)
@@ -214,7 +200,10 @@ module _ {S : Type 0} (rules : Rules S) (m : machine.Node) where
   run_playing None (Some player) = Stays (record { played = refl; settings = refl; rows = refl }) refl
   run_playing None None = go _
     where
-      go : (full : Bool) → Runs rules m (cond {A = machine.Node × Ran} full (record m { phase = Ended Cause.Full }, Ran.DemoFull) (record m { rows = m.rows ++ row_held rules m ∷ [] }, Ran.Ran (machine.ran m)))
+      go : (full : Bool)
+          → Runs rules m
+          (cond {A = machine.Node × Ran} full (record m { phase = Ended Cause.Full }, Ran.DemoFull)
+          (record m { rows = m.rows ++ row_held rules m ∷ [] }, Ran.Ran (machine.ran m)))
       go true = Stays (record { played = refl; settings = refl; rows = refl }) refl
       go false = Moves refl refl
 

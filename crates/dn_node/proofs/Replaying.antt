@@ -18,10 +18,14 @@ world_of : {S : Type 0} (rules : Rules S) (settings : Settings) (rows : List (Li
 unfolding world_after
 world_of rules settings rows = ap (fold rules.physics.step (opening rules settings)) (take-length rows)
 
-module _ {W S : Type 0} (state : W → S) (rules : Rules S) (me : ℕ) (n : Contents W) (m : machine.Node) (settings : Settings)
+module _ {W S : Type 0} (state : W → S) (rules : Rules S) (me : ℕ) (n : Contents W) (m : machine.Node)
+    (settings : Settings)
     (r : Represents state rules me n m) (played : m.played ≡ true) (known : m.settings ≡ Some settings) where
   pub world_played : state n.world ≡ fold rules.physics.step (opening rules settings) m.rows
-  world_played = same_Some _ _ (r.world played ∙ own_world_is rules m settings known (machine.ran m)) ∙ world_of rules settings m.rows
+  world_played = same_Some _ _ (r.world played ∙ own_world_is rules m settings known (machine.ran m))
+      ∙ world_of rules settings m.rows
 
-  pub world_recorded : n.ran ≡ length (demo_rows rules m) → state n.world ≡ fold rules.physics.step (opening rules settings) (demo_rows rules m)
-  world_recorded e = world_played ∙ ap (fold rules.physics.step (opening rules settings)) (sym (all_recorded rules m settings known (sym r.lockstep.ran ∙ e)))
+  pub world_recorded : n.ran ≡ length (demo_rows rules m)
+      → state n.world ≡ fold rules.physics.step (opening rules settings) (demo_rows rules m)
+  world_recorded e = world_played ∙ ap (fold rules.physics.step (opening rules settings))
+      (sym (all_recorded rules m settings known (sym r.lockstep.table.ran ∙ e)))

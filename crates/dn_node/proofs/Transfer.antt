@@ -1,6 +1,6 @@
 -- A world's own physics among the laws of marks: a step by the one is a step by the other.
 use Rattle.std.proofs.Common.{◌≡◌, ℕ, ℤ, Bool, List, [], ◌∷◌, ◌++◌, Option, Some, None, refl, ap, sym, ◌∙◌}
-use Rattle.std.specs.Prelude.{fold, nat_lt, nat_le, ◌-◌, ◌==◌, ◌||◌, ◌&&◌, not, if◌then◌else◌, pos, take, Result, Ok, Err}
+use Rattle.std.specs.Prelude.{fold, nat_lt, nat_le, ◌-◌, ◌==◌, ◌&&◌, not, if◌then◌else◌, pos, take, Result, Ok, Err}
 use Rattle.std.specs.Option.{option_map}
 use Rattle.std.specs.Ordering.{int_eq}
 use Rattle.std.proofs.lemmas.List.Sums.{fold-append}
@@ -8,7 +8,6 @@ use Rattle.dn_tic.specs.declared.command.Move.{Move}
 use Rattle.dn_tic.specs.Pressed.{pressed}
 use Rattle.dn_packet.specs.declared.packet.Packet.{Packet}
 use Rattle.dn_packet.specs.declared.packet.PacketFault.{PacketFault}
-use Rattle.dn_packet.specs.declared.packet.PacketFault.TheVariants.{Short, Many, Length, Sum}
 use Rattle.dn_setup.specs.Settings.{Settings}
 use Rattle.dn_setup.specs.declared.setup.SetupFault.{SetupFault}
 use Rattle.dn_world.specs.Physics.{Physics}
@@ -28,35 +27,34 @@ use Rattle.dn_machine.specs.Sending.{on_send, on_send_in}
 use Rattle.dn_machine.specs.Worlds.{Rules, rules_of, mark_in, opening}
 use Rattle.dn_lockstep.specs.Marking.{History, Marking, free}
 use Rattle.dn_lockstep.specs.Contents.{Contents}
-use Rattle.dn_lockstep.specs.Phases.{is_listening, hears_none}
-use Rattle.dn_lockstep.specs.Reading.{has_flag, kind_in, start_in, flight_in}
-use Rattle.dn_lockstep.specs.Received.{received, on_read, on_other, on_player, on_start, on_set_up, is_counted}
+use Rattle.dn_lockstep.specs.Received.{heard_as, flight_from, received}
 use Rattle.dn_lockstep.specs.Represents.{Represents}
 use Rattle.dn_lockstep.specs.Sent.{sent_to}
 
 -- all that a representation sees of the physics are its marks
-by_same_marks : {S T : Type 0} (one : Physics S) (other : Physics T) (players : ℕ) (extra : Bool) (capacity : ℕ) (m : machine.Node)
-    → ((p tic : ℕ) → own_mark (rules_of one players extra capacity) m p tic ≡ own_mark (rules_of other players extra capacity) m p tic)
-    → (me : ℕ) (n : Contents) → Represents (rules_of one players extra capacity) me n m → Represents (rules_of other players extra capacity) me n m
+by_same_marks : {S T : Type 0} (one : Physics S) (other : Physics T) (players : ℕ) (extra : Bool)
+    (capacity : ℕ) (m : machine.Node)
+    → ((p tic : ℕ) → own_mark (rules_of one players extra capacity) m p tic
+    ≡ own_mark (rules_of other players extra capacity) m p tic)
+    → (me : ℕ) (n : Contents) → Represents (rules_of one players extra capacity) me n m
+    → Represents (rules_of other players extra capacity) me n m
 by_same_marks one other players extra capacity m same me n r =
     record {
-      players = r.players;
-      number = r.number;
-      extra = r.extra;
-      capacity = r.capacity;
-      gathers = r.gathers;
-      phase = r.phase;
-      played = r.played;
-      settings = r.settings;
-      hold = r.hold;
-      ran = r.ran;
-      rings = r.rings;
+      whose = record {
+        players = r.whose.players;
+        number = r.whose.number;
+        extra = r.whose.extra;
+        capacity = r.whose.capacity;
+        gathers = r.whose.gathers;
+      };
+      stands = r.stands;
+      commands = r.commands;
       peers = r.peers;
-      noted = r.noted;
-      marks = λ p tic below low high present. r.marks p tic below low high present ∙ same p tic;
+      table = record {
+        ran = r.table.ran;
+        marks = λ p tic below low high present. r.table.marks p tic below low high present ∙ same p tic;
+      };
       demo = r.demo;
-      closed = r.closed;
-      writable = r.writable;
     }
 
 module _ {S : Type 0} (physics : Physics S) where
@@ -81,11 +79,13 @@ module _ {S : Type 0} (physics : Physics S) where
     goes_on history [] = refl
     goes_on history (row ∷ rows) =
         goes_on ((free marking_of).step history row) rows
-        ∙ ap (λ (w : S). fold physics.step w rows) (fold-append physics.step (physics.begin history.start history.present) history.rows (row ∷ []))
+        ∙ ap (λ (w : S). fold physics.step w rows)
+        (fold-append physics.step (physics.begin history.start history.present) history.rows (row ∷ []))
 
     module _ (m : machine.Node) where
       -- the marks are those of the worlds
-      pub mark_same : (p tic : ℕ) → mark_in (free marking_of) (own_world by_marks m tic) p ≡ mark_in physics (own_world by_worlds m tic) p
+      pub mark_same : (p tic : ℕ) → mark_in (free marking_of) (own_world by_marks m tic) p
+          ≡ mark_in physics (own_world by_worlds m tic) p
       unfolding world_after
       mark_same p tic = go m.settings
         where
@@ -99,12 +99,15 @@ module _ {S : Type 0} (physics : Physics S) where
       own_mark_same p tic = ap (λ (z : ℤ). if nat_lt tic 12 then pos 0 else z) (mark_same p (tic - 12))
 
       pub to_marks : (me : ℕ) (n : Contents) → Represents by_worlds me n m → Represents by_marks me n m
-      to_marks = by_same_marks physics (free marking_of) players extra capacity m (λ p tic. sym (own_mark_same p tic))
+      to_marks = by_same_marks physics (free marking_of) players extra capacity m
+          (λ p tic. sym (own_mark_same p tic))
 
       pub to_worlds : (me : ℕ) (n : Contents) → Represents by_marks me n m → Represents by_worlds me n m
       to_worlds = by_same_marks (free marking_of) physics players extra capacity m own_mark_same
 
-      build_in : (me keys : ℕ) (phase : Phase) → ◌≡◌ {A = machine.Node × Made} (on_build_in by_marks me m keys phase) (on_build_in by_worlds me m keys phase)
+      build_in : (me keys : ℕ) (phase : Phase)
+          → ◌≡◌ {A = machine.Node × Made} (on_build_in by_marks me m keys phase)
+          (on_build_in by_worlds me m keys phase)
       build_in me keys Listening = refl
       build_in me keys Gathering = refl
       build_in me keys (Ended cause) = refl
@@ -117,23 +120,29 @@ module _ {S : Type 0} (physics : Physics S) where
             Made.Made (machine.made me m),
           )) (own_mark_same me (machine.made me m))
 
-      pub builds_same : (me keys : ℕ) → ◌≡◌ {A = machine.Node × Made} (on_build by_marks me m keys) (on_build by_worlds me m keys)
+      pub builds_same : (me keys : ℕ) → ◌≡◌ {A = machine.Node × Made} (on_build by_marks me m keys)
+          (on_build by_worlds me m keys)
       unfolding on_build
       builds_same me keys = build_in me keys m.phase
 
-      send_in : (me to : ℕ) (phase : Phase) → ◌≡◌ {A = machine.Node × Option Flight} (on_send_in by_marks me m to phase) (on_send_in by_worlds me m to phase)
+      send_in : (me to : ℕ) (phase : Phase)
+          → ◌≡◌ {A = machine.Node × Option Flight} (on_send_in by_marks me m to phase)
+          (on_send_in by_worlds me m to phase)
       send_in me to Listening = refl
       send_in me to Gathering = refl
       send_in me to Playing = refl
       send_in me to (Ended cause) = refl
 
-      pub sends_same : (me to : ℕ) → ◌≡◌ {A = machine.Node × Option Flight} (sent_to to by_marks me m) (sent_to to by_worlds me m)
+      pub sends_same : (me to : ℕ) → ◌≡◌ {A = machine.Node × Option Flight} (sent_to to by_marks me m)
+          (sent_to to by_worlds me m)
       unfolding on_send
       sends_same me to =
-          ap (λ (x : machine.Node × Option Flight). if nat_lt to players then (if me == to then (m, None) else x) else (m, None)) (send_in me to m.phase)
+          ap (λ (x : machine.Node × Option Flight). if nat_lt to players
+          then (if me == to then (m, None) else x) else (m, None)) (send_in me to m.phase)
 
       pub packets_same : (me : ℕ) (flight : Flight) (phase : Phase) (kind : Kind)
-          → ◌≡◌ {A = machine.Node × Heard} (on_packet_in by_marks me m flight phase kind) (on_packet_in by_worlds me m flight phase kind)
+          → ◌≡◌ {A = machine.Node × Heard} (on_packet_in by_marks me m flight phase kind)
+          (on_packet_in by_worlds me m flight phase kind)
       packets_same me flight (Ended cause) kind = refl
       packets_same me flight Listening (SetUp settings) = refl
       packets_same me flight Listening Play = refl
@@ -145,58 +154,46 @@ module _ {S : Type 0} (physics : Physics S) where
       packets_same me flight Playing Play = refl
       packets_same me flight Playing Exit = refl
 
-      pub hears_same : (me : ℕ) (flight : Flight) → ◌≡◌ {A = machine.Node × Heard} (on_packet by_marks me m flight) (on_packet by_worlds me m flight)
+      pub hears_same : (me : ℕ) (flight : Flight)
+          → ◌≡◌ {A = machine.Node × Heard} (on_packet by_marks me m flight) (on_packet by_worlds me m flight)
       unfolding on_packet
       hears_same me flight = packets_same me flight m.phase flight.kind
 
-      start_same : (me from : ℕ) (packet : Packet) (phase : Phase) (start : Result ℕ ℕ)
-          → ◌≡◌ {A = machine.Node × Heard} (on_start by_marks me m from packet phase start) (on_start by_worlds me m from packet phase start)
-      start_same me from packet phase (Err number) = refl
-      start_same me from packet phase (Ok start) = packets_same me (flight_in from me (machine.made me m) packet start) phase (kind_in packet)
-
-      player_same : (me from : ℕ) (packet : Packet) (phase : Phase)
-          → ◌≡◌ {A = machine.Node × Heard} (on_player by_marks me m from packet phase) (on_player by_worlds me m from packet phase)
-      player_same me from packet phase = λ i. if is_counted phase (kind_in packet)
-          then start_same me from packet phase (start_in (machine.made me m) packet) i
-          else packets_same me (flight_in from me (machine.made me m) packet 0) phase (kind_in packet) i
-
-      other_same : (me from : ℕ) (packet : Packet)
-          → ◌≡◌ {A = machine.Node × Heard} (on_other by_marks me m from packet m.phase) (on_other by_worlds me m from packet m.phase)
-      other_same me from packet =
-          ap (λ (x : machine.Node × Heard). if is_listening m.phase then (m, Heard.Dropped 13)
-          else (if not (packet.player == from) then (m, Heard.Dropped 5) else (if has_flag packet 1 then (m, Heard.Dropped 9) else x)))
-          (player_same me from packet m.phase)
-
-      read_same : (me from : ℕ) (told : Result Settings SetupFault) (read : Result Packet PacketFault)
-          → ◌≡◌ {A = machine.Node × Heard} (on_read by_marks me m from told read) (on_read by_worlds me m from told read)
-      read_same me from told (Err Short) = refl
-      read_same me from told (Err Many) = refl
-      read_same me from told (Err Length) = refl
-      read_same me from told (Err Sum) = refl
-      read_same me from told (Ok packet) = λ i. if has_flag packet 2 then on_set_up m from told m.phase else other_same me from packet i
+      heard_same : (me : ℕ) (phase : Phase) (flight : Result Flight ℕ)
+          → ◌≡◌ {A = machine.Node × Heard} (heard_as by_marks me m phase flight)
+          (heard_as by_worlds me m phase flight)
+      heard_same me phase (Err number) = refl
+      heard_same me phase (Ok flight) = packets_same me flight phase flight.kind
 
       pub received_same : (me from : ℕ) (told : Result Settings SetupFault) (read : Result Packet PacketFault)
-          → ◌≡◌ {A = machine.Node × Heard} (received by_marks me m from told read) (received by_worlds me m from told read)
+          → ◌≡◌ {A = machine.Node × Heard} (received by_marks me m from told read)
+          (received by_worlds me m from told read)
       received_same me from told read =
-          ap (λ (x : machine.Node × Heard). if hears_none m.phase m.played then (m, Heard.Dropped 13)
-          else (if not (nat_lt from players) || from == me then (m, Heard.Dropped 5) else x)) (read_same me from told read)
+          heard_same me m.phase (flight_from players from me (machine.made me m) m.played told read m.phase)
 
       off_same : first_off by_marks m ≡ first_off by_worlds m
       off_same = ap (λ (test : ℕ → Bool). if nat_lt 12 (machine.ran m) then lowest players test else None)
-          (λ i p. not (is_absent m p) && not (int_eq (held_at m p (machine.ran m)).mark (own_mark_same p (machine.ran m) i)))
+          (λ i p. not (is_absent m p) && not (int_eq (held_at m p (machine.ran m)).mark
+          (own_mark_same p (machine.ran m) i)))
 
-      run_playing : (awaited off : Option ℕ) → ◌≡◌ {A = machine.Node × Ran} (on_run_playing by_marks m awaited off) (on_run_playing by_worlds m awaited off)
+      run_playing : (awaited off : Option ℕ)
+          → ◌≡◌ {A = machine.Node × Ran} (on_run_playing by_marks m awaited off)
+          (on_run_playing by_worlds m awaited off)
       run_playing (Some awaited) off = refl
-      run_playing None (Some off) = λ i. let should = own_mark_same off (machine.ran m) i in
-          (record m { phase = Ended (Cause.Inconsistent off (held_at m off (machine.ran m)).mark should) }, Ran.Inconsistent off (held_at m off (machine.ran m)).mark should)
+      run_playing None (Some off) = λ i. let should = own_mark_same off (machine.ran m) i in (
+        record m { phase = Ended (Cause.Inconsistent off (held_at m off (machine.ran m)).mark should) },
+        Ran.Inconsistent off (held_at m off (machine.ran m)).mark should,
+      )
       run_playing None None = refl
 
-      run_in : (phase : Phase) → ◌≡◌ {A = machine.Node × Ran} (on_run_in by_marks m phase) (on_run_in by_worlds m phase)
+      run_in : (phase : Phase) → ◌≡◌ {A = machine.Node × Ran} (on_run_in by_marks m phase)
+          (on_run_in by_worlds m phase)
       run_in Listening = refl
       run_in Gathering = refl
       run_in (Ended cause) = refl
       run_in Playing =
-          run_playing (lowest players (is_awaited m)) (first_off by_marks m) ∙ ap (on_run_playing by_worlds m (lowest players (is_awaited m))) off_same
+          run_playing (lowest players (is_awaited m)) (first_off by_marks m)
+          ∙ ap (on_run_playing by_worlds m (lowest players (is_awaited m))) off_same
 
       pub runs_same : ◌≡◌ {A = machine.Node × Ran} (on_run by_marks m) (on_run by_worlds m)
       unfolding on_run

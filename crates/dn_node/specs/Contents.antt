@@ -6,7 +6,7 @@ use Rattle.dn_setup.specs.Gathered.{Gathered}
 use Rattle.dn_demo.specs.Recorded.{Recorded}
 use Rattle.dn_machine.specs.declared.answers.Phase.{Phase}
 use Rattle.dn_lockstep.specs.Contents as lockstep
-use Rattle.dn_lockstep.specs.declared.peers.Peer.{Peer}
+use Rattle.dn_machine.specs.declared.peer.Peer.{Peer}
 use Rattle.dn_node.specs.declared.node.Node.{Node}
 
 pub record Contents (W : Type 0) : Type 0 where
@@ -18,7 +18,7 @@ pub record Contents (W : Type 0) : Type 0 where
   pub phase : Phase
   pub played : Bool
   pub settings : Option Settings
-  -- of whom it has heard
+  -- which players it has heard
   pub gather : Gathered
   -- its turn hold
   pub hold : ℕ

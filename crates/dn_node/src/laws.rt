@@ -20,19 +20,24 @@ use dn_world::World;
 /// number as view, to its players and to the rows that it ran before the first that lacks a player. All
 /// rows that it ran, from the beginning on, lead to its world; and so does the demo, where no row lacks one.
 pub fn ended_demos_replay<W: World>()
-    ensures read { (players : ℕ) (extra : Bool) (capacity me : ℕ) (n : Contents W) (m : machine.Node) (settings : Settings) (cause : Cause)
+    ensures read { (players : ℕ) (extra : Bool) (capacity me : ℕ) (n : Contents W) (m : machine.Node)
+        (settings : Settings) (cause : Cause)
         → Represents W.state (rules_of W.physics players extra capacity) me n m
         → m.played ≡ true → m.phase ≡ Ended cause → m.settings ≡ Some settings
         → IsReadAs n.demo.bytes (Ok (written_demo long_tics (start_of settings) me (seats_of players)
         (demo_rows (rules_of W.physics players extra capacity) m))) }
-    ensures world { (players : ℕ) (extra : Bool) (capacity me : ℕ) (n : Contents W) (m : machine.Node) (settings : Settings)
+    ensures world { (players : ℕ) (extra : Bool) (capacity me : ℕ) (n : Contents W) (m : machine.Node)
+        (settings : Settings)
         → Represents W.state (rules_of W.physics players extra capacity) me n m
         → m.played ≡ true → m.settings ≡ Some settings
-        → W.state n.world ≡ fold W.physics.step (W.physics.begin (start_of settings) (seats_of players)) m.rows }
-    ensures played { (players : ℕ) (extra : Bool) (capacity me : ℕ) (n : Contents W) (m : machine.Node) (settings : Settings)
+        → W.state n.world ≡ fold W.physics.step (W.physics.begin (start_of settings) (seats_of players))
+        m.rows }
+    ensures played { (players : ℕ) (extra : Bool) (capacity me : ℕ) (n : Contents W) (m : machine.Node)
+        (settings : Settings)
         → Represents W.state (rules_of W.physics players extra capacity) me n m
         → m.played ≡ true → m.settings ≡ Some settings
         → n.ran ≡ length (demo_rows (rules_of W.physics players extra capacity) m)
-        → W.state n.world ≡ state_after W.physics (written_demo long_tics (start_of settings) me (seats_of players)
+        → W.state n.world ≡ state_after W.physics (written_demo long_tics (start_of settings) me
+        (seats_of players)
         (demo_rows (rules_of W.physics players extra capacity) m)) }
 {}

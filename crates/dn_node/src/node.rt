@@ -28,7 +28,7 @@ impl<W: World> Node<W> {
     ghost use Rattle.dn_machine.specs.Worlds.{rules_of};
     ghost use Rattle.dn_node.specs.Contents.{contents, end_in};
     ghost use Rattle.dn_node.specs.Represents.{Represents};
-    ghost use Rattle.dn_node.specs.Steps.{Steps};
+    ghost use Rattle.dn_node.specs.Steps.{Tells};
 
     /// A node with no history: player 0 gathers, the others listen. All memory that it needs is taken
     /// here; the world is given up where there is no node.
@@ -36,7 +36,8 @@ impl<W: World> Node<W> {
         ensures admitted { IsAdmitted config result }
         ensures opened { IfOk result (λ node. (settings : Choice)
             → (config.me ≡ 0 → config.settings ≡ Some settings)
-            → Represents W.state (rules_of W.physics config.players config.extra (capacity config.limit config.players)) config.me
+            → Represents W.state (rules_of W.physics config.players config.extra
+            (capacity config.limit config.players)) config.me
             (contents node) (fresh settings config.me)) }
         ensures given { IfOk result (λ node. (contents node).world ≡ world) }
         ensures room { IfOk result (λ node. (contents node).demo.limit ≡ config.limit) }
@@ -105,9 +106,11 @@ impl<W: World> Node<W> {
     /// The tic after a player's last command: of another player once an EXIT packet has told it, and its own
     /// once it has played and ended. From that tic on no tic has a move of the player.
     pub fn end(&self, player: u8) -> Option<u32>
-        ensures value { result ≡ (if nat_lt player (contents self.now).players then end_in (contents self.now) player else None) }
-        ensures step { Steps W.state W.physics (contents self.now) (contents self.now)
-            (λ rules me m. (m, if nat_lt player rules.players then known_end me m player else None)) (λ end. result ≡ end) }
+        ensures value { result
+            ≡ (if nat_lt player (contents self.now).players then end_in (contents self.now) player
+            else None) }
+        ensures told { Tells W.state W.physics (contents self.now)
+            (λ rules me m. result ≡ (if nat_lt player rules.players then known_end me m player else None)) }
     {
         self.lockstep.end(player)
     }

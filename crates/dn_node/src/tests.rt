@@ -2,7 +2,6 @@
 
 ghost use Rattle.std.specs.Prelude.{◌<◌};
 
-mod belt;
 mod beside;
 mod demos;
 mod leaving;
@@ -107,7 +106,7 @@ fn tic<W: World>(
     (key.run(), other.run())
 }
 
-/// So many such tics.
+/// Plays `count` such tics.
 fn tics<W: World>(key: &mut Node<W>, other: &mut Node<W>, count: u32, keys: (u32, u32)) {
     for _ in 0..count {
         let _ = tic(key, other, keys);

@@ -9,7 +9,8 @@ use Rattle.dn_packet.specs.Read.{IsReadAs, told_count, told_sum}
 use Rattle.dn_packet.proofs.Texts.{same_packet, text_length}
 
 -- bytes of another length than their count says are no packet, and have no other fault
-pub only_length : (bytes : List ℕ) → 8 ≤ length bytes → told_count bytes ≤ 12 → length bytes ≢ 8 + 8 * told_count bytes
+pub only_length : (bytes : List ℕ) → 8 ≤ length bytes → told_count bytes ≤ 12
+    → length bytes ≢ 8 + 8 * told_count bytes
     → (read : Result Packet PacketFault) → IsReadAs bytes read → Err Length ≡ read
 only_length bytes long few other (Ok p) h = absurd (other (text_length p bytes h.1))
 only_length bytes long few other (Err Short) h = absurd (omega arith)
@@ -36,4 +37,5 @@ only_packet bytes p valid is (Ok q) h = ap Ok (same_packet p q valid h.0 (sym is
 only_packet bytes p valid is (Err Short) h = absurd (omega (arith, text_length p bytes is))
 only_packet bytes p valid is (Err Many) h = absurd (omega (arith, valid.count, count_text p bytes is))
 only_packet bytes p valid is (Err Length) h = absurd (h.2 (text_length p bytes is))
-only_packet bytes p valid is (Err Sum) h = absurd (h.2 (ap told_sum is ∙ told_sum_text p valid ∙ ap (λ (bs : List ℕ). sum_of (drop 4 bs)) (sym is)))
+only_packet bytes p valid is (Err Sum) h =
+    absurd (h.2 (ap told_sum is ∙ told_sum_text p valid ∙ ap (λ (bs : List ℕ). sum_of (drop 4 bs)) (sym is)))

@@ -28,9 +28,11 @@ pair_fits a b p q (suc (suc i)) = omega arith
 pair_small : (a b : ℕ) → a < 256 → b < 256 → pair a b < 2 ^ 16
 pair_small a b p q = omega arith
 
-pair_back : (a b : ℕ) → a < 256 → b < 256 → to_le_bytes w16 (cast_unsigned w16 (cast_signed w16 (pair a b))) ≡ a ∷ b ∷ []
+pair_back : (a b : ℕ) → a < 256 → b < 256 → to_le_bytes w16 (cast_unsigned w16 (cast_signed w16 (pair a b)))
+    ≡ a ∷ b ∷ []
 pair_back a b p q =
-    ap (to_le_bytes w16) (of_z-to_z w16 (pair a b) (pair_small a b p q)) ∙ le_bytes_2 (a ∷ b ∷ []) (pair a b) refl (pair_fits a b p q) refl
+    ap (to_le_bytes w16) (of_z-to_z w16 (pair a b) (pair_small a b p q))
+    ∙ le_bytes_2 (a ∷ b ∷ []) (pair a b) refl (pair_fits a b p q) refl
 
 -- the command of eight bytes
 abbrev command : (a b c d e f g h : ℕ) → TicCmd
@@ -50,7 +52,8 @@ record Commands (bs : List ℕ) : Type 0 where
   valid : All IsCommand commands
   spelled : bs ≡ flat_map command_bytes commands
 
-one_more : (a b c d e f g h : ℕ) (rest : List ℕ) → a < 256 → b < 256 → c < 256 → d < 256 → e < 256 → f < 256 → g < 256 → h < 256
+one_more : (a b c d e f g h : ℕ) (rest : List ℕ) → a < 256 → b < 256 → c < 256 → d < 256 → e < 256 → f < 256
+    → g < 256 → h < 256
     → Commands rest → Commands (a ∷ b ∷ c ∷ d ∷ e ∷ f ∷ g ∷ h ∷ rest)
 one_more a b c d e f g h rest ha hb hc hd he hf hg hh others =
     let first : TicCmd = command a b c d e f g h in
@@ -73,11 +76,15 @@ one_more a b c d e f g h rest ha hb hc hd he hf hg hh others =
           ∙ ap (λ (xs : List ℕ). xs ++ flat_map command_bytes others.commands) (sym spelled);
     }
 
-commands_in : (n : ℕ) (bs : List ℕ) → ((i : ℕ) → i < length bs → get_or bs i 0 < 256) → length bs ≡ 8 * n → Commands bs
+commands_in : (n : ℕ) (bs : List ℕ) → ((i : ℕ) → i < length bs → get_or bs i 0 < 256) → length bs ≡ 8 * n
+    → Commands bs
 commands_in zero [] fits long = record { commands = []; valid = All-nil IsCommand; spelled = refl }
 commands_in (suc n) (a ∷ b ∷ c ∷ d ∷ e ∷ f ∷ g ∷ h ∷ rest) fits long =
-    one_more a b c d e f g h rest (fits 0 (omega arith)) (fits 1 (omega arith)) (fits 2 (omega arith)) (fits 3 (omega arith)) (fits 4 (omega arith)) (fits 5 (omega arith)) (fits 6 (omega arith)) (fits 7 (omega arith))
-    (commands_in n rest (λ i below. fits (suc (suc (suc (suc (suc (suc (suc (suc i)))))))) (omega (arith, below))) (omega (arith, long)))
+    one_more a b c d e f g h rest (fits 0 (omega arith)) (fits 1 (omega arith)) (fits 2 (omega arith))
+    (fits 3 (omega arith)) (fits 4 (omega arith)) (fits 5 (omega arith)) (fits 6 (omega arith))
+    (fits 7 (omega arith))
+    (commands_in n rest (λ i below. fits (suc (suc (suc (suc (suc (suc (suc (suc i))))))))
+    (omega (arith, below))) (omega (arith, long)))
 commands_in n _ fits long = absurd (omega arith)
 
 each_fits : (bytes : List ℕ) → AreBytes bytes → (i : ℕ) → get_or bytes i 0 < 256
@@ -86,7 +93,8 @@ each_fits bytes fits i = elim (cases_lt i (length bytes)) [
   | inr past ↦ let zero : get_or bytes i 0 ≡ 0 = get_or_past bytes i 0 past in omega (arith, zero)
 ]
 
-is_packet : (bytes : List ℕ) → AreBytes bytes → 8 ≤ length bytes → told_count bytes ≤ 12 → length bytes ≡ 8 + 8 * told_count bytes
+is_packet : (bytes : List ℕ) → AreBytes bytes → 8 ≤ length bytes → told_count bytes ≤ 12
+    → length bytes ≡ 8 + 8 * told_count bytes
     → told_sum bytes ≡ sum_of (drop 4 bytes) → Reading bytes
 is_packet bytes fits long few whole sum =
     let word : ℕ = little_number 4 bytes in
@@ -96,7 +104,14 @@ is_packet bytes fits long few whole sum =
     let found = commands_in (told_count bytes) (drop 8 bytes) (λ i below. behind i 0 below) rest in
     let small : word < 2 ^ 32 = omega (arith, byte 0, byte 1, byte 2, byte 3) in
     record {
-      read = Ok (record { flags = word / 2 ^ 28; ask = get_or bytes 4 0; start = get_or bytes 5 0; player = get_or bytes 6 0; cmds = record { items = found.commands } });
+      read = Ok (record {
+        flags = word / 2 ^ 28;
+        ask = get_or bytes 4 0;
+        start = get_or bytes 5 0;
+        player =
+            get_or bytes 6 0;
+        cmds = record { items = found.commands };
+      });
       is_read = (
         record {
           flags = omega (arith, small);

@@ -19,9 +19,11 @@ abbrev pub IsReadAs : List ℕ → Result Packet PacketFault → Type 0
 IsReadAs bytes (Ok p) = IsPacket p × (bytes ≡ text p)
 IsReadAs bytes (Err Short) = length bytes < 8
 IsReadAs bytes (Err Many) = (8 ≤ length bytes) × (12 < told_count bytes)
-IsReadAs bytes (Err Length) = (8 ≤ length bytes) × (told_count bytes ≤ 12) × (length bytes ≢ 8 + 8 * told_count bytes)
+IsReadAs bytes (Err Length) = (8 ≤ length bytes) × (told_count bytes ≤ 12)
+    × (length bytes ≢ 8 + 8 * told_count bytes)
 IsReadAs bytes (Err Sum) =
-    (told_count bytes ≤ 12) × (length bytes ≡ 8 + 8 * told_count bytes) × (told_sum bytes ≢ sum_of (drop 4 bytes))
+    (told_count bytes ≤ 12) × (length bytes ≡ 8 + 8 * told_count bytes)
+    × (told_sum bytes ≢ sum_of (drop 4 bytes))
 
 -- what is read into a packet
 abbrev pub read_into : Packet → Result Unit PacketFault → Result Packet PacketFault

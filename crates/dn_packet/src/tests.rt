@@ -1,6 +1,6 @@
 //! Datagrams with known fields and faults.
 
-ghost use Rattle.std.specs.Prelude.{◌<◌};
+ghost use Rattle.std.specs.Prelude.{◌<◌, ◌≡◌, []};
 
 use super::*;
 use arrayvec::ArrayVec;
@@ -83,6 +83,14 @@ fn is_text_of(rt: &impl Abort, bytes: &[u8], packet: &Packet) {
     assert!(rt; packet.flags < 16);
     let written = encode(packet);
     assert_eq!(rt; written.as_slice(), bytes);
+    let mut room = [7; 106];
+    let size = encode_to(packet, &mut room);
+    assert_eq!(rt; room.get(..size), Some(bytes));
+    assert_eq!(rt;
+        room.get(size..)
+            .map(|rest| rest.iter().all(|byte| *byte == 7)),
+        Some(true)
+    );
 }
 
 #[test]
@@ -145,6 +153,53 @@ fn each_proper_prefix_is_short_or_of_wrong_length(rt: HostRuntime) {
             assert!(rt; decode(&bytes[..len]) == Err(fault), "{len} bytes");
         }
     }
+}
+
+/// A packet without commands whose numbers are not 0.
+fn marked() -> Packet
+    ensures { result.cmds.items ≡ [] }
+{
+    Packet {
+        flags: KILL,
+        ask: 1,
+        start: 2,
+        player: 3,
+        cmds: ArrayVec::new(),
+    }
+}
+
+fn leaves_the_packet(rt: &impl Abort, bytes: &[u8]) {
+    let mut read = marked();
+    assert!(rt;
+        decode_into(bytes, &mut read).is_err(),
+        "{bytes:?} is taken"
+    );
+    assert_eq!(rt; read, marked());
+}
+
+#[test]
+fn a_fault_leaves_the_packet(rt: HostRuntime) {
+    leaves_the_packet(&rt, &ONE[..7]);
+    leaves_the_packet(&rt, &ONE[..15]);
+    leaves_the_packet(&rt, &changed(ONE, 7, 13));
+    leaves_the_packet(&rt, &changed(ONE, 15, 2));
+}
+
+#[test]
+fn a_packet_is_decoded_in_place(rt: HostRuntime) {
+    let mut read = Packet::empty();
+    assert_eq!(rt; read, packet(0, 0, 0, 0, &[]));
+    assert!(rt; decode_into(&ONE, &mut read).is_ok());
+    assert_eq!(rt; read, packet(0, 0, 0, 0, &[attack()]));
+}
+
+#[test]
+fn a_packet_is_encoded_in_place(rt: HostRuntime) {
+    let choice = packet(SETUP, 99, 71, 109, &[]);
+    assert!(rt; choice.flags < 16);
+    let mut bytes = ArrayVec::new();
+    encode_into(&choice, &mut bytes);
+    assert_eq!(rt; bytes.as_slice(), CHOICE.as_slice());
 }
 
 /// Whether the sum leaves this bit out: the flags, and what its 28 bits have no room for.

@@ -14,17 +14,21 @@ put-ring_of cs c =
     let kept = length-append (drop n cs) (c ∷ []) in
     let rest = length-drop n cs in
     let count : length cs + 1 ≡ length (cs ++ c ∷ []) = omega arith in
-    let joined : drop n cs ++ c ∷ [] ≡ drop n (cs ++ c ∷ []) = sym (drop-append-le n cs (c ∷ []) (omega arith)) in
+    let joined : drop n cs ++ c ∷ [] ≡ drop n (cs ++ c ∷ []) =
+    sym (drop-append-le n cs (c ∷ []) (omega arith)) in
     let place : n + (length (drop n cs ++ c ∷ []) - 12) ≡ length (cs ++ c ∷ []) - 12 = omega arith in
-    let last : drop (length (drop n cs ++ c ∷ []) - 12) (drop n cs ++ c ∷ []) ≡ drop (length (cs ++ c ∷ []) - 12) (cs ++ c ∷ []) =
-    ap (drop (length (drop n cs ++ c ∷ []) - 12)) joined ∙ drop-drop _ n (cs ++ c ∷ []) ∙ ap (λ (k : ℕ). drop k (cs ++ c ∷ [])) place in
+    let last : drop (length (drop n cs ++ c ∷ []) - 12) (drop n cs ++ c ∷ [])
+    ≡ drop (length (cs ++ c ∷ []) - 12) (cs ++ c ∷ []) =
+    ap (drop (length (drop n cs ++ c ∷ []) - 12)) joined ∙ drop-drop _ n (cs ++ c ∷ [])
+    ∙ ap (λ (k : ℕ). drop k (cs ++ c ∷ [])) place in
     λ i. record { count = count i; last = last i }
 
 -- places of a list from one on, and past its end
 pub slice_get-drop : {X : Type 0} (k j : ℕ) (xs : List X) → slice_get (drop k xs) j ≡ slice_get xs (k + j)
 slice_get-drop zero j xs = let e : 0 + j ≡ j = omega arith in rw e refl
 slice_get-drop (suc k) j [] = refl
-slice_get-drop (suc k) j (x ∷ xs) = let e : suc k + j ≡ suc (k + j) = omega arith in rw e (slice_get-drop k j xs)
+slice_get-drop (suc k) j (x ∷ xs) = let e : suc k + j ≡ suc (k + j) = omega arith in
+    rw e (slice_get-drop k j xs)
 
 pub slice_get-past : {X : Type 0} (xs : List X) (j : ℕ) → length xs ≤ j → slice_get xs j ≡ None
 slice_get-past [] j h = refl
@@ -45,8 +49,10 @@ get-ring_of cs g h =
       | inl below ↦
           let first = lt-ltb g (length cs) below in
           let second : nat_le (length cs - g) 12 ≡ true = le-leb (length cs - g) 12 (omega arith) in
-          let place : length cs - 12 + (length (last_twelve cs) - (length cs - g)) ≡ g = omega (arith, length-drop (length cs - 12) cs) in
-          rw (first, second) (slice_get-drop (length cs - 12) (length (last_twelve cs) - (length cs - g)) cs ∙ ap (slice_get cs) place)
+          let place : length cs - 12 + (length (last_twelve cs) - (length cs - g)) ≡ g =
+          omega (arith, length-drop (length cs - 12) cs) in
+          rw (first, second) (slice_get-drop (length cs - 12) (length (last_twelve cs) - (length cs - g)) cs
+          ∙ ap (slice_get cs) place)
       | inr past ↦
           let first = le-ltb g (length cs) past in
           rw first (sym (slice_get-past cs g past))

@@ -12,14 +12,16 @@ use Rattle.dn_ring.proofs.Keeping.{get-ring_of}
 
 module _ {X : Type 0} where
   -- two functions that agree on each number of a range
-  map_same : (f g : ℕ → X) (a n : ℕ) → ((t : ℕ) → a ≤ t → t < a + n → f t ≡ g t) → map f (range_with_len a n) ≡ map g (range_with_len a n)
+  map_same : (f g : ℕ → X) (a n : ℕ) → ((t : ℕ) → a ≤ t → t < a + n → f t ≡ g t)
+      → map f (range_with_len a n) ≡ map g (range_with_len a n)
   map_same f g a zero same = refl
   map_same f g a (suc n) same =
       let first : f a ≡ g a = same a (omega arith) (omega arith) in
       let rest = map_same f g (a + 1) n (λ t low high. same t (omega arith) (omega arith)) in
       λ i. first i ∷ rest i
 
-  drop_range : (f : ℕ → X) (j a n : ℕ) → drop j (map f (range_with_len a n)) ≡ map f (range_with_len (a + j) (n - j))
+  drop_range : (f : ℕ → X) (j a n : ℕ) → drop j (map f (range_with_len a n))
+      ≡ map f (range_with_len (a + j) (n - j))
   drop_range f zero a n = let e : a + 0 ≡ a = omega arith in let k : n - 0 ≡ n = omega arith in rw (e, k) refl
   drop_range f (suc j) a zero = let k : 0 - suc j ≡ 0 = omega arith in rw k refl
   drop_range f (suc j) a (suc n) =
@@ -42,13 +44,15 @@ module _ (count : ℕ) (slots : List TicCmd) (table : IsTable count slots) (c : 
       let total : min (count + 1) 12 ≡ many + 1 = omega arith in
       let inside : count % 12 < length slots = let t = table.twelve in omega (arith, t) in
       let latest : in_slot newer count ≡ c = get_or-set_same slots (count % 12) c no_command inside in
-      let kept = map_same (in_slot newer) (in_slot slots) first many (λ tic low high. stays tic low (omega arith)) in
+      let kept = map_same (in_slot newer) (in_slot slots) first many
+      (λ tic low high. stays tic low (omega arith)) in
       let long = length-map-range_with_len (in_slot slots) (count - 12) (min count 12) in
       let joined = length-append (last_in count slots) (c ∷ []) in
       let gone : length (last_in count slots ++ c ∷ []) - 12 ≡ first - (count - 12) = omega arith in
       let begin : count - 12 + (first - (count - 12)) ≡ first = omega arith in
       let rest : min count 12 - (first - (count - 12)) ≡ many = omega arith in
-      let older : drop (first - (count - 12)) (last_in count slots) ≡ map (in_slot slots) (range_with_len first many) =
+      let older : drop (first - (count - 12)) (last_in count slots)
+      ≡ map (in_slot slots) (range_with_len first many) =
       drop_range (in_slot slots) (first - (count - 12)) (count - 12) (min count 12)
       ∙ (λ i. map (in_slot slots) (range_with_len (begin i) (rest i))) in
       ap (λ (k : ℕ). map (in_slot newer) (range_with_len first k)) total
@@ -58,7 +62,8 @@ module _ (count : ℕ) (slots : List TicCmd) (table : IsTable count slots) (c : 
       ∙ drop-append-le (first - (count - 12)) (last_in count slots) (c ∷ []) (omega arith)
       ∙ ap (λ (xs : List TicCmd). xs ++ c ∷ []) older)
 
-  pub put_table : record { count = count + 1; last = last_in (count + 1) newer } ≡ put (record { count = count; last = last_in count slots }) c
+  pub put_table : record { count = count + 1; last = last_in (count + 1) newer }
+      ≡ put (record { count = count; last = last_in count slots }) c
   put_table = λ i. record { count = count + 1; last = put_slot i }
 
 -- the command of a tic stands in its slot
@@ -72,7 +77,8 @@ get_slot count tic slots low high =
     let there : length (last_in count slots) - (count - tic) ≡ place = omega arith in
     rw (first, second) (ap (slice_get (last_in count slots)) there
     ∙ slice_get-get_or (last_in count slots) place no_command (omega arith)
-    ∙ ap Some (get_or-map-range_with_len (in_slot slots) (count - 12) (min count 12) place tic no_command (omega arith) (omega arith)))
+    ∙ ap Some (get_or-map-range_with_len (in_slot slots) (count - 12) (min count 12) place tic no_command
+    (omega arith) (omega arith)))
 
 -- the table is that of every list that it may come from
 pub slots_are : (count : ℕ) (slots commands : List TicCmd) → IsTable count slots
@@ -85,7 +91,8 @@ slots_are count slots commands table is =
       taken = λ tic command high at.
           let low = slice_get_within commands tic command at in
           let same : Some (in_slot slots tic) ≡ Some command =
-          sym (get_slot count tic slots (omega arith) (omega arith)) ∙ ap (λ (r : Ring). get r tic) is ∙ get-ring_of commands tic high ∙ at in
+          sym (get_slot count tic slots (omega arith) (omega arith)) ∙ ap (λ (r : Ring). get r tic) is
+          ∙ get-ring_of commands tic high ∙ at in
           slice_get-get_or slots (tic % 12) no_command (omega arith) ∙ same;
       free = λ slot low high.
           slice_get-get_or slots slot no_command (omega arith) ∙ ap Some (table.free slot (omega arith) high);

@@ -33,11 +33,12 @@ get ring tic =
 abbrev pub no_command : TicCmd
 no_command = record { forward = pos 0; side = pos 0; turn = pos 0; mark = pos 0; chat = 0; buttons = 0 }
 
--- the table of a whole list of commands: the slot of each of the last twelve has it, and a slot that no command has taken is
--- zero (`d_net.c`: command t stands in slot t % BACKUPTICS)
+-- the table of a whole list of commands: the slot of each of the last twelve has it, and a slot that no
+-- command has taken is zero (`d_net.c`: command t stands in slot t % BACKUPTICS)
 pub record AreSlotsOf (commands slots : List TicCmd) : Type 0 where
   pub twelve : length slots ≡ 12
-  pub taken : (tic : ℕ) (command : TicCmd) → length commands ≤ tic + 12 → slice_get commands tic ≡ Some command
+  pub taken : (tic : ℕ) (command : TicCmd) → length commands ≤ tic + 12
+      → slice_get commands tic ≡ Some command
       → slice_get slots (tic % 12) ≡ Some command
   pub free : (slot : ℕ) → length commands ≤ slot → slot < 12 → slice_get slots slot ≡ Some no_command
 
@@ -45,11 +46,11 @@ pub record AreSlotsOf (commands slots : List TicCmd) : Type 0 where
 abbrev pub in_slot : List TicCmd → ℕ → TicCmd
 in_slot slots tic = slice_index_or slots (tic % 12) no_command
 
--- the last of so many commands, by their table
+-- the last commands of this many, by their table
 abbrev pub last_in : ℕ → List TicCmd → List TicCmd
 last_in count slots = map (in_slot slots) (range_with_len (count - 12) (min count 12))
 
--- a table of so many commands
+-- a table of `count` commands
 pub record IsTable (count : ℕ) (slots : List TicCmd) : Type 0 where
   pub twelve : length slots ≡ 12
   pub free : (slot : ℕ) → count ≤ slot → slot < 12 → slice_index_or slots slot no_command ≡ no_command

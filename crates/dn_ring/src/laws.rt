@@ -8,8 +8,10 @@ ghost use Rattle.dn_ring.specs.Ring.{empty, put, get, ring_of};
 /// but for tics that lie more than twelve behind.
 pub fn rings_keep_the_last()
     ensures none { empty ≡ ring_of [] }
-    ensures more { (commands : List TicCmd) (command : TicCmd) → put (ring_of commands) command ≡ ring_of (commands ++ command ∷ []) }
+    ensures more { (commands : List TicCmd) (command : TicCmd)
+        → put (ring_of commands) command ≡ ring_of (commands ++ command ∷ []) }
     ensures kept { (commands : List TicCmd) (tic : ℕ) → length commands ≤ tic + 12
         → get (ring_of commands) tic ≡ slice_get commands tic }
-    ensures gone { (commands : List TicCmd) (tic : ℕ) → tic + 12 < length commands → get (ring_of commands) tic ≡ None }
+    ensures gone { (commands : List TicCmd) (tic : ℕ) → tic + 12 < length commands
+        → get (ring_of commands) tic ≡ None }
 {}

@@ -1,8 +1,8 @@
 //! A count of commands, and the last twelve of them.
 
-ghost use Rattle.std.specs.Prelude.{◌≡◌, ◌+◌, ◌^◌, ◌<◌, ◌≤◌, List, true, is_some};
+ghost use Rattle.std.specs.Prelude.{◌≡◌, ◌+◌, ◌^◌, ◌%◌, ◌<◌, ◌≤◌, ℕ, List, Some, true, is_some};
 ghost use Rattle.dn_tic.specs.declared.command.TicCmd.{TicCmd};
-ghost use Rattle.dn_ring.specs.Ring.{empty, put, get, ring_of, AreSlotsOf};
+ghost use Rattle.dn_ring.specs.Ring.{empty, put, get, no_command, ring_of, AreSlotsOf};
 
 use dn_tic::TicCmd;
 use std::marker::Model;
@@ -63,10 +63,30 @@ impl Ring {
         ensures there { tic < self.now.count → self.now.count ≤ tic + 12 → is_some result ≡ true }
     {
         if tic < self.count && self.count - tic <= PLACES {
-            Some(self.slots[(tic % PLACES) as usize])
+            Some(self.at(tic))
         } else {
             None
         }
+    }
+
+    /// The command of a tic that is one of the last twelve.
+    pub fn at(&self, tic: u32) -> TicCmd
+        requires there { tic < self.now.count }
+        requires kept { self.now.count ≤ tic + 12 }
+        ensures { get self.now tic ≡ Some result }
+    {
+        self.slot((tic % PLACES) as usize)
+    }
+
+    /// The command in a slot. That of tic t, which is one of the last twelve, stands in slot `t % 12`; a slot
+    /// that was never taken has the command of eight zero bytes.
+    pub fn slot(&self, place: usize) -> TicCmd
+        requires { place < 12 }
+        ensures taken { (tic : ℕ) → tic < self.now.count → self.now.count ≤ tic + 12 → place ≡ tic % 12
+            → get self.now tic ≡ Some result }
+        ensures free { self.now.count ≤ place → result ≡ no_command }
+    {
+        self.slots[place]
     }
 
     /// The twelve slots: each of the last twelve commands stands in slot `tic % 12`, and a slot that was

@@ -22,6 +22,9 @@ fn a_ring_keeps_the_last_twelve(rt: HostRuntime) {
         assert_eq!(rt; ring.get(tic + 1), None);
     }
     assert_eq!(rt; ring.count(), 14);
+    assert_eq!(rt; (ring.at(2), ring.at(13)), (chat(2), chat(13)));
+    // tic 13 stands where tic 1 stood
+    assert_eq!(rt; (ring.slot(1), ring.slot(2)), (chat(13), chat(2)));
     let rows = [
         (0, None),
         (1, None),
@@ -54,6 +57,10 @@ fn slots_go_round(rt: HostRuntime) {
 fn a_slot_that_was_never_taken_is_zero(rt: HostRuntime) {
     let mut ring = Ring::new();
     ring.put(chat(7));
+    assert_eq!(rt;
+        (ring.slot(0), ring.slot(1)),
+        (chat(7), TicCmd::from_bytes(&[0; 8]))
+    );
     assert_eq!(rt; ring.slots()[0], chat(7));
     for place in 1..12 {
         assert_eq!(rt;

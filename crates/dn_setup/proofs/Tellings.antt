@@ -55,7 +55,13 @@ told p set here ranges =
         set,
         here,
         record {
-          in_range = record { skill = ranges.skill; deathmatch = ranges.deathmatch; episode = ranges.episode; map = ranges.map };
+          in_range = record {
+            skill = ranges.skill;
+            deathmatch = ranges.deathmatch;
+            episode =
+                ranges.episode;
+            map = ranges.map;
+          };
           ask = omega (arith, respawn, monsters);
           start = omega arith;
         },
@@ -63,7 +69,8 @@ told p set here ranges =
     }
 
 out_of_range : (p : Packet) → HasSetup p → p.player ≡ version → ¬ Ranges p → Told p
-out_of_range p set here none = record { told = Err Range; is_told = (set, here, λ s tells. none (in_ranges p s tells)) }
+out_of_range p set here none =
+    record { told = Err Range; is_told = (set, here, λ s tells. none (in_ranges p s tells)) }
 
 of_version : (p : Packet) → HasSetup p → p.player ≡ version → Told p
 of_version p set here = elim (cases_lt 4 (p.ask % 16)) [
@@ -78,7 +85,15 @@ of_version p set here = elim (cases_lt 4 (p.ask % 16)) [
           | inl low ↦ out_of_range p set here (λ r. omega (arith, low, r.map.0))
           | inr least ↦ elim (cases_lt 32 (p.start % 64)) [
             | inl high ↦ out_of_range p set here (λ r. omega (arith, high, r.map.1))
-            | inr map ↦ told p set here (record { skill = skill; deathmatch = deathmatch; episode = (first, episode); map = (least, map) })
+            | inr map ↦
+                told p set here
+                (record {
+                  skill = skill;
+                  deathmatch = deathmatch;
+                  episode = (first, episode);
+                  map =
+                      (least, map);
+                })
           ]
         ]
       ]

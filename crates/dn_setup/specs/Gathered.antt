@@ -1,4 +1,4 @@
--- Of whom the key player has heard.
+-- Which players the key player has heard.
 use Rattle.std.specs.Prelude.{ℕ, ◌-◌, Bool, false, ◌&&◌, nat_lt, List, slice_index_or}
 use Rattle.std.specs.List.{list_all, range_with_len}
 

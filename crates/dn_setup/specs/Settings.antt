@@ -15,7 +15,15 @@ pub record Settings : Type 0 where
 -- the choice of these
 abbrev pub choice : ℕ → ℕ → Bool → Bool → ℕ → ℕ → Settings
 choice skill deathmatch no_monsters respawn episode map =
-    record { skill = skill; deathmatch = deathmatch; no_monsters = no_monsters; respawn = respawn; episode = episode; map = map }
+    record {
+      skill = skill;
+      deathmatch = deathmatch;
+      no_monsters = no_monsters;
+      respawn = respawn;
+      episode =
+          episode;
+      map = map;
+    }
 
 -- five skills, the easiest is 0 (doomdef.h)
 abbrev pub IsSkill : ℕ → Type 0

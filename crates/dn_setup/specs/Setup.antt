@@ -1,6 +1,7 @@
 -- The packet by which the key player tells the others what was chosen (d_net.c).
 use Rattle.std.specs.Prelude.{◌≡◌, ◌≢◌, ℕ, ◌+◌, ◌*◌, [], Result, Ok, Err, IsBitSet}
 use Rattle.dn_packet.specs.declared.packet.Packet.{Packet}
+use Rattle.dn_packet.specs.Flags as flag
 use Rattle.dn_setup.specs.Settings.{Settings, IsSettings}
 use Rattle.dn_setup.specs.Starts.{bit}
 use Rattle.dn_setup.specs.declared.setup.SetupFault.{SetupFault}
@@ -20,7 +21,14 @@ version = 111
 
 -- the packet of settings: flag SETUP alone, the version in the player's place, and no commands
 abbrev pub setup_packet : Settings → Packet
-setup_packet s = record { flags = 2; ask = ask_byte s; start = start_byte s; player = version; cmds = record { items = [] } }
+setup_packet s = record {
+  flags = flag.set_up;
+  ask = ask_byte s;
+  start = start_byte s;
+  player =
+      version;
+  cmds = record { items = [] };
+}
 
 -- the flag SETUP, the second lowest, is set
 abbrev pub HasSetup : Packet → Type 0

@@ -20,12 +20,16 @@ pub struct Settings {
 /// The first field of a choice that is out of range.
 #[derive(Clone, Copy, Debug, PartialEq, Eq, Error)]
 pub enum SettingsFault {
+    /// Skill above 4.
     #[error("skill")]
     Skill,
+    /// Deathmatch above 2.
     #[error("deathmatch")]
     Deathmatch,
+    /// Episode other than 1 to 3.
     #[error("episode")]
     Episode,
+    /// Map other than 1 to 32.
     #[error("map")]
     Map,
 }
@@ -39,7 +43,15 @@ impl Model for Settings {
 
     ghost invariant = { λ s. IsSettings (choice s.skill s.deathmatch s.no_monsters s.respawn s.episode s.map) };
 
-    ghost inverse = { λ s. record { skill = s.skill; deathmatch = s.deathmatch; no_monsters = s.no_monsters; respawn = s.respawn; episode = s.episode; map = s.map } };
+    ghost inverse = { λ s. record {
+      skill = s.skill;
+      deathmatch = s.deathmatch;
+      no_monsters =
+          s.no_monsters;
+      respawn = s.respawn;
+      episode = s.episode;
+      map = s.map;
+    } };
 }
 
 impl Settings {
@@ -83,6 +95,7 @@ impl Settings {
         })
     }
 
+    /// How hard the monsters are: 0 to 4.
     pub fn skill(&self) -> u8
         ensures value { result ≡ self.now.skill }
         ensures in_range { IsSkill result }
@@ -90,6 +103,7 @@ impl Settings {
         self.skill
     }
 
+    /// 0 for a cooperative game, 1 for deathmatch, 2 for deathmatch with items that come back.
     pub fn deathmatch(&self) -> u8
         ensures value { result ≡ self.now.deathmatch }
         ensures in_range { IsDeathmatch result }
@@ -97,18 +111,21 @@ impl Settings {
         self.deathmatch
     }
 
+    /// Whether the game has no monsters.
     pub fn no_monsters(&self) -> bool
         ensures { result ≡ self.now.no_monsters }
     {
         self.no_monsters
     }
 
+    /// Whether monsters come back after they died.
     pub fn respawn(&self) -> bool
         ensures { result ≡ self.now.respawn }
     {
         self.respawn
     }
 
+    /// The episode: 1 to 3.
     pub fn episode(&self) -> u8
         ensures value { result ≡ self.now.episode }
         ensures in_range { IsEpisode result }
@@ -116,6 +133,7 @@ impl Settings {
         self.episode
     }
 
+    /// The map: 1 to 32.
     pub fn map(&self) -> u8
         ensures value { result ≡ self.now.map }
         ensures in_range { IsMap result }

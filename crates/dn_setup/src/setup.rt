@@ -17,10 +17,13 @@ pub const VERSION: u8 = 111;
 /// Why a packet tells no settings.
 #[derive(Clone, Copy, Debug, PartialEq, Eq, Error)]
 pub enum SetupFault {
+    /// SETUP is absent.
     #[error("no set-up")]
     NotSetup,
+    /// The version is not 111.
     #[error("version")]
     Version,
+    /// The ask or start byte is that of no choice.
     #[error("range")]
     Range,
 }
@@ -43,8 +46,8 @@ pub fn to_packet(settings: &Settings) -> Packet
     }
 }
 
-/// The settings that the packet tells. It is refused where SETUP is absent, then for another version than 111, then
-/// where its ask and start bytes are those of no choice (`d_net.c`, D_ArbitrateNetStart).
+/// The settings that the packet tells. It is refused where SETUP is absent, then for another version than
+/// 111, then where its ask and start bytes are those of no choice (`d_net.c`, D_ArbitrateNetStart).
 pub fn from_packet(packet: &Packet) -> Result<Settings, SetupFault>
     ensures reads { IsSetupReadAs packet.now result }
     ensures only { (r : Result Settings SetupFault) → IsSetupReadAs packet.now r → result ≡ r }

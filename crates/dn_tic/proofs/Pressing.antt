@@ -9,7 +9,8 @@ use Rattle.dn_tic.specs.Pressed.{pressed, clamped, opposed, strafed, forward_amo
 -- the last of some states and one more
 pub last_state-push : (states : List ℕ) (keys : ℕ) → last_state (states ++ keys ∷ []) ≡ keys
 last_state-push states keys =
-    let last : length (states ++ keys ∷ []) - 1 ≡ length states = omega (arith, length-append states (keys ∷ [])) in
+    let last : length (states ++ keys ∷ []) - 1 ≡ length states =
+    omega (arith, length-append states (keys ∷ [])) in
     ap (λ (i : ℕ). get_or (states ++ keys ∷ []) i 0) last ∙ get_or-append_seam states keys [] 0
 
 pub pressed-push : (states : List ℕ) (keys hold : ℕ) (mark : ℤ) → hold ≡ turn_hold (states ++ keys ∷ [])
@@ -26,22 +27,29 @@ clamped-high x = omega (arith, ints, clamps)
 
 pub forward-low : (states : List ℕ) (mark : ℤ) → negsuc 49 ≤ℤ (pressed states mark).forward
 unfolding pressed
-forward-low states mark = clamped-low (opposed (last_state states) Forward Back (forward_amount (last_state states)))
+forward-low states mark =
+    clamped-low (opposed (last_state states) Forward Back (forward_amount (last_state states)))
 
 pub forward-high : (states : List ℕ) (mark : ℤ) → (pressed states mark).forward ≤ℤ pos 50
 unfolding pressed
-forward-high states mark = clamped-high (opposed (last_state states) Forward Back (forward_amount (last_state states)))
+forward-high states mark =
+    clamped-high (opposed (last_state states) Forward Back (forward_amount (last_state states)))
 
 -- a pair of opposite keys gives no more than the amount
-pub opposed-high : (more less : Bool) (one other amount : ℤ) → one ≡ pos (from_bool more) → other ≡ pos (from_bool less)
+pub opposed-high : (more less : Bool) (one other amount : ℤ) → one ≡ pos (from_bool more)
+    → other ≡ pos (from_bool less)
     → pos 0 ≤ℤ amount → amount ≤ℤ pos 1280
-    → to_z w16 (of_z w16 (to_z w16 (of_z w16 (to_z w16 (of_z w16 one) -ℤ to_z w16 (of_z w16 other))) *ℤ to_z w16 (of_z w16 amount))) ≤ℤ amount
+    → to_z w16
+    (of_z w16 (to_z w16 (of_z w16 (to_z w16 (of_z w16 one) -ℤ to_z w16 (of_z w16 other))) *ℤ to_z w16
+    (of_z w16 amount))) ≤ℤ amount
 opposed-high true true one other amount e f least most = rw (e, f) (omega (arith, ints, least, most))
 opposed-high true false one other amount e f least most = rw (e, f) (omega (arith, ints, least, most))
 opposed-high false true one other amount e f least most = rw (e, f) (omega (arith, ints, least, most))
 opposed-high false false one other amount e f least most = rw (e, f) (omega (arith, ints, least, most))
 
 -- the two parts of a side move
-pub side_is : (keys : ℕ) (from_turn amount from_strafe : ℤ) → from_turn ≡ strafed keys → amount ≡ side_amount keys
-    → from_strafe ≡ opposed keys StrafeRight StrafeLeft amount → from_turn +ℤ from_strafe ≡ strafed keys +ℤ opposed keys StrafeRight StrafeLeft (side_amount keys)
+pub side_is : (keys : ℕ) (from_turn amount from_strafe : ℤ) → from_turn ≡ strafed keys
+    → amount ≡ side_amount keys
+    → from_strafe ≡ opposed keys StrafeRight StrafeLeft amount
+    → from_turn +ℤ from_strafe ≡ strafed keys +ℤ opposed keys StrafeRight StrafeLeft (side_amount keys)
 side_is keys from_turn amount from_strafe a b c = rw (a, c, b) refl

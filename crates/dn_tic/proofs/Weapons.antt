@@ -7,7 +7,8 @@ use Rattle.dn_tic.specs.Keys.{is_down}
 use Rattle.dn_tic.specs.Pressed.{weapons}
 
 -- a bit that is 1 stops the count, and else the count goes on behind it
-below : (bit other rest more : ℕ) → bit < 2 → bit ≡ other → rest ≡ more → under bit rest ≡ cond {A = ℕ} (not (other == 1)) (1 + more) 0
+below : (bit other rest more : ℕ) → bit < 2 → bit ≡ other → rest ≡ more
+    → under bit rest ≡ cond {A = ℕ} (not (other == 1)) (1 + more) 0
 below zero other rest more small same e = rw (sym same) (omega (arith, e))
 below (suc zero) other rest more small same e = rw (sym same) refl
 below (suc (suc bit)) other rest more small same e = absurd (omega arith)

@@ -55,7 +55,8 @@ weapon_buttons (Some place) = 4 + 8 * place
 
 abbrev pub buttons_of : ℕ → ℕ
 buttons_of keys =
-    (if is_down keys Attack then 1 else 0) + (if is_down keys Use then 2 else 0) + weapon_buttons (position (is_down keys) weapons)
+    (if is_down keys Attack then 1 else 0) + (if is_down keys Use then 2 else 0)
+    + weapon_buttons (position (is_down keys) weapons)
 
 -- the command of one key state, at this turn hold, with this consistency mark
 abbrev pub command_of : ℕ → ℕ → ℤ → TicCmd

@@ -58,10 +58,12 @@ impl Builder {
 
     /// The command of these keys, with this consistency mark.
     pub fn build(&mut self, keys: Keys, mark: i16) -> TicCmd
-        ensures command { (states : List ℕ) → self.old ≡ turn_hold states → result ≡ pressed (states ++ keys ∷ []) mark }
+        ensures command { (states : List ℕ) → self.old ≡ turn_hold states
+            → result ≡ pressed (states ++ keys ∷ []) mark }
         ensures least { negsuc 49 ≤ℤ result.forward }
         ensures most { result.forward ≤ℤ pos 50 }
-        ensures hold { (states : List ℕ) → self.old ≡ turn_hold states → self.new ≡ turn_hold (states ++ keys ∷ []) }
+        ensures hold { (states : List ℕ) → self.old ≡ turn_hold states
+            → self.new ≡ turn_hold (states ++ keys ∷ []) }
     {
         self.hold = next_hold(self.hold, keys);
         TicCmd {

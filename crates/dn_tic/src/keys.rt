@@ -8,23 +8,41 @@ use std::marker::Model;
 /// A key that a command depends on.
 #[derive(Clone, Copy, Debug, PartialEq, Eq)]
 pub enum Key {
+    /// Goes forward.
     Forward,
+    /// Goes back.
     Back,
+    /// Turns left; with `Strafe`, goes left.
     Left,
+    /// Turns right; with `Strafe`, goes right.
     Right,
+    /// Goes left.
     StrafeLeft,
+    /// Goes right.
     StrafeRight,
+    /// Makes the turn keys go to the sides.
     Strafe,
+    /// Runs.
     Speed,
+    /// Fires.
     Attack,
+    /// Opens doors and presses switches.
     Use,
+    /// Takes up weapon 1.
     Weapon1,
+    /// Takes up weapon 2.
     Weapon2,
+    /// Takes up weapon 3.
     Weapon3,
+    /// Takes up weapon 4.
     Weapon4,
+    /// Takes up weapon 5.
     Weapon5,
+    /// Takes up weapon 6.
     Weapon6,
+    /// Takes up weapon 7.
     Weapon7,
+    /// Takes up weapon 8.
     Weapon8,
 }
 

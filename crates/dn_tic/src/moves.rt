@@ -81,7 +81,8 @@ fn strafed(keys: Keys) -> i16
 
 /// How far the keys go to the right.
 pub(crate) fn side_move(keys: Keys) -> i8
-    ensures { result ≡ clamped (strafed keys +ℤ opposed keys Key.StrafeRight Key.StrafeLeft (side_amount keys)) }
+    ensures { result ≡ clamped (strafed keys +ℤ opposed keys Key.StrafeRight Key.StrafeLeft
+        (side_amount keys)) }
 {
     let side = strafed(keys) + opposed(keys, Key::StrafeRight, Key::StrafeLeft, side_amount(keys));
     side.clamp(-FARTHEST, FARTHEST) as i8

@@ -25,8 +25,10 @@ pub read_and_told : (bytes : List ℕ) → packet.Reading bytes → ((p : Packet
 read_and_told bytes r tells =
     let t = telling tells r.read in record { read = r.read; told = t.0; is_read = r.is_read; is_told = t.1 }
 
-pub heard_more : {S L : Type 0} (polls : Polls L) (rules : Rules S) (me heard : ℕ) (datagram : Datagram) (old mid new : machine.Node × L)
-    → Hears polls rules me heard old mid → polls mid.1 me (Ok (Some datagram)) new.1 → Receives rules me mid.0 datagram new.0
+pub heard_more : {S L : Type 0} (polls : Polls L) (rules : Rules S) (me heard : ℕ) (datagram : Datagram)
+    (old mid new : machine.Node × L)
+    → Hears polls rules me heard old mid → polls mid.1 me (Ok (Some datagram)) new.1
+    → Receives rules me mid.0 datagram new.0
     → Hears polls rules me (heard + 1) old new
 heard_more polls rules me heard datagram old mid new before polled received =
     let P : ℕ → Type 0 = λ k. Hears polls rules me k old new in

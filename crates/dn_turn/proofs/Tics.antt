@@ -7,7 +7,8 @@ use Rattle.dn_machine.specs.Running.{on_run}
 use Rattle.dn_turn.specs.Running.{is_ran, after_runs, next_ran, IsRunOn}
 
 -- all runs so far ran a tic
-pub record RanSoFar {S : Type 0} (rules : Rules S) (old : machine.Node) (ran : ℕ) (new : machine.Node) : Type 0 where
+pub record RanSoFar {S : Type 0} (rules : Rules S) (old : machine.Node) (ran : ℕ)
+    (new : machine.Node) : Type 0 where
   pub runs : (k : ℕ) → k < ran → next_ran rules old k ≡ true
   pub after : new ≡ after_runs rules old ran
 
@@ -15,19 +16,26 @@ split : (k n : ℕ) → k < n + 1 → (k < n) ⊎ (k ≡ n)
 split k n below = search (arith, below)
 
 pub ran_more : {S : Type 0} (rules : Rules S) (old : machine.Node) (ran : ℕ) (mid : machine.Node)
-    → RanSoFar rules old ran mid → is_ran (on_run rules mid).1 ≡ true → RanSoFar rules old (ran + 1) (on_run rules mid).0
+    → RanSoFar rules old ran mid → is_ran (on_run rules mid).1 ≡ true
+    → RanSoFar rules old (ran + 1) (on_run rules mid).0
 ran_more rules old ran mid before one =
-    let here : next_ran rules old ran ≡ true = ap (λ (m : machine.Node). is_ran (on_run rules m).1) (sym before.after) ∙ one in
+    let here : next_ran rules old ran ≡ true =
+    ap (λ (m : machine.Node). is_ran (on_run rules m).1) (sym before.after) ∙ one in
     let P : ℕ → Type 0 = λ k. next_ran rules old k ≡ true in
     let Q : ℕ → Type 0 = λ k. (on_run rules mid).0 ≡ after_runs rules old k in
     let more : suc ran ≡ ran + 1 = omega arith in
     record {
-      runs = λ k below. elim (split k ran below) [ inl less ↦ before.runs k less | inr same ↦ subst P (sym same) here ];
+      runs = λ k below. elim (split k ran below) [
+        | inl less ↦ before.runs k less
+        | inr same ↦
+            subst P (sym same) here
+      ];
       after = subst Q more (ap (λ (m : machine.Node). (on_run rules m).0) before.after);
     }
 
 pub ran_last : {S : Type 0} (rules : Rules S) (old : machine.Node) (ran : ℕ) (mid : machine.Node)
-    → RanSoFar rules old ran mid → is_ran (on_run rules mid).1 ≡ false → IsRunOn rules old (on_run rules mid).0 ran
+    → RanSoFar rules old ran mid → is_ran (on_run rules mid).1 ≡ false
+    → IsRunOn rules old (on_run rules mid).0 ran
 ran_last rules old ran mid before one =
     record {
       runs = before.runs;

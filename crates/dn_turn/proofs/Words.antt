@@ -2,7 +2,8 @@
 use Rattle.std.proofs.Common.{◌≡◌, ◌+◌, ℕ, zero, suc, refl, ap, ◌∙◌, arith}
 use Rattle.rand_pcg.specs.Lcg.{Lcg, next, advance, next_state, state_after}
 
-after_one : (w m increment n state : ℕ) → next_state w m increment (state_after w m increment n state) ≡ state_after w m increment (suc n) state
+after_one : (w m increment n state : ℕ) → next_state w m increment (state_after w m increment n state)
+    ≡ state_after w m increment (suc n) state
 unfolding state_after
 after_one w m increment zero state = refl
 after_one w m increment (suc n) state = after_one w m increment n (next_state w m increment state)
@@ -11,7 +12,8 @@ after_one w m increment (suc n) state = after_one w m increment n (next_state w 
 pub one_more : (w m n : ℕ) (g : Lcg) → next w m (advance w m n g) ≡ advance w m (n + 1) g
 one_more w m n g =
     let more : suc n ≡ n + 1 = omega arith in
-    ap (λ (s : ℕ). record g { state = s }) (after_one w m g.increment n g.state ∙ ap (λ (k : ℕ). state_after w m g.increment k g.state) more)
+    ap (λ (s : ℕ). record g { state = s }) (after_one w m g.increment n g.state
+    ∙ ap (λ (k : ℕ). state_after w m g.increment k g.state) more)
 
 pub no_more : (w m : ℕ) (g : Lcg) → g ≡ advance w m 0 g
 unfolding state_after

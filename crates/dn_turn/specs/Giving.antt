@@ -13,7 +13,8 @@ abbrev pub Sends : Type 0 → Type 1
 Sends L = L → ℕ → ℕ → List ℕ → Result Done LineFault → L → Type 0
 
 -- a packet is sent where there is one, and the line answers
-abbrev pub SendsOne : {L : Type 0} → Sends L → ℕ → ℕ → Option Flight → Option (Result Done LineFault) → L → L → Type 0
+abbrev pub SendsOne : {L : Type 0} → Sends L → ℕ → ℕ → Option Flight → Option (Result Done LineFault) → L → L
+    → Type 0
 SendsOne sends me to (Some flight) (Some answer) old new = sends old me to (bytes_of flight) answer new
 SendsOne sends me to (Some flight) None old new = ⊥
 SendsOne sends me to None (Some answer) old new = ⊥
@@ -38,8 +39,10 @@ pub record Giving (L : Type 0) : Type 0 where
   pub sent : ℕ
   pub failed : ℕ
 
--- the machine's packet for a player is sent, if there is one, and counted by the line's answer; the own number gets none
-pub record GivesOne {S L : Type 0} (sends : Sends L) (rules : Rules S) (me to : ℕ) (old new : Giving L) : Type 0 where
+-- the machine's packet for a player is sent, if there is one, and counted by the line's answer; the own
+-- number gets none
+pub record GivesOne {S L : Type 0} (sends : Sends L) (rules : Rules S) (me to : ℕ)
+    (old new : Giving L) : Type 0 where
   pub answer : Option (Result Done LineFault)
   pub line : SendsOne sends me to (on_send rules me old.node to).1 answer old.line new.line
   pub node : new.node ≡ (on_send rules me old.node to).0
@@ -52,8 +55,9 @@ Gives sends rules me zero old new = new ≡ old
 Gives {S} {L} sends rules me (suc to) old new =
     (mid : Giving L) × Gives sends rules me to old mid × GivesOne sends rules me to mid new
 
--- a packet for each player, of which so many were sent and so many sends failed
-abbrev pub IsGiven : {S L : Type 0} → Sends L → Rules S → ℕ → machine.Node × L → machine.Node × L → ℕ → ℕ → Type 0
+-- a packet for each player: how many were sent, and how many sends failed
+abbrev pub IsGiven : {S L : Type 0} → Sends L → Rules S → ℕ → machine.Node × L → machine.Node × L → ℕ → ℕ
+    → Type 0
 IsGiven sends rules me old new sent failed =
     Gives sends rules me rules.players (record { node = old.0; line = old.1; sent = 0; failed = 0 })
     (record { node = new.0; line = new.1; sent = sent; failed = failed })

@@ -7,7 +7,8 @@ use Rattle.dn_node.specs.Contents.{Contents}
 use Rattle.dn_node.specs.Represents.{Represents}
 
 -- a node represents a node of the machine that stands in this relation to the one before
-pub record IsLed {W S : Type 0} (state : W → S) (rules : Rules S) (me : ℕ) (n : Contents W) (Leads : machine.Node → Type 0) : Type 0 where
+pub record IsLed {W S : Type 0} (state : W → S) (rules : Rules S) (me : ℕ) (n : Contents W)
+    (Leads : machine.Node → Type 0) : Type 0 where
   pub after : machine.Node
   pub node : Represents state rules me n after
   pub leads : Leads after
@@ -18,9 +19,10 @@ abbrev pub Leads : {W S : Type 0} → (W → S) → Physics S → Contents W →
 Leads {W} {S} state physics old new By =
     (players : ℕ) (extra : Bool) (capacity me : ℕ) (m : machine.Node)
     → Represents state (rules_of physics players extra capacity) me old m
-    → IsLed state (rules_of physics players extra capacity) me new (By (rules_of physics players extra capacity) me m)
+    → IsLed state (rules_of physics players extra capacity) me new
+    (By (rules_of physics players extra capacity) me m)
 
--- a count of 64 bits after so many failures
+-- a count of 64 bits after this many failures
 abbrev pub risen : ℕ → ℕ → ℕ
 risen zero count = count
 risen (suc failures) count = (risen failures count + 1) % 2 ^ 64

@@ -17,10 +17,11 @@ use Rattle.dn_turn.specs.declared.turning.Turned.{Turned}
 -- a player's keys in a round: the bits of the word of that number of the player's own stream
 abbrev pub keys_in : ℕ → ℕ → ℕ → ℕ
 keys_in seed round player =
-    (pcg32 (advance 64 multiplier_64 round (started 64 multiplier_64 seed (increment_of 64 player)))).0 % 2 ^ 18
+    (pcg32 (advance 64 multiplier_64 round (started 64 multiplier_64 seed (increment_of 64 player)))).0 % 2 ^
+    18
 
--- a node of the machine in its game: the number of players, whether packets repeat the last command, the bytes of a
--- demo, and the node's number
+-- a node of the machine in its game: the number of players, whether packets repeat the last command, the
+-- bytes of a demo, and the node's number
 pub record Seat : Type 0 where
   pub players : ℕ
   pub extra : Bool
@@ -34,38 +35,47 @@ rules_at physics seat = rules_of physics seat.players seat.extra seat.capacity
 -- each node represents the one of its seat
 abbrev pub AreSeated : {W S : Type 0} → (W → S) → Physics S → List (Node W) → (ℕ → Seat) → Type 0
 AreSeated {W} state physics nodes seats =
-    (i : ℕ) (n : Node W) → slice_get nodes i ≡ Some n → Represents state (rules_at physics (seats i)) (seats i).me (contents n) (seats i).node
+    (i : ℕ) (n : Node W) → slice_get nodes i ≡ Some n
+    → Represents state (rules_at physics (seats i)) (seats i).me (contents n) (seats i).node
 
 -- the seats and the line
 abbrev pub Table : Type 0 → Type 0
 Table L = (ℕ → Seat) × L
 
 -- the node at one place takes a turn with its player's keys, and all others stay
-pub record TakesTurn {S L : Type 0} (sends : Sends L) (polls : Polls L) (physics : Physics S) (keys : ℕ → ℕ) (place : ℕ) (old new : Table L) : Type 0 where
+pub record TakesTurn {S L : Type 0} (sends : Sends L) (polls : Polls L) (physics : Physics S) (keys : ℕ → ℕ)
+    (place : ℕ) (old new : Table L) : Type 0 where
   pub after : machine.Node
   pub turned : Turned
   pub turn : let seat = old.0 place in
-      IsTurn sends polls (rules_at physics seat) seat.me (keys seat.me) (seat.node, old.1) (after, new.1) turned
+      IsTurn sends polls (rules_at physics seat) seat.me (keys seat.me) (seat.node, old.1) (after, new.1)
+      turned
   pub seats : new.0 ≡ put old.0 place (record (old.0 place) { node = after })
 
 -- each node up to this place takes a turn, in the order of the places
-abbrev pub TakeTurns : {S L : Type 0} → Sends L → Polls L → Physics S → (ℕ → ℕ) → ℕ → Table L → Table L → Type 0
+abbrev pub TakeTurns : {S L : Type 0} → Sends L → Polls L → Physics S → (ℕ → ℕ) → ℕ → Table L → Table L
+    → Type 0
 TakeTurns sends polls physics keys zero old new = new ≡ old
 TakeTurns {S} {L} sends polls physics keys (suc place) old new =
-    (mid : Table L) × TakeTurns sends polls physics keys place old mid × TakesTurn sends polls physics keys place mid new
+    (mid : Table L) × TakeTurns sends polls physics keys place old mid
+    × TakesTurn sends polls physics keys place mid new
 
--- so many rounds of turns of so many nodes
-abbrev pub TakeRounds : {S L : Type 0} → Sends L → Polls L → Physics S → ℕ → ℕ → ℕ → Table L → Table L → Type 0
+-- this many rounds of turns of this many nodes
+abbrev pub TakeRounds : {S L : Type 0} → Sends L → Polls L → Physics S → ℕ → ℕ → ℕ → Table L → Table L
+    → Type 0
 TakeRounds sends polls physics seed nodes zero old new = new ≡ old
 TakeRounds {S} {L} sends polls physics seed nodes (suc round) old new =
     (mid : Table L) × TakeRounds sends polls physics seed nodes round old mid
     × TakeTurns sends polls physics (keys_in seed round) nodes mid new
 
 -- whatever seats the nodes have, they have afterwards ones that this leads to, and so has the line
-pub record AreLed {W S : Type 0} (state : W → S) (physics : Physics S) (new : List (Node W)) (Leads : (ℕ → Seat) → Type 0) : Type 0 where
+pub record AreLed {W S : Type 0} (state : W → S) (physics : Physics S) (new : List (Node W))
+    (Leads : (ℕ → Seat) → Type 0) : Type 0 where
   pub after : ℕ → Seat
   pub seated : AreSeated state physics new after
   pub leads : Leads after
 
-abbrev pub LeadAll : {W S : Type 0} → (W → S) → Physics S → List (Node W) → List (Node W) → ((ℕ → Seat) → (ℕ → Seat) → Type 0) → Type 0
-LeadAll {W} {S} state physics old new By = (seats : ℕ → Seat) → AreSeated state physics old seats → AreLed state physics new (By seats)
+abbrev pub LeadAll : {W S : Type 0} → (W → S) → Physics S → List (Node W) → List (Node W)
+    → ((ℕ → Seat) → (ℕ → Seat) → Type 0) → Type 0
+LeadAll {W} {S} state physics old new By = (seats : ℕ → Seat) → AreSeated state physics old seats
+    → AreLed state physics new (By seats)

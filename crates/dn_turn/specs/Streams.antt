@@ -8,7 +8,8 @@ use Rattle.dn_turn.specs.declared.streams.RoundKeys.{RoundKeys}
 
 -- a player's generator before a round
 abbrev pub stream_at : (seed round player : ℕ) → Lcg
-stream_at seed round player = advance 64 multiplier_64 round (started 64 multiplier_64 seed (increment_of 64 player))
+stream_at seed round player = advance 64 multiplier_64 round
+    (started 64 multiplier_64 seed (increment_of 64 player))
 
 -- each player's generator is the one before this round
 pub record AreAt (seed round : ℕ) (streams : Streams) : Type 0 where

@@ -6,7 +6,8 @@ use Rattle.clap.specs.declared.parser.matches.ArgMatches.{ArgMatches}
 use Rattle.dn_setup.specs.Settings.{Settings}
 use Rattle.dn_game.specs.declared.config.GameConfig.{GameConfig}
 
--- the text that an option was given, or else its default, writes this number in decimal digits
+-- the decimal value of the text that an option was given, or else of its default; that the text is a number
+-- in range is the parser's to check
 abbrev pub IsNumberOf : ArgMatches → List ℕ → ℕ → Type 0
 IsNumberOf matches name number = (text : List ℕ)
     × (one_text (found_of matches) name ≡ Some text) × (number ≡ digits_value 10 (without_leading_plus text))

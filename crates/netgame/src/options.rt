@@ -8,10 +8,12 @@ ghost use Rattle.netgame.specs.Given.{IsNumberOf, IsFlagOf, IsGameOf, IsSettings
 use clap::{Arg, ArgAction, ArgMatches, Command, value_parser};
 use dn_demo::is_limit;
 use dn_game::GameConfig;
+use dn_lockstep::is_game;
 use dn_setup::Settings;
 use std::alloc::{AllocError, Global};
 
-/// The options of a game that are numbers, but for the limit: name, least and greatest value, default, meaning.
+/// The options of a game that are numbers, but for the limit: name, least and greatest value, default,
+/// meaning.
 const NUMBERS: [(&str, i64, i64, &str, &str); 5] = [
     ("players", 2, 4, "2", "How many players there are"),
     ("skill", 0, 4, "2", "How hard it is, from 0 for the easiest"),
@@ -83,6 +85,29 @@ pub(crate) fn with_game<'a>(
     Ok(command)
 }
 
+/// The flag that tells each event.
+fn trace_flag<'a>(alloc: Global) -> Arg<'a> {
+    Arg::new(alloc, "trace")
+        .long("trace")
+        .action(ArgAction::SetTrue)
+        .help("Prints a line for each event first")
+}
+
+/// The flag that asks for the script of a storm. It has no lines of its own for a trace, and no events for a
+/// calm.
+fn script_flag<'a>(alloc: Global) -> Result<Arg<'a>, AllocError> {
+    let script = Arg::new(alloc, "script")
+        .long("script")
+        .action(ArgAction::SetTrue)
+        .help("Prints the events as a script and nothing else");
+    script.conflicts_with("trace")?.conflicts_with("calm")
+}
+
+/// Adds the options of a script's game.
+pub(crate) fn with_sim<'a>(alloc: Global, command: Command<'a>) -> Result<Command<'a>, AllocError> {
+    with_game(alloc, command)?.arg(trace_flag(alloc))
+}
+
 /// Adds the options of a storm, a game's among them.
 pub(crate) fn with_storm<'a>(
     alloc: Global,
@@ -112,7 +137,8 @@ pub(crate) fn with_storm<'a>(
         "0",
         "How many rounds without losses come after the events",
     );
-    with_game(alloc, command)?.arg(seed)?.arg(count)?.arg(calm)
+    let command = with_game(alloc, command)?.arg(seed)?.arg(count)?.arg(calm)?;
+    command.arg(trace_flag(alloc))?.arg(script_flag(alloc)?)
 }
 
 /// Adds the options of rounds over sockets, a game's among them.
@@ -212,7 +238,7 @@ pub(crate) fn game(matches: &ArgMatches<'_>) -> Option<(GameConfig, u8)>
     ensures given { IfSome result (λ game. IsGameOf matches.now game.0 game.1) }
 {
     let players = byte(matches, "players")?;
-    if !(2..=4).contains(&players) {
+    if !is_game(usize::from(players)) {
         return None;
     }
     let config = GameConfig {
@@ -263,4 +289,18 @@ pub(crate) fn raw(matches: &ArgMatches<'_>) -> bool
     ensures { IsFlagOf matches.now (codes "raw") result }
 {
     flag(matches, "raw")
+}
+
+/// Whether each event is told.
+pub(crate) fn trace(matches: &ArgMatches<'_>) -> bool
+    ensures { IsFlagOf matches.now (codes "trace") result }
+{
+    flag(matches, "trace")
+}
+
+/// Whether the events of a storm are printed as a script.
+pub(crate) fn script(matches: &ArgMatches<'_>) -> bool
+    ensures { IsFlagOf matches.now (codes "script") result }
+{
+    flag(matches, "script")
 }

@@ -17,7 +17,8 @@ calls_held {A} {old} {new} Step Empty n k held left step =
     subst P (sym held) (subst Q (sym left) step)
 
 -- the same of a node that is called through its box
-pub calls_node : {old new : Option Contents} (Step : Contents → Contents → Type 0) (Empty : Type 0) {n m : Lockstep} (k : Contents)
+pub calls_node : {old new : Option Contents} (Step : Contents → Contents → Type 0) (Empty : Type 0)
+    {n m : Lockstep} (k : Contents)
     → old ≡ Some (contents n) → m ≡ n → new ≡ Some k → Step (contents m) k → Calls old new Step Empty
 calls_node Step Empty {n} {m} k held same left step =
     calls_held Step Empty (contents m) k (held ∙ ap (λ x. Some (contents x)) (sym same)) left step
@@ -27,5 +28,6 @@ pub builds_same : {old new : Contents} {made : Made} {keys down : ℕ} → keys 
     → Steps old new (λ rules me m. on_build rules me m keys) (λ answer. made ≡ answer)
     → Steps old new (λ rules me m. on_build rules me m down) (λ answer. made ≡ answer)
 builds_same {old} {new} {made} same steps =
-    let P : ℕ → Type 0 = λ keys. Steps old new (λ rules me m. on_build rules me m keys) (λ answer. made ≡ answer) in
+    let P : ℕ → Type 0 = λ keys. Steps old new (λ rules me m. on_build rules me m keys)
+    (λ answer. made ≡ answer) in
     subst P same steps

@@ -1,13 +1,10 @@
 -- The machine value of a `Handle`, and what it owns.
 use Rattle.std.proofs.Common.{◌≡◌, List, [], ◌∷◌, refl}
-use mathlib.Core.Bool.{Bool, true}
-use Rattle.std.specs.Prelude.{Option, Some, None}
-use base.Logic.{SProp, ent, sep, via, never, never_e, fst∗}
-use Rattle.std.specs.declared.alloc.Global.{Global}
-use base.Fml.{fex}
+use mathlib.Core.Bool.{Bool}
+use Rattle.std.specs.Prelude.{Option}
 use seplogic.Ra.Ura.{Ura}
-use mir.Val.{Val, vbool, vstruct, of_list}
-use types.Logic.{Logic, sem}
+use mir.Val.{Val, vbool}
+use types.Logic.{Logic}
 use types.Kit.{Item, Goal, Seq, Step, step, ‵, ◌$◌, drop, fsplit, fjoin, fpack, feq_i}
 use denote.RattleType.{RattleType, Valss}
 use denote.Builtin.{RawPtr, bool}
@@ -16,7 +13,8 @@ use denote.RawPtr.{Ptr, ptr_val}
 use denote.Steps.{nothing, peeks}
 use denote.Struct.Struct.{within}
 use denote.Struct.Owning.{shape}
-use Rattle.zirmegat.specs.HeldDemo.{held, owned}
+use Rattle.zirmegat.specs.Held.{held_reader}
+use Rattle.zirmegat.proofs.Handles.{word}
 use Rattle.zirmegat.specs.contracts.demo_handle.DemoHandle as handle
 use Rattle.zirmegat.proofs.demo_handle.DemoHandle.TheLaws.{lowers}
 use Rattle.zirmegat.specs.declared.demo_handle.DemoHandle.{DemoHandle}
@@ -25,24 +23,18 @@ use Rattle.zirmegat.specs.declared.reader.DemoReader.{DemoReader}
 abbrev pub H : RattleType
 H = handle.the_row
 
-abbrev pub word : Bool → Ptr → Val
-word b p = vstruct (of_list (vbool b ∷ ptr_val p ∷ []))
-
 module _ {M : Type 1} {𝓤 : Ura M} {𝓛 : Logic 𝓤} {K : Type 0} {Γ : List (Item 𝓤)} {G : Goal 𝓤 𝓛.H} where
   pub handle_out : K → (d : DemoHandle) (vs : List Val)
-      → (vs ≡ word d.live d.at ∷ [] → Seq K 𝓛 (‵ (held d.live d.at d.reader) ∷ Γ) G) → Seq K 𝓛 (‵ (H.own_val d vs) ∷ Γ) G
-  handle_out t d vs k = peeks t H (Is H) (shows 𝓛 H) d vs (λ is. fsplit t $ drop t $ k (lowers.val_is d vs is))
+      → (vs ≡ word d.live d.at ∷ [] → Seq K 𝓛 (‵ (held_reader d.live d.at d.reader) ∷ Γ) G)
+      → Seq K 𝓛 (‵ (H.own_val d vs) ∷ Γ) G
+  handle_out t d vs k = peeks t H (Is H) (shows 𝓛 H) d vs
+      (λ is. fsplit t $ drop t $ k (lowers.val_is d vs is))
 
   pub handle_in : K → (b : Bool) (p : Ptr) (n : Option DemoReader)
-      → Step K 𝓛 (‵ (H.own_val (record { live = b; at = p; reader = n }) (word b p ∷ [])) ∷ Γ) G (‵ (held b p n) ∷ Γ) G
+      → Step K 𝓛 (‵ (H.own_val (record { live = b; at = p; reader = n }) (word b p ∷ [])) ∷ Γ) G
+      (‵ (held_reader b p n) ∷ Γ) G
   handle_in t b p n = step (λ s. let v : Val = word b p in
-      nothing t $ feq_i t (List Val) (ptr_val p ∷ []) (ptr_val p ∷ []) refl $ fjoin t $ feq_i t (List Val) (vbool b ∷ []) (vbool b ∷ []) refl $ fjoin t $ feq_i t (List Val) (v ∷ []) (v ∷ []) refl $ fjoin t $
-      fpack t (Valss (bool ∷ RawPtr ∷ [])) (within (shape handle.the_type) (b, (p, tt)) (v ∷ [])) (vbool b ∷ [], (ptr_val p ∷ [], tt)) $ fjoin t $ s)
-
--- what a live handle owns has a reader
-module _ {M : Type 1} {𝓤 : Ura M} (𝓛 : Logic 𝓤) where
-  pub live_held : (p : Ptr) (n : Option DemoReader) (P Q : SProp 𝓤)
-      → ((x : DemoReader) → n ≡ Some x → ent 𝓤 (sep 𝓤 (sem 𝓛 (fex Global (owned p x))) P) Q)
-      → ent 𝓤 (sep 𝓤 (sem 𝓛 (held true p n)) P) Q
-  live_held p None P Q k = via 𝓤 (never 𝓤) (fst∗ 𝓤 (never 𝓤) P) (never_e 𝓤 Q)
-  live_held p (Some x) P Q k = k x refl
+      nothing t $ feq_i t (List Val) (ptr_val p ∷ []) (ptr_val p ∷ []) refl $ fjoin t $ feq_i t (List Val)
+      (vbool b ∷ []) (vbool b ∷ []) refl $ fjoin t $ feq_i t (List Val) (v ∷ []) (v ∷ []) refl $ fjoin t $
+      fpack t (Valss (bool ∷ RawPtr ∷ [])) (within (shape handle.the_type) (b, (p, tt)) (v ∷ []))
+      (vbool b ∷ [], (ptr_val p ∷ [], tt)) $ fjoin t $ s)

@@ -54,7 +54,8 @@ abbrev pub ran_told : Ran → RunAnswer
 ran_told (Ran.Ran tic) = record { code = 0; tic = tic; was = pos 0; should = pos 0; player = 0 }
 ran_told (Ran.Waiting player) = record { code = 1; tic = 0; was = pos 0; should = pos 0; player = player }
 ran_told Ran.DemoFull = record { code = 2; tic = 0; was = pos 0; should = pos 0; player = 0 }
-ran_told (Ran.Inconsistent player was should) = record { code = 3; tic = 0; was = was; should = should; player = player }
+ran_told (Ran.Inconsistent player was should) =
+    record { code = 3; tic = 0; was = was; should = should; player = player }
 ran_told Ran.NotPlaying = record { code = 4; tic = 0; was = pos 0; should = pos 0; player = 0 }
 
 -- a number, and whether there is one
@@ -84,7 +85,15 @@ abbrev pub settings_told : Option Settings → SettingsAnswer
 settings_told (Some s) =
     record {
       known = 1;
-      settings = record { skill = s.skill; deathmatch = s.deathmatch; no_monsters = bit s.no_monsters; respawn = bit s.respawn; episode = s.episode; map = s.map };
+      settings = record {
+        skill = s.skill;
+        deathmatch = s.deathmatch;
+        no_monsters =
+            bit s.no_monsters;
+        respawn = bit s.respawn;
+        episode = s.episode;
+        map = s.map;
+      };
     }
 settings_told None =
     record {

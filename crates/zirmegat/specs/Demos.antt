@@ -39,7 +39,8 @@ demo_code DemoFault.Memory = 5
 -- a piece is taken behind the others, or there is no memory for it; a demo that was read takes none
 abbrev pub PushesBy : Option Recording → List ℕ → Reading → Reading → ℕ → Type 0
 PushesBy (Some demo) piece old new code = (code ≡ 8) × (new ≡ old)
-PushesBy None piece old new code = ((code ≡ 0) × (new ≡ record { bytes = old.bytes ++ piece; demo = None })) ⊎ ((code ≡ 5) × (new ≡ old))
+PushesBy None piece old new code = ((code ≡ 0) × (new ≡ record { bytes = old.bytes ++ piece; demo = None }))
+    ⊎ ((code ≡ 5) × (new ≡ old))
 
 abbrev pub IsPushed : List ℕ → Reading → Reading → ℕ → Type 0
 IsPushed piece old new code = PushesBy old.demo piece old new code
@@ -52,20 +53,31 @@ LeavesOf (Err fault) new code = (code ≡ demo_code fault) × (new ≡ blank)
 -- the bytes are read as a demo, or given up for their first fault; a demo that was read stays
 abbrev pub ReadsBy : Option Recording → Reading → Reading → ℕ → Type 0
 ReadsBy (Some demo) old new code = (code ≡ 0) × (new ≡ old)
-ReadsBy None old new code = (read : Result Recording DemoFault) × IsReadAs old.bytes read × LeavesOf read new code
+ReadsBy None old new code = (read : Result Recording DemoFault) × IsReadAs old.bytes read
+    × LeavesOf read new code
 
 abbrev pub IsReadOut : Reading → Reading → ℕ → Type 0
 IsReadOut old new code = ReadsBy old.demo old new code
 
 abbrev pub start_told : Start → StartFields
 start_told s =
-    record { skill = s.skill; episode = s.episode; map = s.map; deathmatch = s.deathmatch; respawn = s.respawn; fast = s.fast; no_monsters = s.no_monsters }
+    record {
+      skill = s.skill;
+      episode = s.episode;
+      map = s.map;
+      deathmatch = s.deathmatch;
+      respawn =
+          s.respawn;
+      fast = s.fast;
+      no_monsters = s.no_monsters;
+    }
 
 abbrev pub seat_told : List Bool → ℕ → ℕ
 seat_told present seat = bit (slice_index_or present seat false)
 
 abbrev pub seats_told : List Bool → List ℕ
-seats_told present = seat_told present 0 ∷ seat_told present 1 ∷ seat_told present 2 ∷ seat_told present 3 ∷ []
+seats_told present = seat_told present 0 ∷ seat_told present 1 ∷ seat_told present 2 ∷ seat_told present
+    3 ∷ []
 
 -- what a demo tells beside its rows
 abbrev pub demo_told : Recording → DemoAnswer
@@ -91,7 +103,16 @@ no_demo =
       known = 0;
       version = 0;
       view = 0;
-      start = record { skill = 0; episode = 0; map = 0; deathmatch = 0; respawn = 0; fast = 0; no_monsters = 0 };
+      start = record {
+        skill = 0;
+        episode = 0;
+        map = 0;
+        deathmatch = 0;
+        respawn = 0;
+        fast = 0;
+        no_monsters =
+            0;
+      };
       present = 0 ∷ 0 ∷ 0 ∷ 0 ∷ [];
     }
 

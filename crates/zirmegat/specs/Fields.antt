@@ -9,12 +9,36 @@ use Rattle.zirmegat.specs.declared.packets.PacketFields.{PacketFields}
 -- a command, and all 0 for none
 abbrev pub command_told : Option TicCmd → CommandFields
 command_told (Some c) =
-    record { turn = c.turn; mark = c.mark; forward = c.forward; side = c.side; chat = c.chat; buttons = c.buttons }
-command_told None = record { turn = pos 0; mark = pos 0; forward = pos 0; side = pos 0; chat = 0; buttons = 0 }
+    record {
+      turn = c.turn;
+      mark = c.mark;
+      forward = c.forward;
+      side = c.side;
+      chat = c.chat;
+      buttons =
+          c.buttons;
+    }
+command_told None = record {
+  turn = pos 0;
+  mark = pos 0;
+  forward = pos 0;
+  side = pos 0;
+  chat = 0;
+  buttons =
+      0;
+}
 
 abbrev pub command_in : CommandFields → TicCmd
 command_in f =
-    record { forward = f.forward; side = f.side; turn = f.turn; mark = f.mark; chat = f.chat; buttons = f.buttons }
+    record {
+      forward = f.forward;
+      side = f.side;
+      turn = f.turn;
+      mark = f.mark;
+      chat = f.chat;
+      buttons =
+          f.buttons;
+    }
 
 -- what twelve places have
 abbrev pub twelve : {A : Type 0} → (ℕ → A) → List A

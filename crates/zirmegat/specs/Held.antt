@@ -1,19 +1,28 @@
 -- What a handle owns.
 use Rattle.std.specs.Prelude.{Bool, true, false, Option, Some, None}
 use base.Fml.{Fml, ftrue, ffalse, fex}
+use denote.RattleType.{RattleType}
 use denote.RawPtr.{Ptr}
 use Rattle.std.specs.declared.alloc.Global.{Global}
 use Rattle.std.specs.contracts.impls.GlobalAllocator.TheImpl.{ghosts}
 use Rattle.std.specs.Box.Ownership.{box_owns}
 use Rattle.dn_lockstep.specs.declared.lockstep.Lockstep.{Lockstep}
 use Rattle.dn_lockstep.specs.contracts.lockstep.Lockstep as lockstep
+use Rattle.zirmegat.specs.declared.reader.DemoReader.{DemoReader}
+use Rattle.zirmegat.specs.contracts.reader.DemoReader as reader
 
--- the block where a node lies, and the right to free it
-abbrev pub owned : Ptr → Lockstep → Global → Fml
-owned at n alloc = box_owns (ghosts.dealloc_token alloc) lockstep.the_row at n
+-- the block where a value lies, and the right to free it
+abbrev pub owned : (R : RattleType) → Ptr → R.Denot → Global → Fml
+owned R at n alloc = box_owns (ghosts.dealloc_token alloc) R at n
 
--- a live handle owns the block where its node lies
-abbrev pub held : Bool → Ptr → Option Lockstep → Fml
-held true at (Some n) = fex Global (owned at n)
-held true at None = ffalse
-held false at n = ftrue
+-- a live handle owns the block where its value lies
+abbrev pub held : (R : RattleType) → Bool → Ptr → Option R.Denot → Fml
+held R true at (Some n) = fex Global (owned R at n)
+held R true at None = ffalse
+held R false at n = ftrue
+
+abbrev pub held_node : Bool → Ptr → Option Lockstep → Fml
+held_node = held lockstep.the_row
+
+abbrev pub held_reader : Bool → Ptr → Option DemoReader → Fml
+held_reader = held reader.the_row

@@ -1,10 +1,8 @@
 pub mod Held
 pub mod Calls
 pub mod Answers
-pub mod Written
 pub mod Opening
 pub mod Going
 pub mod Fields
 pub mod Upgrading
-pub mod HeldDemo
 pub mod Demos

@@ -47,21 +47,26 @@ fault_code NodeFault.Memory = 5
 
 -- a node with no history
 abbrev pub IsFresh : Config → Contents → Type 0
-IsFresh config n = (marking : Marking) (settings : Settings) → (config.me ≡ 0 → config.settings ≡ Some settings)
-    → Represents (rules_of (free marking) config.players config.extra (capacity config.limit config.players)) config.me n
+IsFresh config n = (marking : Marking) (settings : Settings)
+    → (config.me ≡ 0 → config.settings ≡ Some settings)
+    → Represents (rules_of (free marking) config.players config.extra (capacity config.limit config.players))
+    config.me n
     (fresh settings config.me)
 
--- 0 and the node that was made, or why there is none
+-- 0 and the node that was made, whose demo has the room that it may have, or why there is none
 abbrev pub IsMade : Config → Result Contents NodeFault → ℕ → Option Contents → Type 0
 IsMade config (Ok made) code node = (code ≡ 0) × (node ≡ Some made) × IsFresh config made
+    × (made.demo.limit ≡ config.limit)
 IsMade config (Err fault) code node = (code ≡ fault_code fault) × (node ≡ None)
 
 abbrev pub OpensBy : NodeConfig → Result (Option Settings) SettingsFault → ℕ → Option Contents → Type 0
 OpensBy config (Err fault) code node = (code ≡ settings_code fault) × (node ≡ None)
 OpensBy config (Ok settings) code node =
-    (made : Result Contents NodeFault) × IsAdmitted (config_of config settings) made × IsMade (config_of config settings) made code node
+    (made : Result Contents NodeFault) × IsAdmitted (config_of config settings) made
+    × IsMade (config_of config settings) made code node
 
 -- the settings are looked at first, and then the rest
 abbrev pub Opens : NodeConfig → ℕ → Option Contents → Type 0
 Opens config code node =
-    (chosen : Result (Option Settings) SettingsFault) × IsChosen config chosen × OpensBy config chosen code node
+    (chosen : Result (Option Settings) SettingsFault) × IsChosen config chosen
+    × OpensBy config chosen code node

@@ -1,5 +1,5 @@
 -- What an upgrade answers.
-use Rattle.std.specs.Prelude.{◌≡◌, ℕ, List, length, take, Result, Ok, Err}
+use Rattle.std.specs.Prelude.{◌≡◌, ℕ, List, Result, Ok, Err}
 use Rattle.dn_demo.specs.Reading.{Recording, IsReadAs}
 use Rattle.dn_demo.specs.Recorded.{Recorded}
 use Rattle.dn_demo.specs.Upgraded.{IsUpgraded}
@@ -7,7 +7,7 @@ use Rattle.dn_demo.specs.declared.demo.DemoFault.{DemoFault}
 use Rattle.dn_demo.specs.declared.upgrading.UpgradeFault.{UpgradeFault}
 use Rattle.zirmegat.specs.declared.upgrading.UpgradeAnswer.{UpgradeAnswer}
 use Rattle.zirmegat.specs.Demos.{demo_code}
-use Rattle.zirmegat.specs.Written.{IsWritten}
+use Rattle.dn_packet.specs.Written.{IsWritten}
 
 abbrev pub upgrade_code : UpgradeFault → ℕ
 upgrade_code UpgradeFault.Limit = 6
@@ -18,12 +18,13 @@ upgrade_code UpgradeFault.Memory = 5
 abbrev pub IsRefused : ℕ → List ℕ → List ℕ → UpgradeAnswer → Type 0
 IsRefused code old new answer = (answer ≡ record { code = code; length = 0 }) × (new ≡ old)
 
--- what is written of an upgrade: its bytes, as many as there is room for, which are all where they are within the limit
+-- all bytes of the upgrade are written
 abbrev pub IsToldOf : Result Recorded UpgradeFault → List ℕ → List ℕ → UpgradeAnswer → Type 0
-IsToldOf (Ok made) old new answer = (answer.code ≡ 0) × IsWritten (take (length old) made.bytes) old new answer.length
+IsToldOf (Ok made) old new answer = (answer.code ≡ 0)
+    × IsWritten made.bytes old new answer.length
 IsToldOf (Err fault) old new answer = IsRefused (upgrade_code fault) old new answer
 
--- the demo that the bytes are read as is upgraded within so many bytes
+-- the demo that the bytes are read as is upgraded within this many bytes
 abbrev pub UpgradesBy : Result Recording DemoFault → ℕ → List ℕ → List ℕ → UpgradeAnswer → Type 0
 UpgradesBy (Ok demo) limit old new answer =
     (made : Result Recorded UpgradeFault) × IsUpgraded demo limit made × IsToldOf made old new answer

@@ -13,10 +13,15 @@ use dn_tic::Move;
 #[repr(C)]
 #[derive(Clone, Copy, Debug, PartialEq, Eq)]
 pub struct PhaseAnswer {
+    /// 0 to 4, as above.
     pub code: u32,
+    /// 0 to 3, as above.
     pub cause: u32,
+    /// The mark of the command, where `cause` is 3.
     pub was: i16,
+    /// The mark of the node's own world, where `cause` is 3.
     pub should: i16,
+    /// Whose mark it is, where `cause` is 3.
     pub player: u8,
 }
 
@@ -75,7 +80,9 @@ impl PhaseAnswer {
 #[repr(C)]
 #[derive(Clone, Copy, Debug, PartialEq, Eq)]
 pub struct BuildAnswer {
+    /// 0 to 2, as above.
     pub code: u32,
+    /// The tic of the command, where `code` is 0.
     pub tic: u32,
 }
 
@@ -97,7 +104,9 @@ impl BuildAnswer {
 #[repr(C)]
 #[derive(Clone, Copy, Debug, PartialEq, Eq)]
 pub struct HeardAnswer {
+    /// 0 to 6, as above.
     pub code: u32,
+    /// How many commands were new, or the number of the drop.
     pub number: u32,
 }
 
@@ -123,10 +132,15 @@ impl HeardAnswer {
 #[repr(C)]
 #[derive(Clone, Copy, Debug, PartialEq, Eq)]
 pub struct RunAnswer {
+    /// 0 to 4, as above.
     pub code: u32,
+    /// The tic that was run, where `code` is 0.
     pub tic: u32,
+    /// The mark of the command, where `code` is 3.
     pub was: i16,
+    /// The mark of the node's own world, where `code` is 3.
     pub should: i16,
+    /// Who is waited for, or whose mark is off.
     pub player: u8,
 }
 
@@ -176,7 +190,9 @@ pub(crate) fn flag(yes: bool) -> u32
 #[repr(C)]
 #[derive(Clone, Copy, Debug, PartialEq, Eq)]
 pub struct Number {
+    /// 1 where there is a number, and else 0.
     pub known: u32,
+    /// The number, or 0.
     pub value: u32,
 }
 
@@ -195,10 +211,15 @@ impl Number {
 #[repr(C)]
 #[derive(Clone, Copy, Debug, PartialEq, Eq)]
 pub struct MoveAnswer {
+    /// To the left, in 65536ths of a full turn.
     pub turn: i16,
+    /// Forward, or back where negative.
     pub forward: i8,
+    /// To the right, or to the left where negative.
     pub side: i8,
+    /// Attack, use and a change of weapon.
     pub buttons: u8,
+    /// 1 where there is a move, and else 0.
     pub present: u8,
 }
 
@@ -230,11 +251,13 @@ impl MoveAnswer {
 #[repr(C)]
 #[derive(Clone, Copy, Debug, PartialEq, Eq)]
 pub struct AimAnswer {
+    /// 1 where the node has something to give, and else 0.
     pub known: u32,
     /// The tic from which commands are asked for again.
     pub ask: Number,
     /// The tic of the first command.
     pub start: u32,
+    /// Bits of EXIT, RETRANSMIT and SETUP, as the packet has them.
     pub flags: u8,
     /// How many commands there are.
     pub count: u8,

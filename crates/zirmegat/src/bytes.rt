@@ -1,7 +1,7 @@
 //! Bytes for the caller's room.
 
 ghost use Rattle.std.specs.Prelude.{◌≤◌, length, take, drop};
-ghost use Rattle.zirmegat.specs.Written.{IsWritten};
+ghost use Rattle.dn_packet.specs.Written.{IsWritten};
 
 /// Writes these bytes to the front of the room, and answers how many there are.
 pub(crate) fn write(bytes: &[u8], out: &mut [u8]) -> usize

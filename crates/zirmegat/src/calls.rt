@@ -1,6 +1,6 @@
 //! The calls that move a game on.
 
-ghost use Rattle.std.specs.Prelude.{◌≡◌, ◌<◌, ◌≤◌, ℕ, ◌%◌, ◌^◌, Bool, List, length, Option, None};
+ghost use Rattle.std.specs.Prelude.{◌≡◌, ◌<◌, ◌≤◌, ℕ, ◌%◌, ◌^◌, Bool, List, length, map, Option, None, is_some};
 ghost use Rattle.std.specs.Option.{option_map};
 ghost use Rattle.dn_tic.specs.declared.command.Move.{Move as Step};
 ghost use Rattle.dn_setup.specs.Starts.{bit};
@@ -11,23 +11,20 @@ ghost use Rattle.dn_machine.specs.declared.answers.Ran.{Ran as Answer};
 ghost use Rattle.dn_machine.specs.declared.answers.Made.TheVariants as Made;
 ghost use Rattle.dn_machine.specs.declared.answers.Ran.TheVariants as Ran;
 ghost use Rattle.dn_lockstep.specs.declared.lockstep.sending.Aim.{Aim as Aimed};
-ghost use Rattle.dn_lockstep.specs.Sent.{sent_to, aim_of, bytes_of};
+ghost use Rattle.dn_lockstep.specs.Sent.{sent_to, aim_of};
+ghost use Rattle.dn_lockstep.specs.Giving.{gives};
+ghost use Rattle.dn_lockstep.specs.Runs.{told_by};
 ghost use Rattle.dn_lockstep.specs.Steps.{Steps};
 ghost use Rattle.zirmegat.specs.Calls.{node_of, Calls, Reads};
-ghost use Rattle.zirmegat.specs.Answers.{made_told, aim_told, heard_told, ran_told, row_told_over};
-ghost use Rattle.zirmegat.specs.Going.{Builds, Hears, Runs, Quits};
-ghost use Rattle.zirmegat.specs.Written.{IsGiven};
+ghost use Rattle.zirmegat.specs.Answers.{made_told, aim_told, heard_told, ran_told, move_told, row_told_over};
+ghost use Rattle.zirmegat.specs.Going.{Builds, Sends, Hears, Runs, Quits};
 
 use crate::answers::{AimAnswer, BuildAnswer, HeardAnswer, MoveAnswer, RunAnswer, flag};
-use crate::bytes;
 use crate::handle::NodeHandle;
-use arrayvec::ArrayVec;
 use dn_lockstep::{Heard, Made, Ran};
+use dn_packet::MAX_DATAGRAM;
 use dn_tic::{Keys, Move};
 use std::alloc::Global;
-
-/// How much room a packet needs.
-const PACKET: usize = 104;
 
 /// The number of the drop where a node does not play.
 const NOT_PLAYING: u8 = 13;
@@ -55,7 +52,8 @@ pub extern "C" fn zmg_node_build(alloc: Global, node: &mut NodeHandle, keys: u32
 pub extern "C" fn zmg_node_aim(alloc: Global, node: &mut NodeHandle, to: u8) -> AimAnswer
     ensures { Reads (node_of node.old) (node_of node.new)
         (λ n. (aim : Option Aimed) × (result ≡ aim_told aim)
-        × Steps n n (λ rules me m. (m, (sent_to to rules me m).1)) (λ flight. aim ≡ option_map aim_of flight))
+        × Steps n n (λ rules me m. (m, (sent_to to rules me m).1)) (λ flight. aim ≡ option_map aim_of flight)
+        × (is_some aim ≡ gives n to))
         (result ≡ aim_told None) }
 {
     match node.take(alloc) {
@@ -65,17 +63,6 @@ pub extern "C" fn zmg_node_aim(alloc: Global, node: &mut NodeHandle, to: u8) -> 
             AimAnswer::of(aim)
         }
         None => AimAnswer::of(None),
-    }
-}
-
-/// Writes the datagram that a node gives, if it gives one.
-fn tell_packet(packet: Option<ArrayVec<u8, 104>>, out: &mut [u8]) -> usize
-    requires { 104 ≤ length out.old }
-    ensures { IsGiven (option_map (λ bytes. bytes.items) packet) out.old out.new result }
-{
-    match packet {
-        Some(packet) => bytes::write(packet.as_slice(), out),
-        None => 0,
     }
 }
 
@@ -89,20 +76,18 @@ pub extern "C" fn zmg_node_packet(
     out: &mut [u8],
 ) -> usize
     ensures given { 104 ≤ length out.old → Calls (node_of node.old) (node_of node.new)
-        (λ n k. (given : Option (List ℕ)) × IsGiven given out.old out.new result
-        × Steps n k (λ rules me m. sent_to to rules me m) (λ flight. given ≡ option_map bytes_of flight)
-        × (given ≡ None → k ≡ n))
+        (λ n k. Sends to out.old out.new result n k)
         ((result ≡ 0) × (out.new ≡ out.old)) }
     ensures no_room { length out.old < 104 → (result ≡ 0) × (node.new ≡ node.old) × (out.new ≡ out.old) }
 {
-    if out.len() < PACKET {
+    if out.len() < MAX_DATAGRAM {
         return 0;
     }
     match node.take(alloc) {
         Some(mut held) => {
-            let packet = held.packet(to);
+            let count = held.packet_to(to, out);
             *node = NodeHandle::of(held);
-            tell_packet(packet, out)
+            count
         }
         None => 0,
     }
@@ -148,17 +133,33 @@ pub extern "C" fn zmg_node_quit(alloc: Global, node: &mut NodeHandle) -> u32
     }
 }
 
+/// Tells four moves. It is not inlined, since the compiler would otherwise load all of them before it stores
+/// one.
+#[inline(never)]
+fn tell_moves(row: &mut [MoveAnswer; 4], moves: &[Option<Move>; 4])
+    ensures { row.new ≡ map move_told moves.now }
+{
+    row[0] = MoveAnswer::of(moves[0]);
+    row[1] = MoveAnswer::of(moves[1]);
+    row[2] = MoveAnswer::of(moves[2]);
+    row[3] = MoveAnswer::of(moves[3]);
+}
+
 /// Tells the moves of a row, where there is one.
 pub(crate) fn tell_row(row: &mut [MoveAnswer; 4], moves: Option<[Option<Move>; 4]>)
     ensures { row.new ≡ row_told_over row.old moves }
 {
     if let Some(moves) = moves {
-        *row = [
-            MoveAnswer::of(moves[0]),
-            MoveAnswer::of(moves[1]),
-            MoveAnswer::of(moves[2]),
-            MoveAnswer::of(moves[3]),
-        ];
+        tell_moves(row, &moves);
+    }
+}
+
+/// Tells the moves of a tic that was run.
+fn tell_run(row: &mut [MoveAnswer; 4], ran: Ran, moves: &[Option<Move>; 4])
+    ensures { row.new ≡ row_told_over row.old (told_by ran moves.now) }
+{
+    if let Ran::Ran(_) = ran {
+        tell_moves(row, moves);
     }
 }
 
@@ -172,16 +173,17 @@ pub extern "C" fn zmg_node_run(
     row: &mut [MoveAnswer; 4],
 ) -> RunAnswer
     ensures { Calls (node_of node.old) (node_of node.new)
-        (λ n k. (ran : Answer) × (moves : Option (List (Option Step)))
-        × (result ≡ ran_told ran) × (row.new ≡ row_told_over row.old moves)
-        × Runs marks.now n k ran moves)
+        (λ n k. (ran : Answer) × (moves : List (Option Step))
+        × (result ≡ ran_told ran) × (row.new ≡ row_told_over row.old (told_by ran moves))
+        × Runs marks.now n k ran (told_by ran moves))
         ((result ≡ ran_told Ran.NotPlaying) × (row.new ≡ row.old)) }
 {
     match node.take(alloc) {
         Some(mut held) => {
-            let (ran, moves) = held.run(marks);
+            let mut moves = [None; 4];
+            let ran = held.run_into(marks, &mut moves);
             *node = NodeHandle::of(held);
-            tell_row(row, moves);
+            tell_run(row, ran, &moves);
             RunAnswer::of(ran)
         }
         None => RunAnswer::of(Ran::NotPlaying),

@@ -14,11 +14,17 @@ use dn_setup::{Settings, SettingsFault};
 #[repr(C)]
 #[derive(Clone, Copy, Debug, PartialEq, Eq)]
 pub struct GameSettings {
+    /// How hard the monsters are.
     pub skill: u8,
+    /// 0 for a cooperative game, and else which deathmatch.
     pub deathmatch: u8,
+    /// Whether there are no monsters.
     pub no_monsters: u8,
+    /// Whether monsters come back after they died.
     pub respawn: u8,
+    /// The episode.
     pub episode: u8,
+    /// The map.
     pub map: u8,
 }
 
@@ -26,7 +32,9 @@ pub struct GameSettings {
 #[repr(C)]
 #[derive(Clone, Copy, Debug, PartialEq, Eq)]
 pub struct SettingsAnswer {
+    /// 1 where the choice is known, and else 0.
     pub known: u32,
+    /// The choice of game.
     pub settings: GameSettings,
 }
 

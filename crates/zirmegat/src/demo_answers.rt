@@ -9,12 +9,19 @@ use dn_demo::{Demo, DemoFault};
 #[repr(C)]
 #[derive(Clone, Copy, Debug, PartialEq, Eq)]
 pub struct StartFields {
+    /// How hard the monsters are, from 0.
     pub skill: u8,
+    /// The episode, from 1.
     pub episode: u8,
+    /// The map, from 1.
     pub map: u8,
+    /// 0 for a cooperative game, and else the rules of deathmatch.
     pub deathmatch: u8,
+    /// 1 where monsters come back after they died.
     pub respawn: u8,
+    /// 1 where monsters are fast.
     pub fast: u8,
+    /// 1 where there are no monsters.
     pub no_monsters: u8,
 }
 
@@ -28,11 +35,13 @@ pub struct DemoAnswer {
     pub cut: usize,
     /// How many bytes stand after the marker.
     pub after: usize,
+    /// 1 for a demo that was read, and else 0.
     pub known: u32,
     /// 109 or 111.
     pub version: u8,
     /// Whose view the demo shows.
     pub view: u8,
+    /// What the game started from.
     pub start: StartFields,
     /// 1 for each seat that has a player.
     pub present: [u8; 4],

@@ -20,9 +20,9 @@ pub struct DemoHandle {
 }
 
 impl Model for DemoHandle {
-    ghost use Rattle.zirmegat.specs.HeldDemo.{held};
+    ghost use Rattle.zirmegat.specs.Held.{held_reader};
 
-    ghost also_owns = { λ h. held h.live h.at h.reader };
+    ghost also_owns = { λ h. held_reader h.live h.at h.reader };
 }
 
 impl DemoHandle {

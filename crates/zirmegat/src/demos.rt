@@ -10,7 +10,7 @@ use crate::answers::{MoveAnswer, flag};
 use crate::calls::tell_row;
 use crate::demo_answers::DemoAnswer;
 use crate::demo_handle::DemoHandle;
-use crate::reader::{DONE, DemoReader};
+use crate::reader::{DONE, DemoReader, MEMORY};
 use std::alloc::Global;
 
 /// The handle holds no reader.
@@ -27,7 +27,7 @@ pub extern "C" fn zmg_demo_new(alloc: Global, demo: &mut DemoHandle) -> u32
             *demo = DemoHandle::of(made);
             DONE
         }
-        Err(_) => 5,
+        Err(_) => MEMORY,
     }
 }
 

@@ -21,9 +21,9 @@ pub struct NodeHandle {
 }
 
 impl Model for NodeHandle {
-    ghost use Rattle.zirmegat.specs.Held.{held};
+    ghost use Rattle.zirmegat.specs.Held.{held_node};
 
-    ghost also_owns = { λ h. held h.live h.at h.node };
+    ghost also_owns = { λ h. held_node h.live h.at h.node };
 }
 
 impl NodeHandle {

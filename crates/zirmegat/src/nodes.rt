@@ -15,11 +15,9 @@ use std::alloc::Global;
 fn boxed(alloc: Global, config: Config) -> Result<Box<Lockstep>, NodeFault>
     ensures admitted { IsAdmitted config result }
     ensures fresh { IfOk result (λ made. IsFresh config (contents made.value)) }
+    ensures room { IfOk result (λ made. (contents made.value).demo.limit ≡ config.limit) }
 {
-    let made = match Lockstep::new(alloc, config) {
-        Ok(made) => made,
-        Err(fault) => return Err(fault),
-    };
+    let made = Lockstep::new(alloc, config)?;
     match Box::new(alloc, made) {
         Ok(made) => Ok(made),
         Err(_) => Err(NodeFault::Memory),

@@ -6,7 +6,7 @@ ghost use Rattle.dn_packet.specs.declared.packet.PacketFault.{PacketFault as Fau
 ghost use Rattle.dn_packet.specs.Read.{IsReadAs};
 ghost use Rattle.dn_packet.specs.Text.{text};
 ghost use Rattle.zirmegat.specs.Fields.{command_told, command_in, fields_of, packet_in, packet_code, IsDecodedAs};
-ghost use Rattle.zirmegat.specs.Written.{IsWritten};
+ghost use Rattle.dn_packet.specs.Written.{IsWritten};
 
 use crate::bytes;
 use arrayvec::ArrayVec;
@@ -17,11 +17,17 @@ use dn_tic::TicCmd;
 #[repr(C)]
 #[derive(Clone, Copy, Debug, PartialEq, Eq)]
 pub struct CommandFields {
+    /// To the left, in 65536ths of a full turn.
     pub turn: i16,
+    /// The consistency mark of the player's own world twelve tics before.
     pub mark: i16,
+    /// Forward, or back where negative.
     pub forward: i8,
+    /// To the right, or to the left where negative.
     pub side: i8,
+    /// A letter of chat.
     pub chat: u8,
+    /// Attack, use and a change of weapon.
     pub buttons: u8,
 }
 
@@ -85,6 +91,7 @@ pub struct PacketFields {
     pub player: u8,
     /// How many commands there are, 0 to 12.
     pub count: u8,
+    /// The commands, and all 0 behind the last.
     pub commands: [CommandFields; 12],
 }
 

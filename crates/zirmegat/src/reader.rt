@@ -13,7 +13,7 @@ use std::mem;
 pub(crate) const DONE: u32 = 0;
 
 /// Out of memory.
-const MEMORY: u32 = 5;
+pub(crate) const MEMORY: u32 = 5;
 
 /// The demo was read, and takes no more bytes.
 const IS_READ: u32 = 8;
@@ -21,7 +21,9 @@ const IS_READ: u32 = 8;
 /// The bytes so far, or the demo that they were read as.
 #[derive(Drop)]
 pub(crate) enum DemoReader {
+    /// The bytes so far.
     Feeding(Vec<u8>),
+    /// The demo that they were read as.
     Whole(Demo),
 }
 

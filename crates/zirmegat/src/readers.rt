@@ -6,7 +6,7 @@ ghost use Rattle.dn_lockstep.specs.Rings.{count_of};
 ghost use Rattle.dn_lockstep.specs.Rows.{seats_of};
 ghost use Rattle.zirmegat.specs.Calls.{node_of, Reads};
 ghost use Rattle.zirmegat.specs.Answers.{phase_told, phase_at, number_told, settings_told};
-ghost use Rattle.zirmegat.specs.Written.{IsWritten};
+ghost use Rattle.dn_packet.specs.Written.{IsWritten};
 
 use crate::answers::{Number, PhaseAnswer};
 use crate::bytes;

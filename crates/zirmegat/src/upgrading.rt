@@ -6,14 +6,16 @@ ghost use Rattle.zirmegat.specs.Upgrading.{upgrade_code, Upgrades};
 
 use crate::bytes;
 use crate::demo_answers::code_of;
-use dn_demo::{Demo, UpgradeFault, upgrade};
+use dn_demo::{Demo, UpgradeFault, is_limit, upgrade};
 use std::alloc::Global;
 
 /// How many bytes an upgraded demo has, where `code` is 0, and else why there is none.
 #[repr(C)]
 #[derive(Clone, Copy, Debug, PartialEq, Eq)]
 pub struct UpgradeAnswer {
+    /// How many bytes were written, where `code` is 0.
     pub length: usize,
+    /// 0, or why there is none.
     pub code: u32,
 }
 
@@ -39,11 +41,8 @@ fn limit_of(room: usize) -> Option<u32>
     ensures some { IfSome result (λ limit. limit ≡ room) }
     ensures none { IfNone result (¬ IsLimit room) }
 {
-    if (1024..=16_777_216).contains(&room) {
-        Some(room as u32)
-    } else {
-        None
-    }
+    let limit = u32::try_from(room).ok()?;
+    if is_limit(limit) { Some(limit) } else { None }
 }
 
 /// Writes the demo that these bytes are anew as version 111, where its upgrade fits into the room: its start,
@@ -62,7 +61,7 @@ pub extern "C" fn zmg_demo_upgrade(alloc: Global, bytes: &[u8], out: &mut [u8]) 
     };
     match upgrade(alloc, &demo, limit) {
         Ok(made) => UpgradeAnswer {
-            length: bytes::write_from(made.bytes(), 0, out),
+            length: bytes::write(made.bytes(), out),
             code: 0,
         },
         Err(fault) => refused(upgrade_code(fault)),

@@ -22,7 +22,7 @@ fn push(feed: &mut Feed<Walk>, piece: &[u8]) {
     }
 }
 
-/// What bytes end as that are fed in pieces of this length, behind a first one of so many bytes.
+/// What bytes end as that are fed in pieces of `length` bytes, behind a first one of `first` bytes.
 fn fed(bytes: &[u8], first: usize, length: usize) -> Result<Fed<Walk>, FeedFault>
     requires { 0 < length }
 {

@@ -100,7 +100,7 @@ fn a_full_demo_takes_no_row(rt: HostRuntime) -> Result<(), Fail> {
 
 /// Each request for memory may be refused: then the answer says so, and there is no other.
 #[test]
-fn want_of_memory_is_told(rt: HostRuntime) {
+fn refused_memory_is_told(rt: HostRuntime) {
     match Recorder::new(rt.alloc(), 1_024) {
         Ok(recorder) => assert!(rt; recorder.bytes().is_empty()),
         Err(fault) => assert_eq!(rt; fault, RecorderFault::Memory),

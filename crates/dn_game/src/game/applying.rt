@@ -28,7 +28,8 @@ impl<W: World> Game<W> {
 
     /// Why an event of one node is refused, if it is.
     fn refused_at(&self, node: u32) -> Option<Refusal>
-        ensures told { Tells W.state W.physics (contents self.now) (λ rules m. result ≡ refused_at rules.players m node) }
+        ensures told { Tells W.state W.physics (contents self.now)
+            (λ rules m. result ≡ refused_at rules.players m node) }
         ensures there { result ≡ None → node < length (contents self.now).nodes }
     {
         if !self.is_player(node) {
@@ -42,7 +43,8 @@ impl<W: World> Game<W> {
 
     /// Why a delivery is refused, if it is.
     pub(crate) fn refused_flight(&self, which: u32) -> Option<Refusal>
-        ensures told { Tells W.state W.physics (contents self.now) (λ rules m. result ≡ refused_flight m (slice_get m.flights which)) }
+        ensures told { Tells W.state W.physics (contents self.now)
+            (λ rules m. result ≡ refused_flight m (slice_get m.flights which)) }
         ensures there { result ≡ None → which < length (contents self.now).flights }
     {
         let which = which as usize;
@@ -60,9 +62,10 @@ impl<W: World> Game<W> {
         }
     }
 
-    /// Why an event is refused, if it is; want of memory is not looked at here.
+    /// Why an event is refused, if it is, wherever memory is there.
     fn refused(&self, event: Event) -> Option<Refusal>
-        ensures told { Tells W.state W.physics (contents self.now) (λ rules m. result ≡ refused rules.players m event) }
+        ensures told { Tells W.state W.physics (contents self.now)
+            (λ rules m. result ≡ refused rules.players m event) }
         ensures there { result ≡ None → IsAddressed (contents self.now) event }
     {
         match event {
@@ -79,7 +82,8 @@ impl<W: World> Game<W> {
         requires node { node < length (contents self.old).nodes }
         requires to { to < length (contents self.old).nodes }
         ensures sent { Tells W.state W.physics (contents self.old) (λ rules m.
-            ((done : Done) × (result ≡ Ok done) × IsAfter W.state rules (contents self.new) (on_event rules m (Send node to)) done)
+            ((done : Done) × (result ≡ Ok done) × IsAfter W.state rules (contents self.new)
+            (on_event rules m (Send node to)) done)
             ⊎ IsLeftOut (contents self.old) (contents self.new) (Send node to) result) }
         ensures unchanged { OnErr result (contents self.new ≡ contents self.old) }
         ensures grown { HasGrown (contents self.old).flights (room_of self.old) (room_of self.new) }
@@ -108,7 +112,8 @@ impl<W: World> Game<W> {
         requires { which < length (contents self.old).flights }
         ensures heard { Tells W.state W.physics (contents self.old) (λ rules m.
             refused_flight m (slice_get m.flights which) ≡ None
-            → IsAfter W.state rules (contents self.new) (on_event rules m (Deliver which)) (Done.Heard result)) }
+            → IsAfter W.state rules (contents self.new) (on_event rules m (Deliver which))
+            (Done.Heard result)) }
         ensures room { room_of self.new ≡ room_of self.old }
         ensures limits { KeepsLimits (contents self.old) (contents self.new) }
     {
@@ -126,7 +131,7 @@ impl<W: World> Game<W> {
         ensures unchanged { OnErr result (contents self.new ≡ contents self.old) }
         // Whatever events led to the game: they and this one lead to what it is afterwards.
         ensures carried { IsCarriedOn W.state W.physics (contents self.old) (contents self.new) event result }
-        // Memory is taken by a send alone, for one packet more or for as many again as there are. The demos'
+        // Memory is taken by a send alone, for one more packet or for as many again as there are. The demos'
         // rooms are their limits, which stay.
         ensures room { is_send event ≡ false → room_of self.new ≡ room_of self.old }
         ensures grown { HasGrown (contents self.old).flights (room_of self.old) (room_of self.new) }

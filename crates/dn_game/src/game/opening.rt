@@ -3,12 +3,13 @@
 ghost use Rattle.std.specs.Prelude.{◌≡◌, length, IfOk, IfErr};
 ghost use Rattle.dn_lockstep.specs.Opening.{IsGame};
 ghost use Rattle.dn_game.specs.Opening.{IsAdmitted, config_of, rules_in};
-ghost use Rattle.dn_game.specs.Fresh.{AreFresh, worlds_of};
+ghost use Rattle.dn_game.specs.Fresh.{AreFresh, AreLimited, worlds_of};
 
 use super::Game;
 use crate::config::{GameConfig, GameFault};
 use crate::pool::Pool;
 use dn_demo::is_limit;
+use dn_lockstep::is_game;
 use dn_node::{Config, Node};
 use dn_world::World;
 use std::alloc::Global;
@@ -23,10 +24,12 @@ impl<W: World> Game<W> {
     pub fn new(alloc: Global, config: GameConfig, worlds: Vec<W>) -> Result<Game<W>, GameFault>
         ensures admitted { IsAdmitted config (length worlds.items) result }
         ensures opened { IfOk result (λ game. Represents W.state
-            (rules_in W.physics config (length worlds.items)) (contents game) (opening_game config.settings)) }
+            (rules_in W.physics config (length worlds.items)) (contents game)
+            (opening_game config.settings)) }
         ensures given { IfOk result (λ game. worlds_of (contents game).nodes ≡ worlds.items) }
+        ensures limits { IfOk result (λ game. AreLimited config.limit (contents game).nodes) }
     {
-        if !(2..=4).contains(&worlds.len()) {
+        if !is_game(worlds.len()) {
             return Err(GameFault::Players);
         }
         if !is_limit(config.limit) {
@@ -65,6 +68,7 @@ pub fn nodes_of<W: World>(
     ensures opened { IfOk result (λ nodes. AreFresh W.state
         (rules_in W.physics config.now (length worlds.items)) config.now.settings nodes.items) }
     ensures given { IfOk result (λ nodes. worlds_of nodes.items ≡ worlds.items) }
+    ensures limits { IfOk result (λ nodes. AreLimited config.now.limit nodes.items) }
     ensures one_each { IfOk result (λ nodes. length nodes.items ≡ length worlds.items) }
     ensures memory { IfErr result (λ fault. fault ≡ GameFault.Memory) }
 {

@@ -15,7 +15,8 @@ pub(super) fn is_skipped(line: &[u8]) -> bool
 
 /// The two parts of a text round its first space.
 fn parts(text: &[u8]) -> Option<(&[u8], &[u8])>
-    ensures { MatchOption result (HasNoSpace text.now) (λ p. HasNoSpace p.0.now × (text.now ≡ p.0.now ++ codes " " ++ p.1.now)) }
+    ensures { MatchOption result (HasNoSpace text.now)
+        (λ p. HasNoSpace p.0.now × (text.now ≡ p.0.now ++ codes " " ++ p.1.now)) }
 {
     let space = text.iter().position(|byte| *byte == b' ')?;
     Some((&text[..space], &text[space + 1..]))

@@ -1,6 +1,6 @@
 //! Tests of three nodes under a list with lost, repeated and reversed deliveries.
 
-use super::belt::belts;
+use super::belts::belts;
 use super::told::places;
 use super::{build, config, send, walks};
 use crate::{Event, Game, Played, play};

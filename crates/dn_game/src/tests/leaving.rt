@@ -11,7 +11,7 @@ use std::alloc::Global;
 use std::process::Abort;
 use std::test::Fail;
 
-/// The commands of a demo of so many players: what stands behind the header, without the marker.
+/// The commands of a demo of `players` players: what stands behind the header, without the marker.
 fn commands(demo: &[u8], players: u32) -> &[u8] {
     let rest = match demo.get(13..) {
         Some(rest) => rest,

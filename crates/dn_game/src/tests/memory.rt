@@ -1,4 +1,4 @@
-//! Tests of want of memory.
+//! Tests of refused memory.
 
 use super::told::all_told;
 use super::{config, opened, send, walks};
@@ -35,7 +35,7 @@ fn send_one(rt: &impl Abort, game: &mut Game<Walk>) {
 
 /// Each request for memory may be refused: then the answer says so, and there is no other.
 #[test]
-fn want_of_memory_is_told(rt: HostRuntime) -> Result<(), Fail> {
+fn refused_memory_is_told(rt: HostRuntime) -> Result<(), Fail> {
     if let Ok(worlds) = walks(rt.alloc(), 2) {
         match Game::new(rt.alloc(), config(1_024)?, worlds) {
             Ok(mut game) => {

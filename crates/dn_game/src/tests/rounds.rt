@@ -168,7 +168,7 @@ fn staying(game: &Game<Walk>) -> [Option<u32>; 4] {
     rest
 }
 
-/// No node is more than five tics ahead of another that stays, and six tics more take so many rounds at
+/// No node is more than five tics ahead of another that stays, and six more tics take this many rounds at
 /// most.
 const ALL_RAN_BY: u32 = 13 * 6 + 1;
 
@@ -228,7 +228,7 @@ fn storms_go_on(rt: HostRuntime) -> Result<(), Fail> {
 
 /// Where a packet finds no room, the round says so, and the next goes on from there.
 #[test]
-fn want_of_memory_ends_a_round(rt: HostRuntime) -> Result<(), Fail> {
+fn refused_memory_ends_a_round(rt: HostRuntime) -> Result<(), Fail> {
     let Ok(worlds) = walks(rt.alloc(), 2) else {
         return Ok(());
     };

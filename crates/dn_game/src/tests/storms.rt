@@ -1,6 +1,6 @@
 //! Tests of storms.
 
-use super::belt::belts;
+use super::belts::belts;
 use super::told::all_told;
 use super::{config, walks};
 use crate::{Played, storm};

@@ -83,7 +83,7 @@ fn long_datagrams_are_cut(rt: HostRuntime) -> Result<(), Fail> {
 
 /// Each request for memory may be refused: then the answer says so, and there is no other.
 #[test]
-fn want_of_memory_is_told(rt: HostRuntime) {
+fn refused_memory_is_told(rt: HostRuntime) {
     match MemoryHub::new(rt.alloc(), 4) {
         Ok(hub) => assert_eq!(rt; hub.failed(), 0),
         Err(fault) => assert_eq!(rt; fault, HubFault::Memory),

@@ -7,7 +7,7 @@ use std::alloc::Global;
 use std::net::Net;
 use std::test::Fail;
 
-/// So many polls are made for a datagram that is on its way.
+/// How many polls are made for a datagram that is on its way.
 const POLLS: u32 = 100_000;
 
 /// A line of two players, bound for those up to `last`, and where it is.
@@ -111,7 +111,7 @@ fn strangers_are_told(rt: HostRuntime) -> Result<(), Fail> {
 
 /// Each request for memory may be refused: then there is no line.
 #[test]
-fn want_of_memory_is_told(rt: HostRuntime) {
+fn refused_memory_is_told(rt: HostRuntime) {
     for step in 0..200u16 {
         match UdpLine::bind(&rt, rt.alloc(), 32_000 + 8 * step, 0, 3, 4) {
             Ok(line) => {

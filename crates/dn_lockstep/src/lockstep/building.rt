@@ -7,7 +7,7 @@ use super::Lockstep;
 use dn_machine::{Made, Phase};
 use dn_tic::Keys;
 
-/// So many commands may wait to be run (`d_net.c`, NetUpdate).
+/// Most commands built but not yet run (`d_net.c`, NetUpdate).
 const AHEAD: u32 = 5;
 
 impl Lockstep {

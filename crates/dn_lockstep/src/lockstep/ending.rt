@@ -15,7 +15,8 @@ impl Lockstep {
     /// Ends a node that plays, and closes its demo where it is open.
     pub(super) fn finish(&mut self, cause: Cause)
         requires { (contents self.old).phase ≡ Playing }
-        ensures step { Becomes (contents self.old) (contents self.new) (λ rules me m. record m { phase = Ended cause }) }
+        ensures step { Becomes (contents self.old) (contents self.new)
+            (λ rules me m. record m { phase = Ended cause }) }
         ensures room { (contents self.new).demo.limit ≡ (contents self.old).demo.limit }
     {
         self.phase = Phase::Ended(cause);

@@ -1,6 +1,6 @@
 //! What a node gives to a peer.
 
-ghost use Rattle.std.specs.Prelude.{◌≡◌, ◌<◌, [], true, false, None, IfSome};
+ghost use Rattle.std.specs.Prelude.{◌≡◌, ◌<◌, ◌≤◌, length, [], true, false, None, IfSome};
 ghost use Rattle.std.specs.List.{list_any};
 ghost use Rattle.std.specs.Option.{option_map};
 ghost use Rattle.std.specs.Bool.{then_some};
@@ -12,23 +12,22 @@ ghost use Rattle.dn_lockstep.specs.Sent.{sent_to, after_giving, aim_of, bytes_of
 
 use super::Lockstep;
 use super::sending::{Aim, request_byte};
-use crate::peers::Peer;
 use arrayvec::ArrayVec;
-use dn_machine::Phase;
-use dn_packet::{Packet, encode_into};
+use dn_machine::{Peer, Phase};
+use dn_packet::{Packet, encode_into, encode_to};
 use dn_setup::to_packet;
 
 impl Lockstep {
     ghost use Rattle.dn_lockstep.specs.Contents.{contents};
-    ghost use Rattle.dn_lockstep.specs.Steps.{Steps, Becomes};
-    ghost use Rattle.dn_lockstep.specs.Giving.{Reaches, Gives, IsOwn};
+    ghost use Rattle.dn_lockstep.specs.Steps.{Steps, Becomes, Tells};
+    ghost use Rattle.dn_lockstep.specs.Giving.{Reaches, Gives, IsOwn, gives, IsSentTo, IsSilent};
 
     /// Fills in the packet of these numbers, with the own commands from its start on.
     fn fill(&self, aim: &Aim, packet: &mut Packet)
         requires reach { Reaches (contents self.now) aim.now }
         requires empty { packet.old.cmds.items ≡ [] }
-        ensures packet { Steps (contents self.now) (contents self.now) (λ rules me m. (m, (m, me)))
-            (λ (m, me). (flight : Flight) → IsOwn m me flight → aim.now ≡ aim_of flight → packet.new ≡ packet_of flight) }
+        ensures packet { Tells (contents self.now) (λ rules me m. (flight : Flight) → IsOwn m me flight
+            → aim.now ≡ aim_of flight → packet.new ≡ packet_of flight) }
         ensures valid { IsPacket packet.new }
         ensures no_stop { list_any is_stop packet.new.cmds.items ≡ false }
     {
@@ -42,12 +41,12 @@ impl Lockstep {
     /// Fills in the packet that `packet` would give now, and answers whether there is one.
     fn outgoing(&self, to: u8, packet: &mut Packet) -> bool
         requires { packet.old.cmds.items ≡ [] }
-        ensures step { Steps (contents self.now) (contents self.now)
-            (λ rules me m. (m, (sent_to to rules me m).1)) (λ flight. then_some result packet.new ≡ option_map packet_of flight) }
-        ensures fair { Steps (contents self.now) (contents self.now)
-            (λ rules me m. (m, (sent_to to rules me m).1)) (λ flight. IfSome flight IsFair) }
+        ensures told { Tells (contents self.now)
+            (λ rules me m. then_some result packet.new ≡ option_map packet_of (sent_to to rules me m).1) }
+        ensures fair { Tells (contents self.now) (λ rules me m. IfSome (sent_to to rules me m).1 IsFair) }
         ensures flags { result ≡ true → packet.new.flags < 16 }
         ensures given { result ≡ true → Gives (contents self.now) to }
+        ensures known { result ≡ gives (contents self.now) to }
     {
         let Some(aim) = self.aim(to) else {
             return false;
@@ -88,8 +87,7 @@ impl Lockstep {
         ensures step { Steps (contents self.old) (contents self.new)
             (λ rules me m. sent_to to rules me m)
             (λ flight. then_some result bytes.new.items ≡ option_map bytes_of flight) }
-        ensures fair { Steps (contents self.old) (contents self.new)
-            (λ rules me m. sent_to to rules me m) (λ flight. IfSome flight IsFair) }
+        ensures fair { Tells (contents self.old) (λ rules me m. IfSome (sent_to to rules me m).1 IsFair) }
         ensures idle { result ≡ false → contents self.new ≡ contents self.old }
         ensures unwritten { result ≡ false → bytes.new ≡ bytes.old }
         ensures room { (contents self.new).demo.limit ≡ (contents self.old).demo.limit }
@@ -104,14 +102,30 @@ impl Lockstep {
         }
     }
 
+    /// Writes the next packet to a peer to the front of a room, and answers how many bytes it has, and 0
+    /// where there is none.
+    pub fn packet_to(&mut self, to: u8, room: &mut [u8]) -> usize
+        requires { 104 ≤ length room.old }
+        ensures sent { IsSentTo to (contents self.old) (contents self.new) room.old room.new result }
+        ensures fair { Tells (contents self.old) (λ rules me m. IfSome (sent_to to rules me m).1 IsFair) }
+        ensures silent { IsSilent to (contents self.old) (contents self.new) room.old room.new result }
+        ensures room { (contents self.new).demo.limit ≡ (contents self.old).demo.limit }
+    {
+        let mut packet = Packet::empty();
+        if !self.outgoing(to, &mut packet) {
+            return 0;
+        }
+        self.note_sent(to);
+        encode_to(&packet, room)
+    }
+
     /// The next packet to a peer; None for the node itself, for a number that is no player's, and where
     /// the node has nothing to give. A node that has played and ended gives one whenever it is asked.
     pub fn packet(&mut self, to: u8) -> Option<ArrayVec<u8, 104>>
         ensures step { Steps (contents self.old) (contents self.new)
             (λ rules me m. sent_to to rules me m)
             (λ flight. option_map (λ bytes. bytes.items) result ≡ option_map bytes_of flight) }
-        ensures fair { Steps (contents self.old) (contents self.new)
-            (λ rules me m. sent_to to rules me m) (λ flight. IfSome flight IsFair) }
+        ensures fair { Tells (contents self.old) (λ rules me m. IfSome (sent_to to rules me m).1 IsFair) }
         ensures idle { result ≡ None → contents self.new ≡ contents self.old }
         ensures room { (contents self.new).demo.limit ≡ (contents self.old).demo.limit }
     {

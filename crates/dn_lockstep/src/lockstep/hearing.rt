@@ -1,36 +1,27 @@
 //! What a node does with a datagram.
 
 ghost use Rattle.std.specs.Prelude.{◌≡◌, ◌≢◌, ◌<◌, ℕ, true, false, Result, Ok};
-ghost use Rattle.dn_packet.specs.declared.packet.Packet.{Packet};
-ghost use Rattle.dn_packet.specs.declared.packet.PacketFault.{PacketFault};
-ghost use Rattle.dn_packet.specs.Read.{IsReadAs};
-ghost use Rattle.dn_packet.specs.Text.{text};
 ghost use Rattle.dn_setup.specs.Settings.{Settings};
 ghost use Rattle.dn_setup.specs.Setup.{IsSetupReadAs};
 ghost use Rattle.dn_setup.specs.declared.setup.SetupFault.{SetupFault};
-ghost use Rattle.dn_machine.specs.declared.answers.Heard.TheVariants.{Started, Dropped};
 ghost use Rattle.dn_machine.specs.declared.answers.Phase.TheVariants.{Gathering};
-ghost use Rattle.dn_machine.specs.Flight.{Flight, packet_of, is_near};
-ghost use Rattle.dn_machine.specs.Hearing.{on_packet, on_gathering};
-ghost use Rattle.dn_lockstep.specs.Near.{IsFair};
+ghost use Rattle.dn_machine.specs.Hearing.{on_gathering};
 ghost use Rattle.dn_lockstep.specs.Phases.{hears_none};
-ghost use Rattle.dn_lockstep.specs.Rings.{count_of};
-ghost use Rattle.dn_lockstep.specs.Received.{received, on_read, on_set_up, on_player, IsTold};
+ghost use Rattle.dn_lockstep.specs.Received.{on_read, on_set_up, on_player};
 
 use super::Lockstep;
-use crate::numbers::{
-    KILLED, LENGTH, MANY, NOT_PLAYING, OUT_OF_PLACE, RANGE, SHORT, STRANGER, SUM, VERSION,
-};
+use crate::drops::{KILLED, NOT_PLAYING, OUT_OF_PLACE, STRANGER, packet_drop, setup_drop};
 use crate::reading::has_flag;
 use dn_machine::{Heard, Phase};
-use dn_packet::{KILL, Packet, PacketFault, SETUP, decode_into};
-use dn_setup::{SetupFault, from_packet};
+use dn_packet::{KILL, Packet, SETUP, decode_into};
+use dn_setup::from_packet;
 
 /// The number of the key player.
 const KEY: u8 = 0;
 
 impl Lockstep {
     ghost use Rattle.dn_lockstep.specs.Contents.{contents};
+    ghost use Rattle.dn_lockstep.specs.Hearing.{HearsAny, HearsNear, Spares};
     ghost use Rattle.dn_lockstep.specs.Steps.{Steps};
 
     /// Whether it has ended without having played.
@@ -46,16 +37,9 @@ impl Lockstep {
     /// Hears a datagram of this player. A datagram that is dropped changes nothing. At `Started` the caller
     /// begins its world with the start of `settings` and the seats of `present`.
     pub fn receive(&mut self, from: u8, bytes: &[u8]) -> Heard
-        ensures any { (read : Result Packet PacketFault) (told : Result Settings SetupFault)
-            → IsReadAs bytes.now read → IsTold read told
-            → Steps (contents self.old) (contents self.new)
-            (λ rules me m. received rules me m from told read) (λ heard. result ≡ heard) }
-        ensures near { (flight : Flight) → IsFair flight → bytes.now ≡ text (packet_of flight) → flight.from ≡ from
-            → from < (contents self.old).players → from ≢ (contents self.old).me
-            → is_near (count_of (contents self.old).rings (contents self.old).me) flight ≡ true
-            → Steps (contents self.old) (contents self.new)
-            (λ rules me m. on_packet rules me m flight) (λ heard. result ≡ heard) }
-        ensures dropped { (number : ℕ) → result ≡ Dropped number → contents self.new ≡ contents self.old }
+        ensures any { HearsAny from bytes.now (contents self.old) (contents self.new) result }
+        ensures near { HearsNear from bytes.now (contents self.old) (contents self.new) result }
+        ensures dropped { Spares (contents self.old) (contents self.new) result }
         ensures room { (contents self.new).demo.limit ≡ (contents self.old).demo.limit }
     {
         if self.hears_none() {
@@ -67,10 +51,7 @@ impl Lockstep {
         let mut packet = Packet::empty();
         match decode_into(bytes, &mut packet) {
             Ok(()) => self.hear(from, &packet),
-            Err(PacketFault::Short) => Heard::Dropped(SHORT),
-            Err(PacketFault::Many) => Heard::Dropped(MANY),
-            Err(PacketFault::Length) => Heard::Dropped(LENGTH),
-            Err(PacketFault::Sum) => Heard::Dropped(SUM),
+            Err(fault) => Heard::Dropped(packet_drop(fault)),
         }
     }
 
@@ -82,7 +63,7 @@ impl Lockstep {
         ensures step { (told : Result Settings SetupFault) → IsSetupReadAs packet.now told
             → Steps (contents self.old) (contents self.new)
             (λ rules me m. on_read rules me m from told (Ok packet.now)) (λ heard. result ≡ heard) }
-        ensures dropped { (number : ℕ) → result ≡ Dropped number → contents self.new ≡ contents self.old }
+        ensures dropped { Spares (contents self.old) (contents self.new) result }
         ensures room { (contents self.new).demo.limit ≡ (contents self.old).demo.limit }
     {
         if has_flag(packet, SETUP) {
@@ -107,7 +88,7 @@ impl Lockstep {
         requires hears { hears_none (contents self.old).phase (contents self.old).played ≡ false }
         ensures step { Steps (contents self.old) (contents self.new)
             (λ rules me m. on_player rules me m from packet.now m.phase) (λ heard. result ≡ heard) }
-        ensures dropped { (number : ℕ) → result ≡ Dropped number → contents self.new ≡ contents self.old }
+        ensures dropped { Spares (contents self.old) (contents self.new) result }
         ensures room { (contents self.new).demo.limit ≡ (contents self.old).demo.limit }
     {
         match self.phase {
@@ -122,8 +103,8 @@ impl Lockstep {
     fn hear_set_up(&mut self, from: u8, packet: &Packet) -> Heard
         ensures step { (told : Result Settings SetupFault) → IsSetupReadAs packet.now told
             → Steps (contents self.old) (contents self.new)
-            (λ rules me m. on_set_up m from told m.phase) (λ heard. result ≡ heard) }
-        ensures dropped { (number : ℕ) → result ≡ Dropped number → contents self.new ≡ contents self.old }
+            (λ rules me m. on_set_up rules me m from told m.phase) (λ heard. result ≡ heard) }
+        ensures dropped { Spares (contents self.old) (contents self.new) result }
         ensures room { (contents self.new).demo.limit ≡ (contents self.old).demo.limit }
     {
         let Phase::Listening = self.phase else {
@@ -137,9 +118,7 @@ impl Lockstep {
                 self.start(settings);
                 Heard::Started
             }
-            Err(SetupFault::NotSetup) => Heard::Dropped(OUT_OF_PLACE),
-            Err(SetupFault::Version) => Heard::Dropped(VERSION),
-            Err(SetupFault::Range) => Heard::Dropped(RANGE),
+            Err(fault) => Heard::Dropped(setup_drop(fault)),
         }
     }
 
@@ -150,7 +129,7 @@ impl Lockstep {
         requires peer { from < (contents self.old).players }
         ensures step { Steps (contents self.old) (contents self.new)
             (λ rules me m. on_gathering rules m from) (λ heard. result ≡ heard) }
-        ensures dropped { (number : ℕ) → result ≡ Dropped number → contents self.new ≡ contents self.old }
+        ensures dropped { Spares (contents self.old) (contents self.new) result }
         ensures room { (contents self.new).demo.limit ≡ (contents self.old).demo.limit }
     {
         if !self.gather.hear(from) {

@@ -1,9 +1,9 @@
 //! How a node is made.
 
-ghost use Rattle.std.specs.Prelude.{◌≡◌, ◌==◌, if◌then◌else◌, Some, IfOk};
+ghost use Rattle.std.specs.Prelude.{◌≡◌, ◌==◌, if◌then◌else◌, Some, IfOk, true};
 ghost use Rattle.dn_machine.specs.declared.answers.Phase.TheVariants.{Listening, Gathering};
 ghost use Rattle.dn_demo.specs.Recorded.{capacity};
-ghost use Rattle.dn_lockstep.specs.Opening.{IsAdmitted};
+ghost use Rattle.dn_lockstep.specs.Opening.{IsAdmitted, IsGame};
 
 use super::Lockstep;
 use crate::config::{Config, NodeFault};
@@ -15,6 +15,14 @@ use dn_machine::Phase;
 use dn_setup::Gather;
 use dn_tic::Builder;
 use std::alloc::Global;
+
+/// Whether a game may have this many players: 2 to 4.
+pub fn is_game(players: usize) -> bool
+    ensures yes { result ≡ true → IsGame players }
+    ensures no { IsGame players → result ≡ true }
+{
+    (2..=4).contains(&players)
+}
 
 /// Player 0 has the settings and gathers, and the others listen.
 fn first_phase(me: u8) -> Phase
@@ -42,7 +50,8 @@ impl Lockstep {
         ensures admitted { IsAdmitted config result }
         ensures opened { IfOk result (λ lockstep. (marking : Marking) (settings : Choice)
             → (config.me ≡ 0 → config.settings ≡ Some settings)
-            → Represents (rules_of (free marking) config.players config.extra (capacity config.limit config.players)) config.me
+            → Represents (rules_of (free marking) config.players config.extra
+            (capacity config.limit config.players)) config.me
             (contents lockstep) (fresh settings config.me)) }
         ensures room { IfOk result (λ lockstep. (contents lockstep).demo.limit ≡ config.limit) }
     {
@@ -53,7 +62,7 @@ impl Lockstep {
             limit,
             settings,
         } = config;
-        if !(2..=4).contains(&players) {
+        if !is_game(usize::from(players)) {
             return Err(NodeFault::Players);
         }
         if me >= players {

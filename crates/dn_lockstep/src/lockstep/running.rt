@@ -6,37 +6,66 @@ ghost use Rattle.dn_machine.specs.declared.answers.Ran.TheVariants as Ran;
 ghost use Rattle.dn_machine.specs.declared.answers.Ran.TheVariants.{Waiting, NotPlaying};
 ghost use Rattle.dn_machine.specs.Node.{lowest};
 ghost use Rattle.dn_lockstep.specs.Rows.{is_missing};
+ghost use Rattle.dn_lockstep.specs.Runs.{told_by};
 
 use super::Lockstep;
 use crate::recording::write;
-use crate::rows::{awaited, first_off, full_at, is_whole, mark_of, row_at};
+use crate::rows::{awaited, fill_row, first_off, full_at, mark_of};
 use dn_machine::{Cause, Phase, Ran};
 use dn_tic::Move;
+
+/// The row that is told where a tic was run, and else none.
+fn told_by(ran: Ran, row: [Option<Move>; 4]) -> Option<[Option<Move>; 4]>
+    ensures { result ≡ told_by ran row }
+{
+    match ran {
+        Ran::Ran(_) => Some(row),
+        Ran::Waiting(_) | Ran::DemoFull | Ran::Inconsistent { .. } | Ran::NotPlaying => None,
+    }
+}
 
 impl Lockstep {
     ghost use Rattle.dn_machine.specs.Running.{on_run, on_run_playing};
     ghost use Rattle.dn_lockstep.specs.Contents.{contents};
     ghost use Rattle.dn_lockstep.specs.Runs.{RunsBy};
 
-    /// Runs the next tic (`d_net.c`, TryRunTics; `g_game.c`, G_Ticker), where no mark is off and the command of
-    /// every player is there who has not left by then. It is told each player's mark in the caller's world as
-    /// it stands, and tells the row of moves by which that world goes on: one where the tic was run, and else
-    /// none. One that waits stays as it is.
+    /// Runs the next tic, as `run_into` does. The row of moves is told where the tic was run, and else none.
     pub fn run(&mut self, marks: &[i16; 4]) -> (Ran, Option<[Option<Move>; 4]>)
         ensures step { RunsBy marks.now (contents self.old) (contents self.new)
             (λ rules m. on_run rules m) (λ ran row. (result.0 ≡ ran) × (result.1 ≡ row)) }
-        ensures further { (tic : ℕ) → result.0 ≡ Ran.Ran tic → (contents self.new).ran ≡ (contents self.old).ran + 1 }
+        ensures further { (tic : ℕ) → result.0 ≡ Ran.Ran tic
+            → (contents self.new).ran ≡ (contents self.old).ran + 1 }
         ensures waits { (player : ℕ) → result.0 ≡ Waiting player
             → (contents self.new ≡ contents self.old) × (result.1 ≡ None) }
         ensures idle { result.0 ≡ NotPlaying → (contents self.new ≡ contents self.old) × (result.1 ≡ None) }
         ensures room { (contents self.new).demo.limit ≡ (contents self.old).demo.limit }
     {
+        let mut row = [None; 4];
+        let ran = self.run_into(marks, &mut row);
+        (ran, told_by(ran, row))
+    }
+
+    /// Runs the next tic (`d_net.c`, TryRunTics; `g_game.c`, G_Ticker), where no mark is off and the command
+    /// of every player is there who has not left by then. It is told each player's mark in the caller's world
+    /// as it stands, and where it answers `Ran`, it has filled in the row of moves by which that world goes
+    /// on. Where it waits or does not play, it stays as it is, and so does the row; at `DemoFull` and
+    /// `Inconsistent` the row means nothing.
+    pub fn run_into(&mut self, marks: &[i16; 4], row: &mut [Option<Move>; 4]) -> Ran
+        ensures step { RunsBy marks.now (contents self.old) (contents self.new)
+            (λ rules m. on_run rules m) (λ ran told. (result ≡ ran) × (told_by result row.new ≡ told)) }
+        ensures further { (tic : ℕ) → result ≡ Ran.Ran tic
+            → (contents self.new).ran ≡ (contents self.old).ran + 1 }
+        ensures waits { (player : ℕ) → result ≡ Waiting player
+            → (contents self.new ≡ contents self.old) × (row.new ≡ row.old) }
+        ensures idle { result ≡ NotPlaying → (contents self.new ≡ contents self.old) × (row.new ≡ row.old) }
+        ensures room { (contents self.new).demo.limit ≡ (contents self.old).demo.limit }
+    {
         let Phase::Playing = self.phase else {
-            return (Ran::NotPlaying, None);
+            return Ran::NotPlaying;
         };
         let tic = self.ran;
         if let Some(player) = awaited(&self.rings, &self.peers, self.players, tic) {
-            return (Ran::Waiting(player), None);
+            return Ran::Waiting(player);
         }
         if let Some(player) = first_off(&self.rings, &self.peers, &self.marks, self.players, tic) {
             let was = mark_of(&self.rings, player, tic);
@@ -46,39 +75,40 @@ impl Lockstep {
                 was,
                 should,
             });
-            let ran = Ran::Inconsistent {
+            return Ran::Inconsistent {
                 player,
                 was,
                 should,
             };
-            return (ran, None);
         }
-        self.run_row(marks)
+        self.run_row(marks, row)
     }
 
     /// Runs the row of the next tic, whose commands are there. A row that lacks a player closes the demo, and
     /// only a row that lacks nobody needs room in it.
-    fn run_row(&mut self, marks: &[i16; 4]) -> (Ran, Option<[Option<Move>; 4]>)
+    fn run_row(&mut self, marks: &[i16; 4], row: &mut [Option<Move>; 4]) -> Ran
         requires plays { (contents self.old).phase ≡ Playing }
         requires there { lowest (contents self.old).players
             (is_missing (contents self.old).rings (contents self.old).peers (contents self.old).ran) ≡ None }
         ensures step { RunsBy marks.now (contents self.old) (contents self.new)
-            (λ rules m. on_run_playing rules m None None) (λ ran row. (result.0 ≡ ran) × (result.1 ≡ row)) }
-        ensures further { (tic : ℕ) → result.0 ≡ Ran.Ran tic → (contents self.new).ran ≡ (contents self.old).ran + 1 }
-        ensures waits { (player : ℕ) → result.0 ≢ Waiting player }
-        ensures idle { result.0 ≢ NotPlaying }
+            (λ rules m. on_run_playing rules m None None) (λ ran told. (result ≡ ran)
+            × (told_by result row.new ≡ told)) }
+        ensures further { (tic : ℕ) → result ≡ Ran.Ran tic
+            → (contents self.new).ran ≡ (contents self.old).ran + 1 }
+        ensures waits { (player : ℕ) → result ≢ Waiting player }
+        ensures idle { result ≢ NotPlaying }
         ensures room { (contents self.new).demo.limit ≡ (contents self.old).demo.limit }
     {
         let tic = self.ran;
-        let row = row_at(&self.rings, &self.peers, self.players, tic);
-        let whole = is_whole(&row, self.players);
+        *row = [None; 4];
+        let whole = fill_row(&self.rings, &self.peers, self.players, tic, row);
         if tic == full_at(whole, self.capacity) {
             self.finish(Cause::Full);
-            return (Ran::DemoFull, None);
+            return Ran::DemoFull;
         }
-        self.marks.stamp(marks, &row, tic);
+        self.marks.stamp(marks, row, tic);
         self.ran += 1;
-        write(&mut self.demo, &row, whole);
-        (Ran::Ran(tic), Some(row))
+        write(&mut self.demo, row, whole);
+        Ran::Ran(tic)
     }
 }

@@ -1,6 +1,6 @@
 //! The exact numbers of what a node gives to a peer.
 
-ghost use Rattle.std.specs.Prelude.{◌≡◌, ◌<◌, ◌≤◌, ◌+◌, IfSome};
+ghost use Rattle.std.specs.Prelude.{◌≡◌, ◌<◌, ◌≤◌, ◌+◌, IfSome, is_some};
 ghost use Rattle.std.specs.Option.{option_map};
 ghost use Rattle.dn_setup.specs.Starts.{bit};
 ghost use Rattle.dn_machine.specs.declared.answers.Phase.TheVariants.{Ended};
@@ -50,14 +50,16 @@ pub(super) fn request_byte(ask: Option<u32>) -> u8
 
 impl Lockstep {
     ghost use Rattle.dn_lockstep.specs.Contents.{contents};
-    ghost use Rattle.dn_lockstep.specs.Steps.{Steps};
-    ghost use Rattle.dn_lockstep.specs.Giving.{Reaches, Gives};
+    ghost use Rattle.dn_lockstep.specs.Steps.{Tells};
+    ghost use Rattle.dn_lockstep.specs.Giving.{Reaches, Gives, gives};
 
     /// The exact numbers of the packet that `packet` would give now.
     pub fn aim(&self, to: u8) -> Option<Aim>
-        ensures step { Steps (contents self.now) (contents self.now)
-            (λ rules me m. (m, (sent_to to rules me m).1)) (λ flight. result ≡ option_map aim_of flight) }
-        ensures reach { IfSome result (λ aim. Reaches (contents self.now) aim × Gives (contents self.now) to) }
+        ensures told { Tells (contents self.now)
+            (λ rules me m. result ≡ option_map aim_of (sent_to to rules me m).1) }
+        ensures reach { IfSome result (λ aim. Reaches (contents self.now) aim
+            × Gives (contents self.now) to) }
+        ensures known { is_some result ≡ gives (contents self.now) to }
     {
         if to == self.me || to >= self.players {
             return None;
@@ -78,8 +80,7 @@ impl Lockstep {
     /// The first tic of the next packet to a peer, never more than twelve behind.
     fn first_sent(&self, to: u8) -> u32
         requires { to < (contents self.now).players }
-        ensures step { Steps (contents self.now) (contents self.now)
-            (λ rules me m. (m, first_sent rules me m to)) (λ tic. result ≡ tic) }
+        ensures told { Tells (contents self.now) (λ rules me m. result ≡ first_sent rules me m to) }
         ensures low { result ≤ count_of (contents self.now).rings (contents self.now).me }
         ensures high { count_of (contents self.now).rings (contents self.now).me ≤ result + 12 }
     {
@@ -95,8 +96,7 @@ impl Lockstep {
     /// The tic that the peer is asked for, if commands of it are missing.
     fn request_to(&self, to: u8) -> Option<u32>
         requires { to < (contents self.now).players }
-        ensures { Steps (contents self.now) (contents self.now)
-            (λ rules me m. (m, request_to m to)) (λ request. result ≡ request) }
+        ensures { Tells (contents self.now) (λ rules me m. result ≡ request_to m to) }
     {
         if self.peers.get(to).want {
             Some(self.rings.count(to))
@@ -108,8 +108,8 @@ impl Lockstep {
     /// The numbers of a packet of commands.
     fn aim_of_commands(&self, to: u8) -> Aim
         requires { to < (contents self.now).players }
-        ensures step { Steps (contents self.now) (contents self.now)
-            (λ rules me m. (m, commands_flight rules me m to Play (request_to m to))) (λ flight. result ≡ aim_of flight) }
+        ensures told { Tells (contents self.now)
+            (λ rules me m. result ≡ aim_of (commands_flight rules me m to Play (request_to m to))) }
         ensures reach { Reaches (contents self.now) result }
     {
         let start = self.first_sent(to);
@@ -126,9 +126,10 @@ impl Lockstep {
     /// ended: it carries the last commands, so that the peers know all up to its end, and asks for none.
     fn aim_of_exit(&self, to: u8) -> Option<Aim>
         requires below { to < (contents self.now).players }
-        ensures step { (cause : Cause) → Steps (contents self.now) (contents self.now)
-            (λ rules me m. (m, (on_send_in rules me m to (Ended cause)).1)) (λ flight. result ≡ option_map aim_of flight) }
+        ensures told { (cause : Cause) → Tells (contents self.now)
+            (λ rules me m. result ≡ option_map aim_of (on_send_in rules me m to (Ended cause)).1) }
         ensures reach { IfSome result (Reaches (contents self.now)) }
+        ensures known { is_some result ≡ (contents self.now).played }
     {
         if !self.played {
             return None;

@@ -3,17 +3,16 @@
 
 ghost use Rattle.std.specs.Prelude.{◌≡◌, ◌≢◌, ◌<◌, ℕ, true};
 ghost use Rattle.dn_machine.specs.declared.answers.Cause.{Cause};
-ghost use Rattle.dn_machine.specs.declared.answers.Heard.TheVariants.{Dropped};
 ghost use Rattle.dn_machine.specs.declared.answers.Phase.TheVariants.{Playing, Ended};
 ghost use Rattle.dn_machine.specs.Hearing.{left_or};
 ghost use Rattle.dn_lockstep.specs.Received.{on_player};
 
 use super::Lockstep;
-use crate::numbers::{NOT_PLAYING, OVERRUN, STRANGE_END};
-use crate::peers::Peer;
+use crate::drops::{NOT_PLAYING, OVERRUN, STRANGE_END};
+use crate::peers::{after_exit, after_request, is_strange_end};
 use crate::reading::{has_flag, request, start};
 use crate::rings::PLACES;
-use dn_machine::Heard;
+use dn_machine::{Heard, Peer};
 use dn_packet::{EXIT, Packet};
 
 /// The answer to a packet up to whose end nothing is missing.
@@ -25,6 +24,7 @@ fn left_or(exit: bool, heard: Heard) -> Heard
 
 impl Lockstep {
     ghost use Rattle.dn_lockstep.specs.Contents.{contents};
+    ghost use Rattle.dn_lockstep.specs.Hearing.{Spares};
     ghost use Rattle.dn_lockstep.specs.Steps.{Steps};
 
     /// Takes the commands of a player's packet while it plays (`d_net.c`, GetPackets), and the end that
@@ -34,7 +34,7 @@ impl Lockstep {
         requires other { from ≢ (contents self.old).me }
         ensures step { Steps (contents self.old) (contents self.new)
             (λ rules me m. on_player rules me m from packet.now Playing) (λ heard. result ≡ heard) }
-        ensures dropped { (number : ℕ) → result ≡ Dropped number → contents self.new ≡ contents self.old }
+        ensures dropped { Spares (contents self.old) (contents self.new) result }
         ensures room { (contents self.new).demo.limit ≡ (contents self.old).demo.limit }
     {
         let made = self.made();
@@ -50,11 +50,11 @@ impl Lockstep {
         let exit = has_flag(packet, EXIT);
         let got = self.rings.count(from);
         let peer = self.peers.get(from);
-        if peer.is_strange_end(exit, got, end) {
+        if is_strange_end(exit, got, peer.end, end) {
             return Heard::Dropped(STRANGE_END);
         }
-        let peer = peer.after_asking(made, request(made, packet));
-        let peer = peer.after_telling(exit, end);
+        let peer = after_request(made, peer, request(made, packet));
+        let peer = after_exit(peer, exit, end);
         if end <= got {
             self.peers.put(from, peer);
             return left_or(exit, Heard::Stale);
@@ -77,7 +77,7 @@ impl Lockstep {
         requires played { (contents self.old).played ≡ true }
         ensures step { (cause : Cause) → Steps (contents self.old) (contents self.new)
             (λ rules me m. on_player rules me m from packet.now (Ended cause)) (λ heard. result ≡ heard) }
-        ensures dropped { (number : ℕ) → result ≡ Dropped number → contents self.new ≡ contents self.old }
+        ensures dropped { Spares (contents self.old) (contents self.new) result }
         ensures room { (contents self.new).demo.limit ≡ (contents self.old).demo.limit }
     {
         if has_flag(packet, EXIT) {
@@ -89,7 +89,7 @@ impl Lockstep {
         }
         let peer = self.peers.get(from);
         self.peers
-            .put(from, peer.after_asking(made, request(made, packet)));
+            .put(from, after_request(made, peer, request(made, packet)));
         Heard::Noted
     }
 }

@@ -1,8 +1,8 @@
 //! Tests of the commands that a node builds from keys.
 
-use super::{FORWARD, IDLE, LEFT, NO_KEYS, RIGHT, SPEED, STILL, datagram, pair, run, tic};
+use super::{FORWARD, IDLE, LEFT, NO_KEYS, RIGHT, SPEED, STILL, datagram, pair, pass, run, tic};
 use crate::{Heard, Lockstep, Made, Ran};
-use dn_tic::Keys;
+use dn_tic::{Keys, Move};
 use std::process::Abort;
 use std::test::Fail;
 
@@ -194,5 +194,48 @@ fn a_full_build_leaves_the_hold(rt: HostRuntime) -> Result<(), Fail> {
             assert_eq!(rt; turn_of(carried(&rt, &mut key)?), turn, "tic {tic}");
         }
     }
+    Ok(())
+}
+
+#[test]
+fn a_packet_is_written_to_the_front_of_a_room(rt: HostRuntime) -> Result<(), Fail> {
+    let (mut key, mut other) = pair(rt.alloc(), false)?;
+    let (mut same, _) = pair(rt.alloc(), false)?;
+    let mut room = [7; 106];
+    // nothing for itself, nor for nobody
+    assert_eq!(rt;
+        (key.packet_to(0, &mut room), key.packet_to(2, &mut room)),
+        (0, 0)
+    );
+    assert_eq!(rt; room, [7; 106]);
+    assert_eq!(rt;
+        (build(&mut key, FORWARD), build(&mut same, FORWARD)),
+        (Made::Made(0), Made::Made(0))
+    );
+    let size = key.packet_to(1, &mut room);
+    let packet = same.packet(1).ok_or("no packet")?;
+    assert_eq!(rt; size, 16);
+    assert_eq!(rt; room.get(..16), Some(packet.as_slice()));
+    assert_eq!(rt; room.get(16..), Some([7; 90].as_slice()));
+    assert_eq!(rt; other.receive(0, &room[..16]), Heard::Taken(1));
+    Ok(())
+}
+
+#[test]
+fn a_row_is_filled_in_where_a_tic_is_run(rt: HostRuntime) -> Result<(), Fail> {
+    let (mut key, mut other) = pair(rt.alloc(), false)?;
+    let marked = [Some(Move::default()), None, Some(Move::default()), None];
+    let mut row = marked;
+    assert_eq!(rt; key.run_into(&[0; 4], &mut row), Ran::Waiting(0));
+    assert_eq!(rt; row, marked);
+    let _ = tic(&mut key, &mut other, (FORWARD, NO_KEYS));
+    assert_eq!(rt; other.ran(), 1);
+    let _ = build(&mut key, FORWARD);
+    let _ = build(&mut other, NO_KEYS);
+    let _ = pass(&mut other, &mut key);
+    assert_eq!(rt; key.run_into(&[0; 4], &mut row), Ran::Ran(1));
+    assert_eq!(rt; row[0].map(|step| step.forward), Some(25));
+    assert_eq!(rt; row[1].map(|step| step.forward), Some(0));
+    assert_eq!(rt; (row[2].is_none(), row[3].is_none()), (true, true));
     Ok(())
 }

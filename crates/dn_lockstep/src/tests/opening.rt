@@ -1,7 +1,7 @@
 //! Tests of how a node is made, and of why there is none.
 
 use super::{LIMIT, choice, run};
-use crate::{Config, Lockstep, Made, NodeFault, Phase, Ran};
+use crate::{Config, Lockstep, Made, NodeFault, Phase, Ran, is_game};
 use dn_setup::Settings;
 use dn_tic::Keys;
 use std::test::Fail;
@@ -13,6 +13,20 @@ fn config(players: u8, me: u8, limit: u32, settings: Option<Settings>) -> Config
         extra: false,
         limit,
         settings,
+    }
+}
+
+#[test]
+fn two_to_four_may_play(rt: HostRuntime) {
+    for (players, may) in [
+        (0, false),
+        (1, false),
+        (2, true),
+        (4, true),
+        (5, false),
+        (usize::MAX, false),
+    ] {
+        assert_eq!(rt; is_game(players), may, "{players} players");
     }
 }
 
@@ -82,7 +96,7 @@ fn a_node_begins_with_nothing(rt: HostRuntime) -> Result<(), Fail> {
 
 /// Each request for memory may be refused: then the answer says so, and there is no other.
 #[test]
-fn want_of_memory_is_told(rt: HostRuntime) -> Result<(), Fail> {
+fn refused_memory_is_told(rt: HostRuntime) -> Result<(), Fail> {
     let settings = Some(choice()?);
     match Lockstep::new(rt.alloc(), config(2, 0, LIMIT, settings)) {
         Ok(node) => assert_eq!(rt; node.phase(), Phase::Gathering),

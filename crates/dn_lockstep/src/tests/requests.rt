@@ -8,7 +8,7 @@ use std::alloc::Global;
 use std::process::Abort;
 use std::test::Fail;
 
-/// Two nodes that built and ran so many tics.
+/// Two nodes that built and ran `count` tics.
 fn at_tic(alloc: Global, count: u32) -> Result<(Lockstep, Lockstep), Fail> {
     let (mut key, mut other) = pair(alloc, false)?;
     tics(&mut key, &mut other, count, IDLE);
@@ -96,7 +96,7 @@ fn a_met_request_stands_for_ten_packets(rt: HostRuntime) -> Result<(), Fail> {
     Ok(())
 }
 
-/// A hold falls with every packet that is not dropped, and with no other.
+/// A pause gets shorter with every packet that is not dropped, and with no other.
 #[test]
 fn dropped_packets_do_not_count(rt: HostRuntime) -> Result<(), Fail> {
     let (mut key, _) = at_tic(rt.alloc(), 30)?;

@@ -82,7 +82,7 @@ fn a_writer_that_takes_no_bytes_fails(rt: HostRuntime) {
 
 /// Each request for memory may be refused: then the answer says so, and nothing is written.
 #[test]
-fn want_of_memory_is_told(rt: HostRuntime) {
+fn refused_memory_is_told(rt: HostRuntime) {
     let mut room = [0; 256];
     let mut rest = room.as_mut_slice();
     let shown = run_demo(rt.alloc(), &mut TWO.as_slice(), &mut rest);

@@ -15,7 +15,7 @@ use std::test::Fail;
 /// How many bytes a demo may have where nothing is said.
 pub(crate) const DEFAULT_LIMIT: u32 = 131_072;
 
-/// Skill 2, episode 1, map 1, and demos of so many bytes.
+/// Skill 2, episode 1, map 1, and demos of at most `limit` bytes.
 pub(crate) fn rules(limit: u32) -> Result<GameConfig, SettingsFault>
     ensures { IfOk result (λ config. config.limit ≡ limit) }
 {

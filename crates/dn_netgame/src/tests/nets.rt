@@ -115,9 +115,10 @@ fn a_failing_writer_has_a_front_of_the_line(rt: HostRuntime) -> Result<(), Fail>
     Ok(())
 }
 
-/// Each request for memory may be refused: then the answer says so and nothing is written, or no socket is bound.
+/// Each request for memory may be refused: then the answer says so and nothing is written, or no socket is
+/// bound.
 #[test]
-fn want_of_memory_is_told(rt: HostRuntime) -> Result<(), Fail> {
+fn refused_memory_is_told(rt: HostRuntime) -> Result<(), Fail> {
     let Ok(base) = base(&rt, rt.alloc(), 48_000) else {
         return Ok(());
     };

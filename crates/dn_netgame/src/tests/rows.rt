@@ -148,7 +148,7 @@ fn a_failing_writer_has_a_front(rt: HostRuntime) -> Result<(), Fail> {
 
 /// Each request for memory may be refused: then the answer says so, and the rows that were written stay.
 #[test]
-fn want_of_memory_is_told(rt: HostRuntime) {
+fn refused_memory_is_told(rt: HostRuntime) {
     let mut room = [0; 512];
     let mut rest = room.as_mut_slice();
     let shown = run_rows(rt.alloc(), &mut TWO.as_slice(), &mut rest);

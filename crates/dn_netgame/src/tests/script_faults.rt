@@ -127,7 +127,7 @@ fn a_writer_that_takes_no_bytes_fails(rt: HostRuntime) -> Result<(), Fail> {
 /// Each request for memory may be refused: then the answer says so and nothing is written, but for a
 /// packet's room, without which its event is refused.
 #[test]
-fn want_of_memory_is_told(rt: HostRuntime) -> Result<(), Fail> {
+fn refused_memory_is_told(rt: HostRuntime) -> Result<(), Fail> {
     let mut room = [0; 256];
     let mut rest = room.as_mut_slice();
     let mut input = b"send 0 1".as_slice();

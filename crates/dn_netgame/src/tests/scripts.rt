@@ -115,7 +115,7 @@ fn scripts_before_the_start_are_shown(rt: HostRuntime) -> Result<(), Fail> {
     Ok(())
 }
 
-/// Two players build and run a tic so many times, each with the commands of both.
+/// Two players build and run `tics` tics, each with the commands of both.
 fn script_of(alloc: Global, tics: u8) -> Result<String, Fail> {
     let mut script = String::from_str(alloc, "send 0 1\ndeliver 0\nsend 1 0\ndeliver 1\n")?;
     for tic in 0..tics {

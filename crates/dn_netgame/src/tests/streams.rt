@@ -10,7 +10,7 @@ pub(crate) const WHOLE: usize = 100_000;
 /// No call fails.
 pub(crate) const NEVER: u64 = 0;
 
-/// Gives its bytes, at most so many a call, and fails at one call.
+/// Gives its bytes, at most `most` a call, and fails at one call.
 #[derive(Drop)]
 pub(crate) struct Source<'a> {
     rest: &'a [u8],
@@ -43,7 +43,7 @@ impl Read for Source<'_> {
     }
 }
 
-/// Gives so many bytes 0.
+/// Gives this number of zero bytes.
 #[derive(Drop)]
 pub(crate) struct Zeros {
     pub(crate) rest: usize,
@@ -58,7 +58,7 @@ impl Read for Zeros {
     }
 }
 
-/// Keeps what it takes, at most so many bytes a call, fails at one call, and takes none at another.
+/// Keeps what it takes, at most `most` bytes a call, fails at one call, and takes none at another.
 #[derive(Drop)]
 pub(crate) struct Sink {
     pub(crate) taken: Vec<u8>,

@@ -10,7 +10,7 @@ ghost use Rattle.dn_packet.specs.Text.{text};
 ghost use Rattle.dn_setup.specs.Settings.{Settings};
 ghost use Rattle.dn_setup.specs.Starts.{start_of};
 ghost use Rattle.dn_setup.specs.declared.setup.SetupFault.{SetupFault};
-ghost use Rattle.dn_machine.specs.declared.answers.Heard.TheVariants.{Started, Dropped};
+ghost use Rattle.dn_machine.specs.declared.answers.Heard.TheVariants.{Started};
 ghost use Rattle.dn_machine.specs.declared.answers.Made.TheVariants as Made;
 ghost use Rattle.dn_machine.specs.declared.answers.Ran.TheVariants as Ran;
 ghost use Rattle.dn_machine.specs.Flight.{Flight, packet_of, is_near};
@@ -33,7 +33,8 @@ impl<W: World> Node<W> {
     ghost use Rattle.dn_machine.specs.Running.{on_run, on_quit};
     ghost use Rattle.dn_node.specs.Contents.{contents, locked};
     ghost use Rattle.dn_node.specs.Giving.{Reaches, Gives};
-    ghost use Rattle.dn_node.specs.Steps.{Steps};
+    ghost use Rattle.dn_lockstep.specs.Hearing.{Spares};
+    ghost use Rattle.dn_node.specs.Steps.{Steps, Tells};
 
     /// Builds the command of these keys for the next tic. A node that builds none stays as it is.
     pub fn build(&mut self, keys: Keys) -> Made
@@ -49,9 +50,10 @@ impl<W: World> Node<W> {
 
     /// The exact numbers of the packet that `packet` would give now.
     pub fn aim(&self, to: u8) -> Option<Aim>
-        ensures step { Steps W.state W.physics (contents self.now) (contents self.now)
-            (λ rules me m. (m, (sent_to to rules me m).1)) (λ flight. result ≡ option_map aim_of flight) }
-        ensures reach { IfSome result (λ aim. Reaches (contents self.now) aim × Gives (contents self.now) to) }
+        ensures told { Tells W.state W.physics (contents self.now)
+            (λ rules me m. result ≡ option_map aim_of (sent_to to rules me m).1) }
+        ensures reach { IfSome result (λ aim. Reaches (contents self.now) aim
+            × Gives (contents self.now) to) }
     {
         self.lockstep.aim(to)
     }
@@ -64,8 +66,8 @@ impl<W: World> Node<W> {
         ensures step { Steps W.state W.physics (contents self.old) (contents self.new)
             (λ rules me m. sent_to to rules me m)
             (λ flight. then_some result bytes.new.items ≡ option_map bytes_of flight) }
-        ensures fair { Steps W.state W.physics (contents self.old) (contents self.new)
-            (λ rules me m. sent_to to rules me m) (λ flight. IfSome flight IsFair) }
+        ensures fair { Tells W.state W.physics (contents self.old)
+            (λ rules me m. IfSome (sent_to to rules me m).1 IsFair) }
         ensures idle { result ≡ false → contents self.new ≡ contents self.old }
         ensures unwritten { result ≡ false → bytes.new ≡ bytes.old }
         ensures world { (contents self.new).world ≡ (contents self.old).world }
@@ -80,8 +82,8 @@ impl<W: World> Node<W> {
         ensures step { Steps W.state W.physics (contents self.old) (contents self.new)
             (λ rules me m. sent_to to rules me m)
             (λ flight. option_map (λ bytes. bytes.items) result ≡ option_map bytes_of flight) }
-        ensures fair { Steps W.state W.physics (contents self.old) (contents self.new)
-            (λ rules me m. sent_to to rules me m) (λ flight. IfSome flight IsFair) }
+        ensures fair { Tells W.state W.physics (contents self.old)
+            (λ rules me m. IfSome (sent_to to rules me m).1 IsFair) }
         ensures idle { result ≡ None → contents self.new ≡ contents self.old }
         ensures world { (contents self.new).world ≡ (contents self.old).world }
         ensures room { (contents self.new).demo.limit ≡ (contents self.old).demo.limit }
@@ -95,12 +97,13 @@ impl<W: World> Node<W> {
             → IsReadAs bytes.now read → IsTold read told
             → Steps W.state W.physics (contents self.old) (contents self.new)
             (λ rules me m. received rules me m from told read) (λ heard. result ≡ heard) }
-        ensures near { (flight : Flight) → IsFair flight → bytes.now ≡ text (packet_of flight) → flight.from ≡ from
+        ensures near { (flight : Flight) → IsFair flight → bytes.now ≡ text (packet_of flight)
+            → flight.from ≡ from
             → from < (contents self.old).players → from ≢ (contents self.old).me
             → is_near (count_of (contents self.old).rings (contents self.old).me) flight ≡ true
             → Steps W.state W.physics (contents self.old) (contents self.new)
             (λ rules me m. on_packet rules me m flight) (λ heard. result ≡ heard) }
-        ensures dropped { (number : ℕ) → result ≡ Dropped number → contents self.new ≡ contents self.old }
+        ensures dropped { Spares (contents self.old) (contents self.new) result }
         ensures world { result ≢ Started → (contents self.new).world ≡ (contents self.old).world }
         ensures room { (contents self.new).demo.limit ≡ (contents self.old).demo.limit }
     {
@@ -124,12 +127,13 @@ impl<W: World> Node<W> {
         }
     }
 
-    /// Runs the next tic (`d_net.c`, TryRunTics; `g_game.c`, G_Ticker), where no mark is off and the command of
-    /// every player is there who has not left by then. A node that waits stays as it is.
+    /// Runs the next tic (`d_net.c`, TryRunTics; `g_game.c`, G_Ticker), where no mark is off and the command
+    /// of every player is there who has not left by then. A node that waits stays as it is.
     pub fn run(&mut self) -> Ran
         ensures step { Steps W.state W.physics (contents self.old) (contents self.new)
             (λ rules me m. on_run rules m) (λ ran. result ≡ ran) }
-        ensures further { (tic : ℕ) → result ≡ Ran.Ran tic → (contents self.new).ran ≡ (contents self.old).ran + 1 }
+        ensures further { (tic : ℕ) → result ≡ Ran.Ran tic
+            → (contents self.new).ran ≡ (contents self.old).ran + 1 }
         ensures waits { (player : ℕ) → result ≡ Ran.Waiting player → contents self.new ≡ contents self.old }
         ensures idle { result ≡ Ran.NotPlaying → contents self.new ≡ contents self.old }
         ensures room { (contents self.new).demo.limit ≡ (contents self.old).demo.limit }

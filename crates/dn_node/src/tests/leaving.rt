@@ -18,7 +18,7 @@ const NONE: [u8; 8] = [0x67, 0x68, 0x25, 0x81, 0x00, 0x23, 0x02, 0x00];
 /// Three nodes of one game.
 type Three = (Node<Walk>, Node<Walk>, Node<Walk>);
 
-/// Builds so many commands and passes them to the others.
+/// Builds `count` commands and passes them to the others.
 fn build(node: &mut Node<Walk>, (one, two): (&mut Node<Walk>, &mut Node<Walk>), count: u32) {
     for _ in 0..count {
         let _ = node.build(Keys::from_bits(NO_KEYS));
@@ -27,7 +27,7 @@ fn build(node: &mut Node<Walk>, (one, two): (&mut Node<Walk>, &mut Node<Walk>), 
     }
 }
 
-/// So many tics of all three.
+/// Plays `count` tics of all three.
 fn run_three((a, b, c): (&mut Node<Walk>, &mut Node<Walk>, &mut Node<Walk>), count: u32) {
     for _ in 0..count {
         build(a, (b, c), 1);
@@ -60,7 +60,7 @@ fn three(rt: &impl Abort, alloc: Global) -> Result<Three, Fail> {
     Ok((a, b, c))
 }
 
-/// Takes a packet of the node, with these first bytes and so many zero bytes behind them.
+/// Takes a packet of the node, with these first bytes and `zeros` zero bytes behind them.
 fn gives(rt: &impl Abort, node: &mut Node<Walk>, to: u8, first: &[u8; 8], zeros: usize) {
     let aim = Aim {
         flags: EXIT,

@@ -13,7 +13,7 @@ use std::test::Fail;
 /// Player 0 runs forward, and player 1 stands still.
 const RUNS: (u32, u32) = (FORWARD | SPEED, NO_KEYS);
 
-/// Two nodes that played so for so many tics.
+/// Two nodes that played so for `count` tics.
 fn at_tic(alloc: Global, count: u32) -> Result<(Node<Walk>, Node<Walk>), Fail> {
     let (mut key, mut other) = pair(alloc, false)?;
     tics(&mut key, &mut other, count, RUNS);

@@ -32,7 +32,7 @@ fn a_node_is_refused_as_its_lockstep_is(rt: HostRuntime) -> Result<(), Fail> {
 
 /// Each request for memory may be refused: then the answer says so, and there is no other.
 #[test]
-fn want_of_memory_is_told(rt: HostRuntime) -> Result<(), Fail> {
+fn refused_memory_is_told(rt: HostRuntime) -> Result<(), Fail> {
     let config = Config {
         players: 2,
         me: 0,

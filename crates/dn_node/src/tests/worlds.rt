@@ -1,12 +1,11 @@
 //! Tests of nodes over two worlds, of which one keeps its state in a vector.
 
-use super::belt::Belt;
 use super::{LEFT, LIMIT, NO_KEYS, RIGHT, SPEED, datagram, pair, pair_of, pass, tics};
 use crate::{Aim, Heard, Made, Node, Phase, Ran};
 use dn_packet::{KILL, RETRANSMIT};
 use dn_setup::Settings;
 use dn_tic::Keys;
-use dn_world::{Walk, World};
+use dn_world::{Belt, Walk, World};
 use std::process::Abort;
 use std::test::Fail;
 

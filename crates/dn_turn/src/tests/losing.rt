@@ -5,11 +5,11 @@ use crate::rounds;
 use dn_line::{Datagram, Line, LineFault, MemoryHub};
 use std::test::Fail;
 
-/// A line in memory that loses one of so many datagrams, and answers that it was sent.
+/// A line in memory that loses one of every `lost_of` datagrams, and answers that it was sent.
 #[derive(Drop)]
 struct Losing {
     hub: MemoryHub,
-    /// One of so many is lost.
+    /// One of every this many is lost.
     lost_of: u32,
     /// How many came since the last that was lost.
     kept: u32,

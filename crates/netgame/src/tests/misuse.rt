@@ -51,6 +51,22 @@ fn words_that_are_unknown_are_told(rt: HostRuntime) -> Result<(), Fail> {
             "error: unexpected argument '--seed' found",
         ),
         (
+            "netgame sim --script",
+            "error: unexpected argument '--script' found",
+        ),
+        (
+            "netgame loop --trace",
+            "error: unexpected argument '--trace' found",
+        ),
+        (
+            "netgame storm --script --trace",
+            "error: the argument '--script' cannot be used with '--trace'",
+        ),
+        (
+            "netgame storm --calm 1 --script",
+            "error: the argument '--calm <calm>' cannot be used with '--script'",
+        ),
+        (
             "netgame sim --count 1",
             "error: unexpected argument '--count' found",
         ),

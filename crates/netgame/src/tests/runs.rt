@@ -132,6 +132,43 @@ fn a_storm_is_played(rt: HostRuntime) -> Result<(), Fail> {
 }
 
 #[test]
+fn events_are_told(rt: HostRuntime) -> Result<(), Fail> {
+    let told = b"event 0 quit 0: quit\n\
+        node 0 ended quit made 0 ran 0 got 0 0 demo 0\n\
+        node 1 listening made 0 ran 0 got 0 0 demo 0\n\
+        events 1 refused 0 flights 0\n";
+    // By the words of the generator's published reference code.
+    let stormed = b"event 0 send 1 0: silent\n\
+        event 1 build 1 blrdt457: not playing\n\
+        event 2 run 1: not playing\n\
+        node 0 gathering made 0 ran 0 got 0 0 demo 0\n\
+        node 1 listening made 0 ran 0 got 0 0 demo 0\n\
+        events 3 refused 0 flights 0\n";
+    let script = b"send 1 0\nbuild 1 blrdt457\nrun 1\n";
+    runs(&rt, "netgame sim --trace", b"quit 0", 0, told)?;
+    runs(
+        &rt,
+        "netgame storm --seed 42 --count 3 --trace",
+        b"",
+        0,
+        stormed,
+    )?;
+    runs(
+        &rt,
+        "netgame storm --seed 42 --count 3 --script",
+        b"",
+        0,
+        script,
+    )
+}
+
+#[test]
+fn the_version_is_printed(rt: HostRuntime) -> Result<(), Fail> {
+    runs(&rt, "netgame --version", b"", 0, b"netgame 1.0.0\n")?;
+    runs(&rt, "netgame -V", b"", 0, b"netgame 1.0.0\n")
+}
+
+#[test]
 fn help_is_printed(rt: HostRuntime) -> Result<(), Fail> {
     for (line, usage) in [
         ("netgame --help", "Usage: netgame"),

@@ -13,12 +13,15 @@ loop-rest-preserved c =
     let size : c.min.result ≡ min c.size-size.result (length rest) = omega (arith, c.min.ensures) in
     record {
       rest = next_rest (layout_of c.args.layout) c.args.bytes.now rest _ l.commands l.invariant.rest
-          (take_rest rest c.min.result ∙ ap (λ n. drop n rest) (size ∙ ap (λ n. min n (length rest)) c.size-size.ensures));
-      none = passed (layout_of c.args.layout) c.args.bytes.now rest l.commands l.invariant.rest some l.invariant.none c.if-rest.false;
+          (take_rest rest c.min.result ∙ ap (λ n. drop n rest)
+          (size ∙ ap (λ n. min n (length rest)) c.size-size.ensures));
+      none = passed (layout_of c.args.layout) c.args.bytes.now rest l.commands l.invariant.rest some
+          l.invariant.none c.if-rest.false;
     }
 
 pub returns-clause-none : goal.returns-clause-none
 returns-clause-none c =
     let l = c.loop-rest in
     let empty : length l.rest.now ≡ 0 = grind (arith, nat_tests) in
-    nowhere (layout_of c.args.layout) c.args.bytes.now l.rest.now l.commands l.invariant.rest empty l.invariant.none
+    nowhere (layout_of c.args.layout) c.args.bytes.now l.rest.now l.commands l.invariant.rest empty
+    l.invariant.none

@@ -8,7 +8,8 @@ returns c = λ front command e.
     let a = c.seated-a.ensures in
     let b = c.seated-b.ensures in
     let d = c.seated-c.ensures in
-    four_moves (layout_of c.args.layout) (front ++ c.args.bytes.now) c.args.present command _ _ _ _ _ _ _ _ (search rules)
+    four_moves (layout_of c.args.layout) (front ++ c.args.bytes.now) c.args.present command _ _ _ _ _ _ _ _
+    (search rules)
     (λ others. a.step front command others e)
     (λ others. b.step front _ others (omega (arith, e, a.next)))
     (λ others. d.step front _ others (omega (arith, e, a.next, b.next)))

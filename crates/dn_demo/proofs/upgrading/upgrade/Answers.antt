@@ -17,7 +17,9 @@ pub loop-tic-init : goal.loop-tic-init
 loop-tic-init c =
     let demo = c.args.demo.now in
     let text : c.head.new.self.bytes ≡ demo_text long_tics demo.start demo.view demo.present [] false =
-    ap (λ (r : Recorded). r.bytes) c.head.ensures.written ∙ (λ i. demo_text long_tics (c.start.ensures i) (c.view.ensures i) (c.present-present.ensures.value i) [] false) in
+    ap (λ (r : Recorded). r.bytes) c.head.ensures.written
+    ∙ (λ i. demo_text long_tics (c.start.ensures i) (c.view.ensures i) (c.present-present.ensures.value i)
+    [] false) in
     let four : length demo.present ≡ 4 = ap length (sym c.present-present.ensures.value) ∙ search rules in
     record {
       limit = ap (λ (r : Recorded). r.limit) c.head.ensures.written ∙ search rules;
@@ -30,13 +32,17 @@ loop-tic-init c =
 pub row-requires : goal.row-requires
 row-requires c =
     let below : c.loop-tic.tic < length c.args.demo.now.rows = omega arith in
-    (row_kept (layout_of c.demo.inside.layout) _ _ _ _ _ _ _ c.demo.invariant.0.whole c.demo.view_is c.as_slice-bytes.ensures.value c.present-present.ensures.value c.players-players.ensures.value below).0
+    (row_kept (layout_of c.demo.inside.layout) _ _ _ _ _ _ _ c.demo.invariant.0.whole c.demo.view_is
+    c.as_slice-bytes.ensures.value c.present-present.ensures.value c.players-players.ensures.value
+    below).0
 
 pub row-requires-in-loop-tic-clause-row : goal.row-requires-in-loop-tic-clause-row
 row-requires-in-loop-tic-clause-row c =
     let below : c.loop-tic.tic < length c.args.demo.now.rows = omega arith in
-    row_recordable (layout_of c.demo.inside.layout) _ _ _ _ _ _ _ _ _ c.demo.invariant.0.whole c.demo.invariant.1 (λ i. omega (arith, c.type_inv.bytes i))
-    c.demo.view_is c.as_slice-bytes.ensures.value c.present-present.ensures.value c.loop-tic.invariant.seats c.players-players.ensures.value below c.row.ensures
+    row_recordable (layout_of c.demo.inside.layout) _ _ _ _ _ _ _ _ _ c.demo.invariant.0.whole
+    c.demo.invariant.1 (λ i. omega (arith, c.type_inv.bytes i))
+    c.demo.view_is c.as_slice-bytes.ensures.value c.present-present.ensures.value c.loop-tic.invariant.seats
+    c.players-players.ensures.value below c.row.ensures
 
 pub loop-tic-preserved : goal.loop-tic-preserved
 loop-tic-preserved c =
@@ -44,19 +50,30 @@ loop-tic-preserved c =
     let l = c.loop-tic in
     let added = c.row-in-loop-tic.ensures in
     let below : l.tic < length demo.rows = omega arith in
-    let players : player_count (seats_in l.recorder.bytes) ≡ player_count demo.present = ap player_count l.invariant.seats in
-    let count : c.players-players.result ≡ player_count demo.present = c.players-players.ensures.value ∙ ap player_count c.present-present.ensures.value in
-    let row = row_kept (layout_of c.demo.inside.layout) _ _ _ _ _ _ _ c.demo.invariant.0.whole c.demo.view_is c.as_slice-bytes.ensures.value c.present-present.ensures.value c.players-players.ensures.value below in
+    let players : player_count (seats_in l.recorder.bytes) ≡ player_count demo.present =
+    ap player_count l.invariant.seats in
+    let count : c.players-players.result ≡ player_count demo.present =
+    c.players-players.ensures.value ∙ ap player_count c.present-present.ensures.value in
+    let row = row_kept (layout_of c.demo.inside.layout) _ _ _ _ _ _ _ c.demo.invariant.0.whole c.demo.view_is
+    c.as_slice-bytes.ensures.value c.present-present.ensures.value c.players-players.ensures.value
+    below in
     let size = added.size ∙ ap (λ n. command_size long_tics * n) players in
-    let fits : (n : ℕ) → nat_le (recorded_size (player_count demo.present) n) c.args.limit ≡ nat_le n c.capacity.result = λ n. ap (λ p. nat_le (recorded_size p n) c.args.limit) (sym count) ∙ c.capacity.ensures.fits n in
-    let done : c.row-in-loop-tic.result ≡ true = added.fits ∙ ap (λ n. nat_le (length l.recorder.bytes + length (row_bytes long_tics c.row.result) + 1) n) l.invariant.limit
-    ∙ row_fits c.args.limit (player_count demo.present) l.tic (length demo.rows) c.capacity.result _ _ l.invariant.size size fits below (omega arith) in
+    let fits : (n : ℕ) → nat_le (recorded_size (player_count demo.present) n) c.args.limit
+    ≡ nat_le n c.capacity.result = λ n. ap (λ p. nat_le (recorded_size p n) c.args.limit) (sym count)
+    ∙ c.capacity.ensures.fits n in
+    let done : c.row-in-loop-tic.result ≡ true = added.fits
+    ∙ ap (λ n. nat_le (length l.recorder.bytes + length (row_bytes long_tics c.row.result) + 1) n)
+    l.invariant.limit
+    ∙ row_fits c.args.limit (player_count demo.present) l.tic (length demo.rows) c.capacity.result _ _
+    l.invariant.size size fits below (omega arith) in
     let new = added.written done in
     record {
       limit = ap (λ (r : Recorded). r.limit) new ∙ l.invariant.limit;
       stage = ap (λ (r : Recorded). r.stage) new ∙ l.invariant.stage;
-      text = one_more _ _ demo.start demo.view demo.present demo.rows l.tic _ (added.text done) l.invariant.text (ap (λ x. Some x) c.row.ensures ∙ row.1);
-      size = ap (λ (r : Recorded). length r.bytes) new ∙ length-append l.recorder.bytes _ ∙ omega (arith, l.invariant.size, size);
+      text = one_more _ _ demo.start demo.view demo.present demo.rows l.tic _ (added.text done)
+          l.invariant.text (ap (λ x. Some x) c.row.ensures ∙ row.1);
+      size = ap (λ (r : Recorded). length r.bytes) new ∙ length-append l.recorder.bytes _
+          ∙ omega (arith, l.invariant.size, size);
       seats = added.seats ∙ l.invariant.seats;
     }
 
@@ -66,11 +83,19 @@ returns c =
     let l = c.loop-tic in
     let all : l.tic ≡ length demo.rows = omega arith in
     let rows : take l.tic demo.rows ≡ demo.rows = ap (λ n. take n demo.rows) all ∙ take-length demo.rows in
-    let old = l.invariant.text ∙ ap (λ (rs : List (List (Option Move))). demo_text long_tics demo.start demo.view demo.present rs false) rows in
+    let old = l.invariant.text
+    ∙ ap (λ (rs : List (List (Option Move))). demo_text long_tics demo.start demo.view demo.present rs
+    false) rows in
     let closed = c.close.ensures.text demo.start demo.view demo.present demo.rows old in
     let limit = ap (λ (r : Recorded). r.limit) c.close.ensures.written ∙ l.invariant.limit in
     let stage = ap (λ (r : Recorded). r.stage) c.close.ensures.written in
-    let count : c.players-players.result ≡ player_count demo.present = c.players-players.ensures.value ∙ ap player_count c.present-present.ensures.value in
+    let count : c.players-players.result ≡ player_count demo.present =
+    c.players-players.ensures.value ∙ ap player_count c.present-present.ensures.value in
     let fits : nat_le (upgraded_size demo) c.args.limit ≡ true =
-    ap (λ p. nat_le (recorded_size p (length demo.rows)) c.args.limit) (sym count) ∙ c.capacity.ensures.fits (length demo.rows) ∙ le-leb (length demo.rows) c.capacity.result (omega arith) in
-    (c.is_limit.ensures.yes (search rules), (grind (arith, nat_tests)), λ i. record { limit = limit i; stage = stage i; bytes = closed i })
+    ap (λ p. nat_le (recorded_size p (length demo.rows)) c.args.limit) (sym count)
+    ∙ c.capacity.ensures.fits (length demo.rows)
+    ∙ le-leb (length demo.rows) c.capacity.result (omega arith) in (
+      c.is_limit.ensures.yes (search rules),
+      (grind (arith, nat_tests)),
+      λ i. record { limit = limit i; stage = stage i; bytes = closed i },
+    )

@@ -11,7 +11,8 @@ invariant-loop-tic l =
     record {
       limit : l.recorder.limit ≡ l.limit;
       stage : l.recorder.stage ≡ Open;
-      text : l.recorder.bytes ≡ demo_text long_tics l.demo.start l.demo.view l.demo.present (take l.tic l.demo.rows) false;
+      text : l.recorder.bytes ≡ demo_text long_tics l.demo.start l.demo.view l.demo.present
+          (take l.tic l.demo.rows) false;
       size : length l.recorder.bytes ≡ place long_tics (player_count l.demo.present * l.tic);
       seats : seats_in l.recorder.bytes ≡ l.demo.present;
     }

@@ -8,7 +8,8 @@ use Rattle.dn_game.proofs.going_on.play_on.Goals as goal
 
 -- the rounds led on from the game that the events left
 played_on : (g : _) (c : goal.In-Ok g)
-    → IsPlayedOn g.W.World.state (rules_in g.W.World.physics c.args.config (length c.args.worlds.items)) c.args.config.settings c.args.events.now (keys_of c.args.keys) c.args.rounds
+    → IsPlayedOn g.W.World.state (rules_in g.W.World.physics c.args.config (length c.args.worlds.items))
+    c.args.config.settings c.args.events.now (keys_of c.args.keys) c.args.rounds
     (record c.in_ok-played.played { game = c.good_rounds.new.self })
 played_on g c =
     let config = c.args.config in
@@ -18,7 +19,8 @@ played_on g c =
       before = c.in_ok-played.played;
       events_played = played;
       calmed = record {
-        game = c.in-Ok.ensures players config.extra (capacity config.limit players) played.last played.game;
+        game = c.in-Ok.ensures.good players config.extra (capacity config.limit players) played.last
+            played.game;
         done = refl;
         refused = refl;
       };
@@ -27,4 +29,5 @@ played_on g c =
 pub returns-in-Ok-clause-promised : goal.returns-in-Ok-clause-promised
 returns-in-Ok-clause-promised g c =
     let rules = rules_in g.W.World.physics c.args.config (length c.args.worlds.items) in
-    played_on_promised _ rules c.args.config.settings c.args.events.now (keys_of c.args.keys) c.args.rounds _ (played_on g c) c.in_ok-played.ensures.admitted.0.0
+    played_on_promised _ rules c.args.config.settings c.args.events.now (keys_of c.args.keys) c.args.rounds _
+    (played_on g c) c.in_ok-played.ensures.admitted.0.0

@@ -10,7 +10,8 @@ returns-clause-promised g c players extra capacity settings events =
     reached_promised _ (rules_of g.W.World.physics players extra capacity) settings events
 
 pub returns-clause-agreed : goal.returns-clause-agreed
-returns-clause-agreed g c players extra capacity settings events = agreed _ (rules_of g.W.World.physics players extra capacity) settings events
+returns-clause-agreed g c players extra capacity settings events =
+    agreed _ (rules_of g.W.World.physics players extra capacity) settings events
 
 pub returns-clause-steady : goal.returns-clause-steady
 returns-clause-steady g c players extra capacity settings events contents reached =
@@ -19,4 +20,5 @@ returns-clause-steady g c players extra capacity settings events contents reache
 
 pub returns-clause-answered : goal.returns-clause-answered
 returns-clause-answered g c players extra capacity settings events answers contents reached =
-    promised _ (rules_of g.W.World.physics players extra capacity) settings events answers reached.last contents reached.plays reached.game
+    promised _ (rules_of g.W.World.physics players extra capacity) settings events answers reached.last
+    contents reached.plays reached.game

@@ -8,7 +8,8 @@ returns-clause-told g c players extra capacity m r =
     let game = rules_of g.W.World.physics players extra capacity in
     let count = c.flights-count.ensures ∙ flights_are g.W.World.state game _ m r in
     let place = place_is _ _ _ _ c.args.word count c.min.ensures c.in-Ok.ensures.1 in
-    delivers m c.args.node c.args.word c.in-Ok.which place (omega (arith, c.if-count-eq0.false, count)) (search rules) _
+    delivers m c.args.node c.args.word c.in-Ok.which place (omega (arith, c.if-count-eq0.false, count))
+    (search rules) _
     (c.refused_flight.ensures.told players extra capacity m r) (search rules)
 
 pub returns-then-is_some-clause-told : goal.returns-then-is_some-clause-told
@@ -16,7 +17,8 @@ returns-then-is_some-clause-told g c players extra capacity m r =
     let game = rules_of g.W.World.physics players extra capacity in
     let count = c.flights-count.ensures ∙ flights_are g.W.World.state game _ m r in
     let place = place_is _ _ _ _ c.args.word count c.min.ensures c.in-Ok.ensures.1 in
-    runs_refused m c.args.node c.args.word c.in-Ok.which place (omega (arith, c.if-count-eq0.false, count)) (search rules) _
+    runs_refused m c.args.node c.args.word c.in-Ok.which place (omega (arith, c.if-count-eq0.false, count))
+    (search rules) _
     (c.refused_flight.ensures.told players extra capacity m r) (search rules)
 
 pub returns-clause-allowed : goal.returns-clause-allowed

@@ -11,24 +11,30 @@ loop-step-init g c = lowest_zero _
 
 pub loop-step-preserved : goal.loop-step-preserved
 loop-step-preserved g c =
-    goes_past _ _ (λ (p : ℕ). slice_index_or c.args.game.now.stopped p false) c.loop-step.step c.loop-step.invariant (sym c.stopped.ensures ∙ c.if-not-stopped.false)
+    goes_past _ _ (λ (p : ℕ). slice_index_or c.args.game.now.stopped p false) c.loop-step.step
+    c.loop-step.invariant (sym c.stopped.ensures ∙ c.if-not-stopped.false)
 
 pub returns-then-not-stopped-clause-value : goal.returns-then-not-stopped-clause-value
 returns-then-not-stopped-clause-value g c =
     let stopped : ℕ → Bool = λ p. slice_index_or c.args.game.now.stopped p false in
-    moving_found _ _ stopped c.loop-step.step c.loop-step-test.true c.loop-step.invariant (sym c.stopped.ensures ∙ c.if-not-stopped.true)
+    moving_found _ _ stopped c.loop-step.step c.loop-step-test.true c.loop-step.invariant
+    (sym c.stopped.ensures ∙ c.if-not-stopped.true)
     ∙ ap (λ (k : ℕ). first_moving k stopped c.args.from) c.players-players.ensures.value
 
 pub returns-clause-value : goal.returns-clause-value
 returns-clause-value g c =
     let stopped : ℕ → Bool = λ p. slice_index_or c.args.game.now.stopped p false in
-    moving_none _ _ stopped c.loop-step.step (omega (arith, c.loop-step-test.false, c.loop-step.auto.step-end)) c.loop-step.invariant
+    moving_none _ _ stopped c.loop-step.step
+    (omega (arith, c.loop-step-test.false, c.loop-step.auto.step-end)) c.loop-step.invariant
     ∙ ap (λ (k : ℕ). first_moving k stopped c.args.from) c.players-players.ensures.value
 
 pub returns-clause-none : goal.returns-clause-none
 returns-clause-none g c none =
     let stopped : ℕ → Bool = λ p. slice_index_or c.args.game.now.stopped p false in
-    let all : c.loop-step.step ≡ c.players-players.result = omega (arith, c.loop-step-test.false, c.loop-step.auto.step-end) in
-    let every = ap (λ (k : ℕ). lowest k (moves c.players-players.result c.args.from stopped)) (sym all) ∙ c.loop-step.invariant in
-    let seen = all_stopped c.players-players.result c.args.from stopped (omega (arith, c.requires, c.players-players.ensures.value)) every in
+    let all : c.loop-step.step ≡ c.players-players.result =
+    omega (arith, c.loop-step-test.false, c.loop-step.auto.step-end) in
+    let every = ap (λ (k : ℕ). lowest k (moves c.players-players.result c.args.from stopped)) (sym all)
+    ∙ c.loop-step.invariant in
+    let seen = all_stopped c.players-players.result c.args.from stopped
+    (omega (arith, c.requires, c.players-players.ensures.value)) every in
     λ node below. seen node (omega (arith, below, c.players-players.ensures.value))

@@ -5,4 +5,5 @@ use Rattle.dn_game.proofs.GoingRound.{moves}
 use Rattle.dn_game.proofs.schedule.first_moving.Given as goal
 
 abbrev pub invariant-loop-step : goal.invariant-loop-step
-invariant-loop-step g l = lowest l.step (moves l.players l.from (λ (p : ℕ). slice_index_or l.game.stopped p false)) ≡ None
+invariant-loop-step g l =
+    lowest l.step (moves l.players l.from (λ (p : ℕ). slice_index_or l.game.stopped p false)) ≡ None

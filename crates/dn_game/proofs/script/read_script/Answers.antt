@@ -10,8 +10,10 @@ use Rattle.dn_game.proofs.script.read_script.Goals as goal
 
 next_line : (c : In-Some) → IsNext c.args.text.now (length c.loop-line.yielded) c.in-Some.line.now
 next_line c =
-    let road = YieldsList-from_slice_split _ (λ byte. eqb byte 10) c.args.text.now (cc) (cc) (cc) (λ x b q k. search rules) in
-    let turn = YieldsList-turn road c.loop-line.yielded _ c.loop-line.yielded_by _ _ c.in-Some.line c.in-Some.is c.next.ensures.steps in
+    let road = YieldsList-from_slice_split _ (λ byte. eqb byte 10) c.args.text.now (cc) (cc) (cc)
+    (λ x b q k. search rules) in
+    let turn = YieldsList-turn road c.loop-line.yielded _ c.loop-line.yielded_by _ _ c.in-Some.line
+    c.in-Some.is c.next.ensures.steps in
     record { within = turn.0; here = turn.1 }
 
 pub loop-line-init : goal.loop-line-init
@@ -43,8 +45,10 @@ loop-line-preserved c =
 
 pub returns-clause-reads : goal.returns-clause-reads
 returns-clause-reads c =
-    let road = YieldsList-from_slice_split _ (λ byte. eqb byte 10) c.args.text.now (cc) (cc) (cc) (λ x b q k. search rules) in
-    let end = YieldsList-end road c.loop-line.yielded _ c.loop-line.yielded_by _ _ c.in-None.is c.next.ensures.steps in
+    let road = YieldsList-from_slice_split _ (λ byte. eqb byte 10) c.args.text.now (cc) (cc) (cc)
+    (λ x b q k. search rules) in
+    let end = YieldsList-end road c.loop-line.yielded _ c.loop-line.yielded_by _ _ c.in-None.is
+    c.next.ensures.steps in
     all_read c.loop-line.invariant end.1
 
 pub returns-clause-only : goal.returns-clause-only

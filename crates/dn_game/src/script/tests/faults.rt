@@ -1,4 +1,4 @@
-//! Tests of bad lines, long texts and want of memory.
+//! Tests of bad lines, long texts and refused memory.
 
 use crate::script::{ScriptFault, read_script};
 use std::test::Fail;
@@ -123,7 +123,7 @@ fn long_texts_are_told_first(rt: HostRuntime) -> Result<(), Fail> {
 
 /// Each request for memory may be refused: then the answer says so, and there is no other.
 #[test]
-fn want_of_memory_is_told(rt: HostRuntime) {
+fn refused_memory_is_told(rt: HostRuntime) {
     match read_script(
         rt.alloc(),
         b"run 0\nrun 1\nrun 2\nrun 3\nrun 4\nrun 5\nrun 6\nrun 7\nrun 8",

@@ -14,13 +14,16 @@ returns c marking players extra capacity settings events locksteps game =
     let steady = Promises.steady rules settings game.last kept in
     record {
       agree = agree;
-      ran = λ p below. (game.nodes p below).ran;
+      ran = λ p below. (game.nodes p below).table.ran;
       fits = Promises.fits rules settings game.last kept;
       steady = steady;
-      consistent = λ p player was should below e. steady.consistent p player was should below (sym (game.nodes p below).phase ∙ e);
-      settings_same = λ p below played. (game.nodes p below).settings ∙ agree.settings_same p below (sym (game.nodes p below).played ∙ played);
+      consistent = λ p player was should below e. steady.consistent p player was should below
+          (sym (game.nodes p below).stands.phase ∙ e);
+      settings_same = λ p below played. (game.nodes p below).stands.settings
+          ∙ agree.settings_same p below (sym (game.nodes p below).stands.played ∙ played);
       demos = λ p below played.
           let r = game.nodes p below in
-          let plays = sym r.played ∙ played in
-          r.demo ∙ demo_is rules (game.last.nodes p) settings (agree.settings_same p below plays) p plays;
+          let plays = sym r.stands.played ∙ played in
+          r.demo.bytes ∙ demo_is rules (game.last.nodes p) settings (agree.settings_same p below plays) p
+          plays;
     }

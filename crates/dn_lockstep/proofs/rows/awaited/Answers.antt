@@ -14,13 +14,22 @@ pub returns-then-count-tic : goal.returns-then-count-tic
 returns-then-count-tic c =
     let late = le-leb (ring_at c.args.rings.now c.loop-player.player).count c.args.tic (omega arith) in
     let stays = ap not (sym c.gone.ensures ∙ c.if-not-gone.true) in
-    let passes = and_from (not (is_gone (peer_at c.args.peers.now) c.args.tic c.loop-player.player)) _ stays late in
-    sym (lowest_found c.args.players c.loop-player.player (is_missing (ring_at c.args.rings.now) (peer_at c.args.peers.now) c.args.tic) (omega arith) c.loop-player.invariant passes)
+    let passes = and_from (not (is_gone (peer_at c.args.peers.now) c.args.tic c.loop-player.player)) _ stays
+    late in
+    sym (lowest_found c.args.players c.loop-player.player
+    (is_missing (ring_at c.args.rings.now) (peer_at c.args.peers.now) c.args.tic) (omega arith)
+    c.loop-player.invariant passes)
 
 pub loop-player-preserved : goal.loop-player-preserved
 loop-player-preserved c =
-    lowest_past c.loop-player.player (is_missing (ring_at c.args.rings.now) (peer_at c.args.peers.now) c.args.tic) c.loop-player.invariant
+    lowest_past c.loop-player.player
+    (is_missing (ring_at c.args.rings.now) (peer_at c.args.peers.now) c.args.tic) c.loop-player.invariant
     (elim c.else-not-gone.branch [
-      | else-not-gone-via-then-not-gone+else-count-tic w ↦ and_right (not (is_gone (peer_at c.args.peers.now) c.args.tic c.loop-player.player)) _ (lt-leb (ring_at c.args.rings.now c.loop-player.player).count c.args.tic (omega (arith, w.count.ensures, w.if-count-tic)))
-      | else-not-gone-via-else-not-gone w ↦ and_left (not (is_gone (peer_at c.args.peers.now) c.args.tic c.loop-player.player)) _ (ap not (sym c.gone.ensures ∙ w.if-not-gone.false))
+      | else-not-gone-via-then-not-gone+else-count-tic w ↦
+          and_right (not (is_gone (peer_at c.args.peers.now) c.args.tic c.loop-player.player)) _
+          (lt-leb (ring_at c.args.rings.now c.loop-player.player).count c.args.tic
+          (omega (arith, w.count.ensures, w.if-count-tic)))
+      | else-not-gone-via-else-not-gone w ↦
+          and_left (not (is_gone (peer_at c.args.peers.now) c.args.tic c.loop-player.player)) _
+          (ap not (sym c.gone.ensures ∙ w.if-not-gone.false))
     ])

@@ -7,4 +7,5 @@ use Rattle.dn_lockstep.specs.Rows.{differs}
 use Rattle.dn_lockstep.proofs.rows.differing.Given as goal
 
 abbrev pub invariant-loop-player : goal.invariant-loop-player
-invariant-loop-player l = lowest l.player (differs (ring_at l.rings) (peer_at l.peers) (slot l.marks) l.tic) ≡ None
+invariant-loop-player l = lowest l.player (differs (ring_at l.rings) (peer_at l.peers) (slot l.marks) l.tic)
+    ≡ None

@@ -1,4 +1,5 @@
--- The key player starts the others in the first round, and each player has the others' next commands within thirteen more.
+-- The key player starts the others in the first round, and each player has the others' next commands within
+-- thirteen more.
 use Rattle.std.proofs.Common.{arith, subst, ◌≡◌, ◌+◌, ℕ}
 use Rattle.dn_machine.specs.Worlds.{rules_of}
 use Rattle.dn_machine.specs.Progress.{HasRoom}
@@ -7,15 +8,19 @@ use Rattle.dn_machine.proofs.Progress.{goes_on_with}
 use Rattle.dn_machine.proofs.laws.no_deadlock.Goals as goal
 
 pub returns-clause-goes_on : goal.returns-clause-goes_on
-returns-clause-goes_on g c players extra capacity settings events game run none_lost several fits keys tics room =
+returns-clause-goes_on g c players extra capacity settings events game run none_lost several fits keys tics
+    room =
     let rules = rules_of g.W.World.physics players extra capacity in
     let same : tics + 6 ≡ tics + 1 + 5 = omega arith in
-    goes_on_with rules settings fits several events game run none_lost keys tics 1 14 (subst (λ (most : ℕ). HasRoom rules game tics most) same room) (omega arith)
+    goes_on_with rules settings fits several events game run none_lost keys tics 1 14
+    (subst (λ (most : ℕ). HasRoom rules game tics most) same room) (omega arith)
 
 pub returns-clause-keeps_on : goal.returns-clause-keeps_on
 returns-clause-keeps_on g c players extra capacity settings events game run none_lost several fits =
-    goes_on_with (rules_of g.W.World.physics players extra capacity) settings fits several events game run none_lost
+    goes_on_with (rules_of g.W.World.physics players extra capacity) settings fits several events game run
+    none_lost
 
 pub returns-clause-by_events : goal.returns-clause-by_events
 returns-clause-by_events g c players extra capacity game keys rounds =
-    let led = led_rounds (rules_of g.W.World.physics players extra capacity) keys rounds game in (led.0, led.1)
+    let led = led_rounds (rules_of g.W.World.physics players extra capacity) keys rounds game in
+    (led.0, led.1)

@@ -6,5 +6,6 @@ use Rattle.dn_netgame.proofs.demo.push_present.Given as goal
 
 abbrev pub invariant-loop-player : goal.invariant-loop-player
 invariant-loop-player l =
-    (string_bytes l.text ++ labelled (players_present l.player (drop l.player l.taken-items)) ≡ string_bytes l.fn.text ++ labelled (players_present 0 l.fn.present))
+    (string_bytes l.text ++ labelled (players_present l.player (drop l.player l.taken-items))
+    ≡ string_bytes l.fn.text ++ labelled (players_present 0 l.fn.present))
     × (l.player ≤ length l.taken-items)

@@ -13,7 +13,8 @@ loop-node-preserved g c =
     let there : slice_get game.nodes c.loop-node.number ≡ Some c.in-Some.node.now = search rules in
     let put : string_bytes c.push_node.new.text
     ≡ string_bytes c.loop-node.text
-    ++ node_line (node.contents c.in-Some.node.now) (slice_index_or game.stopped c.loop-node.number false) = search rules in
+    ++ node_line (node.contents c.in-Some.node.now) (slice_index_or game.stopped c.loop-node.number false) =
+    search rules in
     lines_more _ _ _ _ _ _ _ there c.loop-node.invariant put
 
 pub returns : goal.returns

@@ -7,7 +7,8 @@ use Rattle.dn_netgame.proofs.games.push_nodes.Given as goal
 abbrev pub invariant-loop-node : goal.invariant-loop-node
 invariant-loop-node g l =
     let c = contents l.game in
-    (string_bytes l.text ++ node_lines c.stopped l.number (drop l.number c.nodes) ≡ string_bytes l.fn.text ++ node_lines c.stopped 0 c.nodes)
+    (string_bytes l.text ++ node_lines c.stopped l.number (drop l.number c.nodes)
+    ≡ string_bytes l.fn.text ++ node_lines c.stopped 0 c.nodes)
     × (l.number ≤ length c.nodes)
 
 abbrev pub decreases-loop-node : goal.decreases-loop-node

@@ -10,7 +10,8 @@ pub loop-node-preserved : goal.loop-node-preserved
 loop-node-preserved g c =
     let nodes = c.args.nodes.now in
     let there : slice_get nodes c.loop-node.number ≡ Some c.in-Some.node.now = search rules in
-    let put : string_bytes c.push_node.new.text ≡ string_bytes c.loop-node.text ++ node_line (node.contents c.in-Some.node.now) false = search rules in
+    let put : string_bytes c.push_node.new.text ≡ string_bytes c.loop-node.text
+    ++ node_line (node.contents c.in-Some.node.now) false = search rules in
     lines_more [] _ _ _ _ _ _ there c.loop-node.invariant put
 
 pub returns : goal.returns

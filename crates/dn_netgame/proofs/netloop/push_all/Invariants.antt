@@ -5,7 +5,8 @@ use Rattle.dn_netgame.proofs.netloop.push_all.Given as goal
 
 abbrev pub invariant-loop-node : goal.invariant-loop-node
 invariant-loop-node g l =
-    (string_bytes l.text ++ node_lines [] l.number (drop l.number l.nodes) ≡ string_bytes l.fn.text ++ node_lines [] 0 l.nodes)
+    (string_bytes l.text ++ node_lines [] l.number (drop l.number l.nodes)
+    ≡ string_bytes l.fn.text ++ node_lines [] 0 l.nodes)
     × (l.number ≤ length l.nodes)
 
 abbrev pub decreases-loop-node : goal.decreases-loop-node

@@ -12,12 +12,14 @@ returns-clause-played g c settings keyed =
     let config = c.args.config in
     let seat : Seat = new_seat config settings in
     let State : Spots → Spots = λ spots. spots in
-    let seated = alone State walking c.from_mut.result.now c.in-Ok.node seat c.from_mut.ensures.value (c.in-Ok.ensures.opened settings keyed) in
+    let seated = alone State walking c.from_mut.result.now c.in-Ok.node seat c.from_mut.ensures.value
+    (c.in-Ok.ensures.opened settings keyed) in
     let out = c.play_out.ensures.played (λ place. seat) seated in
     let nodes = c.play_out.new.nodes in
     let one : length nodes ≡ 1 = c.play_out.auto.nodes ∙ c.from_mut.ensures.len in
     let below : 0 < length nodes = omega (arith, one) in
-    let P : Ports → Type 0 = λ ports. PlaysOut UdpSends UdpPolls walking c.args.seed c.args.count ((λ place. seat), ports) (out.after, c.play_out.new.line) in
+    let P : Ports → Type 0 = λ ports. PlaysOut UdpSends UdpPolls walking c.args.seed c.args.count
+    ((λ place. seat), ports) (out.after, c.play_out.new.line) in
     record {
       last = (out.after, c.play_out.new.line);
       plays = subst P c.in-Ok-bind.ensures.line out.leads;

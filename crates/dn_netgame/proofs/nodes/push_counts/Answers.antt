@@ -9,7 +9,9 @@ use Rattle.dn_netgame.proofs.nodes.push_counts.Goals as goal
 pub loop-count-preserved : goal.loop-count-preserved
 loop-count-preserved g c =
     let put : string_bytes c.push_fields.new.text
-    ≡ string_bytes c.loop-count.text ++ (codes " " ++ (signed_decimal (pos c.in-Some.count) ++ [])) = search rules in
+    ≡ string_bytes c.loop-count.text ++ (codes " " ++ (signed_decimal (pos c.in-Some.count) ++ [])) =
+    search rules in
     let n = contents c.args.node.now in
-    counts_more c.loop-count.player n.players c.in-Some.count n.rings (string_bytes c.loop-count.text) (string_bytes c.push_fields.new.text)
+    counts_more c.loop-count.player n.players c.in-Some.count n.rings (string_bytes c.loop-count.text)
+    (string_bytes c.push_fields.new.text)
     (string_bytes c.args.text.now ++ counts n.players n.rings) c.in-Some.ensures c.loop-count.invariant put

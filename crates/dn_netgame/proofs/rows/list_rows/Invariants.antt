@@ -10,7 +10,8 @@ use Rattle.dn_netgame.proofs.rows.list_rows.Given as goal
 abbrev pub invariant-loop-alloc : goal.invariant-loop-alloc
 invariant-loop-alloc g l =
     (bytes : List ℕ) × (length bytes ≤ 33554433)
-    × Consumes (g.R.Read.remaining l.initial.input) (g.R.Read.remaining l.input) bytes × Shows (λ w. w) walking bytes l.feed
+    × Consumes (g.R.Read.remaining l.initial.input) (g.R.Read.remaining l.input) bytes
+    × Shows (λ w. w) walking bytes l.feed
     × ((rows : List (List (Option Move))) × AreListed bytes l.feed.tics rows × (l.feed.tics ≡ length rows)
     × Appends (g.W.Write.contents l.initial.output) (g.W.Write.contents l.output) (lines_of_rows 0 rows))
 

@@ -8,7 +8,8 @@ use Rattle.dn_netgame.proofs.rows.text_of_piece.Given as goal
 
 abbrev pub invariant-loop-rest : goal.invariant-loop-rest
 invariant-loop-rest l =
-    (rows : List (List (Option Move))) × TellsFront (λ w. w) walking l.initial.feed l.fn.piece l.rest l.feed rows
+    (rows : List (List (Option Move))) × TellsFront (λ w. w) walking l.initial.feed l.fn.piece l.rest l.feed
+    rows
     × (string_bytes l.text ≡ lines_of_rows l.initial.feed.tics rows)
 
 abbrev pub decreases-loop-rest : goal.decreases-loop-rest

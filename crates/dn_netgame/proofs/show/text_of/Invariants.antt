@@ -5,4 +5,5 @@ use Rattle.dn_netgame.proofs.show.text_of.Given as goal
 
 abbrev pub invariant-loop-index : goal.invariant-loop-index
 invariant-loop-index l =
-    (string_bytes l.text ++ command_lines l.index (drop l.index l.command-items) ≡ lines_of l.read) × (l.index ≤ length l.command-items)
+    (string_bytes l.text ++ command_lines l.index (drop l.index l.command-items) ≡ lines_of l.read)
+    × (l.index ≤ length l.command-items)

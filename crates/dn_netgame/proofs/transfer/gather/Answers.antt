@@ -3,8 +3,10 @@ use Rattle.dn_netgame.proofs.Pieces.{fewer_more, at_most_more}
 use Rattle.dn_netgame.proofs.transfer.gather.Goals as goal
 
 pub returns-in_err-count-clause-read : goal.returns-in_err-count-clause-read
-returns-in_err-count-clause-read g c = λ _. fewer_more _ _ _ _ _ _ (search rules) c.loop-piece.invariant.1 c.in_err-count.ensures.fewer
+returns-in_err-count-clause-read g c = λ _. fewer_more _ _ _ _ _ _ (search rules) c.loop-piece.invariant.1
+    c.in_err-count.ensures.fewer
 
 pub returns-in_err-extend_from_slice-clause-memory :
     goal.returns-in_err-extend_from_slice-clause-memory
-returns-in_err-extend_from_slice-clause-memory g c = λ _. at_most_more _ _ _ _ _ _ _ (search rules) c.loop-piece.invariant.1 c.in_ok-count.ensures.bytes
+returns-in_err-extend_from_slice-clause-memory g c =
+    λ _. at_most_more _ _ _ _ _ _ _ (search rules) c.loop-piece.invariant.1 c.in_ok-count.ensures.bytes

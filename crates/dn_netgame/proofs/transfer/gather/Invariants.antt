@@ -4,7 +4,8 @@ use Rattle.dn_netgame.proofs.transfer.gather.Given as goal
 
 abbrev pub invariant-loop-piece : goal.invariant-loop-piece
 invariant-loop-piece g l =
-    (length l.bytes.items ≤ l.limit) × Consumes (g.R.Read.remaining l.initial.input) (g.R.Read.remaining l.input) l.bytes.items
+    (length l.bytes.items ≤ l.limit) × Consumes (g.R.Read.remaining l.initial.input)
+    (g.R.Read.remaining l.input) l.bytes.items
 
 abbrev pub decreases-loop-piece : goal.decreases-loop-piece
 decreases-loop-piece g l = l.limit - length l.bytes.items

@@ -6,7 +6,8 @@ use Rattle.dn_node.proofs.laws.ended_demos_replay.Goals as goal
 
 pub returns-clause-read : goal.returns-clause-read
 returns-clause-read g c players extra capacity me n m settings cause r played ended known =
-    read_back (rules_of g.W.World.physics players extra capacity) me (locked n) m settings r.lockstep played known cause ended
+    read_back (rules_of g.W.World.physics players extra capacity) me (locked n) m settings r.lockstep played
+    known cause ended
 
 pub returns-clause-world : goal.returns-clause-world
 returns-clause-world g c players extra capacity me n m settings r played known =

@@ -5,5 +5,7 @@ use Rattle.dn_turn.proofs.hearing.are_read.Goals as goal
 
 pub returns : goal.returns
 returns c =
-    let bytes = All-from_get_or (λ byte. byte < 256) c.args.bytes.now 0 (λ i below. omega (arith, c.type_inv.bytes i)) in
-    read_and_told c.args.bytes.now (c.every_datagram_is_read.ensures c.args.bytes.now bytes) c.every_packet_is_told.ensures
+    let bytes = All-from_get_or (λ byte. byte < 256) c.args.bytes.now 0
+    (λ i below. omega (arith, c.type_inv.bytes i)) in
+    read_and_told c.args.bytes.now (c.every_datagram_is_read.ensures c.args.bytes.now bytes)
+    c.every_packet_is_told.ensures

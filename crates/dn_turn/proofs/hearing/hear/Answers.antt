@@ -9,5 +9,11 @@ returns g c players extra capacity me m r =
     let s = c.receive.ensures.any t.read t.told t.is_read t.is_told players extra capacity me m r in
     let P : List ℕ → Type 0 = λ bytes. IsReadAs bytes t.read in
     let here : Reading c.args.datagram.now.bytes.items =
-    record { read = t.read; told = t.told; is_read = subst P c.as_slice-bytes.ensures.value t.is_read; is_told = t.is_told } in
+    record {
+      read = t.read;
+      told = t.told;
+      is_read =
+          subst P c.as_slice-bytes.ensures.value t.is_read;
+      is_told = t.is_told;
+    } in
     record { after = _; node = s.node; leads = record { reading = here; after = refl } }

@@ -11,26 +11,46 @@ pub returns-in-Ok-None-clause-heard : goal.returns-in-Ok-None-clause-heard
 returns-in-Ok-None-clause-heard g c players extra capacity me m r =
     let so_far = c.loop-heard.invariant.3 players extra capacity me m r in
     let M : ℕ → Type 0 = λ p. g.L.Line.polls c.loop-heard.line p c.poll.result c.poll.new.self in
-    let A : Result (Option Datagram) LineFault → Type 0 = λ a. g.L.Line.polls c.loop-heard.line me a c.poll.new.self in
-    let said = subst A (c.in-Ok-None.is ∙ ap Ok c.in-Ok-None.field-0-is) (subst M (c.me-me.ensures ∙ r.lockstep.number) c.poll.ensures.polled) in
-    let few : c.loop-heard.heard < most_polls players = subst (λ (n : ℕ). c.loop-heard.heard < n) (c.loop-heard.invariant.1 ∙ ap most_polls r.lockstep.players) c.loop-heard-test.true in
+    let A : Result (Option Datagram) LineFault → Type 0 =
+    λ a. g.L.Line.polls c.loop-heard.line me a c.poll.new.self in
+    let said = subst A (c.in-Ok-None.is ∙ ap Ok c.in-Ok-None.field-0-is)
+    (subst M (c.me-me.ensures ∙ r.lockstep.whose.number) c.poll.ensures.polled) in
+    let few : c.loop-heard.heard < most_polls players =
+    subst (λ (n : ℕ). c.loop-heard.heard < n)
+    (c.loop-heard.invariant.1 ∙ ap most_polls r.lockstep.whose.players) c.loop-heard-test.true in
     record {
       after = so_far.after;
       node = so_far.node;
-      leads = record { between = c.loop-heard.line; hears = so_far.leads; ending = Some (Ok tt); ends = (few, said, refl) };
+      leads = record {
+        between = c.loop-heard.line;
+        hears = so_far.leads;
+        ending = Some (Ok tt);
+        ends =
+            (few, said, refl);
+      };
     }
 
 pub returns-in-Err-clause-heard : goal.returns-in-Err-clause-heard
 returns-in-Err-clause-heard g c players extra capacity me m r =
     let so_far = c.loop-heard.invariant.3 players extra capacity me m r in
     let M : ℕ → Type 0 = λ p. g.L.Line.polls c.loop-heard.line p c.poll.result c.poll.new.self in
-    let A : Result (Option Datagram) LineFault → Type 0 = λ a. g.L.Line.polls c.loop-heard.line me a c.poll.new.self in
-    let said = subst A c.in-Err.is (subst M (c.me-me.ensures ∙ r.lockstep.number) c.poll.ensures.polled) in
-    let few : c.loop-heard.heard < most_polls players = subst (λ (n : ℕ). c.loop-heard.heard < n) (c.loop-heard.invariant.1 ∙ ap most_polls r.lockstep.players) c.loop-heard-test.true in
+    let A : Result (Option Datagram) LineFault → Type 0 =
+    λ a. g.L.Line.polls c.loop-heard.line me a c.poll.new.self in
+    let said =
+    subst A c.in-Err.is (subst M (c.me-me.ensures ∙ r.lockstep.whose.number) c.poll.ensures.polled) in
+    let few : c.loop-heard.heard < most_polls players =
+    subst (λ (n : ℕ). c.loop-heard.heard < n)
+    (c.loop-heard.invariant.1 ∙ ap most_polls r.lockstep.whose.players) c.loop-heard-test.true in
     record {
       after = so_far.after;
       node = so_far.node;
-      leads = record { between = c.loop-heard.line; hears = so_far.leads; ending = Some (Err _); ends = (few, said, refl) };
+      leads = record {
+        between = c.loop-heard.line;
+        hears = so_far.leads;
+        ending = Some (Err _);
+        ends =
+            (few, said, refl);
+      };
     }
 
 pub loop-heard-preserved : goal.loop-heard-preserved
@@ -39,17 +59,22 @@ loop-heard-preserved g c =
       before.0,
       before.1,
       c.poll.ensures.polls_counted
-          ∙ ap (λ (x : Result (Option Datagram) LineFault). count_after x (g.L.Line.failed c.loop-heard.line)) c.in-Ok-Some.is ∙ before.2,
+          ∙ ap (λ (x : Result (Option Datagram) LineFault). count_after x (g.L.Line.failed c.loop-heard.line))
+          c.in-Ok-Some.is ∙ before.2,
       λ players extra capacity me m r.
           let so_far = before.3 players extra capacity me m r in
           let M : ℕ → Type 0 = λ p. g.L.Line.polls c.loop-heard.line p c.poll.result c.poll.new.self in
-          let A : Result (Option Datagram) LineFault → Type 0 = λ a. g.L.Line.polls c.loop-heard.line me a c.poll.new.self in
-          let said = subst A (c.in-Ok-Some.is ∙ ap Ok c.in-Ok-Some.field-0-is) (subst M (c.me-me.ensures ∙ r.lockstep.number) c.poll.ensures.polled) in
+          let A : Result (Option Datagram) LineFault → Type 0 =
+          λ a. g.L.Line.polls c.loop-heard.line me a c.poll.new.self in
+          let said = subst A (c.in-Ok-Some.is ∙ ap Ok c.in-Ok-Some.field-0-is)
+          (subst M (c.me-me.ensures ∙ r.lockstep.whose.number) c.poll.ensures.polled) in
           let one = c.hear.ensures players extra capacity me so_far.after so_far.node in
           record {
             after = one.after;
             node = one.node;
-            leads = heard_more g.L.Line.polls (rules_of g.W.World.physics players extra capacity) me c.loop-heard.heard _ (m, c.args.line.now) (so_far.after, c.loop-heard.line) (one.after, c.poll.new.self) so_far.leads said one.leads;
+            leads = heard_more g.L.Line.polls (rules_of g.W.World.physics players extra capacity) me
+                c.loop-heard.heard _ (m, c.args.line.now) (so_far.after, c.loop-heard.line)
+                (one.after, c.poll.new.self) so_far.leads said one.leads;
           },
     )
 
@@ -57,11 +82,20 @@ pub returns-clause-heard : goal.returns-clause-heard
 returns-clause-heard g c players extra capacity me m r =
     let so_far = c.loop-heard.invariant.3 players extra capacity me m r in
     let most = 10 * c.saturating_sub-most.result in
-    let is : most ≡ most_polls players = c.loop-heard.invariant.1 ∙ ap most_polls r.lockstep.players in
-    let end : c.loop-heard.heard ≡ most = omega (arith, c.loop-heard-test.false, c.loop-heard.auto.heard-end) in
-    let Q : ℕ → Type 0 = λ k. IsHeard g.L.Line.polls (rules_of g.W.World.physics players extra capacity) me (m, c.args.line.now) (so_far.after, c.loop-heard.line) k 0 in
+    let is : most ≡ most_polls players = c.loop-heard.invariant.1 ∙ ap most_polls r.lockstep.whose.players in
+    let end : c.loop-heard.heard ≡ most =
+    omega (arith, c.loop-heard-test.false, c.loop-heard.auto.heard-end) in
+    let Q : ℕ → Type 0 = λ k. IsHeard g.L.Line.polls (rules_of g.W.World.physics players extra capacity) me
+    (m, c.args.line.now) (so_far.after, c.loop-heard.line) k 0 in
     record {
       after = so_far.after;
       node = so_far.node;
-      leads = subst Q end (record { between = c.loop-heard.line; hears = so_far.leads; ending = None; ends = (end ∙ is, refl, refl) });
+      leads = subst Q end
+          (record {
+            between = c.loop-heard.line;
+            hears = so_far.leads;
+            ending = None;
+            ends =
+                (end ∙ is, refl, refl);
+          });
     }

@@ -8,4 +8,5 @@ invariant-loop g l =
     (length l.nodes ≡ length l.fn.nodes)
     × AreAt l.seed l.counter l.streams
     × LeadAll g.W.World.state g.W.World.physics l.fn.nodes l.nodes
-    (λ seats after. TakeRounds g.L.Line.sends g.L.Line.polls g.W.World.physics l.seed (length l.fn.nodes) l.counter (seats, l.fn.line) (after, l.line))
+    (λ seats after. TakeRounds g.L.Line.sends g.L.Line.polls g.W.World.physics l.seed (length l.fn.nodes)
+    l.counter (seats, l.fn.line) (after, l.line))

@@ -6,5 +6,7 @@ use Rattle.dn_turn.proofs.rounding.take_turns.Given as goal
 abbrev pub invariant-loop-place : goal.invariant-loop-place
 invariant-loop-place g l =
     (length l.nodes ≡ length l.fn.nodes)
-    × ((seed round : ℕ) → AreKeys seed round l.keys → LeadAll g.W.World.state g.W.World.physics l.fn.nodes l.nodes
-    (λ seats after. TakeTurns g.L.Line.sends g.L.Line.polls g.W.World.physics (keys_in seed round) l.place (seats, l.fn.line) (after, l.line)))
+    × ((seed round : ℕ) → AreKeys seed round l.keys
+    → LeadAll g.W.World.state g.W.World.physics l.fn.nodes l.nodes
+    (λ seats after. TakeTurns g.L.Line.sends g.L.Line.polls g.W.World.physics (keys_in seed round) l.place
+    (seats, l.fn.line) (after, l.line)))

@@ -15,7 +15,8 @@ loop-ran-preserved g c =
           record {
             after = _;
             node = step.node;
-            leads = ran_more (rules_of g.W.World.physics players extra capacity) m c.loop-ran.ran so_far.after so_far.leads (ap is_ran (sym step.answer ∙ c.in-Ran.is));
+            leads = ran_more (rules_of g.W.World.physics players extra capacity) m c.loop-ran.ran so_far.after
+                so_far.leads (ap is_ran (sym step.answer ∙ c.in-Ran.is));
           },
     )
 
@@ -26,5 +27,6 @@ returns g c players extra capacity me m r =
     record {
       after = _;
       node = step.node;
-      leads = ran_last (rules_of g.W.World.physics players extra capacity) m c.loop-ran.ran so_far.after so_far.leads (ap is_ran (sym step.answer) ∙ not_ran c.run.result c.in_default.not-Ran);
+      leads = ran_last (rules_of g.W.World.physics players extra capacity) m c.loop-ran.ran so_far.after
+          so_far.leads (ap is_ran (sym step.answer) ∙ not_ran c.run.result c.in_default.not-Ran);
     }

@@ -8,7 +8,8 @@ use Rattle.dn_turn.proofs.running.run_all.Given as goal
 abbrev pub invariant-loop-ran : goal.invariant-loop-ran
 invariant-loop-ran g l =
     ((contents l.node).ran ≡ (contents l.fn.node).ran + l.ran)
-    × Leads g.W.World.state g.W.World.physics (contents l.fn.node) (contents l.node) (λ rules me m after. RanSoFar rules m l.ran after)
+    × Leads g.W.World.state g.W.World.physics (contents l.fn.node) (contents l.node)
+    (λ rules me m after. RanSoFar rules m l.ran after)
 
 abbrev pub decreases-loop-ran : goal.decreases-loop-ran
 decreases-loop-ran g l = tic_limit - (contents l.node).ran

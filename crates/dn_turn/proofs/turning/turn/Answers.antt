@@ -27,5 +27,7 @@ returns-clause-turned g c players extra capacity me m r =
 
 pub returns-clause-counted : goal.returns-clause-counted
 returns-clause-counted g c =
-    c.hear_all-polled.ensures.counted ∙ ap (λ (n : ℕ). risen c.hear_all-polled.result.failed n) c.give_all-given.ensures.counted
-    ∙ sym (risen_add c.give_all-given.result.failed c.hear_all-polled.result.failed (g.L.Line.failed c.args.line.now))
+    c.hear_all-polled.ensures.counted ∙ ap (λ (n : ℕ). risen c.hear_all-polled.result.failed n)
+    c.give_all-given.ensures.counted
+    ∙ sym (risen_add c.give_all-given.result.failed c.hear_all-polled.result.failed
+    (g.L.Line.failed c.args.line.now))

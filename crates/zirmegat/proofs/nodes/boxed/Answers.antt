@@ -4,7 +4,7 @@ use Rattle.dn_lockstep.specs.Contents.{contents}
 use Rattle.zirmegat.specs.Opening.{IsFresh}
 use Rattle.zirmegat.proofs.nodes.boxed.Goals as goal
 
-pub returns-in-Ok-new-clause-fresh : goal.returns-in-Ok-new-clause-fresh
-returns-in-Ok-new-clause-fresh c =
+pub returns-in-Ok-clause-fresh : goal.returns-in-Ok-clause-fresh
+returns-in-Ok-clause-fresh c =
     let P : Lockstep → Type 0 = λ made. IsFresh c.args.config (contents made) in
-    subst P (sym c.in-Ok-new.ensures.ok) c.in-Ok.ensures.opened
+    subst P (sym c.in-Ok.ensures.ok) c.in_ok-made.ensures.opened

@@ -10,16 +10,26 @@ use Rattle.zirmegat.proofs.nodes.zmg_node_new.Goals as goal
 
 pub returns-in-Ok-boxed : goal.returns-in-Ok-boxed
 returns-in-Ok-boxed c =
-    let P : Config → Type 0 = λ config. (made : Result Contents NodeFault) × IsAdmitted config made × IsMade config made 0 (node_of c.of.result) in (
+    let P : Config → Type 0 = λ config. (made : Result Contents NodeFault) × IsAdmitted config made
+    × IsMade config made 0 (node_of c.of.result) in (
       Ok c.in-Ok.settings,
       c.in-Ok.ensures,
-      subst P c.with.ensures (Ok (contents c.in-Ok-boxed.made.value), c.in-Ok-boxed.ensures.admitted, (refl, c.of.ensures, c.in-Ok-boxed.ensures.fresh)),
+      subst P c.with.ensures (
+        Ok (contents c.in-Ok-boxed.made.value),
+        c.in-Ok-boxed.ensures.admitted,
+        (refl, c.of.ensures, c.in-Ok-boxed.ensures.fresh, c.in-Ok-boxed.ensures.room),
+      ),
     )
 
 pub returns-in-Err-boxed : goal.returns-in-Err-boxed
 returns-in-Err-boxed c =
-    let P : Config → Type 0 = λ config. (made : Result Contents NodeFault) × IsAdmitted config made × IsMade config made c.fault_code.result (node_of c.take.new.self) in (
+    let P : Config → Type 0 = λ config. (made : Result Contents NodeFault) × IsAdmitted config made
+    × IsMade config made c.fault_code.result (node_of c.take.new.self) in (
       Ok c.in-Ok.settings,
       c.in-Ok.ensures,
-      subst P c.with.ensures (Err c.in-Err-boxed.fault, c.in-Err-boxed.ensures.admitted, (c.fault_code.ensures, c.take.ensures.left)),
+      subst P c.with.ensures (
+        Err c.in-Err-boxed.fault,
+        c.in-Err-boxed.ensures.admitted,
+        (c.fault_code.ensures, c.take.ensures.left),
+      ),
     )

@@ -6,5 +6,12 @@ use Rattle.zirmegat.proofs.upgrading.zmg_demo_upgrade.Goals as goal
 
 pub returns-in-None : goal.returns-in-None
 returns-in-None c =
-    let told : ℕ → UpgradeAnswer = λ code. record { code = code; length = 0 } in
-    (Ok c.in-Ok.demo, c.in-Ok.ensures.reads, (Err Limit, c.in-None.ensures.none, (c.refused-in-None.ensures ∙ ap told c.upgrade_code.ensures, refl)))
+    let told : ℕ → UpgradeAnswer = λ code. record { code = code; length = 0 } in (
+      Ok c.in-Ok.demo,
+      c.in-Ok.ensures.reads,
+      (
+        Err Limit,
+        c.in-None.ensures.none,
+        (c.refused-in-None.ensures ∙ ap told c.upgrade_code.ensures, refl),
+      ),
+    )

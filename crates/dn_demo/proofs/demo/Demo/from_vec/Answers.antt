@@ -7,8 +7,11 @@ use Rattle.dn_demo.proofs.demo.Demo.from_vec.Goals as goal
 
 pub returns-clause-reads : goal.returns-clause-reads
 returns-clause-reads c =
-    let found : HasHeader (layout_of c.in_ok-layout.layout) c.args.bytes.items × EndsBehind (layout_of c.in_ok-layout.layout) c.args.bytes.items c.in_ok-layout.commands = search rules in
-    read_of_front (layout_of c.in_ok-layout.layout) _ _ _ _ found.0 found.1 (c.truncate.ensures.items ∙ ap (λ n. take n c.args.bytes.items) c.place-front.ensures) (omega arith)
+    let found : HasHeader (layout_of c.in_ok-layout.layout) c.args.bytes.items
+    × EndsBehind (layout_of c.in_ok-layout.layout) c.args.bytes.items c.in_ok-layout.commands =
+    search rules in
+    read_of_front (layout_of c.in_ok-layout.layout) _ _ _ _ found.0 found.1
+    (c.truncate.ensures.items ∙ ap (λ n. take n c.args.bytes.items) c.place-front.ensures) (omega arith)
 
 pub returns-clause-only : goal.returns-clause-only
 returns-clause-only c = one_reading _ _ (returns-clause-reads c)

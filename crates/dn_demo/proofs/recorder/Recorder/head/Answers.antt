@@ -8,14 +8,16 @@ use Rattle.dn_demo.proofs.recorder.Recorder.head.Goals as goal
 
 pub returns-clause-written : goal.returns-clause-written
 returns-clause-written c =
-    let text : c.append.new.bytes.items ≡ header long_tics c.args.start.now c.args.view c.args.present = search rules in
+    let text : c.append.new.bytes.items ≡ header long_tics c.args.start.now c.args.view c.args.present =
+    search rules in
     let same = text ∙ sym (text-none long_tics c.args.start.now c.args.view c.args.present) in
     let limit : c.self.inside.limit ≡ c.args.self.now.limit = search rules in
     λ i. record { limit = limit i; stage = Open; bytes = same i }
 
 pub returns-clause-seats : goal.returns-clause-seats
 returns-clause-seats c =
-    let text : c.append.new.bytes.items ≡ header long_tics c.args.start.now c.args.view c.args.present = search rules in
+    let text : c.append.new.bytes.items ≡ header long_tics c.args.start.now c.args.view c.args.present =
+    search rules in
     let four : length c.args.present ≡ 4 = search rules in
     ap seats_in (text ∙ sym (append-nil (header long_tics c.args.start.now c.args.view c.args.present)))
     ∙ header-seats long_tics c.args.start.now c.args.view c.args.present [] four

@@ -1,14 +1,15 @@
-use Rattle.std.proofs.Common.{rules}
+use Rattle.std.proofs.Common.{rules, arith, ◌≤◌, ◌+◌, length}
 use Rattle.dn_demo.specs.Layout.{long_tics}
+use Rattle.dn_demo.specs.Text.{row_bytes}
 use Rattle.dn_demo.proofs.Layouts.{long_tics_sound}
-use Rattle.dn_demo.proofs.Text.{text-row, length-row_bytes}
+use Rattle.dn_demo.proofs.Text.{length-row_bytes}
 use Rattle.dn_demo.proofs.recorder.Recorder.row.Goals as goal
 
 pub returns-then-len-row_size-clause-size : goal.returns-then-len-row_size-clause-size
 returns-then-len-row_size-clause-size c = length-row_bytes long_tics _ _ long_tics_sound c.requires.row.seats
 
-pub returns-clause-size : goal.returns-clause-size
-returns-clause-size c = length-row_bytes long_tics _ _ long_tics_sound c.requires.row.seats
-
-pub returns-clause-text : goal.returns-clause-text
-returns-clause-text c = λ done. text-row _ _ _ (search rules)
+pub add_row-requires-clause-room : goal.add_row-requires-clause-room
+add_row-requires-clause-room c =
+    let fits : length c.args.self.now.bytes + length (row_bytes long_tics c.args.moves.now) + 1
+    ≤ c.args.self.now.limit = search rules in
+    omega (arith, fits, length-row_bytes long_tics _ _ long_tics_sound c.requires.row.seats)

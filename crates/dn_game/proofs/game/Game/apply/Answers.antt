@@ -6,7 +6,7 @@ use Rattle.dn_game.specs.Contents.{contents}
 use Rattle.dn_game.specs.Applied.{IsAddressed}
 use Rattle.dn_game.proofs.Answering.{carries}
 use Rattle.dn_game.proofs.Applying.{after_refused, after_event, after_send, after_step, stops}
-use Rattle.dn_game.proofs.Limits.{limits_same, limits_step}
+use Rattle.dn_game.proofs.Limits.{limits_step}
 use Rattle.dn_game.proofs.Standing.{node_at}
 use Rattle.dn_game.proofs.game.Game.apply.Goals as goal
 
@@ -18,27 +18,32 @@ returns-in-Some-clause-applied g c players extra capacity m r =
 pub returns-in-Send-clause-applied : goal.returns-in-Send-clause-applied
 returns-in-Send-clause-applied g c players extra capacity m r =
     let rules = rules_of g.W.World.physics players extra capacity in
-    after_send _ rules _ m _ _ _ _ _ c.in-Send.is (c.in_default.ensures.told players extra capacity m r) (c.send.ensures.sent players extra capacity m r)
+    after_send _ rules _ m _ _ _ _ _ c.in-Send.is (c.in_default.ensures.told players extra capacity m r)
+    (c.send.ensures.sent players extra capacity m r)
 
 pub returns-in-Build-clause-applied : goal.returns-in-Build-clause-applied
 returns-in-Build-clause-applied g c players extra capacity m r =
     let rules = rules_of g.W.World.physics players extra capacity in
-    let below = subst (IsAddressed (contents c.args.self.now)) c.in-Build.is (c.in_default.ensures.there refl) in
+    let below = subst (IsAddressed (contents c.args.self.now)) c.in-Build.is
+    (c.in_default.ensures.there refl) in
     let shown = node_at _ rules _ m r _ _ below c.index_mut.ensures.value in
     inl (after_event _ rules _ m _ _ c.in-Build.is _ (c.in_default.ensures.told players extra capacity m r)
-    (after_step _ rules _ m _ _ _ _ Done.Built r below (c.build.ensures.step players extra capacity _ _ shown)))
+    (after_step _ rules _ m _ _ _ _ Done.Built r below
+    (c.build.ensures.step players extra capacity _ _ shown)))
 
 pub returns-in-Deliver-clause-applied : goal.returns-in-Deliver-clause-applied
 returns-in-Deliver-clause-applied g c players extra capacity m r =
     let rules = rules_of g.W.World.physics players extra capacity in
     let told = c.in_default.ensures.told players extra capacity m r in
     inl (after_event _ rules _ m _ _ c.in-Deliver.is _ told
-    (c.deliver.ensures.heard players extra capacity m r (sym (told ∙ ap (refused players m) c.in-Deliver.is))))
+    (c.deliver.ensures.heard players extra capacity m r
+    (sym (told ∙ ap (refused players m) c.in-Deliver.is))))
 
 pub returns-in-Run-clause-applied : goal.returns-in-Run-clause-applied
 returns-in-Run-clause-applied g c players extra capacity m r =
     let rules = rules_of g.W.World.physics players extra capacity in
-    let below = subst (IsAddressed (contents c.args.self.now)) c.in-Run.is (c.in_default.ensures.there refl) in
+    let below = subst (IsAddressed (contents c.args.self.now)) c.in-Run.is
+    (c.in_default.ensures.there refl) in
     let shown = node_at _ rules _ m r _ _ below c.index_mut-in-Run.ensures.value in
     inl (after_event _ rules _ m _ _ c.in-Run.is _ (c.in_default.ensures.told players extra capacity m r)
     (after_step _ rules _ m _ _ _ _ Done.Ran r below (c.run.ensures.step players extra capacity _ _ shown)))
@@ -46,7 +51,8 @@ returns-in-Run-clause-applied g c players extra capacity m r =
 pub returns-in-Quit-clause-applied : goal.returns-in-Quit-clause-applied
 returns-in-Quit-clause-applied g c players extra capacity m r =
     let rules = rules_of g.W.World.physics players extra capacity in
-    let below = subst (IsAddressed (contents c.args.self.now)) c.in-Quit.is (c.in_default.ensures.there refl) in
+    let below = subst (IsAddressed (contents c.args.self.now)) c.in-Quit.is
+    (c.in_default.ensures.there refl) in
     let shown = node_at _ rules _ m r _ _ below c.index_mut-in-Quit.ensures.value in
     inl (after_event _ rules _ m _ _ c.in-Quit.is _ (c.in_default.ensures.told players extra capacity m r)
     (after_step _ rules _ m _ _ _ _ Done.Quit r below (c.quit.ensures.step players extra capacity _ _ shown)))
@@ -55,9 +61,11 @@ pub returns-in-Stop-clause-applied : goal.returns-in-Stop-clause-applied
 returns-in-Stop-clause-applied g c players extra capacity m r =
     let rules = rules_of g.W.World.physics players extra capacity in
     let n = c.args.self.now in
-    let below : c.in-Stop.node < length n.nodes.items = subst (IsAddressed (contents n)) c.in-Stop.is (c.in_default.ensures.there refl) in
+    let below : c.in-Stop.node < length n.nodes.items =
+    subst (IsAddressed (contents n)) c.in-Stop.is (c.in_default.ensures.there refl) in
     let inside : c.in-Stop.node < length n.stopped = omega (arith, n.few) in
-    inl (after_event _ rules _ m _ _ c.in-Stop.is _ (c.in_default.ensures.told players extra capacity m r) (stops _ rules _ m _ r inside))
+    inl (after_event _ rules _ m _ _ c.in-Stop.is _ (c.in_default.ensures.told players extra capacity m r)
+    (stops _ rules _ m _ r inside))
 
 pub returns-in-Some-clause-carried : goal.returns-in-Some-clause-carried
 returns-in-Some-clause-carried g c = carries _ _ _ _ _ _ (returns-in-Some-clause-applied g c)
@@ -81,14 +89,15 @@ pub returns-in-Stop-clause-carried : goal.returns-in-Stop-clause-carried
 returns-in-Stop-clause-carried g c = carries _ _ _ _ _ _ (returns-in-Stop-clause-applied g c)
 
 pub returns-in-Some-clause-limits : goal.returns-in-Some-clause-limits
-returns-in-Some-clause-limits g c = limits_same _ _ refl
+returns-in-Some-clause-limits g c = refl
 
 pub returns-in-Send-clause-limits : goal.returns-in-Send-clause-limits
 returns-in-Send-clause-limits g c = c.send.ensures.limits
 
 pub returns-in-Build-clause-limits : goal.returns-in-Build-clause-limits
 returns-in-Build-clause-limits g c =
-    let below = subst (IsAddressed (contents c.args.self.now)) c.in-Build.is (c.in_default.ensures.there refl) in
+    let below = subst (IsAddressed (contents c.args.self.now)) c.in-Build.is
+    (c.in_default.ensures.there refl) in
     limits_step _ _ _ _ _ refl below c.index_mut.ensures.value c.build.ensures.room
 
 pub returns-in-Deliver-clause-limits : goal.returns-in-Deliver-clause-limits
@@ -96,13 +105,15 @@ returns-in-Deliver-clause-limits g c = c.deliver.ensures.limits
 
 pub returns-in-Run-clause-limits : goal.returns-in-Run-clause-limits
 returns-in-Run-clause-limits g c =
-    let below = subst (IsAddressed (contents c.args.self.now)) c.in-Run.is (c.in_default.ensures.there refl) in
+    let below = subst (IsAddressed (contents c.args.self.now)) c.in-Run.is
+    (c.in_default.ensures.there refl) in
     limits_step _ _ _ _ _ refl below c.index_mut-in-Run.ensures.value c.run.ensures.room
 
 pub returns-in-Quit-clause-limits : goal.returns-in-Quit-clause-limits
 returns-in-Quit-clause-limits g c =
-    let below = subst (IsAddressed (contents c.args.self.now)) c.in-Quit.is (c.in_default.ensures.there refl) in
+    let below = subst (IsAddressed (contents c.args.self.now)) c.in-Quit.is
+    (c.in_default.ensures.there refl) in
     limits_step _ _ _ _ _ refl below c.index_mut-in-Quit.ensures.value c.quit.ensures.room
 
 pub returns-in-Stop-clause-limits : goal.returns-in-Stop-clause-limits
-returns-in-Stop-clause-limits g c = limits_same _ _ refl
+returns-in-Stop-clause-limits g c = refl

@@ -7,16 +7,20 @@ use Rattle.dn_game.proofs.game.Game.deliver.Goals as goal
 pub index_mut-requires : goal.index_mut-requires
 index_mut-requires g c =
     let n = c.args.self.now in
-    let small = receiver_below n.pool.flights c.args.which (length n.nodes.items) c.record-flight.result.now c.requires n.receivers c.record-flight.ensures in
+    let small = receiver_below n.pool.flights c.args.which (length n.nodes.items) c.record-flight.result.now
+    c.requires n.receivers c.record-flight.ensures in
     omega (arith, small, c.from.ensures, n.nodes.ok.0)
 
 pub returns-clause-heard : goal.returns-clause-heard
 returns-clause-heard g c players extra capacity m r free =
-    delivers _ _ players extra capacity _ m r _ _ c.requires c.record-flight.ensures free _ _ _ _ _ c.from.ensures c.index_mut.ensures.value
+    delivers _ _ players extra capacity _ m r _ _ c.requires c.record-flight.ensures free _ _ _ _ _
+    c.from.ensures c.index_mut.ensures.value
     c.datagram.ensures.bytes c.receive.ensures.near
 
 pub returns-clause-limits : goal.returns-clause-limits
 returns-clause-limits g c =
     let n = c.args.self.now in
-    let small = receiver_below n.pool.flights c.args.which (length n.nodes.items) c.record-flight.result.now c.requires n.receivers c.record-flight.ensures in
-    limits_step _ _ _ _ _ refl (omega (arith, small, c.from.ensures)) c.index_mut.ensures.value c.receive.ensures.room
+    let small = receiver_below n.pool.flights c.args.which (length n.nodes.items) c.record-flight.result.now
+    c.requires n.receivers c.record-flight.ensures in
+    limits_step _ _ _ _ _ refl (omega (arith, small, c.from.ensures)) c.index_mut.ensures.value
+    c.receive.ensures.room

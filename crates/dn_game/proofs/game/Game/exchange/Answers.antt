@@ -4,10 +4,14 @@ use Rattle.dn_game.proofs.Arriving.{exchanges}
 use Rattle.dn_game.proofs.Recent.{flights_are}
 use Rattle.dn_game.proofs.game.Game.exchange.Goals as goal
 
-pub returns : goal.returns
-returns g c players extra capacity m r =
+pub returns-clause-good : goal.returns-clause-good
+returns-clause-good g c players extra capacity m r =
     let rules = rules_of g.W.World.physics players extra capacity in
-    exchanges _ rules _ _ _ m c.args.node c.args.to _ _ _ (c.in-Ok.ensures.1 ∙ c.flights.ensures ∙ flights_are _ rules _ m r)
+    exchanges _ rules _ _ _ m c.args.node c.args.to _ _ _
+    (c.in-Ok.ensures.1 ∙ c.flights.ensures ∙ flights_are _ rules _ m r)
     (λ e. true≢false (sym (c.is_left_out.ensures.1 e) ∙ c.if-is_left_out.false))
     (c.apply.ensures.applied players extra capacity m r)
     (c.apply-2.ensures.applied players extra capacity _)
+
+pub returns-clause-limits : goal.returns-clause-limits
+returns-clause-limits g c = c.apply-2.ensures.limits ∙ c.apply.ensures.limits

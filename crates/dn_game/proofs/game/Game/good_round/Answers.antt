@@ -1,4 +1,4 @@
-use Rattle.std.proofs.Common.{rules, ◌≡◌, Err, arith}
+use Rattle.std.proofs.Common.{refl, ◌∙◌, rules, ◌≡◌, Err, arith}
 use Rattle.dn_machine.specs.Progress.{turn}
 use Rattle.dn_machine.specs.Worlds.{rules_of}
 use Rattle.dn_machine.proofs.Leading.{led_none, led_turn}
@@ -8,33 +8,58 @@ use Rattle.dn_game.proofs.Arriving.{by_own_keys, begins, goes_on, ends, all_step
 use Rattle.dn_game.proofs.game.Game.good_round.Goals as goal
 
 pub loop-node-init : goal.loop-node-init
-loop-node-init g c players extra capacity m r =
-    let rules = rules_of g.W.World.physics players extra capacity in
-    begins _ rules (turn rules (keys_of c.args.keys)) (led_turn rules (keys_of c.args.keys)) m (contents c.args.self.now) r
+loop-node-init g c = (
+  λ players extra capacity m r.
+      let rules = rules_of g.W.World.physics players extra capacity in
+      begins _ rules (turn rules (keys_of c.args.keys)) (led_turn rules (keys_of c.args.keys)) m
+      (contents c.args.self.now) r,
+  refl,
+)
 
 pub loop-node-preserved : goal.loop-node-preserved
-loop-node-preserved g c players extra capacity m r =
-    let rules = rules_of g.W.World.physics players extra capacity in
-    let keys = keys_of c.args.keys in
-    goes_on _ rules (turn rules keys) (led_turn rules keys) m (contents c.turn.new.self) c.loop-node.node c.turn.result
-    (by_own_keys _ rules _ keys _ c.loop-node.node (contents c.turn.new.self) c.turn.result c.keys_at.ensures
-    (c.turn.ensures players extra capacity _ (c.loop-node.invariant players extra capacity m r))) _ c.in_ok-turn.was
+loop-node-preserved g c = (
+  λ players extra capacity m r.
+      let rules = rules_of g.W.World.physics players extra capacity in
+      let keys = keys_of c.args.keys in
+      goes_on _ rules (turn rules keys) (led_turn rules keys) m (contents c.turn.new.self) c.loop-node.node
+      c.turn.result
+      (by_own_keys _ rules _ keys _ c.loop-node.node (contents c.turn.new.self) c.turn.result
+      c.keys_at.ensures
+      (c.turn.ensures.good players extra capacity _ (c.loop-node.invariant.0 players extra capacity m r))) _
+      c.in_ok-turn.was,
+  c.turn.ensures.limits ∙ c.loop-node.invariant.1,
+)
 
-pub returns-in_err-turn : goal.returns-in_err-turn
-returns-in_err-turn g c players extra capacity m r =
+pub returns-in_err-turn-clause-good : goal.returns-in_err-turn-clause-good
+returns-in_err-turn-clause-good g c players extra capacity m r =
     let same : c.from_residual.result ≡ Err c.in_err-turn.field-0.0 = search rules in
     let rules = rules_of g.W.World.physics players extra capacity in
     let keys = keys_of c.args.keys in
-    ends _ rules (turn rules keys) (led_turn rules keys) m (contents c.turn.new.self) c.loop-node.node c.turn.result
+    ends _ rules (turn rules keys) (led_turn rules keys) m (contents c.turn.new.self) c.loop-node.node
+    c.turn.result
     (by_own_keys _ rules _ keys _ c.loop-node.node (contents c.turn.new.self) c.turn.result c.keys_at.ensures
-    (c.turn.ensures players extra capacity _ (c.loop-node.invariant players extra capacity m r))) m _ _ _ c.in_err-turn.was same
+    (c.turn.ensures.good players extra capacity _ (c.loop-node.invariant.0 players extra capacity m r))) m _ _
+    _ c.in_err-turn.was same
     (led_none rules m)
 
-pub returns : goal.returns
-returns g c players extra capacity m r =
+pub returns-clause-good : goal.returns-clause-good
+returns-clause-good g c players extra capacity m r =
     let rules = rules_of g.W.World.physics players extra capacity in
     let keys = keys_of c.args.keys in
     has_round _ rules keys m (contents c.loop-node.self)
-    (all_steps _ rules (turn rules keys) (led_turn rules keys) m (contents c.loop-node.self) c.loop-node.node players
-    (omega (arith, c.loop-node-test.false, c.loop-node.auto.node-end, c.players-node-end.ensures.value, r.players))
-    (c.loop-node.invariant players extra capacity m r))
+    (all_steps _ rules (turn rules keys) (led_turn rules keys) m (contents c.loop-node.self) c.loop-node.node
+    players
+    (omega (
+      arith,
+      c.loop-node-test.false,
+      c.loop-node.auto.node-end,
+      c.players-node-end.ensures.value,
+      r.players,
+    ))
+    (c.loop-node.invariant.0 players extra capacity m r))
+
+pub returns-in_err-turn-clause-limits : goal.returns-in_err-turn-clause-limits
+returns-in_err-turn-clause-limits g c = c.turn.ensures.limits ∙ c.loop-node.invariant.1
+
+pub returns-clause-limits : goal.returns-clause-limits
+returns-clause-limits g c = c.loop-node.invariant.1

@@ -1,4 +1,4 @@
-use Rattle.std.proofs.Common.{rules, ◌≡◌, Err, arith}
+use Rattle.std.proofs.Common.{refl, ◌∙◌, rules, ◌≡◌, Err, arith}
 use Rattle.dn_machine.specs.Progress.{good_round}
 use Rattle.dn_machine.specs.Worlds.{rules_of}
 use Rattle.dn_machine.proofs.Leading.{led_none, led_round}
@@ -8,32 +8,52 @@ use Rattle.dn_game.proofs.Arriving.{begins, goes_on, ends, all_steps, has_rounds
 use Rattle.dn_game.proofs.game.Game.good_rounds.Goals as goal
 
 pub loop-init : goal.loop-init
-loop-init g c players extra capacity m r =
-    let rules = rules_of g.W.World.physics players extra capacity in
-    let keys = keys_of c.args.keys in
-    begins _ rules (λ before round. good_round rules keys before) (λ before round. led_round rules keys before) m (contents c.args.self.now) r
+loop-init g c = (
+  λ players extra capacity m r.
+      let rules = rules_of g.W.World.physics players extra capacity in
+      let keys = keys_of c.args.keys in
+      begins _ rules (λ before round. good_round rules keys before)
+      (λ before round. led_round rules keys before) m (contents c.args.self.now) r,
+  refl,
+)
 
 pub loop-preserved : goal.loop-preserved
-loop-preserved g c players extra capacity m r =
-    let rules = rules_of g.W.World.physics players extra capacity in
-    let keys = keys_of c.args.keys in
-    goes_on _ rules (λ before round. good_round rules keys before) (λ before round. led_round rules keys before) m (contents c.good_round.new.self)
-    c.loop.counter c.good_round.result (c.good_round.ensures players extra capacity _ (c.loop.invariant players extra capacity m r)) _ c.in_ok-good_round.was
+loop-preserved g c = (
+  λ players extra capacity m r.
+      let rules = rules_of g.W.World.physics players extra capacity in
+      let keys = keys_of c.args.keys in
+      goes_on _ rules (λ before round. good_round rules keys before)
+      (λ before round. led_round rules keys before) m (contents c.good_round.new.self)
+      c.loop.counter c.good_round.result
+      (c.good_round.ensures.good players extra capacity _ (c.loop.invariant.0 players extra capacity m r))
+      _ c.in_ok-good_round.was,
+  c.good_round.ensures.limits ∙ c.loop.invariant.1,
+)
 
-pub returns-in_err-good_round : goal.returns-in_err-good_round
-returns-in_err-good_round g c players extra capacity m r =
+pub returns-in_err-good_round-clause-good : goal.returns-in_err-good_round-clause-good
+returns-in_err-good_round-clause-good g c players extra capacity m r =
     let same : c.from_residual.result ≡ Err c.in_err-good_round.field-0.0 = search rules in
     let rules = rules_of g.W.World.physics players extra capacity in
     let keys = keys_of c.args.keys in
-    ends _ rules (λ before round. good_round rules keys before) (λ before round. led_round rules keys before) m (contents c.good_round.new.self)
-    c.loop.counter c.good_round.result (c.good_round.ensures players extra capacity _ (c.loop.invariant players extra capacity m r)) m _ _ _ c.in_err-good_round.was same
+    ends _ rules (λ before round. good_round rules keys before) (λ before round. led_round rules keys before)
+    m (contents c.good_round.new.self)
+    c.loop.counter c.good_round.result
+    (c.good_round.ensures.good players extra capacity _ (c.loop.invariant.0 players extra capacity m r)) m
+    _ _ _ c.in_err-good_round.was same
     (led_none rules m)
 
-pub returns : goal.returns
-returns g c players extra capacity m r =
+pub returns-clause-good : goal.returns-clause-good
+returns-clause-good g c players extra capacity m r =
     let rules = rules_of g.W.World.physics players extra capacity in
     let keys = keys_of c.args.keys in
     has_rounds _ rules (λ round. keys) c.args.count m (contents c.loop.self)
-    (all_steps _ rules (λ before round. good_round rules keys before) (λ before round. led_round rules keys before) m (contents c.loop.self) c.loop.counter c.args.count
+    (all_steps _ rules (λ before round. good_round rules keys before)
+    (λ before round. led_round rules keys before) m (contents c.loop.self) c.loop.counter c.args.count
     (omega (arith, c.loop-test.false, c.loop.auto.counter-end))
-    (c.loop.invariant players extra capacity m r))
+    (c.loop.invariant.0 players extra capacity m r))
+
+pub returns-in_err-good_round-clause-limits : goal.returns-in_err-good_round-clause-limits
+returns-in_err-good_round-clause-limits g c = c.good_round.ensures.limits ∙ c.loop.invariant.1
+
+pub returns-clause-limits : goal.returns-clause-limits
+returns-clause-limits g c = c.loop.invariant.1

@@ -3,4 +3,5 @@ use Rattle.dn_game.proofs.game.Game.new.Goals as goal
 
 pub returns-clause-opened : goal.returns-clause-opened
 returns-clause-opened g c =
-    opens _ _ c.args.config.settings c.in_ok-nodes.nodes.items c.new-2.result.flights c.in_ok-nodes.ensures.one_each c.in_ok-nodes.ensures.opened c.new-2.ensures
+    opens _ _ c.args.config.settings c.in_ok-nodes.nodes.items c.new.result.flights
+    c.in_ok-nodes.ensures.one_each c.in_ok-nodes.ensures.opened c.new.ensures

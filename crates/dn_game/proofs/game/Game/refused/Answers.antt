@@ -9,8 +9,10 @@ pub returns-in-Send-2-clause-told : goal.returns-in-Send-2-clause-told
 returns-in-Send-2-clause-told g c players extra capacity m r =
     let same : c.in-Send.to ≡ c.in-Send-2.to = cc in
     let there : nat_lt c.in-Send-2.to players ≡ true =
-    ap (λ (k : ℕ). nat_lt k players) (sym same) ∙ sym (ap (nat_lt c.in-Send.to) r.players) ∙ sym c.is_player.ensures ∙ c.if-not-is_player.false in
-    c.refused_at.ensures.told players extra capacity m r ∙ refused_send players m _ _ there ∙ ap (refused players m) (sym c.in-Send-2.is)
+    ap (λ (k : ℕ). nat_lt k players) (sym same) ∙ sym (ap (nat_lt c.in-Send.to) r.players)
+    ∙ sym c.is_player.ensures ∙ c.if-not-is_player.false in
+    c.refused_at.ensures.told players extra capacity m r ∙ refused_send players m _ _ there
+    ∙ ap (refused players m) (sym c.in-Send-2.is)
 
 pub returns-in-Deliver-clause-told : goal.returns-in-Deliver-clause-told
 returns-in-Deliver-clause-told g c players extra capacity m r =

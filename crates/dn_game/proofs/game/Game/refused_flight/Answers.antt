@@ -7,7 +7,8 @@ pub index-receiver-requires : goal.index-receiver-requires
 index-receiver-requires g c =
     let n = c.args.self.now in
     let below : c.args.which < length n.pool.flights = search rules in
-    let small = receiver_below n.pool.flights c.args.which (length n.nodes.items) c.record-flight.result.now below n.receivers c.record-flight.ensures in
+    let small = receiver_below n.pool.flights c.args.which (length n.nodes.items) c.record-flight.result.now
+    below n.receivers c.record-flight.ensures in
     omega (arith, small, c.from.ensures, n.nodes.ok.0)
 
 pub returns-then-is_far-clause-told : goal.returns-then-is_far-clause-told
@@ -20,10 +21,12 @@ pub returns-then-stopped-clause-told : goal.returns-then-stopped-clause-told
 returns-then-stopped-clause-told g c players extra capacity m r =
     let below : c.args.which < length c.args.self.now.pool.flights = search rules in
     told_near _ _ _ m r _ below _ c.record-flight.ensures _ _ c.from.ensures c.index-receiver.ensures
-    _ c.made.ensures _ c.is_far.ensures c.if-is_far.false _ true c.from-else-is_far.ensures (sym c.if-stopped.true ∙ c.stopped.ensures)
+    _ c.made.ensures _ c.is_far.ensures c.if-is_far.false _ true c.from-else-is_far.ensures
+    (sym c.if-stopped.true ∙ c.stopped.ensures)
 
 pub returns-else-stopped-clause-told : goal.returns-else-stopped-clause-told
 returns-else-stopped-clause-told g c players extra capacity m r =
     let below : c.args.which < length c.args.self.now.pool.flights = search rules in
     told_near _ _ _ m r _ below _ c.record-flight.ensures _ _ c.from.ensures c.index-receiver.ensures
-    _ c.made.ensures _ c.is_far.ensures c.if-is_far.false _ false c.from-else-is_far.ensures (sym c.if-stopped.false ∙ c.stopped.ensures)
+    _ c.made.ensures _ c.is_far.ensures c.if-is_far.false _ false c.from-else-is_far.ensures
+    (sym c.if-stopped.false ∙ c.stopped.ensures)

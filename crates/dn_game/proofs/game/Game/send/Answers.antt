@@ -15,21 +15,34 @@ pub returns-in_default-aim-clause-sent : goal.returns-in_default-aim-clause-sent
 returns-in_default-aim-clause-sent g c players extra capacity m r =
     let rules = rules_of g.W.World.physics players extra capacity in
     let shown = node_at _ rules _ m r _ _ c.requires.node c.index_mut-sender.ensures.value in
-    let none = no_flight aim_of _ (c.in_default-aim.ensures.step players extra capacity _ _ shown).answer in
-    inl (Done.Silent, refl, sends_none _ rules _ m r _ _ c.requires.node c.requires.to _ _ (along (none_sent rules _ _ c.args.to none) shown) none c.in-Ok.ensures.kept)
+    let none = no_flight aim_of _ (c.in_default-aim.ensures.told players extra capacity _ _ shown) in
+    inl (
+      Done.Silent,
+      refl,
+      sends_none _ rules _ m r _ _ c.requires.node c.requires.to _ _
+          (along (none_sent rules _ _ c.args.to none) shown) none c.in-Ok.ensures.kept,
+    )
 
 pub returns-else-packet_into-clause-sent : goal.returns-else-packet_into-clause-sent
 returns-else-packet_into-clause-sent g c players extra capacity m r =
     let rules = rules_of g.W.World.physics players extra capacity in
     let shown = node_at _ rules _ m r _ _ c.requires.node c.index_mut-sender.ensures.value in
     let after = c.packet_into.ensures.step players extra capacity _ _ shown in
-    let silent = sym (ap (λ (b : Bool). then_some b c.packet_into.new.bytes.items) c.if-packet_into.false) ∙ after.answer in
-    inl (Done.Silent, refl, sends_none _ rules _ m r _ _ c.requires.node c.requires.to _ _ after.node (no_flight bytes_of _ silent) c.in-Ok.ensures.kept)
+    let silent = sym (ap (λ (b : Bool). then_some b c.packet_into.new.bytes.items) c.if-packet_into.false)
+    ∙ after.answer in
+    inl (
+      Done.Silent,
+      refl,
+      sends_none _ rules _ m r _ _ c.requires.node c.requires.to _ _ after.node
+          (no_flight bytes_of _ silent) c.in-Ok.ensures.kept,
+    )
 
-pub invariant_of-self-then-packet_into-clause-receivers : goal.invariant_of-self-then-packet_into-clause-receivers
+pub invariant_of-self-then-packet_into-clause-receivers :
+    goal.invariant_of-self-then-packet_into-clause-receivers
 invariant_of-self-then-packet_into-clause-receivers g c =
     let n = c.args.self.now in
-    still_below (length n.nodes.items) _ _ _ _ (joins _ _ _ _ c.push.ensures.flights c.in-Ok.ensures.kept) n.receivers c.requires.to
+    still_below (length n.nodes.items) _ _ _ _ (joins _ _ _ _ c.push.ensures.flights c.in-Ok.ensures.kept)
+    n.receivers c.requires.to
     (length-set n.nodes.items c.args.node c.packet_into.new.self)
 
 pub invariant_of-self-then-packet_into-clause-few : goal.invariant_of-self-then-packet_into-clause-few
@@ -42,18 +55,22 @@ returns-then-packet_into-clause-sent g c players extra capacity m r =
     let rules = rules_of g.W.World.physics players extra capacity in
     let shown = node_at _ rules _ m r _ _ c.requires.node c.index_mut-sender.ensures.value in
     let step = c.packet_into.ensures.step players extra capacity _ _ shown in
-    let sent = sym (ap (λ (b : Bool). then_some b c.packet_into.new.bytes.items) c.if-packet_into.true) ∙ step.answer in
+    let sent = sym (ap (λ (b : Bool). then_some b c.packet_into.new.bytes.items) c.if-packet_into.true)
+    ∙ step.answer in
     inl (
       Done.Sent c.len-which.result,
       refl,
       sends_packet _ rules _ m r _ _ c.requires.node c.requires.to _ _ _ _ _ _ shown c.in-Some.ensures.reach.1
-          (c.in-Some.ensures.step players extra capacity _ _ shown).answer (record { node = step.node; answer = sent }) (c.packet_into.ensures.fair players extra capacity _ _ shown).answer
+          (c.in-Some.ensures.told players extra capacity _ _ shown)
+          (record { node = step.node; answer = sent })
+          (c.packet_into.ensures.fair players extra capacity _ _ shown)
           (joins _ _ _ _ c.push.ensures.flights c.in-Ok.ensures.kept)
           (c.len-which.ensures ∙ ap length c.in-Ok.ensures.kept),
     )
 
 pub returns-in_default-aim-clause-limits : goal.returns-in_default-aim-clause-limits
-returns-in_default-aim-clause-limits g c = limits_step _ _ _ _ _ refl c.requires.node c.index_mut-sender.ensures.value refl
+returns-in_default-aim-clause-limits g c =
+    limits_step _ _ _ _ _ refl c.requires.node c.index_mut-sender.ensures.value refl
 
 pub returns-else-packet_into-clause-limits : goal.returns-else-packet_into-clause-limits
 returns-else-packet_into-clause-limits g c =

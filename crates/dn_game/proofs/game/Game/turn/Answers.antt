@@ -1,4 +1,4 @@
-use Rattle.std.proofs.Common.{rules, ◌≡◌, Err, refl, true≢false, sym, arith}
+use Rattle.std.proofs.Common.{◌∙◌, rules, ◌≡◌, Err, refl, true≢false, sym, arith}
 use Rattle.dn_machine.specs.declared.events.Event.TheVariants.{Build}
 use Rattle.dn_machine.specs.Progress.{exchange}
 use Rattle.dn_machine.specs.Worlds.{rules_of}
@@ -8,31 +8,55 @@ use Rattle.dn_game.proofs.Arriving.{after_applied, has_turn, begins, goes_on, en
 use Rattle.dn_game.proofs.game.Game.turn.Goals as goal
 
 pub loop-to-init : goal.loop-to-init
-loop-to-init g c players extra capacity m r =
-    let rules = rules_of g.W.World.physics players extra capacity in
-    begins _ rules (exchange rules c.args.node) (led_exchange rules c.args.node) _ _
-    (after_applied _ rules _ _ m _ _ (λ e. absurd (true≢false (sym e))) (c.apply.ensures.applied players extra capacity m r))
+loop-to-init g c = (
+  λ players extra capacity m r.
+      let rules = rules_of g.W.World.physics players extra capacity in
+      begins _ rules (exchange rules c.args.node) (led_exchange rules c.args.node) _ _
+      (after_applied _ rules _ _ m _ _ (λ e. absurd (true≢false (sym e)))
+      (c.apply.ensures.applied players extra capacity m r)),
+  c.apply.ensures.limits,
+)
 
 pub loop-to-preserved : goal.loop-to-preserved
-loop-to-preserved g c players extra capacity m r =
-    let rules = rules_of g.W.World.physics players extra capacity in
-    goes_on _ rules (exchange rules c.args.node) (led_exchange rules c.args.node) _ (contents c.exchange.new.self) c.loop-to.to c.exchange.result
-    (c.exchange.ensures players extra capacity _ (c.loop-to.invariant players extra capacity m r)) _ c.in_ok-exchange.was
+loop-to-preserved g c = (
+  λ players extra capacity m r.
+      let rules = rules_of g.W.World.physics players extra capacity in
+      goes_on _ rules (exchange rules c.args.node) (led_exchange rules c.args.node) _
+      (contents c.exchange.new.self) c.loop-to.to c.exchange.result
+      (c.exchange.ensures.good players extra capacity _ (c.loop-to.invariant.0 players extra capacity m r)) _
+      c.in_ok-exchange.was,
+  c.exchange.ensures.limits ∙ c.loop-to.invariant.1,
+)
 
-pub returns-in_err-exchange : goal.returns-in_err-exchange
-returns-in_err-exchange g c players extra capacity m r =
+pub returns-in_err-exchange-clause-good : goal.returns-in_err-exchange-clause-good
+returns-in_err-exchange-clause-good g c players extra capacity m r =
     let same : c.from_residual.result ≡ Err c.in_err-exchange.field-0.0 = search rules in
     let rules = rules_of g.W.World.physics players extra capacity in
-    ends _ rules (exchange rules c.args.node) (led_exchange rules c.args.node) _ (contents c.exchange.new.self) c.loop-to.to c.exchange.result
-    (c.exchange.ensures players extra capacity _ (c.loop-to.invariant players extra capacity m r)) m _ _ _ c.in_err-exchange.was same
+    ends _ rules (exchange rules c.args.node) (led_exchange rules c.args.node) _
+    (contents c.exchange.new.self) c.loop-to.to c.exchange.result
+    (c.exchange.ensures.good players extra capacity _ (c.loop-to.invariant.0 players extra capacity m r)) m _
+    _ _ c.in_err-exchange.was same
     (led_event rules (Build c.args.node c.args.keys) m refl)
 
-pub returns : goal.returns
-returns g c players extra capacity m r =
+pub returns-clause-good : goal.returns-clause-good
+returns-clause-good g c players extra capacity m r =
     let rules = rules_of g.W.World.physics players extra capacity in
-    let built = after_applied _ rules _ _ m _ _ (λ e. absurd (true≢false (sym e))) (c.apply.ensures.applied players extra capacity m r) in
+    let built = after_applied _ rules _ _ m _ _ (λ e. absurd (true≢false (sym e)))
+    (c.apply.ensures.applied players extra capacity m r) in
     has_turn _ rules _ _ (λ me. c.args.keys) m c.args.node _
     (c.apply-2.ensures.applied players extra capacity _
     (all_steps _ rules (exchange rules c.args.node) (led_exchange rules c.args.node) _ _ c.loop-to.to players
-    (omega (arith, c.loop-to-test.false, c.loop-to.auto.to-end, c.players-to-end.ensures.value, built.players))
-    (c.loop-to.invariant players extra capacity m r)))
+    (omega (
+      arith,
+      c.loop-to-test.false,
+      c.loop-to.auto.to-end,
+      c.players-to-end.ensures.value,
+      built.players,
+    ))
+    (c.loop-to.invariant.0 players extra capacity m r)))
+
+pub returns-in_err-exchange-clause-limits : goal.returns-in_err-exchange-clause-limits
+returns-in_err-exchange-clause-limits g c = c.exchange.ensures.limits ∙ c.loop-to.invariant.1
+
+pub returns-clause-limits : goal.returns-clause-limits
+returns-clause-limits g c = c.apply-2.ensures.limits ∙ c.loop-to.invariant.1

@@ -8,4 +8,5 @@ returns c =
     let below : c.args.which < length c.args.self.now.flights = search rules in
     let at = there_is _ _ below in
     let read : c.try_extend_from_slice.new.self.items ≡ c.datagram.result.now = search rules in
-    ap Some (is_told at.0 _ _ (c.record-record.ensures at.0 at.1) (read ∙ c.datagram.ensures.bytes at.0 at.1)) ∙ sym at.1
+    ap Some (is_told at.0 _ _ (c.record-record.ensures at.0 at.1) (read ∙ c.datagram.ensures.bytes at.0 at.1))
+    ∙ sym at.1

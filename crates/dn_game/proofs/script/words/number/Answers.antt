@@ -6,14 +6,21 @@ pub overflow_mul-number : goal.overflow_mul-number
 overflow_mul-number c = omega (arith, few_digits _ _ _ c.loop-byte.invariant c.loop-byte-test.true)
 
 pub overflow_add-number : goal.overflow_add-number
-overflow_add-number c = omega (arith, few_digits _ _ _ c.loop-byte.invariant c.loop-byte-test.true, c.from.ensures, c.type_inv.word c.loop-byte.byte-index)
+overflow_add-number c = omega (
+  arith,
+  few_digits _ _ _ c.loop-byte.invariant c.loop-byte-test.true,
+  c.from.ensures,
+  c.type_inv.word c.loop-byte.byte-index,
+)
 
 pub returns-then-not-is_ascii_digit : goal.returns-then-not-is_ascii_digit
-returns-then-not-is_ascii_digit c = not_number _ c.loop-byte.byte-index c.loop-byte-test.true c.if-not-is_ascii_digit.ensures.cases
+returns-then-not-is_ascii_digit c = not_number _ c.loop-byte.byte-index c.loop-byte-test.true
+    c.if-not-is_ascii_digit.ensures.cases
 
 pub loop-byte-preserved : goal.loop-byte-preserved
 loop-byte-preserved c =
-    rw c.from.ensures (more_digits _ _ _ c.loop-byte.invariant c.loop-byte-test.true c.if-not-is_ascii_digit.ensures.cases)
+    rw c.from.ensures (more_digits _ _ _ c.loop-byte.invariant c.loop-byte-test.true
+    c.if-not-is_ascii_digit.ensures.cases)
 
 pub returns : goal.returns
 returns c =

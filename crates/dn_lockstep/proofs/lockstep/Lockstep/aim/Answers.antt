@@ -6,43 +6,47 @@ use Rattle.dn_lockstep.proofs.Aiming.{aimed, aim_of_set_up}
 use Rattle.dn_lockstep.proofs.lockstep.Lockstep.aim.Goals as goal
 use Rattle.dn_lockstep.proofs.lockstep.Lockstep.aim.Goals.{then-to-self-via-then-to-self, then-to-self-via-else-to-self+then-to-self-2}
 
-pub returns-then-to-self-clause-step : goal.returns-then-to-self-clause-step
-returns-then-to-self-clause-step c marking players extra capacity me m r =
+pub returns-then-to-self-clause-told : goal.returns-then-to-self-clause-told
+returns-then-to-self-clause-told c marking players extra capacity me m r =
     let rules = rules_of (free marking) players extra capacity in
     let to = c.args.to in
-    record {
-      node = r;
-      answer = elim c.then-to-self.branch [
-        | then-to-self-via-then-to-self w ↦
-            aimed rules me m to _ _ (to_itself rules me m to (omega (arith, r.number, w.if-to-self.true))) refl
-        | then-to-self-via-else-to-self+then-to-self-2 w ↦
-            aimed rules me m to _ _ (to_nobody rules me m to (omega (arith, r.players, w.if-to-self-2.true))) refl
-      ];
-    }
+    elim c.then-to-self.branch [
+      | then-to-self-via-then-to-self w ↦
+          aimed rules me m to _ _ (to_itself rules me m to (omega (arith, r.whose.number, w.if-to-self.true)))
+          refl
+      | then-to-self-via-else-to-self+then-to-self-2 w ↦
+          aimed rules me m to _ _
+          (to_nobody rules me m to (omega (arith, r.whose.players, w.if-to-self-2.true))) refl
+    ]
 
-pub returns-in-Listening-clause-step : goal.returns-in-Listening-clause-step
-returns-in-Listening-clause-step c marking players extra capacity me m r =
+pub returns-in-Listening-clause-told : goal.returns-in-Listening-clause-told
+returns-in-Listening-clause-told c marking players extra capacity me m r =
     let rules = rules_of (free marking) players extra capacity in
-    let sends = sends_in rules me _ m c.args.to _ r (omega (arith, c.if-to-self-2.false)) c.if-to-self.false c.in-Listening.is in
-    record { node = r; answer = aimed rules me m c.args.to _ _ sends refl }
+    let sends = sends_in rules me _ m c.args.to _ r (omega (arith, c.if-to-self-2.false)) c.if-to-self.false
+    c.in-Listening.is in
+    aimed rules me m c.args.to _ _ sends refl
 
-pub returns-in-Gathering-clause-step : goal.returns-in-Gathering-clause-step
-returns-in-Gathering-clause-step c marking players extra capacity me m r =
+pub returns-in-Gathering-clause-told : goal.returns-in-Gathering-clause-told
+returns-in-Gathering-clause-told c marking players extra capacity me m r =
     let rules = rules_of (free marking) players extra capacity in
-    let sends = sends_in rules me _ m c.args.to _ r (omega (arith, c.if-to-self-2.false)) c.if-to-self.false c.in-Gathering.is in
-    let known = aim_of_set_up me c.args.to m.settings (λ e. c.args.self.now.keyed c.in-Gathering.is (r.settings ∙ e)) in
-    record { node = r; answer = aimed rules me m c.args.to _ _ sends known }
+    let sends = sends_in rules me _ m c.args.to _ r (omega (arith, c.if-to-self-2.false)) c.if-to-self.false
+    c.in-Gathering.is in
+    let known = aim_of_set_up me c.args.to m.settings
+    (λ e. c.args.self.now.keyed c.in-Gathering.is (r.stands.settings ∙ e)) in
+    aimed rules me m c.args.to _ _ sends known
 
-pub returns-in-Playing-clause-step : goal.returns-in-Playing-clause-step
-returns-in-Playing-clause-step c marking players extra capacity me m r =
+pub returns-in-Playing-clause-told : goal.returns-in-Playing-clause-told
+returns-in-Playing-clause-told c marking players extra capacity me m r =
     let rules = rules_of (free marking) players extra capacity in
-    let sends = sends_in rules me _ m c.args.to _ r (omega (arith, c.if-to-self-2.false)) c.if-to-self.false c.in-Playing.is in
-    let given = (c.aim_of_commands.ensures.step marking players extra capacity me m r).answer in
-    record { node = r; answer = aimed rules me m c.args.to _ _ sends (ap Some given) }
+    let sends = sends_in rules me _ m c.args.to _ r (omega (arith, c.if-to-self-2.false)) c.if-to-self.false
+    c.in-Playing.is in
+    let given = c.aim_of_commands.ensures.told marking players extra capacity me m r in
+    aimed rules me m c.args.to _ _ sends (ap Some given)
 
-pub returns-in-Ended-clause-step : goal.returns-in-Ended-clause-step
-returns-in-Ended-clause-step c marking players extra capacity me m r =
+pub returns-in-Ended-clause-told : goal.returns-in-Ended-clause-told
+returns-in-Ended-clause-told c marking players extra capacity me m r =
     let rules = rules_of (free marking) players extra capacity in
-    let sends = sends_in rules me _ m c.args.to _ r (omega (arith, c.if-to-self-2.false)) c.if-to-self.false c.in-Ended.is in
-    let given = (c.aim_of_exit.ensures.step c.in-Ended.field-0 marking players extra capacity me m r).answer in
-    record { node = r; answer = aimed rules me m c.args.to _ _ sends given }
+    let sends = sends_in rules me _ m c.args.to _ r (omega (arith, c.if-to-self-2.false)) c.if-to-self.false
+    c.in-Ended.is in
+    let given = c.aim_of_exit.ensures.told c.in-Ended.field-0 marking players extra capacity me m r in
+    aimed rules me m c.args.to _ _ sends given

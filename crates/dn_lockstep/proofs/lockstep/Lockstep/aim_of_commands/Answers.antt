@@ -5,9 +5,10 @@ use Rattle.dn_lockstep.proofs.Aiming.{aim_is}
 use Rattle.dn_lockstep.proofs.Counting.{made_is}
 use Rattle.dn_lockstep.proofs.lockstep.Lockstep.aim_of_commands.Goals as goal
 
-pub returns-clause-step : goal.returns-clause-step
-returns-clause-step c marking players extra capacity me m r =
+pub returns-clause-told : goal.returns-clause-told
+returns-clause-told c marking players extra capacity me m r =
     let made = c.made.ensures ∙ made_is _ me _ m r c.args.self.now.me_below in
-    let start = (c.first_sent-start.ensures.step marking players extra capacity me m r).answer in
-    let ask = (c.request_to-ask.ensures marking players extra capacity me m r).answer in
-    record { node = r; answer = aim_is (rules_of (free marking) players extra capacity) me m c.args.to _ _ _ _ _ c.request_flag.ensures ask start made refl }
+    let start = c.first_sent-start.ensures.told marking players extra capacity me m r in
+    let ask = c.request_to-ask.ensures marking players extra capacity me m r in
+    aim_is (rules_of (free marking) players extra capacity) me m c.args.to _ _ _ _ _ c.request_flag.ensures
+    ask start made refl

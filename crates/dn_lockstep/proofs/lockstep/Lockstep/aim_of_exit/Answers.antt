@@ -5,13 +5,15 @@ use Rattle.dn_lockstep.proofs.Aiming.{exit_is, exit_given, none_given}
 use Rattle.dn_lockstep.proofs.Counting.{made_is}
 use Rattle.dn_lockstep.proofs.lockstep.Lockstep.aim_of_exit.Goals as goal
 
-pub returns-then-not-self-clause-step : goal.returns-then-not-self-clause-step
-returns-then-not-self-clause-step c cause marking players extra capacity me m r =
-    record { node = r; answer = none_given (rules_of (free marking) players extra capacity) me m c.args.to cause (sym r.played ∙ c.if-not-self.true) }
+pub returns-then-not-self-clause-told : goal.returns-then-not-self-clause-told
+returns-then-not-self-clause-told c cause marking players extra capacity me m r =
+    none_given (rules_of (free marking) players extra capacity) me m c.args.to cause
+    (sym r.stands.played ∙ c.if-not-self.true)
 
-pub returns-clause-step : goal.returns-clause-step
-returns-clause-step c cause marking players extra capacity me m r =
+pub returns-clause-told : goal.returns-clause-told
+returns-clause-told c cause marking players extra capacity me m r =
     let rules = rules_of (free marking) players extra capacity in
     let made = c.made.ensures ∙ made_is _ me _ m r c.args.self.now.me_below in
-    let start = (c.first_sent-start.ensures.step marking players extra capacity me m r).answer in
-    record { node = r; answer = exit_given rules me m c.args.to cause _ (sym r.played ∙ c.if-not-self.false) (exit_is rules me m c.args.to _ _ _ start made refl) }
+    let start = c.first_sent-start.ensures.told marking players extra capacity me m r in
+    exit_given rules me m c.args.to cause _ (sym r.stands.played ∙ c.if-not-self.false)
+    (exit_is rules me m c.args.to _ _ _ start made refl)

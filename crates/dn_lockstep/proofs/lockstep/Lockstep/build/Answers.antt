@@ -1,7 +1,8 @@
 use Rattle.std.proofs.Common.{refl, sym, ◌∙◌, ap, arith, rules, inl, inr, Option, None, ℕ, ◌≡◌}
+use Rattle.dn_machine.specs.Node as machine
 use Rattle.dn_machine.specs.Running.{is_over}
 use Rattle.dn_lockstep.specs.Peers.{peer_at}
-use Rattle.dn_lockstep.specs.declared.peers.Peer.{Peer}
+use Rattle.dn_machine.specs.declared.peer.Peer.{Peer}
 use Rattle.std.specs.Int.{w16}
 use Rattle.std.proofs.lemmas.Int.{ints, to_z-of_z}
 use Rattle.dn_ring.specs.Ring.{Ring}
@@ -13,12 +14,14 @@ use Rattle.dn_lockstep.proofs.Building.{build_not, build_full, build_makes, show
 use Rattle.dn_lockstep.proofs.lockstep.Lockstep.build.Goals as goal
 
 pub returns-in_default-clause-step : goal.returns-in_default-clause-step
-returns-in_default-clause-step c marking players extra capacity me m r = after _ _ (build_not _ me m _ (λ e. c.in_default.not-Playing (r.phase ∙ e))) r refl
+returns-in_default-clause-step c marking players extra capacity me m r =
+    after _ _ (build_not _ me m _ (λ e. c.in_default.not-Playing (r.stands.phase ∙ e))) r refl
 
 pub returns-then-tic-self-ge-AHEAD-clause-step : goal.returns-then-tic-self-ge-AHEAD-clause-step
 returns-then-tic-self-ge-AHEAD-clause-step c marking players extra capacity me m r =
     let made = c.made-tic.ensures ∙ made_is _ me _ m r c.args.self.now.me_below in
-    after _ _ (build_full _ me m _ (sym r.phase ∙ c.in-Playing.is) (omega (arith, made, r.ran, c.if-tic-self-ge-AHEAD.true))) r refl
+    after _ _ (build_full _ me m _ (sym r.stands.phase ∙ c.in-Playing.is)
+    (omega (arith, made, r.table.ran, c.if-tic-self-ge-AHEAD.true))) r refl
 
 pub put-requires-clause-no_stop : goal.put-requires-clause-no_stop
 put-requires-clause-no_stop c = λ e. omega (arith, ints, c.build-command.ensures.least, e)
@@ -30,8 +33,11 @@ pub invariant_of-self-clause-ahead : goal.invariant_of-self-clause-ahead
 invariant_of-self-clause-ahead c p below present =
     let n = c.args.self.now in
     let before = n.ahead p below present in
-    elim (changed (ring_at n.rings) (ring_at c.put.new.self) n.me _ (ap (λ (k : Ring). k.count) c.put.ensures.put) c.put.ensures.others p) [
-      | inl (same, now) ↦ let own = n.ahead n.me n.me_below (ap (λ (o : Option ℕ). is_over o n.ran) n.endless) in omega (arith, now, own)
+    elim (changed (ring_at n.rings) (ring_at c.put.new.self) n.me _
+    (ap (λ (k : Ring). k.count) c.put.ensures.put) c.put.ensures.others p) [
+      | inl (same, now) ↦ let own =
+          n.ahead n.me n.me_below (ap (λ (o : Option ℕ). is_over o n.ran) n.endless) in
+          omega (arith, now, own)
       | inr now ↦ omega (arith, now, before)
     ]
 
@@ -39,7 +45,8 @@ pub invariant_of-self-clause-window : goal.invariant_of-self-clause-window
 invariant_of-self-clause-window c p below =
     let n = c.args.self.now in
     let before = n.window p below in
-    elim (changed (ring_at n.rings) (ring_at c.put.new.self) n.me _ (ap (λ (k : Ring). k.count) c.put.ensures.put) c.put.ensures.others p) [
+    elim (changed (ring_at n.rings) (ring_at c.put.new.self) n.me _
+    (ap (λ (k : Ring). k.count) c.put.ensures.put) c.put.ensures.others p) [
       | inl (same, now) ↦ omega (arith, now, n.near)
       | inr now ↦ omega (arith, now, before)
     ]
@@ -55,11 +62,17 @@ pub returns-clause-step : goal.returns-clause-step
 returns-clause-step c marking players extra capacity me m r =
     let n = c.args.self.now in
     let made = c.made-tic.ensures ∙ made_is _ me _ m r n.me_below in
-    let endless : m.ends me ≡ None = sym (ap (λ (x : Peer). x.end) (r.peers me (mine _ me _ m r n.me_below))) ∙ ap (λ (p : ℕ). (peer_at n.peers p).end) (sym r.number) ∙ n.endless in
+    let endless : machine.ends_of m me ≡ None =
+    sym (ap (λ (x : Peer). x.end) (r.peers.known me (mine _ me _ m r n.me_below)))
+    ∙ ap (λ (p : ℕ). (peer_at n.peers p).end) (sym r.whose.number) ∙ n.endless in
     let ahead = n.ahead n.me n.me_below (ap (λ (o : Option ℕ). is_over o n.ran) n.endless) in
     let marked = to_z-of_z w16 c.get-mark.result (search rules) in
-    let ring = own_ring _ me _ m c.args.keys c.made-tic.result _ _ _ r n.me_below made (omega (arith, c.made-tic.ensures, r.ran, ahead))
-    (omega (arith, c.made-tic.ensures, r.ran, n.near)) endless (marked ∙ c.get-mark.ensures) (c.build-command.ensures.command m.keys r.hold) c.put.ensures.put in
-    after _ _ (build_makes _ me m _ (sym r.phase ∙ c.in-Playing.is) (omega (arith, made, r.ran, c.if-tic-self-ge-AHEAD.false)))
-    (shows_built _ me _ m _ _ _ r (c.build-command.ensures.hold m.keys r.hold) (ap (ring_at c.put.new.self) (sym r.number) ∙ ring)
-    (λ p apart. c.put.ensures.others p (λ e. apart (e ∙ r.number)))) (ap Made.Made made)
+    let ring = own_ring _ me _ m c.args.keys c.made-tic.result _ _ _ r n.me_below made
+    (omega (arith, c.made-tic.ensures, r.table.ran, ahead))
+    (omega (arith, c.made-tic.ensures, r.table.ran, n.near)) endless (marked ∙ c.get-mark.ensures)
+    (c.build-command.ensures.command m.keys r.commands.hold) c.put.ensures.put in
+    after _ _ (build_makes _ me m _ (sym r.stands.phase ∙ c.in-Playing.is)
+    (omega (arith, made, r.table.ran, c.if-tic-self-ge-AHEAD.false)))
+    (shows_built _ me _ m _ _ _ r (c.build-command.ensures.hold m.keys r.commands.hold)
+    (ap (ring_at c.put.new.self) (sym r.whose.number) ∙ ring)
+    (λ p apart. c.put.ensures.others p (λ e. apart (e ∙ r.whose.number)))) (ap Made.Made made)

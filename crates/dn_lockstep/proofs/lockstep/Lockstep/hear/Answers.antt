@@ -7,25 +7,31 @@ use Rattle.dn_lockstep.proofs.lockstep.Lockstep.hear.Goals as goal
 
 pub returns-then-has_flag-clause-step : goal.returns-then-has_flag-clause-step
 returns-then-has_flag-clause-step c told is marking players extra capacity me m r =
-    let step = read_set_up (rules_of (free marking) players extra capacity) me m c.args.from told c.args.packet.now (sym c.has_flag.ensures ∙ c.if-has_flag.true) in
+    let step = read_set_up (rules_of (free marking) players extra capacity) me m c.args.from told
+    c.args.packet.now (sym c.has_flag.ensures ∙ c.if-has_flag.true) in
     let heard = c.hear_set_up.ensures.step told is marking players extra capacity me m r in
     after _ _ step heard.node heard.answer
 
 pub returns-then-packet-from-clause-step : goal.returns-then-packet-from-clause-step
 returns-then-packet-from-clause-step c told is marking players extra capacity me m r =
-    let step = read_strange (rules_of (free marking) players extra capacity) me m c.args.from told c.args.packet.now (sym c.has_flag.ensures ∙ c.if-has_flag.false)
-    (λ e. c.in_default.not-Listening (r.phase ∙ e)) c.if-packet-from.true in
+    let step = read_strange (rules_of (free marking) players extra capacity) me m c.args.from told
+    c.args.packet.now (sym c.has_flag.ensures ∙ c.if-has_flag.false)
+    (λ e. c.in_default.not-Listening (r.stands.phase ∙ e)) c.if-packet-from.true in
     after m _ step r refl
 
 pub returns-then-has_flag-2-clause-step : goal.returns-then-has_flag-2-clause-step
 returns-then-has_flag-2-clause-step c told is marking players extra capacity me m r =
-    let step = read_killed (rules_of (free marking) players extra capacity) me m c.args.from told c.args.packet.now (sym c.has_flag.ensures ∙ c.if-has_flag.false)
-    (λ e. c.in_default.not-Listening (r.phase ∙ e)) c.if-packet-from.false (sym c.has_flag-2.ensures ∙ c.if-has_flag-2.true) in
+    let step = read_killed (rules_of (free marking) players extra capacity) me m c.args.from told
+    c.args.packet.now (sym c.has_flag.ensures ∙ c.if-has_flag.false)
+    (λ e. c.in_default.not-Listening (r.stands.phase ∙ e)) c.if-packet-from.false
+    (sym c.has_flag-2.ensures ∙ c.if-has_flag-2.true) in
     after m _ step r refl
 
 pub returns-clause-step : goal.returns-clause-step
 returns-clause-step c told is marking players extra capacity me m r =
-    let step = read_player (rules_of (free marking) players extra capacity) me m c.args.from told c.args.packet.now (sym c.has_flag.ensures ∙ c.if-has_flag.false)
-    (λ e. c.in_default.not-Listening (r.phase ∙ e)) c.if-packet-from.false (sym c.has_flag-2.ensures ∙ c.if-has_flag-2.false) in
+    let step = read_player (rules_of (free marking) players extra capacity) me m c.args.from told
+    c.args.packet.now (sym c.has_flag.ensures ∙ c.if-has_flag.false)
+    (λ e. c.in_default.not-Listening (r.stands.phase ∙ e)) c.if-packet-from.false
+    (sym c.has_flag-2.ensures ∙ c.if-has_flag-2.false) in
     let heard = c.hear_player.ensures.step marking players extra capacity me m r in
     after _ _ step heard.node heard.answer

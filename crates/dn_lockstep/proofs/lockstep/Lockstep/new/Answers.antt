@@ -11,21 +11,34 @@ returns-clause-opened c marking settings key =
     let config = c.args.config in
     let rule = rules_of (free marking) config.players config.extra (capacity config.limit config.players) in
     record {
-      players = refl;
-      number = refl;
-      extra = refl;
-      capacity = c.capacity.ensures.value;
-      gathers = c.new-3.ensures.players;
-      phase = c.first_phase.ensures;
-      played = refl;
-      settings = settings_fresh config.me config.settings settings (search rules) key;
-      hold = c.new-4.ensures;
-      ran = refl;
-      rings = λ p below. c.new-5.ensures p;
-      peers = λ p below. c.new-6.ensures p;
-      noted = λ p peer. c.new-3.ensures.nobody p;
-      marks = λ p tic below low high present. c.new-7.ensures p _ ∙ first_marks rule (fresh settings config.me) p tic high;
-      demo = ap (λ (d : Recorded). d.bytes) c.in-Ok.ensures.1;
-      closed = λ e. absurd (cc);
-      writable = nothing_written config.players (omega arith) (omega arith);
+      whose = record {
+        players = refl;
+        number = refl;
+        extra = refl;
+        capacity = c.capacity.ensures.value;
+        gathers = c.new-2.ensures.players;
+      };
+      stands = record {
+        phase = c.first_phase.ensures;
+        played = refl;
+        settings = settings_fresh config.me config.settings settings (search rules) key;
+      };
+      commands = record {
+        hold = c.new-3.ensures;
+        rings = λ p below. c.new-4.ensures p;
+      };
+      peers = record {
+        known = λ p below. c.new-5.ensures p;
+        noted = λ p peer. c.new-2.ensures.nobody p;
+      };
+      table = record {
+        ran = refl;
+        marks = λ p tic below low high present. c.new-6.ensures p _
+            ∙ first_marks rule (fresh settings config.me) p tic high;
+      };
+      demo = record {
+        bytes = ap (λ (d : Recorded). d.bytes) c.in-Ok.ensures.1;
+        closed = λ e. absurd (cc);
+        writable = nothing_written config.players (omega arith) (omega arith);
+      };
     }

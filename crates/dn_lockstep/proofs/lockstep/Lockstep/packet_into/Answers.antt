@@ -13,34 +13,24 @@ use Rattle.dn_lockstep.proofs.lockstep.Lockstep.packet_into.Goals as goal
 pub returns-else-outgoing-clause-step : goal.returns-else-outgoing-clause-step
 returns-else-outgoing-clause-step c marking players extra capacity me m r =
     let game = rules_of (free marking) players extra capacity in
-    let none = no_flight packet_of _ (sym (ap (λ (b : Bool). then_some b c.outgoing.new.packet) c.if-outgoing.false)
-    ∙ (c.outgoing.ensures.step marking players extra capacity me m r).answer) in
-    record { node = along (none_sent game me m c.args.to none) r; answer = sym (ap (option_map bytes_of) none) }
-
-pub returns-else-outgoing-clause-fair : goal.returns-else-outgoing-clause-fair
-returns-else-outgoing-clause-fair c marking players extra capacity me m r =
-    let game = rules_of (free marking) players extra capacity in
-    let none = no_flight packet_of _ (sym (ap (λ (b : Bool). then_some b c.outgoing.new.packet) c.if-outgoing.false)
-    ∙ (c.outgoing.ensures.step marking players extra capacity me m r).answer) in
-    record { node = along (none_sent game me m c.args.to none) r; answer = (c.outgoing.ensures.fair marking players extra capacity me m r).answer }
+    let none =
+    no_flight packet_of _ (sym (ap (λ (b : Bool). then_some b c.outgoing.new.packet) c.if-outgoing.false)
+    ∙ c.outgoing.ensures.told marking players extra capacity me m r) in
+    record {
+      node = along (none_sent game me m c.args.to none) r;
+      answer =
+          sym (ap (option_map bytes_of) none);
+    }
 
 pub returns-then-outgoing-clause-step : goal.returns-then-outgoing-clause-step
 returns-then-outgoing-clause-step c marking players extra capacity me m r =
     let game = rules_of (free marking) players extra capacity in
     let sent : Some c.outgoing.new.packet ≡ option_map packet_of (sent_to c.args.to game me m).1 =
-    sym (ap (λ (b : Bool). then_some b c.outgoing.new.packet) c.if-outgoing.true) ∙ (c.outgoing.ensures.step marking players extra capacity me m r).answer in
+    sym (ap (λ (b : Bool). then_some b c.outgoing.new.packet) c.if-outgoing.true)
+    ∙ c.outgoing.ensures.told marking players extra capacity me m r in
     let some = some_flight packet_of _ _ sent in
     record {
-      node = given_shows game me _ _ m c.args.to _ r (c.outgoing.ensures.given c.if-outgoing.true) sent (c.note_sent.ensures.step marking players extra capacity me m r);
+      node = given_shows game me _ _ m c.args.to _ r (c.outgoing.ensures.given c.if-outgoing.true) sent
+          (c.note_sent.ensures.step marking players extra capacity me m r);
       answer = ap Some (c.encode_into.ensures ∙ ap text some.2) ∙ sym (ap (option_map bytes_of) some.1);
-    }
-
-pub returns-then-outgoing-clause-fair : goal.returns-then-outgoing-clause-fair
-returns-then-outgoing-clause-fair c marking players extra capacity me m r =
-    let game = rules_of (free marking) players extra capacity in
-    let sent : Some c.outgoing.new.packet ≡ option_map packet_of (sent_to c.args.to game me m).1 =
-    sym (ap (λ (b : Bool). then_some b c.outgoing.new.packet) c.if-outgoing.true) ∙ (c.outgoing.ensures.step marking players extra capacity me m r).answer in
-    record {
-      node = given_shows game me _ _ m c.args.to _ r (c.outgoing.ensures.given c.if-outgoing.true) sent (c.note_sent.ensures.step marking players extra capacity me m r);
-      answer = (c.outgoing.ensures.fair marking players extra capacity me m r).answer;
     }

@@ -8,11 +8,13 @@ use Rattle.dn_lockstep.proofs.Quitting.{quit_ended, quit_playing, quit_waiting, 
 use Rattle.dn_lockstep.proofs.lockstep.Lockstep.quit.Goals as goal
 
 pub returns-in-Ended-clause-step : goal.returns-in-Ended-clause-step
-returns-in-Ended-clause-step c marking players extra capacity me m r = after _ _ (quit_ended m _ (sym r.phase ∙ c.in-Ended.is)) r refl
+returns-in-Ended-clause-step c marking players extra capacity me m r =
+    after _ _ (quit_ended m _ (sym r.stands.phase ∙ c.in-Ended.is)) r refl
 
 pub returns-in-Playing-clause-step : goal.returns-in-Playing-clause-step
 returns-in-Playing-clause-step c marking players extra capacity me m r =
-    after _ _ (quit_playing m (sym r.phase ∙ c.in-Playing.is)) (c.finish.ensures.step marking players extra capacity me m r) refl
+    after _ _ (quit_playing m (sym r.stands.phase ∙ c.in-Playing.is))
+    (c.finish.ensures.step marking players extra capacity me m r) refl
 
 either : (p q : Phase) → p ≡ q → (p ≡ Listening) ⊎ (p ≡ Gathering) → (q ≡ Listening) ⊎ (q ≡ Gathering)
 either p q e (inl is) = inl (sym e ∙ is)
@@ -25,5 +27,5 @@ waits p (inr e) = ap is_waiting e
 pub returns-in-Listening-clause-step : goal.returns-in-Listening-clause-step
 returns-in-Listening-clause-step c marking players extra capacity me m r =
     let n = c.args.self.now in
-    after _ _ (quit_waiting m (either n.phase m.phase r.phase c.in-Listening.is))
+    after _ _ (quit_waiting m (either n.phase m.phase r.stands.phase c.in-Listening.is))
     (shows_unplayed _ me (contents n) m _ r (n.waits (waits n.phase c.in-Listening.is))) refl

@@ -1,6 +1,4 @@
 use Rattle.std.proofs.Common.{refl, inl, inr, sym, ◌∙◌}
-use Rattle.dn_machine.specs.declared.answers.Heard.{Heard}
-use Rattle.dn_packet.specs.declared.packet.PacketFault.TheVariants.{Short, Many, Length, Sum}
 use Rattle.dn_lockstep.specs.Contents.{contents}
 use Rattle.dn_lockstep.proofs.Nearby.{near_from_any}
 use Rattle.dn_lockstep.proofs.Receiving.{any_ended, any_strange, any_read, any_fault}
@@ -9,16 +7,19 @@ use Rattle.dn_lockstep.proofs.lockstep.Lockstep.receive.Goals.{then-from-self-vi
 
 pub returns-then-hears_none-clause-any : goal.returns-then-hears_none-clause-any
 returns-then-hears_none-clause-any c =
-    any_ended (contents c.args.self.now) c.args.from c.args.bytes.now (sym c.hears_none.ensures ∙ c.if-hears_none.true)
+    any_ended (contents c.args.self.now) c.args.from c.args.bytes.now
+    (sym c.hears_none.ensures ∙ c.if-hears_none.true)
 
 pub returns-then-hears_none-clause-near : goal.returns-then-hears_none-clause-near
 returns-then-hears_none-clause-near c =
     near_from_any (contents c.args.self.now) (contents c.args.self.now) c.args.from c.args.bytes.now _
-    (any_ended (contents c.args.self.now) c.args.from c.args.bytes.now (sym c.hears_none.ensures ∙ c.if-hears_none.true)) c.args.self.now.me_below
+    (any_ended (contents c.args.self.now) c.args.from c.args.bytes.now
+    (sym c.hears_none.ensures ∙ c.if-hears_none.true)) c.args.self.now.me_below
 
 pub returns-then-from-self-clause-any : goal.returns-then-from-self-clause-any
 returns-then-from-self-clause-any c =
-    any_strange (contents c.args.self.now) c.args.from c.args.bytes.now (sym c.hears_none.ensures ∙ c.if-hears_none.false)
+    any_strange (contents c.args.self.now) c.args.from c.args.bytes.now
+    (sym c.hears_none.ensures ∙ c.if-hears_none.false)
     (elim c.then-from-self.branch [
       | then-from-self-via-then-from-self w ↦ inl w.if-from-self.true
       | then-from-self-via-else-from-self+then-from-self-2 w ↦ inr w.if-from-self-2.true
@@ -26,43 +27,28 @@ returns-then-from-self-clause-any c =
 
 pub returns-in-Ok : goal.returns-in-Ok
 returns-in-Ok c =
-    let any = any_read (contents c.args.self.now) c.args.from c.args.bytes.now (sym c.hears_none.ensures ∙ c.if-hears_none.false)
-    (contents c.hear.new.self) c.hear.result _ c.if-from-self.false c.if-from-self-2.false c.in-Ok.ensures.only c.hear.ensures.step in
+    let any = any_read (contents c.args.self.now) c.args.from c.args.bytes.now
+    (sym c.hears_none.ensures ∙ c.if-hears_none.false)
+    (contents c.hear.new.self) c.hear.result _ c.if-from-self.false c.if-from-self-2.false
+    c.in-Ok.ensures.only c.hear.ensures.step in
     record {
       any = any;
-      near = near_from_any (contents c.args.self.now) (contents c.hear.new.self) c.args.from c.args.bytes.now c.hear.result any c.args.self.now.me_below;
+      near = near_from_any (contents c.args.self.now) (contents c.hear.new.self) c.args.from c.args.bytes.now
+          c.hear.result any c.args.self.now.me_below;
       dropped = c.hear.ensures.dropped;
       room = c.hear.ensures.room;
     }
 
-pub returns-in-Err-Short-clause-any : goal.returns-in-Err-Short-clause-any
-returns-in-Err-Short-clause-any c =
-    let found = rw c.in-Err-Short.field-0-is at c.in-Err-Short.ensures in
-    any_fault (contents c.args.self.now) c.args.from c.args.bytes.now (sym c.hears_none.ensures ∙ c.if-hears_none.false)
-    Short 1 c.if-from-self.false c.if-from-self-2.false found.only (λ rules me m told. refl)
-
-pub returns-in-Err-Many-clause-any : goal.returns-in-Err-Many-clause-any
-returns-in-Err-Many-clause-any c =
-    let found = rw c.in-Err-Many.field-0-is at c.in-Err-Many.ensures in
-    any_fault (contents c.args.self.now) c.args.from c.args.bytes.now (sym c.hears_none.ensures ∙ c.if-hears_none.false)
-    Many 2 c.if-from-self.false c.if-from-self-2.false found.only (λ rules me m told. refl)
-
-pub returns-in-Err-Length-clause-any : goal.returns-in-Err-Length-clause-any
-returns-in-Err-Length-clause-any c =
-    let found = rw c.in-Err-Length.field-0-is at c.in-Err-Length.ensures in
-    any_fault (contents c.args.self.now) c.args.from c.args.bytes.now (sym c.hears_none.ensures ∙ c.if-hears_none.false)
-    Length 3 c.if-from-self.false c.if-from-self-2.false found.only (λ rules me m told. refl)
-
-pub returns-in-Err-Sum-clause-any : goal.returns-in-Err-Sum-clause-any
-returns-in-Err-Sum-clause-any c =
-    let found = rw c.in-Err-Sum.field-0-is at c.in-Err-Sum.ensures in
-    any_fault (contents c.args.self.now) c.args.from c.args.bytes.now (sym c.hears_none.ensures ∙ c.if-hears_none.false)
-    Sum 4 c.if-from-self.false c.if-from-self-2.false found.only (λ rules me m told. refl)
-
-pub returns-in-Err-Length-clause-near : goal.returns-in-Err-Length-clause-near
-returns-in-Err-Length-clause-near c =
+pub returns-in-Err : goal.returns-in-Err
+returns-in-Err c =
     let n = contents c.args.self.now in
-    let found = rw c.in-Err-Length.field-0-is at c.in-Err-Length.ensures in
-    near_from_any n n c.args.from c.args.bytes.now (Heard.Dropped 3)
-    (any_fault n c.args.from c.args.bytes.now (sym c.hears_none.ensures ∙ c.if-hears_none.false)
-    Length 3 c.if-from-self.false c.if-from-self-2.false found.only (λ rules me m told. refl)) c.args.self.now.me_below
+    let found = rw c.in-Err.is at c.decode_into.ensures in
+    let any = any_fault n c.args.from c.args.bytes.now (sym c.hears_none.ensures ∙ c.if-hears_none.false)
+    c.in-Err.fault c.packet_drop.result c.packet_drop.ensures c.if-from-self.false c.if-from-self-2.false
+    found.only in
+    record {
+      any = any;
+      near = near_from_any n n c.args.from c.args.bytes.now _ any c.args.self.now.me_below;
+      dropped = λ number e. refl;
+      room = refl;
+    }

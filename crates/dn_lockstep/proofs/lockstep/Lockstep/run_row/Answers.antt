@@ -27,28 +27,32 @@ use Rattle.dn_lockstep.proofs.lockstep.Lockstep.run_row.Goals.{After-stamp}
 use Rattle.dn_lockstep.proofs.lockstep.Lockstep.run_row.Goals as goal
 
 -- where the row is whole, nobody is gone, and so the demo is open
-open_where : (stage : Stage) (has : Bool) → stage ≢ Blank → (stage ≡ Closed → has ≡ true) → not has ≡ true → stage ≡ Open
+open_where : (stage : Stage) (has : Bool) → stage ≢ Blank → (stage ≡ Closed → has ≡ true) → not has ≡ true
+    → stage ≡ Open
 open_where Blank has begun gone e = absurd (begun refl)
 open_where Open has begun gone e = refl
 open_where Closed true begun gone e = absurd (true≢false (sym e))
 open_where Closed false begun gone e = absurd (true≢false (sym (gone refl)))
 
-opened : (c : After-stamp) → c.is_whole-whole.result ≡ true → c.args.self.now.demo.stage ≡ Open
+opened : (c : After-stamp) → c.fill_row-whole.result ≡ true → c.args.self.now.demo.stage ≡ Open
 opened c e =
     let n = c.args.self.now in
-    open_where n.demo.stage (has_gone (peer_at n.peers) n.players n.ran) (n.begun c.requires.plays) (n.gone c.requires.plays)
-    (sym c.row_at-row.ensures.whole ∙ sym c.is_whole-whole.ensures ∙ e)
+    open_where n.demo.stage (has_gone (peer_at n.peers) n.players n.ran) (n.begun c.requires.plays)
+    (n.gone c.requires.plays)
+    (sym c.fill_row-whole.ensures.nobody ∙ e)
 
 -- a row of these players is one of the game's
-row_of_game : {players all : ℕ} {row held : List (Option Move)} → players ≡ all → row ≡ held → IsRow (seats_of players) row → IsRow (seats_of all) held
+row_of_game : {players all : ℕ} {row held : List (Option Move)} → players ≡ all → row ≡ held
+    → IsRow (seats_of players) row → IsRow (seats_of all) held
 row_of_game {players} {all} {row} {held} same is fits =
     subst (IsRow (seats_of all)) is (subst (λ (k : ℕ). IsRow (seats_of k) row) same fits)
 
 -- and there is room for it
-below : (c : After-stamp) → c.is_whole-whole.result ≡ true → c.args.self.now.ran < c.args.self.now.capacity
+below : (c : After-stamp) → c.fill_row-whole.result ≡ true → c.args.self.now.ran < c.args.self.now.capacity
 below c e =
     let n = c.args.self.now in
-    let at : c.full_at.result ≡ n.capacity = c.full_at.ensures ∙ ap (λ (b : Bool). if b then n.capacity else tic_limit) e in
+    let at : c.full_at.result ≡ n.capacity = c.full_at.ensures
+    ∙ ap (λ (b : Bool). if b then n.capacity else tic_limit) e in
     let room = n.fits c.requires.plays (opened c e) in
     let other = c.if-tic-full_at.false in
     omega arith
@@ -58,9 +62,12 @@ returns-then-tic-full_at-clause-step c marking players extra capacity me m r own
     let n = c.args.self.now in
     let rules = rules_of (free marking) players extra capacity in
     let there = here_all (ring_at n.rings) (peer_at n.peers) n.players n.ran c.requires.there in
-    let row = c.row_at-row.ensures.row ∙ row_is rules me _ m r n.window there in
-    let full = full_is rules me _ m r n.window there _ n.capacity c.full_at.result row r.capacity (c.full_at.ensures ∙ ap (λ (b : Bool). if b then n.capacity else tic_limit) c.is_whole-whole.ensures) in
-    after _ _ (row_full rules m (sym r.ran ∙ c.if-tic-full_at.true ∙ full)) (c.finish.ensures.step marking players extra capacity me m r) (refl, refl)
+    let row = c.fill_row-whole.ensures.row ∙ row_is rules me _ m r n.window there in
+    let full = full_is rules me _ m r n.window there _ n.capacity c.full_at.result row r.whose.capacity
+    (c.full_at.ensures ∙ ap (λ (b : Bool). if b then n.capacity else tic_limit)
+    c.fill_row-whole.ensures.whole) in
+    after _ _ (row_full rules m (sym r.table.ran ∙ c.if-tic-full_at.true ∙ full))
+    (c.finish.ensures.step marking players extra capacity me m r) (refl, refl)
 
 pub write-requires-clause-room : goal.write-requires-clause-room
 write-requires-clause-room c e =
@@ -68,7 +75,8 @@ write-requires-clause-room c e =
     let at = goal.at.write-requires-clause-room c in
     let on = c.requires.plays in
     let is_open = opened at.After-stamp e in
-    row_fits n.demo.limit n.players n.capacity n.ran (length n.demo.bytes) _ n.room (below at.After-stamp e) (n.size on is_open)
+    row_fits n.demo.limit n.players n.capacity n.ran (length n.demo.bytes) _ n.room (below at.After-stamp e)
+    (n.size on is_open)
     (row_length (seats_in n.demo.bytes) n.players (n.seats on is_open) n.few)
 
 -- the demo after the tic is open where the row is whole
@@ -89,22 +97,25 @@ invariant_of-self-2-clause-ran_fits c =
     let n = c.args.self.now in
     let old = n.ran_fits in
     let short = n.short in
-    elim (cases_Bool c.is_whole-whole.result) [
-      | inl whole ↦ let fits = below (goal.at.invariant_of-self-2-clause-ran_fits c).After-stamp whole in omega arith
+    elim (cases_Bool c.fill_row-whole.result) [
+      | inl whole ↦ let fits = below (goal.at.invariant_of-self-2-clause-ran_fits c).After-stamp whole in
+          omega arith
       | inr lacks ↦
-          let at : c.full_at.result ≡ tic_limit = c.full_at.ensures ∙ ap (λ (b : Bool). if b then n.capacity else tic_limit) lacks in
+          let at : c.full_at.result ≡ tic_limit = c.full_at.ensures
+          ∙ ap (λ (b : Bool). if b then n.capacity else tic_limit) lacks in
           let other = c.if-tic-full_at.false in
           omega arith
     ]
 
 pub invariant_of-self-2-clause-begun : goal.invariant_of-self-2-clause-begun
-invariant_of-self-2-clause-begun c on e = not_begun c.is_whole-whole.result (sym c.write.ensures.stage ∙ e)
+invariant_of-self-2-clause-begun c on e = not_begun c.fill_row-whole.result (sym c.write.ensures.stage ∙ e)
 
 pub invariant_of-self-2-clause-gone : goal.invariant_of-self-2-clause-gone
 invariant_of-self-2-clause-gone c on closed =
     let n = c.args.self.now in
-    let lacks = stage_lacks c.is_whole-whole.result _ c.write.ensures.stage closed in
-    let gone = not-false-true (has_gone (peer_at n.peers) n.players n.ran) (sym c.row_at-row.ensures.whole ∙ sym c.is_whole-whole.ensures ∙ lacks) in
+    let lacks = stage_lacks c.fill_row-whole.result _ c.write.ensures.stage closed in
+    let gone = not-false-true (has_gone (peer_at n.peers) n.players n.ran)
+    (sym c.fill_row-whole.ensures.nobody ∙ lacks) in
     gone_later (peer_at n.peers) n.players n.ran (n.ran + 1) (omega arith) gone
   where
     not-false-true : (b : Bool) → not b ≡ false → b ≡ true
@@ -113,26 +124,31 @@ invariant_of-self-2-clause-gone c on closed =
 
 pub invariant_of-self-2-clause-fits : goal.invariant_of-self-2-clause-fits
 invariant_of-self-2-clause-fits c on is_open =
-    let fits = below (goal.at.invariant_of-self-2-clause-fits c).After-stamp (stage_whole c.is_whole-whole.result _ c.write.ensures.stage is_open) in
+    let fits = below (goal.at.invariant_of-self-2-clause-fits c).After-stamp
+    (stage_whole c.fill_row-whole.result _ c.write.ensures.stage is_open) in
     omega arith
 
 pub invariant_of-self-2-clause-seats : goal.invariant_of-self-2-clause-seats
 invariant_of-self-2-clause-seats c on is_open =
-    let whole = stage_whole c.is_whole-whole.result _ c.write.ensures.stage is_open in
-    c.write.ensures.seats whole ∙ c.args.self.now.seats c.requires.plays (opened (goal.at.invariant_of-self-2-clause-seats c).After-stamp whole)
+    let whole = stage_whole c.fill_row-whole.result _ c.write.ensures.stage is_open in
+    c.write.ensures.seats whole ∙ c.args.self.now.seats c.requires.plays
+    (opened (goal.at.invariant_of-self-2-clause-seats c).After-stamp whole)
 
 pub invariant_of-self-2-clause-size : goal.invariant_of-self-2-clause-size
 invariant_of-self-2-clause-size c on is_open =
     let n = c.args.self.now in
-    let whole = stage_whole c.is_whole-whole.result _ c.write.ensures.stage is_open in
+    let whole = stage_whole c.fill_row-whole.result _ c.write.ensures.stage is_open in
     let before = opened (goal.at.invariant_of-self-2-clause-size c).After-stamp whole in
-    size_more (length n.demo.bytes) _ _ n.players n.ran (c.write.ensures.size whole) (row_length (seats_in n.demo.bytes) n.players (n.seats c.requires.plays before) n.few) (n.size c.requires.plays before)
+    size_more (length n.demo.bytes) _ _ n.players n.ran (c.write.ensures.size whole)
+    (row_length (seats_in n.demo.bytes) n.players (n.seats c.requires.plays before) n.few)
+    (n.size c.requires.plays before)
 
 pub invariant_of-self-2-clause-ahead : goal.invariant_of-self-2-clause-ahead
 invariant_of-self-2-clause-ahead c p inside stays =
     let n = c.args.self.now in
     let present = over_later (peer_at n.peers p).end n.ran (n.ran + 1) (omega arith) stays in
-    let there = here_all (ring_at n.rings) (peer_at n.peers) n.players n.ran c.requires.there p inside present in
+    let there = here_all (ring_at n.rings) (peer_at n.peers) n.players n.ran c.requires.there p inside
+    present in
     omega arith
 
 pub returns-clause-step : goal.returns-clause-step
@@ -141,9 +157,12 @@ returns-clause-step c marking players extra capacity me m r own =
     let rules = rules_of (free marking) players extra capacity in
     let on = c.requires.plays in
     let there = here_all (ring_at n.rings) (peer_at n.peers) n.players n.ran c.requires.there in
-    let row = c.row_at-row.ensures.row ∙ row_is rules me _ m r n.window there in
-    let full = full_is rules me _ m r n.window there _ n.capacity c.full_at.result row r.capacity (c.full_at.ensures ∙ ap (λ (b : Bool). if b then n.capacity else tic_limit) c.is_whole-whole.ensures) in
-    let whole : c.is_whole-whole.result ≡ is_whole players (row_held rules m) = c.is_whole-whole.ensures ∙ (λ i. is_whole (r.players i) (row i)) in
+    let row = c.fill_row-whole.ensures.row ∙ row_is rules me _ m r n.window there in
+    let full = full_is rules me _ m r n.window there _ n.capacity c.full_at.result row r.whose.capacity
+    (c.full_at.ensures ∙ ap (λ (b : Bool). if b then n.capacity else tic_limit)
+    c.fill_row-whole.ensures.whole) in
+    let whole : c.fill_row-whole.result ≡ is_whole players (row_held rules m) =
+    c.fill_row-whole.ensures.whole ∙ (λ i. is_whole (r.whose.players i) (row i)) in
     let opens = opened (goal.at.returns-clause-step c).After-stamp in
     let written : IsWritten rules n.demo c.write.new.demo (row_held rules m) = record {
       begun = n.begun on;
@@ -152,13 +171,17 @@ returns-clause-step c marking players extra capacity me m r own =
       added = λ e. subst (AddsRow n.demo.bytes c.write.new.demo.bytes) row (c.write.ensures.text (whole ∙ e));
       closes = λ e at. c.write.ensures.closes (whole ∙ e) at;
       stays = λ e at. c.write.ensures.closed (whole ∙ e) at;
-      fits = λ e. row_of_game r.players row (c.row_at-row.ensures.recordable (sym c.is_whole-whole.ensures ∙ whole ∙ e));
-      ranged = subst (All (λ step. IfSome step IsMove)) row c.row_at-row.ensures.ranged;
+      fits = λ e. row_of_game r.whose.players row
+          (c.fill_row-whole.ensures.recordable (sym c.fill_row-whole.ensures.whole ∙ whole ∙ e));
+      ranged = subst (All (λ step. IfSome step IsMove)) row c.fill_row-whole.ensures.ranged;
     } in
-    let moves = row_moves rules m (λ e. c.if-tic-full_at.false (r.ran ∙ e ∙ sym full)) in
+    let moves = row_moves rules m (λ e. c.if-tic-full_at.false (r.table.ran ∙ e ∙ sym full)) in
     after _ _ moves
     (shows_moved rules me _ m (row_held rules m) _ _ r on (n.plays on) (n.known (n.plays on))
-    (λ p inside present. c.stamp.ensures.marks p (omega (arith, inside, n.few)) (ap (λ (x : List (Option Move)). lacks x p) row ∙ seat_held rules me _ m r n.window there p inside (omega (arith, inside, n.few)) present)
-    ∙ own _ (ap (λ (x : machine.Node × Ran). x.1) moves) (sym r.phase ∙ on) p (omega (arith, inside, r.players)) present)
+    (λ p inside present. c.stamp.ensures.marks p (omega (arith, inside, n.few))
+    (ap (λ (x : List (Option Move)). lacks x p) row
+    ∙ seat_held rules me _ m r n.window there p inside (omega (arith, inside, n.few)) present)
+    ∙ own _ (ap (λ (x : machine.Node × Ran). x.1) moves) (sym r.stands.phase ∙ on) p
+    (omega (arith, inside, r.whose.players)) present)
     c.stamp.ensures.others written)
-    (ap Ran.Ran r.ran, ap (λ (x : List (Option Move)). Some x) row)
+    (ap Ran.Ran r.table.ran, ap (λ (x : List (Option Move)). Some x) row)

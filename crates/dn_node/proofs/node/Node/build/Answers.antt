@@ -12,9 +12,12 @@ pub returns-clause-step : goal.returns-clause-step
 returns-clause-step g c =
     let old = contents c.args.self.now in
     let new = with_world (lockstep.contents c.build.new.self) c.args.self.now.world in
-    steps g.W.World.state g.W.World.physics old new (λ rules me m. on_build rules me m c.args.keys) (λ rules me m. on_build rules me m c.args.keys)
+    steps g.W.World.state g.W.World.physics old new (λ rules me m. on_build rules me m c.args.keys)
+    (λ rules me m. on_build rules me m c.args.keys)
     (λ made. c.build.result ≡ made) c.build.ensures.step
     (λ players extra capacity me m. builds_same g.W.World.physics players extra capacity m me c.args.keys)
-    (beside g.W.World.state g.W.World.physics old new (λ rules me m. on_build rules me m c.args.keys) (λ rules me m. on_build rules me m c.args.keys)
+    (beside g.W.World.state g.W.World.physics old new (λ rules me m. on_build rules me m c.args.keys)
+    (λ rules me m. on_build rules me m c.args.keys)
     (λ made. c.build.result ≡ made) refl
-    (λ players extra capacity me m answer. build_beside (rules_of g.W.World.physics players extra capacity) me m c.args.keys))
+    (λ players extra capacity me m answer. build_beside (rules_of g.W.World.physics players extra capacity) me
+    m c.args.keys))

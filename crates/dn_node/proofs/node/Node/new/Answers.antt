@@ -8,7 +8,9 @@ pub returns-clause-opened : goal.returns-clause-opened
 returns-clause-opened g c settings key =
     let config = c.args.config in
     record {
-      lockstep = to_worlds g.W.World.physics config.players config.extra (capacity config.limit config.players) (fresh settings config.me) config.me
-          (lockstep.contents c.in_ok-lockstep.lockstep) (c.in_ok-lockstep.ensures.opened (marking_of g.W.World.physics) settings key);
+      lockstep = to_worlds g.W.World.physics config.players config.extra
+          (capacity config.limit config.players) (fresh settings config.me) config.me
+          (lockstep.contents c.in_ok-lockstep.lockstep)
+          (c.in_ok-lockstep.ensures.opened (marking_of g.W.World.physics) settings key);
       world = λ played. absurd (cc);
     }

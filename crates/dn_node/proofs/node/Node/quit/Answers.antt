@@ -11,7 +11,10 @@ pub returns-clause-step : goal.returns-clause-step
 returns-clause-step g c =
     let old = contents c.args.self.now in
     let new = with_world (lockstep.contents c.quit.new.self) c.args.self.now.world in
-    steps g.W.World.state g.W.World.physics old new (λ rules me m. on_quit m) (λ rules me m. on_quit m) (λ quit. c.quit.result ≡ quit) c.quit.ensures.step
+    steps g.W.World.state g.W.World.physics old new (λ rules me m. on_quit m) (λ rules me m. on_quit m)
+    (λ quit. c.quit.result ≡ quit) c.quit.ensures.step
     (λ players extra capacity me m. refl)
-    (beside g.W.World.state g.W.World.physics old new (λ rules me m. on_quit m) (λ rules me m. on_quit m) (λ quit. c.quit.result ≡ quit) refl
-    (λ players extra capacity me m answer. quit_beside (rules_of g.W.World.physics players extra capacity) me m))
+    (beside g.W.World.state g.W.World.physics old new (λ rules me m. on_quit m) (λ rules me m. on_quit m)
+    (λ quit. c.quit.result ≡ quit) refl
+    (λ players extra capacity me m answer. quit_beside (rules_of g.W.World.physics players extra capacity) me
+    m))

@@ -7,13 +7,17 @@ use Rattle.dn_node.proofs.node.Node.run.Goals as goal
 pub returns-in-Some-clause-step : goal.returns-in-Some-clause-step
 returns-in-Some-clause-step g c =
     let n = c.args.self.now in
-    runs g.W.World.state g.W.World.physics (contents n) (with_world (lockstep.contents c.run-ran.new.self) c.step.new.self) c.marks-marks.result c.run-ran.result.0 c.run-ran.result.1
+    runs g.W.World.state g.W.World.physics (contents n)
+    (with_world (lockstep.contents c.run-ran.new.self) c.step.new.self) c.marks-marks.result
+    c.run-ran.result.0 c.run-ran.result.1
     c.marks-marks.ensures n.lockstep.few n.lockstep.plays
-    (λ told is. c.step.ensures ∙ ap (g.W.World.physics.step (g.W.World.state n.world)) (let same : Some c.in-Some.row ≡ Some told = sym c.in-Some.is ∙ is in cc))
+    (λ told is. c.step.ensures ∙ ap (g.W.World.physics.step (g.W.World.state n.world))
+    (let same : Some c.in-Some.row ≡ Some told = sym c.in-Some.is ∙ is in cc))
     (λ none. absurd (let same = sym none ∙ c.in-Some.is in cc)) c.run-ran.ensures.step
 
 pub returns-in-Some-clause-waits : goal.returns-in-Some-clause-waits
-returns-in-Some-clause-waits g c player e = absurd (let same = sym (c.run-ran.ensures.waits player e).1 ∙ c.in-Some.is in cc)
+returns-in-Some-clause-waits g c player e =
+    absurd (let same = sym (c.run-ran.ensures.waits player e).1 ∙ c.in-Some.is in cc)
 
 pub returns-in-Some-clause-idle : goal.returns-in-Some-clause-idle
 returns-in-Some-clause-idle g c e = absurd (let same = sym (c.run-ran.ensures.idle e).1 ∙ c.in-Some.is in cc)
@@ -21,11 +25,16 @@ returns-in-Some-clause-idle g c e = absurd (let same = sym (c.run-ran.ensures.id
 pub returns-in_default-clause-step : goal.returns-in_default-clause-step
 returns-in_default-clause-step g c =
     let n = c.args.self.now in
-    runs g.W.World.state g.W.World.physics (contents n) (with_world (lockstep.contents c.run-ran.new.self) n.world) c.marks-marks.result c.run-ran.result.0 c.run-ran.result.1
-    c.marks-marks.ensures n.lockstep.few n.lockstep.plays (λ told is. absurd (c.in_default.not-Some told is)) (λ none. refl) c.run-ran.ensures.step
+    runs g.W.World.state g.W.World.physics (contents n)
+    (with_world (lockstep.contents c.run-ran.new.self) n.world) c.marks-marks.result c.run-ran.result.0
+    c.run-ran.result.1
+    c.marks-marks.ensures n.lockstep.few n.lockstep.plays (λ told is. absurd (c.in_default.not-Some told is))
+    (λ none. refl) c.run-ran.ensures.step
 
 pub returns-in_default-clause-waits : goal.returns-in_default-clause-waits
-returns-in_default-clause-waits g c player e = ap (λ (x : lockstep.Contents). with_world x c.args.self.now.world) (c.run-ran.ensures.waits player e).0
+returns-in_default-clause-waits g c player e =
+    ap (λ (x : lockstep.Contents). with_world x c.args.self.now.world) (c.run-ran.ensures.waits player e).0
 
 pub returns-in_default-clause-idle : goal.returns-in_default-clause-idle
-returns-in_default-clause-idle g c e = ap (λ (x : lockstep.Contents). with_world x c.args.self.now.world) (c.run-ran.ensures.idle e).0
+returns-in_default-clause-idle g c e = ap (λ (x : lockstep.Contents). with_world x c.args.self.now.world)
+    (c.run-ran.ensures.idle e).0

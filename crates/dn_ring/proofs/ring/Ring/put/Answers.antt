@@ -4,4 +4,5 @@ use Rattle.dn_ring.proofs.Slots.{put_table}
 use Rattle.dn_ring.proofs.ring.Ring.put.Goals as goal
 
 pub returns : goal.returns
-returns c = put_table c.self.inside.count c.self.inside.slots c.self.invariant c.args.command ∙ ap (λ (r : Ring). put r c.args.command) c.self.view_is
+returns c = put_table c.self.inside.count c.self.inside.slots c.self.invariant c.args.command
+    ∙ ap (λ (r : Ring). put r c.args.command) c.self.view_is

@@ -11,5 +11,13 @@ returns-clause-command c = λ states e.
     let side = to_z-of_z w8 c.side_move.result (search rules) ∙ c.side_move.ensures in
     let turn = to_z-of_z w16 c.turn.result (search rules) ∙ c.turn.ensures in
     let mark = to_z-of_z w16 c.args.mark (search rules) in
-    (λ i. record { forward = forward i; side = side i; turn = turn i; mark = mark i; chat = 0; buttons = c.buttons.ensures i })
+    (λ i. record {
+      forward = forward i;
+      side = side i;
+      turn = turn i;
+      mark = mark i;
+      chat = 0;
+      buttons =
+          c.buttons.ensures i;
+    })
     ∙ pressed-push states c.args.keys c.next_hold-self-inside.result c.args.mark hold

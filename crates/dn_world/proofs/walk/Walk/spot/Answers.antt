@@ -1,5 +1,5 @@
-use Rattle.std.proofs.Common.{rules, ◌≡◌, ◌<◌, ◌≤◌, ◌∙◌, None, length, sym, ap, subst, arith, true, false, get_or}
-use Rattle.dn_world.specs.Plane.{Spots, spot_at}
+use Rattle.std.proofs.Common.{rules, ◌≡◌, ◌∙◌, length, arith}
+use Rattle.dn_world.specs.Plane.{spot_at}
 use Rattle.dn_world.proofs.Seated.{there, absent, beyond}
 use Rattle.dn_world.proofs.walk.Walk.spot.Goals.{else-player-lt4-via-then-player-lt4+else-self-player, else-player-lt4-via-else-player-lt4}
 use Rattle.dn_world.proofs.walk.Walk.spot.Goals as goal
@@ -9,7 +9,8 @@ returns-then-self-player-clause-value c =
     let ps = c.self.inside.present in
     let ss = c.self.inside.spots in
     let four : length ss ≡ 4 = search rules in
-    there ps ss c.from-player.result _ (omega (arith, c.self.told, c.if-player-lt4.true)) (omega (arith, four, c.self.told)) c.if-self-player.true
+    there ps ss c.from-player.result _ (omega (arith, c.self.told, c.if-player-lt4.true))
+    (omega (arith, four, c.self.told)) c.if-self-player.true
     ∙ (λ i. spot_at (c.self.view_is i) (c.from-player.ensures i))
 
 pub returns-else-player-lt4-clause-value : goal.returns-else-player-lt4-clause-value
@@ -18,7 +19,9 @@ returns-else-player-lt4-clause-value c =
     let ss = c.self.inside.spots in
     elim c.else-player-lt4.branch [
       | else-player-lt4-via-then-player-lt4+else-self-player w ↦
-          absent ps ss c.from-player.result w.if-self-player.false ∙ (λ i. spot_at (c.self.view_is i) (c.from-player.ensures i))
+          absent ps ss c.from-player.result w.if-self-player.false
+          ∙ (λ i. spot_at (c.self.view_is i) (c.from-player.ensures i))
       | else-player-lt4-via-else-player-lt4 w ↦
-          beyond ps ss c.from-player.result (omega (arith, c.self.told, w.if-player-lt4.false)) ∙ (λ i. spot_at (c.self.view_is i) (c.from-player.ensures i))
+          beyond ps ss c.from-player.result (omega (arith, c.self.told, w.if-player-lt4.false))
+          ∙ (λ i. spot_at (c.self.view_is i) (c.from-player.ensures i))
     ]

@@ -24,7 +24,7 @@ use denote.Triple.Walked.{Stays, walk_of, stay_dropped, Goes-dropped, says, ends
 use Rattle.std.proofs.raw_atomic.Walks.{proved_at}
 use Rattle.std.proofs.Handle.{heap_val, heap_Tells}
 use Rattle.std.specs.declared.alloc.Global.{Global}
-use Rattle.zirmegat.specs.Held.{held, owned}
+use Rattle.zirmegat.specs.Held.{held_node, owned}
 use Rattle.zirmegat.proofs.Values.{both, loose_in}
 use Rattle.zirmegat.proofs.Handles.{H, word, handle_out, live_held}
 use Rattle.zirmegat.proofs.Node.{N, Z, LZ, g}
@@ -38,22 +38,35 @@ stayed = (stay_dropped _ yes, (stay_dropped _ yes, tt))
 pub into_loose_spec : {M : Type 1} → statement M
 into_loose_spec 𝓤 𝓛 𝓜 𝓡 wired =
     let 𝓣 = tables 𝓤 𝓛.H 𝓜 𝓡 𝓡.env in let c = f.clauses 𝓛 𝓜.mem 𝓡.returns in
-    proved_at 𝓛 f.ended stayed c 𝓜 𝓡 (Goes-dropped 𝓛 0 (plain (λ _. H)) yes (λ κs x f. refl), (Goes-dropped 𝓛 0 (plain (λ _. Z)) yes (λ κs x f. refl), tt))
+    proved_at 𝓛 f.ended stayed c 𝓜 𝓡 (
+      Goes-dropped 𝓛 0 (plain (λ _. H)) yes (λ κs x f. refl),
+      (Goes-dropped 𝓛 0 (plain (λ _. Z)) yes (λ κs x f. refl), tt),
+    )
     f.Key.name code.function (code.unfolded 𝓤 𝓛.H 𝓜 𝓡 wired) (λ z are.
-    let v = z.0.3.0 in let a = z.0.3.1.0 in let Post : Val → SProp 𝓤 = (walk_of 𝓛 f.ended stayed c).post z in let Run : List Val → SProp 𝓤 = λ ws. WpFn 𝓤 𝓛.H 𝓣.C 𝓣.Λ code.function ws Post in
-    qed 𝓛 ((‵ ftrue ⊛ ‵ (owns (H ∷ Z ∷ []) z.0.3 z.0.4)) ∷ raw (fact 𝓤 (v.live ≡ true)) ∷ []) ∵ move ! (1 ∷ []) $ heard ! _ (λ live. split ! $ drop ! $ fsplit ! $ handle_out ! v z.0.4.0 (λ ew.
-    rewrite ! 0 (λ b. ‵ (held b v.at v.node)) live refl $ move ! (1 ∷ []) $ fsplit ! $ move ! (1 ∷ []) $ drop ! $
+    let v = z.0.3.0 in let a = z.0.3.1.0 in let Post : Val → SProp 𝓤 = (walk_of 𝓛 f.ended stayed c).post z in
+    let Run : List Val → SProp 𝓤 = λ ws. WpFn 𝓤 𝓛.H 𝓣.C 𝓣.Λ code.function ws Post in
+    qed 𝓛 ((‵ ftrue ⊛ ‵ (owns (H ∷ Z ∷ []) z.0.3 z.0.4)) ∷ raw (fact 𝓤 (v.live ≡ true)) ∷ []) ∵ move !
+    (1 ∷ []) $ heard ! _ (λ live. split ! $ drop ! $ fsplit ! $ handle_out ! v z.0.4.0 (λ ew.
+    rewrite ! 0 (λ b. ‵ (held_node b v.at v.node)) live refl $ move ! (1 ∷ []) $ fsplit ! $ move ! (1 ∷ []) $
+    drop ! $
     peeks ! Z (Is Z) (shows 𝓛 Z) a z.0.4.1.0 (λ ia. let eh = heap_Tells a z.0.4.1.0 ia in
     rewrite ! 0 (λ (us : List Val). ‵ (Z.own_val a us)) eh refl $ move ! (1 ∷ 0 ∷ []) $
-    by ! (live_held 𝓛 v.at v.node (sem 𝓛 (Z.own_val a (heap_val ∷ []))) (Run (z.0.4.0 ++ (z.0.4.1.0 ++ []))) (λ x en.
-    qed 𝓛 (‵ (fex Global (owned v.at x)) ∷ ‵ (Z.own_val a (heap_val ∷ [])) ∷ []) ∵ fpick ! (λ a'.
-    in_a_block ! v.at (λ p. owned p x a') (fst∗ 𝓤 (never 𝓤) (sem 𝓛 (g.dealloc_token a' (bare (lone N.mir)) null_ptr))) (λ b o e.
+    by ! (live_held 𝓛 N v.at v.node (sem 𝓛 (Z.own_val a (heap_val ∷ []))) (Run (z.0.4.0 ++ (z.0.4.1.0 ++ [])))
+    (λ x en.
+    qed 𝓛 (‵ (fex Global (owned N v.at x)) ∷ ‵ (Z.own_val a (heap_val ∷ [])) ∷ []) ∵ fpick ! (λ a'.
+    in_a_block ! v.at (λ p. owned N p x a')
+    (fst∗ 𝓤 (never 𝓤) (sem 𝓛 (g.dealloc_token a' (bare (lone N.mir)) null_ptr))) (λ b o e.
     let us : List Val = word true (block_ptr b o) ∷ heap_val ∷ [] in
     let ws : z.0.4.0 ≡ word true (block_ptr b o) ∷ [] = ew ∙ (λ i. word (live i) (e i) ∷ []) in
-    suffices ! (Run us) (subst (λ (xs : List Val). ent 𝓤 (Run us) (Run xs)) (sym (λ i. ws i ++ (eh i ++ []))) (id⊢ 𝓤 (Run us))) $
+    suffices ! (Run us) (subst (λ (xs : List Val). ent 𝓤 (Run us) (Run xs)) (sym (λ i. ws i ++ (eh i ++ [])))
+    (id⊢ 𝓤 (Run us))) $
     enter ! _ _ _ _ _ $ alloc_all ! (λ l. pass_all ! refl ((tt, (tt, (tt, tt))), ((tt, ((tt, tt), tt)), tt)) $
-    sets ! (of_opd ! (get_in ! (fld ! refl (stop !)) (sub ! 1 refl (whole !)))) refl (tt, tt) $ sets ! (of_opd ! (get ! refl)) refl (tt, tt) $
-    sets ! (agg ! (and_then ! (get ! refl) (and_then ! (get ! refl) (no_more !)))) refl (tt, (tt, (((tt, tt), tt), tt))) $
+    sets ! (of_opd ! (get_in ! (fld ! refl (stop !)) (sub ! 1 refl (whole !)))) refl (tt, tt) $ sets !
+    (of_opd ! (get ! refl)) refl (tt, tt) $
+    sets ! (agg ! (and_then ! (get ! refl) (and_then ! (get ! refl) (no_more !)))) refl
+    (tt, (tt, (((tt, tt), tt), tt))) $
     returns ! (look_at ! 0 refl) $ free_all ! refl $ loose_in N Z LZ g ! b o heap_val a x $
-    suffices ! _ (ends_at 𝓛 f.ended stayed c z (both (vptr b o) heap_val) (record { at = block_ptr b o; alloc = a; value = x }) (tt, (tt, tt)) (tt, (tt, tt))) $ says ! (sym en) $
+    suffices ! _ (ends_at 𝓛 f.ended stayed c z (both (vptr b o) heap_val)
+    (record { at = block_ptr b o; alloc = a; value = x }) (tt, (tt, tt)) (tt, (tt, tt))) $ says ! (sym en)
+    $
     nothing ! $ nothing ! $ join ! $ nothing ! $ join ! $ nothing ! $ group ! 3 $ done !)))))))))

@@ -25,7 +25,9 @@ none_spec 𝓤 𝓛 𝓜 𝓡 wired =
     let y : W.Ghost = ((κs, qs, bounds, a, tt), tt) in
     qed 𝓛 ((‵ ftrue ⊛ ‵ ftrue) ∷ ‵ ftrue ∷ []) ∵ drop ! $ drop ! $
     enter ! _ _ _ _ _ $ alloc_all ! (λ l. pass_all ! refl tt $
-    sets ! (agg ! (and_then ! (false_lit !) (and_then ! (lit ! tt) (no_more !)))) refl (tt, (tt, (record { fits = lit< tt }, tt))) $
+    sets ! (agg ! (and_then ! (false_lit !) (and_then ! (lit ! tt) (no_more !)))) refl
+    (tt, (tt, (record { fits = lit< tt }, tt))) $
     returns ! (look_at ! 0 refl) $ free_all ! refl $ nothing ! $ handle_in ! false null_ptr None $
-    suffices ! _ (ends_at 𝓛 f.ended tt c y (word false null_ptr) (record { live = false; at = null_ptr; node = None }) tt tt) $ says ! refl $
+    suffices ! _ (ends_at 𝓛 f.ended tt c y (word false null_ptr)
+    (record { live = false; at = null_ptr; node = None }) tt tt) $ says ! refl $
     nothing ! $ nothing ! $ group ! 3 $ done !))

@@ -35,14 +35,22 @@ of_loose_spec 𝓤 𝓛 𝓜 𝓡 wired =
     let 𝓣 = tables 𝓤 𝓛.H 𝓜 𝓡 𝓡.env in let c = f.clauses 𝓛 𝓜.mem 𝓡.returns in
     proved_at 𝓛 f.ended stayed c 𝓜 𝓡 (Goes-dropped 𝓛 0 (plain (λ _. L)) yes (λ κs x f. refl), tt)
     f.Key.name code.function (code.unfolded 𝓤 𝓛.H 𝓜 𝓡 wired) (λ z are.
-    let v = z.0.3.0 in let Post : Val → SProp 𝓤 = (walk_of 𝓛 f.ended stayed c).post z in let Run : List Val → SProp 𝓤 = λ ws. WpFn 𝓤 𝓛.H 𝓣.C 𝓣.Λ code.function ws Post in
-    qed 𝓛 ((‵ ftrue ⊛ ‵ (owns (L ∷ []) z.0.3 z.0.4)) ∷ ‵ ftrue ∷ []) ∵ split ! $ drop ! $ fsplit ! $ loose_out N Z LZ g ! v z.0.4.0 (λ b o h e ws fits.
+    let v = z.0.3.0 in let Post : Val → SProp 𝓤 = (walk_of 𝓛 f.ended stayed c).post z in
+    let Run : List Val → SProp 𝓤 = λ ws. WpFn 𝓤 𝓛.H 𝓣.C 𝓣.Λ code.function ws Post in
+    qed 𝓛 ((‵ ftrue ⊛ ‵ (owns (L ∷ []) z.0.3 z.0.4)) ∷ ‵ ftrue ∷ []) ∵ split ! $ drop ! $ fsplit ! $ loose_out
+    N Z LZ g ! v z.0.4.0 (λ b o h e ws fits.
     let typed = loose_good N Z LZ g b o h fits in
-    suffices ! (Run (both (vptr b o) h ∷ [])) (subst (λ (us : List Val). ent 𝓤 (Run (both (vptr b o) h ∷ [])) (Run us)) (sym (λ i. ws i ++ [])) (id⊢ 𝓤 _)) $
+    suffices ! (Run (both (vptr b o) h ∷ []))
+    (subst (λ (us : List Val). ent 𝓤 (Run (both (vptr b o) h ∷ [])) (Run us)) (sym (λ i. ws i ++ []))
+    (id⊢ 𝓤 _)) $
     keep ! (0 ∷ []) $
     enter ! _ _ _ _ _ $ alloc_all ! (λ l. pass_all ! refl (typed, tt) $
-    sets ! (of_opd ! (get_in ! (fld ! refl (stop !)) (sub ! 0 refl (whole !)))) refl (tt, tt) $ sets ! (of_opd ! (get ! refl)) refl (tt, tt) $
+    sets ! (of_opd ! (get_in ! (fld ! refl (stop !)) (sub ! 0 refl (whole !)))) refl (tt, tt) $ sets !
+    (of_opd ! (get ! refl)) refl (tt, tt) $
     sets ! (agg ! (and_then ! (true_lit !) (and_then ! (get ! refl) (no_more !)))) refl (tt, (tt, (tt, tt))) $
-    returns ! (look_at ! 0 refl) $ free_all ! refl $ fpack ! Global (owned (block_ptr b o) v.value) v.alloc $ handle_in ! true (block_ptr b o) (Some v.value) $
-    suffices ! _ (ends_at 𝓛 f.ended stayed c z (word true (block_ptr b o)) (record { live = true; at = block_ptr b o; node = Some v.value }) (tt, tt) (tt, tt)) $ says ! (refl, refl) $
+    returns ! (look_at ! 0 refl) $ free_all ! refl $ fpack ! Global (owned N (block_ptr b o) v.value) v.alloc
+    $ handle_in ! true (block_ptr b o) (Some v.value) $
+    suffices ! _ (ends_at 𝓛 f.ended stayed c z (word true (block_ptr b o))
+    (record { live = true; at = block_ptr b o; node = Some v.value }) (tt, tt) (tt, tt)) $ says !
+    (refl, refl) $
     nothing ! $ nothing ! $ join ! $ nothing ! $ group ! 3 $ done !)))

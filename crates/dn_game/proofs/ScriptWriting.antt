@@ -1,0 +1,179 @@
+-- What is written for events is read as these events.
+use Rattle.std.proofs.Common.{◌≡◌, ◌≢◌, ◌<◌, ◌≤◌, ℕ, zero, suc, ◌^◌, Bool, true, false, cond, eqb, List, [], ◌∷◌, ◌++◌, length, get_or, filter, append_assoc, refl, sym, ap, ◌∙◌, subst, inl, inr, lit<, arith}
+use Rattle.std.specs.Prelude.{codes, Ok}
+use Rattle.std.specs.Fmt.{decimal}
+use Rattle.std.specs.Int.{bit_at}
+use Rattle.std.specs.List.{All, Contains, AllByRecursion}
+use Rattle.std.proofs.lemmas.Bool.{eqb-true, eq-eqb, cases_eq, ne_eqb, cond-true, cond-false}
+use Rattle.std.proofs.lemmas.Fmt.{decimal_is_IsNumeral, length-decimal-le}
+use Rattle.std.proofs.lemmas.List.{get_or_default}
+use Rattle.std.proofs.lemmas.List.Elements.{Contains-append_right, All-append, All-filter, All-from_recursion, All-head, All-tail, filter_passes}
+use Rattle.std.proofs.lemmas.List.Splits.{slice_split_at, slice_split_none}
+use Rattle.std.proofs.lemmas.Nat.Bits.{bit_at-zero, bit_at-lt, same_from_bits_below}
+use Rattle.std.proofs.lemmas.Str.Parse.{digit_at}
+use Rattle.dn_tic.specs.Keys.{place_of}
+use Rattle.dn_machine.specs.declared.events.Event.{Event}
+use Rattle.dn_machine.specs.declared.events.Event.TheVariants.{Build, Send, Deliver, Run, Quit, Stop}
+use Rattle.dn_game.specs.ScriptWords.{IsNumber, AreKeys, AreLetters, letters, place_in_letters}
+use Rattle.dn_game.specs.ScriptLines.{lines, IsLineOf}
+use Rattle.dn_game.specs.Script.{size_limit, AreEventsOf, skipped, told, none, IsReadAs}
+use Rattle.dn_game.specs.Written.{is_down_at, letters_down, keys_word, event_words, script_text, IsShort, HasScriptLine}
+use Rattle.dn_game.proofs.ScriptKeys.{letter_found, letter_is_not, place_small}
+
+-- a number of at most nine digits is read back
+number_written : (n : ℕ) → IsShort n → IsNumber (decimal n) n
+number_written n short =
+    let small : n < 2 ^ 64 = omega (arith, short) in
+    let is = decimal_is_IsNumeral n small in
+    record {
+      some = is.0.0;
+      few = length-decimal-le 9 n (lit< tt) short small;
+      digits = is.0.1;
+      value =
+          sym is.1;
+    }
+
+-- what is in a list is in it behind one element more
+behind : (b : Bool) (y : ℕ) (ys : List ℕ) (x : ℕ) → Contains ys x → Contains (cond b (y ∷ ys) ys) x
+behind true y ys x there = Contains-append_right (y ∷ []) ys x there
+behind false y ys x there = there
+
+-- an element that passes is kept
+kept : (p : ℕ → Bool) (xs : List ℕ) (i x : ℕ) → i < length xs → get_or xs i x ≡ x → p x ≡ true
+    → Contains (filter p xs) x
+kept p [] i x within here pass = absurd (omega (arith, within))
+kept p (y ∷ xs) zero x within here pass =
+    subst (λ l. Contains l x) (sym (cond-true _ _ _ (ap p here ∙ pass))) (0, omega arith, here)
+kept p (y ∷ xs) (suc i) x within here pass =
+    behind (p y) y (filter p xs) x (kept p xs i x (omega (arith, within)) here pass)
+
+module _ (keys : ℕ) where
+  passes : ℕ → Bool
+  passes letter = is_down_at keys (place_in_letters letter)
+
+  -- a letter of keys is there exactly where its bit is set
+  bit_written : (i : ℕ) → i < 18 → bit_at keys i ≡ 1
+      → Contains (letters_down keys letters) (get_or letters i 0)
+  unfolding passes
+  bit_written i small set =
+      kept passes letters i (get_or letters i 0) small (get_or_default letters i (get_or letters i 0) 0 small)
+      (ap (is_down_at keys) (letter_found i small) ∙ eq-eqb _ _ set)
+
+  written_bit : (i : ℕ) → i < 18 → Contains (letters_down keys letters) (get_or letters i 0)
+      → bit_at keys i ≡ 1
+  unfolding passes
+  written_bit i small (k, within, same) =
+      let pass : passes (get_or (letters_down keys letters) k (get_or letters i 0)) ≡ true =
+      filter_passes passes letters k (get_or letters i 0) within in
+      eqb-true _ _ (sym (ap (is_down_at keys) (letter_found i small)) ∙ sym (ap passes same) ∙ pass)
+
+  no_letter : length (letters_down keys letters) ≡ 0 → keys < 2 ^ 18 → keys ≡ 0
+  no_letter nil small = same_from_bits_below 18 keys 0 small (lit< tt)
+      (λ i h. elim (cases_eq (bit_at keys i) 1) [
+        | inl set ↦ let there = (bit_written i h set).1 in absurd (omega (arith, there, nil))
+        | inr clear ↦ omega (arith, clear, bit_at-lt keys i, bit_at-zero i)
+      ])
+
+  letters_written : keys ≢ 0 → keys < 2 ^ 18 → AreLetters (letters_down keys letters) keys
+  unfolding passes
+  letters_written some small = record {
+    some = elim (cases_eq (length (letters_down keys letters)) 0)
+        [ inl nil ↦ absurd (some (no_letter nil small)) | inr many ↦ omega (arith, many) ];
+    known = All-filter passes (Contains letters) letters
+        (λ i d within. (i, within, get_or_default letters i (get_or letters i d) d within));
+    small = small;
+    down = λ key. (
+      λ set. bit_written (place_of key) (place_small key) (eqb-true _ _ set),
+      λ there. eq-eqb _ _ (written_bit (place_of key) (place_small key) there),
+    );
+  }
+
+  keys_written : keys < 2 ^ 18 → AreKeys (keys_word keys) keys
+  keys_written small = elim (cases_eq keys 0) [
+    | inl nil ↦ subst (λ w. AreKeys w keys) (sym (cond-true _ _ _ (eq-eqb _ _ nil))) (inl (refl, nil))
+    | inr some ↦ subst (λ w. AreKeys w keys) (sym (cond-false _ _ _ (ne_eqb _ _ some)))
+        (inr (letters_written some small))
+  ]
+
+-- a text without a line feed
+abbrev HasNoFeed : List ℕ → Type 0
+HasNoFeed text = All (λ byte. eqb byte 10 ≡ false) text
+
+spelled : (word : List ℕ) → AllByRecursion (λ byte. eqb byte 10 ≡ false) word → HasNoFeed word
+spelled word h = All-from_recursion (λ byte. eqb byte 10 ≡ false) word h
+
+joined : (xs ys : List ℕ) → HasNoFeed xs → HasNoFeed ys → HasNoFeed (xs ++ ys)
+joined xs ys p q = All-append (λ byte. eqb byte 10 ≡ false) xs ys p q
+
+number_no_feed : (n : ℕ) → IsShort n → HasNoFeed (decimal n)
+number_no_feed n short i d within =
+    let digit = digit_at (decimal n) i (number_written n short).digits within in
+    let other : get_or (decimal n) i 0 ≢ 10 = omega (arith, digit) in
+    ap (λ byte. eqb byte 10) (get_or_default (decimal n) i d 0 within) ∙ ne_eqb _ _ other
+
+keys_no_feed : (word : List ℕ) (keys : ℕ) → AreKeys word keys → HasNoFeed word
+keys_no_feed word keys (inl nil) = subst HasNoFeed (sym nil.0) (spelled (codes "-") (refl, tt))
+keys_no_feed word keys (inr some) = λ i d within. ne_eqb _ _ (letter_is_not _ 10 (some.known i d within) refl)
+
+-- the words of an event are its line, and have no line feed
+words_read : (event : Event) → HasScriptLine event → IsLineOf event (event_words event)
+words_read (Build node keys) can =
+    (decimal node, keys_word keys, number_written node can.0, keys_written keys can.1, refl)
+words_read (Send node to) can = (
+  decimal node,
+  decimal to,
+  number_written node can.0,
+  number_written to can.1,
+  refl,
+)
+words_read (Deliver flight) can = (decimal flight, number_written flight can, refl)
+words_read (Run node) can = (decimal node, number_written node can, refl)
+words_read (Quit node) can = (decimal node, number_written node can, refl)
+words_read (Stop node) can = (decimal node, number_written node can, refl)
+
+words_no_feed : (event : Event) → HasScriptLine event → HasNoFeed (event_words event)
+words_no_feed (Build node keys) can =
+    joined (codes "build " ++ decimal node ++ codes " ") (keys_word keys)
+    (joined (codes "build " ++ decimal node) (codes " ")
+    (joined (codes "build ") (decimal node)
+    (spelled (codes "build ") (refl, (refl, (refl, (refl, (refl, (refl, tt)))))))
+    (number_no_feed node can.0))
+    (spelled (codes " ") (refl, tt)))
+    (keys_no_feed (keys_word keys) keys (keys_written keys can.1))
+words_no_feed (Send node to) can =
+    joined (codes "send " ++ decimal node ++ codes " ") (decimal to)
+    (joined (codes "send " ++ decimal node) (codes " ")
+    (joined (codes "send ") (decimal node)
+    (spelled (codes "send ") (refl, (refl, (refl, (refl, (refl, tt)))))) (number_no_feed node can.0))
+    (spelled (codes " ") (refl, tt)))
+    (number_no_feed to can.1)
+words_no_feed (Deliver flight) can =
+    joined (codes "deliver ") (decimal flight)
+    (spelled (codes "deliver ") (refl, (refl, (refl, (refl, (refl, (refl, (refl, (refl, tt)))))))))
+    (number_no_feed flight can)
+words_no_feed (Run node) can =
+    joined (codes "run ") (decimal node) (spelled (codes "run ") (refl, (refl, (refl, (refl, tt)))))
+    (number_no_feed node can)
+words_no_feed (Quit node) can =
+    joined (codes "quit ") (decimal node) (spelled (codes "quit ") (refl, (refl, (refl, (refl, (refl, tt))))))
+    (number_no_feed node can)
+words_no_feed (Stop node) can =
+    joined (codes "stop ") (decimal node) (spelled (codes "stop ") (refl, (refl, (refl, (refl, (refl, tt))))))
+    (number_no_feed node can)
+
+-- the lines of a script are those of its events
+lines_read : (events : List Event) → All HasScriptLine events → AreEventsOf (lines (script_text events)) events
+lines_read [] can =
+    subst (λ ls. AreEventsOf ls []) (sym (slice_split_none (λ byte. eqb byte 10) [] (spelled [] tt)))
+    (skipped (inl refl) none)
+lines_read (event ∷ events) can =
+    let here = All-head HasScriptLine event events can in
+    let cut = ap lines (append_assoc (event_words event) (codes "\n") (script_text events))
+    ∙ slice_split_at (λ byte. eqb byte 10) (event_words event) 10 (script_text events)
+    (words_no_feed event here) refl in
+    subst (λ ls. AreEventsOf ls (event ∷ events)) (sym cut)
+    (told (words_read event here) (lines_read events (All-tail HasScriptLine event events can)))
+
+pub script_read : (events : List Event) → All HasScriptLine events → length (script_text events) ≤ size_limit
+    → IsReadAs (script_text events) (Ok events)
+script_read events can short = (short, lines_read events can)

@@ -1,0 +1,12 @@
+use Rattle.dn_game.specs.Opening.{rules_in}
+use Rattle.std.proofs.Common.{◌≡◌, ◌+◌, length}
+use Rattle.dn_game.specs.Observed.{ObservesAll}
+use Rattle.dn_game.specs.Stormed.{IsStormed}
+use Rattle.dn_game.proofs.storming.storm_observed.Given as goal
+
+abbrev pub invariant-loop : goal.invariant-loop
+invariant-loop g l =
+    (l.played.done + l.played.refused ≡ l.counter)
+    × ((s : IsStormed g.W.World.state (rules_in g.W.World.physics l.fn.config (length l.fn.worlds.items))
+    l.fn.config.settings l.seed l.counter l.played) × (s.rest ≡ l.schedule)
+    × ObservesAll g.L.Observer.observes l.initial.observer 0 s.events s.answers l.observer)

@@ -1,0 +1,67 @@
+-- The lines that tell of each event of a game, before those of the game.
+use Rattle.std.specs.Prelude.{◌≡◌, ◌≢◌, ℕ, pos, ◌+◌, All, List, [], ◌∷◌, ◌++◌, codes, Result, Err}
+use Rattle.dn_world.specs.Plane.{Spots, walking}
+use Rattle.dn_machine.specs.declared.events.Done.{Done}
+use Rattle.dn_machine.specs.declared.events.Event.{Event}
+use Rattle.dn_machine.specs.declared.events.Refusal.{Refusal}
+use Rattle.dn_game.specs.declared.config.GameConfig.{GameConfig}
+use Rattle.dn_game.specs.declared.played.Played.{Played}
+use Rattle.dn_game.specs.GoingOn.{IsCalmed}
+use Rattle.dn_game.specs.Opening.{rules_in}
+use Rattle.dn_game.specs.Rounds.{keys_of}
+use Rattle.dn_game.specs.Written.{event_words, script_text}
+use Rattle.dn_netgame.specs.AnswerWords.{answer_words}
+use Rattle.dn_netgame.specs.CalmLines.{no_keys}
+use Rattle.dn_netgame.specs.Fields.{labelled}
+use Rattle.dn_netgame.specs.GameLines.{game_lines}
+use Rattle.dn_netgame.specs.SimLines.{WalksBy, IsScriptShownBy}
+use Rattle.dn_netgame.specs.StormLines.{WalksUnder}
+use Rattle.dn_game.specs.Script.{IsReadAs}
+use Rattle.dn_game.specs.declared.script.ScriptFault.{ScriptFault}
+
+-- the line of an event: its number, the event in the words of a script, and its answer in words
+unfoldable pub trace_line : ℕ → Event → Result Done Refusal → List ℕ
+trace_line number event answer =
+    labelled ((codes "event ", pos number) ∷ [])
+    ++ (codes " " ++ (event_words event ++ (codes ": " ++ (answer_words answer ++ codes "\n"))))
+
+-- the lines of events with their answers, of which the first has this number
+abbrev pub trace_lines : ℕ → List Event → List (Result Done Refusal) → List ℕ
+trace_lines number [] answers = []
+trace_lines number (event ∷ events) [] = []
+trace_lines number (event ∷ events) (answer ∷ answers) =
+    trace_line number event answer ++ trace_lines (number + 1) events answers
+
+-- the lines and the exit status are those of a game of walks that has played these events: a line for each,
+-- and then those of the game
+abbrev pub AreTraced : GameConfig → ℕ → List Event → List ℕ → ℕ → Type 0
+AreTraced config players events lines status =
+    (played : Played Spots) × (p : WalksBy config players events played)
+    × (lines ≡ trace_lines 0 events p.answers ++ game_lines played) × (status ≡ 0)
+
+-- the lines and the exit status are those of what the bytes are read as, each event with its line
+abbrev pub IsSimTraced : GameConfig → ℕ → List ℕ → List ℕ → ℕ → Type 0
+IsSimTraced config players bytes lines status =
+    (read : Result (List Event) ScriptFault) × IsReadAs bytes read
+    × IsScriptShownBy (AreTraced config players) read lines status
+
+-- the lines and the exit status are those of a game of walks that has played `count` events of the seed's
+-- schedule, and then `calm` good rounds in which nobody presses a key: a line for each event, and then those
+-- of the game
+abbrev pub IsStormTraced : GameConfig → ℕ → (seed count calm : ℕ) → List ℕ → ℕ → Type 0
+IsStormTraced config players seed count calm lines status =
+    (before : Played Spots) × (s : WalksUnder config players seed count before)
+    × ((played : Played Spots) × IsCalmed (λ spots. spots) (rules_in walking config players) (keys_of no_keys)
+    calm s.last before played
+    × (lines ≡ trace_lines 0 s.events s.answers ++ game_lines played) × (status ≡ 0))
+
+-- an event was not left out since memory was refused
+abbrev pub IsNotLeftOut : Result Done Refusal → Type 0
+IsNotLeftOut answer = answer ≢ Err Refusal.Memory
+
+-- the lines and the exit status are those of the script of `count` events of the seed's schedule, of which
+-- none was left out
+abbrev pub IsStormScript : GameConfig → ℕ → (seed count : ℕ) → List ℕ → ℕ → Type 0
+IsStormScript config players seed count lines status =
+    (played : Played Spots) × (s : WalksUnder config players seed count played) × All IsNotLeftOut s.answers
+    × (lines ≡ script_text s.events) × (status ≡ 0)

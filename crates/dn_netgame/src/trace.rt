@@ -1,0 +1,203 @@
+//! Games told event by event: traces of scripts and storms, and the script of a storm.
+
+ghost use Rattle.std.specs.Prelude.{◌≡◌, ◌≢◌, ◌+◌, Err, IfOk, IfErr};
+ghost use Rattle.std.specs.String.{string_bytes};
+ghost use Rattle.dn_demo.specs.Recorded.{IsLimit};
+ghost use Rattle.dn_lockstep.specs.Opening.{IsGame};
+ghost use Rattle.dn_game.specs.Script.{size_limit};
+ghost use Rattle.dn_netgame.specs.Shown.{Shows, ShowsFront, Prints, PrintsFront};
+ghost use Rattle.dn_netgame.specs.TraceLines.{AreTraced, IsSimTraced, IsStormTraced, IsStormScript};
+ghost use Rattle.dn_netgame.specs.Transfer.{TakesFewer, TakesAtMost};
+ghost use Rattle.dn_netgame.specs.declared.fault.RunFault.{RunFault};
+
+use crate::calm::calm_down;
+use crate::fault::RunFault;
+use crate::games::{play_walks, push_game, storm_walks};
+use crate::observers::{Script, Trace};
+use crate::sim::{SCRIPT_LIMIT, text_of_fault};
+use crate::transfer::{gather, put};
+use dn_game::{Event, GameConfig, read_script};
+use std::alloc::{AllocError, Global};
+use std::io::{Read, Write};
+
+/// The lines of a game of walks that has played these events, behind a line for each.
+fn text_of_events(
+    alloc: Global,
+    config: GameConfig,
+    players: u8,
+    events: &[Event],
+) -> Result<String, AllocError>
+    requires players { IsGame players }
+    requires limit { IsLimit config.limit }
+    ensures { IfOk result (λ text. AreTraced config players events.now (string_bytes text) 0) }
+{
+    let mut trace = Trace::new(alloc);
+    let played = play_walks(alloc, config, players, events, &mut trace)?;
+    let mut text = trace.text;
+    push_game(&mut text, &played)?;
+    Ok(text)
+}
+
+/// The lines of what a script's bytes are read as, each event with its line, and the exit status.
+fn text_of_script(
+    alloc: Global,
+    config: GameConfig,
+    players: u8,
+    bytes: &[u8],
+) -> Result<(String, u8), RunFault>
+    requires players { IsGame players }
+    requires limit { IsLimit config.limit }
+    ensures shown { IfOk result
+        (λ shown. IsSimTraced config players bytes.now (string_bytes shown.0) shown.1) }
+    ensures fault { IfErr result (λ fault. fault ≡ RunFault.Memory) }
+{
+    match read_script(alloc, bytes) {
+        Ok(events) => Ok((
+            text_of_events(alloc, config, players, events.as_slice())?,
+            0,
+        )),
+        Err(fault) => text_of_fault(alloc, fault),
+    }
+}
+
+/// Does what `run_sim` does, and writes a line for each event before the lines of the game: its number,
+/// counted from 0, the event in the words of a script, and its answer in words. Its faults are those of
+/// `run_sim`.
+pub fn trace_sim<R: Read, W: Write>(
+    alloc: Global,
+    config: GameConfig,
+    players: u8,
+    input: &mut R,
+    output: &mut W,
+) -> Result<u8, RunFault>
+    requires players { IsGame players }
+    requires limit { IsLimit config.limit }
+
+    // All lines were written, and the status is theirs.
+    ensures shown { IfOk result (λ status. Shows (size_limit + 1) (IsSimTraced config players)
+        (R.remaining input.old) (R.remaining input.new)
+        (W.contents output.old) (W.contents output.new) status) }
+
+    // A read fault comes before the last byte is there.
+    ensures read { result ≡ Err RunFault.Read
+        → TakesFewer (size_limit + 1) (R.remaining input.old) (R.remaining input.new) }
+    // Memory can run out before that, too.
+    ensures memory { result ≡ Err RunFault.Memory
+        → TakesAtMost (size_limit + 1) (R.remaining input.old) (R.remaining input.new) }
+    // A write fault comes before the last byte of the lines is written.
+    ensures write { result ≡ Err RunFault.Write
+        → ShowsFront (size_limit + 1) (IsSimTraced config players)
+        (R.remaining input.old) (R.remaining input.new)
+        (W.contents output.old) (W.contents output.new) }
+    // Any other fault leaves the output as it was.
+    ensures unwritten { IfErr result (λ fault. fault ≢ RunFault.Write → output.new ≡ output.old) }
+{
+    let bytes = gather(alloc, input, SCRIPT_LIMIT + 1)?;
+    let (text, status) = text_of_script(alloc, config, players, bytes.as_slice())?;
+    put(output, text.as_bytes())?;
+    Ok(status)
+}
+
+/// The lines of a game of walks after `count` events of the seed's schedule, each with its line, and `calm`
+/// rounds in which every packet arrives.
+fn text_of_storm(
+    alloc: Global,
+    config: GameConfig,
+    players: u8,
+    seed: u64,
+    count: u32,
+    calm: u32,
+) -> Result<String, AllocError>
+    requires players { IsGame players }
+    requires limit { IsLimit config.limit }
+    ensures { IfOk result (λ text. IsStormTraced config players seed count calm (string_bytes text) 0) }
+{
+    let mut trace = Trace::new(alloc);
+    let mut played = storm_walks(alloc, config, players, seed, count, &mut trace)?;
+    calm_down(&mut played, calm)?;
+    let mut text = trace.text;
+    push_game(&mut text, &played)?;
+    Ok(text)
+}
+
+/// Does what `run_calm` does, and writes a line for each event of the schedule before the lines of the game:
+/// its number, counted from 0, the event in the words of a script, and its answer in words. The rounds have
+/// no lines. Its faults are those of `run_calm`.
+pub fn trace_storm<W: Write>(
+    alloc: Global,
+    config: GameConfig,
+    players: u8,
+    seed: u64,
+    count: u32,
+    calm: u32,
+    output: &mut W,
+) -> Result<u8, RunFault>
+    requires players { IsGame players }
+    requires limit { IsLimit config.limit }
+
+    // All lines were written, and the status is theirs.
+    ensures shown { IfOk result (λ status. Prints (IsStormTraced config players seed count calm)
+        (W.contents output.old) (W.contents output.new) status) }
+
+    // A write fault comes before the last byte of the lines is written.
+    ensures write { result ≡ Err RunFault.Write
+        → PrintsFront (IsStormTraced config players seed count calm) (W.contents output.old)
+        (W.contents output.new) }
+    // The only other fault is `Memory`, which leaves the output as it was.
+    ensures fault { IfErr result (λ fault. fault ≢ RunFault.Read) }
+    ensures unwritten { result ≡ Err RunFault.Memory → output.new ≡ output.old }
+{
+    let text = text_of_storm(alloc, config, players, seed, count, calm)?;
+    put(output, text.as_bytes())?;
+    Ok(0)
+}
+
+/// The script of `count` events of the seed's schedule.
+fn script_of(
+    alloc: Global,
+    config: GameConfig,
+    players: u8,
+    seed: u64,
+    count: u32,
+) -> Result<String, AllocError>
+    requires players { IsGame players }
+    requires limit { IsLimit config.limit }
+    ensures { IfOk result (λ text. IsStormScript config players seed count (string_bytes text) 0) }
+{
+    let mut script = Script::new(alloc);
+    let _played = storm_walks(alloc, config, players, seed, count, &mut script)?;
+    Ok(script.text)
+}
+
+/// Plays `count` events of the seed's schedule in a game of `players` new walks, and writes them as a script,
+/// which `run_sim` reads if it has at most 1,048,576 bytes. The answer is the exit status, which is always 0.
+///
+/// A write that fails or takes no bytes is the fault `Write`, and `Memory` is answered where memory for the
+/// game, a packet or the script was refused. Each ends the run there.
+pub fn storm_script<W: Write>(
+    alloc: Global,
+    config: GameConfig,
+    players: u8,
+    seed: u64,
+    count: u32,
+    output: &mut W,
+) -> Result<u8, RunFault>
+    requires players { IsGame players }
+    requires limit { IsLimit config.limit }
+
+    // The whole script was written, and the status is 0.
+    ensures shown { IfOk result (λ status. Prints (IsStormScript config players seed count)
+        (W.contents output.old) (W.contents output.new) status) }
+
+    // A write fault comes before the last byte of the script is written.
+    ensures write { result ≡ Err RunFault.Write
+        → PrintsFront (IsStormScript config players seed count) (W.contents output.old)
+        (W.contents output.new) }
+    // The only other fault is `Memory`, which leaves the output as it was.
+    ensures fault { IfErr result (λ fault. fault ≢ RunFault.Read) }
+    ensures unwritten { result ≡ Err RunFault.Memory → output.new ≡ output.old }
+{
+    let text = script_of(alloc, config, players, seed, count)?;
+    put(output, text.as_bytes())?;
+    Ok(0)
+}
