@@ -159,8 +159,7 @@ impl Pool {
         ensures flights { self.new.flights ≡ self.old.flights ++ record {
           from = from;
           to = to;
-          aim =
-              aim;
+          aim = aim;
           bytes = bytes.now;
         } ∷ [] }
         ensures kept { self.new.room ≡ self.old.room }
