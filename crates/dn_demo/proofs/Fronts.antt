@@ -32,8 +32,7 @@ start_in-take n bytes whole =
       map = c i;
       deathmatch = d i;
       respawn = e i;
-      fast =
-          f i;
+      fast = f i;
       no_monsters = g i;
     }
 

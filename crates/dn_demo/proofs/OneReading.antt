@@ -34,8 +34,7 @@ recording-take layout k bytes after =
       view = view i;
       present = seats i;
       rows = rows i;
-      cut =
-          k % player_count (seats i);
+      cut = k % player_count (seats i);
       after = after;
     }
 

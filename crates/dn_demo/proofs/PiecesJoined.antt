@@ -6,7 +6,7 @@ use Rattle.dn_demo.specs.Layout.{Layout}
 use Rattle.dn_demo.specs.Places.{EndsBehind}
 use Rattle.dn_demo.specs.Reading.{Recording, IsReadAs}
 use Rattle.dn_demo.specs.Feeding.{Feeding, Shows, TakesAll}
-use Rattle.dn_demo.specs.Fed.{IsFedAs, PiecesEndAs, IsSameEnd, Tells, fault_of}
+use Rattle.dn_demo.specs.Fed.{IsFedAs, PiecesEndAs, IsSameEnd, Summarizes, fault_of}
 use Rattle.dn_demo.specs.declared.fed.Fed.{Fed}
 use Rattle.dn_demo.specs.declared.fed.FeedFault.{FeedFault}
 use Rattle.dn_demo.specs.declared.fed.FeedFault.TheVariants.{Short, Version, NoPlayers, NoMarker}
@@ -64,7 +64,7 @@ one_end : {S W : Type 0} (state : W → S) (physics : Physics S) (bytes : List �
     → IsFedAs state physics bytes one → IsFedAs state physics bytes other → IsSameEnd state physics one other
 one_end state physics bytes (Ok a) (Ok b) p q =
     let same : q.0 ≡ p.0 = same_demo bytes q.0 p.0 q.1 p.1 in
-    (p.0, p.2, subst (λ (d : Recording). Tells state physics d b) same q.2)
+    (p.0, p.2, subst (λ (d : Recording). Summarizes state physics d b) same q.2)
 one_end state physics bytes (Ok a) (Err f) p q = absurd (no_fault bytes p.0 f p.1 q)
 one_end state physics bytes (Err f) (Ok b) p q = absurd (no_fault bytes q.0 f q.1 p)
 one_end state physics bytes (Err f) (Err e) p q = one_fault bytes f e p q

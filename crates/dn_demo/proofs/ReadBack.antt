@@ -135,23 +135,18 @@ read_back layout start view present rows sound can told_turns =
       layout,
       record {
         whole = omega arith;
-        known =
-            ap layout_of_version (version-text layout start view present rows true) ∙ sound.known;
-        somebody =
-            somebody;
+        known = ap layout_of_version (version-text layout start view present rows true) ∙ sound.known;
+        somebody = somebody;
       },
       (
         commands,
         ends,
         λ i. record {
           version = sym (version-text layout start view present rows true) i;
-          start =
-              sym (start_in-text layout start view present rows true) i;
-          view =
-              sym (view-text layout start view present rows true) i;
+          start = sym (start_in-text layout start view present rows true) i;
+          view = sym (view-text layout start view present rows true) i;
           present = sym seats i;
-          rows =
-              sym told i;
+          rows = sym told i;
           cut = sym none_cut i;
           after = sym none_after i;
         },

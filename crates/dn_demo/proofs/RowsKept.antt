@@ -372,8 +372,7 @@ passed state physics layout bytes more f g was long rows tics row after marked w
       commands,
       record {
         marked = stays bytes more (place layout commands) marker ends.1.marked;
-        first =
-            first;
+        first = first;
       },
       front,
       count,

@@ -162,8 +162,6 @@ rows_writable bytes demo fits read =
     (record {
       four = refl;
       somebody = read.1.somebody;
-      recordable =
-          all_rows (IsRow seats) (row_in layout bytes) 0 (commands / players) row;
-      moves =
-          all_rows (All (λ step. IfSome step IsMove)) (row_in layout bytes) 0 (commands / players) moves;
+      recordable = all_rows (IsRow seats) (row_in layout bytes) 0 (commands / players) row;
+      moves = all_rows (All (λ step. IfSome step IsMove)) (row_in layout bytes) 0 (commands / players) moves;
     })

@@ -17,7 +17,7 @@ fault_of feed.NoPlayers = read.NoPlayers
 fault_of feed.NoMarker = read.NoMarker
 
 -- what is told of a demo that was fed, with a world in which it was played
-pub record Tells {S W : Type 0} (state : W → S) (physics : Physics S) (demo : Recording)
+pub record Summarizes {S W : Type 0} (state : W → S) (physics : Physics S) (demo : Recording)
     (fed : Fed W) : Type 0 where
   pub version : fed.version ≡ demo.version
   pub start : fed.start ≡ demo.start
@@ -31,7 +31,7 @@ pub record Tells {S W : Type 0} (state : W → S) (physics : Physics S) (demo : 
 -- what a feed of these bytes ends as: the demo that they are read as, or the fault of their reading
 abbrev pub IsFedAs : {S W : Type 0} → (W → S) → Physics S → List ℕ → Result (Fed W) FeedFault → Type 0
 IsFedAs state physics bytes (Ok fed) = (demo : Recording) × IsReadAs bytes (Ok demo)
-    × Tells state physics demo fed
+    × Summarizes state physics demo fed
 IsFedAs state physics bytes (Err fault) = IsReadAs bytes (Err (fault_of fault))
 
 -- whatever bytes a feed shows, it ends as what they are read as
@@ -49,7 +49,7 @@ PiecesEndAs {W = W} state physics pieces result =
 -- two ends are the same: the same fault, or what is told of one demo
 abbrev pub IsSameEnd : {S W : Type 0} → (W → S) → Physics S → Result (Fed W) FeedFault
     → Result (Fed W) FeedFault → Type 0
-IsSameEnd state physics (Ok one) (Ok other) = (demo : Recording) × Tells state physics demo one
-    × Tells state physics demo other
+IsSameEnd state physics (Ok one) (Ok other) = (demo : Recording) × Summarizes state physics demo one
+    × Summarizes state physics demo other
 IsSameEnd state physics (Err one) (Err other) = one ≡ other
 IsSameEnd state physics one other = ⊥

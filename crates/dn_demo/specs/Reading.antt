@@ -45,8 +45,7 @@ written_demo layout start view present rows =
       view = view;
       present = present;
       rows = rows;
-      cut =
-          0;
+      cut = 0;
       after = 0;
     }
 

@@ -21,8 +21,7 @@ IsUpgraded demo limit (Ok recorder) =
     × (recorder ≡ record {
       limit = limit;
       stage = Closed;
-      bytes =
-          demo_text long_tics demo.start demo.view demo.present demo.rows true;
+      bytes = demo_text long_tics demo.start demo.view demo.present demo.rows true;
     })
 IsUpgraded demo limit (Err Limit) = ¬ IsLimit limit
 IsUpgraded demo limit (Err Full) = IsLimit limit × (limit < upgraded_size demo)

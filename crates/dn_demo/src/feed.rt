@@ -47,8 +47,7 @@ impl<W> Model for Feed<W> {
       taken = f.taken;
       header = take f.taken f.header;
       tics = f.tics;
-      row =
-          take f.kept f.row;
+      row = take f.kept f.row;
       marked = f.marked;
       after = f.after;
       world = f.world;
@@ -59,8 +58,7 @@ impl<W> Model for Feed<W> {
           taken = f.taken;
           header = take f.taken f.header;
           tics = f.tics;
-          row =
-              take f.kept f.row;
+          row = take f.kept f.row;
           marked = f.marked;
           after = f.after;
           world = f.world;

@@ -105,8 +105,7 @@ impl Recorder {
             ≡ record {
               limit = self.old.limit;
               stage = Open;
-              bytes =
-                  demo_text long_tics start.now view present [] false;
+              bytes = demo_text long_tics start.now view present [] false;
             } }
         ensures seats { seats_in self.new.bytes ≡ present }
     {
@@ -184,8 +183,7 @@ impl Recorder {
         requires { self.old.stage ≡ Open }
         ensures written { self.new ≡ record self.old {
           stage = Closed;
-          bytes =
-              self.old.bytes ++ marker ∷ [];
+          bytes = self.old.bytes ++ marker ∷ [];
         } }
         ensures text { Closes self.old.bytes self.new.bytes }
     {

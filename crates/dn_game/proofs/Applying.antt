@@ -71,8 +71,7 @@ pub after_step : {W S A : Type 0} (state : W → S) (rules : Rules S) (g : Conte
 after_step state rules g m place n next answer done r below after =
     record {
       game = places state rules g m place n next.0 r below after.node;
-      answered =
-          ap done after.answer;
+      answered = ap done after.answer;
     }
 
 -- a node stops

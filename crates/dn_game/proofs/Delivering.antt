@@ -46,8 +46,7 @@ delivers_to {W} {S} state rules g m which flight to n heard r there is below aft
     (subst Q is
     (record {
       game = places state rules g m to n _ r below after.node;
-      answered =
-          ap Done.Heard after.answer;
+      answered = ap Done.Heard after.answer;
     }))
 
 -- a node hears the packets of near flights exactly

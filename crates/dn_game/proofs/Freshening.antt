@@ -65,8 +65,7 @@ opens state rules settings nodes flights count nodes_fresh none =
       nodes = nodes_fresh;
       stopped = nobody;
       flights = none;
-      carried =
-          λ k d far. absurd (omega arith);
+      carried = λ k d far. absurd (omega arith);
     }
 
 -- each node has the world that was given for it: those so far, and those that are left

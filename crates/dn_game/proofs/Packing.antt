@@ -6,7 +6,7 @@ use Rattle.std.proofs.lemmas.Grind.{flat_map-append}
 use Rattle.std.proofs.lemmas.List.{drop-append-le, take-append-le, append-nil}
 use Rattle.std.proofs.lemmas.List.Elements.{All-cons, All-nil, All-head, All-tail}
 use Rattle.arrayvec.specs.ArrayVec.{ArrayVec}
-use Rattle.dn_lockstep.specs.declared.lockstep.sending.Aim.{Aim}
+use Rattle.dn_lockstep.specs.declared.lockstep.aiming.Aim.{Aim}
 use Rattle.dn_game.specs.declared.flight.Flight.{Flight}
 use Rattle.dn_game.specs.declared.pool.Record.{Record}
 use Rattle.dn_game.specs.Pool.{joined, flight_in, flights_in, IsPiece, ArePacked, IsRecordOf}

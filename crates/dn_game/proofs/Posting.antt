@@ -26,8 +26,7 @@ module _ {W S : Type 0} (state : W → S) (rules : Rules S) (g : Contents W) (m 
           players = r.players;
           nodes = r.nodes;
           stopped = r.stopped;
-          flights =
-              same ∙ r.flights;
+          flights = same ∙ r.flights;
           carried = r.carried;
         };
         answered = refl;

@@ -152,8 +152,7 @@ no_letters word other some = record {
   other = other;
   some = some;
   known = All-nil (Contains letters);
-  bits =
-      no_bits;
+  bits = no_bits;
 }
 
 pub more_letters : (word : List ℕ) (i keys place : ℕ) → AreLettersUpTo word i keys → i < length word

@@ -29,8 +29,7 @@ number_written n short =
       some = is.0.0;
       few = length-decimal-le 9 n (lit< tt) short small;
       digits = is.0.1;
-      value =
-          sym is.1;
+      value = sym is.1;
     }
 
 -- what is in a list is in it behind one element more

@@ -17,7 +17,7 @@ use Rattle.dn_machine.specs.Node as machine_node
 use Rattle.dn_machine.specs.Sending.{on_send, on_send_in, set_up_flight}
 use Rattle.dn_machine.specs.Worlds.{Rules}
 use Rattle.dn_node.specs.declared.node.Node.{Node}
-use Rattle.dn_lockstep.specs.declared.lockstep.sending.Aim.{Aim}
+use Rattle.dn_lockstep.specs.declared.lockstep.aiming.Aim.{Aim}
 use Rattle.dn_node.specs.Contents as node
 use Rattle.dn_node.specs.Giving.{Gives}
 use Rattle.dn_lockstep.specs.Near.{IsFair}
@@ -138,8 +138,7 @@ module _ {W S : Type 0} (state : W → S) (rules : Rules S) (g : Contents W) (m 
         from = sym ends.0 k;
         to = sym ends.1 k;
         aim = numbers k;
-        bytes =
-            record { items = some.2 k };
+        bytes = record { items = some.2 k };
       } in
       sends_if (Done.Sent which)
       (posts_some state rules (record g { nodes = set g.nodes me new }) (with_node m me sent.0)

@@ -51,7 +51,6 @@ module _ {W S : Type 0} (state : W → S) (rules : Rules S) (g : Contents W) (m 
         record {
           there = at.1;
           sent = sent;
-          carried =
-              all_at (IsCarried rules.players) m.flights which at.0 r.carried at.1;
+          carried = all_at (IsCarried rules.players) m.flights which at.0 r.carried at.1;
         },
       )

@@ -17,7 +17,7 @@ use Rattle.dn_machine.specs.Flight.{Flight}
 use Rattle.dn_machine.specs.Node.{Node, ran, lowest}
 use Rattle.dn_machine.specs.Running.{is_awaited, first_off, row_held, full_at, on_run, on_run_in, on_run_playing}
 use Rattle.dn_machine.specs.Game.{Game, opening_game, posted, delivered, refused_flight, refused, on_event, applied_if, applied}
-use Rattle.dn_machine.specs.Invariant.{IsKept}
+use Rattle.dn_machine.proofs.Invariant.{IsKept}
 use Rattle.dn_machine.proofs.Games.{opens, happens_keeps, applied_keeps}
 use Rattle.dn_machine.proofs.Promises
 use Rattle.dn_machine.proofs.Put.{put_at}
@@ -49,8 +49,7 @@ module _ {S : Type 0} (rules : Rules S) (node : Node) (player : ℕ) (was should
 refused_steady : (refusal : Refusal) → IsSteady (Err refusal)
 refused_steady refusal = record {
   consistent = λ player was should e. absurd (cc);
-  kept =
-      λ number e. absurd (cc);
+  kept = λ number e. absurd (cc);
 }
 
 -- an event of a number that is not refused is one of a player
@@ -64,8 +63,7 @@ module _ {S : Type 0} (rules : Rules S) (settings : Settings) (game : Game)
   sends game None = record { consistent = λ player was should e. absurd (cc); kept = λ number e. absurd (cc) }
   sends game (Some flight) = record {
     consistent = λ player was should e. absurd (cc);
-    kept =
-        λ number e. absurd (cc);
+    kept = λ number e. absurd (cc);
   }
 
   delivers : (which : ℕ) (flight : Option Flight) → slice_get game.flights which ≡ flight
@@ -101,13 +99,11 @@ module _ {S : Type 0} (rules : Rules S) (settings : Settings) (game : Game)
   happens (Run node) free = runs node free
   happens (Quit node) free = record {
     consistent = λ player was should e. absurd (cc);
-    kept =
-        λ number e. absurd (cc);
+    kept = λ number e. absurd (cc);
   }
   happens (Stop node) free = record {
     consistent = λ player was should e. absurd (cc);
-    kept =
-        λ number e. absurd (cc);
+    kept = λ number e. absurd (cc);
   }
 
   pub applied_steady : (event : Event) → IsSteady (applied rules game event).1

@@ -18,8 +18,7 @@ flight_of flight =
       from = flight.from;
       to = flight.to;
       aim = aim_of flight;
-      bytes =
-          record { items = bytes_of flight };
+      bytes = record { items = bytes_of flight };
     }
 
 -- a flight between two players that a packet can carry

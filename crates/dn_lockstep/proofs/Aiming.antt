@@ -9,7 +9,7 @@ use Rattle.dn_machine.specs.declared.answers.Cause.{Cause}
 use Rattle.dn_machine.specs.declared.answers.Phase.TheVariants.{Ended}
 use Rattle.dn_machine.specs.Flight.{Play, Exit, Flight, request_flag}
 use Rattle.dn_machine.specs.Sending.{on_send_in, commands_flight, first_sent, request_to, set_up_flight}
-use Rattle.dn_lockstep.specs.declared.lockstep.sending.Aim.{Aim}
+use Rattle.dn_lockstep.specs.declared.lockstep.aiming.Aim.{Aim}
 use Rattle.dn_lockstep.specs.Sent.{aim_of, sent_to}
 
 pub aim_is : {S : Type 0} (rules : Rules S) (me : ℕ) (m : machine.Node) (to flags : ℕ) (ask : Option ℕ)

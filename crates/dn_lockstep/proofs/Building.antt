@@ -28,8 +28,7 @@ abbrev pub built : {S : Type 0} → Rules S → ℕ → machine.Node → ℕ →
 built rules me m state =
     record m {
       keys = m.keys ++ state ∷ [];
-      held =
-          put m.held me (m.held me ++ next_command rules me m state ∷ []);
+      held = put m.held me (m.held me ++ next_command rules me m state ∷ []);
     }
 
 module _ {S : Type 0} (rules : Rules S) (me : ℕ) (m : machine.Node) (state : ℕ) where

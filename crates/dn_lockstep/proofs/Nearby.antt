@@ -143,8 +143,7 @@ module _ {S : Type 0} (rules : Rules S) (me : ℕ) (m : machine.Node) (flight : 
           from = flight.from;
           to = me;
           kind = (spelt.kinded ∙ sym spelt.same) i;
-          start =
-              flight.start;
+          start = flight.start;
           request = spelt.asks i;
           commands = spelt.items i;
         }) phase (spelt.kinded i))

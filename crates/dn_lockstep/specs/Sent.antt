@@ -7,7 +7,7 @@ use Rattle.dn_machine.specs.Node as machine
 use Rattle.dn_machine.specs.declared.answers.Phase.{Phase}
 use Rattle.dn_machine.specs.declared.answers.Phase.TheVariants.{Listening, Gathering, Playing, Ended}
 use Rattle.dn_machine.specs.Sending.{on_send, after_sent}
-use Rattle.dn_lockstep.specs.declared.lockstep.sending.Aim.{Aim}
+use Rattle.dn_lockstep.specs.declared.lockstep.aiming.Aim.{Aim}
 
 -- as the machine sends; to a number that is no player's there is none
 abbrev pub sent_to : {S : Type 0} → ℕ → Rules S → ℕ → machine.Node → machine.Node × Option Flight

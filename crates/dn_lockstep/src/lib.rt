@@ -23,7 +23,7 @@ pub use dn_machine::{Cause, Heard, Made, Phase, Ran};
 pub use laws::{ended_demos_are_read, locksteps_agree};
 pub use lockstep::Lockstep;
 pub use lockstep::opening::is_game;
-pub use lockstep::sending::Aim;
+pub use lockstep::aiming::Aim;
 
 #[cfg(test)]
 mod tests;

@@ -12,13 +12,13 @@ ghost use Rattle.dn_lockstep.specs.Rings.{ring_at, count_of};
 ghost use Rattle.dn_lockstep.specs.Peers.{peer_at};
 ghost use Rattle.dn_lockstep.specs.Rows.{seats_of, is_gone, has_gone};
 
+pub(crate) mod aiming;
 mod building;
 mod ending;
-mod giving;
 mod hearing;
 pub(crate) mod opening;
 mod running;
-pub(crate) mod sending;
+mod sending;
 mod starting;
 mod taking;
 

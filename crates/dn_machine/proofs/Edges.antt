@@ -24,8 +24,7 @@ playing made ran = record (fresh settings 0) {
   phase = Playing;
   played = true;
   keys = replicate made 0;
-  held =
-      λ p. replicate made blank;
+  held = λ p. replicate made blank;
   rows = replicate ran [];
 }
 
@@ -35,8 +34,7 @@ packet start request count = record {
   to = 0;
   kind = Play;
   start = start;
-  request =
-      request;
+  request = request;
   commands = replicate count blank;
 }
 
@@ -73,8 +71,7 @@ three = record counting { players = 3 }
 ended : Cause → Node
 ended cause = record (playing 35 30) {
   phase = Ended cause;
-  peers =
-      λ p. record no_peer { resend = if p == 1 then 33 else 20; want = true };
+  peers = λ p. record no_peer { resend = if p == 1 then 33 else 20; want = true };
 }
 
 starts_of : Option Flight → List ℕ
@@ -194,8 +191,7 @@ own_end = (refl, refl)
 asks : ((on_send counting 0
     (record (playing 20 15) {
       peers = λ p. record no_peer { want = true };
-      held =
-          λ p. replicate (if nat_lt p 1 then 20 else 17) blank;
+      held = λ p. replicate (if nat_lt p 1 then 20 else 17) blank;
     }) 1).1
     ≡ Some (record { from = 0; to = 1; kind = Play; start = 20; request = Some 17; commands = [] }))
     × (((on_packet counting 0 (record (playing 20 18) { peers = λ p. record no_peer { want = true } })
@@ -219,8 +215,7 @@ packets : (packet_of (packet 300 (Some 258) 0) ≡ record {
   ask = 2;
   start = 44;
   player = 1;
-  cmds =
-      record { items = [] };
+  cmds = record { items = [] };
 })
     × (packet_of (record (packet 35 None 0) { kind = Exit })
     ≡ record { flags = 8; ask = 0; start = 35; player = 1; cmds = record { items = [] } })

@@ -17,7 +17,7 @@ use Rattle.dn_machine.specs.Node.{Node, put, with_peer, ends_of, got, made, ran,
 use Rattle.dn_machine.specs.Sending.{commands_flight, after_sent, on_send}
 use Rattle.dn_machine.specs.Hearing.{is_within, after_request, is_past_end, is_strange_end, after_exit, after_flight, on_commands, on_ended, on_packet, on_packet_in}
 use Rattle.dn_machine.specs.Game.{Game, with_node}
-use Rattle.dn_machine.specs.Invariant.{HoldsAll, history_of}
+use Rattle.dn_machine.proofs.Invariant.{HoldsAll, history_of}
 use Rattle.dn_machine.specs.Progress.{after, exchange}
 use Rattle.dn_machine.proofs.Put.{put_at, put_off, same_functions}
 use Rattle.dn_machine.proofs.Games.{applied_keeps}

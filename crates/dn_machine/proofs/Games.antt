@@ -12,7 +12,7 @@ use Rattle.dn_machine.specs.declared.events.Refusal.{Refusal}
 use Rattle.dn_machine.specs.Worlds.{Rules}
 use Rattle.dn_machine.specs.Flight.{Flight}
 use Rattle.dn_machine.specs.Game.{Game, opening_game, refused_at, refused, delivered, on_event, applied_if, applied}
-use Rattle.dn_machine.specs.Invariant.{IsKept}
+use Rattle.dn_machine.proofs.Invariant.{IsKept}
 use Rattle.dn_machine.proofs.Steps
 use Rattle.dn_machine.specs.Runs.{Next, Leads, Runs}
 

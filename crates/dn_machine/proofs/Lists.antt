@@ -11,7 +11,7 @@ use Rattle.dn_setup.specs.Settings.{Settings}
 use Rattle.dn_machine.specs.Worlds.{Rules, command, row}
 use Rattle.dn_machine.specs.Flight.{Exit, Flight, end_of}
 use Rattle.dn_machine.specs.Node.{put, blank}
-use Rattle.dn_machine.specs.Invariant.{History, IsPiece, HoldsAll, ComesFromKeys}
+use Rattle.dn_machine.proofs.Invariant.{History, IsPiece, HoldsAll, ComesFromKeys}
 use Rattle.dn_machine.proofs.Truth.{command_same, row_same}
 use Rattle.dn_machine.proofs.Put.{put_at, put_off, put_two_at, put_two_off, both_or_not, slice_get_push}
 
@@ -426,8 +426,7 @@ module _ {S : Type 0} (rules : Rules S) (settings : Settings) (history : History
       pub builds : ComesFromKeys rules settings
           (record history {
             keys = put history.keys me (history.keys me ++ state ∷ []);
-            held =
-                put history.held me (put (history.held me) me (history.held me me ++ new ∷ []));
+            held = put history.held me (put (history.held me) me (history.held me me ++ new ∷ []));
           }) flights
       builds =
           let X = history.held me me ++ new ∷ [] in

@@ -24,7 +24,7 @@ use Rattle.dn_machine.specs.Sending.{on_send, on_send_in, set_up_flight}
 use Rattle.dn_machine.specs.Hearing.{on_gathering, is_strange_end, on_commands, on_ended, on_packet, on_packet_in}
 use Rattle.dn_machine.specs.Running.{is_awaited, first_off, row_held, full_at, on_run_playing, on_run_in, on_run, on_quit, on_quit_in}
 use Rattle.dn_machine.specs.Game.{Game, fresh, opening_game, with_node, posted, refused_at, refused, delivered, on_event, applied_if, applied}
-use Rattle.dn_machine.specs.Invariant.{IsKept}
+use Rattle.dn_machine.proofs.Invariant.{IsKept}
 use Rattle.dn_machine.specs.Runs.{Next, Leads, Runs}
 use Rattle.dn_machine.proofs.Put.{put_at, put_off, slice_get_push}
 use Rattle.dn_machine.proofs.Games.{opens, next_keeps, passes}
@@ -391,8 +391,7 @@ module _ {S : Type 0} (rules : Rules S) (settings : Settings) (game : Game)
         stands = is_open.stands;
         noted = is_open.noted;
         all = is_open.all;
-        missing =
-            is_open.missing;
+        missing = is_open.missing;
         sent = is_open.sent;
       }
 

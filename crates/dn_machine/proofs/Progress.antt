@@ -132,8 +132,7 @@ module _ {S : Type 0} (rules : Rules S) (settings : Settings) (cap : ℕ) (sever
     begun tic far roomy = record {
       live = record {
         kept = always rules settings events game run;
-        patient =
-            always_patient rules settings events game run;
+        patient = always_patient rules settings events game run;
         running = λ q l. (none_lost q l).1;
       };
       there = λ q l s. not-true (is_ended (game.nodes q).phase) s;

@@ -14,7 +14,7 @@ use Rattle.dn_machine.specs.Worlds.{Rules, row, if_made, command}
 use Rattle.dn_machine.specs.Flight.{Kind, SetUp, Play, Exit, Flight, is_exit, end_of}
 use Rattle.dn_machine.specs.Node.{Node, ends_of, blank, got, made, ran, put, is_ended, has_left, known_end, lacks, is_whole, demo_rows}
 use Rattle.dn_machine.specs.Game.{Game}
-use Rattle.dn_machine.specs.Invariant.{IsKept, history_of}
+use Rattle.dn_machine.proofs.Invariant.{IsKept, history_of}
 use Rattle.dn_machine.specs.Promise.{IsPrefixOf, keys_of, Agree, Fits, Steady, end_or}
 use Rattle.dn_machine.proofs.Truth.{world_after_true, length-commands_to, get_or-commands_to}
 use Rattle.dn_machine.proofs.Lists

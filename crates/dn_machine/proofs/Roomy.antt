@@ -20,7 +20,7 @@ use Rattle.dn_machine.specs.Sending.{on_send, on_send_in}
 use Rattle.dn_machine.specs.Hearing.{on_ended, on_packet, on_packet_in}
 use Rattle.dn_machine.specs.Running.{tic_limit, full_at, is_absent, is_over, row_held, on_run, on_run_in, on_quit, on_quit_in}
 use Rattle.dn_machine.specs.Game.{Game, posted, refused, delivered, on_event, applied_if, applied}
-use Rattle.dn_machine.specs.Invariant.{IsKept}
+use Rattle.dn_machine.proofs.Invariant.{IsKept}
 use Rattle.dn_machine.specs.Progress.{after}
 use Rattle.dn_machine.proofs.Put.{put_at, put_off}
 use Rattle.dn_machine.proofs.Demos.{whole_has}

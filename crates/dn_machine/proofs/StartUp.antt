@@ -345,8 +345,7 @@ module _ {S : Type 0} (rules : Rules S) (settings : Settings) (cap : ℕ) (stay 
               to = j;
               kind = SetUp settings;
               start = 0;
-              request =
-                  None;
+              request = None;
               commands = [];
             } ∷ [];
       }
@@ -363,8 +362,7 @@ module _ {S : Type 0} (rules : Rules S) (settings : Settings) (cap : ℕ) (stay 
               kind = SetUp settings;
               start = 0;
               request = None;
-              commands =
-                  [];
+              commands = [];
             }),
           )
       unfolding on_send
@@ -395,8 +393,7 @@ module _ {S : Type 0} (rules : Rules S) (settings : Settings) (cap : ℕ) (stay 
             to = j;
             kind = SetUp settings;
             start = 0;
-            request =
-                None;
+            request = None;
             commands = [];
           } in
           ap (after rules (Deliver (length game.flights))) offered_is
@@ -413,8 +410,7 @@ module _ {S : Type 0} (rules : Rules S) (settings : Settings) (cap : ℕ) (stay 
             to = j;
             kind = SetUp settings;
             start = 0;
-            request =
-                None;
+            request = None;
             commands = [];
           } in
           ap (λ (n : Node). (on_packet_in rules j n F n.phase (SetUp settings)).0.phase)

@@ -18,7 +18,7 @@ use Rattle.dn_machine.specs.Worlds.{Rules, if_made, mark_in, worlds_to, command,
 use Rattle.dn_machine.specs.Flight.{Kind, SetUp, Play, Exit, Flight, is_exit, end_of}
 use Rattle.dn_machine.specs.Node.{Node, put, with_peer, ends_of, blank, got, made, ran, held_at, own_mark, lowest, is_ended, has_left, is_whole}
 use Rattle.dn_machine.specs.Game.{Game, with_node, posted}
-use Rattle.dn_machine.specs.Invariant.{History, IsPiece, ComesFromKeys, IsSound, IsKept, history_of}
+use Rattle.dn_machine.proofs.Invariant.{History, IsPiece, ComesFromKeys, IsSound, IsKept, history_of}
 use Rattle.dn_machine.proofs.Truth.{row_of_same, back_same}
 use Rattle.dn_machine.proofs.Put.{put_at, put_off, view_put, view_kept}
 use Rattle.dn_machine.proofs.Peers.{asked_low, asked_end, flight_low, flight_end, resends_put, same_ends}
@@ -209,8 +209,7 @@ module _ {S : Type 0} (rules : Rules S) (settings : Settings) (game : Game)
           (own_mark rules (game.nodes i) i (made i (game.nodes i))) in
           let node : Node = record (game.nodes i) {
             keys = (game.nodes i).keys ++ state ∷ [];
-            held =
-                put (game.nodes i).held i ((game.nodes i).held i ++ new ∷ []);
+            held = put (game.nodes i).held i ((game.nodes i).held i ++ new ∷ []);
           } in
           let sound = kept.sound i mine in
           placed node game.stopped game.flights _
@@ -710,13 +709,11 @@ module _ {S : Type 0} (rules : Rules S) (settings : Settings) (game : Game)
         (record {
           played = sound.played;
           playing = sound.playing;
-          gathering =
-              sound.gathering;
+          gathering = sound.gathering;
           consistent = sound.consistent;
           resend = sound.resend;
           room = sound.room;
-          whole =
-              sound.whole;
+          whole = sound.whole;
           most = sound.most;
         }))
 

@@ -19,7 +19,7 @@ use Rattle.dn_machine.specs.Node.{Node, got, made, ran, is_ended, own_mark, lowe
 use Rattle.dn_machine.specs.Building.{on_build, on_build_in}
 use Rattle.dn_machine.specs.Running.{full_at, is_absent, is_awaited, first_off, row_held, on_run, on_run_in, on_run_playing}
 use Rattle.dn_machine.specs.Game.{Game, with_node}
-use Rattle.dn_machine.specs.Invariant.{history_of}
+use Rattle.dn_machine.proofs.Invariant.{history_of}
 use Rattle.dn_machine.specs.Progress.{after, in_order}
 use Rattle.dn_machine.proofs.Put.{put_at, put_off}
 use Rattle.dn_machine.proofs.Lists
@@ -204,8 +204,7 @@ module _ {S : Type 0} (rules : Rules S) (settings : Settings) (cap : ℕ) (stay 
               phase = refl;
               played = refl;
               quiet = λ k n. refl;
-              built =
-                  λ u. absurd (true≢false (sym u ∙ s));
+              built = λ u. absurd (true≢false (sym u ∙ s));
             })
       ]
 

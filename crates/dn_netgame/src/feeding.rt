@@ -4,7 +4,7 @@ ghost use Rattle.std.specs.Prelude.{◌≡◌, ◌≤◌, ℕ, ◌+◌, List, le
 ghost use Rattle.dn_world.specs.Plane.{walking};
 ghost use Rattle.dn_demo.specs.Reading.{Recording};
 ghost use Rattle.dn_demo.specs.Feeding.{Shows};
-ghost use Rattle.dn_demo.specs.Fed.{Tells};
+ghost use Rattle.dn_demo.specs.Fed.{Summarizes};
 ghost use Rattle.dn_netgame.specs.DemoLines.{demo_limit, IsGiven, IsRefused};
 ghost use Rattle.dn_netgame.specs.Transfer.{TakesUpTo, TakesFewer};
 ghost use Rattle.dn_netgame.specs.declared.fault.RunFault.{RunFault};
@@ -47,7 +47,7 @@ pub(crate) fn feed_demo<R: Read>(input: &mut R) -> Result<Feed<Walk>, RunFault>
 /// The demo that was fed, or the line that tells why there is none.
 pub(crate) fn fed_demo(feed: Feed<Walk>) -> Result<Fed<Walk>, &'static str>
     ensures demo { IfOk result (λ fed. (bytes : List ℕ) → Shows (λ w. w) walking bytes feed
-        → (demo : Recording) × IsGiven bytes demo × Tells (λ w. w) walking demo fed) }
+        → (demo : Recording) × IsGiven bytes demo × Summarizes (λ w. w) walking demo fed) }
     ensures refused { IfErr result (λ line. (bytes : List ℕ) → Shows (λ w. w) walking bytes feed
         → IsRefused bytes line.now) }
 {

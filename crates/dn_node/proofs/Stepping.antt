@@ -59,8 +59,7 @@ module _ {W S A : Type 0} (state : W → S) (physics : Physics S) (old new : Con
       let shows = to_worlds physics players extra capacity
       (step (rules_of physics players extra capacity) me m).0 me (locked new) after.node in
       record {
-        node =
-            record { lockstep = shows; world = world players extra capacity me m r shows after.answer };
+        node = record { lockstep = shows; world = world players extra capacity me m r shows after.answer };
         answer = after.answer;
       }
 

@@ -1,6 +1,6 @@
 -- What a node must know to give a packet.
 use Rattle.std.specs.Prelude.{ℕ}
-use Rattle.dn_lockstep.specs.declared.lockstep.sending.Aim.{Aim}
+use Rattle.dn_lockstep.specs.declared.lockstep.aiming.Aim.{Aim}
 use Rattle.dn_lockstep.specs.Giving as lockstep
 use Rattle.dn_node.specs.Contents.{Contents, locked}
 

@@ -108,8 +108,7 @@ is_packet bytes fits long few whole sum =
         flags = word / 2 ^ 28;
         ask = get_or bytes 4 0;
         start = get_or bytes 5 0;
-        player =
-            get_or bytes 6 0;
+        player = get_or bytes 6 0;
         cmds = record { items = found.commands };
       });
       is_read = (

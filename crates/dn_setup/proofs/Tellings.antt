@@ -6,7 +6,7 @@ use Rattle.dn_packet.specs.declared.packet.Packet.{Packet}
 use Rattle.dn_setup.specs.declared.setup.SetupFault.TheVariants.{NotSetup, Version, Range}
 use Rattle.dn_setup.specs.Settings.{Settings, choice}
 use Rattle.dn_setup.specs.Starts.{bit}
-use Rattle.dn_setup.specs.Setup.{HasSetup, Tells, Told, version}
+use Rattle.dn_setup.specs.Setup.{HasSetup, Carries, Told, version}
 
 -- a bit is 0 or 1, and a number below 2 is a bit
 bit_small : (b : Bool) → bit b ≤ 1
@@ -30,7 +30,7 @@ record Ranges (p : Packet) : Type 0 where
   episode : (1 ≤ p.start / 64) × (p.start / 64 ≤ 3)
   map : (1 ≤ p.start % 64) × (p.start % 64 ≤ 32)
 
-in_ranges : (p : Packet) (s : Settings) → Tells p s → Ranges p
+in_ranges : (p : Packet) (s : Settings) → Carries p s → Ranges p
 in_ranges p s tells =
     let r = bit_small s.respawn in
     let m = bit_small s.no_monsters in
@@ -58,8 +58,7 @@ told p set here ranges =
           in_range = record {
             skill = ranges.skill;
             deathmatch = ranges.deathmatch;
-            episode =
-                ranges.episode;
+            episode = ranges.episode;
             map = ranges.map;
           };
           ask = omega (arith, respawn, monsters);
@@ -91,8 +90,7 @@ of_version p set here = elim (cases_lt 4 (p.ask % 16)) [
                   skill = skill;
                   deathmatch = deathmatch;
                   episode = (first, episode);
-                  map =
-                      (least, map);
+                  map = (least, map);
                 })
           ]
         ]

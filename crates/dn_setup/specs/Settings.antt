@@ -20,8 +20,7 @@ choice skill deathmatch no_monsters respawn episode map =
       deathmatch = deathmatch;
       no_monsters = no_monsters;
       respawn = respawn;
-      episode =
-          episode;
+      episode = episode;
       map = map;
     }
 

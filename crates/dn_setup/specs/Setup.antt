@@ -25,8 +25,7 @@ setup_packet s = record {
   flags = flag.set_up;
   ask = ask_byte s;
   start = start_byte s;
-  player =
-      version;
+  player = version;
   cmds = record { items = [] };
 }
 
@@ -35,7 +34,7 @@ abbrev pub HasSetup : Packet → Type 0
 HasSetup p = IsBitSet p.flags 1
 
 -- the packet's ask and start bytes are those of these settings
-pub record Tells (p : Packet) (s : Settings) : Type 0 where
+pub record Carries (p : Packet) (s : Settings) : Type 0 where
   pub in_range : IsSettings s
   pub ask : p.ask ≡ ask_byte s
   pub start : p.start ≡ start_byte s
@@ -43,10 +42,10 @@ pub record Tells (p : Packet) (s : Settings) : Type 0 where
 -- What a packet says as a set-up packet: settings, or the first fault that it has.
 -- Its other flags and its commands say nothing; out of range is what tells no settings at all.
 abbrev pub IsSetupReadAs : Packet → Result Settings SetupFault → Type 0
-IsSetupReadAs p (Ok s) = HasSetup p × (p.player ≡ version) × Tells p s
+IsSetupReadAs p (Ok s) = HasSetup p × (p.player ≡ version) × Carries p s
 IsSetupReadAs p (Err NotSetup) = ¬ HasSetup p
 IsSetupReadAs p (Err Version) = HasSetup p × (p.player ≢ version)
-IsSetupReadAs p (Err Range) = HasSetup p × (p.player ≡ version) × ((s : Settings) → ¬ Tells p s)
+IsSetupReadAs p (Err Range) = HasSetup p × (p.player ≡ version) × ((s : Settings) → ¬ Carries p s)
 
 -- settings or a fault that the packet says as a set-up packet
 pub record Told (p : Packet) : Type 0 where

@@ -46,8 +46,7 @@ impl Model for Settings {
     ghost inverse = { λ s. record {
       skill = s.skill;
       deathmatch = s.deathmatch;
-      no_monsters =
-          s.no_monsters;
+      no_monsters = s.no_monsters;
       respawn = s.respawn;
       episode = s.episode;
       map = s.map;

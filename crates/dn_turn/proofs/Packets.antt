@@ -53,8 +53,7 @@ given_more {S} {L} sends rules me to answer old mid new below before line node s
         answer = answer;
         line = subst Line same line;
         node = subst After same node;
-        sent =
-            sent;
+        sent = sent;
         failed = failed;
       },
     )

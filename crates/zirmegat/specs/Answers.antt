@@ -8,7 +8,7 @@ use Rattle.dn_machine.specs.declared.answers.Heard.{Heard}
 use Rattle.dn_machine.specs.declared.answers.Ran.{Ran}
 use Rattle.dn_setup.specs.Settings.{Settings}
 use Rattle.dn_setup.specs.Starts.{bit}
-use Rattle.dn_lockstep.specs.declared.lockstep.sending.Aim.{Aim}
+use Rattle.dn_lockstep.specs.declared.lockstep.aiming.Aim.{Aim}
 use Rattle.zirmegat.specs.declared.answers.AimAnswer.{AimAnswer}
 use Rattle.zirmegat.specs.declared.config.SettingsAnswer.{SettingsAnswer}
 use Rattle.zirmegat.specs.declared.answers.PhaseAnswer.{PhaseAnswer}

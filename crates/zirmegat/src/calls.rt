@@ -10,7 +10,7 @@ ghost use Rattle.dn_machine.specs.declared.answers.Heard.TheVariants as Heard;
 ghost use Rattle.dn_machine.specs.declared.answers.Ran.{Ran as Answer};
 ghost use Rattle.dn_machine.specs.declared.answers.Made.TheVariants as Made;
 ghost use Rattle.dn_machine.specs.declared.answers.Ran.TheVariants as Ran;
-ghost use Rattle.dn_lockstep.specs.declared.lockstep.sending.Aim.{Aim as Aimed};
+ghost use Rattle.dn_lockstep.specs.declared.lockstep.aiming.Aim.{Aim as Aimed};
 ghost use Rattle.dn_lockstep.specs.Sent.{sent_to, aim_of};
 ghost use Rattle.dn_lockstep.specs.Giving.{gives};
 ghost use Rattle.dn_lockstep.specs.Runs.{told_by};

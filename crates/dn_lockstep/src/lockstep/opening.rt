@@ -10,7 +10,7 @@ use crate::config::{Config, NodeFault};
 use crate::marks::Marks;
 use crate::peers::Peers;
 use crate::rings::Rings;
-use dn_demo::{Recorder, RecorderFault, capacity};
+use dn_demo::{Recorder, capacity};
 use dn_machine::Phase;
 use dn_setup::Gather;
 use dn_tic::Builder;
@@ -55,36 +55,25 @@ impl Lockstep {
             (contents lockstep) (fresh settings config.me)) }
         ensures room { IfOk result (λ lockstep. (contents lockstep).demo.limit ≡ config.limit) }
     {
-        let Config {
-            players,
-            me,
-            extra,
-            limit,
-            settings,
-        } = config;
-        if !is_game(usize::from(players)) {
+        if !is_game(usize::from(config.players)) {
             return Err(NodeFault::Players);
         }
-        if me >= players {
+        if config.me >= config.players {
             return Err(NodeFault::Me);
         }
-        if settings.is_some() != (me == 0) {
+        if config.settings.is_some() != (config.me == 0) {
             return Err(NodeFault::Key);
         }
-        let demo = match Recorder::new(alloc, limit) {
-            Ok(demo) => demo,
-            Err(RecorderFault::Limit) => return Err(NodeFault::Limit),
-            Err(RecorderFault::Memory) => return Err(NodeFault::Memory),
-        };
+        let demo = Recorder::new(alloc, config.limit)?;
         Ok(Lockstep {
-            players,
-            me,
-            extra,
-            capacity: capacity(limit, players),
-            phase: first_phase(me),
+            players: config.players,
+            me: config.me,
+            extra: config.extra,
+            capacity: capacity(config.limit, config.players),
+            phase: first_phase(config.me),
             played: false,
-            settings,
-            gather: Gather::new(players),
+            settings: config.settings,
+            gather: Gather::new(config.players),
             builder: Builder::new(),
             ran: 0,
             rings: Rings::new(),

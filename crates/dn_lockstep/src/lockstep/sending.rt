@@ -1,152 +1,139 @@
-//! The exact numbers of what a node gives to a peer.
+//! The packets that go out.
 
-ghost use Rattle.std.specs.Prelude.{◌≡◌, ◌<◌, ◌≤◌, ◌+◌, IfSome, is_some};
+ghost use Rattle.std.specs.Prelude.{◌≡◌, ◌<◌, ◌≤◌, length, [], true, false, None, IfSome};
+ghost use Rattle.std.specs.List.{list_any};
 ghost use Rattle.std.specs.Option.{option_map};
-ghost use Rattle.dn_setup.specs.Starts.{bit};
-ghost use Rattle.dn_machine.specs.declared.answers.Phase.TheVariants.{Ended};
-ghost use Rattle.dn_machine.specs.declared.answers.Cause.{Cause};
-ghost use Rattle.dn_machine.specs.Flight.{Play, request_flag, request_byte};
-ghost use Rattle.dn_machine.specs.Sending.{commands_flight, first_sent, request_to, on_send_in};
-ghost use Rattle.dn_lockstep.specs.Rings.{count_of};
-ghost use Rattle.dn_lockstep.specs.Sent.{sent_to, aim_of};
+ghost use Rattle.std.specs.Bool.{then_some};
+ghost use Rattle.dn_packet.specs.Text.{IsPacket};
+ghost use Rattle.dn_machine.specs.Flight.{Flight, packet_of};
+ghost use Rattle.dn_lockstep.specs.Rings.{is_stop};
+ghost use Rattle.dn_lockstep.specs.Near.{IsFair};
+ghost use Rattle.dn_lockstep.specs.Sent.{sent_to, after_giving, aim_of, bytes_of};
 
 use super::Lockstep;
-use crate::rings::PLACES;
-use dn_machine::Phase;
-use dn_packet::{EXIT, RETRANSMIT, SETUP};
-
-/// The exact numbers of a packet, of which it carries the low bytes.
-#[derive(Clone, Copy, Debug, PartialEq, Eq)]
-pub struct Aim {
-    /// Bits of EXIT, RETRANSMIT and SETUP, as the packet has them.
-    pub flags: u8,
-    /// The tic from which commands are asked for again.
-    pub ask: Option<u32>,
-    /// The tic of the first command, and 0 for set-up.
-    pub start: u32,
-    /// How many commands there are.
-    pub count: u8,
-}
-
-/// The flag of a packet that asks for commands again.
-fn request_flag(ask: Option<u32>) -> u8
-    ensures { result ≡ request_flag ask }
-{
-    match ask {
-        Some(_) => RETRANSMIT,
-        None => 0,
-    }
-}
-
-/// The low byte of the tic that is asked for, and 0 for none.
-pub(super) fn request_byte(ask: Option<u32>) -> u8
-    ensures { result ≡ request_byte ask }
-{
-    match ask {
-        Some(tic) => (tic % 256) as u8,
-        None => 0,
-    }
-}
+use super::aiming::{Aim, request_byte};
+use arrayvec::ArrayVec;
+use dn_machine::{Peer, Phase};
+use dn_packet::{Packet, encode_into, encode_to};
+use dn_setup::to_packet;
 
 impl Lockstep {
     ghost use Rattle.dn_lockstep.specs.Contents.{contents};
-    ghost use Rattle.dn_lockstep.specs.Steps.{Tells};
-    ghost use Rattle.dn_lockstep.specs.Giving.{Reaches, Gives, gives};
+    ghost use Rattle.dn_lockstep.specs.Steps.{Steps, Becomes, Tells};
+    ghost use Rattle.dn_lockstep.specs.Giving.{Reaches, Gives, IsOwn, gives, IsSentTo, IsSilent};
 
-    /// The exact numbers of the packet that `packet` would give now.
-    pub fn aim(&self, to: u8) -> Option<Aim>
+    /// Fills in the packet of these numbers, with the own commands from its start on.
+    fn fill(&self, aim: &Aim, packet: &mut Packet)
+        requires reach { Reaches (contents self.now) aim.now }
+        requires empty { packet.old.cmds.items ≡ [] }
+        ensures packet { Tells (contents self.now) (λ rules me m. (flight : Flight) → IsOwn m me flight
+            → aim.now ≡ aim_of flight → packet.new ≡ packet_of flight) }
+        ensures valid { IsPacket packet.new }
+        ensures no_stop { list_any is_stop packet.new.cmds.items ≡ false }
+    {
+        packet.flags = aim.flags;
+        packet.ask = request_byte(aim.ask);
+        packet.start = (aim.start % 256) as u8;
+        packet.player = self.me;
+        self.rings.since(self.me, aim.start, &mut packet.cmds);
+    }
+
+    /// Fills in the packet that `packet` would give now, and answers whether there is one.
+    fn outgoing(&self, to: u8, packet: &mut Packet) -> bool
+        requires { packet.old.cmds.items ≡ [] }
         ensures told { Tells (contents self.now)
-            (λ rules me m. result ≡ option_map aim_of (sent_to to rules me m).1) }
-        ensures reach { IfSome result (λ aim. Reaches (contents self.now) aim
-            × Gives (contents self.now) to) }
-        ensures known { is_some result ≡ gives (contents self.now) to }
+            (λ rules me m. then_some result packet.new ≡ option_map packet_of (sent_to to rules me m).1) }
+        ensures fair { Tells (contents self.now) (λ rules me m. IfSome (sent_to to rules me m).1 IsFair) }
+        ensures flags { result ≡ true → packet.new.flags < 16 }
+        ensures given { result ≡ true → Gives (contents self.now) to }
+        ensures known { result ≡ gives (contents self.now) to }
     {
-        if to == self.me || to >= self.players {
-            return None;
-        }
+        let Some(aim) = self.aim(to) else {
+            return false;
+        };
+        let Phase::Gathering = self.phase else {
+            self.fill(&aim, packet);
+            return true;
+        };
+        let Some(settings) = self.settings else {
+            return false;
+        };
+        *packet = to_packet(&settings);
+        true
+    }
+
+    /// Notes that a packet was given.
+    fn note_sent(&mut self, to: u8)
+        requires { Gives (contents self.old) to }
+        ensures step { Becomes (contents self.old) (contents self.new)
+            (λ rules me m. after_giving rules me m to m.phase) }
+        ensures room { (contents self.new).demo.limit ≡ (contents self.old).demo.limit }
+    {
+        let peer = self.peers.get(to);
         match self.phase {
-            Phase::Listening => None,
-            Phase::Gathering => Some(Aim {
-                flags: SETUP,
-                ask: None,
-                start: 0,
-                count: 0,
-            }),
-            Phase::Playing => Some(self.aim_of_commands(to)),
-            Phase::Ended(_) => self.aim_of_exit(to),
+            Phase::Listening | Phase::Gathering => (),
+            Phase::Playing | Phase::Ended(_) => {
+                let resend = self.made().saturating_sub(self.lag());
+                self.peers.put(to, Peer { resend, ..peer });
+            }
         }
     }
 
-    /// The first tic of the next packet to a peer, never more than twelve behind.
-    fn first_sent(&self, to: u8) -> u32
-        requires { to < (contents self.now).players }
-        ensures told { Tells (contents self.now) (λ rules me m. result ≡ first_sent rules me m to) }
-        ensures low { result ≤ count_of (contents self.now).rings (contents self.now).me }
-        ensures high { count_of (contents self.now).rings (contents self.now).me ≤ result + 12 }
+    /// Writes the next packet to a peer into a list of no bytes, and answers whether there is one. There is
+    /// none for the node itself, for a number that is no player's, and where the node has nothing to give. A
+    /// node that has played and ended gives one whenever it is asked.
+    pub fn packet_into(&mut self, to: u8, bytes: &mut ArrayVec<u8, 104>) -> bool
+        requires { bytes.old.items ≡ [] }
+        ensures step { Steps (contents self.old) (contents self.new)
+            (λ rules me m. sent_to to rules me m)
+            (λ flight. then_some result bytes.new.items ≡ option_map bytes_of flight) }
+        ensures fair { Tells (contents self.old) (λ rules me m. IfSome (sent_to to rules me m).1 IsFair) }
+        ensures idle { result ≡ false → contents self.new ≡ contents self.old }
+        ensures unwritten { result ≡ false → bytes.new ≡ bytes.old }
+        ensures room { (contents self.new).demo.limit ≡ (contents self.old).demo.limit }
     {
-        let made = self.made();
-        let resend = self.peers.get(to).resend;
-        if resend < made.saturating_sub(PLACES) {
-            made - self.lag()
+        let mut packet = Packet::empty();
+        if self.outgoing(to, &mut packet) {
+            self.note_sent(to);
+            encode_into(&packet, bytes);
+            true
         } else {
-            resend
+            false
         }
     }
 
-    /// The tic that the peer is asked for, if commands of it are missing.
-    fn request_to(&self, to: u8) -> Option<u32>
-        requires { to < (contents self.now).players }
-        ensures { Tells (contents self.now) (λ rules me m. result ≡ request_to m to) }
+    /// Writes the next packet to a peer to the front of a room, and answers how many bytes it has, and 0
+    /// where there is none.
+    pub fn packet_to(&mut self, to: u8, room: &mut [u8]) -> usize
+        requires { 104 ≤ length room.old }
+        ensures sent { IsSentTo to (contents self.old) (contents self.new) room.old room.new result }
+        ensures fair { Tells (contents self.old) (λ rules me m. IfSome (sent_to to rules me m).1 IsFair) }
+        ensures silent { IsSilent to (contents self.old) (contents self.new) room.old room.new result }
+        ensures room { (contents self.new).demo.limit ≡ (contents self.old).demo.limit }
     {
-        if self.peers.get(to).want {
-            Some(self.rings.count(to))
+        let mut packet = Packet::empty();
+        if !self.outgoing(to, &mut packet) {
+            return 0;
+        }
+        self.note_sent(to);
+        encode_to(&packet, room)
+    }
+
+    /// The next packet to a peer; None for the node itself, for a number that is no player's, and where
+    /// the node has nothing to give. A node that has played and ended gives one whenever it is asked.
+    pub fn packet(&mut self, to: u8) -> Option<ArrayVec<u8, 104>>
+        ensures step { Steps (contents self.old) (contents self.new)
+            (λ rules me m. sent_to to rules me m)
+            (λ flight. option_map (λ bytes. bytes.items) result ≡ option_map bytes_of flight) }
+        ensures fair { Tells (contents self.old) (λ rules me m. IfSome (sent_to to rules me m).1 IsFair) }
+        ensures idle { result ≡ None → contents self.new ≡ contents self.old }
+        ensures room { (contents self.new).demo.limit ≡ (contents self.old).demo.limit }
+    {
+        let mut bytes = ArrayVec::new();
+        if self.packet_into(to, &mut bytes) {
+            Some(bytes)
         } else {
             None
         }
-    }
-
-    /// The numbers of a packet of commands.
-    fn aim_of_commands(&self, to: u8) -> Aim
-        requires { to < (contents self.now).players }
-        ensures told { Tells (contents self.now)
-            (λ rules me m. result ≡ aim_of (commands_flight rules me m to Play (request_to m to))) }
-        ensures reach { Reaches (contents self.now) result }
-    {
-        let start = self.first_sent(to);
-        let ask = self.request_to(to);
-        Aim {
-            flags: request_flag(ask),
-            ask,
-            start,
-            count: (self.made() - start) as u8,
-        }
-    }
-
-    /// The numbers of an EXIT packet (`d_net.c`, D_QuitNetGame), which a node gives that has played and
-    /// ended: it carries the last commands, so that the peers know all up to its end, and asks for none.
-    fn aim_of_exit(&self, to: u8) -> Option<Aim>
-        requires below { to < (contents self.now).players }
-        ensures told { (cause : Cause) → Tells (contents self.now)
-            (λ rules me m. result ≡ option_map aim_of (on_send_in rules me m to (Ended cause)).1) }
-        ensures reach { IfSome result (Reaches (contents self.now)) }
-        ensures known { is_some result ≡ (contents self.now).played }
-    {
-        if !self.played {
-            return None;
-        }
-        let start = self.first_sent(to);
-        Some(Aim {
-            flags: EXIT,
-            ask: None,
-            start,
-            count: (self.made() - start) as u8,
-        })
-    }
-
-    /// How many commands are sent again with each packet.
-    pub(super) fn lag(&self) -> u32
-        ensures { result ≡ bit (contents self.now).extra }
-    {
-        u32::from(self.extra)
     }
 }

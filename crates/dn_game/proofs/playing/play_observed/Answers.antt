@@ -17,8 +17,7 @@ loop-event-init g c = (
       answers = [];
       plays = refl;
       game = c.in_ok-game.ensures.opened;
-      done =
-          refl;
+      done = refl;
       refused = refl;
     },
     refl,

@@ -21,8 +21,7 @@ loop-init g c = (
       rest = _;
       last = _;
       follows = (refl, refl);
-      counted =
-          refl;
+      counted = refl;
       game = c.in_ok-game.ensures.opened;
       done = refl;
       refused = refl;

@@ -33,15 +33,13 @@ loop-to-preserved-in_default g c =
                   node = so_far.after;
                   line = c.loop-to.line;
                   sent = c.loop-to.given.sent;
-                  failed =
-                      c.loop-to.given.failed;
+                  failed = c.loop-to.given.failed;
                 })
                 (record {
                   node = _;
                   line = c.loop-to.line;
                   sent = c.loop-to.given.sent;
-                  failed =
-                      c.loop-to.given.failed;
+                  failed = c.loop-to.given.failed;
                 })
                 below so_far.leads (silent g.L.Line.sends me c.loop-to.to _ c.loop-to.line none) refl
                 (omega arith) (omega arith);
@@ -118,8 +116,7 @@ loop-to-preserved g c =
                   node = so_far.after;
                   line = c.loop-to.line;
                   sent = given.sent;
-                  failed =
-                      given.failed;
+                  failed = given.failed;
                 })
                 (record { node = _; line = c.send.new.self; sent = new.sent; failed = new.failed })
                 below so_far.leads
@@ -145,7 +142,6 @@ returns-clause-given g c players extra capacity me m r =
       node = so_far.after;
       line = c.loop-to.line;
       sent = c.loop-to.given.sent;
-      failed =
-          c.loop-to.given.failed;
+      failed = c.loop-to.given.failed;
     }) in
     record { after = so_far.after; node = so_far.node; leads = subst P all so_far.leads }

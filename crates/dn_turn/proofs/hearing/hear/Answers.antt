@@ -12,8 +12,7 @@ returns g c players extra capacity me m r =
     record {
       read = t.read;
       told = t.told;
-      is_read =
-          subst P c.as_slice-bytes.ensures.value t.is_read;
+      is_read = subst P c.as_slice-bytes.ensures.value t.is_read;
       is_told = t.is_told;
     } in
     record { after = _; node = s.node; leads = record { reading = here; after = refl } }

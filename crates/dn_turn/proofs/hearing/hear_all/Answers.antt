@@ -25,8 +25,7 @@ returns-in-Ok-None-clause-heard g c players extra capacity me m r =
         between = c.loop-heard.line;
         hears = so_far.leads;
         ending = Some (Ok tt);
-        ends =
-            (few, said, refl);
+        ends = (few, said, refl);
       };
     }
 
@@ -48,8 +47,7 @@ returns-in-Err-clause-heard g c players extra capacity me m r =
         between = c.loop-heard.line;
         hears = so_far.leads;
         ending = Some (Err _);
-        ends =
-            (few, said, refl);
+        ends = (few, said, refl);
       };
     }
 
@@ -95,7 +93,6 @@ returns-clause-heard g c players extra capacity me m r =
             between = c.loop-heard.line;
             hears = so_far.leads;
             ending = None;
-            ends =
-                (end ∙ is, refl, refl);
+            ends = (end ∙ is, refl, refl);
           });
     }

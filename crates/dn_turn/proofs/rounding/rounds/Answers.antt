@@ -32,6 +32,5 @@ returns-clause-rounds g c seats seated =
     record {
       after = so_far.after;
       seated = so_far.seated;
-      leads =
-          subst P (omega (arith, c.loop-test.false, c.loop.auto.counter-end)) so_far.leads;
+      leads = subst P (omega (arith, c.loop-test.false, c.loop.auto.counter-end)) so_far.leads;
     }

@@ -48,8 +48,7 @@ loop-place-preserved g c =
                 after = one.after;
                 turned = c.turn.result;
                 turn = subst K keys one.leads;
-                seats =
-                    refl;
+                seats = refl;
               },
             );
           },

@@ -29,8 +29,7 @@ returns-then-not-self g c =
       taken = old.taken;
       header = take old.taken old.header;
       tics = old.tics;
-      row =
-          take old.kept old.row;
+      row = take old.kept old.row;
       marked = old.marked;
       after = old.after;
       world = old.world;
@@ -61,12 +60,10 @@ returns g c =
     record {
       version = get_or old.header 0 0;
       start = c.start.result;
-      view =
-          get_or old.header 8 0;
+      view = get_or old.header 8 0;
       present = c.seats.result;
       tics = old.tics;
-      cut =
-          old.kept / c.size.result;
+      cut = old.kept / c.size.result;
       after = old.after;
       world = old.world;
     } in

@@ -14,13 +14,11 @@ returns-then-self-clause-shown g c =
     record {
       taken = old.taken + count;
       header = take (old.taken + count) old.header;
-      tics =
-          old.tics;
+      tics = old.tics;
       row = take old.kept old.row;
       marked = old.marked;
       after = old.after + count;
-      world =
-          old.world;
+      world = old.world;
     } in
     let marked : old.marked ≡ true = search rules in
     let long : 13 ≤ old.taken = search rules in
@@ -38,8 +36,7 @@ returns-else-self-clause-shown g c =
     record {
       taken = old.taken + count;
       header = take (old.taken + count) old.header;
-      tics =
-          old.tics;
+      tics = old.tics;
       row = take old.kept old.row;
       marked = old.marked;
       after = old.after;

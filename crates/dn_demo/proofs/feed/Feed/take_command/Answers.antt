@@ -19,8 +19,7 @@ returns-then-is_marker-clause-shown g c =
       taken = old.taken + 1;
       header = take (old.taken + 1) old.header;
       tics = old.tics;
-      row =
-          take old.kept old.row;
+      row = take old.kept old.row;
       marked = true;
       after = old.after;
       world = old.world;
@@ -94,8 +93,7 @@ returns-then-self-size-clause-shown g c =
       taken = old.taken + 1;
       header = take (old.taken + 1) old.header;
       tics = old.tics + 1;
-      row =
-          take 0 row;
+      row = take 0 row;
       marked = old.marked;
       after = old.after;
       world = c.step.new.self;
@@ -142,8 +140,7 @@ returns-clause-shown g c =
       taken = old.taken + 1;
       header = take (old.taken + 1) old.header;
       tics = old.tics;
-      row =
-          take (old.kept + 1) row;
+      row = take (old.kept + 1) row;
       marked = old.marked;
       after = old.after;
       world = old.world;

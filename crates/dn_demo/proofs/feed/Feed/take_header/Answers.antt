@@ -17,8 +17,7 @@ returns-then-is_some-clause-shown g c =
       taken = old.taken + 1;
       header = take (old.taken + 1) header;
       tics = old.tics;
-      row =
-          take old.kept old.row;
+      row = take old.kept old.row;
       marked = old.marked;
       after = old.after;
       world = world;
@@ -47,8 +46,7 @@ returns-else-is_some-clause-shown g c =
       taken = old.taken + 1;
       header = take (old.taken + 1) header;
       tics = old.tics;
-      row =
-          take old.kept old.row;
+      row = take old.kept old.row;
       marked = old.marked;
       after = old.after;
       world = old.world;

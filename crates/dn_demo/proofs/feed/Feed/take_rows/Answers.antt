@@ -23,13 +23,11 @@ returns-clause-front g c =
     record {
       taken = old.taken + came;
       header = take (old.taken + came) old.header;
-      tics =
-          old.tics + came / count;
+      tics = old.tics + came / count;
       row = take old.kept old.row;
       marked = old.marked;
       after = old.after;
-      world =
-          c.step_all-rest.new.world;
+      world = c.step_all-rest.new.world;
     } in
     let h : HasHeader layout (take old.taken old.header) =
     subst (λ (f : Feeding g.row.W.Denot). HasHeader layout f.header) (sym c.self.view_is)

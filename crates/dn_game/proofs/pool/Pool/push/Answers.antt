@@ -29,6 +29,5 @@ returns-clause-flights c =
       from = c.args.from;
       to = c.args.to;
       aim = c.args.aim;
-      bytes =
-          c.args.bytes.now;
+      bytes = c.args.bytes.now;
     } ∷ []) c.self.view_is)

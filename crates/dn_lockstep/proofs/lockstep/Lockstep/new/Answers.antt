@@ -37,7 +37,7 @@ returns-clause-opened c marking settings key =
             ∙ first_marks rule (fresh settings config.me) p tic high;
       };
       demo = record {
-        bytes = ap (λ (d : Recorded). d.bytes) c.in-Ok.ensures.1;
+        bytes = ap (λ (d : Recorded). d.bytes) c.in_ok-demo.ensures.1;
         closed = λ e. absurd (cc);
         writable = nothing_written config.players (omega arith) (omega arith);
       };

@@ -18,8 +18,7 @@ returns-else-outgoing-clause-step c marking players extra capacity me m r =
     ∙ c.outgoing.ensures.told marking players extra capacity me m r) in
     record {
       node = along (none_sent game me m c.args.to none) r;
-      answer =
-          sym (ap (option_map bytes_of) none);
+      answer = sym (ap (option_map bytes_of) none);
     }
 
 pub returns-then-outgoing-clause-step : goal.returns-then-outgoing-clause-step

@@ -22,8 +22,7 @@ returns-then-not-outgoing-clause-sent c = (
       ∙ c.outgoing.ensures.told marking players extra capacity me m r) in
       record {
         node = along (none_sent game me m c.args.to none) r;
-        answer =
-            sym (ap (option_map bytes_of) none);
+        answer = sym (ap (option_map bytes_of) none);
       },
 )
 

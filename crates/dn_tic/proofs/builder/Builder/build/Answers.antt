@@ -17,7 +17,6 @@ returns-clause-command c = λ states e.
       turn = turn i;
       mark = mark i;
       chat = 0;
-      buttons =
-          c.buttons.ensures i;
+      buttons = c.buttons.ensures i;
     })
     ∙ pressed-push states c.args.keys c.next_hold-self-inside.result c.args.mark hold

@@ -1,0 +1,152 @@
+//! The exact numbers of the packets that go out.
+
+ghost use Rattle.std.specs.Prelude.{◌≡◌, ◌<◌, ◌≤◌, ◌+◌, IfSome, is_some};
+ghost use Rattle.std.specs.Option.{option_map};
+ghost use Rattle.dn_setup.specs.Starts.{bit};
+ghost use Rattle.dn_machine.specs.declared.answers.Phase.TheVariants.{Ended};
+ghost use Rattle.dn_machine.specs.declared.answers.Cause.{Cause};
+ghost use Rattle.dn_machine.specs.Flight.{Play, request_flag, request_byte};
+ghost use Rattle.dn_machine.specs.Sending.{commands_flight, first_sent, request_to, on_send_in};
+ghost use Rattle.dn_lockstep.specs.Rings.{count_of};
+ghost use Rattle.dn_lockstep.specs.Sent.{sent_to, aim_of};
+
+use super::Lockstep;
+use crate::rings::PLACES;
+use dn_machine::Phase;
+use dn_packet::{EXIT, RETRANSMIT, SETUP};
+
+/// The exact numbers of a packet, of which it carries the low bytes.
+#[derive(Clone, Copy, Debug, PartialEq, Eq)]
+pub struct Aim {
+    /// Bits of EXIT, RETRANSMIT and SETUP, as the packet has them.
+    pub flags: u8,
+    /// The tic from which commands are asked for again.
+    pub ask: Option<u32>,
+    /// The tic of the first command, and 0 for set-up.
+    pub start: u32,
+    /// How many commands there are.
+    pub count: u8,
+}
+
+/// The flag of a packet that asks for commands again.
+fn request_flag(ask: Option<u32>) -> u8
+    ensures { result ≡ request_flag ask }
+{
+    match ask {
+        Some(_) => RETRANSMIT,
+        None => 0,
+    }
+}
+
+/// The low byte of the tic that is asked for, and 0 for none.
+pub(super) fn request_byte(ask: Option<u32>) -> u8
+    ensures { result ≡ request_byte ask }
+{
+    match ask {
+        Some(tic) => (tic % 256) as u8,
+        None => 0,
+    }
+}
+
+impl Lockstep {
+    ghost use Rattle.dn_lockstep.specs.Contents.{contents};
+    ghost use Rattle.dn_lockstep.specs.Steps.{Tells};
+    ghost use Rattle.dn_lockstep.specs.Giving.{Reaches, Gives, gives};
+
+    /// The exact numbers of the packet that `packet` would give now.
+    pub fn aim(&self, to: u8) -> Option<Aim>
+        ensures told { Tells (contents self.now)
+            (λ rules me m. result ≡ option_map aim_of (sent_to to rules me m).1) }
+        ensures reach { IfSome result (λ aim. Reaches (contents self.now) aim
+            × Gives (contents self.now) to) }
+        ensures known { is_some result ≡ gives (contents self.now) to }
+    {
+        if to == self.me || to >= self.players {
+            return None;
+        }
+        match self.phase {
+            Phase::Listening => None,
+            Phase::Gathering => Some(Aim {
+                flags: SETUP,
+                ask: None,
+                start: 0,
+                count: 0,
+            }),
+            Phase::Playing => Some(self.aim_of_commands(to)),
+            Phase::Ended(_) => self.aim_of_exit(to),
+        }
+    }
+
+    /// The first tic of the next packet to a peer, never more than twelve behind.
+    fn first_sent(&self, to: u8) -> u32
+        requires { to < (contents self.now).players }
+        ensures told { Tells (contents self.now) (λ rules me m. result ≡ first_sent rules me m to) }
+        ensures low { result ≤ count_of (contents self.now).rings (contents self.now).me }
+        ensures high { count_of (contents self.now).rings (contents self.now).me ≤ result + 12 }
+    {
+        let made = self.made();
+        let resend = self.peers.get(to).resend;
+        if resend < made.saturating_sub(PLACES) {
+            made - self.lag()
+        } else {
+            resend
+        }
+    }
+
+    /// The tic that the peer is asked for, if commands of it are missing.
+    fn request_to(&self, to: u8) -> Option<u32>
+        requires { to < (contents self.now).players }
+        ensures { Tells (contents self.now) (λ rules me m. result ≡ request_to m to) }
+    {
+        if self.peers.get(to).want {
+            Some(self.rings.count(to))
+        } else {
+            None
+        }
+    }
+
+    /// The numbers of a packet of commands.
+    fn aim_of_commands(&self, to: u8) -> Aim
+        requires { to < (contents self.now).players }
+        ensures told { Tells (contents self.now)
+            (λ rules me m. result ≡ aim_of (commands_flight rules me m to Play (request_to m to))) }
+        ensures reach { Reaches (contents self.now) result }
+    {
+        let start = self.first_sent(to);
+        let ask = self.request_to(to);
+        Aim {
+            flags: request_flag(ask),
+            ask,
+            start,
+            count: (self.made() - start) as u8,
+        }
+    }
+
+    /// The numbers of an EXIT packet (`d_net.c`, D_QuitNetGame), which a node gives that has played and
+    /// ended: it carries the last commands, so that the peers know all up to its end, and asks for none.
+    fn aim_of_exit(&self, to: u8) -> Option<Aim>
+        requires below { to < (contents self.now).players }
+        ensures told { (cause : Cause) → Tells (contents self.now)
+            (λ rules me m. result ≡ option_map aim_of (on_send_in rules me m to (Ended cause)).1) }
+        ensures reach { IfSome result (Reaches (contents self.now)) }
+        ensures known { is_some result ≡ (contents self.now).played }
+    {
+        if !self.played {
+            return None;
+        }
+        let start = self.first_sent(to);
+        Some(Aim {
+            flags: EXIT,
+            ask: None,
+            start,
+            count: (self.made() - start) as u8,
+        })
+    }
+
+    /// How many commands are sent again with each packet.
+    pub(super) fn lag(&self) -> u32
+        ensures { result ≡ bit (contents self.now).extra }
+    {
+        u32::from(self.extra)
+    }
+}
