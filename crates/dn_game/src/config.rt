@@ -1,6 +1,10 @@
 //! What a game is made of, and why there is none.
 
+ghost use Rattle.std.specs.Prelude.{◌≡◌};
+ghost use Rattle.dn_game.specs.declared.config.GameFault.TheVariants.{Memory};
+
 use dn_setup::Settings;
+use std::alloc::AllocError;
 use thiserror::Error;
 
 /// What all nodes of a game have in common.
@@ -26,4 +30,12 @@ pub enum GameFault {
     /// There was no room for the nodes or their demos.
     #[error("out of memory")]
     Memory,
+}
+
+impl From<AllocError> for GameFault {
+    ghost from_gives = { λ _ e. e ≡ Memory };
+
+    fn from(_e: AllocError) -> GameFault {
+        GameFault::Memory
+    }
 }

@@ -55,9 +55,7 @@ pub fn play_observed<W: World, L: Observer>(
         refused: 0,
     };
     for event in events {
-        let Ok(()) = played.apply_observed(event, observer) else {
-            return Err(GameFault::Memory);
-        };
+        played.apply_observed(event, observer)?;
     }
     Ok(played)
 }

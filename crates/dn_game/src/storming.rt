@@ -55,9 +55,7 @@ pub fn storm_observed<W: World, L: Observer>(
     let mut schedule = Schedule::new(seed);
     for _ in 0..count {
         if let Some(event) = schedule.next(&played.game) {
-            let Ok(()) = played.apply_observed(&event, observer) else {
-                return Err(GameFault::Memory);
-            };
+            played.apply_observed(&event, observer)?;
         }
     }
     Ok(played)

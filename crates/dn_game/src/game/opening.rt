@@ -73,9 +73,7 @@ pub fn nodes_of<W: World>(
     ensures memory { IfErr result (λ fault. fault ≡ GameFault.Memory) }
 {
     let players = worlds.len() as u8;
-    let Ok(mut nodes) = Vec::with_capacity(alloc, worlds.len()) else {
-        return Err(GameFault::Memory);
-    };
+    let mut nodes = Vec::with_capacity(alloc, worlds.len())?;
     for world in worlds {
         let own = config_of(config, players, nodes.len() as u8);
         let Ok(node) = Node::new(alloc, own, world) else {

@@ -31,8 +31,8 @@ loop-event-preserved g c =
     let events = c.args.events.now in
     let at = c.loop-event.event-index in
     let next = c.apply_observed.new.self in
-    let told = c.in-Ok.ensures.told in
-    let counted = c.in-Ok.ensures.counted in
+    let told = c.in_ok-apply_observed.ensures.told in
+    let counted = c.in_ok-apply_observed.ensures.counted in
     let one = told.applied in
     let longer = take_more events at c.event-item.result c.loop-event-test.true
     ∙ ap (λ (event : Event). take at events ++ event ∷ []) (sym c.event-item.is) in

@@ -9,7 +9,7 @@ use Rattle.dn_game.proofs.Following.{stormed_more}
 use Rattle.dn_game.proofs.Observed.{observes_next, stormed_observed}
 use Rattle.dn_game.proofs.NeverStopping.{storm_goes_on}
 use Rattle.dn_game.proofs.storming.storm_observed.Goals as goal
-use Rattle.dn_game.proofs.storming.storm_observed.Goals.{in-Some+in-Ok, in_default}
+use Rattle.dn_game.proofs.storming.storm_observed.Goals.{in-Some+in_ok-apply_observed, in_default}
 
 pub loop-init : goal.loop-init
 loop-init g c = (
@@ -45,10 +45,10 @@ loop-preserved g c =
     × (t.rest ≡ c.next.new.self)
     × ObservesAll observes c.args.observer.now 0 t.events t.answers l) in
     elim c.match-next.branch [
-      | in-Some+in-Ok w ↦
+      | in-Some+in_ok-apply_observed w ↦
           let next = w.apply_observed.new.self in
-          let told = w.in-Ok.ensures.told in
-          let counted = w.in-Ok.ensures.counted in
+          let told = w.in_ok-apply_observed.ensures.told in
+          let counted = w.in_ok-apply_observed.ensures.counted in
           let one = told.applied in
           let event = ap (scheduled players s.last) left ∙ sym given ∙ w.in-Some.is in
           let more = stormed_more _ game config.settings c.args.seed c.loop.counter _ told.answer

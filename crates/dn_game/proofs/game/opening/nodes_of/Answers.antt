@@ -18,22 +18,22 @@ pub loop-world-preserved : goal.loop-world-preserved
 loop-world-preserved g c =
     let config = c.args.config.now in
     let before = c.loop-world.invariant in
-    let pushed : c.push.new.self.items ≡ c.loop-world.nodes.items ++ c.in-Ok-new.node ∷ [] =
+    let pushed : c.push.new.self.items ≡ c.loop-world.nodes.items ++ c.in-Ok.node ∷ [] =
     c.push.ensures.items ∙ cond-true _ _ _ c.if-is_err.ensures.negation in
-    let longer = ap length pushed ∙ length-append c.loop-world.nodes.items (c.in-Ok-new.node ∷ []) in
+    let longer = ap length pushed ∙ length-append c.loop-world.nodes.items (c.in-Ok.node ∷ []) in
     let players : c.len-players.result ≡ length c.args.worlds.items = search rules in
     let me : c.len-in-loop-world.result ≡ length c.loop-world.nodes.items = search rules in
     let P : Config → Type 0 = λ own. (settings : Settings) → (own.me ≡ 0 → own.settings ≡ Some settings)
     → Represents g.W.World.state
     (rules_of g.W.World.physics own.players own.extra (capacity own.limit own.players)) own.me
-    (contents c.in-Ok-new.node) (fresh settings own.me) in
-    let opened = subst P c.config_of-own.ensures c.in-Ok-new.ensures.opened config.settings
+    (contents c.in-Ok.node) (fresh settings own.me) in
+    let opened = subst P c.config_of-own.ensures c.in-Ok.ensures.opened config.settings
     (λ zero. cond-true (c.len-in-loop-world.result == 0) _ _ (eq-eqb _ 0 zero)) in
     let Q : ℕ → Type 0 = λ k. Represents g.W.World.state (rules_in g.W.World.physics config k)
-    c.len-in-loop-world.result (contents c.in-Ok-new.node)
+    c.len-in-loop-world.result (contents c.in-Ok.node)
     (fresh config.settings c.len-in-loop-world.result) in
     let R : ℕ → Type 0 = λ k. Represents g.W.World.state
-    (rules_in g.W.World.physics config (length c.args.worlds.items)) k (contents c.in-Ok-new.node)
+    (rules_in g.W.World.physics config (length c.args.worlds.items)) k (contents c.in-Ok.node)
     (fresh config.settings k) in
     let one = subst R me (subst Q players opened) in
     let S : List (Node _) → Type 0 =
@@ -41,12 +41,12 @@ loop-world-preserved g c =
     config.settings in
     let all =
     subst S (sym pushed) (fresh_more g.W.World.state _ config.settings c.loop-world.nodes.items
-    c.in-Ok-new.node before.3 one) in
-    let worlds = given_more _ c.loop-world.nodes.items _ _ before.4 _ _ _ _ pushed c.in-Ok-new.ensures.given
+    c.in-Ok.node before.3 one) in
+    let worlds = given_more _ c.loop-world.nodes.items _ _ before.4 _ _ _ _ pushed c.in-Ok.ensures.given
     c.in-Some.ensures.steps.0 in
-    let limit = c.in-Ok-new.ensures.room ∙ ap (λ (own : Config). own.limit) c.config_of-own.ensures in
+    let limit = c.in-Ok.ensures.room ∙ ap (λ (own : Config). own.limit) c.config_of-own.ensures in
     let limited = subst (AreLimited config.limit) (sym pushed)
-    (limited_more config.limit c.loop-world.nodes.items c.in-Ok-new.node before.5 limit) in
+    (limited_more config.limit c.loop-world.nodes.items c.in-Ok.node before.5 limit) in
     (before.0, before.1, omega (arith, longer, before.2, c.in-Some.ensures.steps.1), all, worlds, limited)
 
 pub returns-clause-given : goal.returns-clause-given
