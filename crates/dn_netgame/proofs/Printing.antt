@@ -1,17 +1,29 @@
--- Lines that were put, or a front of them.
-use Rattle.std.proofs.Common.{◌≡◌, ℕ, List, Option, subst}
-use Rattle.std.specs.Io.KnownBytes.{Appends}
-use Rattle.dn_netgame.specs.Shown.{Prints, PrintsFront}
-use Rattle.dn_netgame.specs.Transfer.{AppendsFront}
+-- Lines that were printed, or a front of them.
+use Rattle.std.proofs.Common.{◌≡◌, ℕ, List, Option, Result, Ok, Err, subst, sym, ◌∙◌}
+use Rattle.dn_netgame.specs.Shown.{PrintsOrFails, TheseLines}
+use Rattle.dn_netgame.specs.declared.fault.RunFault.{RunFault}
+use Rattle.dn_netgame.specs.declared.fault.RunFault.TheVariants.{Read, Write, Memory}
 
-pub prints_all : (IsPrinted : List ℕ → ℕ → Type 0) (o o' : Option (List ℕ)) (text lines : List ℕ) (status : ℕ)
-    → text ≡ lines
-    → IsPrinted lines status → Appends o o' text → Prints IsPrinted o o' status
-prints_all IsPrinted o o' text lines status same printed put =
-    record { lines = lines; printed = printed; written = subst (Appends o o') same put }
-
-pub prints_front : (IsPrinted : List ℕ → ℕ → Type 0) (o o' : Option (List ℕ)) (text lines : List ℕ)
-    (status : ℕ) → text ≡ lines
-    → IsPrinted lines status → AppendsFront o o' text → PrintsFront IsPrinted o o'
-prints_front IsPrinted o o' text lines status same printed put =
-    record { lines = lines; status = status; printed = printed; written = subst (AppendsFront o o') same put }
+-- what was put is the text, and so are the lines
+pub prints_such : {W : Type 0} (contents : W → Option (List ℕ)) (IsPrinted : List ℕ → ℕ → Type 0)
+    (output output' : W) (put lines : List ℕ) (status : ℕ) (result : Result ℕ RunFault)
+    → PrintsOrFails contents (TheseLines put status) output output' result → put ≡ lines
+    → IsPrinted lines status
+    → PrintsOrFails contents IsPrinted output output' result
+prints_such contents IsPrinted output output' put lines status (Ok answered) way same such =
+    record {
+      lines = way.lines;
+      printed = subst (λ (ls : List ℕ). IsPrinted ls answered) (sym (way.printed.0 ∙ same))
+          (subst (IsPrinted lines) (sym way.printed.1) such);
+      written = way.written;
+    }
+prints_such contents IsPrinted output output' put lines status (Err Read) way same such = way
+prints_such contents IsPrinted output output' put lines status (Err Write) way same such =
+    record {
+      lines = way.lines;
+      status = way.status;
+      printed = subst (λ (ls : List ℕ). IsPrinted ls way.status) (sym (way.printed.0 ∙ same))
+          (subst (IsPrinted lines) (sym way.printed.1) such);
+      written = way.written;
+    }
+prints_such contents IsPrinted output output' put lines status (Err Memory) way same such = way

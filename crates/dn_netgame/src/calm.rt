@@ -1,16 +1,15 @@
 //! A storm and the calm after it: the lines of a game whose packets come to arrive.
 
-ghost use Rattle.std.specs.Prelude.{◌≡◌, ◌≢◌, Err, IfOk, IfErr, OnOk};
+ghost use Rattle.std.specs.Prelude.{◌≡◌, IfOk, OnOk};
 ghost use Rattle.std.specs.String.{string_bytes};
 ghost use Rattle.dn_demo.specs.Recorded.{IsLimit};
 ghost use Rattle.dn_lockstep.specs.Opening.{IsGame};
 ghost use Rattle.dn_netgame.specs.CalmLines.{no_keys, Calms, IsCalm};
-ghost use Rattle.dn_netgame.specs.Shown.{Prints, PrintsFront};
-ghost use Rattle.dn_netgame.specs.declared.fault.RunFault.{RunFault};
+ghost use Rattle.dn_netgame.specs.Shown.{PrintsOrFails};
 
 use crate::fault::RunFault;
 use crate::games::{storm_walks, text_of_game};
-use crate::transfer::put;
+use crate::transfer::print;
 use dn_game::{GameConfig, Nobody, Played};
 use dn_tic::Keys;
 use dn_world::Walk;
@@ -73,20 +72,8 @@ pub fn run_calm<W: Write>(
 ) -> Result<u8, RunFault>
     requires players { IsGame players }
     requires limit { IsLimit config.limit }
-
-    // All lines of the game were written, and the status is theirs.
-    ensures shown { IfOk result (λ status. Prints (IsCalm config players seed count calm)
-        (W.contents output.old) (W.contents output.new) status) }
-
-    // A write fault comes before the last byte of the lines is written.
-    ensures write { result ≡ Err RunFault.Write
-        → PrintsFront (IsCalm config players seed count calm) (W.contents output.old)
-        (W.contents output.new) }
-    // The only other fault is `Memory`, which leaves the output as it was.
-    ensures fault { IfErr result (λ fault. fault ≢ RunFault.Read) }
-    ensures unwritten { result ≡ Err RunFault.Memory → output.new ≡ output.old }
+    ensures { PrintsOrFails W.contents (IsCalm config players seed count calm) output.old output.new result }
 {
     let text = text_of(alloc, config, players, seed, count, calm)?;
-    put(output, text.as_bytes())?;
-    Ok(0)
+    print(output, text.as_bytes(), 0)
 }

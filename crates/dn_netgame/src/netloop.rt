@@ -8,14 +8,14 @@ ghost use Rattle.dn_lockstep.specs.Opening.{IsGame};
 ghost use Rattle.dn_turn.specs.Rounds.{LeadAll, TakeRounds};
 ghost use Rattle.dn_netgame.specs.GameLines.{node_lines};
 ghost use Rattle.dn_netgame.specs.LoopLines.{IsLoop};
-ghost use Rattle.dn_netgame.specs.Shown.{Prints, PrintsFront};
+ghost use Rattle.dn_netgame.specs.Shown.{PrintsOrFails};
 ghost use Rattle.dn_netgame.specs.declared.fault.RunFault.{RunFault};
 
 use crate::fault::RunFault;
 use crate::games::new_walks;
 use crate::netplay::{NO_SOCKET, UNBOUND};
 use crate::nodes::push_node;
-use crate::transfer::put;
+use crate::transfer::print;
 use dn_game::{GameConfig, nodes_of};
 use dn_line::{Line, UdpLine};
 use dn_node::Node;
@@ -121,21 +121,10 @@ pub fn run_loop<R: Net, W: Write>(
     requires base { (1024 ≤ base) × (base ≤ 65532) }
     requires players { IsGame players }
     requires limit { IsLimit config.limit }
-    // All that is to be printed was written, and the status is its own.
-    ensures shown { IfOk result (λ status. Prints (IsLoop config players base seed count)
-        (W.contents output.old) (W.contents output.new) status) }
-    // A write fault comes before the last byte is written.
-    ensures write { result ≡ Err RunFault.Write
-        → PrintsFront (IsLoop config players base seed count) (W.contents output.old)
-        (W.contents output.new) }
-    // The only other fault is `Memory`, which leaves the output as it was.
-    ensures fault { IfErr result (λ fault. fault ≢ RunFault.Read) }
-    ensures unwritten { result ≡ Err RunFault.Memory → output.new ≡ output.old }
+    ensures { PrintsOrFails W.contents (IsLoop config players base seed count) output.old output.new result }
 {
     let Some(text) = play_all(rt, alloc, config, players, base, seed, count)? else {
-        put(output, NO_SOCKET.as_bytes())?;
-        return Ok(UNBOUND);
+        return print(output, NO_SOCKET.as_bytes(), UNBOUND);
     };
-    put(output, text.as_bytes())?;
-    Ok(0)
+    print(output, text.as_bytes(), 0)
 }

@@ -8,12 +8,12 @@ ghost use Rattle.dn_lockstep.specs.Opening.{IsGame, IsKeyed};
 ghost use Rattle.dn_turn.specs.Rounds.{LeadAll};
 ghost use Rattle.dn_netgame.specs.NetLines.{PlaysOut, HasEverPlayed, IsPlay};
 ghost use Rattle.dn_netgame.specs.NodeLines.{node_line};
-ghost use Rattle.dn_netgame.specs.Shown.{Prints, PrintsFront};
+ghost use Rattle.dn_netgame.specs.Shown.{PrintsOrFails};
 ghost use Rattle.dn_netgame.specs.declared.fault.RunFault.{RunFault};
 
 use crate::fault::RunFault;
 use crate::nodes::push_node;
-use crate::transfer::put;
+use crate::transfer::print;
 use dn_line::{Line, UdpLine};
 use dn_node::{Config, Node};
 use dn_turn::rounds;
@@ -103,25 +103,14 @@ pub fn run_play<R: Net, W: Write>(
     requires me { config.me < config.players }
     requires keyed { IsKeyed config }
     requires limit { IsLimit config.limit }
-    // All that is to be printed was written, and the status is its own.
-    ensures shown { IfOk result (λ status. Prints (IsPlay config base seed count raw)
-        (W.contents output.old) (W.contents output.new) status) }
-    // A write fault comes before the last byte is written.
-    ensures write { result ≡ Err RunFault.Write
-        → PrintsFront (IsPlay config base seed count raw) (W.contents output.old) (W.contents output.new) }
-    // The only other fault is `Memory`, which leaves the output as it was.
-    ensures fault { IfErr result (λ fault. fault ≢ RunFault.Read) }
-    ensures unwritten { result ≡ Err RunFault.Memory → output.new ≡ output.old }
+    ensures { PrintsOrFails W.contents (IsPlay config base seed count raw) output.old output.new result }
 {
     let Some(node) = play(rt, alloc, config, base, seed, count)? else {
-        put(output, NO_SOCKET.as_bytes())?;
-        return Ok(UNBOUND);
+        return print(output, NO_SOCKET.as_bytes(), UNBOUND);
     };
     if raw {
-        put(output, node.demo())?;
-        return Ok(0);
+        return print(output, node.demo(), 0);
     }
     let text = text_of(alloc, &node)?;
-    put(output, text.as_bytes())?;
-    Ok(0)
+    print(output, text.as_bytes(), 0)
 }

@@ -5,7 +5,7 @@ ghost use Rattle.std.specs.String.{string_bytes};
 ghost use Rattle.dn_demo.specs.Recorded.{IsLimit};
 ghost use Rattle.dn_lockstep.specs.Opening.{IsGame};
 ghost use Rattle.dn_game.specs.Script.{size_limit};
-ghost use Rattle.dn_netgame.specs.Shown.{Shows, ShowsFront, Prints, PrintsFront};
+ghost use Rattle.dn_netgame.specs.Shown.{Shows, ShowsFront, PrintsOrFails};
 ghost use Rattle.dn_netgame.specs.TraceLines.{AreTraced, IsSimTraced, IsStormTraced, IsStormScript};
 ghost use Rattle.dn_netgame.specs.Transfer.{TakesFewer, TakesAtMost};
 ghost use Rattle.dn_netgame.specs.declared.fault.RunFault.{RunFault};
@@ -15,7 +15,7 @@ use crate::fault::RunFault;
 use crate::games::{play_walks, push_game, storm_walks};
 use crate::observers::{Script, Trace};
 use crate::sim::{SCRIPT_LIMIT, text_of_fault};
-use crate::transfer::{gather, put};
+use crate::transfer::{gather, print, put};
 use dn_game::{Event, GameConfig, read_script};
 use std::alloc::{AllocError, Global};
 use std::io::{Read, Write};
@@ -134,22 +134,11 @@ pub fn trace_storm<W: Write>(
 ) -> Result<u8, RunFault>
     requires players { IsGame players }
     requires limit { IsLimit config.limit }
-
-    // All lines were written, and the status is theirs.
-    ensures shown { IfOk result (λ status. Prints (IsStormTraced config players seed count calm)
-        (W.contents output.old) (W.contents output.new) status) }
-
-    // A write fault comes before the last byte of the lines is written.
-    ensures write { result ≡ Err RunFault.Write
-        → PrintsFront (IsStormTraced config players seed count calm) (W.contents output.old)
-        (W.contents output.new) }
-    // The only other fault is `Memory`, which leaves the output as it was.
-    ensures fault { IfErr result (λ fault. fault ≢ RunFault.Read) }
-    ensures unwritten { result ≡ Err RunFault.Memory → output.new ≡ output.old }
+    ensures { PrintsOrFails W.contents (IsStormTraced config players seed count calm) output.old output.new
+        result }
 {
     let text = text_of_storm(alloc, config, players, seed, count, calm)?;
-    put(output, text.as_bytes())?;
-    Ok(0)
+    print(output, text.as_bytes(), 0)
 }
 
 /// The script of `count` events of the seed's schedule.
@@ -184,20 +173,9 @@ pub fn storm_script<W: Write>(
 ) -> Result<u8, RunFault>
     requires players { IsGame players }
     requires limit { IsLimit config.limit }
-
-    // The whole script was written, and the status is 0.
-    ensures shown { IfOk result (λ status. Prints (IsStormScript config players seed count)
-        (W.contents output.old) (W.contents output.new) status) }
-
-    // A write fault comes before the last byte of the script is written.
-    ensures write { result ≡ Err RunFault.Write
-        → PrintsFront (IsStormScript config players seed count) (W.contents output.old)
-        (W.contents output.new) }
-    // The only other fault is `Memory`, which leaves the output as it was.
-    ensures fault { IfErr result (λ fault. fault ≢ RunFault.Read) }
-    ensures unwritten { result ≡ Err RunFault.Memory → output.new ≡ output.old }
+    ensures { PrintsOrFails W.contents (IsStormScript config players seed count) output.old output.new
+        result }
 {
     let text = script_of(alloc, config, players, seed, count)?;
-    put(output, text.as_bytes())?;
-    Ok(0)
+    print(output, text.as_bytes(), 0)
 }

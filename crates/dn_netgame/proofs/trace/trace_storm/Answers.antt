@@ -1,12 +1,7 @@
-use Rattle.dn_netgame.proofs.Printing.{prints_all, prints_front}
+use Rattle.dn_netgame.proofs.Printing.{prints_such}
 use Rattle.dn_netgame.proofs.trace.trace_storm.Goals as goal
 
-pub returns-in_err-put-clause-write : goal.returns-in_err-put-clause-write
-returns-in_err-put-clause-write g c = λ _.
-    prints_front _ _ _ c.as_bytes.result.now _ 0 c.as_bytes.ensures.value c.in_ok-text.ensures
-    c.in_err-put.ensures.front
-
-pub returns-clause-shown : goal.returns-clause-shown
-returns-clause-shown g c =
-    prints_all _ _ _ c.as_bytes.result.now _ 0 c.as_bytes.ensures.value c.in_ok-text.ensures
-    c.in_ok-put.ensures.whole
+pub returns : goal.returns
+returns g c =
+    prints_such g.W.Write.contents _ c.args.output.now c.print.new.output _ _ 0 c.print.result c.print.ensures
+    c.as_bytes.ensures.value c.in_ok-text.ensures
