@@ -1,20 +1,18 @@
 //! Showing a demo: what it has and where its players end, or why it is none.
 
-ghost use Rattle.std.specs.Prelude.{◌≡◌, ◌≢◌, ℕ, ◌+◌, List, ◌++◌, codes, Err, IfOk, IfErr, OnOk};
+ghost use Rattle.std.specs.Prelude.{◌≡◌, ℕ, ◌+◌, List, ◌++◌, codes, Err, IfOk, IfErr, OnOk};
 ghost use Rattle.std.specs.String.{string_bytes};
 ghost use Rattle.dn_world.specs.Plane.{spot_at, walking};
 ghost use Rattle.dn_demo.specs.Feeding.{Shows};
 ghost use Rattle.dn_netgame.specs.DemoLines.{header_fields, size_line, player_line, seat_line, players_present, fed_lines, demo_limit, IsDemo};
 ghost use Rattle.dn_netgame.specs.Fields.{labelled};
-ghost use Rattle.dn_netgame.specs.Shown as shown;
-ghost use Rattle.dn_netgame.specs.Shown.{ShowsFront};
-ghost use Rattle.dn_netgame.specs.Transfer.{TakesFewer, TakesAtMost};
+ghost use Rattle.dn_netgame.specs.Shown.{ShowsOrFails};
 ghost use Rattle.dn_netgame.specs.declared.fault.RunFault.{RunFault};
 
 use crate::fault::RunFault;
 use crate::feeding::{fed_demo, feed_demo};
 use crate::fields::{push_fields, push_line};
-use crate::transfer::put;
+use crate::transfer::print;
 use dn_demo::{Fed, Feed};
 use dn_setup::Start;
 use dn_world::{Walk, World};
@@ -148,27 +146,11 @@ pub fn run_demo<R: Read, W: Write>(
     input: &mut R,
     output: &mut W,
 ) -> Result<u8, RunFault>
-    // All lines of the demo were written, and the status is theirs. A byte more than a demo can have
-    // is taken, so that a longer input is not read as its front.
-    ensures shown { IfOk result (λ status. shown.Shows (demo_limit + 1) IsDemo
-        (R.remaining input.old) (R.remaining input.new)
-        (W.contents output.old) (W.contents output.new) status) }
-
-    // A read fault comes before the last byte is there.
-    ensures read { result ≡ Err RunFault.Read
-        → TakesFewer (demo_limit + 1) (R.remaining input.old) (R.remaining input.new) }
-    // No more bytes than these are taken where memory is refused.
-    ensures memory { result ≡ Err RunFault.Memory
-        → TakesAtMost (demo_limit + 1) (R.remaining input.old) (R.remaining input.new) }
-    // A write fault comes before the last byte of the lines is written.
-    ensures write { result ≡ Err RunFault.Write
-        → ShowsFront (demo_limit + 1) IsDemo (R.remaining input.old) (R.remaining input.new)
-        (W.contents output.old) (W.contents output.new) }
-    // Any other fault leaves the output as it was.
-    ensures unwritten { IfErr result (λ fault. fault ≢ RunFault.Write → output.new ≡ output.old) }
+    // A byte more than a demo can have is taken, so that a longer input is not read as its front.
+    ensures { ShowsOrFails W.contents (demo_limit + 1) IsDemo (R.remaining input.old) (R.remaining input.new)
+        output.old output.new result }
 {
     let feed = feed_demo(input)?;
     let (text, status) = text_of(alloc, feed)?;
-    put(output, text.as_bytes())?;
-    Ok(status)
+    print(output, text.as_bytes(), status)
 }

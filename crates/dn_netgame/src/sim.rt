@@ -1,20 +1,19 @@
 //! Playing a script: the lines of its game, or why it is none.
 
-ghost use Rattle.std.specs.Prelude.{◌≡◌, ◌≢◌, ◌+◌, ◌++◌, Err, IfOk, IfErr};
+ghost use Rattle.std.specs.Prelude.{◌≡◌, ◌+◌, Err, IfOk, IfErr};
 ghost use Rattle.std.specs.String.{string_bytes};
 ghost use Rattle.dn_demo.specs.Recorded.{IsLimit};
 ghost use Rattle.dn_lockstep.specs.Opening.{IsGame};
 ghost use Rattle.dn_game.specs.Script.{size_limit};
 ghost use Rattle.dn_netgame.specs.GameLines.{IsGameShown};
-ghost use Rattle.dn_netgame.specs.Shown.{Shows, ShowsFront};
+ghost use Rattle.dn_netgame.specs.Shown.{ShowsOrFails};
 ghost use Rattle.dn_netgame.specs.SimLines.{WalksBy, IsFaultShown, IsSim, bad_line};
-ghost use Rattle.dn_netgame.specs.Transfer.{TakesFewer, TakesAtMost};
 ghost use Rattle.dn_netgame.specs.declared.fault.RunFault.{RunFault};
 
 use crate::fault::RunFault;
 use crate::fields::push_line;
 use crate::games::{play_walks, text_of_game};
-use crate::transfer::{gather, put};
+use crate::transfer::{gather, print};
 use dn_game::{Event, GameConfig, Nobody, ScriptFault, read_script};
 use std::alloc::{AllocError, Global};
 use std::io::{Read, Write};
@@ -95,29 +94,11 @@ pub fn run_sim<R: Read, W: Write>(
 ) -> Result<u8, RunFault>
     requires players { IsGame players }
     requires limit { IsLimit config.limit }
-
-    // All lines of the game were written, and the status is theirs. A byte more than a script can
-    // have is taken, so that a longer input is not read as its front.
-    ensures shown { IfOk result (λ status. Shows (size_limit + 1) (IsSim config players)
-        (R.remaining input.old) (R.remaining input.new)
-        (W.contents output.old) (W.contents output.new) status) }
-
-    // A read fault comes before the last byte is there.
-    ensures read { result ≡ Err RunFault.Read
-        → TakesFewer (size_limit + 1) (R.remaining input.old) (R.remaining input.new) }
-    // Memory can run out before that, too.
-    ensures memory { result ≡ Err RunFault.Memory
-        → TakesAtMost (size_limit + 1) (R.remaining input.old) (R.remaining input.new) }
-    // A write fault comes before the last byte of the lines is written.
-    ensures write { result ≡ Err RunFault.Write
-        → ShowsFront (size_limit + 1) (IsSim config players)
-        (R.remaining input.old) (R.remaining input.new)
-        (W.contents output.old) (W.contents output.new) }
-    // Any other fault leaves the output as it was.
-    ensures unwritten { IfErr result (λ fault. fault ≢ RunFault.Write → output.new ≡ output.old) }
+    // A byte more than a script can have is taken, so that a longer input is not read as its front.
+    ensures { ShowsOrFails W.contents (size_limit + 1) (IsSim config players) (R.remaining input.old)
+        (R.remaining input.new) output.old output.new result }
 {
     let bytes = gather(alloc, input, SCRIPT_LIMIT + 1)?;
     let (text, status) = text_of(alloc, config, players, bytes.as_slice())?;
-    put(output, text.as_bytes())?;
-    Ok(status)
+    print(output, text.as_bytes(), status)
 }

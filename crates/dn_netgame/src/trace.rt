@@ -1,13 +1,12 @@
 //! Games told event by event: traces of scripts and storms, and the script of a storm.
 
-ghost use Rattle.std.specs.Prelude.{◌≡◌, ◌≢◌, ◌+◌, Err, IfOk, IfErr};
+ghost use Rattle.std.specs.Prelude.{◌≡◌, ◌+◌, Err, IfOk, IfErr};
 ghost use Rattle.std.specs.String.{string_bytes};
 ghost use Rattle.dn_demo.specs.Recorded.{IsLimit};
 ghost use Rattle.dn_lockstep.specs.Opening.{IsGame};
 ghost use Rattle.dn_game.specs.Script.{size_limit};
-ghost use Rattle.dn_netgame.specs.Shown.{Shows, ShowsFront, PrintsOrFails};
+ghost use Rattle.dn_netgame.specs.Shown.{ShowsOrFails, PrintsOrFails};
 ghost use Rattle.dn_netgame.specs.TraceLines.{AreTraced, IsSimTraced, IsStormTraced, IsStormScript};
-ghost use Rattle.dn_netgame.specs.Transfer.{TakesFewer, TakesAtMost};
 ghost use Rattle.dn_netgame.specs.declared.fault.RunFault.{RunFault};
 
 use crate::calm::calm_down;
@@ -15,7 +14,7 @@ use crate::fault::RunFault;
 use crate::games::{play_walks, push_game, storm_walks};
 use crate::observers::{Script, Trace};
 use crate::sim::{SCRIPT_LIMIT, text_of_fault};
-use crate::transfer::{gather, print, put};
+use crate::transfer::{gather, print};
 use dn_game::{Event, GameConfig, read_script};
 use std::alloc::{AllocError, Global};
 use std::io::{Read, Write};
@@ -72,30 +71,12 @@ pub fn trace_sim<R: Read, W: Write>(
 ) -> Result<u8, RunFault>
     requires players { IsGame players }
     requires limit { IsLimit config.limit }
-
-    // All lines were written, and the status is theirs.
-    ensures shown { IfOk result (λ status. Shows (size_limit + 1) (IsSimTraced config players)
-        (R.remaining input.old) (R.remaining input.new)
-        (W.contents output.old) (W.contents output.new) status) }
-
-    // A read fault comes before the last byte is there.
-    ensures read { result ≡ Err RunFault.Read
-        → TakesFewer (size_limit + 1) (R.remaining input.old) (R.remaining input.new) }
-    // Memory can run out before that, too.
-    ensures memory { result ≡ Err RunFault.Memory
-        → TakesAtMost (size_limit + 1) (R.remaining input.old) (R.remaining input.new) }
-    // A write fault comes before the last byte of the lines is written.
-    ensures write { result ≡ Err RunFault.Write
-        → ShowsFront (size_limit + 1) (IsSimTraced config players)
-        (R.remaining input.old) (R.remaining input.new)
-        (W.contents output.old) (W.contents output.new) }
-    // Any other fault leaves the output as it was.
-    ensures unwritten { IfErr result (λ fault. fault ≢ RunFault.Write → output.new ≡ output.old) }
+    ensures { ShowsOrFails W.contents (size_limit + 1) (IsSimTraced config players) (R.remaining input.old)
+        (R.remaining input.new) output.old output.new result }
 {
     let bytes = gather(alloc, input, SCRIPT_LIMIT + 1)?;
     let (text, status) = text_of_script(alloc, config, players, bytes.as_slice())?;
-    put(output, text.as_bytes())?;
-    Ok(status)
+    print(output, text.as_bytes(), status)
 }
 
 /// The lines of a game of walks after `count` events of the seed's schedule, each with its line, and `calm`

@@ -1,16 +1,15 @@
 //! Upgrading a demo to version 111, or telling why there is none.
 
-ghost use Rattle.std.specs.Prelude.{◌≡◌, ◌≢◌, ◌+◌, Err, IfOk, IfErr};
+ghost use Rattle.std.specs.Prelude.{◌≡◌, ◌+◌, Err, IfOk, IfErr};
 ghost use Rattle.dn_demo.specs.Recorded.{IsLimit};
 ghost use Rattle.dn_netgame.specs.DemoLines.{demo_limit};
 ghost use Rattle.dn_netgame.specs.UpgradeLines.{IsUpgradedTo, IsUpgrade};
-ghost use Rattle.dn_netgame.specs.Shown.{Shows, ShowsFront};
-ghost use Rattle.dn_netgame.specs.Transfer.{TakesFewer, TakesAtMost};
+ghost use Rattle.dn_netgame.specs.Shown.{ShowsOrFails};
 ghost use Rattle.dn_netgame.specs.declared.fault.RunFault.{RunFault};
 
 use crate::fault::RunFault;
 use crate::input::{INPUT_LIMIT, read_demo};
-use crate::transfer::{gather, put};
+use crate::transfer::{gather, print};
 use dn_demo::{Demo, UpgradeFault, upgrade};
 use std::alloc::Global;
 use std::io::{Read, Write};
@@ -56,26 +55,10 @@ pub fn run_upgrade<R: Read, W: Write>(
     output: &mut W,
 ) -> Result<u8, RunFault>
     requires limit { IsLimit limit }
-    // All of the upgraded demo was written, or the line of a refusal, and the status is theirs.
-    ensures shown { IfOk result (λ status. Shows (demo_limit + 1) (IsUpgrade limit)
-        (R.remaining input.old) (R.remaining input.new)
-        (W.contents output.old) (W.contents output.new) status) }
-
-    // A read fault comes before the last byte is there.
-    ensures read { result ≡ Err RunFault.Read
-        → TakesFewer (demo_limit + 1) (R.remaining input.old) (R.remaining input.new) }
-    // Memory can run out before that, too.
-    ensures memory { result ≡ Err RunFault.Memory
-        → TakesAtMost (demo_limit + 1) (R.remaining input.old) (R.remaining input.new) }
-    // A write fault comes before the last byte is written.
-    ensures write { result ≡ Err RunFault.Write
-        → ShowsFront (demo_limit + 1) (IsUpgrade limit) (R.remaining input.old) (R.remaining input.new)
-        (W.contents output.old) (W.contents output.new) }
-    // Any other fault leaves the output as it was.
-    ensures unwritten { IfErr result (λ fault. fault ≢ RunFault.Write → output.new ≡ output.old) }
+    ensures { ShowsOrFails W.contents (demo_limit + 1) (IsUpgrade limit) (R.remaining input.old)
+        (R.remaining input.new) output.old output.new result }
 {
     let bytes = gather(alloc, input, INPUT_LIMIT + 1)?;
     let (text, status) = bytes_of(alloc, bytes, limit)?;
-    put(output, &text)?;
-    Ok(status)
+    print(output, &text, status)
 }
