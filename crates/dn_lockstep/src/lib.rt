@@ -22,8 +22,8 @@ pub use config::{Config, NodeFault};
 pub use dn_machine::{Cause, Heard, Made, Phase, Ran};
 pub use laws::{ended_demos_are_read, locksteps_agree};
 pub use lockstep::Lockstep;
-pub use lockstep::opening::is_game;
 pub use lockstep::aiming::Aim;
+pub use lockstep::opening::is_game;
 
 #[cfg(test)]
 mod tests;
