@@ -40,7 +40,7 @@ pub record Carries (p : Packet) (s : Settings) : Type 0 where
   pub start : p.start ≡ start_byte s
 
 -- What a packet says as a set-up packet: settings, or the first fault that it has.
--- Its other flags and its commands say nothing; out of range is what tells no settings at all.
+-- Its other flags and its commands say nothing; out of range is what carries no settings at all.
 abbrev pub IsSetupReadAs : Packet → Result Settings SetupFault → Type 0
 IsSetupReadAs p (Ok s) = HasSetup p × (p.player ≡ version) × Carries p s
 IsSetupReadAs p (Err NotSetup) = ¬ HasSetup p
