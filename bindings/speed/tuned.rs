@@ -1,8 +1,10 @@
-//! The node calls of zirmegat.h in plain Rust, tuned by hand: what docs/SPEED.md measures the library beside.
+//! The node calls of zirmegat.h in Rust, tuned by hand to the last instruction: docs/SPEED.md tells how far
+//! that goes beyond plain.rs.
 //!
-//! A command is kept as its eight wire bytes in one u64; rings and marks are tables of 16 places, so that a place
-//! is a mask; a datagram is written straight into the caller's room and read straight from the caller's bytes; the
-//! demo goes into memory that was reserved when the node was made. No call but zmg_node_new takes memory.
+//! A command is kept as its eight wire bytes in one u64; rings and marks are tables of 16 places, so that a
+//! place is a mask; a datagram is written straight into the caller's room and read straight from the caller's
+//! bytes; the demo goes into memory that was reserved when the node was made. No call but zmg_node_new takes
+//! memory.
 #![deny(unsafe_op_in_unsafe_fn)]
 
 use std::slice;
@@ -24,7 +26,7 @@ const SETUP: u32 = 2;
 const RETRANSMIT: u32 = 4;
 const EXIT: u32 = 8;
 
-// ---- The structs of the header --------------------------------------------------------------------------------
+// ---- The structs of the header ----------------------------------------------------------------------------
 
 #[repr(C)]
 pub struct Handle {
@@ -91,8 +93,8 @@ pub struct Move {
     present: u8,
 }
 
-/// zmg_ran as the two registers that it is returned in: code and tic, and was, should and player. A struct of its
-/// fields would be put together in memory, and its halves loaded before their stores are done.
+/// zmg_ran as the two registers that it is returned in: code and tic, and was, should and player. A struct of
+/// its fields would be put together in memory, and its halves loaded before their stores are done.
 #[repr(C)]
 pub struct Ran {
     code_tic: u64,
@@ -136,7 +138,7 @@ pub struct KnownSettings {
     settings: Settings,
 }
 
-// ---- A command ------------------------------------------------------------------------------------------------
+// ---- A command --------------------------------------------------------------------------------------------
 
 /// A tic command as its wire bytes: forward, side, turn (2), mark (2), chat, buttons, the first lowest.
 #[derive(Clone, Copy)]
@@ -237,8 +239,9 @@ fn split(bytes: &[u8]) -> Result<(u64, &[[u8; 8]]), u32> {
     Ok((head, body.as_chunks::<8>().0))
 }
 
-/// The sum of a datagram's words, and whether a command would end a demo. A word counts as often as its place says:
-/// from the last on, each is in the sum of all that were met, once for each place from its own down to the first.
+/// The sum of a datagram's words, and whether a command would end a demo. A word counts as often as its place
+/// says: from the last on, each is in the sum of all that were met, once for each place from its own down to
+/// the first.
 #[inline(always)]
 fn tally(head: u64, body: &[[u8; 8]]) -> (u32, bool) {
     let (mut met, mut sum, mut stop) = (0u32, 0x123_4567u32, false);
@@ -253,7 +256,7 @@ fn tally(head: u64, body: &[[u8; 8]]) -> (u32, bool) {
     (sum.wrapping_add(met).wrapping_add((head >> 32) as u32), stop)
 }
 
-// ---- A node ---------------------------------------------------------------------------------------------------
+// ---- A node -----------------------------------------------------------------------------------------------
 
 #[derive(Clone, Copy, PartialEq, Eq)]
 enum Phase {
@@ -263,7 +266,8 @@ enum Phase {
     Ended = 4,
 }
 
-/// A node. What it keeps of each player stands in tables by the player, so that what a call reads is close together.
+/// A node. What it keeps of each player stands in tables by the player, so that what a call reads is close
+/// together.
 pub struct Node {
     phase: Phase,
     players: u8,
@@ -812,7 +816,7 @@ impl Node {
 
 const NOBODY: Move = Move { turn: 0, forward: 0, side: 0, buttons: 0, present: 0 };
 
-// ---- The calls ------------------------------------------------------------------------------------------------
+// ---- The calls --------------------------------------------------------------------------------------------
 
 impl Handle {
     #[inline(always)]
@@ -876,7 +880,12 @@ pub extern "C" fn zmg_node_aim(handle: &mut Handle, to: u8) -> Aim {
 /// # Safety
 /// `bytes` has `length` bytes.
 #[unsafe(no_mangle)]
-pub unsafe extern "C" fn zmg_node_receive(handle: &mut Handle, from: u8, bytes: *const u8, length: usize) -> Heard {
+pub unsafe extern "C" fn zmg_node_receive(
+    handle: &mut Handle,
+    from: u8,
+    bytes: *const u8,
+    length: usize,
+) -> Heard {
     match handle.node() {
         Some(node) => node.receive(from, unsafe { slice::from_raw_parts(bytes, length) }),
         None => dropped(13),

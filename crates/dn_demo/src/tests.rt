@@ -2,6 +2,27 @@
 
 ghost use Rattle.std.specs.Prelude.{◌≡◌, Some};
 
+/// Compares two values, and names what was compared. An `assert_eq!` is proved anew at each place, which
+/// takes several times as long as this call.
+macro_rules! same {
+    ($rt:expr; $found:expr, $wanted:expr) => {
+        same!($rt; $found, $wanted, ())
+    };
+    ($rt:expr; $found:expr, $wanted:expr, $row:expr) => {
+        $crate::tests::compare(&$rt, stringify!($found), &$row, $found, $wanted)
+    };
+}
+
+/// The same for a fact, in place of `assert!`.
+macro_rules! holds {
+    ($rt:expr; $fact:expr) => {
+        holds!($rt; $fact, ())
+    };
+    ($rt:expr; $fact:expr, $row:expr) => {
+        $crate::tests::confirm(&$rt, stringify!($fact), &$row, $fact)
+    };
+}
+
 mod feeding;
 mod reading;
 mod recording;
@@ -10,6 +31,12 @@ mod upgrading;
 
 use dn_setup::Start;
 use dn_tic::Move;
+use dn_world::{Walk, World};
+use std::fmt::Debug;
+use std::process::Abort;
+
+/// Where a player stands: x, y, angle and consistency value.
+type Place = (i32, i32, u16, i16);
 
 /// Two tics of players 0 and 1, closed, as the 1997 release records them.
 const PLAYED: [u8; 30] = [
@@ -23,6 +50,12 @@ const RECORDED: [u8; 34] = [
     0x19, 0x18, 0, 0x40, 0, 0x80,
 ];
 
+/// Where players 0 and 1 stand before any tic.
+const BEGUN: [Place; 2] = [(0, 0, 0, 0), (4_194_304, 0, 0, 0)];
+
+/// Where they stand after these tics.
+const PLACES: [Place; 2] = [(1, 0, 0, 1), (4_243_456, 51_200, 16_640, -16_384)];
+
 const START: Start = Start {
     skill: 3,
     episode: 1,
@@ -32,6 +65,42 @@ const START: Start = Start {
     fast: 0,
     no_monsters: 1,
 };
+
+/// Compares what a test found with what it wants. Where they differ, what was asked and the row of its table
+/// are told.
+fn compare<T: PartialEq + Debug + Drop>(
+    rt: &impl Abort,
+    what: &str,
+    row: &impl Debug,
+    found: T,
+    wanted: T,
+) {
+    assert_eq!(rt; found, wanted, "{what}, row {row:?}");
+}
+
+/// Confirms a fact.
+fn confirm(rt: &impl Abort, what: &str, row: &impl Debug, fact: bool) {
+    assert!(rt; fact, "{what}, row {row:?}");
+}
+
+/// What a world tells of a player.
+fn place(walk: &Walk, player: u8) -> (Option<i32>, Option<i32>, Option<u16>, i16) {
+    (
+        walk.x(player),
+        walk.y(player),
+        walk.angle(player),
+        walk.mark(player),
+    )
+}
+
+/// Players 0 and 1 stand at these places, and there is no third.
+fn stand(rt: &impl Abort, walk: &Walk, places: [Place; 2]) {
+    for (player, (x, y, angle, mark)) in [(0, places[0]), (1, places[1])] {
+        let wanted = (Some(x), Some(y), Some(angle), mark);
+        same!(rt; place(walk, player), wanted, player);
+    }
+    same!(rt; walk.x(2), None);
+}
 
 fn moved(forward: i8, side: i8, turn: i16, buttons: u8) -> Option<Move>
     ensures { result ≡ Some (record { forward = forward; side = side; turn = turn; buttons = buttons }) }

@@ -1,5 +1,5 @@
 -- A node that was asked for a packet.
-use Rattle.std.proofs.Common.{◌≡◌, ℕ, Bool, true, false, cond, Option, Some, None, refl, ap, sym, ◌∙◌, inl, inr}
+use Rattle.std.proofs.Common.{◌≡◌, ◌≢◌, ℕ, List, length, take, drop, subst, arith, Bool, true, false, cond, Option, Some, None, refl, ap, sym, ◌∙◌, inl, inr}
 use Rattle.std.specs.Option.{option_map}
 use Rattle.std.proofs.lemmas.Bool.{cases_lt, cases_eq}
 use Rattle.std.proofs.lemmas.Option.{same_Some}
@@ -9,11 +9,14 @@ use Rattle.dn_machine.specs.Worlds.{Rules}
 use Rattle.dn_machine.specs.Flight.{Flight, packet_of}
 use Rattle.dn_machine.specs.Sending.{on_send_in}
 use Rattle.dn_machine.specs.Node as machine
+use Rattle.std.proofs.Math.Seq.{take-append_seam}
 use Rattle.dn_packet.specs.declared.packet.Packet.{Packet}
+use Rattle.dn_packet.specs.Text.{text}
+use Rattle.dn_packet.specs.Written.{IsWritten, IsGiven}
 use Rattle.dn_lockstep.specs.Contents.{Contents}
 use Rattle.dn_lockstep.specs.Giving.{Gives}
 use Rattle.dn_lockstep.specs.Represents.{Represents}
-use Rattle.dn_lockstep.specs.Sent.{sent_to, after_giving}
+use Rattle.dn_lockstep.specs.Sent.{sent_to, after_giving, bytes_of}
 use Rattle.dn_lockstep.proofs.After.{along}
 use Rattle.dn_lockstep.proofs.Sending.{to_itself, to_nobody, to_peer, sends_in}
 
@@ -85,3 +88,28 @@ given_shows rules me n new m to packet r given is shows =
     along (ap (λ (x : machine.Node × Option Flight). x.0) sends
     ∙ some_in rules me m to m.phase some.0 (sym (ap (λ (x : machine.Node × Option Flight). x.1) sends)
     ∙ some.1)) shows
+
+-- the bytes of a flight are the text of its packet
+pub spelled : (sent : Option Flight) → option_map text (option_map packet_of sent) ≡ option_map bytes_of sent
+spelled None = refl
+spelled (Some flight) = refl
+
+-- what is written tells what was sent
+module _ (given : Option (List ℕ)) (old new : List ℕ) (count : ℕ) (w : IsGiven given old new count) where
+  of_bytes : (bytes : List ℕ) → given ≡ Some bytes → IsWritten bytes old new count
+  of_bytes bytes e = subst (λ (o : Option (List ℕ)). IsGiven o old new count) e w
+
+  pub none_given : (sent : Option Flight) → given ≡ option_map bytes_of sent → count ≡ 0
+      → None ≡ option_map bytes_of sent
+  none_given None e none = refl
+  none_given (Some flight) e none = absurd (omega (arith, (of_bytes (bytes_of flight) e).0, none))
+
+  pub some_given : (sent : Option Flight) → given ≡ option_map bytes_of sent → count ≢ 0
+      → Some (take count new) ≡ option_map bytes_of sent
+  some_given None e some =
+      let none = subst (λ (o : Option (List ℕ)). IsGiven o old new count) e w in
+      absurd (some none.0)
+  some_given (Some flight) e some =
+      let is = of_bytes (bytes_of flight) e in
+      ap Some ((λ i. take (is.0 i) (is.1 i))
+      ∙ take-append_seam (bytes_of flight) (drop (length (bytes_of flight)) old))

@@ -1,5 +1,5 @@
 -- The packets of a node's own commands.
-use Rattle.std.proofs.Common.{◌≡◌, ◌≢◌, ◌⊎◌, ℕ, Bool, true, false, cond, Option, Some, None, refl, ap, sym, ◌∙◌, subst, inl, inr}
+use Rattle.std.proofs.Common.{◌≡◌, ◌≢◌, ◌⊎◌, ◌<◌, ◌%◌, ℕ, length, drop, arith, Bool, true, false, cond, Option, Some, None, refl, ap, sym, ◌∙◌, subst, inl, inr}
 use Rattle.std.specs.Prelude.{IfSome}
 use Rattle.std.specs.List.{list_any}
 use Rattle.std.specs.Option.{option_map}
@@ -12,15 +12,19 @@ use Rattle.dn_machine.specs.declared.answers.Phase.{Phase}
 use Rattle.dn_machine.specs.declared.answers.Phase.TheVariants.{Listening, Gathering, Playing, Ended}
 use Rattle.dn_machine.specs.Worlds.{Rules}
 use Rattle.dn_machine.specs.Node as machine
-use Rattle.dn_machine.specs.Flight.{Kind, Play, Exit, Flight, packet_of, packet_of_kind}
+use Rattle.dn_machine.specs.Flight.{Kind, SetUp, Play, Exit, Flight, request_byte, packet_of, packet_of_kind}
 use Rattle.dn_machine.specs.Sending.{on_send_in, commands_flight, set_up_flight}
 use Rattle.dn_lockstep.specs.declared.lockstep.aiming.Aim.{Aim}
 use Rattle.dn_lockstep.specs.Rings.{is_stop}
 use Rattle.dn_lockstep.specs.Contents.{Contents}
 use Rattle.dn_lockstep.specs.Represents.{Represents}
 use Rattle.dn_lockstep.specs.Sent.{sent_to, aim_of}
-use Rattle.dn_lockstep.specs.Giving.{IsOwn, Gives}
+use Rattle.dn_lockstep.specs.Giving.{IsOwn, Gives, Reaches, packet_of_aim}
 use Rattle.dn_lockstep.specs.Near.{IsFair, IsFairKind}
+use Rattle.dn_ring.specs.Ring.{Ring, ring_of, since}
+use Rattle.dn_ring.proofs.Keeping.{since-ring_of}
+use Rattle.dn_lockstep.specs.Rings.{count_of}
+use Rattle.dn_lockstep.proofs.Counting.{below}
 use Rattle.dn_lockstep.proofs.Sending.{sends_in}
 
 -- only a gathering node sends anything but its own commands
@@ -45,6 +49,43 @@ own_sent rules me n m to r given on =
     let P : machine.Node × Option Flight → Type 0 = λ x. IfSome x.1 (IsOwn m me) in
     subst P (sym (sends_in rules me n m to _ r given.below given.other r.stands.phase))
     (sends_own rules me m to m.phase (λ e. on (r.stands.phase ∙ e)))
+
+-- a packet of commands is its numbers and its commands
+whole_packet : (flight : Flight) (kind : Kind) → (kind ≡ Play) ⊎ (kind ≡ Exit)
+    → record {
+      flags = (packet_of_kind flight kind).flags;
+      ask = request_byte flight.request;
+      start = flight.start % 256;
+      player = flight.from;
+      cmds = record { items = flight.commands };
+    } ≡ packet_of_kind flight kind
+whole_packet flight (SetUp settings) (inl e) = absurd (cc)
+whole_packet flight (SetUp settings) (inr e) = absurd (cc)
+whole_packet flight Play e = refl
+whole_packet flight Exit e = refl
+
+-- the packet of a flight's numbers is the flight's
+pub own_spelled : {S : Type 0} (rules : Rules S) (me : ℕ) (n : Contents) (m : machine.Node) (aim : Aim)
+    → Represents rules me n m → n.me < n.players → Reaches n aim → (flight : Flight) → IsOwn m me flight
+    → aim ≡ aim_of flight → packet_of_aim n aim ≡ packet_of flight
+own_spelled rules me n m aim r inside reach flight own e =
+    let ring : n.rings n.me ≡ ring_of (m.held n.me) =
+    r.commands.rings n.me (below rules me n m r n.me inside) in
+    let count : count_of n.rings n.me ≡ length (m.held n.me) = ap (λ (x : Ring). x.count) ring in
+    let near = reach.high in
+    let start : aim.start ≡ flight.start = ap (λ (x : Aim). x.start) e in
+    let items : since (n.rings n.me) aim.start ≡ flight.commands =
+    ap (λ (x : Ring). since x aim.start) ring ∙ since-ring_of (m.held n.me) aim.start (omega arith)
+    ∙ (λ i. drop (start i) (m.held (r.whose.number i))) ∙ sym own.commands in
+    let player : n.me ≡ flight.from = r.whose.number ∙ sym own.from in
+    ◌∙◌ {A = Packet}
+    (λ i. record {
+      flags = (e i).flags;
+      ask = request_byte (e i).ask;
+      start = (e i).start % 256;
+      player = player i;
+      cmds = record { items = items i };
+    }) (whole_packet flight flight.kind own.kind)
 
 module _ (m : machine.Node) (me : ℕ) (aim : Aim) (packet : Packet)
     (spelled : (flight : Flight) → IsOwn m me flight → aim ≡ aim_of flight → packet ≡ packet_of flight) where

@@ -1,10 +1,12 @@
 -- What a node must know to give a packet.
-use Rattle.std.specs.Prelude.{◌≡◌, ◌≢◌, ◌<◌, ◌≤◌, ◌⊎◌, ℕ, ◌+◌, ◌==◌, nat_lt, drop, Bool, true, false, not, ◌&&◌, List, Option}
+use Rattle.std.specs.Prelude.{◌≡◌, ◌≢◌, ◌<◌, ◌≤◌, ◌⊎◌, ℕ, ◌+◌, ◌%◌, ◌==◌, nat_lt, drop, Bool, true, false, not, ◌&&◌, List, Option}
 use Rattle.std.specs.Option.{option_map}
+use Rattle.dn_ring.specs.Ring.{since}
+use Rattle.dn_packet.specs.declared.packet.Packet.{Packet}
 use Rattle.dn_packet.specs.Written.{IsGiven}
 use Rattle.dn_machine.specs.declared.answers.Phase.{Phase}
 use Rattle.dn_machine.specs.declared.answers.Phase.TheVariants.{Listening, Gathering, Playing, Ended}
-use Rattle.dn_machine.specs.Flight.{Play, Exit, Flight}
+use Rattle.dn_machine.specs.Flight.{Play, Exit, Flight, request_byte}
 use Rattle.dn_machine.specs.Node as machine
 use Rattle.dn_lockstep.specs.declared.lockstep.aiming.Aim.{Aim}
 use Rattle.dn_lockstep.specs.Contents.{Contents}
@@ -17,6 +19,17 @@ pub record Reaches (n : Contents) (aim : Aim) : Type 0 where
   pub flags : aim.flags < 16
   pub low : aim.start ≤ count_of n.rings n.me
   pub high : count_of n.rings n.me ≤ aim.start + 12
+
+-- the packet of these numbers, with the own commands from its start on
+abbrev pub packet_of_aim : Contents → Aim → Packet
+packet_of_aim n aim =
+    record {
+      flags = aim.flags;
+      ask = request_byte aim.ask;
+      start = aim.start % 256;
+      player = n.me;
+      cmds = record { items = since (n.rings n.me) aim.start };
+    }
 
 -- the own commands from a start on
 pub record IsOwn (m : machine.Node) (me : ℕ) (flight : Flight) : Type 0 where

@@ -24,20 +24,17 @@ fn no_peer() -> Peer
     }
 }
 
-/// The peer after a packet with this request, if it has one.
-pub(crate) fn after_request(made: u32, peer: Peer, request: Option<u32>) -> Peer
-    ensures { result ≡ after_request made peer request }
+/// What a packet with this request, if it has one, makes of the peer. It is written in place: a peer that is
+/// moved costs more.
+fn ask(peer: &mut Peer, made: u32, request: Option<u32>)
+    ensures { peer.new ≡ after_request made peer.old request }
 {
     match request {
-        Some(tic) if peer.pause == 0 && tic <= made && made.saturating_sub(PLACES) <= tic => Peer {
-            resend: tic,
-            pause: PAUSE,
-            ..peer
-        },
-        _ => Peer {
-            pause: peer.pause.saturating_sub(1),
-            ..peer
-        },
+        Some(tic) if peer.pause == 0 && tic <= made && made.saturating_sub(PLACES) <= tic => {
+            peer.resend = tic;
+            peer.pause = PAUSE;
+        }
+        _ => peer.pause = peer.pause.saturating_sub(1),
     }
 }
 
@@ -48,20 +45,6 @@ pub(crate) fn is_strange_end(exit: bool, got: u32, known: Option<u32>, end: u32)
     match known {
         Some(known) => exit && end < got || known < end || exit && end != known,
         None => exit && end < got,
-    }
-}
-
-/// The peer after a packet that ends at this tic, which is the peer's own end if it is an EXIT packet.
-pub(crate) fn after_exit(peer: Peer, exit: bool, end: u32) -> Peer
-    ensures { result ≡ after_exit peer exit end }
-{
-    if exit {
-        Peer {
-            end: Some(end),
-            ..peer
-        }
-    } else {
-        peer
     }
 }
 
@@ -98,12 +81,42 @@ impl Peers {
         self.peers[usize::from(player)]
     }
 
-    /// Keeps something else of the peer.
-    pub(crate) fn put(&mut self, player: u8, peer: Peer)
+    /// Keeps what a packet with this request, if it has one, makes of the peer.
+    pub(crate) fn ask(&mut self, player: u8, made: u32, request: Option<u32>)
         requires { player < 4 }
-        ensures put { peer_at self.new player ≡ peer }
+        ensures put { peer_at self.new player ≡ after_request made (peer_at self.old player) request }
         ensures others { (p : ℕ) → p ≢ player → peer_at self.new p ≡ peer_at self.old p }
     {
-        self.peers[usize::from(player)] = peer;
+        ask(&mut self.peers[usize::from(player)], made, request);
+    }
+
+    /// Keeps what a packet that ends at this tic makes of the peer: the tic is its end if that is an EXIT
+    /// packet.
+    pub(crate) fn tell(&mut self, player: u8, exit: bool, end: u32)
+        requires { player < 4 }
+        ensures put { peer_at self.new player ≡ after_exit (peer_at self.old player) exit end }
+        ensures others { (p : ℕ) → p ≢ player → peer_at self.new p ≡ peer_at self.old p }
+    {
+        if exit {
+            self.peers[usize::from(player)].end = Some(end);
+        }
+    }
+
+    /// Keeps whether a resend is wanted of the peer.
+    pub(crate) fn want(&mut self, player: u8, want: bool)
+        requires { player < 4 }
+        ensures put { peer_at self.new player ≡ record (peer_at self.old player) { want = want } }
+        ensures others { (p : ℕ) → p ≢ player → peer_at self.new p ≡ peer_at self.old p }
+    {
+        self.peers[usize::from(player)].want = want;
+    }
+
+    /// Keeps from which tic on the peer is sent commands next.
+    pub(crate) fn resend_from(&mut self, player: u8, tic: u32)
+        requires { player < 4 }
+        ensures put { peer_at self.new player ≡ record (peer_at self.old player) { resend = tic } }
+        ensures others { (p : ℕ) → p ≢ player → peer_at self.new p ≡ peer_at self.old p }
+    {
+        self.peers[usize::from(player)].resend = tic;
     }
 }

@@ -2,6 +2,27 @@
 
 ghost use Rattle.std.specs.Prelude.{◌<◌};
 
+/// Compares two values, and names what was compared. An `assert_eq!` is proved anew at each place, which
+/// takes several times as long as this call.
+macro_rules! same {
+    ($rt:expr; $found:expr, $wanted:expr) => {
+        same!($rt; $found, $wanted, ())
+    };
+    ($rt:expr; $found:expr, $wanted:expr, $row:expr) => {
+        $crate::tests::compare(&$rt, stringify!($found), &$row, $found, $wanted)
+    };
+}
+
+/// The same for a fact, in place of `assert!`.
+macro_rules! holds {
+    ($rt:expr; $fact:expr) => {
+        holds!($rt; $fact, ())
+    };
+    ($rt:expr; $fact:expr, $row:expr) => {
+        $crate::tests::confirm(&$rt, stringify!($fact), &$row, $fact)
+    };
+}
+
 mod beside;
 mod demos;
 mod leaving;
@@ -16,6 +37,8 @@ use dn_setup::{Settings, SettingsFault};
 use dn_tic::{Keys, TicCmd};
 use dn_world::{Walk, World};
 use std::alloc::Global;
+use std::fmt::Debug;
+use std::process::Abort;
 use std::test::Fail;
 
 /// How many bytes the demos of most tests may have.
@@ -43,6 +66,36 @@ const STILL: TicCmd = TicCmd {
     chat: 0,
     buttons: 0,
 };
+
+/// Compares what a test found with what it wants. Where they differ, what was asked and the row of its table
+/// are told.
+fn compare<T: PartialEq + Debug + Drop>(
+    rt: &impl Abort,
+    what: &str,
+    row: &impl Debug,
+    found: T,
+    wanted: T,
+) {
+    assert_eq!(rt; found, wanted, "{what}, row {row:?}");
+}
+
+/// Confirms a fact.
+fn confirm(rt: &impl Abort, what: &str, row: &impl Debug, fact: bool) {
+    assert!(rt; fact, "{what}, row {row:?}");
+}
+
+/// Hands a node a packet, and compares its answer.
+fn hears<W: World>(
+    rt: &impl Abort,
+    node: &mut Node<W>,
+    from: u8,
+    (flags, numbers, commands): (u8, (u8, u8, u8), &[TicCmd]),
+    answer: Heard,
+) {
+    assert!(rt; flags < 16);
+    let bytes = datagram(flags, numbers, commands);
+    same!(rt; node.receive(from, bytes.as_slice()), answer, (from, flags, numbers, commands));
+}
 
 /// Skill 2, episode 1, map 1.
 fn choice() -> Result<Settings, SettingsFault> {

@@ -101,6 +101,30 @@ fn packets_are_read_and_written(rt: HostRuntime) {
     is_text_of(&rt, &twelve(), &packet(0, 0, 0, 0, &[all_ones(); 12]));
 }
 
+/// Two commands of player 1 from tic 5 on, who asks for tic 9: forward 50 and attack, and eight bytes 255.
+const TWO: [u8; 24] = [
+    0xCB, 0x4A, 0x24, 0x46, 9, 5, 1, 2, 0x32, 0, 0, 0, 0, 0, 0, 1, 0xFF, 0xFF, 0xFF, 0xFF, 0xFF,
+    0xFF, 0xFF, 0xFF,
+];
+
+#[test]
+fn commands_are_written_in_two_pieces(rt: HostRuntime) {
+    let head = Head {
+        flags: RETRANSMIT,
+        ask: 9,
+        start: 5,
+        player: 1,
+    };
+    let commands = [attack(), all_ones()];
+    is_text_of(&rt, &TWO, &packet(RETRANSMIT, 9, 5, 1, &commands));
+    for middle in 0..3 {
+        let mut room = [7; 25];
+        let size = encode_parts(&head, &commands[..middle], &commands[middle..], &mut room);
+        assert_eq!(rt; room.get(..size), Some(TWO.as_slice()), "middle {middle}");
+        assert_eq!(rt; (size, room[24]), (24, 7));
+    }
+}
+
 #[test]
 fn flags_stand_above_the_sum(rt: HostRuntime) {
     for (byte, flags) in [

@@ -1,10 +1,10 @@
 -- What a ring keeps of a whole list of commands.
 use Rattle.std.proofs.Common.{◌≡◌, ◌≤◌, ◌+◌, ◌-◌, ℕ, zero, suc, List, [], ◌∷◌, ◌++◌, length, drop, None, inl, inr, true, false, ◌<◌, refl, ap, sym, ◌∙◌, arith}
 use Rattle.std.specs.Prelude.{slice_get, nat_le}
-use Rattle.std.proofs.lemmas.List.{drop-append-le, drop-drop, length-append, length-drop}
+use Rattle.std.proofs.lemmas.List.{drop-append-le, drop-drop, drop_all, length-append, length-drop}
 use Rattle.std.proofs.lemmas.Bool.{cases_lt, lt-ltb, le-ltb, le-leb, lt-leb}
 use Rattle.dn_tic.specs.declared.command.TicCmd.{TicCmd}
-use Rattle.dn_ring.specs.Ring.{put, get, ring_of, last_twelve}
+use Rattle.dn_ring.specs.Ring.{put, get, since, ring_of, last_twelve}
 
 -- one more command
 pub put-ring_of : (cs : List TicCmd) (c : TicCmd) → put (ring_of cs) c ≡ ring_of (cs ++ c ∷ [])
@@ -34,6 +34,17 @@ pub slice_get-past : {X : Type 0} (xs : List X) (j : ℕ) → length xs ≤ j �
 slice_get-past [] j h = refl
 slice_get-past (x ∷ xs) zero h = absurd (omega arith)
 slice_get-past (x ∷ xs) (suc j) h = slice_get-past xs j (omega arith)
+
+-- the commands from a tic on, and none from a tic that is not there yet
+pub since-ring_of : (cs : List TicCmd) (g : ℕ) → length cs ≤ g + 12 → since (ring_of cs) g ≡ drop g cs
+since-ring_of cs g h =
+    let kept = length-drop (length cs - 12) cs in
+    let skipped : ℕ = length (last_twelve cs) - (length cs - g) in
+    let joined = drop-drop skipped (length cs - 12) cs in
+    elim (cases_lt g (length cs)) [
+      | inl below ↦ joined ∙ ap (λ (k : ℕ). drop k cs) (omega arith)
+      | inr past ↦ joined ∙ drop_all _ cs (omega arith) ∙ sym (drop_all g cs past)
+    ]
 
 -- and nothing of what came before them
 pub get-gone : (cs : List TicCmd) (g : ℕ) → g + 12 < length cs → get (ring_of cs) g ≡ None

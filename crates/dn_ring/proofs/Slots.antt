@@ -1,13 +1,15 @@
 -- The table of a ring.
-use Rattle.std.proofs.Common.{◌≡◌, ◌≤◌, ◌<◌, ◌+◌, ◌-◌, ◌%◌, ℕ, zero, suc, List, [], ◌∷◌, ◌++◌, length, map, drop, set, Some, true, refl, ap, sym, ◌∙◌, arith, length-append}
-use Rattle.std.specs.Prelude.{min, slice_get, nat_le}
+use Rattle.std.proofs.Common.{◌≡◌, ◌≤◌, ◌<◌, ◌+◌, ◌-◌, ◌%◌, ℕ, zero, suc, List, [], ◌∷◌, ◌++◌, length, map, take, drop, get_or, set, Some, true, refl, ap, sym, ◌∙◌, arith, length-append, drop-cons}
+use Rattle.std.specs.Prelude.{min, All, slice_get, nat_le}
 use Rattle.std.specs.List.{range_with_len}
 use Rattle.std.proofs.lemmas.Bool.{lt-ltb, le-leb}
 use Rattle.std.proofs.lemmas.List.{drop-append-le, get_or-set_same, get_or-set_other}
+use Rattle.std.proofs.lemmas.List.Elements.{All-nil, All-append, All-take, All-drop}
 use Rattle.std.proofs.lemmas.List.FromFn.{length-map-range_with_len, get_or-map-range_with_len, map-range_with_len_more}
 use Rattle.std.proofs.lemmas.Option.{slice_get-get_or, slice_get_within}
+use Rattle.dn_tic.specs.Command.{IsCommand}
 use Rattle.dn_tic.specs.declared.command.TicCmd.{TicCmd}
-use Rattle.dn_ring.specs.Ring.{Ring, put, get, ring_of, last_twelve, no_command, in_slot, last_in, IsTable, AreSlotsOf}
+use Rattle.dn_ring.specs.Ring.{Ring, put, get, since, ring_of, last_twelve, no_command, in_slot, last_in, IsTable, AreSlotsOf}
 use Rattle.dn_ring.proofs.Keeping.{get-ring_of}
 
 module _ {X : Type 0} where
@@ -28,6 +30,35 @@ module _ {X : Type 0} where
       let e : a + suc j ≡ a + 1 + j = omega arith in
       let k : suc n - suc j ≡ n - j = omega arith in
       rw (e, k) (drop_range f j (a + 1) n)
+
+  -- places of a list from one on
+  part : (xs : List X) (d : X) (a n : ℕ) → a + n ≤ length xs
+      → take n (drop a xs) ≡ map (λ (k : ℕ). get_or xs k d) (range_with_len a n)
+  part xs d a zero h = refl
+  part xs d a (suc n) h =
+      let front = drop-cons xs a d (omega arith) in
+      let next : suc a ≡ a + 1 = omega arith in
+      let rest = part xs d (a + 1) n (omega arith) in
+      ap (take (suc n)) (front ∙ ap (λ (k : ℕ). get_or xs a d ∷ drop k xs) next)
+      ∙ ap (λ (ys : List X). get_or xs a d ∷ ys) rest
+
+  -- two functions that agree by places, and two ranges one after the other
+  moved : (f g : ℕ → X) (a b n : ℕ) → ((j : ℕ) → j < n → f (a + j) ≡ g (b + j))
+      → map f (range_with_len a n) ≡ map g (range_with_len b n)
+  moved f g a b zero same = refl
+  moved f g a b (suc n) same =
+      let first : f a ≡ g b = ap f (omega arith) ∙ same 0 (omega arith) ∙ ap g (omega arith) in
+      let rest = moved f g (a + 1) (b + 1) n (λ j low. ap f (omega arith) ∙ same (suc j) (omega arith)
+      ∙ ap g (omega arith)) in
+      λ i. first i ∷ rest i
+
+  joined : (f : ℕ → X) (a m n : ℕ) → map f (range_with_len a m) ++ map f (range_with_len (a + m) n)
+      ≡ map f (range_with_len a (m + n))
+  joined f a zero n = let e : a + 0 ≡ a = omega arith in let k : 0 + n ≡ n = omega arith in rw (e, k) refl
+  joined f a (suc m) n =
+      let e : a + suc m ≡ a + 1 + m = omega arith in
+      let k : suc m + n ≡ suc (m + n) = omega arith in
+      rw (e, k) (ap (λ (ys : List X). f a ∷ ys) (joined f (a + 1) m n))
 
 -- one more command, in the slot of its tic
 module _ (count : ℕ) (slots : List TicCmd) (table : IsTable count slots) (c : TicCmd) where
@@ -97,3 +128,54 @@ slots_are count slots commands table is =
       free = λ slot low high.
           slice_get-get_or slots slot no_command (omega arith) ∙ ap Some (table.free slot (omega arith) high);
     }
+
+-- the commands from a tic on, in the slots of their tics
+module _ (count tic : ℕ) (slots : List TicCmd) (low : tic ≤ count) (high : count ≤ tic + 12)
+    (twelve : length slots ≡ 12) where
+  abbrev first : ℕ
+  first = tic % 12
+
+  in_table : since (record { count = count; last = last_in count slots }) tic
+      ≡ map (in_slot slots) (range_with_len tic (count - tic))
+  in_table =
+      let long = length-map-range_with_len (in_slot slots) (count - 12) (min count 12) in
+      let skipped : length (last_in count slots) - (count - tic) ≡ tic - (count - 12) = omega arith in
+      let begin : count - 12 + (tic - (count - 12)) ≡ tic = omega arith in
+      let many : min count 12 - (tic - (count - 12)) ≡ count - tic = omega arith in
+      ap (λ (k : ℕ). drop k (last_in count slots)) skipped
+      ∙ drop_range (in_slot slots) (tic - (count - 12)) (count - 12) (min count 12)
+      ∙ (λ i. map (in_slot slots) (range_with_len (begin i) (many i)))
+
+  -- one piece
+  piece : (from a n : ℕ) → a + n ≤ 12 → a ≡ from % 12
+      → take n (drop a slots) ≡ map (in_slot slots) (range_with_len from n)
+  piece from a n fits place =
+      part slots no_command a n (omega arith)
+      ∙ moved (λ (k : ℕ). get_or slots k no_command) (in_slot slots) a from n
+      (λ j below. ap (λ (k : ℕ). get_or slots k no_command) (omega arith))
+
+  pub in_one : first + (count - tic) ≤ 12 → take (count - tic) (drop first slots)
+      ≡ since (record { count = count; last = last_in count slots }) tic
+  in_one fits = piece tic first (count - tic) fits refl ∙ sym in_table
+
+  pub in_two : 12 ≤ first + (count - tic)
+      → take (12 - first) (drop first slots) ++ take (first + (count - tic) - 12) slots
+      ≡ since (record { count = count; last = last_in count slots }) tic
+  in_two past =
+      let many : 12 - first + (first + (count - tic) - 12) ≡ count - tic = omega arith in
+      let one = piece tic first (12 - first) (omega arith) refl in
+      let two = piece (tic + (12 - first)) 0 (first + (count - tic) - 12) (omega arith) (omega arith) in
+      (λ i. one i ++ two i) ∙ joined (in_slot slots) tic (12 - first) (first + (count - tic) - 12)
+      ∙ ap (λ (k : ℕ). map (in_slot slots) (range_with_len tic k)) many ∙ sym in_table
+
+-- and in the ranges of their fields
+module _ (slots : List TicCmd) (valid : All IsCommand slots) where
+  valid_part : (a n : ℕ) → All IsCommand (take n (drop a slots))
+  valid_part a n = All-take IsCommand n (drop a slots) (All-drop IsCommand a slots valid)
+
+  pub valid_one : (a n : ℕ) → All IsCommand (take n (drop a slots) ++ [])
+  valid_one a n = All-append IsCommand (take n (drop a slots)) [] (valid_part a n) (All-nil IsCommand)
+
+  pub valid_two : (a n m : ℕ) → All IsCommand (take n (drop a slots) ++ take m slots)
+  valid_two a n m = All-append IsCommand (take n (drop a slots)) (take m slots) (valid_part a n)
+      (valid_part 0 m)

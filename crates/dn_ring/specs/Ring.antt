@@ -1,6 +1,7 @@
 -- A ring: how many commands were put, and the last twelve of them.
-use Rattle.std.specs.Prelude.{◌≡◌, ◌<◌, ◌≤◌, ℕ, ◌+◌, ◌-◌, ◌%◌, min, pos, ◌&&◌, List, [], ◌∷◌, ◌++◌, length, map, drop, Option, None, Some, nat_lt, nat_le, if◌then◌else◌, slice_get, slice_index_or}
+use Rattle.std.specs.Prelude.{◌≡◌, ◌<◌, ◌≤◌, ℕ, ◌+◌, ◌-◌, ◌%◌, min, pos, ◌&&◌, List, [], ◌∷◌, ◌++◌, length, map, drop, Option, None, Some, nat_lt, nat_le, if◌then◌else◌, All, slice_get, slice_index_or}
 use Rattle.std.specs.List.{range_with_len}
+use Rattle.dn_tic.specs.Command.{IsCommand}
 use Rattle.dn_tic.specs.declared.command.TicCmd.{TicCmd}
 
 pub record Ring : Type 0 where
@@ -29,6 +30,10 @@ get ring tic =
     then slice_get ring.last (length ring.last - (ring.count - tic))
     else None
 
+-- the commands from a tic on, as far as they are of the last twelve
+abbrev pub since : Ring → ℕ → List TicCmd
+since ring tic = drop (length ring.last - (ring.count - tic)) ring.last
+
 -- the command of eight zero bytes
 abbrev pub no_command : TicCmd
 no_command = record { forward = pos 0; side = pos 0; turn = pos 0; mark = pos 0; chat = 0; buttons = 0 }
@@ -50,7 +55,8 @@ in_slot slots tic = slice_index_or slots (tic % 12) no_command
 abbrev pub last_in : ℕ → List TicCmd → List TicCmd
 last_in count slots = map (in_slot slots) (range_with_len (count - 12) (min count 12))
 
--- a table of `count` commands
+-- a table of `count` commands, each in the ranges of its fields
 pub record IsTable (count : ℕ) (slots : List TicCmd) : Type 0 where
   pub twelve : length slots ≡ 12
   pub free : (slot : ℕ) → count ≤ slot → slot < 12 → slice_index_or slots slot no_command ≡ no_command
+  pub valid : All IsCommand slots

@@ -1,8 +1,9 @@
 //! A count of commands, and the last twelve of them.
 
-ghost use Rattle.std.specs.Prelude.{◌≡◌, ◌+◌, ◌^◌, ◌%◌, ◌<◌, ◌≤◌, ℕ, List, Some, true, is_some};
+ghost use Rattle.std.specs.Prelude.{◌≡◌, ◌+◌, ◌++◌, ◌^◌, ◌%◌, ◌<◌, ◌≤◌, ℕ, List, length, All, Some, true, is_some};
+ghost use Rattle.dn_tic.specs.Command.{IsCommand};
 ghost use Rattle.dn_tic.specs.declared.command.TicCmd.{TicCmd};
-ghost use Rattle.dn_ring.specs.Ring.{empty, put, get, no_command, ring_of, AreSlotsOf};
+ghost use Rattle.dn_ring.specs.Ring.{empty, put, get, since, no_command, ring_of, AreSlotsOf};
 
 use dn_tic::TicCmd;
 use std::marker::Model;
@@ -76,6 +77,24 @@ impl Ring {
         ensures { get self.now tic ≡ Some result }
     {
         self.slot((tic % PLACES) as usize)
+    }
+
+    /// The commands from a tic on, of at most the last twelve, in two pieces: those up to the end of the
+    /// table, and those that go on at its front, if there are any.
+    pub fn since(&self, tic: u32) -> (&[TicCmd], &[TicCmd])
+        requires low { tic ≤ self.now.count }
+        requires high { self.now.count ≤ tic + 12 }
+        ensures commands { result.0.now ++ result.1.now ≡ since self.now tic }
+        ensures count { tic + (length result.0.now + length result.1.now) ≡ self.now.count }
+        ensures valid { All IsCommand (result.0.now ++ result.1.now) }
+    {
+        let first = (tic % PLACES) as usize;
+        let end = first + (self.count - tic) as usize;
+        if end <= 12 {
+            (&self.slots[first..end], &[])
+        } else {
+            (&self.slots[first..], &self.slots[..end - 12])
+        }
     }
 
     /// The command in a slot. That of tic t, which is one of the last twelve, stands in slot `t % 12`; a slot

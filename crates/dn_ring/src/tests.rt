@@ -39,6 +39,32 @@ fn a_ring_keeps_the_last_twelve(rt: HostRuntime) {
 }
 
 #[test]
+fn commands_from_a_tic_on_are_two_pieces(rt: HostRuntime) {
+    let mut ring = Ring::new();
+    assert_eq!(rt; ring.count(), 0);
+    let (first, second) = ring.since(0);
+    assert_eq!(rt; (first.len(), second.len()), (0, 0));
+    for letter in 0..14_u8 {
+        assert_eq!(rt; ring.count(), u32::from(letter));
+        ring.put(chat(letter));
+    }
+    // tic 11 stands in the last slot, and tic 12 in the first
+    assert_eq!(rt; ring.count(), 14);
+    let (first, second) = ring.since(11);
+    assert!(rt; first == [chat(11)].as_slice());
+    assert!(rt; second == [chat(12), chat(13)].as_slice());
+    let (first, second) = ring.since(12);
+    assert!(rt; first == [chat(12), chat(13)].as_slice());
+    assert_eq!(rt; second.len(), 0);
+    let (first, second) = ring.since(14);
+    assert_eq!(rt; (first.len(), second.len()), (0, 0));
+    let (first, second) = ring.since(2);
+    assert_eq!(rt; (first.len(), second.len()), (10, 2));
+    assert!(rt; first[0] == chat(2));
+    assert!(rt; second[1] == chat(13));
+}
+
+#[test]
 fn slots_go_round(rt: HostRuntime) {
     let mut ring = Ring::new();
     let zero = TicCmd::from_bytes(&[0; 8]);

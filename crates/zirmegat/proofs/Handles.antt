@@ -2,13 +2,13 @@
 use Rattle.std.proofs.Common.{◌≡◌, List, [], ◌∷◌, refl}
 use mathlib.Core.Bool.{Bool, true}
 use Rattle.std.specs.Prelude.{Option, Some, None}
-use base.Logic.{SProp, ent, sep, via, never, never_e, fst∗}
+use base.Logic.{SProp, ent, sep, via, never, never_e, fst∗, id⊢}
 use Rattle.std.specs.declared.alloc.Global.{Global}
-use base.Fml.{fex}
+use base.Fml.{fex, ftrue}
 use seplogic.Ra.Ura.{Ura}
 use mir.Val.{Val, vbool, vstruct, of_list}
 use types.Logic.{Logic, sem}
-use types.Kit.{Item, Goal, Seq, Step, step, ‵, ◌$◌, drop, fsplit, fjoin, fpack, feq_i}
+use types.Kit.{Item, Goal, Seq, Step, step, given, learn, use1, ‵, ◌$◌, drop, fsplit, fjoin, fpack, feq_i}
 use denote.RattleType.{RattleType, Valss}
 use denote.Builtin.{RawPtr, bool}
 use denote.Laws.{Is, shows}
@@ -43,6 +43,14 @@ module _ {M : Type 1} {𝓤 : Ura M} {𝓛 : Logic 𝓤} {K : Type 0} {Γ : List
       (vbool b ∷ []) (vbool b ∷ []) refl $ fjoin t $ feq_i t (List Val) (v ∷ []) (v ∷ []) refl $ fjoin t $
       fpack t (Valss (bool ∷ RawPtr ∷ [])) (within (shape handle.the_type) (b, (p, tt)) (v ∷ []))
       (vbool b ∷ [], (ptr_val p ∷ [], tt)) $ fjoin t $ s)
+
+  -- what a live handle owns is a block with a value
+  pub live_out : K → (R : RattleType) (p : Ptr) (n : Option R.Denot)
+      → ((x : R.Denot) → n ≡ Some x → Seq K 𝓛 (‵ (fex Global (owned R p x)) ∷ Γ) G)
+      → Seq K 𝓛 (‵ (held R true p n) ∷ Γ) G
+  live_out t R p None k =
+      use1 𝓛 (given ⊥ (‵ ftrue)) (via 𝓤 (never 𝓤) (id⊢ 𝓤 (never 𝓤)) (never_e 𝓤 _)) $ learn t (λ z. absurd z)
+  live_out t R p (Some x) k = k x refl
 
 -- what a live handle owns has a value
 module _ {M : Type 1} {𝓤 : Ura M} (𝓛 : Logic 𝓤) (R : RattleType) where

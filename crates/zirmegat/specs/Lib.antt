@@ -1,4 +1,5 @@
 pub mod Held
+pub mod Lends
 pub mod Calls
 pub mod Answers
 pub mod Opening

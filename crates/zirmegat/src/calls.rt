@@ -24,44 +24,35 @@ use crate::handle::NodeHandle;
 use dn_lockstep::{Heard, Made, Ran};
 use dn_packet::MAX_DATAGRAM;
 use dn_tic::{Keys, Move};
-use std::alloc::Global;
 
 /// The number of the drop where a node does not play.
 const NOT_PLAYING: u8 = 13;
 
 /// Builds the command of these keys for the next tic.
 #[unsafe(no_mangle)]
-pub extern "C" fn zmg_node_build(alloc: Global, node: &mut NodeHandle, keys: u32) -> BuildAnswer
+pub extern "C" fn zmg_node_build(node: &mut NodeHandle, keys: u32) -> BuildAnswer
     ensures { Calls (node_of node.old) (node_of node.new)
         (λ n k. (made : Built) × (result ≡ made_told made)
         × Builds (keys % 2 ^ 18) n k made)
         (result ≡ made_told Made.NotPlaying) }
 {
-    match node.take(alloc) {
-        Some(mut held) => {
-            let made = held.build(Keys::from_bits(keys));
-            *node = NodeHandle::of(held);
-            BuildAnswer::of(made)
-        }
+    match node.held() {
+        Some(held) => BuildAnswer::of(held.build(Keys::from_bits(keys))),
         None => BuildAnswer::of(Made::NotPlaying),
     }
 }
 
 /// The exact numbers of the packet that `zmg_node_packet` would give now.
 #[unsafe(no_mangle)]
-pub extern "C" fn zmg_node_aim(alloc: Global, node: &mut NodeHandle, to: u8) -> AimAnswer
+pub extern "C" fn zmg_node_aim(node: &mut NodeHandle, to: u8) -> AimAnswer
     ensures { Reads (node_of node.old) (node_of node.new)
         (λ n. (aim : Option Aimed) × (result ≡ aim_told aim)
         × Steps n n (λ rules me m. (m, (sent_to to rules me m).1)) (λ flight. aim ≡ option_map aim_of flight)
         × (is_some aim ≡ gives n to))
         (result ≡ aim_told None) }
 {
-    match node.take(alloc) {
-        Some(held) => {
-            let aim = held.aim(to);
-            *node = NodeHandle::of(held);
-            AimAnswer::of(aim)
-        }
+    match node.held() {
+        Some(held) => AimAnswer::of(held.aim(to)),
         None => AimAnswer::of(None),
     }
 }
@@ -69,12 +60,7 @@ pub extern "C" fn zmg_node_aim(alloc: Global, node: &mut NodeHandle, to: u8) -> 
 /// Writes the next packet to a player, and answers how many bytes it has, and 0 where there is none.
 /// Where the room is not 104 bytes, the node is not asked.
 #[unsafe(no_mangle)]
-pub extern "C" fn zmg_node_packet(
-    alloc: Global,
-    node: &mut NodeHandle,
-    to: u8,
-    out: &mut [u8],
-) -> usize
+pub extern "C" fn zmg_node_packet(node: &mut NodeHandle, to: u8, out: &mut [u8]) -> usize
     ensures given { 104 ≤ length out.old → Calls (node_of node.old) (node_of node.new)
         (λ n k. Sends to out.old out.new result n k)
         ((result ≡ 0) × (out.new ≡ out.old)) }
@@ -83,52 +69,35 @@ pub extern "C" fn zmg_node_packet(
     if out.len() < MAX_DATAGRAM {
         return 0;
     }
-    match node.take(alloc) {
-        Some(mut held) => {
-            let count = held.packet_to(to, out);
-            *node = NodeHandle::of(held);
-            count
-        }
+    match node.held() {
+        Some(held) => held.packet_to(to, out),
         None => 0,
     }
 }
 
 /// Hears a datagram of this player. Where it answers 0, the caller begins its world.
 #[unsafe(no_mangle)]
-pub extern "C" fn zmg_node_receive(
-    alloc: Global,
-    node: &mut NodeHandle,
-    from: u8,
-    bytes: &[u8],
-) -> HeardAnswer
+pub extern "C" fn zmg_node_receive(node: &mut NodeHandle, from: u8, bytes: &[u8]) -> HeardAnswer
     ensures { Calls (node_of node.old) (node_of node.new)
         (λ n k. (heard : Hearing) × (result ≡ heard_told heard)
         × Hears from bytes.now n k heard)
         (result ≡ heard_told (Heard.Dropped 13)) }
 {
-    match node.take(alloc) {
-        Some(mut held) => {
-            let heard = held.receive(from, bytes);
-            *node = NodeHandle::of(held);
-            HeardAnswer::of(heard)
-        }
+    match node.held() {
+        Some(held) => HeardAnswer::of(held.receive(from, bytes)),
         None => HeardAnswer::of(Heard::Dropped(NOT_PLAYING)),
     }
 }
 
 /// Ends the node, and answers 1 where it had not ended.
 #[unsafe(no_mangle)]
-pub extern "C" fn zmg_node_quit(alloc: Global, node: &mut NodeHandle) -> u32
+pub extern "C" fn zmg_node_quit(node: &mut NodeHandle) -> u32
     ensures { Calls (node_of node.old) (node_of node.new)
         (λ n k. (quit : Bool) × (result ≡ bit quit) × Quits n k quit)
         (result ≡ 0) }
 {
-    match node.take(alloc) {
-        Some(mut held) => {
-            let quit = held.quit();
-            *node = NodeHandle::of(held);
-            flag(quit)
-        }
+    match node.held() {
+        Some(held) => flag(held.quit()),
         None => 0,
     }
 }
@@ -167,7 +136,6 @@ fn tell_run(row: &mut [MoveAnswer; 4], ran: Ran, moves: &[Option<Move>; 4])
 /// has the moves by which the world goes on.
 #[unsafe(no_mangle)]
 pub extern "C" fn zmg_node_run(
-    alloc: Global,
     node: &mut NodeHandle,
     marks: &[i16; 4],
     row: &mut [MoveAnswer; 4],
@@ -178,11 +146,10 @@ pub extern "C" fn zmg_node_run(
         × Runs marks.now n k ran (told_by ran moves))
         ((result ≡ ran_told Ran.NotPlaying) × (row.new ≡ row.old)) }
 {
-    match node.take(alloc) {
-        Some(mut held) => {
+    match node.held() {
+        Some(held) => {
             let mut moves = [None; 4];
             let ran = held.run_into(marks, &mut moves);
-            *node = NodeHandle::of(held);
             tell_run(row, ran, &moves);
             RunAnswer::of(ran)
         }

@@ -1,6 +1,7 @@
 //! A node behind a pointer.
 
-ghost use Rattle.std.specs.Prelude.{◌≡◌, true, false, Some, None, Option};
+ghost use Rattle.std.specs.Prelude.{◌≡◌, true, false, Some, None, Option, IfSome};
+ghost use Rattle.std.specs.Borrow.{sem};
 ghost use Rattle.std.specs.Option.{option_map};
 ghost use Rattle.dn_lockstep.specs.Contents.{contents};
 ghost use Rattle.dn_lockstep.specs.declared.lockstep.Lockstep.{Lockstep as Kept};
@@ -28,6 +29,7 @@ impl Model for NodeHandle {
 
 impl NodeHandle {
     ghost use Rattle.zirmegat.specs.Calls.{node_of};
+    ghost use Rattle.zirmegat.specs.Lends.{lends_node, lends_held};
 
     fn none() -> NodeHandle
         ensures { result.live ≡ false }
@@ -70,6 +72,28 @@ impl NodeHandle {
         ensures { node_of result ≡ Some (contents node.value) }
     {
         NodeHandle::of_loose(Loose::of(node))
+    }
+
+    /// Lends the node of a handle that holds one.
+    fn lend(&mut self) -> &mut Lockstep
+        requires { self.old.live ≡ true }
+        ensures* writes_back { sem 𝓛 (lends_node self.entry result) }
+        ensures value { Some result.now ≡ self.old.node }
+    {
+        unsafe { &mut *(self.at as *mut Lockstep) }
+    }
+
+    /// Lends the node, if there is one. A node that is taken out costs more, and must be put back.
+    pub(crate) fn held(&mut self) -> Option<&mut Lockstep>
+        ensures* writes_back { sem 𝓛 (lends_held self.entry result) }
+        ensures value { node_of self.old ≡ option_map (λ node. contents node.now) result }
+        ensures live { IfSome result (λ node. self.old.live ≡ true) }
+    {
+        if self.is_live() {
+            Some(self.lend())
+        } else {
+            None
+        }
     }
 
     /// Takes the node out, and leaves none.

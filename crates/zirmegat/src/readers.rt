@@ -12,97 +12,72 @@ use crate::answers::{Number, PhaseAnswer};
 use crate::bytes;
 use crate::config::SettingsAnswer;
 use crate::handle::NodeHandle;
-use std::alloc::Global;
 
 /// The number of its player.
 #[unsafe(no_mangle)]
-pub extern "C" fn zmg_node_me(alloc: Global, node: &mut NodeHandle) -> u32
+pub extern "C" fn zmg_node_me(node: &mut NodeHandle) -> u32
     ensures { Reads (node_of node.old) (node_of node.new) (λ n. result ≡ n.me) (result ≡ 0) }
 {
-    match node.take(alloc) {
-        Some(held) => {
-            let me = held.me();
-            *node = NodeHandle::of(held);
-            u32::from(me)
-        }
+    match node.held() {
+        Some(held) => u32::from(held.me()),
         None => 0,
     }
 }
 
 /// How many players the game has.
 #[unsafe(no_mangle)]
-pub extern "C" fn zmg_node_players(alloc: Global, node: &mut NodeHandle) -> u32
+pub extern "C" fn zmg_node_players(node: &mut NodeHandle) -> u32
     ensures { Reads (node_of node.old) (node_of node.new) (λ n. result ≡ n.players) (result ≡ 0) }
 {
-    match node.take(alloc) {
-        Some(held) => {
-            let players = held.players();
-            *node = NodeHandle::of(held);
-            u32::from(players)
-        }
+    match node.held() {
+        Some(held) => u32::from(held.players()),
         None => 0,
     }
 }
 
 /// Where it stands.
 #[unsafe(no_mangle)]
-pub extern "C" fn zmg_node_phase(alloc: Global, node: &mut NodeHandle) -> PhaseAnswer
+pub extern "C" fn zmg_node_phase(node: &mut NodeHandle) -> PhaseAnswer
     ensures { Reads (node_of node.old) (node_of node.new)
         (λ n. result ≡ phase_told n.phase) (result ≡ phase_at 0 0 (pos 0) (pos 0) 0) }
 {
-    match node.take(alloc) {
-        Some(held) => {
-            let phase = held.phase();
-            *node = NodeHandle::of(held);
-            PhaseAnswer::of(phase)
-        }
+    match node.held() {
+        Some(held) => PhaseAnswer::of(held.phase()),
         None => PhaseAnswer::NONE,
     }
 }
 
 /// How many commands it built.
 #[unsafe(no_mangle)]
-pub extern "C" fn zmg_node_made(alloc: Global, node: &mut NodeHandle) -> u32
+pub extern "C" fn zmg_node_made(node: &mut NodeHandle) -> u32
     ensures { Reads (node_of node.old) (node_of node.new) (λ n. result ≡ count_of n.rings n.me) (result ≡ 0) }
 {
-    match node.take(alloc) {
-        Some(held) => {
-            let made = held.made();
-            *node = NodeHandle::of(held);
-            made
-        }
+    match node.held() {
+        Some(held) => held.made(),
         None => 0,
     }
 }
 
 /// How many tics it ran.
 #[unsafe(no_mangle)]
-pub extern "C" fn zmg_node_ran(alloc: Global, node: &mut NodeHandle) -> u32
+pub extern "C" fn zmg_node_ran(node: &mut NodeHandle) -> u32
     ensures { Reads (node_of node.old) (node_of node.new) (λ n. result ≡ n.ran) (result ≡ 0) }
 {
-    match node.take(alloc) {
-        Some(held) => {
-            let ran = held.ran();
-            *node = NodeHandle::of(held);
-            ran
-        }
+    match node.held() {
+        Some(held) => held.ran(),
         None => 0,
     }
 }
 
 /// How many commands it has of a player, where the game has the player.
 #[unsafe(no_mangle)]
-pub extern "C" fn zmg_node_got(alloc: Global, node: &mut NodeHandle, player: u8) -> Number
+pub extern "C" fn zmg_node_got(node: &mut NodeHandle, player: u8) -> Number
     ensures { Reads (node_of node.old) (node_of node.new)
         (λ n. result ≡ number_told (if nat_lt player n.players then Some (count_of n.rings player) else None))
         (result ≡ number_told None) }
 {
-    match node.take(alloc) {
-        Some(held) => {
-            let got = held.got(player);
-            *node = NodeHandle::of(held);
-            Number::of(got)
-        }
+    match node.held() {
+        Some(held) => Number::of(held.got(player)),
         None => Number::of(None),
     }
 }
@@ -110,70 +85,49 @@ pub extern "C" fn zmg_node_got(alloc: Global, node: &mut NodeHandle, player: u8)
 /// The tic after a player's last command, where the node knows it. From that tic on no tic has a move of the
 /// player.
 #[unsafe(no_mangle)]
-pub extern "C" fn zmg_node_end(alloc: Global, node: &mut NodeHandle, player: u8) -> Number
+pub extern "C" fn zmg_node_end(node: &mut NodeHandle, player: u8) -> Number
     ensures { Reads (node_of node.old) (node_of node.new)
         (λ n. result ≡ number_told (if nat_lt player n.players then end_in n player else None))
         (result ≡ number_told None) }
 {
-    match node.take(alloc) {
-        Some(held) => {
-            let end = held.end(player);
-            *node = NodeHandle::of(held);
-            Number::of(end)
-        }
+    match node.held() {
+        Some(held) => Number::of(held.end(player)),
         None => Number::of(None),
     }
 }
 
 /// The choice of game, from the start on; player 0 knows it from the beginning.
 #[unsafe(no_mangle)]
-pub extern "C" fn zmg_node_settings(alloc: Global, node: &mut NodeHandle) -> SettingsAnswer
+pub extern "C" fn zmg_node_settings(node: &mut NodeHandle) -> SettingsAnswer
     ensures { Reads (node_of node.old) (node_of node.new)
         (λ n. result ≡ settings_told n.settings) (result ≡ settings_told None) }
 {
-    match node.take(alloc) {
-        Some(held) => {
-            let settings = held.settings();
-            *node = NodeHandle::of(held);
-            SettingsAnswer::of(settings)
-        }
+    match node.held() {
+        Some(held) => SettingsAnswer::of(held.settings()),
         None => SettingsAnswer::of(None),
     }
 }
 
 /// How many bytes its demo has so far.
 #[unsafe(no_mangle)]
-pub extern "C" fn zmg_node_demo_length(alloc: Global, node: &mut NodeHandle) -> usize
+pub extern "C" fn zmg_node_demo_length(node: &mut NodeHandle) -> usize
     ensures { Reads (node_of node.old) (node_of node.new) (λ n. result ≡ length n.demo.bytes) (result ≡ 0) }
 {
-    match node.take(alloc) {
-        Some(held) => {
-            let length = held.demo().len();
-            *node = NodeHandle::of(held);
-            length
-        }
+    match node.held() {
+        Some(held) => held.demo().len(),
         None => 0,
     }
 }
 
 /// Copies its demo so far from this byte on, as many bytes as there is room for, and answers how many.
 #[unsafe(no_mangle)]
-pub extern "C" fn zmg_node_demo(
-    alloc: Global,
-    node: &mut NodeHandle,
-    from: usize,
-    out: &mut [u8],
-) -> usize
+pub extern "C" fn zmg_node_demo(node: &mut NodeHandle, from: usize, out: &mut [u8]) -> usize
     ensures { Reads (node_of node.old) (node_of node.new)
         (λ n. IsWritten (take (length out.old) (drop from n.demo.bytes)) out.old out.new result)
         ((result ≡ 0) × (out.new ≡ out.old)) }
 {
-    match node.take(alloc) {
-        Some(held) => {
-            let count = bytes::write_from(held.demo(), from, out);
-            *node = NodeHandle::of(held);
-            count
-        }
+    match node.held() {
+        Some(held) => bytes::write_from(held.demo(), from, out),
         None => 0,
     }
 }

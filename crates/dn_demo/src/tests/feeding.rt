@@ -2,18 +2,11 @@
 
 ghost use Rattle.std.specs.Prelude.{◌<◌};
 
-use super::{PLAYED, RECORDED, START};
+use super::{BEGUN, PLACES, PLAYED, Place, RECORDED, START, place, stand};
 use crate::{Demo, DemoFault, Fed, Feed, FeedFault, play};
-use dn_world::{Walk, World};
+use dn_world::Walk;
 use std::process::Abort;
 use std::test::Fail;
-
-/// Where a player stands: x, y, angle and consistency value.
-type Place = (i32, i32, u16, i16);
-
-const PLACES: [Place; 2] = [(1, 0, 0, 1), (4_243_456, 51_200, 16_640, -16_384)];
-
-const BEGUN: [Place; 2] = [(0, 0, 0, 0), (4_194_304, 0, 0, 0)];
 
 /// Feeds a piece of a small demo.
 fn push(feed: &mut Feed<Walk>, piece: &[u8]) {
@@ -44,19 +37,12 @@ fn ends_as(
     places: [Place; 2],
 ) {
     match end {
-        Err(fault) => assert_eq!(rt; Some(fault), counts.err()),
+        Err(fault) => same!(rt; Some(fault), counts.err()),
         Ok(fed) => {
-            assert_eq!(rt; Ok((fed.tics, fed.cut, fed.after)), counts);
-            assert_eq!(rt; fed.start, START);
-            assert_eq!(rt; fed.view, 1);
-            assert_eq!(rt; fed.present, [true, true, false, false]);
-            for (player, (x, y, angle, mark)) in [(0, places[0]), (1, places[1])] {
-                assert_eq!(rt; fed.world.x(player), Some(x));
-                assert_eq!(rt; fed.world.y(player), Some(y));
-                assert_eq!(rt; fed.world.angle(player), Some(angle));
-                assert_eq!(rt; fed.world.mark(player), mark);
-            }
-            assert_eq!(rt; fed.world.x(2), None);
+            same!(rt; Ok((fed.tics, fed.cut, fed.after)), counts);
+            same!(rt; (fed.start, fed.view), (START, 1));
+            same!(rt; fed.present, [true, true, false, false]);
+            stand(rt, &fed.world, places);
         }
     }
 }
@@ -117,7 +103,7 @@ fn fronts_of_a_demo_are_refused(rt: HostRuntime) {
             } else {
                 FeedFault::NoMarker
             };
-            assert_eq!(rt; fed(&demo[..len], 0, 5).err(), Some(fault), "{len} bytes");
+            same!(rt; fed(&demo[..len], 0, 5).err(), Some(fault), len);
         }
     }
 }
@@ -125,18 +111,15 @@ fn fronts_of_a_demo_are_refused(rt: HostRuntime) {
 #[test]
 fn bytes_are_counted_as_they_come(rt: HostRuntime) {
     let mut feed = Feed::new(Walk::new());
-    assert_eq!(rt; feed.taken(), 0);
+    same!(rt; feed.taken(), 0);
     push(&mut feed, &PLAYED[..17]);
-    assert_eq!(rt; feed.taken(), 17);
+    same!(rt; feed.taken(), 17);
     push(&mut feed, &[]);
-    assert_eq!(rt; feed.taken(), 17);
+    same!(rt; feed.taken(), 17);
     push(&mut feed, &PLAYED[17..]);
     push(&mut feed, &[7; 40]);
-    assert_eq!(rt; feed.taken(), 70);
-    assert_eq!(rt;
-        feed.end().ok().map(|fed| (fed.version, fed.after)),
-        Some((109, 40))
-    );
+    same!(rt; feed.taken(), 70);
+    same!(rt; feed.end().ok().map(|fed| (fed.version, fed.after)), Some((109, 40)));
 }
 
 /// A feed of these bytes ends as `Demo::read` and `play` do.
@@ -148,7 +131,7 @@ fn ends_as_read(
     let demo = match read {
         Ok(demo) => demo,
         Err(DemoFault::NoPlayers) => {
-            assert_eq!(rt; end.err(), Some(FeedFault::NoPlayers));
+            same!(rt; end.err(), Some(FeedFault::NoPlayers));
             return Ok(());
         }
         Err(fault) => return Err(fault.into()),
@@ -157,13 +140,10 @@ fn ends_as_read(
     let tics = play(&demo, &mut walk) as u64;
     let counts = (tics, demo.cut() as u64, demo.after() as u64);
     let fed = end?;
-    assert_eq!(rt; (fed.tics, fed.cut, fed.after), counts);
-    assert_eq!(rt; fed.version, demo.version());
-    assert_eq!(rt; fed.present, demo.present());
+    same!(rt; (fed.tics, fed.cut, fed.after), counts);
+    same!(rt; (fed.version, fed.present), (demo.version(), demo.present()));
     for player in 0..4 {
-        assert_eq!(rt; fed.world.x(player), walk.x(player));
-        assert_eq!(rt; fed.world.y(player), walk.y(player));
-        assert_eq!(rt; fed.world.angle(player), walk.angle(player));
+        same!(rt; place(&fed.world, player), place(&walk, player), player);
     }
     Ok(())
 }

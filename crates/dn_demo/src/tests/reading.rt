@@ -1,15 +1,30 @@
 //! Tests of read demos and their playing.
 
-use super::{PLAYED, RECORDED, START, moved};
+use super::{BEGUN, PLACES, PLAYED, Place, RECORDED, START, moved, stand};
 use crate::{Demo, DemoFault, play};
 use dn_setup::Start;
-use dn_world::{Walk, World};
+use dn_world::Walk;
+use std::alloc::Global;
+use std::process::Abort;
 use std::test::Fail;
 
-/// Where a player stands once a demo was played: x, y, angle and consistency value.
-type Place = (i32, i32, u16, i16);
-
-const PLACES: [Place; 2] = [(1, 0, 0, 1), (4_243_456, 51_200, 16_640, -16_384)];
+/// The bytes are a demo of so many tics, with so many bytes cut and after, and play to these places.
+fn reads_as(
+    rt: &impl Abort,
+    alloc: Global,
+    bytes: &[u8],
+    (tics, cut, after): (usize, usize, usize),
+    places: [Place; 2],
+) -> Result<(), Fail> {
+    let demo = Demo::read(alloc, bytes)?;
+    same!(rt; (demo.tics(), demo.cut(), demo.after()), (tics, cut, after));
+    let kept = Demo::from_vec(Vec::from_slice(alloc, bytes)?)?;
+    same!(rt; (kept.row(1), kept.after()), (demo.row(1), after));
+    let mut walk = Walk::new();
+    same!(rt; play(&demo, &mut walk), tics);
+    stand(rt, &walk, places);
+    Ok(())
+}
 
 #[test]
 fn demos_are_read_and_played(rt: HostRuntime) -> Result<(), Fail> {
@@ -20,30 +35,14 @@ fn demos_are_read_and_played(rt: HostRuntime) -> Result<(), Fail> {
     cut[29..].copy_from_slice(&[0x32, 0, 0, 0, 0x80]);
     let mut none = [0x80; 14];
     none[..13].copy_from_slice(&PLAYED[..13]);
-    let begun = [(0, 0, 0, 0), (4_194_304, 0, 0, 0)];
-    for (bytes, tics, cut, after, places) in [
-        (PLAYED.as_slice(), 2, 0, 0, PLACES),
-        (RECORDED.as_slice(), 2, 0, 0, PLACES),
-        (more.as_slice(), 2, 0, 3, PLACES),
-        (cut.as_slice(), 2, 1, 0, PLACES),
-        (none.as_slice(), 0, 0, 0, begun),
+    for (bytes, counts, places) in [
+        (PLAYED.as_slice(), (2, 0, 0), PLACES),
+        (RECORDED.as_slice(), (2, 0, 0), PLACES),
+        (more.as_slice(), (2, 0, 3), PLACES),
+        (cut.as_slice(), (2, 1, 0), PLACES),
+        (none.as_slice(), (0, 0, 0), BEGUN),
     ] {
-        let demo = Demo::read(rt.alloc(), bytes)?;
-        assert_eq!(rt; demo.tics(), tics);
-        assert_eq!(rt; demo.cut(), cut);
-        assert_eq!(rt; demo.after(), after);
-        let kept = Demo::from_vec(Vec::from_slice(rt.alloc(), bytes)?)?;
-        assert_eq!(rt; kept.row(1), demo.row(1));
-        assert_eq!(rt; kept.after(), after);
-        let mut walk = Walk::new();
-        assert_eq!(rt; play(&demo, &mut walk), tics);
-        for (player, (x, y, angle, mark)) in [(0, places[0]), (1, places[1])] {
-            assert_eq!(rt; walk.x(player), Some(x));
-            assert_eq!(rt; walk.y(player), Some(y));
-            assert_eq!(rt; walk.angle(player), Some(angle));
-            assert_eq!(rt; walk.mark(player), mark);
-        }
-        assert_eq!(rt; walk.x(2), None);
+        reads_as(&rt, rt.alloc(), bytes, counts, places)?;
     }
     Ok(())
 }
@@ -54,17 +53,16 @@ fn headers_and_rows_are_told(rt: HostRuntime) -> Result<(), Fail> {
     let second = [moved(-50, 0, 0, 1), moved(25, 24, 16_384, 0), None, None];
     for (bytes, version) in [(PLAYED.as_slice(), 109), (RECORDED.as_slice(), 111)] {
         let demo = Demo::read(rt.alloc(), bytes)?;
-        assert_eq!(rt; demo.version(), version);
-        assert_eq!(rt; demo.start(), START);
-        assert_eq!(rt; demo.view(), 1);
-        assert_eq!(rt; demo.present(), [true, true, false, false]);
+        same!(rt; (demo.version(), demo.view()), (version, 1));
+        same!(rt; demo.start(), START, version);
+        same!(rt; demo.present(), [true, true, false, false], version);
         for (tic, row) in [
             (0, Some(first)),
             (1, Some(second)),
             (2, None),
             (usize::MAX, None),
         ] {
-            assert_eq!(rt; demo.row(tic), row, "tic {tic} of {version}");
+            same!(rt; demo.row(tic), row, (tic, version));
         }
     }
     Ok(())
@@ -86,17 +84,17 @@ fn odd_bytes_are_kept(rt: HostRuntime) -> Result<(), Fail> {
         fast: 1,
         no_monsters: 9,
     };
-    assert_eq!(rt; demo.start(), start);
-    assert_eq!(rt; demo.view(), 77);
-    assert_eq!(rt; demo.present(), [true, false, true, false]);
+    same!(rt; demo.start(), start);
+    same!(rt; demo.view(), 77);
+    same!(rt; demo.present(), [true, false, true, false]);
     let row = [
         moved(1, -128, -32_768, 255),
         None,
         moved(127, 2, -256, 128),
         None,
     ];
-    assert_eq!(rt; demo.row(0), Some(row));
-    assert_eq!(rt; demo.tics(), 1);
+    same!(rt; demo.row(0), Some(row));
+    same!(rt; demo.tics(), 1);
     Ok(())
 }
 
@@ -117,9 +115,9 @@ fn only_a_first_byte_ends_a_demo(rt: HostRuntime) -> Result<(), Fail> {
         bytes[place] = 0x80;
         bytes[17] = 0x80;
         let demo = Demo::read(rt.alloc(), &bytes[..len])?;
-        assert_eq!(rt; demo.tics(), tics, "at {place}");
-        assert_eq!(rt; demo.cut(), 0);
-        assert_eq!(rt; demo.after(), after, "at {place}");
+        same!(rt; demo.tics(), tics, place);
+        same!(rt; demo.cut(), 0);
+        same!(rt; demo.after(), after, place);
     }
     Ok(())
 }
@@ -139,8 +137,8 @@ fn commands_of_version_111_have_five_bytes(rt: HostRuntime) -> Result<(), Fail> 
         bytes[place] = 0x80;
         bytes[18] = 0x80;
         let demo = Demo::read(rt.alloc(), &bytes[..len])?;
-        assert_eq!(rt; demo.tics(), tics, "at {place}");
-        assert_eq!(rt; demo.after(), after, "at {place}");
+        same!(rt; demo.tics(), tics, place);
+        same!(rt; demo.after(), after, place);
     }
     Ok(())
 }
@@ -168,9 +166,9 @@ fn absent_players_have_no_command(rt: HostRuntime) -> Result<(), Fail> {
     ] {
         let bytes = four_commands(flags);
         let demo = Demo::read(rt.alloc(), &bytes)?;
-        assert_eq!(rt; demo.tics(), tics, "{flags:?}");
-        assert_eq!(rt; demo.cut(), cut, "{flags:?}");
-        assert_eq!(rt; demo.row(0), Some(row), "{flags:?}");
+        same!(rt; demo.tics(), tics, flags);
+        same!(rt; demo.cut(), cut, flags);
+        same!(rt; demo.row(0), Some(row), flags);
     }
     Ok(())
 }
@@ -205,9 +203,9 @@ fn bytes_are_refused_in_order(rt: HostRuntime) -> Result<(), Fail> {
         (&RECORDED[..33], DemoFault::NoMarker),
     ] {
         let read = Demo::read(rt.alloc(), bytes);
-        assert_eq!(rt; read.err(), Some(fault), "{bytes:?}");
+        same!(rt; read.err(), Some(fault), bytes);
         let kept = Demo::from_vec(Vec::from_slice(rt.alloc(), bytes)?);
-        assert_eq!(rt; kept.err(), Some(fault), "{bytes:?}");
+        same!(rt; kept.err(), Some(fault), bytes);
     }
     Ok(())
 }
@@ -222,7 +220,7 @@ fn fronts_of_a_demo_are_none(rt: HostRuntime) {
                 DemoFault::NoMarker
             };
             let read = Demo::read(rt.alloc(), &demo[..len]);
-            assert_eq!(rt; read.err(), Some(fault), "{len} bytes");
+            same!(rt; read.err(), Some(fault), len);
         }
     }
 }

@@ -25,12 +25,12 @@ fn tells(rt: &impl Abort, feed: &mut Feed<Walk>, piece: &[u8], ends: [u64; 2]) {
         let (row, behind) = feed.next_row(rest);
         rest = behind;
         if row.is_some() {
-            assert_eq!(rt; row, rows().get(tic as usize).copied());
-            assert_eq!(rt; Some(feed.taken()), ends.get(tic as usize).copied());
-            assert_eq!(rt; feed.tics().checked_sub(1), Some(tic));
+            same!(rt; row, rows().get(tic as usize).copied());
+            same!(rt; Some(feed.taken()), ends.get(tic as usize).copied());
+            same!(rt; feed.tics().checked_sub(1), Some(tic));
         } else {
-            assert_eq!(rt; rest.len(), 0);
-            assert_eq!(rt; feed.tics(), tic);
+            same!(rt; rest.len(), 0);
+            same!(rt; feed.tics(), tic);
         }
     }
 }
@@ -47,13 +47,10 @@ fn rows_are_told_as_they_end(rt: HostRuntime) {
             for piece in demo.chunks(length) {
                 tells(&rt, &mut feed, piece, ends);
             }
-            assert_eq!(rt; feed.tics(), 2);
+            same!(rt; feed.tics(), 2);
             tells(&rt, &mut feed, &[7; 40], ends);
             let end = feed.end().ok();
-            assert_eq!(rt;
-                end.map(|fed| (fed.tics, fed.cut, fed.after)),
-                Some((2, 0, 40))
-            );
+            same!(rt; end.map(|fed| (fed.tics, fed.cut, fed.after)), Some((2, 0, 40)));
         }
     }
 }
@@ -62,9 +59,9 @@ fn rows_are_told_as_they_end(rt: HostRuntime) {
 fn no_bytes_end_no_row(rt: HostRuntime) {
     let mut feed = Feed::new(Walk::new());
     let (row, rest) = feed.next_row(&[]);
-    assert_eq!(rt; (row, rest.len(), feed.taken()), (None, 0, 0));
+    same!(rt; (row, rest.len(), feed.taken()), (None, 0, 0));
     let (row, rest) = feed.next_row(&PLAYED[..20]);
-    assert_eq!(rt; (row, rest.len(), feed.tics()), (None, 0, 0));
+    same!(rt; (row, rest.len(), feed.tics()), (None, 0, 0));
 }
 
 /// A cut row is not told, nor are bytes behind a header that is refused.
@@ -79,7 +76,7 @@ fn what_is_no_row_is_not_told(rt: HostRuntime) {
     for bytes in [other, nobody, cut] {
         let mut feed = Feed::new(Walk::new());
         let (row, rest) = feed.next_row(&bytes);
-        assert_eq!(rt; (row, rest.len()), (None, 0));
-        assert_eq!(rt; (feed.tics(), feed.taken()), (0, 30));
+        same!(rt; (row, rest.len()), (None, 0));
+        same!(rt; (feed.tics(), feed.taken()), (0, 30));
     }
 }

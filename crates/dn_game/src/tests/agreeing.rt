@@ -114,13 +114,13 @@ fn compare(rt: &impl Abort, one: &Node<Walk>, other: &Node<Walk>) -> bool {
     let (front, commands) = parts(one.demo());
     let (other_front, others) = parts(other.demo());
     if !front.is_empty() && !other_front.is_empty() {
-        assert_eq!(rt; front, other_front);
+        same!(rt; front, other_front);
     }
-    assert!(rt; commands.starts_with(others) || others.starts_with(commands));
+    holds!(rt; commands.starts_with(others) || others.starts_with(commands));
     let level = one.ran() == other.ran() && front.len() == other_front.len();
     if level {
-        assert_eq!(rt; places(one), places(other));
-        assert_eq!(rt; commands, others);
+        same!(rt; places(one), places(other));
+        same!(rt; commands, others);
     }
     level && one.ran() > 0
 }
@@ -135,36 +135,37 @@ fn compare_all(rt: &impl Abort, game: &Game<Walk>) -> u32 {
                     level = level.saturating_add(1);
                 }
             }
-            _ => assert!(rt; false, "no node"),
+            _ => holds!(rt; false, "no node"),
         }
     }
     level
+}
+
+/// How many tics a node ran, which are forty at least and all in its demo.
+fn recorded(rt: &impl Abort, game: &Game<Walk>, number: u32) -> u32 {
+    let Some(node) = game.node(number) else {
+        panic!(rt; "no node {number}");
+    };
+    let ran = node.ran();
+    holds!(rt; ran >= 40, (number, ran));
+    same!(rt; node.demo().len(), 13 + 15 * ran as usize, number);
+    ran
 }
 
 #[test]
 fn three_nodes_agree_after_forty_tics(rt: HostRuntime) -> Result<(), Fail> {
     let events = events(rt.alloc())?;
     let played = played(rt.alloc(), events.as_slice())?;
-    assert_eq!(rt; played.done, events.len());
-    assert_eq!(rt; played.refused, 0);
-    assert_eq!(rt; compare_all(&rt, &played.game), 3);
+    same!(rt; played.done, events.len());
+    same!(rt; played.refused, 0);
+    same!(rt; compare_all(&rt, &played.game), 3);
     let mut newest = 0;
     for number in 0..3 {
-        let Some(node) = played.game.node(number) else {
-            assert!(rt; false, "no node {number}");
-            continue;
-        };
-        assert!(rt; node.ran() >= 40, "{number} ran {}", node.ran());
-        assert_eq!(rt; node.demo().len(), 13 + 15 * node.ran() as usize);
-        newest = newest.max(node.ran());
+        newest = recorded(&rt, &played.game, number).max(newest);
     }
     // Nothing was lost in the end, so all have run the same tics.
     for number in 0..3 {
-        let ran = match played.game.node(number) {
-            Some(node) => node.ran(),
-            None => 0,
-        };
-        assert_eq!(rt; ran, newest, "{number}");
+        same!(rt; recorded(&rt, &played.game, number), newest, number);
     }
     Ok(())
 }
@@ -177,12 +178,12 @@ fn three_nodes_agree_at_each_stage(rt: HostRuntime) -> Result<(), Fail> {
     for stage in 0..200 {
         let len = events.len().min(stage * 37);
         let played = played(rt.alloc(), &events[..len])?;
-        assert_eq!(rt; played.done, len);
+        same!(rt; played.done, len);
         if compare_all(&rt, &played.game) > 0 && stage < 150 {
             level = level.saturating_add(1);
         }
     }
-    assert!(rt; level >= 50, "{level} stages");
+    holds!(rt; level >= 50, level);
     Ok(())
 }
 
@@ -191,22 +192,22 @@ fn worlds_with_vectors_agree(rt: HostRuntime) -> Result<(), Fail> {
     let events = events(rt.alloc())?;
     let worlds = belts(rt.alloc(), 3)?;
     let played = play(rt.alloc(), config(131_072)?, worlds, events.as_slice())?;
-    assert_eq!(rt; played.refused, 0);
+    same!(rt; played.refused, 0);
     match (
         played.game.node(0),
         played.game.node(1),
         played.game.node(2),
     ) {
         (Some(zero), Some(one), Some(two)) => {
-            assert!(rt; zero.ran() >= 40);
-            assert_eq!(rt; zero.ran(), one.ran());
-            assert_eq!(rt; zero.ran(), two.ran());
+            holds!(rt; zero.ran() >= 40);
+            same!(rt; (one.ran(), two.ran()), (zero.ran(), zero.ran()));
             for player in 0..4 {
-                assert_eq!(rt; zero.world().mark(player), one.world().mark(player));
-                assert_eq!(rt; zero.world().mark(player), two.world().mark(player));
+                let mark = zero.world().mark(player);
+                let others = (one.world().mark(player), two.world().mark(player));
+                same!(rt; others, (mark, mark), player);
             }
         }
-        _ => assert!(rt; false, "no node"),
+        _ => holds!(rt; false, "no node"),
     }
     Ok(())
 }

@@ -1,7 +1,7 @@
 //! Tests of single events: what they answer, and why they are refused.
 
 use super::told::all_told;
-use super::{build, opened, send};
+use super::{applies, build, opened, send};
 use crate::{Done, Event, Refusal};
 use dn_node::{Heard, Made, Ran};
 use std::test::Fail;
@@ -41,15 +41,13 @@ fn events_are_refused_in_order(rt: HostRuntime) -> Result<(), Fail> {
         (Event::Deliver(2), NO_PACKET),
     ] {
         let before = all_told(&game);
-        let answered = game.apply(event);
-        assert_eq!(rt; answered, answer, "{event:?}");
-        if answered.is_err() {
-            assert_eq!(rt; all_told(&game), before, "{event:?}");
+        applies(&rt, &mut game, event, answer);
+        if answer.is_err() {
+            same!(rt; all_told(&game), before, event);
         }
     }
-    assert!(rt; !game.stopped(0));
-    assert!(rt; game.stopped(1));
-    assert_eq!(rt; game.flights(), 2);
+    let found = (game.stopped(0), game.stopped(1), game.flights());
+    same!(rt; found, (false, true, 2));
     Ok(())
 }
 
@@ -95,7 +93,7 @@ fn events_answer_what_nodes_do(rt: HostRuntime) -> Result<(), Fail> {
         (send(1, 0), Done::Sent(7)),
         (send(1, 1), Done::Silent),
     ] {
-        assert_eq!(rt; game.apply(event), Ok(answer), "{event:?}");
+        applies(&rt, &mut game, event, Ok(answer));
     }
     Ok(())
 }

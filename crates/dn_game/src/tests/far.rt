@@ -1,6 +1,6 @@
 //! Tests of packets that lie far from what their receiver has made.
 
-use super::{build, opened, send};
+use super::{applies, build, opened, send};
 use crate::{Done, Event, Game, Refusal};
 use dn_node::{Heard, Made, Ran};
 use dn_world::Walk;
@@ -64,7 +64,7 @@ fn a_start_is_near_up_to_sixty_four(rt: HostRuntime) -> Result<(), Fail> {
         (Event::Deliver(129), Err(Refusal::Stopped)),
         (Event::Deliver(130), Err(Refusal::NoPacket)),
     ] {
-        assert_eq!(rt; game.apply(event), answer, "{event:?}");
+        applies(&rt, &mut game, event, answer);
     }
     Ok(())
 }
@@ -74,28 +74,25 @@ fn a_request_alone_may_be_far(rt: HostRuntime) -> Result<(), Fail> {
     let mut game = opened(rt.alloc(), 2)?;
     hand_over(&mut game, send(0, 1));
     let _ = game.apply(build(1, 0));
-    assert_eq!(rt; hand_over(&mut game, send(1, 0)), Some(Heard::Started));
+    same!(rt; hand_over(&mut game, send(1, 0)), Some(Heard::Started));
     let _ = game.apply(build(1, 0));
-    assert_eq!(rt; hand_over(&mut game, send(1, 0)), Some(Heard::Gap));
+    same!(rt; hand_over(&mut game, send(1, 0)), Some(Heard::Gap));
     for _ in 0..3 {
         let _ = game.apply(build(0, 0));
     }
     // Node 0 asks for tic 0, once with its commands from tic 0 on, once from tic 3 on.
-    assert_eq!(rt; hand_over(&mut game, send(0, 1)), Some(Heard::Taken(3)));
-    assert_eq!(rt; game.apply(send(0, 1)), Ok(Done::Sent(4)));
-    let Some(flight) = game.flight(4) else {
-        assert!(rt; false, "no packet");
-        return Ok(());
-    };
-    assert_eq!(rt; (flight.aim.start, flight.aim.ask), (3, Some(0)));
-    assert_eq!(rt; hand_over(&mut game, send(1, 0)), Some(Heard::Taken(2)));
+    same!(rt; hand_over(&mut game, send(0, 1)), Some(Heard::Taken(3)));
+    applies(&rt, &mut game, send(0, 1), Ok(Done::Sent(4)));
+    let flight = game.flight(4).ok_or("no packet")?;
+    same!(rt; (flight.aim.start, flight.aim.ask), (3, Some(0)));
+    same!(rt; hand_over(&mut game, send(1, 0)), Some(Heard::Taken(2)));
     play_rounds(&mut game, 62);
     for (event, answer) in [
         (Event::Deliver(4), STALE),
         (build(1, 0), Ok(Done::Built(Made::Made(64)))),
         (Event::Deliver(4), FAR),
     ] {
-        assert_eq!(rt; game.apply(event), answer, "{event:?}");
+        applies(&rt, &mut game, event, answer);
     }
     Ok(())
 }
@@ -106,22 +103,19 @@ fn a_start_alone_may_be_far(rt: HostRuntime) -> Result<(), Fail> {
     for _ in 0..3 {
         let _ = game.apply(build(1, 0));
     }
-    assert_eq!(rt; hand_over(&mut game, send(1, 0)), Some(Heard::Taken(3)));
+    same!(rt; hand_over(&mut game, send(1, 0)), Some(Heard::Taken(3)));
     let _ = game.apply(build(1, 0));
-    assert_eq!(rt; game.apply(send(1, 0)), Ok(Done::Sent(3)));
+    applies(&rt, &mut game, send(1, 0), Ok(Done::Sent(3)));
     let _ = game.apply(build(1, 0));
-    assert_eq!(rt; hand_over(&mut game, send(1, 0)), Some(Heard::Gap));
+    same!(rt; hand_over(&mut game, send(1, 0)), Some(Heard::Gap));
     let _ = game.apply(build(0, 0));
     // Node 0 sends from tic 0 on, and asks for tic 3.
-    assert_eq!(rt; hand_over(&mut game, send(0, 1)), Some(Heard::Taken(1)));
-    let Some(flight) = game.flight(5) else {
-        assert!(rt; false, "no packet");
-        return Ok(());
-    };
-    assert_eq!(rt; (flight.aim.start, flight.aim.ask), (0, Some(3)));
-    assert_eq!(rt; hand_over(&mut game, send(1, 0)), Some(Heard::Taken(2)));
+    same!(rt; hand_over(&mut game, send(0, 1)), Some(Heard::Taken(1)));
+    let flight = game.flight(5).ok_or("no packet")?;
+    same!(rt; (flight.aim.start, flight.aim.ask), (0, Some(3)));
+    same!(rt; hand_over(&mut game, send(1, 0)), Some(Heard::Taken(2)));
     for event in [Event::Run(0), Event::Run(1)] {
-        assert_eq!(rt; game.apply(event), Ok(Done::Ran(Ran::Ran(0))));
+        applies(&rt, &mut game, event, Ok(Done::Ran(Ran::Ran(0))));
     }
     play_rounds(&mut game, 59);
     for (event, answer) in [
@@ -129,7 +123,7 @@ fn a_start_alone_may_be_far(rt: HostRuntime) -> Result<(), Fail> {
         (build(1, 0), Ok(Done::Built(Made::Made(64)))),
         (Event::Deliver(5), FAR),
     ] {
-        assert_eq!(rt; game.apply(event), answer, "{event:?}");
+        applies(&rt, &mut game, event, answer);
     }
     Ok(())
 }

@@ -25,15 +25,15 @@ fn commands(demo: &[u8], players: u32) -> &[u8] {
 fn compare(rt: &impl Abort, one: &Node<Walk>, other: &Node<Walk>, players: u32) {
     let ours = commands(one.demo(), players);
     let theirs = commands(other.demo(), players);
-    assert!(rt; ours.starts_with(theirs) || theirs.starts_with(ours));
+    holds!(rt; ours.starts_with(theirs) || theirs.starts_with(ours));
     for player in 0..4 {
         if let (Some(end), Some(same)) = (one.end(player), other.end(player)) {
-            assert_eq!(rt; end, same, "end of {player}");
+            same!(rt; end, same, player);
         }
     }
     if one.ran() == other.ran() && !one.demo().is_empty() && !other.demo().is_empty() {
-        assert_eq!(rt; places(one), places(other));
-        assert_eq!(rt; ours, theirs);
+        same!(rt; places(one), places(other));
+        same!(rt; ours, theirs);
     }
 }
 
@@ -58,46 +58,51 @@ fn compare_all(rt: &impl Abort, game: &Game<Walk>, players: u32) -> u64 {
     beyond
 }
 
+/// Applies an event, after which node 2 quits where it has run twenty tics.
+fn apply_and_leave(rt: &impl Abort, game: &mut Game<Walk>, event: Event) {
+    // The tics of who plays on go far beyond what the third has made.
+    let answered = game.apply(event);
+    holds!(rt; answered.is_ok() || answered == Err(Refusal::Far), event);
+    let quits = match game.node(2) {
+        Some(node) => node.ran() == 20 && node.phase() == Phase::Playing,
+        None => false,
+    };
+    if quits {
+        holds!(rt; game.apply(Event::Quit(2)).is_ok());
+    }
+}
+
+/// A node of three that plays on without player 2, whose end it knows.
+fn plays_on(rt: &impl Abort, node: &Node<Walk>, end: u32) {
+    same!(rt; node.phase(), Phase::Playing);
+    holds!(rt; node.ran() >= 60, node.ran());
+    same!(rt; (node.end(2), node.got(2)), (Some(end), Some(end)));
+    // A demo has the tics before the first without a player, and the marker behind them.
+    same!(rt; node.demo().len(), 14 + 15 * end as usize);
+    same!(rt; node.demo().last(), Some(&0x80));
+}
+
 #[test]
 fn two_play_on_when_the_third_leaves(rt: HostRuntime) -> Result<(), Fail> {
     let mut game = opened(rt.alloc(), 3)?;
     for event in events(rt.alloc())?.iter() {
-        // The tics of who plays on go far beyond what the third has made.
-        let answered = game.apply(*event);
-        assert!(rt;
-            answered.is_ok() || answered == Err(Refusal::Far),
-            "{event:?}"
-        );
-        let quits = match game.node(2) {
-            Some(node) => node.ran() == 20 && node.phase() == Phase::Playing,
-            None => false,
-        };
-        if quits {
-            assert!(rt; game.apply(Event::Quit(2)).is_ok());
-        }
+        apply_and_leave(&rt, &mut game, *event);
     }
     let beyond = compare_all(&rt, &game, 3);
-    assert!(rt; beyond >= 70, "{beyond} tics without the third");
-    let (Some(zero), Some(one), Some(two)) = (game.node(0), game.node(1), game.node(2)) else {
-        assert!(rt; false, "no node");
-        return Ok(());
-    };
-    assert_eq!(rt; two.phase(), Phase::Ended(Cause::Quit));
-    assert_eq!(rt; two.ran(), 20);
-    assert_eq!(rt; two.demo().len(), 314);
+    holds!(rt; beyond >= 70, beyond);
+    let two = game.node(2).ok_or("no node")?;
+    let stood = (two.phase(), two.ran(), two.demo().len());
+    same!(rt; stood, (Phase::Ended(Cause::Quit), 20, 314));
     let end = two.made();
-    assert_eq!(rt; two.end(2), Some(end));
-    for node in [zero, one] {
-        assert_eq!(rt; node.phase(), Phase::Playing);
-        assert!(rt; node.ran() >= 60, "ran {}", node.ran());
-        assert_eq!(rt; node.end(2), Some(end));
-        assert_eq!(rt; node.got(2), Some(end));
-        // A demo has the tics before the first without a player, and the marker behind them.
-        assert_eq!(rt; node.demo().len(), 14 + 15 * end as usize);
-        assert_eq!(rt; node.demo().last(), Some(&0x80));
-    }
-    assert_eq!(rt; zero.ran(), one.ran());
-    assert_eq!(rt; places(zero), places(one));
+    same!(rt; two.end(2), Some(end));
+    let (zero, one) = (
+        game.node(0).ok_or("no node")?,
+        game.node(1).ok_or("no node")?,
+    );
+    plays_on(&rt, zero, end);
+    plays_on(&rt, one, end);
+    same!(rt; zero.ran(), one.ran());
+    same!(rt; places(zero), places(one));
     Ok(())
 }
 
@@ -129,7 +134,7 @@ fn nodes_agree_in_storms_that_players_leave(rt: HostRuntime) -> Result<(), Fail>
             let game = stormed(rt.alloc(), players, seed)?;
             beyond = compare_all(&rt, &game, players).max(beyond);
         }
-        assert!(rt; beyond > 0, "{players} players");
+        holds!(rt; beyond > 0, players);
     }
     Ok(())
 }

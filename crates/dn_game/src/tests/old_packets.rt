@@ -2,13 +2,14 @@
 
 use super::far::{hand_over, play_rounds, started};
 use super::schedules::draw;
-use super::{build, opened, send};
+use super::{applies, build, opened, send};
 use crate::{Event, Game, Refusal};
 use dn_node::{Config, Heard, Made, Node, Ran};
 use dn_setup::Settings;
 use dn_tic::Keys;
 use dn_world::Walk;
 use std::alloc::Global;
+use std::process::Abort;
 use std::test::Fail;
 
 /// A node of two, on its own.
@@ -30,39 +31,38 @@ fn give(from: &mut Node<Walk>, to: &mut Node<Walk>) -> Option<Heard> {
     Some(to.receive(from.me(), packet.as_slice()))
 }
 
+/// Both nodes build and hear each other, and run but for the last tic. Node 1 has built two commands before.
+fn both_play(rt: &impl Abort, zero: &mut Node<Walk>, one: &mut Node<Walk>, tic: u32) {
+    let keys = Keys::from_bits(0);
+    same!(rt; zero.build(keys), Made::Made(tic));
+    if tic > 1 {
+        same!(rt; one.build(keys), Made::Made(tic));
+    }
+    give(zero, one);
+    give(one, zero);
+    if tic < 255 {
+        same!(rt; (zero.run(), one.run()), (Ran::Ran(tic), Ran::Ran(tic)));
+    }
+}
+
 /// A node alone takes an old packet for a new one, since it sees but the low byte of its tic.
 #[test]
 fn a_node_takes_what_a_game_refuses(rt: HostRuntime) -> Result<(), Fail> {
     let mut zero = node(rt.alloc(), 0)?;
     let mut one = node(rt.alloc(), 1)?;
-    assert_eq!(rt; give(&mut zero, &mut one), Some(Heard::Started));
-    assert_eq!(rt; give(&mut one, &mut zero), Some(Heard::Started));
+    same!(rt; give(&mut zero, &mut one), Some(Heard::Started));
+    same!(rt; give(&mut one, &mut zero), Some(Heard::Started));
     let keys = Keys::from_bits(0);
     one.build(keys);
     one.build(keys);
-    let Some(old) = one.packet(0) else {
-        assert!(rt; false, "no packet");
-        return Ok(());
-    };
-    assert_eq!(rt; zero.receive(1, old.as_slice()), Heard::Taken(2));
+    let old = one.packet(0).ok_or("no packet")?;
+    same!(rt; zero.receive(1, old.as_slice()), Heard::Taken(2));
     for tic in 0..256 {
-        assert_eq!(rt; zero.build(keys), Made::Made(tic));
-        if tic > 1 {
-            assert_eq!(rt; one.build(keys), Made::Made(tic));
-        }
-        give(&mut zero, &mut one);
-        give(&mut one, &mut zero);
-        if tic < 255 {
-            assert_eq!(rt; zero.run(), Ran::Ran(tic));
-            assert_eq!(rt; one.run(), Ran::Ran(tic));
-        }
+        both_play(&rt, &mut zero, &mut one, tic);
     }
-    assert_eq!(rt;
-        (zero.made(), zero.ran(), zero.got(1)),
-        (256, 255, Some(256))
-    );
-    assert_eq!(rt; zero.receive(1, old.as_slice()), Heard::Taken(2));
-    assert_eq!(rt; zero.got(1), Some(258));
+    same!(rt; (zero.made(), zero.ran(), zero.got(1)), (256, 255, Some(256)));
+    same!(rt; zero.receive(1, old.as_slice()), Heard::Taken(2));
+    same!(rt; zero.got(1), Some(258));
     Ok(())
 }
 
@@ -73,8 +73,8 @@ fn a_game_refuses_what_a_node_takes(rt: HostRuntime) -> Result<(), Fail> {
         let _ = game.apply(build(node, 0));
         let _ = game.apply(build(node, 0));
     }
-    assert_eq!(rt; hand_over(&mut game, send(0, 1)), Some(Heard::Taken(2)));
-    assert_eq!(rt; hand_over(&mut game, send(1, 0)), Some(Heard::Taken(2)));
+    same!(rt; hand_over(&mut game, send(0, 1)), Some(Heard::Taken(2)));
+    same!(rt; hand_over(&mut game, send(1, 0)), Some(Heard::Taken(2)));
     for event in [Event::Run(0), Event::Run(1), Event::Run(0), Event::Run(1)] {
         let _ = game.apply(event);
     }
@@ -83,15 +83,9 @@ fn a_game_refuses_what_a_node_takes(rt: HostRuntime) -> Result<(), Fail> {
     let _ = game.apply(build(1, 0));
     hand_over(&mut game, send(0, 1));
     hand_over(&mut game, send(1, 0));
-    let Some(zero) = game.node(0) else {
-        assert!(rt; false, "no node");
-        return Ok(());
-    };
-    assert_eq!(rt;
-        (zero.made(), zero.ran(), zero.got(1)),
-        (256, 255, Some(256))
-    );
-    assert_eq!(rt; game.apply(Event::Deliver(3)), Err(Refusal::Far));
+    let zero = game.node(0).ok_or("no node")?;
+    same!(rt; (zero.made(), zero.ran(), zero.got(1)), (256, 255, Some(256)));
+    applies(&rt, &mut game, Event::Deliver(3), Err(Refusal::Far));
     Ok(())
 }
 
@@ -121,8 +115,8 @@ fn far_packets_are_left_out(rt: HostRuntime) -> Result<(), Fail> {
         play_five(&mut game);
     }
     // Of 28 packets those that start at tic 0 are far: the numbers 1, 2 and 3.
-    assert_eq!(rt; game.flights(), 28);
-    assert_eq!(rt; game.node(0).map(|node| node.made()), Some(65));
+    same!(rt; game.flights(), 28);
+    same!(rt; game.node(0).map(|node| node.made()), Some(65));
     draw(
         &rt,
         &game,

@@ -2,7 +2,9 @@
 
 use super::{config, opened, walks};
 use crate::{Game, GameFault};
-use dn_node::Phase;
+use dn_node::{Node, Phase};
+use dn_world::Walk;
+use std::process::Abort;
 use std::test::Fail;
 
 #[test]
@@ -24,9 +26,22 @@ fn games_are_made_or_refused_in_order(rt: HostRuntime) -> Result<(), Fail> {
     ] {
         let worlds = walks(rt.alloc(), players)?;
         let made = Game::new(rt.alloc(), config(limit)?, worlds);
-        assert_eq!(rt; made.err(), fault, "{players} {limit}");
+        same!(rt; made.err(), fault, (players, limit));
     }
     Ok(())
+}
+
+/// A node of a game that no event has met: player 0 alone has settings, and gathers.
+fn waits(rt: &impl Abort, node: &Node<Walk>, number: u32) {
+    let key = number == 0;
+    let phase = if key {
+        Phase::Gathering
+    } else {
+        Phase::Listening
+    };
+    same!(rt; (u32::from(node.me()), node.phase()), (number, phase));
+    same!(rt; node.settings().is_some(), key, number);
+    same!(rt; (node.made(), node.ran(), node.demo().len()), (0, 0, 0), number);
 }
 
 #[test]
@@ -34,25 +49,14 @@ fn a_new_game_waits(rt: HostRuntime) -> Result<(), Fail> {
     for players in 2..=4 {
         let game = opened(rt.alloc(), players)?;
         for number in 0..4 {
-            let key = number == 0;
             let Some(node) = game.node(number) else {
-                assert!(rt; number as usize >= players, "{number}");
+                holds!(rt; number as usize >= players, number);
                 continue;
             };
-            assert!(rt; (number as usize) < players, "{number}");
-            assert_eq!(rt; u32::from(node.me()), number);
-            let phase = if key {
-                Phase::Gathering
-            } else {
-                Phase::Listening
-            };
-            assert_eq!(rt; node.phase(), phase, "{number}");
-            assert_eq!(rt; node.settings().is_some(), key, "{number}");
-            assert_eq!(rt; node.made(), 0);
-            assert_eq!(rt; node.ran(), 0);
-            assert!(rt; node.demo().is_empty());
+            holds!(rt; (number as usize) < players, number);
+            waits(&rt, node, number);
         }
-        assert_eq!(rt; game.flights(), 0);
+        same!(rt; game.flights(), 0);
     }
     Ok(())
 }
@@ -60,15 +64,19 @@ fn a_new_game_waits(rt: HostRuntime) -> Result<(), Fail> {
 #[test]
 fn numbers_out_of_range_tell_nothing(rt: HostRuntime) -> Result<(), Fail> {
     let game = opened(rt.alloc(), 3)?;
-    for number in [3, 4, 255, 256, u32::MAX] {
-        assert!(rt; game.node(number).is_none(), "{number}");
-        assert!(rt; !game.stopped(number), "{number}");
-        assert!(rt; game.flight(number as usize).is_none(), "{number}");
-    }
-    for number in [0, 1, 2] {
-        assert!(rt; game.node(number).is_some(), "{number}");
-        assert!(rt; !game.stopped(number), "{number}");
-        assert!(rt; game.flight(number as usize).is_none(), "{number}");
+    for (number, there) in [
+        (3, false),
+        (4, false),
+        (255, false),
+        (256, false),
+        (u32::MAX, false),
+        (0, true),
+        (1, true),
+        (2, true),
+    ] {
+        let flight = game.flight(number as usize).is_some();
+        let found = (game.node(number).is_some(), game.stopped(number), flight);
+        same!(rt; found, (there, false, false), number);
     }
     Ok(())
 }

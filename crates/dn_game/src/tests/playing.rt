@@ -1,8 +1,8 @@
 //! Tests of lists of events that start two nodes and run a tic.
 
-use super::{build, config, opened, send, walks};
+use super::{applies, build, config, opened, send, walks};
 use crate::{Done, Event, Game, Played, Refusal, play, read_script};
-use dn_node::{Aim, Heard, Made, Phase, Ran};
+use dn_node::{Aim, Heard, Made, Node, Phase, Ran};
 use dn_world::Walk;
 use std::alloc::Global;
 use std::process::Abort;
@@ -11,8 +11,11 @@ use std::test::Fail;
 const SCRIPT: &str = "send 0 1\ndeliver 0\nbuild 1 -\nsend 1 0\ndeliver 1\nbuild 1 -\nsend 1 0\n\
     deliver 2\nbuild 0 -\nsend 0 1\ndeliver 3\nsend 1 0\ndeliver 4\nrun 0\nrun 1\n";
 
-/// The packets of the script: from, to, flags, request, start, how many commands, and the bytes.
-const FLIGHTS: [(u8, u8, u8, Option<u32>, u32, u8, [u8; 8]); 5] = [
+/// A packet of the script: from, to, flags, request, start, how many commands, and the first bytes.
+type FlightRow = (u8, u8, u8, Option<u32>, u32, u8, [u8; 8]);
+
+/// The packets of the script.
+const FLIGHTS: [FlightRow; 5] = [
     (
         0,
         1,
@@ -81,48 +84,57 @@ fn answered() -> [(Event, Done); 15] {
     ]
 }
 
+/// A packet of the script stands at its place, and its bytes at the front of the rest of the pool. The answer
+/// is the pool behind them.
+fn flew<'a>(
+    rt: &impl Abort,
+    game: &Game<Walk>,
+    place: usize,
+    (from, to, flags, ask, start, count, front): FlightRow,
+    rest: &'a [u8],
+) -> &'a [u8] {
+    let Some(flight) = game.flight(place) else {
+        panic!(rt; "no packet {place}");
+    };
+    let aim = Aim {
+        flags,
+        ask,
+        start,
+        count,
+    };
+    same!(rt; (flight.from, flight.to, flight.aim), (from, to, aim), place);
+    // Behind the front stand commands without a key.
+    let mut bytes = [0; 24];
+    bytes[..8].copy_from_slice(&front);
+    let len = 8 + 8 * usize::from(count);
+    same!(rt; Some(flight.bytes.as_slice()), bytes.get(..len), place);
+    same!(rt; rest.get(..len), bytes.get(..len), place);
+    rest.get(len..).unwrap_or(&[])
+}
+
+/// A node of the game that the script leaves.
+fn stands(rt: &impl Abort, node: &Node<Walk>, number: u8, made: u32) {
+    same!(rt; (node.phase(), node.made(), node.ran()), (Phase::Playing, made, 1), number);
+    same!(rt; (node.got(0), node.got(1)), (Some(1), Some(2)), number);
+    // The header, and for both players a command without a key.
+    let mut demo = [0; 23];
+    demo[..11].copy_from_slice(&[0x6F, 2, 1, 1, 0, 0, 0, 0, number, 1, 1]);
+    same!(rt; node.demo(), demo.as_slice(), number);
+}
+
 /// Looks at the game that the script leaves.
 fn look(rt: &impl Abort, game: &Game<Walk>) {
-    assert_eq!(rt; game.flights(), 5);
-    assert_eq!(rt; game.pool().len(), 80);
+    same!(rt; (game.flights(), game.pool().len()), (5, 80));
     let mut rest = game.pool();
-    for (place, (from, to, flags, ask, start, count, front)) in FLIGHTS.iter().enumerate() {
-        let Some(flight) = game.flight(place) else {
-            assert!(rt; false, "no packet {place}");
-            continue;
-        };
-        assert_eq!(rt; (flight.from, flight.to), (*from, *to), "{place}");
-        let aim = Aim {
-            flags: *flags,
-            ask: *ask,
-            start: *start,
-            count: *count,
-        };
-        assert_eq!(rt; flight.aim, aim, "{place}");
-        // Behind the front stand commands without a key.
-        let mut bytes = [0; 24];
-        bytes[..8].copy_from_slice(front);
-        let len = 8 + 8 * usize::from(*count);
-        assert_eq!(rt; flight.bytes.as_slice(), &bytes[..len], "{place}");
-        assert_eq!(rt; rest.get(..len), Some(&bytes[..len]), "{place}");
-        rest = rest.get(len..).unwrap_or(&[]);
+    for (place, row) in FLIGHTS.into_iter().enumerate() {
+        rest = flew(rt, game, place, row, rest);
     }
-    assert!(rt; game.flight(5).is_none());
-    for (number, made) in [(0, 1), (1, 2)] {
-        let Some(node) = game.node(number) else {
-            assert!(rt; false, "no node {number}");
-            continue;
-        };
-        assert_eq!(rt; node.phase(), Phase::Playing);
-        assert_eq!(rt; node.made(), made, "{number}");
-        assert_eq!(rt; node.ran(), 1, "{number}");
-        assert_eq!(rt; node.got(0), Some(1), "{number}");
-        assert_eq!(rt; node.got(1), Some(2), "{number}");
-        // The header, and for both players a command without a key.
-        let mut demo = [0; 23];
-        demo[..11].copy_from_slice(&[0x6F, 2, 1, 1, 0, 0, 0, 0, number as u8, 1, 1]);
-        assert_eq!(rt; node.demo(), demo.as_slice(), "{number}");
-    }
+    holds!(rt; game.flight(5).is_none());
+    let (Some(zero), Some(one)) = (game.node(0), game.node(1)) else {
+        panic!(rt; "no node");
+    };
+    stands(rt, zero, 0, 1);
+    stands(rt, one, 1, 2);
 }
 
 /// Plays a script with two nodes.
@@ -136,7 +148,7 @@ fn played(alloc: Global, script: &str) -> Result<Played<Walk>, Fail> {
 fn each_event_has_its_answer(rt: HostRuntime) -> Result<(), Fail> {
     let mut game = opened(rt.alloc(), 2)?;
     for (event, answer) in answered() {
-        assert_eq!(rt; game.apply(event), Ok(answer), "{event:?}");
+        applies(&rt, &mut game, event, Ok(answer));
     }
     look(&rt, &game);
     Ok(())
@@ -145,7 +157,7 @@ fn each_event_has_its_answer(rt: HostRuntime) -> Result<(), Fail> {
 #[test]
 fn a_script_is_played(rt: HostRuntime) -> Result<(), Fail> {
     let played = played(rt.alloc(), SCRIPT)?;
-    assert_eq!(rt; (played.done, played.refused), (15, 0));
+    same!(rt; (played.done, played.refused), (15, 0));
     look(&rt, &played.game);
     Ok(())
 }
@@ -156,9 +168,9 @@ fn a_packet_may_come_again(rt: HostRuntime) -> Result<(), Fail> {
     let mut game = played.game;
     for _ in 0..3 {
         let again = game.apply(Event::Deliver(4));
-        assert_eq!(rt; again, Ok(Done::Heard(Heard::Stale)));
+        same!(rt; again, Ok(Done::Heard(Heard::Stale)));
     }
-    assert_eq!(rt; game.apply(Event::Deliver(9)), Err(Refusal::NoPacket));
+    applies(&rt, &mut game, Event::Deliver(9), Err(Refusal::NoPacket));
     look(&rt, &game);
     Ok(())
 }
@@ -173,9 +185,8 @@ fn refused_events_are_counted(rt: HostRuntime) -> Result<(), Fail> {
         ("stop 0\nstop 0\nstop 1\nstop 1\n", 2, 2),
     ] {
         let played = played(rt.alloc(), script)?;
-        assert_eq!(rt; played.done, done, "{script}");
-        assert_eq!(rt; played.refused, refused, "{script}");
-        assert_eq!(rt; played.game.flights(), 0, "{script}");
+        let found = (played.done, played.refused, played.game.flights());
+        same!(rt; found, (done, refused, 0), script);
     }
     let mut events = Vec::new(rt.alloc());
     for (event, _) in answered() {
@@ -184,7 +195,7 @@ fn refused_events_are_counted(rt: HostRuntime) -> Result<(), Fail> {
     events.push(Event::Deliver(9))?;
     let worlds = walks(rt.alloc(), 2)?;
     let played = play(rt.alloc(), config(131_072)?, worlds, events.as_slice())?;
-    assert_eq!(rt; (played.done, played.refused), (15, 1));
+    same!(rt; (played.done, played.refused), (15, 1));
     look(&rt, &played.game);
     Ok(())
 }

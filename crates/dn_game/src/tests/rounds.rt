@@ -6,6 +6,7 @@ use crate::{Event, Game, Refusal, play, play_on, storm};
 use dn_machine::{Cause, Phase};
 use dn_tic::Keys;
 use dn_world::Walk;
+use std::alloc::Global;
 use std::process::Abort;
 use std::test::Fail;
 
@@ -43,6 +44,21 @@ fn lost() -> [Event; 13] {
     ]
 }
 
+/// A game of two after events of which none is refused, and then rounds.
+fn after(
+    rt: &impl Abort,
+    alloc: Global,
+    events: &[Event],
+    rounds: u32,
+) -> Result<Game<Walk>, Fail> {
+    let mut game = opened(alloc, 2)?;
+    for event in events {
+        holds!(rt; game.apply(*event).is_ok(), *event);
+    }
+    same!(rt; game.good_rounds(no_keys(), rounds), Ok(()));
+    Ok(game)
+}
+
 #[test]
 fn rounds_run_tics(rt: HostRuntime) -> Result<(), Fail> {
     let left = lost();
@@ -62,16 +78,8 @@ fn rounds_run_tics(rt: HostRuntime) -> Result<(), Fail> {
         (left.as_slice(), 14, 0, 3),
     ];
     for (events, rounds, zero, one) in rows {
-        let mut game = opened(rt.alloc(), 2)?;
-        for event in events {
-            assert!(rt; game.apply(*event).is_ok());
-        }
-        assert_eq!(rt; game.good_rounds(no_keys(), rounds), Ok(()));
-        assert_eq!(rt;
-            rans(&game),
-            [Some(zero), Some(one), None, None],
-            "{rounds}"
-        );
+        let game = after(&rt, rt.alloc(), events, rounds)?;
+        same!(rt; rans(&game), [Some(zero), Some(one), None, None], rounds);
     }
     Ok(())
 }
@@ -80,38 +88,37 @@ fn rounds_run_tics(rt: HostRuntime) -> Result<(), Fail> {
 #[test]
 fn a_stopped_node_holds_the_others_up(rt: HostRuntime) -> Result<(), Fail> {
     let mut game = opened(rt.alloc(), 3)?;
-    assert_eq!(rt; game.good_rounds(no_keys(), 20), Ok(()));
+    same!(rt; game.good_rounds(no_keys(), 20), Ok(()));
     let before = rans(&game);
-    assert!(rt; before[0] > Some(10));
-    assert!(rt; game.apply(Event::Stop(1)).is_ok());
-    assert_eq!(rt; game.good_rounds(no_keys(), 20), Ok(()));
+    holds!(rt; before[0] > Some(10));
+    holds!(rt; game.apply(Event::Stop(1)).is_ok());
+    same!(rt; game.good_rounds(no_keys(), 20), Ok(()));
     let held = rans(&game);
-    assert_eq!(rt; held[1], before[1]);
-    assert_eq!(rt; game.good_rounds(no_keys(), 20), Ok(()));
-    assert_eq!(rt; rans(&game), held);
+    same!(rt; held[1], before[1]);
+    same!(rt; game.good_rounds(no_keys(), 20), Ok(()));
+    same!(rt; rans(&game), held);
+    Ok(())
+}
+
+/// Two hundred rounds, after thirty of which node 1 may quit: node 0 is then in this phase.
+fn long_game(rt: &impl Abort, alloc: Global, quits: bool, phase: Phase) -> Result<(), Fail> {
+    let worlds = walks(alloc, 2)?;
+    let mut game = Game::new(alloc, config(1_024)?, worlds)?;
+    same!(rt; game.good_rounds(no_keys(), 30), Ok(()), quits);
+    if quits {
+        holds!(rt; game.apply(Event::Quit(1)).is_ok());
+    }
+    same!(rt; game.good_rounds(no_keys(), 170), Ok(()), quits);
+    let zero = game.node(0).map(|node| (node.phase(), node.ran() > 101));
+    same!(rt; zero, Some((phase, quits)));
     Ok(())
 }
 
 /// The demos have room for 101 tics. A game that a player has left goes on past them.
 #[test]
 fn who_stays_runs_past_the_demo(rt: HostRuntime) -> Result<(), Fail> {
-    for (quits, phase) in [(true, Phase::Playing), (false, Phase::Ended(Cause::Full))] {
-        let worlds = walks(rt.alloc(), 2)?;
-        let mut game = Game::new(rt.alloc(), config(1_024)?, worlds)?;
-        assert_eq!(rt; game.good_rounds(no_keys(), 30), Ok(()));
-        if quits {
-            assert!(rt; game.apply(Event::Quit(1)).is_ok());
-        }
-        assert_eq!(rt; game.good_rounds(no_keys(), 170), Ok(()));
-        match game.node(0) {
-            Some(node) => {
-                assert_eq!(rt; node.phase(), phase);
-                assert_eq!(rt; node.ran() > 101, quits);
-            }
-            None => assert!(rt; false, "no node"),
-        }
-    }
-    Ok(())
+    long_game(&rt, rt.alloc(), true, Phase::Playing)?;
+    long_game(&rt, rt.alloc(), false, Phase::Ended(Cause::Full))
 }
 
 /// Playing on is playing and then rounds, each with the keys of its players.
@@ -131,7 +138,7 @@ fn a_game_is_played_on(rt: HostRuntime) -> Result<(), Fail> {
         &events[..12],
     )?;
     for _ in 0..30 {
-        assert_eq!(rt; played.game.good_round(keys), Ok(()));
+        same!(rt; played.game.good_round(keys), Ok(()));
     }
     let on = play_on(
         rt.alloc(),
@@ -141,8 +148,8 @@ fn a_game_is_played_on(rt: HostRuntime) -> Result<(), Fail> {
         keys,
         30,
     )?;
-    assert_eq!(rt; all_told(&on.game), all_told(&played.game));
-    assert_eq!(rt; (on.done, on.refused), (12, 0));
+    same!(rt; all_told(&on.game), all_told(&played.game));
+    same!(rt; (on.done, on.refused), (12, 0));
     let other = play_on(
         rt.alloc(),
         config(131_072)?,
@@ -151,7 +158,7 @@ fn a_game_is_played_on(rt: HostRuntime) -> Result<(), Fail> {
         no_keys(),
         30,
     )?;
-    assert!(rt; all_told(&other.game) != all_told(&on.game));
+    holds!(rt; all_told(&other.game) != all_told(&on.game));
     Ok(())
 }
 
@@ -182,7 +189,7 @@ fn rounds_needed(rt: &impl Abort, game: &mut Game<Walk>) -> (u32, u32) {
     }
     let mut grown = 0;
     for rounds in 1..=ALL_RAN_BY {
-        assert_eq!(rt; game.good_round(no_keys()), Ok(()));
+        same!(rt; game.good_round(no_keys()), Ok(()));
         let now = rans(game);
         let mut all_grown = true;
         let mut all_ran = true;
@@ -202,25 +209,35 @@ fn rounds_needed(rt: &impl Abort, game: &mut Game<Walk>) -> (u32, u32) {
     (grown, u32::MAX)
 }
 
+/// A storm that breaks off somewhere. With every fourth seed node 1 then quits, where it plays.
+fn broken_off(
+    rt: &impl Abort,
+    alloc: Global,
+    players: usize,
+    seed: u64,
+) -> Result<Game<Walk>, Fail> {
+    let count = (seed % 100 * 7_919 + players as u64 % 100 * 104_729) % 3_000;
+    let worlds = walks(alloc, players)?;
+    let mut game = storm(alloc, config(131_072)?, worlds, seed, count as u32)?.game;
+    let plays = match game.node(1) {
+        Some(node) => node.phase() == Phase::Playing,
+        None => false,
+    };
+    if seed % 4 == 0 && plays {
+        holds!(rt; game.apply(Event::Quit(1)).is_ok(), (players, seed));
+    }
+    Ok(game)
+}
+
 /// Storms that break off anywhere, some with a node that then quits.
 #[test]
 fn storms_go_on(rt: HostRuntime) -> Result<(), Fail> {
     for players in 2..=4 {
         for seed in 1..=20 {
-            let count = (seed * 7_919 + players as u64 * 104_729) % 3_000;
-            let worlds = walks(rt.alloc(), players)?;
-            let played = storm(rt.alloc(), config(131_072)?, worlds, seed, count as u32)?;
-            let mut game = played.game;
-            if seed % 4 == 0
-                && game
-                    .node(1)
-                    .is_some_and(|node| node.phase() == Phase::Playing)
-            {
-                assert!(rt; game.apply(Event::Quit(1)).is_ok());
-            }
+            let mut game = broken_off(&rt, rt.alloc(), players, seed)?;
             let (grown, ran) = rounds_needed(&rt, &mut game);
-            assert!(rt; (1..=14).contains(&grown), "{players} {seed} {grown}");
-            assert!(rt; ran <= ALL_RAN_BY, "{players} {seed}");
+            holds!(rt; (1..=14).contains(&grown), (players, seed, grown));
+            holds!(rt; ran <= ALL_RAN_BY, (players, seed));
         }
     }
     Ok(())
@@ -239,9 +256,9 @@ fn refused_memory_ends_a_round(rt: HostRuntime) -> Result<(), Fail> {
     for _ in 0..16 {
         match game.good_round(no_keys()) {
             Ok(()) => carried_out = carried_out.saturating_add(1),
-            Err(refusal) => assert_eq!(rt; refusal, Refusal::Memory),
+            Err(refusal) => same!(rt; refusal, Refusal::Memory),
         }
     }
-    assert!(rt; carried_out < 15 || ran(&game, 0) > Some(0));
+    holds!(rt; carried_out < 15 || ran(&game, 0) > Some(0));
     Ok(())
 }

@@ -18,7 +18,7 @@ fn send_round(game: &mut Game<Walk>, players: u32, count: u32) {
 pub(super) fn draw(rt: &impl Abort, game: &Game<Walk>, seed: u64, events: &[Event]) {
     let mut schedule = Schedule::new(seed);
     for event in events {
-        assert_eq!(rt; schedule.next(game), Some(*event), "{seed}");
+        same!(rt; schedule.next(game), Some(*event), seed);
     }
 }
 
@@ -149,11 +149,11 @@ fn a_stopped_game_has_no_event(rt: HostRuntime) -> Result<(), Fail> {
         let mut game = opened(rt.alloc(), players)?;
         let mut schedule = Schedule::new(9);
         for node in 0..players as u32 {
-            assert!(rt; schedule.next(&game).is_some(), "{players}");
+            holds!(rt; schedule.next(&game).is_some(), players);
             let _ = game.apply(Event::Stop(node));
         }
         for _ in 0..3 {
-            assert_eq!(rt; schedule.next(&game), None, "{players}");
+            same!(rt; schedule.next(&game), None, players);
         }
     }
     Ok(())

@@ -9,10 +9,10 @@ ghost use Rattle.dn_lockstep.specs.Received.{on_player};
 
 use super::Lockstep;
 use crate::drops::{NOT_PLAYING, OVERRUN, STRANGE_END};
-use crate::peers::{after_exit, after_request, is_strange_end};
+use crate::peers::is_strange_end;
 use crate::reading::{has_flag, request, start};
 use crate::rings::PLACES;
-use dn_machine::{Heard, Peer};
+use dn_machine::Heard;
 use dn_packet::{EXIT, Packet};
 
 /// The answer to a packet up to whose end nothing is missing.
@@ -49,22 +49,19 @@ impl Lockstep {
         }
         let exit = has_flag(packet, EXIT);
         let got = self.rings.count(from);
-        let peer = self.peers.get(from);
-        if is_strange_end(exit, got, peer.end, end) {
+        if is_strange_end(exit, got, self.peers.get(from).end, end) {
             return Heard::Dropped(STRANGE_END);
         }
-        let peer = after_request(made, peer, request(made, packet));
-        let peer = after_exit(peer, exit, end);
+        self.peers.ask(from, made, request(made, packet));
+        self.peers.tell(from, exit, end);
         if end <= got {
-            self.peers.put(from, peer);
             return left_or(exit, Heard::Stale);
         }
         if start > got {
-            self.peers.put(from, Peer { want: true, ..peer });
+            self.peers.want(from, true);
             return Heard::Gap;
         }
-        let want = false;
-        self.peers.put(from, Peer { want, ..peer });
+        self.peers.want(from, false);
         self.rings
             .put_all(from, &commands[(got - start) as usize..]);
         left_or(exit, Heard::Taken(end - got))
@@ -87,9 +84,7 @@ impl Lockstep {
         if let Err(number) = start(made, packet) {
             return Heard::Dropped(number);
         }
-        let peer = self.peers.get(from);
-        self.peers
-            .put(from, after_request(made, peer, request(made, packet)));
+        self.peers.ask(from, made, request(made, packet));
         Heard::Noted
     }
 }

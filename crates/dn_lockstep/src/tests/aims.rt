@@ -1,7 +1,7 @@
 //! Tests of the exact numbers of the next packet, beside its bytes.
 
 use super::stages::{Stage, at};
-use super::{FORWARD, NO_KEYS, datagram, pair, pass, tics};
+use super::{FORWARD, NO_KEYS, datagram, hears, pair, pass, tics};
 use crate::{Aim, Heard, Lockstep};
 use dn_packet::{EXIT, RETRANSMIT, SETUP};
 use dn_tic::Keys;
@@ -10,20 +10,19 @@ use std::test::Fail;
 
 /// Compares the numbers, asked for twice, with the packet's bytes.
 fn agree(rt: &impl Abort, node: &mut Lockstep, to: u8, aim: Aim) {
-    assert_eq!(rt; node.aim(to), Some(aim));
-    assert_eq!(rt; node.aim(to), Some(aim));
+    same!(rt; node.aim(to), Some(aim));
+    same!(rt; node.aim(to), Some(aim));
     let Some(bytes) = node.packet(to) else {
         panic!(rt; "no packet to {to}");
     };
-    assert_eq!(rt; bytes.len(), 8 + 8 * usize::from(aim.count));
-    assert!(rt; bytes.len() >= 8);
+    same!(rt; bytes.len(), 8 + 8 * usize::from(aim.count), aim);
     let bytes = bytes.as_slice();
-    assert_eq!(rt; bytes[3] / 16, aim.flags);
-    assert_eq!(rt; bytes[7], aim.count);
+    let top = bytes.get(3).copied().unwrap_or(0) / 16;
+    same!(rt; (top, bytes.get(7).copied()), (aim.flags, Some(aim.count)), aim);
     if aim.flags != SETUP {
-        assert_eq!(rt; u32::from(bytes[4]), aim.ask.unwrap_or(0) % 256);
-        assert_eq!(rt; u32::from(bytes[5]), aim.start % 256);
-        assert_eq!(rt; bytes[6], node.me());
+        let ask = (aim.ask.unwrap_or(0) % 256) as u8;
+        let low = [ask, (aim.start % 256) as u8, node.me()];
+        same!(rt; bytes.get(4..7), Some(low.as_slice()), aim);
     }
 }
 
@@ -48,11 +47,11 @@ fn who_has_no_packet_has_no_numbers(rt: HostRuntime) -> Result<(), Fail> {
     ] {
         let mut node = at(rt.alloc(), stage)?;
         for (to, there) in (0..4u8).zip(peers) {
-            assert_eq!(rt; node.aim(to).is_some(), there, "{stage:?}, to {to}");
-            assert_eq!(rt; node.packet(to).is_some(), there, "{stage:?}, to {to}");
+            same!(rt; node.aim(to).is_some(), there, (stage, to));
+            same!(rt; node.packet(to).is_some(), there, (stage, to));
         }
-        assert_eq!(rt; node.aim(255), None, "{stage:?}");
-        assert!(rt; node.packet(255).is_none(), "{stage:?}");
+        same!(rt; node.aim(255), None, stage);
+        holds!(rt; node.packet(255).is_none(), stage);
     }
     Ok(())
 }
@@ -76,12 +75,11 @@ fn commands_have_their_tics(rt: HostRuntime) -> Result<(), Fail> {
     let _ = key.build(Keys::from_bits(FORWARD));
     agree(&rt, &mut key, 1, numbers(0, None, 0, 2));
     agree(&rt, &mut key, 1, numbers(0, None, 1, 1));
-    let gap = datagram(0, (0, 3, 1), &[]);
-    assert_eq!(rt; key.receive(1, gap.as_slice()), Heard::Gap);
+    hears(&rt, &mut key, 1, (0, (0, 3, 1), &[]), Heard::Gap);
     agree(&rt, &mut key, 1, numbers(RETRANSMIT, Some(0), 1, 1));
     agree(&rt, &mut key, 1, numbers(RETRANSMIT, Some(0), 1, 1));
     let _ = other.build(Keys::from_bits(NO_KEYS));
-    assert_eq!(rt; pass(&mut other, &mut key), Some(Heard::Taken(1)));
+    same!(rt; pass(&mut other, &mut key), Some(Heard::Taken(1)));
     agree(&rt, &mut key, 1, numbers(0, None, 1, 1));
     Ok(())
 }
@@ -95,12 +93,12 @@ fn numbers_are_exact(rt: HostRuntime) -> Result<(), Fail> {
     agree(&rt, &mut key, 1, numbers(0, None, 520, 1));
     // a gap at 521, which asks for 512
     let gap = datagram(RETRANSMIT, (0, 9, 1), &[]);
-    assert_eq!(rt; key.receive(1, gap.as_slice()), Heard::Gap);
+    same!(rt; key.receive(1, gap.as_slice()), Heard::Gap);
     agree(&rt, &mut key, 1, numbers(RETRANSMIT, Some(520), 512, 9));
     let (mut key, mut other) = pair(rt.alloc(), false)?;
     tics(&mut key, &mut other, 520, (FORWARD, NO_KEYS));
     let asks = datagram(RETRANSMIT, (255, 8, 1), &[]);
-    assert_eq!(rt; key.receive(1, asks.as_slice()), Heard::Stale);
+    same!(rt; key.receive(1, asks.as_slice()), Heard::Stale);
     agree(&rt, &mut key, 1, numbers(0, None, 511, 9));
     Ok(())
 }
@@ -114,9 +112,8 @@ fn who_left_tells_it_with_each_packet(rt: HostRuntime) -> Result<(), Fail> {
         for _ in 0..3 {
             let _ = key.build(Keys::from_bits(FORWARD));
         }
-        let gap = datagram(0, (0, 45, 1), &[]);
-        assert_eq!(rt; key.receive(1, gap.as_slice()), Heard::Gap);
-        assert!(rt; key.quit());
+        hears(&rt, &mut key, 1, (0, (0, 45, 1), &[]), Heard::Gap);
+        holds!(rt; key.quit());
         agree(&rt, &mut key, 1, numbers(EXIT, None, first.0, first.1));
         for _ in 0..20 {
             agree(&rt, &mut key, 1, numbers(EXIT, None, next.0, next.1));

@@ -1,10 +1,12 @@
 //! Tests of what a node answers to datagrams: each test that a datagram meets, and which comes first.
 
 use super::stages::{STOP, Stage, at};
-use super::{STILL, datagram};
-use crate::Heard;
+use super::{STILL, hears};
+use crate::{Heard, Lockstep};
 use dn_packet::{EXIT, KILL, RETRANSMIT, SETUP};
 use dn_tic::TicCmd;
+use std::alloc::Global;
+use std::process::Abort;
 use std::test::Fail;
 
 /// Where a node looks at who sends.
@@ -16,22 +18,51 @@ const PEERS: [Stage; 5] = [
     Stage::Leaver,
 ];
 
+/// A packet as a test writes it: the flags, the ask, start and player bytes, and the commands.
+type Written<'a> = (u8, (u8, u8, u8), &'a [TicCmd]);
+
+/// Hands a packet to a node that stands so, and compares its answer.
+fn answers(
+    rt: &impl Abort,
+    alloc: Global,
+    (stage, from): (Stage, u8),
+    packet: Written,
+    answer: Heard,
+) -> Result<(), Fail> {
+    let mut node = at(alloc, stage)?;
+    hears(rt, &mut node, from, packet, answer);
+    Ok(())
+}
+
+/// Hands a node no bytes, a plain packet and a set-up packet, all of a sender who is no peer.
+fn drops_all_of(rt: &impl Abort, node: &mut Lockstep, from: u8) {
+    let stranger = Heard::Dropped(5);
+    same!(rt; node.receive(from, &[]), stranger, from);
+    hears(rt, node, from, (0, (0, 0, from), &[]), stranger);
+    hears(rt, node, from, (SETUP, (2, 65, 111), &[]), stranger);
+}
+
 #[test]
 fn who_is_no_peer_is_a_stranger(rt: HostRuntime) -> Result<(), Fail> {
     for stage in PEERS {
         let mut node = at(rt.alloc(), stage)?;
         for from in [node.me(), 3, 4, 255] {
-            let plain = datagram(0, (0, 0, from), &[]);
-            let choice = datagram(SETUP, (2, 65, 111), &[]);
-            for bytes in [&[], plain.as_slice(), choice.as_slice()] {
-                assert_eq!(rt;
-                    node.receive(from, bytes),
-                    Heard::Dropped(5),
-                    "{stage:?}, {from}"
-                );
-            }
+            drops_all_of(&rt, &mut node, from);
         }
     }
+    Ok(())
+}
+
+/// Hands bytes that are no packet to a node that stands so, and compares its answer.
+fn drops(
+    rt: &impl Abort,
+    alloc: Global,
+    stage: Stage,
+    bytes: &[u8],
+    number: u8,
+) -> Result<(), Fail> {
+    let mut node = at(alloc, stage)?;
+    same!(rt; node.receive(2, bytes), Heard::Dropped(number), (stage, bytes));
     Ok(())
 }
 
@@ -60,12 +91,7 @@ fn bytes_that_are_no_packet_are_told_apart(rt: HostRuntime) -> Result<(), Fail> 
             (long.as_slice(), 3),
             (sum.as_slice(), 4),
         ] {
-            let mut node = at(rt.alloc(), stage)?;
-            assert_eq!(rt;
-                node.receive(2, bytes),
-                Heard::Dropped(number),
-                "{stage:?}, {bytes:?}"
-            );
+            drops(&rt, rt.alloc(), stage, bytes, number)?;
         }
     }
     Ok(())
@@ -73,7 +99,7 @@ fn bytes_that_are_no_packet_are_told_apart(rt: HostRuntime) -> Result<(), Fail> 
 
 #[test]
 fn set_up_is_for_listeners(rt: HostRuntime) -> Result<(), Fail> {
-    let rows = [
+    let rows: [(Stage, u8, (u8, u8, u8), Heard); 13] = [
         (Stage::Listener, 0, (2, 65, 111), Heard::Started),
         (Stage::Listener, 0, (2, 65, 110), Heard::Dropped(7)),
         (Stage::Listener, 0, (5, 65, 110), Heard::Dropped(7)),
@@ -90,14 +116,8 @@ fn set_up_is_for_listeners(rt: HostRuntime) -> Result<(), Fail> {
     ];
     for (stage, from, numbers, answer) in rows {
         for flags in [SETUP, SETUP + KILL, SETUP + EXIT] {
-            assert!(rt; flags < 16);
-            let mut node = at(rt.alloc(), stage)?;
-            let bytes = datagram(flags, numbers, &[]);
-            assert_eq!(rt;
-                node.receive(from, bytes.as_slice()),
-                answer,
-                "{stage:?}, from {from}, flags {flags}, {numbers:?}"
-            );
+            let packet = (flags, numbers, [].as_slice());
+            answers(&rt, rt.alloc(), (stage, from), packet, answer)?;
         }
     }
     Ok(())
@@ -123,14 +143,8 @@ fn before_the_game_nothing_is_taken(rt: HostRuntime) -> Result<(), Fail> {
         (Stage::Key, 1, RETRANSMIT, (200, 100, 1), Heard::Noted),
     ];
     for (stage, from, flags, numbers, answer) in rows {
-        assert!(rt; flags < 16);
-        let mut node = at(rt.alloc(), stage)?;
-        let bytes = datagram(flags, numbers, &[STOP]);
-        assert_eq!(rt;
-            node.receive(from, bytes.as_slice()),
-            answer,
-            "{stage:?}, from {from}, flags {flags}, {numbers:?}"
-        );
+        let packet = (flags, numbers, [STOP].as_slice());
+        answers(&rt, rt.alloc(), (stage, from), packet, answer)?;
     }
     Ok(())
 }
@@ -173,17 +187,9 @@ fn a_playing_node_takes_what_comes_next(rt: HostRuntime) -> Result<(), Fail> {
         (RETRANSMIT, (77, 0, 2), &still[..3], Heard::Taken(3)),
     ];
     for (flags, numbers, commands, answer) in rows {
-        assert!(rt; flags < 16);
-        for stage in [Stage::First, Stage::Second] {
-            let mut node = at(rt.alloc(), stage)?;
-            let bytes = datagram(flags, numbers, commands);
-            assert_eq!(rt;
-                node.receive(2, bytes.as_slice()),
-                answer,
-                "{stage:?}, flags {flags}, {numbers:?}, {} commands",
-                commands.len()
-            );
-        }
+        let packet = (flags, numbers, commands);
+        answers(&rt, rt.alloc(), (Stage::First, 2), packet, answer)?;
+        answers(&rt, rt.alloc(), (Stage::Second, 2), packet, answer)?;
     }
     Ok(())
 }

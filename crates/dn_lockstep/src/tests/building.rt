@@ -1,6 +1,6 @@
 //! Tests of the commands that a node builds from keys.
 
-use super::{FORWARD, IDLE, LEFT, NO_KEYS, RIGHT, SPEED, STILL, datagram, pair, pass, run, tic};
+use super::{FORWARD, IDLE, LEFT, NO_KEYS, RIGHT, SPEED, STILL, hears, pair, pass, run, tic};
 use crate::{Heard, Lockstep, Made, Ran};
 use dn_tic::{Keys, Move};
 use std::process::Abort;
@@ -37,11 +37,11 @@ fn build(node: &mut Lockstep, keys: u32) -> Made {
 /// Five builds are answered with their tics, and no sixth.
 fn fills(rt: &impl Abort, node: &mut Lockstep) {
     for tic in 0..5 {
-        assert_eq!(rt; build(node, NO_KEYS), Made::Made(tic));
+        same!(rt; build(node, NO_KEYS), Made::Made(tic));
     }
-    assert_eq!(rt; build(node, NO_KEYS), Made::Full);
-    assert_eq!(rt; build(node, FORWARD), Made::Full);
-    assert_eq!(rt; (node.made(), node.ran()), (5, 0));
+    same!(rt; build(node, NO_KEYS), Made::Full);
+    same!(rt; build(node, FORWARD), Made::Full);
+    same!(rt; (node.made(), node.ran()), (5, 0));
 }
 
 #[test]
@@ -49,12 +49,12 @@ fn five_commands_may_wait(rt: HostRuntime) -> Result<(), Fail> {
     let (mut key, mut other) = pair(rt.alloc(), false)?;
     fills(&rt, &mut key);
     fills(&rt, &mut other);
-    assert_eq!(rt; tic(&mut key, &mut other, IDLE), (Ran::Ran(0), Ran::Ran(0)));
-    assert_eq!(rt; build(&mut key, NO_KEYS), Made::Made(5));
-    assert_eq!(rt; build(&mut key, NO_KEYS), Made::Full);
-    assert!(rt; key.quit());
-    assert_eq!(rt; build(&mut key, NO_KEYS), Made::NotPlaying);
-    assert_eq!(rt; key.made(), 6);
+    same!(rt; tic(&mut key, &mut other, IDLE), (Ran::Ran(0), Ran::Ran(0)));
+    same!(rt; build(&mut key, NO_KEYS), Made::Made(5));
+    same!(rt; build(&mut key, NO_KEYS), Made::Full);
+    holds!(rt; key.quit());
+    same!(rt; build(&mut key, NO_KEYS), Made::NotPlaying);
+    same!(rt; key.made(), 6);
     Ok(())
 }
 
@@ -101,13 +101,13 @@ fn keys_make_commands(rt: HostRuntime) -> Result<(), Fail> {
     ];
     for (keys, bytes) in rows {
         let (mut key, _) = pair(rt.alloc(), false)?;
-        assert_eq!(rt; build(&mut key, keys), Made::Made(0));
-        assert_eq!(rt; carried(&rt, &mut key)?, bytes, "keys {keys}");
+        same!(rt; build(&mut key, keys), Made::Made(0));
+        same!(rt; carried(&rt, &mut key)?, bytes, keys);
     }
     for (weapon, buttons) in WEAPONS.into_iter().zip([4, 12, 20, 28, 36, 44, 52, 60]) {
         let (mut key, _) = pair(rt.alloc(), false)?;
-        assert_eq!(rt; build(&mut key, weapon), Made::Made(0));
-        assert_eq!(rt; carried(&rt, &mut key)?, [0, 0, 0, 0, 0, 0, 0, buttons]);
+        same!(rt; build(&mut key, weapon), Made::Made(0));
+        same!(rt; carried(&rt, &mut key)?, [0, 0, 0, 0, 0, 0, 0, buttons]);
     }
     Ok(())
 }
@@ -116,11 +116,16 @@ fn keys_make_commands(rt: HostRuntime) -> Result<(), Fail> {
 /// command that was built.
 fn alone(rt: &impl Abort, node: &mut Lockstep, keys: u32) -> Result<[u8; 8], Fail> {
     let tic = node.made();
-    let still = datagram(0, (0, (tic % 256) as u8, 1), &[STILL]);
-    assert_eq!(rt; build(node, keys), Made::Made(tic));
+    same!(rt; build(node, keys), Made::Made(tic));
     let command = carried(rt, node)?;
-    assert_eq!(rt; node.receive(1, still.as_slice()), Heard::Taken(1));
-    assert_eq!(rt; run(node), Ran::Ran(tic));
+    hears(
+        rt,
+        node,
+        1,
+        (0, (0, (tic % 256) as u8, 1), &[STILL]),
+        Heard::Taken(1),
+    );
+    same!(rt; run(node), Ran::Ran(tic));
     Ok(command)
 }
 
@@ -140,10 +145,10 @@ fn turns_are_fast_from_the_sixth_on(rt: HostRuntime) -> Result<(), Fail> {
     ] {
         let (mut key, _) = pair(rt.alloc(), false)?;
         for turn in [slow, slow, slow, slow, slow, fast, fast] {
-            assert_eq!(rt; turn_of(alone(&rt, &mut key, keys)?), turn, "keys {keys}");
+            same!(rt; turn_of(alone(&rt, &mut key, keys)?), turn, keys);
             let [low, high] = turn.to_le_bytes();
             let row = [0, 0, low, high, 0, 0, 0, 0, 0, 0];
-            assert!(rt; key.demo().ends_with(&row), "keys {keys}, turn {turn}");
+            holds!(rt; key.demo().ends_with(&row), (keys, turn));
         }
     }
     Ok(())
@@ -163,7 +168,7 @@ fn letting_go_begins_again(rt: HostRuntime) -> Result<(), Fail> {
         (FORWARD, 0),
         (RIGHT, -320),
     ] {
-        assert_eq!(rt; turn_of(alone(&rt, &mut key, keys)?), turn, "keys {keys}");
+        same!(rt; turn_of(alone(&rt, &mut key, keys)?), turn, keys);
     }
     Ok(())
 }
@@ -177,21 +182,26 @@ fn a_full_build_leaves_the_hold(rt: HostRuntime) -> Result<(), Fail> {
         (NO_KEYS, NO_KEYS, RIGHT, [-320, -320]),
     ] {
         let (mut key, _) = pair(rt.alloc(), false)?;
-        assert_eq!(rt; build(&mut key, first), Made::Made(0));
+        same!(rt; build(&mut key, first), Made::Made(0));
         for tic in 1..5 {
-            assert_eq!(rt; build(&mut key, rest), Made::Made(tic));
+            same!(rt; build(&mut key, rest), Made::Made(tic));
         }
         for _ in 0..7 {
-            assert_eq!(rt; build(&mut key, full), Made::Full);
+            same!(rt; build(&mut key, full), Made::Full);
         }
         let sent = key.packet(1).ok_or("no packet")?;
-        assert_eq!(rt; sent.len(), 48);
+        same!(rt; sent.len(), 48);
         for (tic, turn) in [(0u8, turns[0]), (1u8, turns[1])] {
-            let still = datagram(0, (0, tic, 1), &[STILL]);
-            assert_eq!(rt; key.receive(1, still.as_slice()), Heard::Taken(1));
-            assert_eq!(rt; run(&mut key), Ran::Ran(u32::from(tic)));
-            assert_eq!(rt; build(&mut key, RIGHT), Made::Made(u32::from(tic) + 5));
-            assert_eq!(rt; turn_of(carried(&rt, &mut key)?), turn, "tic {tic}");
+            hears(
+                &rt,
+                &mut key,
+                1,
+                (0, (0, tic, 1), &[STILL]),
+                Heard::Taken(1),
+            );
+            same!(rt; run(&mut key), Ran::Ran(u32::from(tic)));
+            same!(rt; build(&mut key, RIGHT), Made::Made(u32::from(tic) + 5));
+            same!(rt; turn_of(carried(&rt, &mut key)?), turn, tic);
         }
     }
     Ok(())
@@ -203,21 +213,15 @@ fn a_packet_is_written_to_the_front_of_a_room(rt: HostRuntime) -> Result<(), Fai
     let (mut same, _) = pair(rt.alloc(), false)?;
     let mut room = [7; 106];
     // nothing for itself, nor for nobody
-    assert_eq!(rt;
-        (key.packet_to(0, &mut room), key.packet_to(2, &mut room)),
-        (0, 0)
-    );
-    assert_eq!(rt; room, [7; 106]);
-    assert_eq!(rt;
-        (build(&mut key, FORWARD), build(&mut same, FORWARD)),
-        (Made::Made(0), Made::Made(0))
-    );
+    same!(rt; (key.packet_to(0, &mut room), key.packet_to(2, &mut room)), (0, 0));
+    same!(rt; room, [7; 106]);
+    same!(rt; (build(&mut key, FORWARD), build(&mut same, FORWARD)), (Made::Made(0), Made::Made(0)));
     let size = key.packet_to(1, &mut room);
     let packet = same.packet(1).ok_or("no packet")?;
-    assert_eq!(rt; size, 16);
-    assert_eq!(rt; room.get(..16), Some(packet.as_slice()));
-    assert_eq!(rt; room.get(16..), Some([7; 90].as_slice()));
-    assert_eq!(rt; other.receive(0, &room[..16]), Heard::Taken(1));
+    same!(rt; size, 16);
+    same!(rt; room.get(..16), Some(packet.as_slice()));
+    same!(rt; room.get(16..), Some([7; 90].as_slice()));
+    same!(rt; other.receive(0, &room[..16]), Heard::Taken(1));
     Ok(())
 }
 
@@ -226,16 +230,16 @@ fn a_row_is_filled_in_where_a_tic_is_run(rt: HostRuntime) -> Result<(), Fail> {
     let (mut key, mut other) = pair(rt.alloc(), false)?;
     let marked = [Some(Move::default()), None, Some(Move::default()), None];
     let mut row = marked;
-    assert_eq!(rt; key.run_into(&[0; 4], &mut row), Ran::Waiting(0));
-    assert_eq!(rt; row, marked);
+    same!(rt; key.run_into(&[0; 4], &mut row), Ran::Waiting(0));
+    same!(rt; row, marked);
     let _ = tic(&mut key, &mut other, (FORWARD, NO_KEYS));
-    assert_eq!(rt; other.ran(), 1);
+    same!(rt; other.ran(), 1);
     let _ = build(&mut key, FORWARD);
     let _ = build(&mut other, NO_KEYS);
     let _ = pass(&mut other, &mut key);
-    assert_eq!(rt; key.run_into(&[0; 4], &mut row), Ran::Ran(1));
-    assert_eq!(rt; row[0].map(|step| step.forward), Some(25));
-    assert_eq!(rt; row[1].map(|step| step.forward), Some(0));
-    assert_eq!(rt; (row[2].is_none(), row[3].is_none()), (true, true));
+    same!(rt; key.run_into(&[0; 4], &mut row), Ran::Ran(1));
+    same!(rt; row[0].map(|step| step.forward), Some(25));
+    same!(rt; row[1].map(|step| step.forward), Some(0));
+    same!(rt; (row[2].is_none(), row[3].is_none()), (true, true));
     Ok(())
 }

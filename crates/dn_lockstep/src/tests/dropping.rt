@@ -1,7 +1,7 @@
 //! Tests that a dropped datagram changes nothing.
 
 use super::stages::{STOP, Stage, at};
-use super::{IDLE, STILL, datagram, pair, tics};
+use super::{IDLE, STILL, datagram, hears, pair, tics};
 use crate::{Aim, Heard, Lockstep, Phase};
 use arrayvec::ArrayVec;
 use dn_packet::{EXIT, KILL, RETRANSMIT, SETUP};
@@ -37,12 +37,26 @@ fn told(node: &Lockstep) -> Readings {
 /// Hands a node a datagram that it has to drop, and compares what it tells before and after.
 fn drops(rt: &impl Abort, node: &mut Lockstep, from: u8, bytes: &[u8], number: u8) {
     let before = told(node);
-    assert_eq!(rt;
-        node.receive(from, bytes),
-        Heard::Dropped(number),
-        "{bytes:?}"
+    same!(rt; node.receive(from, bytes), Heard::Dropped(number), bytes);
+    same!(rt; told(node), before, bytes);
+}
+
+/// The same of a packet.
+fn refuses(
+    rt: &impl Abort,
+    node: &mut Lockstep,
+    from: u8,
+    (flags, numbers, commands): (u8, (u8, u8, u8), &[TicCmd]),
+    number: u8,
+) {
+    assert!(rt; flags < 16);
+    drops(
+        rt,
+        node,
+        from,
+        datagram(flags, numbers, commands).as_slice(),
+        number,
     );
-    assert_eq!(rt; told(node), before, "after {bytes:?}");
 }
 
 #[test]
@@ -66,11 +80,9 @@ fn before_the_game_nothing_is_changed(rt: HostRuntime) -> Result<(), Fail> {
         (Stage::Leaver, 3, 0, (0, 0, 3), 5),
     ];
     for (stage, from, flags, numbers, number) in rows {
-        assert!(rt; flags < 16);
         let mut node = at(rt.alloc(), stage)?;
-        let bytes = datagram(flags, numbers, &[]);
-        drops(&rt, &mut node, from, bytes.as_slice(), number);
-        drops(&rt, &mut node, from, bytes.as_slice(), number);
+        refuses(&rt, &mut node, from, (flags, numbers, &[]), number);
+        refuses(&rt, &mut node, from, (flags, numbers, &[]), number);
     }
     Ok(())
 }
@@ -80,13 +92,10 @@ fn before_the_game_nothing_is_changed(rt: HostRuntime) -> Result<(), Fail> {
 fn who_was_dropped_is_not_noted(rt: HostRuntime) -> Result<(), Fail> {
     let mut key = at(rt.alloc(), Stage::Key)?;
     for (from, flags, player, number) in [(1, KILL, 1, 9), (1, 0, 2, 5), (2, SETUP, 111, 6)] {
-        assert!(rt; flags < 16);
-        let bytes = datagram(flags, (2, 65, player), &[]);
-        drops(&rt, &mut key, from, bytes.as_slice(), number);
+        refuses(&rt, &mut key, from, (flags, (2, 65, player), &[]), number);
     }
     for (from, answer) in [(2, Heard::Noted), (2, Heard::Noted), (1, Heard::Started)] {
-        let bytes = datagram(0, (0, 0, from), &[]);
-        assert_eq!(rt; key.receive(from, bytes.as_slice()), answer, "from {from}");
+        hears(&rt, &mut key, from, (0, (0, 0, from), &[]), answer);
     }
     Ok(())
 }
@@ -116,14 +125,12 @@ fn in_the_game_nothing_is_changed(rt: HostRuntime) -> Result<(), Fail> {
     let (mut key, mut other) = pair(rt.alloc(), false)?;
     tics(&mut key, &mut other, 4, IDLE);
     for (from, flags, numbers, commands, number) in rows {
-        assert!(rt; flags < 16);
-        let bytes = datagram(flags, numbers, commands);
-        drops(&rt, &mut key, from, bytes.as_slice(), number);
+        refuses(&rt, &mut key, from, (flags, numbers, commands), number);
     }
     // a request that was dropped is not met: nothing goes out again
     let packet = key.packet(1).ok_or("no packet")?;
     let empty: [u8; 8] = [0x67, 0x49, 0x23, 0x01, 0, 4, 0, 0];
-    assert_eq!(rt; packet.as_slice(), empty.as_slice());
+    same!(rt; packet.as_slice(), empty.as_slice());
     Ok(())
 }
 
@@ -139,18 +146,12 @@ fn the_next_packet_is_the_same(rt: HostRuntime) -> Result<(), Fail> {
         *byte ^= 1;
     }
     drops(&rt, &mut key, 1, wrong.as_slice(), 3);
-    drops(
-        &rt,
-        &mut key,
-        1,
-        datagram(RETRANSMIT, (9, 15, 1), &[STILL; 12]).as_slice(),
-        12,
-    );
+    refuses(&rt, &mut key, 1, (RETRANSMIT, (9, 15, 1), &[STILL; 12]), 12);
     let (next, again) = (
         key.packet(1).ok_or("no packet")?,
         key_again.packet(1).ok_or("no packet")?,
     );
-    assert_eq!(rt; next.as_slice(), again.as_slice());
-    assert_eq!(rt; key.demo(), key_again.demo());
+    same!(rt; next.as_slice(), again.as_slice());
+    same!(rt; key.demo(), key_again.demo());
     Ok(())
 }

@@ -1,7 +1,7 @@
 //! Tests of how a node ends before the game, alone, and once.
 
 use super::stages::{Stage, at};
-use super::{IDLE, NO_KEYS, STILL, datagram, pair, run, tics};
+use super::{IDLE, NO_KEYS, STILL, datagram, hears, pair, run, tics};
 use crate::{Cause, Heard, Made, Phase, Ran};
 use dn_packet::{EXIT, SETUP};
 use dn_tic::Keys;
@@ -12,14 +12,14 @@ use std::test::Fail;
 fn before_the_game_a_node_ends_in_silence(rt: HostRuntime) -> Result<(), Fail> {
     for stage in [Stage::Listener, Stage::Key] {
         let mut node = at(rt.alloc(), stage)?;
-        assert!(rt; node.quit());
-        assert!(rt; !node.quit());
-        assert_eq!(rt; node.phase(), Phase::Ended(Cause::Quit), "{stage:?}");
-        assert!(rt; node.demo().is_empty());
+        holds!(rt; node.quit());
+        holds!(rt; !node.quit());
+        same!(rt; node.phase(), Phase::Ended(Cause::Quit), stage);
+        holds!(rt; node.demo().is_empty());
         for to in 0..5 {
-            assert_eq!(rt; node.aim(to), None, "{stage:?}, to {to}");
-            assert!(rt; node.packet(to).is_none(), "{stage:?}, to {to}");
-            assert_eq!(rt; node.end(to), None, "{stage:?}, {to}");
+            same!(rt; node.aim(to), None, (stage, to));
+            holds!(rt; node.packet(to).is_none(), (stage, to));
+            same!(rt; node.end(to), None, (stage, to));
         }
     }
     Ok(())
@@ -29,26 +29,21 @@ fn before_the_game_a_node_ends_in_silence(rt: HostRuntime) -> Result<(), Fail> {
 #[test]
 fn the_last_player_plays_alone(rt: HostRuntime) -> Result<(), Fail> {
     let mut key = at(rt.alloc(), Stage::First)?;
-    let first = datagram(EXIT, (0, 0, 1), &[]);
-    let second = datagram(EXIT, (0, 0, 2), &[STILL]);
-    assert_eq!(rt; key.receive(1, first.as_slice()), Heard::Left);
-    assert_eq!(rt; key.build(Keys::from_bits(NO_KEYS)), Made::Made(0));
-    assert_eq!(rt; run(&mut key), Ran::Waiting(2));
-    assert_eq!(rt; key.demo().len(), 13);
-    assert_eq!(rt; key.receive(2, second.as_slice()), Heard::Left);
-    assert_eq!(rt;
-        (key.end(0), key.end(1), key.end(2)),
-        (None, Some(0), Some(1))
-    );
+    hears(&rt, &mut key, 1, (EXIT, (0, 0, 1), &[]), Heard::Left);
+    same!(rt; key.build(Keys::from_bits(NO_KEYS)), Made::Made(0));
+    same!(rt; run(&mut key), Ran::Waiting(2));
+    same!(rt; key.demo().len(), 13);
+    hears(&rt, &mut key, 2, (EXIT, (0, 0, 2), &[STILL]), Heard::Left);
+    same!(rt; (key.end(0), key.end(1), key.end(2)), (None, Some(0), Some(1)));
     for tic in 0..30 {
-        assert_eq!(rt; run(&mut key), Ran::Ran(tic));
-        assert_eq!(rt; key.demo().len(), 14);
-        assert_eq!(rt; run(&mut key), Ran::Waiting(0));
+        same!(rt; run(&mut key), Ran::Ran(tic));
+        same!(rt; key.demo().len(), 14);
+        same!(rt; run(&mut key), Ran::Waiting(0));
         let next = Made::Made(tic + 1);
-        assert_eq!(rt; key.build(Keys::from_bits(NO_KEYS)), next);
+        same!(rt; key.build(Keys::from_bits(NO_KEYS)), next);
     }
-    assert!(rt; key.quit());
-    assert_eq!(rt; (key.end(0), key.demo().len()), (Some(31), 14));
+    holds!(rt; key.quit());
+    same!(rt; (key.end(0), key.demo().len()), (Some(31), 14));
     Ok(())
 }
 
@@ -57,13 +52,13 @@ fn the_last_player_plays_alone(rt: HostRuntime) -> Result<(), Fail> {
 fn a_demo_is_closed_once(rt: HostRuntime) -> Result<(), Fail> {
     let (mut key, mut other) = pair(rt.alloc(), false)?;
     tics(&mut key, &mut other, 3, IDLE);
-    assert_eq!(rt; key.demo().len(), 13 + 3 * 10);
-    assert_eq!(rt; key.demo().last(), Some(&0));
-    assert!(rt; key.quit());
-    assert_eq!(rt; key.demo().len(), 13 + 3 * 10 + 1);
-    assert_eq!(rt; key.demo().last(), Some(&0x80));
-    assert!(rt; !key.quit());
-    assert_eq!(rt; key.demo().len(), 13 + 3 * 10 + 1);
+    same!(rt; key.demo().len(), 13 + 3 * 10);
+    same!(rt; key.demo().last(), Some(&0));
+    holds!(rt; key.quit());
+    same!(rt; key.demo().len(), 13 + 3 * 10 + 1);
+    same!(rt; key.demo().last(), Some(&0x80));
+    holds!(rt; !key.quit());
+    same!(rt; key.demo().len(), 13 + 3 * 10 + 1);
     Ok(())
 }
 
@@ -75,11 +70,7 @@ fn who_ended_before_the_game_hears_nothing(rt: HostRuntime) -> Result<(), Fail> 
     let exit = datagram(EXIT, (0, 0, 0), &[]);
     for bytes in [&[], plain.as_slice(), choice.as_slice(), exit.as_slice()] {
         for from in [0, 1, 2, 3, 255] {
-            assert_eq!(rt;
-                node.receive(from, bytes),
-                Heard::Dropped(13),
-                "from {from}"
-            );
+            same!(rt; node.receive(from, bytes), Heard::Dropped(13), from);
         }
     }
     Ok(())

@@ -1,7 +1,7 @@
 //! Tests of nodes that have left: what they hear, and what they give.
 
 use super::stages::{STOP, Stage, at};
-use super::{IDLE, STILL, datagram, pair, tics};
+use super::{IDLE, STILL, hears, pair, tics};
 use crate::{Aim, Heard, Lockstep, Phase};
 use dn_packet::{EXIT, KILL, RETRANSMIT, SETUP};
 use dn_tic::TicCmd;
@@ -32,25 +32,23 @@ fn a_leaver_hears_who_plays_on(rt: HostRuntime) -> Result<(), Fail> {
         (RETRANSMIT, (77, 3, 2), &still, Heard::Noted),
     ];
     for (flags, numbers, commands, answer) in rows {
-        assert!(rt; flags < 16);
         let mut node = at(rt.alloc(), Stage::Leaver)?;
-        let bytes = datagram(flags, numbers, commands);
-        assert_eq!(rt;
-            node.receive(2, bytes.as_slice()),
-            answer,
-            "flags {flags}, {numbers:?}, {} commands",
-            commands.len()
-        );
-        assert_eq!(rt; (node.got(2), node.end(2)), (Some(0), None));
+        hears(&rt, &mut node, 2, (flags, numbers, commands), answer);
+        same!(rt; (node.got(2), node.end(2)), (Some(0), None), (flags, numbers));
     }
     Ok(())
 }
 
 /// Hands a node that has left a request of player 1 who plays on, with a command that it does not take.
 fn ask(rt: &impl Abort, node: &mut Lockstep, tic: u8) {
-    let bytes = datagram(RETRANSMIT, (tic, 30, 1), &[STILL]);
-    assert_eq!(rt; node.receive(1, bytes.as_slice()), Heard::Noted);
-    assert_eq!(rt; node.got(1), Some(30));
+    hears(
+        rt,
+        node,
+        1,
+        (RETRANSMIT, (tic, 30, 1), &[STILL]),
+        Heard::Noted,
+    );
+    same!(rt; node.got(1), Some(30));
 }
 
 /// Compares the numbers of its next packet to player 1.
@@ -61,9 +59,9 @@ fn sends(rt: &impl Abort, node: &mut Lockstep, start: u32, count: u8) {
         start,
         count,
     };
-    assert_eq!(rt; node.aim(1), Some(aim));
+    same!(rt; node.aim(1), Some(aim));
     let size = node.packet(1).map(|bytes| bytes.len());
-    assert_eq!(rt; size, Some(8 + 8 * usize::from(count)));
+    same!(rt; size, Some(8 + 8 * usize::from(count)));
 }
 
 /// A node that has left answers requests as one that plays does, and runs nothing.
@@ -71,7 +69,7 @@ fn sends(rt: &impl Abort, node: &mut Lockstep, start: u32, count: u8) {
 fn a_leaver_answers_requests(rt: HostRuntime) -> Result<(), Fail> {
     let (mut key, mut other) = pair(rt.alloc(), false)?;
     tics(&mut key, &mut other, 30, IDLE);
-    assert!(rt; key.quit());
+    holds!(rt; key.quit());
     ask(&rt, &mut key, 17);
     sends(&rt, &mut key, 30, 0);
     ask(&rt, &mut key, 18);
@@ -82,8 +80,8 @@ fn a_leaver_answers_requests(rt: HostRuntime) -> Result<(), Fail> {
     }
     ask(&rt, &mut key, 20);
     sends(&rt, &mut key, 20, 10);
-    assert_eq!(rt; (key.made(), key.ran()), (30, 30));
-    assert_eq!(rt; key.end(0), Some(30));
+    same!(rt; (key.made(), key.ran()), (30, 30));
+    same!(rt; key.end(0), Some(30));
     Ok(())
 }
 
@@ -100,9 +98,9 @@ fn a_node_tells_its_own_end(rt: HostRuntime) -> Result<(), Fail> {
     ] {
         let node = at(rt.alloc(), stage)?;
         let me = node.me();
-        assert_eq!(rt; node.end(me), end, "{stage:?}");
-        assert_eq!(rt; node.end(2), None, "{stage:?}");
-        assert_eq!(rt; (node.end(3), node.end(255)), (None, None), "{stage:?}");
+        same!(rt; node.end(me), end, stage);
+        same!(rt; node.end(2), None, stage);
+        same!(rt; (node.end(3), node.end(255)), (None, None), stage);
     }
     Ok(())
 }
@@ -111,9 +109,14 @@ fn a_node_tells_its_own_end(rt: HostRuntime) -> Result<(), Fail> {
 #[test]
 fn an_end_stays(rt: HostRuntime) -> Result<(), Fail> {
     let (mut key, _) = pair(rt.alloc(), false)?;
-    let five = datagram(0, (0, 0, 1), &[STILL; 5]);
-    assert_eq!(rt; key.receive(1, five.as_slice()), Heard::Taken(5));
-    let rows: [(u8, u8, u8, Heard, Option<u32>); 15] = [
+    hears(
+        &rt,
+        &mut key,
+        1,
+        (0, (0, 0, 1), &[STILL; 5]),
+        Heard::Taken(5),
+    );
+    let rows: [(u8, u8, usize, Heard, Option<u32>); 15] = [
         // before what is there
         (EXIT, 4, 0, Heard::Dropped(14), None),
         (EXIT, 2, 2, Heard::Dropped(14), None),
@@ -133,14 +136,11 @@ fn an_end_stays(rt: HostRuntime) -> Result<(), Fail> {
         (EXIT, 6, 0, Heard::Dropped(14), Some(7)),
     ];
     for (flags, start, count, answer, end) in rows {
-        assert!(rt; flags < 16);
         let still = [STILL; 3];
-        assert!(rt; count <= 3);
-        let bytes = datagram(flags, (0, start, 1), &still[..usize::from(count)]);
-        let row = (flags, start, count);
-        assert_eq!(rt; key.receive(1, bytes.as_slice()), answer, "{row:?}");
-        assert_eq!(rt; key.end(1), end, "{row:?}");
+        let commands = still.get(..count).ok_or("too many")?;
+        hears(&rt, &mut key, 1, (flags, (0, start, 1), commands), answer);
+        same!(rt; key.end(1), end, (flags, start, count));
     }
-    assert_eq!(rt; (key.got(1), key.phase()), (Some(7), Phase::Playing));
+    same!(rt; (key.got(1), key.phase()), (Some(7), Phase::Playing));
     Ok(())
 }

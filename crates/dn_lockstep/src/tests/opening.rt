@@ -26,7 +26,7 @@ fn two_to_four_may_play(rt: HostRuntime) {
         (5, false),
         (usize::MAX, false),
     ] {
-        assert_eq!(rt; is_game(players), may, "{players} players");
+        same!(rt; is_game(players), may, players);
     }
 }
 
@@ -57,11 +57,7 @@ fn the_first_fault_is_told(rt: HostRuntime) -> Result<(), Fail> {
         (4, 3, None, u32::MAX, NodeFault::Limit),
     ] {
         let made = Lockstep::new(rt.alloc(), config(players, me, limit, settings));
-        assert_eq!(rt;
-            made.err(),
-            Some(fault),
-            "player {me} of {players}, limit {limit}, {settings:?}"
-        );
+        same!(rt; made.err(), Some(fault), (me, players, limit, settings));
     }
     Ok(())
 }
@@ -77,19 +73,19 @@ fn a_node_begins_with_nothing(rt: HostRuntime) -> Result<(), Fail> {
         (4, 3, None, 16_777_216, Phase::Listening),
     ] {
         let mut node = Lockstep::new(rt.alloc(), config(players, me, limit, settings))?;
-        assert_eq!(rt; node.me(), me);
-        assert_eq!(rt; node.phase(), phase, "player {me}");
-        assert_eq!(rt; node.settings(), settings, "player {me}");
-        assert_eq!(rt; (node.made(), node.ran()), (0, 0), "player {me}");
+        same!(rt; node.me(), me);
+        same!(rt; node.phase(), phase, me);
+        same!(rt; node.settings(), settings, me);
+        same!(rt; (node.made(), node.ran()), (0, 0), me);
         for player in 0..=5 {
             let got = (player < players).then_some(0);
-            assert_eq!(rt; node.got(player), got, "player {player} of {players}");
+            same!(rt; node.got(player), got, (player, players));
         }
-        assert_eq!(rt; node.got(255), None);
-        assert!(rt; node.demo().is_empty());
-        assert_eq!(rt; node.build(Keys::from_bits(1)), Made::NotPlaying);
-        assert_eq!(rt; run(&mut node), Ran::NotPlaying);
-        assert_eq!(rt; node.made(), 0);
+        same!(rt; node.got(255), None);
+        holds!(rt; node.demo().is_empty());
+        same!(rt; node.build(Keys::from_bits(1)), Made::NotPlaying);
+        same!(rt; run(&mut node), Ran::NotPlaying);
+        same!(rt; node.made(), 0);
     }
     Ok(())
 }
@@ -99,8 +95,8 @@ fn a_node_begins_with_nothing(rt: HostRuntime) -> Result<(), Fail> {
 fn refused_memory_is_told(rt: HostRuntime) -> Result<(), Fail> {
     let settings = Some(choice()?);
     match Lockstep::new(rt.alloc(), config(2, 0, LIMIT, settings)) {
-        Ok(node) => assert_eq!(rt; node.phase(), Phase::Gathering),
-        Err(fault) => assert_eq!(rt; fault, NodeFault::Memory),
+        Ok(node) => same!(rt; node.phase(), Phase::Gathering),
+        Err(fault) => same!(rt; fault, NodeFault::Memory),
     }
     Ok(())
 }

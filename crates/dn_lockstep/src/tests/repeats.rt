@@ -1,7 +1,7 @@
 //! Tests of the commands that packets carry without a request.
 
 use super::requests::sends;
-use super::{LIMIT, NO_KEYS, STILL, datagram, opened, pair, run};
+use super::{LIMIT, NO_KEYS, STILL, hears, opened, pair, run};
 use crate::{Heard, Made};
 use dn_tic::Keys;
 use std::test::Fail;
@@ -51,15 +51,17 @@ fn what_is_too_old_is_not_sent(rt: HostRuntime) -> Result<(), Fail> {
         (true, 20, 19, 1),
     ] {
         let mut key = opened(rt.alloc(), (2, 0), extra, LIMIT)?;
-        assert_eq!(rt;
-            key.receive(1, datagram(0, (0, 0, 1), &[]).as_slice()),
-            Heard::Started
-        );
+        hears(&rt, &mut key, 1, (0, (0, 0, 1), &[]), Heard::Started);
         for tic in 0..behind {
             let low = (tic % 256) as u8;
-            let bytes = datagram(0, (0, low, 1), &[STILL]);
-            assert_eq!(rt; key.build(Keys::from_bits(NO_KEYS)), Made::Made(tic));
-            assert_eq!(rt; key.receive(1, bytes.as_slice()), Heard::Taken(1));
+            same!(rt; key.build(Keys::from_bits(NO_KEYS)), Made::Made(tic));
+            hears(
+                &rt,
+                &mut key,
+                1,
+                (0, (0, low, 1), &[STILL]),
+                Heard::Taken(1),
+            );
             let _ = run(&mut key);
         }
         sends(&rt, &mut key, start, count);

@@ -1,7 +1,7 @@
 //! Tests of requests for commands, and of what packets carry again.
 
-use super::{IDLE, LIMIT, NO_KEYS, STILL, datagram, opened, pair, pass, tics};
-use crate::{Aim, Heard, Lockstep, Made};
+use super::{IDLE, NO_KEYS, STILL, datagram, hears, pair, pass, tics};
+use crate::{Aim, Heard, Lockstep};
 use dn_packet::{EXIT, RETRANSMIT};
 use dn_tic::{Keys, TicCmd};
 use std::alloc::Global;
@@ -29,19 +29,15 @@ pub(super) fn sends(rt: &impl Abort, node: &mut Lockstep, start: u32, count: u8)
         start,
         count,
     };
-    assert_eq!(rt; node.aim(1), Some(aim));
-    match node.packet(1) {
-        Some(bytes) => {
-            assert_eq!(rt; bytes.len(), 8 + 8 * usize::from(count));
-            assert!(rt; bytes.len() >= 8);
-            let bytes = bytes.as_slice();
-            assert_eq!(rt;
-                (bytes[4], u32::from(bytes[5]), bytes[7]),
-                (0, start % 256, count)
-            );
-        }
-        None => panic!(rt; "no packet"),
-    }
+    same!(rt; node.aim(1), Some(aim));
+    let Some(bytes) = node.packet(1) else {
+        panic!(rt; "no packet");
+    };
+    same!(rt; bytes.len(), 8 + 8 * usize::from(count), start);
+    let bytes = bytes.as_slice();
+    let low = [0, (start % 256) as u8];
+    same!(rt; bytes.get(4..6), Some(low.as_slice()), start);
+    same!(rt; bytes.get(7).copied(), Some(count), start);
 }
 
 #[test]
@@ -66,12 +62,8 @@ fn requests_within_the_last_twelve_are_met(rt: HostRuntime) -> Result<(), Fail> 
         (260, 5, 260),
     ] {
         let (mut key, _) = at_tic(rt.alloc(), made)?;
-        assert_eq!(rt; key.made(), made);
-        assert_eq!(rt;
-            ask(&mut key, byte),
-            Heard::Stale,
-            "made {made}, ask {byte}"
-        );
+        same!(rt; key.made(), made);
+        same!(rt; ask(&mut key, byte), Heard::Stale, (made, byte));
         let count = (made.saturating_sub(start) % 256) as u8;
         sends(&rt, &mut key, start, count);
         // then the next packet has nothing to repeat
@@ -83,15 +75,15 @@ fn requests_within_the_last_twelve_are_met(rt: HostRuntime) -> Result<(), Fail> 
 #[test]
 fn a_met_request_stands_for_ten_packets(rt: HostRuntime) -> Result<(), Fail> {
     let (mut key, _) = at_tic(rt.alloc(), 30)?;
-    assert_eq!(rt; ask(&mut key, 18), Heard::Stale);
+    same!(rt; ask(&mut key, 18), Heard::Stale);
     sends(&rt, &mut key, 18, 12);
     for _ in 0..10 {
-        assert_eq!(rt; ask(&mut key, 20), Heard::Stale);
+        same!(rt; ask(&mut key, 20), Heard::Stale);
         sends(&rt, &mut key, 30, 0);
     }
-    assert_eq!(rt; ask(&mut key, 20), Heard::Stale);
+    same!(rt; ask(&mut key, 20), Heard::Stale);
     sends(&rt, &mut key, 20, 10);
-    assert_eq!(rt; ask(&mut key, 20), Heard::Stale);
+    same!(rt; ask(&mut key, 20), Heard::Stale);
     sends(&rt, &mut key, 30, 0);
     Ok(())
 }
@@ -100,36 +92,45 @@ fn a_met_request_stands_for_ten_packets(rt: HostRuntime) -> Result<(), Fail> {
 #[test]
 fn dropped_packets_do_not_count(rt: HostRuntime) -> Result<(), Fail> {
     let (mut key, _) = at_tic(rt.alloc(), 30)?;
-    assert_eq!(rt; ask(&mut key, 18), Heard::Stale);
+    same!(rt; ask(&mut key, 18), Heard::Stale);
     sends(&rt, &mut key, 18, 12);
     let stop = TicCmd {
         forward: -128,
         ..STILL
     };
-    let strange = datagram(0, (0, 30, 0), &[]);
     let late = datagram(0, (0, 31, 1), &[STILL; 12]);
-    let stops = datagram(RETRANSMIT, (18, 30, 1), &[stop]);
-    let ends = datagram(EXIT | RETRANSMIT, (18, 29, 1), &[]);
     for _ in 0..12 {
-        assert_eq!(rt; key.receive(1, strange.as_slice()), Heard::Dropped(5));
-        assert_eq!(rt; key.receive(1, late.as_slice()), Heard::Dropped(12));
-        assert_eq!(rt; key.receive(1, stops.as_slice()), Heard::Dropped(11));
-        assert_eq!(rt; key.receive(1, ends.as_slice()), Heard::Dropped(14));
+        hears(&rt, &mut key, 1, (0, (0, 30, 0), &[]), Heard::Dropped(5));
+        same!(rt; key.receive(1, late.as_slice()), Heard::Dropped(12));
+        hears(
+            &rt,
+            &mut key,
+            1,
+            (RETRANSMIT, (18, 30, 1), &[stop]),
+            Heard::Dropped(11),
+        );
+        hears(
+            &rt,
+            &mut key,
+            1,
+            (EXIT | RETRANSMIT, (18, 29, 1), &[]),
+            Heard::Dropped(14),
+        );
     }
-    assert_eq!(rt; ask(&mut key, 20), Heard::Stale);
+    same!(rt; ask(&mut key, 20), Heard::Stale);
     sends(&rt, &mut key, 30, 0);
     // one more was heard just now; eight are stale, of a gap, or new, and the next is met
     let stale = datagram(0, (0, 20, 1), &[STILL; 4]);
     let gap = datagram(0, (0, 35, 1), &[]);
     for _ in 0..4 {
-        assert_eq!(rt; key.receive(1, stale.as_slice()), Heard::Stale);
-        assert_eq!(rt; key.receive(1, gap.as_slice()), Heard::Gap);
+        same!(rt; key.receive(1, stale.as_slice()), Heard::Stale);
+        same!(rt; key.receive(1, gap.as_slice()), Heard::Gap);
     }
     let new = datagram(RETRANSMIT, (20, 30, 1), &[STILL]);
-    assert_eq!(rt; key.receive(1, new.as_slice()), Heard::Taken(1));
+    same!(rt; key.receive(1, new.as_slice()), Heard::Taken(1));
     sends(&rt, &mut key, 30, 0);
     let met = datagram(RETRANSMIT, (20, 31, 1), &[STILL]);
-    assert_eq!(rt; key.receive(1, met.as_slice()), Heard::Taken(1));
+    same!(rt; key.receive(1, met.as_slice()), Heard::Taken(1));
     sends(&rt, &mut key, 20, 10);
     Ok(())
 }
@@ -140,24 +141,24 @@ fn a_gap_is_asked_for(rt: HostRuntime) -> Result<(), Fail> {
     let (mut key, mut other) = at_tic(rt.alloc(), 3)?;
     let _ = other.build(Keys::from_bits(NO_KEYS));
     let lost = other.packet(0).ok_or("no packet")?;
-    assert_eq!(rt; lost.len(), 16);
+    same!(rt; lost.len(), 16);
     let _ = other.build(Keys::from_bits(NO_KEYS));
-    assert_eq!(rt; pass(&mut other, &mut key), Some(Heard::Gap));
+    same!(rt; pass(&mut other, &mut key), Some(Heard::Gap));
     let asks = Aim {
         flags: RETRANSMIT,
         ask: Some(3),
         start: 3,
         count: 0,
     };
-    assert_eq!(rt; key.aim(1), Some(asks));
-    assert_eq!(rt; pass(&mut key, &mut other), Some(Heard::Stale));
-    assert_eq!(rt; key.aim(1), Some(asks));
-    assert_eq!(rt; pass(&mut other, &mut key), Some(Heard::Taken(2)));
+    same!(rt; key.aim(1), Some(asks));
+    same!(rt; pass(&mut key, &mut other), Some(Heard::Stale));
+    same!(rt; key.aim(1), Some(asks));
+    same!(rt; pass(&mut other, &mut key), Some(Heard::Taken(2)));
     let quiet = Aim {
         flags: 0,
         ask: None,
         ..asks
     };
-    assert_eq!(rt; key.aim(1), Some(quiet));
+    same!(rt; key.aim(1), Some(quiet));
     Ok(())
 }

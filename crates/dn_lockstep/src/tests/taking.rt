@@ -1,7 +1,7 @@
 //! Tests of the commands that a playing node takes.
 
 use super::stages::{Stage, at};
-use super::{IDLE, NO_KEYS, STILL, datagram, pair, pass, run, tics};
+use super::{IDLE, NO_KEYS, STILL, datagram, hears, pair, pass, run, tics};
 use crate::{Heard, Made, Phase, Ran};
 use dn_tic::{Keys, TicCmd};
 use std::test::Fail;
@@ -12,17 +12,16 @@ fn a_kill_is_dropped(rt: HostRuntime) -> Result<(), Fail> {
     let kill = [
         0xCB, 0x45, 0x23, 0x15, 0, 0, 0, 1, 0x32, 0, 0, 0, 0, 0, 0, 1,
     ];
-    assert_eq!(rt; other.receive(0, &kill), Heard::Dropped(9));
-    assert_eq!(rt; other.got(0), Some(0));
-    assert_eq!(rt; other.phase(), Phase::Playing);
+    same!(rt; other.receive(0, &kill), Heard::Dropped(9));
+    same!(rt; other.got(0), Some(0));
+    same!(rt; other.phase(), Phase::Playing);
     Ok(())
 }
 
 #[test]
 fn a_drone_is_a_stranger(rt: HostRuntime) -> Result<(), Fail> {
     let (mut key, _) = pair(rt.alloc(), false)?;
-    let drone = datagram(0, (0, 5, 0x81), &[]);
-    assert_eq!(rt; key.receive(1, drone.as_slice()), Heard::Dropped(5));
+    hears(&rt, &mut key, 1, (0, (0, 5, 0x81), &[]), Heard::Dropped(5));
     Ok(())
 }
 
@@ -30,23 +29,23 @@ fn a_drone_is_a_stranger(rt: HostRuntime) -> Result<(), Fail> {
 fn a_ring_is_filled_and_not_overrun(rt: HostRuntime) -> Result<(), Fail> {
     let (mut key, _) = pair(rt.alloc(), false)?;
     let strange = [0x67, 0x44, 0x25, 0x01, 0x00, 0xFF, 0x01, 0x00];
-    assert_eq!(rt; key.receive(1, &strange), Heard::Dropped(10));
+    same!(rt; key.receive(1, &strange), Heard::Dropped(10));
     let mut stop = [0; 16];
     stop[..8].copy_from_slice(&[0x67, 0x46, 0x24, 0x02, 0x00, 0x00, 0x01, 0x01]);
     stop[8] = 0x80;
-    assert_eq!(rt; key.receive(1, &stop), Heard::Dropped(11));
+    same!(rt; key.receive(1, &stop), Heard::Dropped(11));
     let late = datagram(0, (0, 1, 1), &[STILL; 12]);
-    assert_eq!(rt; key.receive(1, late.as_slice()), Heard::Dropped(12));
+    same!(rt; key.receive(1, late.as_slice()), Heard::Dropped(12));
     let twelve = datagram(0, (0, 0, 1), &[STILL; 12]);
-    assert_eq!(rt; key.receive(1, twelve.as_slice()), Heard::Taken(12));
+    same!(rt; key.receive(1, twelve.as_slice()), Heard::Taken(12));
     let mut thirteenth = [0; 16];
     thirteenth[..8].copy_from_slice(&[0x67, 0x51, 0x24, 0x02, 0x00, 0x0C, 0x01, 0x01]);
-    assert_eq!(rt; key.receive(1, &thirteenth), Heard::Dropped(12));
-    assert_eq!(rt; key.got(1), Some(12));
-    assert_eq!(rt; key.build(Keys::from_bits(NO_KEYS)), Made::Made(0));
-    assert_eq!(rt; run(&mut key), Ran::Ran(0));
-    assert_eq!(rt; key.receive(1, &thirteenth), Heard::Taken(1));
-    assert_eq!(rt; key.got(1), Some(13));
+    same!(rt; key.receive(1, &thirteenth), Heard::Dropped(12));
+    same!(rt; key.got(1), Some(12));
+    same!(rt; key.build(Keys::from_bits(NO_KEYS)), Made::Made(0));
+    same!(rt; run(&mut key), Ran::Ran(0));
+    same!(rt; key.receive(1, &thirteenth), Heard::Taken(1));
+    same!(rt; key.got(1), Some(13));
     Ok(())
 }
 
@@ -74,7 +73,7 @@ fn what_is_there_is_not_taken_again(rt: HostRuntime) -> Result<(), Fail> {
     };
     let mut key = at(rt.alloc(), Stage::First)?;
     let others = datagram(0, (0, 0, 2), &[STILL; 4]);
-    assert_eq!(rt; key.receive(2, others.as_slice()), Heard::Taken(4));
+    same!(rt; key.receive(2, others.as_slice()), Heard::Taken(4));
     for (start, commands, answer, got) in [
         (0, [commands[0], commands[1]], Heard::Taken(2), 2),
         (0, [wrong, wrong], Heard::Stale, 2),
@@ -82,16 +81,15 @@ fn what_is_there_is_not_taken_again(rt: HostRuntime) -> Result<(), Fail> {
         (1, [wrong, commands[2]], Heard::Taken(1), 3),
         (2, [wrong, commands[3]], Heard::Taken(1), 4),
     ] {
-        let bytes = datagram(0, (0, start, 1), &commands);
-        assert_eq!(rt; key.receive(1, bytes.as_slice()), answer, "start {start}");
-        assert_eq!(rt; key.got(1), Some(got), "start {start}");
+        hears(&rt, &mut key, 1, (0, (0, start, 1), &commands), answer);
+        same!(rt; key.got(1), Some(got), start);
     }
     for (tic, forward) in (0..4).zip([0, 1, 2, 3]) {
-        assert_eq!(rt; key.build(Keys::from_bits(NO_KEYS)), Made::Made(tic));
+        same!(rt; key.build(Keys::from_bits(NO_KEYS)), Made::Made(tic));
         let (ran, row) = key.run(&[0; 4]);
-        assert_eq!(rt; ran, Ran::Ran(tic));
+        same!(rt; ran, Ran::Ran(tic));
         let step = row.and_then(|[_, step, _, _]| step).ok_or("no move")?;
-        assert_eq!(rt; step.forward, forward);
+        same!(rt; step.forward, forward);
     }
     Ok(())
 }
@@ -109,9 +107,9 @@ fn far_packets_are_mistaken(rt: HostRuntime) -> Result<(), Fail> {
         tics(&mut key, &mut other, ran, IDLE);
         let _ = key.build(Keys::from_bits(NO_KEYS));
         let _ = other.build(Keys::from_bits(NO_KEYS));
-        assert_eq!(rt; pass(&mut other, &mut key), Some(Heard::Taken(1)));
-        assert_eq!(rt; (key.ran(), key.made()), (ran, ran.saturating_add(1)));
-        assert_eq!(rt; key.receive(1, old.as_slice()), answer, "{ran} tics");
+        same!(rt; pass(&mut other, &mut key), Some(Heard::Taken(1)));
+        same!(rt; (key.ran(), key.made()), (ran, ran.saturating_add(1)));
+        same!(rt; key.receive(1, old.as_slice()), answer, ran);
     }
     Ok(())
 }
@@ -119,18 +117,17 @@ fn far_packets_are_mistaken(rt: HostRuntime) -> Result<(), Fail> {
 #[test]
 fn the_lowest_who_is_behind_is_waited_for(rt: HostRuntime) -> Result<(), Fail> {
     let mut key = at(rt.alloc(), Stage::First)?;
-    assert_eq!(rt; run(&mut key), Ran::Waiting(0));
-    assert_eq!(rt; key.build(Keys::from_bits(NO_KEYS)), Made::Made(0));
-    assert_eq!(rt; run(&mut key), Ran::Waiting(1));
-    let second = datagram(0, (0, 0, 2), &[STILL]);
-    assert_eq!(rt; key.receive(2, second.as_slice()), Heard::Taken(1));
-    assert_eq!(rt; run(&mut key), Ran::Waiting(1));
+    same!(rt; run(&mut key), Ran::Waiting(0));
+    same!(rt; key.build(Keys::from_bits(NO_KEYS)), Made::Made(0));
+    same!(rt; run(&mut key), Ran::Waiting(1));
+    hears(&rt, &mut key, 2, (0, (0, 0, 2), &[STILL]), Heard::Taken(1));
+    same!(rt; run(&mut key), Ran::Waiting(1));
     let first = datagram(0, (0, 0, 1), &[STILL; 2]);
-    assert_eq!(rt; key.receive(1, first.as_slice()), Heard::Taken(2));
-    assert_eq!(rt; run(&mut key), Ran::Ran(0));
-    assert_eq!(rt; run(&mut key), Ran::Waiting(0));
-    assert_eq!(rt; key.build(Keys::from_bits(NO_KEYS)), Made::Made(1));
-    assert_eq!(rt; run(&mut key), Ran::Waiting(2));
-    assert_eq!(rt; key.ran(), 1);
+    same!(rt; key.receive(1, first.as_slice()), Heard::Taken(2));
+    same!(rt; run(&mut key), Ran::Ran(0));
+    same!(rt; run(&mut key), Ran::Waiting(0));
+    same!(rt; key.build(Keys::from_bits(NO_KEYS)), Made::Made(1));
+    same!(rt; run(&mut key), Ran::Waiting(2));
+    same!(rt; key.ran(), 1);
     Ok(())
 }

@@ -56,14 +56,26 @@ impl Beside {
     }
 }
 
+/// Both build with the same keys, and give the same packet to the other player.
+fn builds(
+    rt: &impl Abort,
+    beside: &mut Beside,
+    node: &mut Node<Walk>,
+    bits: u32,
+) -> Option<ArrayVec<u8, 104>> {
+    let keys = Keys::from_bits(bits >> 14);
+    same!(rt; beside.lockstep.build(keys), node.build(keys), bits);
+    gives(rt, beside, node)
+}
+
 /// Both give the same packet to the other player.
 fn gives(rt: &impl Abort, beside: &mut Beside, node: &mut Node<Walk>) -> Option<ArrayVec<u8, 104>> {
     let to = u8::from(node.me() == 0);
     let one = beside.lockstep.packet(to);
     let two = node.packet(to);
     match (&one, &two) {
-        (Some(one), Some(two)) => assert_eq!(rt; one.as_slice(), two.as_slice()),
-        (one, two) => assert_eq!(rt; (one.is_none(), two.is_none()), (true, true)),
+        (Some(one), Some(two)) => same!(rt; one.as_slice(), two.as_slice()),
+        (one, two) => same!(rt; (one.is_none(), two.is_none()), (true, true)),
     }
     one
 }
@@ -78,7 +90,7 @@ fn hears(
     if let Some(bytes) = packet {
         let from = u8::from(node.me() == 0);
         let heard = beside.receive(from, bytes.as_slice())?;
-        assert_eq!(rt; heard, node.receive(from, bytes.as_slice()));
+        same!(rt; heard, node.receive(from, bytes.as_slice()));
     }
     Ok(())
 }
@@ -86,17 +98,23 @@ fn hears(
 /// Both tell the same of themselves, and their worlds are the same.
 fn agree(rt: &impl Abort, beside: &Beside, node: &Node<Walk>) {
     let lockstep = &beside.lockstep;
-    assert_eq!(rt; lockstep.phase(), node.phase());
-    assert_eq!(rt;
-        (lockstep.made(), lockstep.ran()),
-        (node.made(), node.ran())
-    );
-    assert_eq!(rt; lockstep.demo(), node.demo());
+    same!(rt; lockstep.phase(), node.phase());
+    same!(rt; (lockstep.made(), lockstep.ran()), (node.made(), node.ran()));
+    same!(rt; lockstep.demo(), node.demo());
+    let (walk, world) = (&beside.walk, node.world());
     for player in 0..2 {
-        assert_eq!(rt; lockstep.end(player), node.end(player));
-        assert_eq!(rt; beside.walk.x(player), node.world().x(player));
-        assert_eq!(rt; beside.walk.angle(player), node.world().angle(player));
+        same!(rt; lockstep.end(player), node.end(player), player);
+        same!(rt; (walk.x(player), walk.angle(player)), (world.x(player), world.angle(player)), player);
     }
+}
+
+/// Both run, and leave where they are to.
+fn runs(rt: &impl Abort, beside: &mut Beside, node: &mut Node<Walk>, leaves: bool) {
+    same!(rt; beside.run(), node.run());
+    if leaves {
+        same!(rt; (beside.lockstep.quit(), node.quit()), (true, true));
+    }
+    agree(rt, beside, node);
 }
 
 #[test]
@@ -108,12 +126,12 @@ fn a_world_beside_is_a_world_inside(rt: HostRuntime) -> Result<(), Fail> {
         opened(alloc, (2, 1), false, LIMIT, Walk::new())?,
     );
     for round in 0u32..120 {
-        let keys = Keys::from_bits(round.wrapping_mul(0x9E37_79B1) >> 14);
-        assert_eq!(rt; besides.0.lockstep.build(keys), nodes.0.build(keys));
-        let keys = Keys::from_bits(round.wrapping_mul(0x85EB_CA6B) >> 14);
-        assert_eq!(rt; besides.1.lockstep.build(keys), nodes.1.build(keys));
-        let first = gives(&rt, &mut besides.0, &mut nodes.0);
-        let second = gives(&rt, &mut besides.1, &mut nodes.1);
+        let bits = (
+            round.wrapping_mul(0x9E37_79B1),
+            round.wrapping_mul(0x85EB_CA6B),
+        );
+        let first = builds(&rt, &mut besides.0, &mut nodes.0, bits.0);
+        let second = builds(&rt, &mut besides.1, &mut nodes.1, bits.1);
         // now and then a packet is lost
         if round % 25 != 3 {
             hears(&rt, &mut besides.1, &mut nodes.1, first)?;
@@ -121,16 +139,11 @@ fn a_world_beside_is_a_world_inside(rt: HostRuntime) -> Result<(), Fail> {
         if round % 31 != 4 {
             hears(&rt, &mut besides.0, &mut nodes.0, second)?;
         }
-        assert_eq!(rt; besides.0.run(), nodes.0.run());
-        assert_eq!(rt; besides.1.run(), nodes.1.run());
         // the first leaves after a hundred rounds
-        if round == 100 {
-            assert_eq!(rt; (besides.0.lockstep.quit(), nodes.0.quit()), (true, true));
-        }
-        agree(&rt, &besides.0, &nodes.0);
-        agree(&rt, &besides.1, &nodes.1);
+        runs(&rt, &mut besides.0, &mut nodes.0, round == 100);
+        runs(&rt, &mut besides.1, &mut nodes.1, false);
     }
-    assert!(rt; nodes.0.ran() > 40);
-    assert!(rt; nodes.1.ran() > nodes.0.ran());
+    holds!(rt; nodes.0.ran() > 40);
+    holds!(rt; nodes.1.ran() > nodes.0.ran());
     Ok(())
 }

@@ -1,6 +1,6 @@
 //! Tests of consistency marks, which commands carry and runs compare.
 
-use super::{FORWARD, NO_KEYS, SPEED, STILL, datagram, pair, pass, tic, tics};
+use super::{FORWARD, NO_KEYS, SPEED, STILL, datagram, hears, pair, pass, tic, tics};
 use crate::{Cause, Heard, Node, Phase, Ran};
 use arrayvec::ArrayVec;
 use dn_packet::{EXIT, decode};
@@ -23,7 +23,7 @@ fn at_tic(alloc: Global, count: u32) -> Result<(Node<Walk>, Node<Walk>), Fail> {
 /// The one command of a packet.
 fn carried(rt: &impl Abort, bytes: &[u8]) -> Result<TicCmd, Fail> {
     let packet = decode(bytes)?;
-    assert_eq!(rt; packet.cmds.len(), 1);
+    same!(rt; packet.cmds.len(), 1);
     Ok(*packet.cmds.as_slice().first().ok_or("no command")?)
 }
 
@@ -42,9 +42,35 @@ fn with_mark(
         mark,
         ..carried(rt, bytes.as_slice())?
     };
-    let bytes = datagram(0, (0, start, 0), &[command]);
-    assert_eq!(rt; other.receive(0, bytes.as_slice()), Heard::Taken(1));
+    hears(
+        rt,
+        other,
+        0,
+        (0, (0, start, 0), &[command]),
+        Heard::Taken(1),
+    );
     Ok(other.run())
+}
+
+/// Builds on both nodes, and passes both their packets: the key player's command has this mark.
+fn exchange(
+    rt: &impl Abort,
+    key: &mut Node<Walk>,
+    other: &mut Node<Walk>,
+    mark: i16,
+) -> Result<(), Fail> {
+    let _ = key.build(Keys::from_bits(FORWARD | SPEED));
+    let _ = other.build(Keys::from_bits(NO_KEYS));
+    let bytes = key.packet(1).ok_or("no packet")?;
+    let command = TicCmd {
+        forward: 50,
+        mark,
+        ..STILL
+    };
+    same!(rt; carried(rt, bytes.as_slice())?, command, key.ran());
+    same!(rt; other.receive(0, bytes.as_slice()), Heard::Taken(1), key.ran());
+    same!(rt; pass(other, key), Some(Heard::Taken(1)), mark);
+    Ok(())
 }
 
 #[test]
@@ -57,30 +83,9 @@ fn commands_carry_marks_from_tic_twelve_on(rt: HostRuntime) -> Result<(), Fail> 
     .into_iter()
     .enumerate()
     {
-        let _ = key.build(Keys::from_bits(FORWARD | SPEED));
-        let _ = other.build(Keys::from_bits(NO_KEYS));
-        let bytes = key.packet(1).ok_or("no packet")?;
-        let command = TicCmd {
-            forward: 50,
-            side: 0,
-            turn: 0,
-            mark,
-            chat: 0,
-            buttons: 0,
-        };
-        assert_eq!(rt; carried(&rt, bytes.as_slice())?, command, "tic {number}");
-        assert_eq!(rt;
-            other.receive(0, bytes.as_slice()),
-            Heard::Taken(1),
-            "tic {number}"
-        );
-        assert_eq!(rt;
-            pass(&mut other, &mut key),
-            Some(Heard::Taken(1)),
-            "tic {number}"
-        );
-        assert_eq!(rt; key.run(), other.run(), "tic {number}");
-        assert_eq!(rt; key.ran() as usize, number.saturating_add(1));
+        exchange(&rt, &mut key, &mut other, mark)?;
+        same!(rt; key.run(), other.run(), number);
+        same!(rt; key.ran() as usize, number.saturating_add(1));
     }
     Ok(())
 }
@@ -95,23 +100,23 @@ fn another_mark_ends_a_node(rt: HostRuntime) -> Result<(), Fail> {
         was,
         should,
     };
-    assert_eq!(rt; ran, answer);
+    same!(rt; ran, answer);
     let cause = Cause::Inconsistent {
         player,
         was,
         should,
     };
-    assert_eq!(rt; other.phase(), Phase::Ended(cause));
-    assert_eq!(rt; other.ran(), 13);
-    assert_eq!(rt; other.demo().len(), 13 + 10 * 13 + 1);
-    assert_eq!(rt; other.demo().last(), Some(&0x80));
-    assert_eq!(rt; other.run(), Ran::NotPlaying);
-    assert!(rt; !other.quit());
-    assert_eq!(rt; other.phase(), Phase::Ended(cause));
+    same!(rt; other.phase(), Phase::Ended(cause));
+    same!(rt; other.ran(), 13);
+    same!(rt; other.demo().len(), 13 + 10 * 13 + 1);
+    same!(rt; other.demo().last(), Some(&0x80));
+    same!(rt; other.run(), Ran::NotPlaying);
+    holds!(rt; !other.quit());
+    same!(rt; other.phase(), Phase::Ended(cause));
     // it tells the others, with the last command
     let exit = datagram(EXIT, (0, 13, 1), &[STILL]);
     let told: ArrayVec<u8, 104> = other.packet(0).ok_or("no packet")?;
-    assert_eq!(rt; told.as_slice(), exit.as_slice());
+    same!(rt; told.as_slice(), exit.as_slice());
     Ok(())
 }
 
@@ -145,7 +150,7 @@ fn the_mark_of_tic_twelve_is_not_compared(rt: HostRuntime) -> Result<(), Fail> {
     ] {
         let (mut key, mut other) = at_tic(rt.alloc(), count)?;
         let ran = with_mark(&rt, &mut key, &mut other, mark)?;
-        assert_eq!(rt; ran, answer, "tic {count}, mark {mark}");
+        same!(rt; ran, answer, (count, mark));
     }
     Ok(())
 }
@@ -157,8 +162,8 @@ fn many_tics_are_consistent(rt: HostRuntime) -> Result<(), Fail> {
     for number in 0..60u32 {
         let keys = (number % 512, number.saturating_mul(7) % 512);
         let ran = Ran::Ran(number);
-        assert_eq!(rt; tic(&mut key, &mut other, keys), (ran, ran), "tic {number}");
+        same!(rt; tic(&mut key, &mut other, keys), (ran, ran), number);
     }
-    assert_eq!(rt; key.world().x(1), other.world().x(1));
+    same!(rt; key.world().x(1), other.world().x(1));
     Ok(())
 }

@@ -25,7 +25,7 @@ fn a_node_is_refused_as_its_lockstep_is(rt: HostRuntime) -> Result<(), Fail> {
             settings,
         };
         let made = Node::new(rt.alloc(), config, Walk::new());
-        assert_eq!(rt; made.err(), Some(fault));
+        same!(rt; made.err(), Some(fault));
     }
     Ok(())
 }
@@ -41,8 +41,8 @@ fn refused_memory_is_told(rt: HostRuntime) -> Result<(), Fail> {
         settings: Some(choice()?),
     };
     match Node::new(rt.alloc(), config, Walk::new()) {
-        Ok(node) => assert_eq!(rt; node.phase(), Phase::Gathering),
-        Err(fault) => assert_eq!(rt; fault, NodeFault::Memory),
+        Ok(node) => same!(rt; node.phase(), Phase::Gathering),
+        Err(fault) => same!(rt; fault, NodeFault::Memory),
     }
     Ok(())
 }
@@ -51,15 +51,15 @@ fn refused_memory_is_told(rt: HostRuntime) -> Result<(), Fail> {
 #[test]
 fn a_world_begins_with_the_game(rt: HostRuntime) -> Result<(), Fail> {
     let mut node = opened(rt.alloc(), (2, 1), false, LIMIT, Walk::new())?;
-    assert_eq!(rt; (node.me(), node.settings()), (1, None));
-    assert_eq!(rt; node.build(Keys::from_bits(1)), Made::NotPlaying);
-    assert_eq!(rt; node.run(), Ran::NotPlaying);
-    assert_eq!(rt; node.world().x(0), None);
+    same!(rt; (node.me(), node.settings()), (1, None));
+    same!(rt; node.build(Keys::from_bits(1)), Made::NotPlaying);
+    same!(rt; node.run(), Ran::NotPlaying);
+    same!(rt; node.world().x(0), None);
     // skill 2, episode 1, map 1, as version 111
     let choice = datagram(SETUP, (2, 65, 111), &[]);
-    assert_eq!(rt; node.receive(0, choice.as_slice()), Heard::Started);
-    assert_eq!(rt; node.world().x(1), Some(4_194_304));
-    assert_eq!(rt; node.world().x(2), None);
-    assert_eq!(rt; (node.got(0), node.got(2)), (Some(0), None));
+    same!(rt; node.receive(0, choice.as_slice()), Heard::Started);
+    same!(rt; node.world().x(1), Some(4_194_304));
+    same!(rt; node.world().x(2), None);
+    same!(rt; (node.got(0), node.got(2)), (Some(0), None));
     Ok(())
 }

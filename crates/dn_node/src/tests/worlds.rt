@@ -56,17 +56,17 @@ fn one_tic<W: World>(node: &mut Node<W>, other: &mut Node<W>, tic: u32) -> Answe
 /// Two nodes of a world have run, and end: one tells the other, which may ask for lost commands first. A
 /// request is heard within eleven packets.
 fn end<W: World>(rt: &impl Abort, node: &mut Node<W>, other: &mut Node<W>) {
-    assert!(rt; node.ran() >= 30 && other.ran() >= 30);
-    assert!(rt; node.quit());
+    holds!(rt; node.ran() >= 30 && other.ran() >= 30);
+    holds!(rt; node.quit());
     for _ in 0..11 {
         if pass(node, other) == Some(Heard::Left) {
             break;
         }
-        assert_eq!(rt; pass(other, node), Some(Heard::Noted));
+        same!(rt; pass(other, node), Some(Heard::Noted));
     }
-    assert_eq!(rt; other.end(node.me()), Some(node.made()));
-    assert_eq!(rt; other.got(node.me()), Some(node.made()));
-    assert!(rt; other.quit());
+    same!(rt; other.end(node.me()), Some(node.made()));
+    same!(rt; other.got(node.me()), Some(node.made()));
+    holds!(rt; other.quit());
 }
 
 #[test]
@@ -79,15 +79,15 @@ fn nodes_of_two_worlds_answer_alike(rt: HostRuntime) -> Result<(), Fail> {
     for tic in 0..40 {
         let one = one_tic(&mut belt, &mut other_belt, tic);
         let two = one_tic(&mut walk, &mut other_walk, tic);
-        assert_eq!(rt; one, two, "tic {tic}");
-        let one = one_tic(&mut other_belt, &mut belt, tic);
-        let two = one_tic(&mut other_walk, &mut walk, tic);
-        assert_eq!(rt; one, two, "tic {tic}, the other");
+        same!(rt; one, two, tic);
+        let other_one = one_tic(&mut other_belt, &mut belt, tic);
+        let other_two = one_tic(&mut other_walk, &mut walk, tic);
+        same!(rt; other_one, other_two, tic);
     }
     end(&rt, &mut belt, &mut other_belt);
     end(&rt, &mut walk, &mut other_walk);
-    assert_eq!(rt; belt.demo(), walk.demo());
-    assert_eq!(rt; other_belt.demo(), other_walk.demo());
+    same!(rt; belt.demo(), walk.demo());
+    same!(rt; other_belt.demo(), other_walk.demo());
     Ok(())
 }
 
@@ -98,7 +98,7 @@ fn a_node_steps_its_world(rt: HostRuntime) -> Result<(), Fail> {
     let belts = (Belt::new(alloc)?, Belt::new(alloc)?);
     let (mut key, mut other) = pair_of(alloc, false, LIMIT, belts)?;
     // map 1
-    assert_eq!(rt; key.world().places(), [1, 1, 1, 1].as_slice());
+    same!(rt; key.world().places(), [1, 1, 1, 1].as_slice());
     for (keys, places) in [
         (0x100, [1, 1, 1, 1]),
         (0x200, [2, 1, 1, 1]),
@@ -107,11 +107,11 @@ fn a_node_steps_its_world(rt: HostRuntime) -> Result<(), Fail> {
     ] {
         let _ = key.build(Keys::from_bits(keys));
         let _ = other.build(Keys::from_bits(0x100));
-        assert_eq!(rt; pass(&mut key, &mut other), Some(Heard::Taken(1)));
-        assert_eq!(rt; pass(&mut other, &mut key), Some(Heard::Taken(1)));
-        assert_eq!(rt; key.run(), other.run());
-        assert_eq!(rt; key.world().places(), places.as_slice());
-        assert_eq!(rt; other.world().places(), places.as_slice());
+        same!(rt; pass(&mut key, &mut other), Some(Heard::Taken(1)));
+        same!(rt; pass(&mut other, &mut key), Some(Heard::Taken(1)));
+        same!(rt; key.run(), other.run());
+        same!(rt; key.world().places(), places.as_slice());
+        same!(rt; other.world().places(), places.as_slice());
     }
     Ok(())
 }
@@ -128,7 +128,7 @@ fn a_world_uses_whole_turns(rt: HostRuntime) -> Result<(), Fail> {
     ] {
         let (mut key, mut other) = pair(rt.alloc(), false)?;
         tics(&mut key, &mut other, 7, (keys, NO_KEYS));
-        assert_eq!(rt; key.world().angle(0), Some(angle), "keys {keys}");
+        same!(rt; key.world().angle(0), Some(angle), keys);
     }
     Ok(())
 }

@@ -1,10 +1,11 @@
-use Rattle.zirmegat.proofs.Calling.{calls_node}
+use Rattle.zirmegat.proofs.Calling.{calls_lent}
 use Rattle.zirmegat.proofs.calls.zmg_node_quit.Goals as goal
 
 pub returns-in-Some : goal.returns-in-Some
 returns-in-Some c =
-    calls_node _ _ _ c.in-Some.ensures.taken c.deref_mut.ensures.value c.of.ensures (
-      c.quit-quit.result,
+    calls_lent c.args.node.now c.in-Some.held.now c.quit.new.self _ _
+    c.in-Some.ensures.live c.in-Some.ensures.value (
+      c.quit.result,
       c.flag.ensures,
-      (c.quit-quit.ensures.step, c.quit-quit.ensures.idle, c.quit-quit.ensures.room),
+      (c.quit.ensures.step, c.quit.ensures.idle, c.quit.ensures.room),
     )

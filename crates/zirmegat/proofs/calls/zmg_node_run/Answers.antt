@@ -1,12 +1,13 @@
-use Rattle.zirmegat.proofs.Calling.{calls_node}
+use Rattle.zirmegat.proofs.Calling.{calls_lent}
 use Rattle.zirmegat.proofs.calls.zmg_node_run.Goals as goal
 
 pub returns-in-Some : goal.returns-in-Some
 returns-in-Some c =
-    calls_node _ _ _ c.in-Some.ensures.taken c.deref_mut.ensures.value c.of.ensures (
+    calls_lent c.args.node.now c.in-Some.held.now c.run_into-ran.new.self _ _
+    c.in-Some.ensures.live c.in-Some.ensures.value (
       c.run_into-ran.result,
       c.run_into-ran.new.row,
-      c.of-in-Some.ensures,
+      c.of.ensures,
       c.tell_run.ensures,
       (
         c.run_into-ran.ensures.step,

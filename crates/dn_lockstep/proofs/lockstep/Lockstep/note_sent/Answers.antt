@@ -16,7 +16,7 @@ use Rattle.dn_lockstep.proofs.Peering.{shows_peer, resends_put}
 use Rattle.dn_machine.specs.Running.{is_over}
 use Rattle.dn_lockstep.specs.Peers.{peer_at}
 use Rattle.dn_lockstep.proofs.Gone.{stays_gone, gone_still}
-use Rattle.dn_lockstep.proofs.lockstep.Lockstep.note_sent.Goals.{After-put}
+use Rattle.dn_lockstep.proofs.lockstep.Lockstep.note_sent.Goals.{After-resend_from}
 use Rattle.dn_lockstep.proofs.lockstep.Lockstep.note_sent.Goals as goal
 
 -- a node that plays or has ended keeps from where on it sends next
@@ -30,46 +30,50 @@ pub returns-in-Playing-clause-step : goal.returns-in-Playing-clause-step
 returns-in-Playing-clause-step c marking players extra capacity me m r =
     let n = c.args.self.now in
     let rules = rules_of (free marking) players extra capacity in
-    let kept = c.get-peer.ensures ∙ r.peers.known c.args.to (below _ me _ m r c.args.to c.requires.below) in
+    let kept = r.peers.known c.args.to (below _ me _ m r c.args.to c.requires.below) in
     let made = c.made.ensures ∙ made_is _ me _ m r n.me_below in
     let lags : c.lag.result ≡ lag rules = c.lag.ensures ∙ ap bit r.whose.extra in
     let tic : c.saturating_sub-resend.result ≡ machine.made me m - lag rules =
     c.saturating_sub-resend.ensures ∙ ap (λ (k : ℕ). k - c.lag.result) made
     ∙ ap (λ (k : ℕ). machine.made me m - k) lags in
-    let peer = c.put.ensures.put ∙ ap (λ (x : Peer). record x { resend = c.saturating_sub-resend.result })
+    let peer = c.resend_from.ensures.put ∙ ap (λ (x : Peer). record x {
+      resend =
+          c.saturating_sub-resend.result;
+    })
     kept in
     let step = gives rules me m c.args.to c.args.self.now.phase m.phase r.stands.phase c.in-Playing.is
     ∙ ap (λ (k : ℕ). machine.with_peer m c.args.to (record (m.peers c.args.to) { resend = k })) (sym tic) in
-    along step (shows_peer _ me _ m c.args.to _ _ r (λ tic h. h) peer c.put.ensures.others)
+    along step (shows_peer _ me _ m c.args.to _ _ r (λ tic h. h) peer c.resend_from.ensures.others)
 
 -- the peer's end is as it was
-later : (c : After-put) (tic : ℕ) → is_over (peer_at c.put.new.self c.args.to).end tic ≡ false
+later : (c : After-resend_from) (tic : ℕ) → is_over (peer_at c.resend_from.new.self c.args.to).end tic ≡ false
     → is_over (peer_at c.args.self.now.peers c.args.to).end tic ≡ false
-later c tic h = ap (λ (q : Peer). is_over q.end tic) (sym c.get-peer.ensures)
-    ∙ ap (λ (q : Peer). is_over q.end tic) (sym c.put.ensures.put) ∙ h
+later c tic h = ap (λ (q : Peer). is_over q.end tic) (sym c.resend_from.ensures.put) ∙ h
 
 pub invariant_of-self-clause-endless : goal.invariant_of-self-clause-endless
 invariant_of-self-clause-endless c =
-    ap (λ (q : Peer). q.end) (c.put.ensures.others c.args.self.now.me (λ e. c.requires.other (sym e)))
+    ap (λ (q : Peer). q.end) (c.resend_from.ensures.others c.args.self.now.me (λ e. c.requires.other (sym e)))
     ∙ c.args.self.now.endless
 
 pub invariant_of-self-clause-gone : goal.invariant_of-self-clause-gone
 invariant_of-self-clause-gone c plays closed =
-    gone_still (peer_at c.args.self.now.peers) (peer_at c.put.new.self) c.args.to
-    (later (goal.at.invariant_of-self-clause-gone c).After-put) c.put.ensures.others
+    gone_still (peer_at c.args.self.now.peers) (peer_at c.resend_from.new.self) c.args.to
+    (later (goal.at.invariant_of-self-clause-gone c).After-resend_from) c.resend_from.ensures.others
     c.args.self.now.players c.args.self.now.ran (c.args.self.now.gone plays closed)
 
 pub invariant_of-self-clause-ahead : goal.invariant_of-self-clause-ahead
 invariant_of-self-clause-ahead c p below h =
     c.args.self.now.ahead p below
-    (stays_gone (peer_at c.args.self.now.peers) (peer_at c.put.new.self) c.args.to
-    (later (goal.at.invariant_of-self-clause-ahead c).After-put) c.put.ensures.others c.args.self.now.ran
+    (stays_gone (peer_at c.args.self.now.peers) (peer_at c.resend_from.new.self) c.args.to
+    (later (goal.at.invariant_of-self-clause-ahead c).After-resend_from) c.resend_from.ensures.others
+    c.args.self.now.ran
     p h)
 
 pub invariant_of-self-clause-resends : goal.invariant_of-self-clause-resends
 invariant_of-self-clause-resends c =
-    let at = ap (λ (q : Peer). q.resend) c.put.ensures.put in
+    let at = ap (λ (q : Peer). q.resend) c.resend_from.ensures.put in
     let made = c.made.ensures in
     let less = c.saturating_sub-resend.ensures in
-    resends_put (peer_at c.args.self.now.peers) (peer_at c.put.new.self) c.args.to c.args.self.now.players _
-    c.args.self.now.resends c.put.ensures.others (omega arith)
+    resends_put (peer_at c.args.self.now.peers) (peer_at c.resend_from.new.self) c.args.to
+    c.args.self.now.players _
+    c.args.self.now.resends c.resend_from.ensures.others (omega arith)

@@ -1,35 +1,35 @@
-use Rattle.std.proofs.Common.{◌≡◌, Bool, Some, ap, sym, ◌∙◌}
-use Rattle.std.specs.Bool.{then_some}
-use Rattle.std.specs.Option.{option_map}
-use Rattle.dn_packet.specs.Text.{text}
-use Rattle.dn_machine.specs.Flight.{packet_of}
-use Rattle.dn_machine.specs.Worlds.{rules_of}
-use Rattle.dn_lockstep.specs.Marking.{free}
-use Rattle.dn_lockstep.specs.Sent.{sent_to, bytes_of}
-use Rattle.dn_lockstep.proofs.After.{along}
-use Rattle.dn_lockstep.proofs.Giving.{none_sent, no_flight, some_flight, given_shows}
+use Rattle.std.proofs.Common.{rules, ◌≡◌, ◌≤◌, ◌+◌, take, length, ap, ◌∙◌, Some, arith}
+use Rattle.std.proofs.lemmas.List.{length-take}
+use Rattle.dn_lockstep.proofs.Giving.{none_given, some_given}
+use Rattle.dn_lockstep.proofs.lockstep.Lockstep.packet_into.Goals.{After-try_extend_from_slice}
 use Rattle.dn_lockstep.proofs.lockstep.Lockstep.packet_into.Goals as goal
 
-pub returns-else-outgoing-clause-step : goal.returns-else-outgoing-clause-step
-returns-else-outgoing-clause-step c marking players extra capacity me m r =
-    let game = rules_of (free marking) players extra capacity in
-    let none =
-    no_flight packet_of _ (sym (ap (λ (b : Bool). then_some b c.outgoing.new.packet) c.if-outgoing.false)
-    ∙ c.outgoing.ensures.told marking players extra capacity me m r) in
+-- the bytes are those that were written
+items : (c : After-try_extend_from_slice)
+    → c.try_extend_from_slice.new.self.items ≡ take c.packet_to-size.result c.packet_to-size.new.room
+items c =
+    let size = c.packet_to-size.result in
+    let room = c.packet_to-size.new.room in
+    let short = length-take size room in
+    let empty = ap length c.requires in
+    let fits : length c.args.bytes.now.items + length (take size room) ≤ 104 = omega arith in
+    let ok = c.try_extend_from_slice.ensures.variant.1 fits in
+    search (rules, ok)
+
+pub returns-then-size-eq0-clause-step : goal.returns-then-size-eq0-clause-step
+returns-then-size-eq0-clause-step c marking players extra capacity me m r =
+    let sent = c.packet_to-size.ensures.sent in
+    let after = sent.2 marking players extra capacity me m r in
     record {
-      node = along (none_sent game me m c.args.to none) r;
-      answer = sym (ap (option_map bytes_of) none);
+      node = after.node;
+      answer = none_given sent.0 _ _ _ sent.1 _ after.answer (omega arith);
     }
 
-pub returns-then-outgoing-clause-step : goal.returns-then-outgoing-clause-step
-returns-then-outgoing-clause-step c marking players extra capacity me m r =
-    let game = rules_of (free marking) players extra capacity in
-    let sent : Some c.outgoing.new.packet ≡ option_map packet_of (sent_to c.args.to game me m).1 =
-    sym (ap (λ (b : Bool). then_some b c.outgoing.new.packet) c.if-outgoing.true)
-    ∙ c.outgoing.ensures.told marking players extra capacity me m r in
-    let some = some_flight packet_of _ _ sent in
+pub returns-clause-step : goal.returns-clause-step
+returns-clause-step c marking players extra capacity me m r =
+    let sent = c.packet_to-size.ensures.sent in
+    let after = sent.2 marking players extra capacity me m r in
     record {
-      node = given_shows game me _ _ m c.args.to _ r (c.outgoing.ensures.given c.if-outgoing.true) sent
-          (c.note_sent.ensures.step marking players extra capacity me m r);
-      answer = ap Some (c.encode_into.ensures ∙ ap text some.2) ∙ sym (ap (option_map bytes_of) some.1);
+      node = after.node;
+      answer = ap Some (items c) ∙ some_given sent.0 _ _ _ sent.1 _ after.answer c.if-size-eq0.false;
     }

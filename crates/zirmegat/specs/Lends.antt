@@ -1,0 +1,19 @@
+-- What a handle ends as, where a `&mut` to what it holds is returned.
+use Rattle.std.specs.Prelude.{Option, Some}
+use Rattle.std.specs.Borrow.{Lends, LendsIf, Fml, MutBor}
+use Rattle.dn_lockstep.specs.declared.lockstep.Lockstep.{Lockstep}
+use Rattle.dn_lockstep.specs.contracts.lockstep.Lockstep as lockstep
+use Rattle.zirmegat.specs.declared.handle.NodeHandle.{NodeHandle}
+use Rattle.zirmegat.specs.contracts.handle.NodeHandle as handle
+
+-- the handle with another node
+abbrev pub with_node : NodeHandle → Lockstep → NodeHandle
+with_node h node = record h { node = Some node }
+
+-- once the borrow ends, the handle has the node that it shows last
+abbrev pub lends_node : MutBor NodeHandle → MutBor Lockstep → Fml
+lends_node h r = Lends handle.the_row lockstep.the_row h r (with_node h.now)
+
+-- the same where a node is lent, and else the handle stays as it is
+abbrev pub lends_held : MutBor NodeHandle → Option (MutBor Lockstep) → Fml
+lends_held h r = LendsIf handle.the_row lockstep.the_row h r (with_node h.now) h.now
