@@ -25,6 +25,3 @@ pub use limits::{capacity, is_limit};
 pub use playing::play;
 pub use recorder::{Recorder, RecorderFault};
 pub use upgrading::{UpgradeFault, upgrade};
-
-#[cfg(test)]
-mod tests;

@@ -134,10 +134,6 @@ module _ {S : Type 0} (rules : Rules S) (me : ℕ) (m : machine.Node) (from : �
       (on_commands me m (flight_in from me (made me m) packet start))
   player_takes start is = ap (on_start Playing) is ∙ takes_by start (has_flag packet flag.exit) refl
 
-  pub player_odd : (number : ℕ) → start_in (made me m) packet ≡ Err number
-      → ◌≡◌ {A = machine.Node × Heard} (on_player rules me m from packet Playing) (m, Heard.Dropped number)
-  player_odd number is = ap (on_start Playing) is
-
   -- a node that has played and ended hears the requests of those who play on
   module _ (cause : Cause) (has : m.played ≡ true) where
     pub left_leaves : has_flag packet flag.exit ≡ true
@@ -148,11 +144,6 @@ module _ {S : Type 0} (rules : Rules S) (me : ℕ) (m : machine.Node) (from : �
         ∙ ap (λ (b : Bool). on_ended b me m (flight_in from me (made me m) packet 0) Exit) has
 
     module _ (e : has_flag packet flag.exit ≡ false) where
-      pub left_odd : (number : ℕ) → start_in (made me m) packet ≡ Err number
-          → ◌≡◌ {A = machine.Node × Heard} (on_player rules me m from packet (Ended cause))
-          (m, Heard.Dropped number)
-      left_odd number is = counted (Ended cause) Play (flagged false e) refl ∙ ap (on_start (Ended cause)) is
-
       pub left_asked : (start : ℕ) → start_in (made me m) packet ≡ Ok start
           → ◌≡◌ {A = machine.Node × Heard} (on_player rules me m from packet (Ended cause)) (
             with_peer m from (after_request (made me m) (m.peers from) (request_in (made me m) packet)),

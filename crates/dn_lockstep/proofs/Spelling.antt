@@ -19,13 +19,19 @@ use Rattle.dn_lockstep.specs.Rings.{is_stop}
 use Rattle.dn_lockstep.specs.Contents.{Contents}
 use Rattle.dn_lockstep.specs.Represents.{Represents}
 use Rattle.dn_lockstep.specs.Sent.{sent_to, aim_of}
-use Rattle.dn_lockstep.specs.Giving.{IsOwn, Gives, Reaches, packet_of_aim}
+use Rattle.dn_lockstep.specs.Giving.{Gives, Reaches, packet_of_aim}
 use Rattle.dn_lockstep.specs.Near.{IsFair, IsFairKind}
 use Rattle.dn_ring.specs.Ring.{Ring, ring_of, since}
 use Rattle.dn_ring.proofs.Keeping.{since-ring_of}
 use Rattle.dn_lockstep.specs.Rings.{count_of}
 use Rattle.dn_lockstep.proofs.Counting.{below}
 use Rattle.dn_lockstep.proofs.Sending.{sends_in}
+
+-- the own commands from a start on
+pub record IsOwn (m : machine.Node) (me : ℕ) (flight : Flight) : Type 0 where
+  pub from : flight.from ≡ me
+  pub kind : (flight.kind ≡ Play) ⊎ (flight.kind ≡ Exit)
+  pub commands : flight.commands ≡ drop flight.start (m.held me)
 
 -- only a gathering node sends anything but its own commands
 module _ {S : Type 0} (rules : Rules S) (me : ℕ) (m : machine.Node) (to : ℕ) where

@@ -19,7 +19,7 @@ use Rattle.dn_machine.proofs.Peers.{asked_end}
 use Rattle.dn_lockstep.specs.Contents.{Contents}
 use Rattle.dn_lockstep.specs.Reading.{has_flag, start_in, request_in, flight_in}
 use Rattle.dn_lockstep.specs.Received.{on_player}
-use Rattle.dn_lockstep.proofs.Flags.{player_takes, player_odd, left_leaves, left_odd, left_asked}
+use Rattle.dn_lockstep.proofs.Flags.{player_takes, left_asked}
 use Rattle.dn_machine.specs.declared.answers.Cause.{Cause}
 use Rattle.dn_machine.specs.declared.answers.Phase.TheVariants.{Playing, Ended}
 use Rattle.dn_lockstep.specs.Represents.{Represents}
@@ -125,31 +125,10 @@ module _ {S : Type 0} (rules : Rules S) (me : ℕ) (n : Contents) (m : machine.N
     same_made : made ≡ machine.made me m
     same_made = count ∙ made_is rules me n m r own
 
-    -- a packet whose numbers are no commands'
-    pub odd_numbers : (number : ℕ) → start_in made packet ≡ Err number
-        → IsAfter rules me n (on_player rules me m from packet Playing)
-        (λ heard. Heard.Dropped number ≡ heard)
-    odd_numbers number is = after m (Heard.Dropped number)
-        (player_odd rules me m from packet number (ap (λ (k : ℕ). start_in k packet) (sym same_made) ∙ is)) r
-        refl
-
     -- at a node that has played and ended
     module _ (cause : Cause) (played : n.played ≡ true) where
       has : m.played ≡ true
       has = sym r.stands.played ∙ played
-
-      pub leaver_leaves : has_flag packet flag.exit ≡ true
-          → IsAfter rules me n (on_player rules me m from packet (Ended cause))
-          (λ heard. Heard.Dropped drops.not_playing ≡ heard)
-      leaver_leaves e = after m (Heard.Dropped drops.not_playing)
-          (left_leaves rules me m from packet cause has e) r refl
-
-      pub leaver_odd : (number : ℕ) → has_flag packet flag.exit ≡ false → start_in made packet ≡ Err number
-          → IsAfter rules me n (on_player rules me m from packet (Ended cause))
-          (λ heard. Heard.Dropped number ≡ heard)
-      leaver_odd number e is = after m (Heard.Dropped number)
-          (left_odd rules me m from packet cause has e number
-          (ap (λ (k : ℕ). start_in k packet) (sym same_made) ∙ is)) r refl
 
       pub leaver_asked : (start : ℕ) (peers : ℕ → Peer) → has_flag packet flag.exit ≡ false
           → start_in made packet ≡ Ok start → from < n.players

@@ -1,12 +1,12 @@
 -- What a node must know to give a packet.
-use Rattle.std.specs.Prelude.{◌≡◌, ◌≢◌, ◌<◌, ◌≤◌, ◌⊎◌, ℕ, ◌+◌, ◌%◌, ◌==◌, nat_lt, drop, Bool, true, false, not, ◌&&◌, List, Option}
+use Rattle.std.specs.Prelude.{◌≡◌, ◌≢◌, ◌<◌, ◌≤◌, ℕ, ◌+◌, ◌%◌, ◌==◌, nat_lt, Bool, true, false, not, ◌&&◌, List, Option}
 use Rattle.std.specs.Option.{option_map}
 use Rattle.dn_ring.specs.Ring.{since}
 use Rattle.dn_packet.specs.declared.packet.Packet.{Packet}
 use Rattle.dn_packet.specs.Written.{IsGiven}
 use Rattle.dn_machine.specs.declared.answers.Phase.{Phase}
 use Rattle.dn_machine.specs.declared.answers.Phase.TheVariants.{Listening, Gathering, Playing, Ended}
-use Rattle.dn_machine.specs.Flight.{Play, Exit, Flight, request_byte}
+use Rattle.dn_machine.specs.Flight.{request_byte}
 use Rattle.dn_machine.specs.Node as machine
 use Rattle.dn_lockstep.specs.declared.lockstep.aiming.Aim.{Aim}
 use Rattle.dn_lockstep.specs.Contents.{Contents}
@@ -30,12 +30,6 @@ packet_of_aim n aim =
       player = n.me;
       cmds = record { items = since (n.rings n.me) aim.start };
     }
-
--- the own commands from a start on
-pub record IsOwn (m : machine.Node) (me : ℕ) (flight : Flight) : Type 0 where
-  pub from : flight.from ≡ me
-  pub kind : (flight.kind ≡ Play) ⊎ (flight.kind ≡ Exit)
-  pub commands : flight.commands ≡ drop flight.start (m.held me)
 
 -- who can be given a packet: another player
 pub record Gives (n : Contents) (to : ℕ) : Type 0 where

@@ -24,6 +24,3 @@ pub use laws::{ended_demos_are_read, locksteps_agree};
 pub use lockstep::Lockstep;
 pub use lockstep::aiming::Aim;
 pub use lockstep::opening::is_game;
-
-#[cfg(test)]
-mod tests;

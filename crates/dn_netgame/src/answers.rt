@@ -121,11 +121,8 @@ fn refused_text(refusal: Refusal) -> &'static str
     }
 }
 
-/// What is answered to an event, in words.
-pub(crate) fn push_answer(
-    text: &mut String,
-    answer: Result<Done, Refusal>,
-) -> Result<(), AllocError>
+/// Appends what is answered to an event, in the words of a trace. Err where memory is refused.
+pub fn push_answer(text: &mut String, answer: Result<Done, Refusal>) -> Result<(), AllocError>
     ensures { OnOk result (string_bytes text.new ≡ string_bytes text.old ++ answer_words answer) }
 {
     match answer {

@@ -1,0 +1,226 @@
+//! Tests of read demos and their playing.
+
+use super::{BEGUN, PLACES, PLAYED, Place, RECORDED, START, moved, stand};
+use dn_demo::{Demo, DemoFault, play};
+use dn_setup::Start;
+use dn_world::Walk;
+use std::alloc::Global;
+use std::process::Abort;
+use std::test::Fail;
+
+/// The bytes are a demo of so many tics, with so many bytes cut and after, and play to these places.
+fn reads_as(
+    rt: &impl Abort,
+    alloc: Global,
+    bytes: &[u8],
+    (tics, cut, after): (usize, usize, usize),
+    places: [Place; 2],
+) -> Result<(), Fail> {
+    let demo = Demo::read(alloc, bytes)?;
+    same!(rt; (demo.tics(), demo.cut(), demo.after()), (tics, cut, after));
+    let kept = Demo::from_vec(Vec::from_slice(alloc, bytes)?)?;
+    same!(rt; (kept.row(1), kept.after()), (demo.row(1), after));
+    let mut walk = Walk::new();
+    same!(rt; play(&demo, &mut walk), tics);
+    stand(rt, &walk, places);
+    Ok(())
+}
+
+#[test]
+fn demos_are_read_and_played(rt: HostRuntime) -> Result<(), Fail> {
+    let mut more = [7; 33];
+    more[..30].copy_from_slice(&PLAYED);
+    let mut cut = [0; 34];
+    cut[..29].copy_from_slice(&PLAYED[..29]);
+    cut[29..].copy_from_slice(&[0x32, 0, 0, 0, 0x80]);
+    let mut none = [0x80; 14];
+    none[..13].copy_from_slice(&PLAYED[..13]);
+    for (bytes, counts, places) in [
+        (PLAYED.as_slice(), (2, 0, 0), PLACES),
+        (RECORDED.as_slice(), (2, 0, 0), PLACES),
+        (more.as_slice(), (2, 0, 3), PLACES),
+        (cut.as_slice(), (2, 1, 0), PLACES),
+        (none.as_slice(), (0, 0, 0), BEGUN),
+    ] {
+        reads_as(&rt, rt.alloc(), bytes, counts, places)?;
+    }
+    Ok(())
+}
+
+#[test]
+fn headers_and_rows_are_told(rt: HostRuntime) -> Result<(), Fail> {
+    let first = [moved(50, 0, 0, 0), moved(0, 0, 256, 0), None, None];
+    let second = [moved(-50, 0, 0, 1), moved(25, 24, 16_384, 0), None, None];
+    for (bytes, version) in [(PLAYED.as_slice(), 109), (RECORDED.as_slice(), 111)] {
+        let demo = Demo::read(rt.alloc(), bytes)?;
+        same!(rt; (demo.version(), demo.view()), (version, 1));
+        same!(rt; demo.start(), START, version);
+        same!(rt; demo.present(), [true, true, false, false], version);
+        for (tic, row) in [
+            (0, Some(first)),
+            (1, Some(second)),
+            (2, None),
+            (usize::MAX, None),
+        ] {
+            same!(rt; demo.row(tic), row, (tic, version));
+        }
+    }
+    Ok(())
+}
+
+#[test]
+fn odd_bytes_are_kept(rt: HostRuntime) -> Result<(), Fail> {
+    let bytes = [
+        109, 200, 4, 0, 255, 2, 1, 9, 77, 2, 0, 255, 0, 1, 0x80, 0x80, 255, 127, 2, 0xFF, 0x80,
+        0x80,
+    ];
+    let demo = Demo::read(rt.alloc(), &bytes)?;
+    let start = Start {
+        skill: 200,
+        episode: 4,
+        map: 0,
+        deathmatch: 255,
+        respawn: 2,
+        fast: 1,
+        no_monsters: 9,
+    };
+    same!(rt; demo.start(), start);
+    same!(rt; demo.view(), 77);
+    same!(rt; demo.present(), [true, false, true, false]);
+    let row = [
+        moved(1, -128, -32_768, 255),
+        None,
+        moved(127, 2, -256, 128),
+        None,
+    ];
+    same!(rt; demo.row(0), Some(row));
+    same!(rt; demo.tics(), 1);
+    Ok(())
+}
+
+#[test]
+fn only_a_first_byte_ends_a_demo(rt: HostRuntime) -> Result<(), Fail> {
+    // One player: the place of the marker, how many bytes there are, and what is read.
+    for (place, len, tics, after) in [
+        (14, 18, 1, 0),
+        (15, 18, 1, 0),
+        (16, 18, 1, 0),
+        (14, 24, 1, 6),
+        (13, 18, 0, 4),
+        (13, 15, 0, 1),
+    ] {
+        let mut bytes = [0; 24];
+        bytes[0] = 109;
+        bytes[9] = 1;
+        bytes[place] = 0x80;
+        bytes[17] = 0x80;
+        let demo = Demo::read(rt.alloc(), &bytes[..len])?;
+        same!(rt; demo.tics(), tics, place);
+        same!(rt; demo.cut(), 0);
+        same!(rt; demo.after(), after, place);
+    }
+    Ok(())
+}
+
+#[test]
+fn commands_of_version_111_have_five_bytes(rt: HostRuntime) -> Result<(), Fail> {
+    for (place, len, tics, after) in [
+        (14, 19, 1, 0),
+        (16, 19, 1, 0),
+        (17, 19, 1, 0),
+        (13, 19, 0, 5),
+        (23, 24, 1, 5),
+    ] {
+        let mut bytes = [0; 24];
+        bytes[0] = 111;
+        bytes[9] = 1;
+        bytes[place] = 0x80;
+        bytes[18] = 0x80;
+        let demo = Demo::read(rt.alloc(), &bytes[..len])?;
+        same!(rt; demo.tics(), tics, place);
+        same!(rt; demo.after(), after, place);
+    }
+    Ok(())
+}
+
+/// A demo of four commands, of the bytes 1 to 16, with these in-game flags.
+fn four_commands(flags: [u8; 4]) -> [u8; 30] {
+    let mut bytes = [
+        109, 3, 1, 7, 1, 0, 0, 1, 1, 0, 0, 0, 0, 1, 2, 3, 4, 5, 6, 7, 8, 9, 10, 11, 12, 13, 14, 15,
+        16, 0x80,
+    ];
+    bytes[9..13].copy_from_slice(&flags);
+    bytes
+}
+
+#[test]
+fn absent_players_have_no_command(rt: HostRuntime) -> Result<(), Fail> {
+    let a = moved(1, 2, 768, 4);
+    let b = moved(5, 6, 1_792, 8);
+    let c = moved(9, 10, 2_816, 12);
+    for (flags, tics, cut, row) in [
+        ([1, 0, 0, 0], 4, 0, [a, None, None, None]),
+        ([0, 0, 0, 1], 4, 0, [None, None, None, a]),
+        ([1, 0, 1, 0], 2, 0, [a, None, b, None]),
+        ([0, 1, 1, 1], 1, 1, [None, a, b, c]),
+    ] {
+        let bytes = four_commands(flags);
+        let demo = Demo::read(rt.alloc(), &bytes)?;
+        same!(rt; demo.tics(), tics, flags);
+        same!(rt; demo.cut(), cut, flags);
+        same!(rt; demo.row(0), Some(row), flags);
+    }
+    Ok(())
+}
+
+#[test]
+fn bytes_are_refused_in_order(rt: HostRuntime) -> Result<(), Fail> {
+    let mut other = PLAYED;
+    other[0] = 110;
+    let mut later = PLAYED;
+    later[0] = 112;
+    let mut earlier = PLAYED;
+    earlier[0] = 108;
+    let mut nobody = PLAYED;
+    nobody[9] = 0;
+    nobody[10] = 0;
+    let mut neither = nobody;
+    neither[0] = 0;
+    for (bytes, fault) in [
+        (&neither[..0], DemoFault::Short),
+        (&neither[..12], DemoFault::Short),
+        (&PLAYED[..12], DemoFault::Short),
+        (&neither[..13], DemoFault::Version),
+        (neither.as_slice(), DemoFault::Version),
+        (other.as_slice(), DemoFault::Version),
+        (later.as_slice(), DemoFault::Version),
+        (earlier.as_slice(), DemoFault::Version),
+        (&nobody[..13], DemoFault::NoPlayers),
+        (nobody.as_slice(), DemoFault::NoPlayers),
+        (&PLAYED[..13], DemoFault::NoMarker),
+        (&PLAYED[..29], DemoFault::NoMarker),
+        (&RECORDED[..12], DemoFault::Short),
+        (&RECORDED[..33], DemoFault::NoMarker),
+    ] {
+        let read = Demo::read(rt.alloc(), bytes);
+        same!(rt; read.err(), Some(fault), bytes);
+        let kept = Demo::from_vec(Vec::from_slice(rt.alloc(), bytes)?);
+        same!(rt; kept.err(), Some(fault), bytes);
+    }
+    Ok(())
+}
+
+#[test]
+fn fronts_of_a_demo_are_none(rt: HostRuntime) {
+    for demo in [PLAYED.as_slice(), RECORDED.as_slice()] {
+        for len in 0..demo.len() {
+            let fault = if len < 13 {
+                DemoFault::Short
+            } else {
+                DemoFault::NoMarker
+            };
+            let read = Demo::read(rt.alloc(), &demo[..len]);
+            same!(rt; read.err(), Some(fault), len);
+        }
+    }
+}

@@ -1,0 +1,82 @@
+//! Tests of rows that a feed tells as they end.
+
+ghost use Rattle.std.specs.Prelude.{◌<◌};
+
+use super::{PLAYED, RECORDED, moved};
+use dn_demo::Feed;
+use dn_tic::Move;
+use dn_world::Walk;
+use std::process::Abort;
+
+/// The rows of both demos.
+fn rows() -> [[Option<Move>; 4]; 2] {
+    [
+        [moved(50, 0, 0, 0), moved(0, 0, 256, 0), None, None],
+        [moved(-50, 0, 0, 1), moved(25, 24, 16_384, 0), None, None],
+    ]
+}
+
+/// Feeds a piece of a small demo whose tics end behind `ends` bytes: the rows that end in it are told one
+/// after the other, each at its end.
+fn tells(rt: &impl Abort, feed: &mut Feed<Walk>, piece: &[u8], ends: [u64; 2]) {
+    let mut rest = piece;
+    while !rest.is_empty() && rest.len() <= 1_000 && feed.taken() <= 1_000 {
+        let tic = feed.tics();
+        let (row, behind) = feed.next_row(rest);
+        rest = behind;
+        if row.is_some() {
+            same!(rt; row, rows().get(tic as usize).copied());
+            same!(rt; Some(feed.taken()), ends.get(tic as usize).copied());
+            same!(rt; feed.tics().checked_sub(1), Some(tic));
+        } else {
+            same!(rt; rest.len(), 0);
+            same!(rt; feed.tics(), tic);
+        }
+    }
+}
+
+/// In pieces of one to forty bytes; behind the marker no row is told.
+#[test]
+fn rows_are_told_as_they_end(rt: HostRuntime) {
+    for (demo, ends) in [
+        (PLAYED.as_slice(), [21, 29]),
+        (RECORDED.as_slice(), [23, 33]),
+    ] {
+        for length in 1..41_usize {
+            let mut feed = Feed::new(Walk::new());
+            for piece in demo.chunks(length) {
+                tells(&rt, &mut feed, piece, ends);
+            }
+            same!(rt; feed.tics(), 2);
+            tells(&rt, &mut feed, &[7; 40], ends);
+            let end = feed.end().ok();
+            same!(rt; end.map(|fed| (fed.tics, fed.cut, fed.after)), Some((2, 0, 40)));
+        }
+    }
+}
+
+#[test]
+fn no_bytes_end_no_row(rt: HostRuntime) {
+    let mut feed = Feed::new(Walk::new());
+    let (row, rest) = feed.next_row(&[]);
+    same!(rt; (row, rest.len(), feed.taken()), (None, 0, 0));
+    let (row, rest) = feed.next_row(&PLAYED[..20]);
+    same!(rt; (row, rest.len(), feed.tics()), (None, 0, 0));
+}
+
+/// A cut row is not told, nor are bytes behind a header that is refused.
+#[test]
+fn what_is_no_row_is_not_told(rt: HostRuntime) {
+    let mut other = PLAYED;
+    other[0] = 110;
+    let mut nobody = PLAYED;
+    nobody[9..13].copy_from_slice(&[0; 4]);
+    let mut cut = PLAYED;
+    cut[17] = 0x80;
+    for bytes in [other, nobody, cut] {
+        let mut feed = Feed::new(Walk::new());
+        let (row, rest) = feed.next_row(&bytes);
+        same!(rt; (row, rest.len()), (None, 0));
+        same!(rt; (feed.tics(), feed.taken()), (0, 30));
+    }
+}

@@ -1,0 +1,67 @@
+//! Tests of demos that are upgraded.
+
+use super::{PLAYED, RECORDED, place};
+use dn_demo::{Demo, UpgradeFault, play, upgrade};
+use dn_world::Walk;
+use std::test::Fail;
+
+#[test]
+fn demos_of_both_versions_are_upgraded(rt: HostRuntime) -> Result<(), Fail> {
+    // what is cut, and what follows the marker, is left out
+    let mut longer = [7; 37];
+    longer[..29].copy_from_slice(&PLAYED[..29]);
+    longer[29..34].copy_from_slice(&[0x32, 0, 0, 0, 0x80]);
+    for bytes in [PLAYED.as_slice(), longer.as_slice(), RECORDED.as_slice()] {
+        let demo = Demo::read(rt.alloc(), bytes)?;
+        let recorder = upgrade(rt.alloc(), &demo, 1_024)?;
+        same!(rt; recorder.bytes(), RECORDED.as_slice());
+        let again = Demo::read(rt.alloc(), recorder.bytes())?;
+        same!(rt; again.version(), 111);
+        let (mut before, mut after) = (Walk::new(), Walk::new());
+        same!(rt; play(&demo, &mut before), play(&again, &mut after));
+        for player in 0..4 {
+            same!(rt; place(&after, player), place(&before, player), player);
+        }
+    }
+    Ok(())
+}
+
+#[test]
+fn flags_of_players_are_written_as_one(rt: HostRuntime) -> Result<(), Fail> {
+    let bytes = [
+        109, 200, 4, 0, 255, 2, 1, 9, 77, 2, 0, 255, 0, 1, 0x80, 0x80, 255, 127, 2, 0xFF, 0x80,
+        0x80,
+    ];
+    let upgraded = [
+        111, 200, 4, 0, 255, 2, 1, 9, 77, 1, 0, 1, 0, 1, 0x80, 0, 0x80, 255, 127, 2, 0, 0xFF, 0x80,
+        0x80,
+    ];
+    let demo = Demo::read(rt.alloc(), &bytes)?;
+    let recorder = upgrade(rt.alloc(), &demo, 1_024)?;
+    same!(rt; recorder.bytes(), upgraded.as_slice());
+    Ok(())
+}
+
+#[test]
+fn upgrades_are_refused_in_order(rt: HostRuntime) -> Result<(), Fail> {
+    // two players who stand still for 102 tics: 1,034 bytes as they are recorded here
+    let mut bytes = [0; 830];
+    bytes[0] = 109;
+    bytes[9] = 1;
+    bytes[10] = 1;
+    bytes[829] = 0x80;
+    let demo = Demo::read(rt.alloc(), &bytes)?;
+    same!(rt; demo.tics(), 102);
+    for (limit, fault) in [
+        (0, Some(UpgradeFault::Limit)),
+        (1_023, Some(UpgradeFault::Limit)),
+        (16_777_217, Some(UpgradeFault::Limit)),
+        (1_024, Some(UpgradeFault::Full)),
+        (1_033, Some(UpgradeFault::Full)),
+        (1_034, None),
+    ] {
+        let upgraded = upgrade(rt.alloc(), &demo, limit);
+        same!(rt; upgraded.err(), fault, limit);
+    }
+    Ok(())
+}

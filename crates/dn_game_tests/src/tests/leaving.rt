@@ -1,0 +1,140 @@
+//! Tests of games that players leave while the others play on.
+
+use super::agreeing::events;
+use super::opened;
+use super::told::places;
+use dn_game::{Event, Game, Refusal, Schedule};
+use dn_machine::{Cause, Phase};
+use dn_node::Node;
+use dn_world::Walk;
+use std::alloc::Global;
+use std::process::Abort;
+use std::test::Fail;
+
+/// The commands of a demo of `players` players: what stands behind the header, without the marker.
+fn commands(demo: &[u8], players: u32) -> &[u8] {
+    let rest = match demo.get(13..) {
+        Some(rest) => rest,
+        None => &[],
+    };
+    let row = 5 * players.max(1) as usize;
+    &rest[..rest.len() - rest.len() % row]
+}
+
+/// Compares two nodes of a game: their demos, the ends that both know, and their worlds after as many tics.
+fn compare(rt: &impl Abort, one: &Node<Walk>, other: &Node<Walk>, players: u32) {
+    let ours = commands(one.demo(), players);
+    let theirs = commands(other.demo(), players);
+    holds!(rt; ours.starts_with(theirs) || theirs.starts_with(ours));
+    for player in 0..4 {
+        if let (Some(end), Some(same)) = (one.end(player), other.end(player)) {
+            same!(rt; end, same, player);
+        }
+    }
+    if one.ran() == other.ran() && !one.demo().is_empty() && !other.demo().is_empty() {
+        same!(rt; places(one), places(other));
+        same!(rt; ours, theirs);
+    }
+}
+
+/// Compares each two nodes, and answers how many tics were run after a player's end, by all nodes together.
+fn compare_all(rt: &impl Abort, game: &Game<Walk>, players: u32) -> u64 {
+    let mut beyond = 0_u64;
+    for one in 0..4_u8 {
+        let Some(node) = game.node(u32::from(one)) else {
+            continue;
+        };
+        let mut least = node.ran();
+        for other in 0..4_u8 {
+            if let Some(end) = node.end(other) {
+                least = least.min(end);
+            }
+            if let Some(peer) = game.node(u32::from(other)) {
+                compare(rt, node, peer, players);
+            }
+        }
+        beyond = beyond.saturating_add(u64::from(node.ran().saturating_sub(least)));
+    }
+    beyond
+}
+
+/// Applies an event, after which node 2 quits where it has run twenty tics.
+fn apply_and_leave(rt: &impl Abort, game: &mut Game<Walk>, event: Event) {
+    // The tics of who plays on go far beyond what the third has made.
+    let answered = game.apply(event);
+    holds!(rt; answered.is_ok() || answered == Err(Refusal::Far), event);
+    let quits = match game.node(2) {
+        Some(node) => node.ran() == 20 && node.phase() == Phase::Playing,
+        None => false,
+    };
+    if quits {
+        holds!(rt; game.apply(Event::Quit(2)).is_ok());
+    }
+}
+
+/// A node of three that plays on without player 2, whose end it knows.
+fn plays_on(rt: &impl Abort, node: &Node<Walk>, end: u32) {
+    same!(rt; node.phase(), Phase::Playing);
+    holds!(rt; node.ran() >= 60, node.ran());
+    same!(rt; (node.end(2), node.got(2)), (Some(end), Some(end)));
+    // A demo has the tics before the first without a player, and the marker behind them.
+    same!(rt; node.demo().len(), 14 + 15 * end as usize);
+    same!(rt; node.demo().last(), Some(&0x80));
+}
+
+#[test]
+fn two_play_on_when_the_third_leaves(rt: HostRuntime) -> Result<(), Fail> {
+    let mut game = opened(rt.alloc(), 3)?;
+    for event in events(rt.alloc())?.iter() {
+        apply_and_leave(&rt, &mut game, *event);
+    }
+    let beyond = compare_all(&rt, &game, 3);
+    holds!(rt; beyond >= 70, beyond);
+    let two = game.node(2).ok_or("no node")?;
+    let stood = (two.phase(), two.ran(), two.demo().len());
+    same!(rt; stood, (Phase::Ended(Cause::Quit), 20, 314));
+    let end = two.made();
+    same!(rt; two.end(2), Some(end));
+    let (zero, one) = (
+        game.node(0).ok_or("no node")?,
+        game.node(1).ok_or("no node")?,
+    );
+    plays_on(&rt, zero, end);
+    plays_on(&rt, one, end);
+    same!(rt; zero.ran(), one.ran());
+    same!(rt; places(zero), places(one));
+    Ok(())
+}
+
+/// Plays events of a schedule, in which two nodes quit or stop on the way.
+fn stormed(alloc: Global, players: u32, seed: u32) -> Result<Game<Walk>, Fail> {
+    let mut game = opened(alloc, players as usize)?;
+    let mut schedule = Schedule::new(u64::from(seed));
+    let (first, second) = (seed % players.max(1), (seed / 2) % players.max(1));
+    for count in 0..6_000 {
+        let given = schedule.next(&game);
+        let event = match count {
+            1_500 => Some(Event::Quit(first)),
+            3_000 if seed % 2 == 0 => Some(Event::Stop(second)),
+            3_000 => Some(Event::Quit(second)),
+            _ => given,
+        };
+        if let Some(event) = event {
+            let _ = game.apply(event);
+        }
+    }
+    Ok(game)
+}
+
+#[test]
+fn nodes_agree_in_storms_that_players_leave(rt: HostRuntime) -> Result<(), Fail> {
+    for players in [3, 4] {
+        let mut beyond = 0;
+        for seed in 1..=20 {
+            let game = stormed(rt.alloc(), players, seed)?;
+            beyond = compare_all(&rt, &game, players).max(beyond);
+        }
+        holds!(rt; beyond > 0, players);
+    }
+    Ok(())
+}

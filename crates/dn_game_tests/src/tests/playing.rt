@@ -1,0 +1,201 @@
+//! Tests of lists of events that start two nodes and run a tic.
+
+use super::{applies, build, config, opened, send, walks};
+use dn_game::{Done, Event, Game, Played, Refusal, play, read_script};
+use dn_node::{Aim, Heard, Made, Node, Phase, Ran};
+use dn_world::Walk;
+use std::alloc::Global;
+use std::process::Abort;
+use std::test::Fail;
+
+const SCRIPT: &str = "send 0 1\ndeliver 0\nbuild 1 -\nsend 1 0\ndeliver 1\nbuild 1 -\nsend 1 0\n\
+    deliver 2\nbuild 0 -\nsend 0 1\ndeliver 3\nsend 1 0\ndeliver 4\nrun 0\nrun 1\n";
+
+/// A packet of the script: from, to, flags, request, start, how many commands, and the first bytes.
+type FlightRow = (u8, u8, u8, Option<u32>, u32, u8, [u8; 8]);
+
+/// The packets of the script.
+const FLIGHTS: [FlightRow; 5] = [
+    (
+        0,
+        1,
+        2,
+        None,
+        0,
+        0,
+        [0x69, 0x86, 0x92, 0x21, 0x02, 0x41, 0x6F, 0x00],
+    ),
+    (
+        1,
+        0,
+        0,
+        None,
+        0,
+        1,
+        [0x67, 0x45, 0x24, 0x02, 0x00, 0x00, 0x01, 0x01],
+    ),
+    (
+        1,
+        0,
+        0,
+        None,
+        1,
+        1,
+        [0x67, 0x46, 0x24, 0x02, 0x00, 0x01, 0x01, 0x01],
+    ),
+    (
+        0,
+        1,
+        4,
+        Some(0),
+        0,
+        1,
+        [0x67, 0x45, 0x23, 0x42, 0x00, 0x00, 0x00, 0x01],
+    ),
+    (
+        1,
+        0,
+        0,
+        None,
+        0,
+        2,
+        [0x67, 0x45, 0x24, 0x03, 0x00, 0x00, 0x01, 0x02],
+    ),
+];
+
+/// The script's events, each with its answer.
+fn answered() -> [(Event, Done); 15] {
+    [
+        (send(0, 1), Done::Sent(0)),
+        (Event::Deliver(0), Done::Heard(Heard::Started)),
+        (build(1, 0), Done::Built(Made::Made(0))),
+        (send(1, 0), Done::Sent(1)),
+        (Event::Deliver(1), Done::Heard(Heard::Started)),
+        (build(1, 0), Done::Built(Made::Made(1))),
+        (send(1, 0), Done::Sent(2)),
+        (Event::Deliver(2), Done::Heard(Heard::Gap)),
+        (build(0, 0), Done::Built(Made::Made(0))),
+        (send(0, 1), Done::Sent(3)),
+        (Event::Deliver(3), Done::Heard(Heard::Taken(1))),
+        (send(1, 0), Done::Sent(4)),
+        (Event::Deliver(4), Done::Heard(Heard::Taken(2))),
+        (Event::Run(0), Done::Ran(Ran::Ran(0))),
+        (Event::Run(1), Done::Ran(Ran::Ran(0))),
+    ]
+}
+
+/// A packet of the script stands at its place, and its bytes at the front of the rest of the pool. The answer
+/// is the pool behind them.
+fn flew<'a>(
+    rt: &impl Abort,
+    game: &Game<Walk>,
+    place: usize,
+    (from, to, flags, ask, start, count, front): FlightRow,
+    rest: &'a [u8],
+) -> &'a [u8] {
+    let Some(flight) = game.flight(place) else {
+        panic!(rt; "no packet {place}");
+    };
+    let aim = Aim {
+        flags,
+        ask,
+        start,
+        count,
+    };
+    same!(rt; (flight.from, flight.to, flight.aim), (from, to, aim), place);
+    // Behind the front stand commands without a key.
+    let mut bytes = [0; 24];
+    bytes[..8].copy_from_slice(&front);
+    let len = 8 + 8 * usize::from(count);
+    same!(rt; Some(flight.bytes.as_slice()), bytes.get(..len), place);
+    same!(rt; rest.get(..len), bytes.get(..len), place);
+    rest.get(len..).unwrap_or(&[])
+}
+
+/// A node of the game that the script leaves.
+fn stands(rt: &impl Abort, node: &Node<Walk>, number: u8, made: u32) {
+    same!(rt; (node.phase(), node.made(), node.ran()), (Phase::Playing, made, 1), number);
+    same!(rt; (node.got(0), node.got(1)), (Some(1), Some(2)), number);
+    // The header, and for both players a command without a key.
+    let mut demo = [0; 23];
+    demo[..11].copy_from_slice(&[0x6F, 2, 1, 1, 0, 0, 0, 0, number, 1, 1]);
+    same!(rt; node.demo(), demo.as_slice(), number);
+}
+
+/// Looks at the game that the script leaves.
+fn look(rt: &impl Abort, game: &Game<Walk>) {
+    same!(rt; (game.flights(), game.pool().len()), (5, 80));
+    let mut rest = game.pool();
+    for (place, row) in FLIGHTS.into_iter().enumerate() {
+        rest = flew(rt, game, place, row, rest);
+    }
+    holds!(rt; game.flight(5).is_none());
+    let (Some(zero), Some(one)) = (game.node(0), game.node(1)) else {
+        panic!(rt; "no node");
+    };
+    stands(rt, zero, 0, 1);
+    stands(rt, one, 1, 2);
+}
+
+/// Plays a script with two nodes.
+fn played(alloc: Global, script: &str) -> Result<Played<Walk>, Fail> {
+    let events = read_script(alloc, script.as_bytes())?;
+    let worlds = walks(alloc, 2)?;
+    Ok(play(alloc, config(131_072)?, worlds, events.as_slice())?)
+}
+
+#[test]
+fn each_event_has_its_answer(rt: HostRuntime) -> Result<(), Fail> {
+    let mut game = opened(rt.alloc(), 2)?;
+    for (event, answer) in answered() {
+        applies(&rt, &mut game, event, Ok(answer));
+    }
+    look(&rt, &game);
+    Ok(())
+}
+
+#[test]
+fn a_script_is_played(rt: HostRuntime) -> Result<(), Fail> {
+    let played = played(rt.alloc(), SCRIPT)?;
+    same!(rt; (played.done, played.refused), (15, 0));
+    look(&rt, &played.game);
+    Ok(())
+}
+
+#[test]
+fn a_packet_may_come_again(rt: HostRuntime) -> Result<(), Fail> {
+    let played = played(rt.alloc(), SCRIPT)?;
+    let mut game = played.game;
+    for _ in 0..3 {
+        let again = game.apply(Event::Deliver(4));
+        same!(rt; again, Ok(Done::Heard(Heard::Stale)));
+    }
+    applies(&rt, &mut game, Event::Deliver(9), Err(Refusal::NoPacket));
+    look(&rt, &game);
+    Ok(())
+}
+
+#[test]
+fn refused_events_are_counted(rt: HostRuntime) -> Result<(), Fail> {
+    for (script, done, refused) in [
+        ("", 0, 0),
+        ("stop 1\nsend 1 0\n", 1, 1),
+        ("quit 0\n", 1, 0),
+        ("run 7\nrun 7\nrun 1", 1, 2),
+        ("stop 0\nstop 0\nstop 1\nstop 1\n", 2, 2),
+    ] {
+        let played = played(rt.alloc(), script)?;
+        let found = (played.done, played.refused, played.game.flights());
+        same!(rt; found, (done, refused, 0), script);
+    }
+    let mut events = Vec::new(rt.alloc());
+    for (event, _) in answered() {
+        events.push(event)?;
+    }
+    events.push(Event::Deliver(9))?;
+    let worlds = walks(rt.alloc(), 2)?;
+    let played = play(rt.alloc(), config(131_072)?, worlds, events.as_slice())?;
+    same!(rt; (played.done, played.refused), (15, 1));
+    look(&rt, &played.game);
+    Ok(())
+}

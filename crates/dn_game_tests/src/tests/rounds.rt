@@ -1,0 +1,264 @@
+//! Tests of rounds in which every packet arrives.
+
+use super::told::all_told;
+use super::{build, config, opened, send, walks};
+use dn_game::{Event, Game, Refusal, play, play_on, storm};
+use dn_machine::{Cause, Phase};
+use dn_tic::Keys;
+use dn_world::Walk;
+use std::alloc::Global;
+use std::process::Abort;
+use std::test::Fail;
+
+fn no_keys() -> [Keys; 4] {
+    let none = Keys::from_bits(0);
+    [none, none, none, none]
+}
+
+fn ran(game: &Game<Walk>, number: u32) -> Option<u32> {
+    Some(game.node(number)?.ran())
+}
+
+/// How many tics each node ran.
+fn rans(game: &Game<Walk>) -> [Option<u32>; 4] {
+    [ran(game, 0), ran(game, 1), ran(game, 2), ran(game, 3)]
+}
+
+/// Node 1 has missed the first command, node 0 has heard its request, and the packet that met it is
+/// lost too; then node 0 quits.
+fn lost() -> [Event; 13] {
+    [
+        send(0, 1),
+        Event::Deliver(0),
+        send(1, 0),
+        Event::Deliver(1),
+        build(0, 0),
+        send(0, 1),
+        build(0, 0),
+        send(0, 1),
+        Event::Deliver(3),
+        send(1, 0),
+        Event::Deliver(4),
+        send(0, 1),
+        Event::Quit(0),
+    ]
+}
+
+/// A game of two after events of which none is refused, and then rounds.
+fn after(
+    rt: &impl Abort,
+    alloc: Global,
+    events: &[Event],
+    rounds: u32,
+) -> Result<Game<Walk>, Fail> {
+    let mut game = opened(alloc, 2)?;
+    for event in events {
+        holds!(rt; game.apply(*event).is_ok(), *event);
+    }
+    same!(rt; game.good_rounds(no_keys(), rounds), Ok(()));
+    Ok(game)
+}
+
+#[test]
+fn rounds_run_tics(rt: HostRuntime) -> Result<(), Fail> {
+    let left = lost();
+    let missed = &left[..12];
+    let nothing = &left[..0];
+    let rows = [
+        (nothing, 0, 0, 0),
+        (nothing, 1, 0, 0),
+        (nothing, 2, 0, 1),
+        (nothing, 3, 0, 2),
+        (nothing, 4, 1, 3),
+        (missed, 11, 5, 0),
+        (missed, 12, 5, 1),
+        (left.as_slice(), 11, 0, 0),
+        (left.as_slice(), 12, 0, 1),
+        (left.as_slice(), 13, 0, 2),
+        (left.as_slice(), 14, 0, 3),
+    ];
+    for (events, rounds, zero, one) in rows {
+        let game = after(&rt, rt.alloc(), events, rounds)?;
+        same!(rt; rans(&game), [Some(zero), Some(one), None, None], rounds);
+    }
+    Ok(())
+}
+
+/// A node that stopped takes no turn, and the others wait for it.
+#[test]
+fn a_stopped_node_holds_the_others_up(rt: HostRuntime) -> Result<(), Fail> {
+    let mut game = opened(rt.alloc(), 3)?;
+    same!(rt; game.good_rounds(no_keys(), 20), Ok(()));
+    let before = rans(&game);
+    holds!(rt; before[0] > Some(10));
+    holds!(rt; game.apply(Event::Stop(1)).is_ok());
+    same!(rt; game.good_rounds(no_keys(), 20), Ok(()));
+    let held = rans(&game);
+    same!(rt; held[1], before[1]);
+    same!(rt; game.good_rounds(no_keys(), 20), Ok(()));
+    same!(rt; rans(&game), held);
+    Ok(())
+}
+
+/// Two hundred rounds, after thirty of which node 1 may quit: node 0 is then in this phase.
+fn long_game(rt: &impl Abort, alloc: Global, quits: bool, phase: Phase) -> Result<(), Fail> {
+    let worlds = walks(alloc, 2)?;
+    let mut game = Game::new(alloc, config(1_024)?, worlds)?;
+    same!(rt; game.good_rounds(no_keys(), 30), Ok(()), quits);
+    if quits {
+        holds!(rt; game.apply(Event::Quit(1)).is_ok());
+    }
+    same!(rt; game.good_rounds(no_keys(), 170), Ok(()), quits);
+    let zero = game.node(0).map(|node| (node.phase(), node.ran() > 101));
+    same!(rt; zero, Some((phase, quits)));
+    Ok(())
+}
+
+/// The demos have room for 101 tics. A game that a player has left goes on past them.
+#[test]
+fn who_stays_runs_past_the_demo(rt: HostRuntime) -> Result<(), Fail> {
+    long_game(&rt, rt.alloc(), true, Phase::Playing)?;
+    long_game(&rt, rt.alloc(), false, Phase::Ended(Cause::Full))
+}
+
+/// Playing on is playing and then rounds, each with the keys of its players.
+#[test]
+fn a_game_is_played_on(rt: HostRuntime) -> Result<(), Fail> {
+    let keys = [
+        Keys::from_bits(1),
+        Keys::from_bits(2),
+        Keys::from_bits(3),
+        Keys::from_bits(4),
+    ];
+    let events = lost();
+    let mut played = play(
+        rt.alloc(),
+        config(131_072)?,
+        walks(rt.alloc(), 2)?,
+        &events[..12],
+    )?;
+    for _ in 0..30 {
+        same!(rt; played.game.good_round(keys), Ok(()));
+    }
+    let on = play_on(
+        rt.alloc(),
+        config(131_072)?,
+        walks(rt.alloc(), 2)?,
+        &events[..12],
+        keys,
+        30,
+    )?;
+    same!(rt; all_told(&on.game), all_told(&played.game));
+    same!(rt; (on.done, on.refused), (12, 0));
+    let other = play_on(
+        rt.alloc(),
+        config(131_072)?,
+        walks(rt.alloc(), 2)?,
+        &events[..12],
+        no_keys(),
+        30,
+    )?;
+    holds!(rt; all_told(&other.game) != all_told(&on.game));
+    Ok(())
+}
+
+/// Who has not ended, with the tics that it ran.
+fn staying(game: &Game<Walk>) -> [Option<u32>; 4] {
+    let mut rest = rans(game);
+    for number in 0..4 {
+        if let Some(node) = game.node(number)
+            && matches!(node.phase(), Phase::Ended(_))
+        {
+            rest[number as usize] = None;
+        }
+    }
+    rest
+}
+
+/// No node is more than five tics ahead of another that stays, and six more tics take this many rounds at
+/// most.
+const ALL_RAN_BY: u32 = 13 * 6 + 1;
+
+/// How many rounds it takes until the fewest tics of those who stay have grown, and until each of them
+/// has run a tic.
+fn rounds_needed(rt: &impl Abort, game: &mut Game<Walk>) -> (u32, u32) {
+    let before = staying(game);
+    let mut least = u32::MAX;
+    for ran in before.iter().flatten() {
+        least = least.min(*ran);
+    }
+    let mut grown = 0;
+    for rounds in 1..=ALL_RAN_BY {
+        same!(rt; game.good_round(no_keys()), Ok(()));
+        let now = rans(game);
+        let mut all_grown = true;
+        let mut all_ran = true;
+        for number in 0..4 {
+            if before[number].is_some() {
+                all_grown &= now[number] > Some(least);
+                all_ran &= now[number] > before[number];
+            }
+        }
+        if all_grown && grown == 0 {
+            grown = rounds;
+        }
+        if all_ran {
+            return (grown, rounds);
+        }
+    }
+    (grown, u32::MAX)
+}
+
+/// A storm that breaks off somewhere. With every fourth seed node 1 then quits, where it plays.
+fn broken_off(
+    rt: &impl Abort,
+    alloc: Global,
+    players: usize,
+    seed: u64,
+) -> Result<Game<Walk>, Fail> {
+    let count = (seed % 100 * 7_919 + players as u64 % 100 * 104_729) % 3_000;
+    let worlds = walks(alloc, players)?;
+    let mut game = storm(alloc, config(131_072)?, worlds, seed, count as u32)?.game;
+    let plays = match game.node(1) {
+        Some(node) => node.phase() == Phase::Playing,
+        None => false,
+    };
+    if seed % 4 == 0 && plays {
+        holds!(rt; game.apply(Event::Quit(1)).is_ok(), (players, seed));
+    }
+    Ok(game)
+}
+
+/// Storms that break off anywhere, some with a node that then quits.
+#[test]
+fn storms_go_on(rt: HostRuntime) -> Result<(), Fail> {
+    for players in 2..=4 {
+        for seed in 1..=20 {
+            let mut game = broken_off(&rt, rt.alloc(), players, seed)?;
+            let (grown, ran) = rounds_needed(&rt, &mut game);
+            holds!(rt; (1..=14).contains(&grown), (players, seed, grown));
+            holds!(rt; ran <= ALL_RAN_BY, (players, seed));
+        }
+    }
+    Ok(())
+}
+
+/// Where a packet finds no room, the round says so, and the next goes on from there.
+#[test]
+fn refused_memory_ends_a_round(rt: HostRuntime) -> Result<(), Fail> {
+    let Ok(worlds) = walks(rt.alloc(), 2) else {
+        return Ok(());
+    };
+    let Ok(mut game) = Game::new(rt.alloc(), config(1_024)?, worlds) else {
+        return Ok(());
+    };
+    let mut carried_out = 0_u32;
+    for _ in 0..16 {
+        match game.good_round(no_keys()) {
+            Ok(()) => carried_out = carried_out.saturating_add(1),
+            Err(refusal) => same!(rt; refusal, Refusal::Memory),
+        }
+    }
+    holds!(rt; carried_out < 15 || ran(&game, 0) > Some(0));
+    Ok(())
+}

@@ -1,0 +1,160 @@
+//! Tests of schedules, against words of the generator's published reference code.
+
+use super::{build, opened, send};
+use dn_game::{Event, Game, Schedule};
+use dn_world::Walk;
+use std::process::Abort;
+use std::test::Fail;
+
+/// Sends packets from node 0 to the others, going round.
+fn send_round(game: &mut Game<Walk>, players: u32, count: u32) {
+    let others = players.saturating_sub(1).max(1);
+    for which in 0..count {
+        let _ = game.apply(send(0, 1 + which % others));
+    }
+}
+
+/// Compares the first events of a schedule for one game.
+pub(super) fn draw(rt: &impl Abort, game: &Game<Walk>, seed: u64, events: &[Event]) {
+    let mut schedule = Schedule::new(seed);
+    for event in events {
+        same!(rt; schedule.next(game), Some(*event), seed);
+    }
+}
+
+#[test]
+fn without_packets_deliveries_are_runs(rt: HostRuntime) -> Result<(), Fail> {
+    let game = opened(rt.alloc(), 2)?;
+    draw(
+        &rt,
+        &game,
+        42,
+        &[
+            send(1, 0),
+            build(1, 90_222),
+            Event::Run(1),
+            build(0, 13_817),
+            send(1, 0),
+            Event::Run(0),
+        ],
+    );
+    Ok(())
+}
+
+#[test]
+fn the_last_packets_are_delivered(rt: HostRuntime) -> Result<(), Fail> {
+    let mut game = opened(rt.alloc(), 2)?;
+    send_round(&mut game, 2, 40);
+    draw(
+        &rt,
+        &game,
+        42,
+        &[
+            send(1, 0),
+            build(1, 90_222),
+            Event::Deliver(13),
+            build(0, 13_817),
+            send(1, 0),
+            Event::Deliver(36),
+            build(0, 94_512),
+            send(1, 0),
+            Event::Deliver(17),
+            build(0, 132_397),
+            send(1, 0),
+            Event::Deliver(20),
+        ],
+    );
+    Ok(())
+}
+
+#[test]
+fn stopped_nodes_are_left_out(rt: HostRuntime) -> Result<(), Fail> {
+    let mut game = opened(rt.alloc(), 4)?;
+    send_round(&mut game, 4, 40);
+    let _ = game.apply(Event::Stop(2));
+    draw(
+        &rt,
+        &game,
+        7,
+        &[
+            build(0, 247_037),
+            build(0, 171_759),
+            Event::Run(1),
+            Event::Deliver(33),
+            Event::Run(3),
+            build(1, 61_850),
+            send(1, 3),
+            send(3, 1),
+            send(1, 2),
+            Event::Run(1),
+            Event::Run(3),
+            send(0, 2),
+        ],
+    );
+    Ok(())
+}
+
+#[test]
+fn few_packets_are_all_recent(rt: HostRuntime) -> Result<(), Fail> {
+    let mut game = opened(rt.alloc(), 3)?;
+    send_round(&mut game, 3, 5);
+    let _ = game.apply(Event::Stop(0));
+    let _ = game.apply(Event::Stop(1));
+    draw(
+        &rt,
+        &game,
+        u64::MAX,
+        &[
+            send(2, 0),
+            build(2, 235_360),
+            build(2, 204_307),
+            build(2, 66_395),
+            Event::Run(2),
+            build(2, 223_571),
+            build(2, 129_347),
+            send(2, 1),
+            send(2, 1),
+            send(2, 1),
+            build(2, 120_856),
+            Event::Run(2),
+        ],
+    );
+    let mut other = opened(rt.alloc(), 4)?;
+    send_round(&mut other, 4, 31);
+    let _ = other.apply(Event::Stop(0));
+    let _ = other.apply(Event::Stop(3));
+    draw(
+        &rt,
+        &other,
+        1,
+        &[
+            Event::Deliver(6),
+            build(2, 122_339),
+            build(1, 108_468),
+            Event::Run(1),
+            Event::Run(1),
+            Event::Deliver(28),
+            build(1, 60_471),
+            Event::Deliver(3),
+            send(1, 2),
+            build(1, 196_009),
+        ],
+    );
+    Ok(())
+}
+
+#[test]
+fn a_stopped_game_has_no_event(rt: HostRuntime) -> Result<(), Fail> {
+    for players in 2..=4 {
+        let mut game = opened(rt.alloc(), players)?;
+        let mut schedule = Schedule::new(9);
+        for node in 0..players as u32 {
+            holds!(rt; schedule.next(&game).is_some(), players);
+            let _ = game.apply(Event::Stop(node));
+        }
+        for _ in 0..3 {
+            same!(rt; schedule.next(&game), None, players);
+        }
+    }
+    Ok(())
+}

@@ -1,0 +1,5 @@
+//! Tests of `dn_lockstep`, apart from it: a crate with tests is proved once more with them.
+#![tactic(auto)]
+
+#[cfg(test)]
+mod tests;

@@ -1,0 +1,123 @@
+//! Tests of the exact numbers of the next packet, beside its bytes.
+
+use super::stages::{Stage, at};
+use super::{FORWARD, NO_KEYS, datagram, hears, pair, pass, tics};
+use dn_lockstep::{Aim, Heard, Lockstep};
+use dn_packet::{EXIT, RETRANSMIT, SETUP};
+use dn_tic::Keys;
+use std::process::Abort;
+use std::test::Fail;
+
+/// Compares the numbers, asked for twice, with the packet's bytes.
+fn agree(rt: &impl Abort, node: &mut Lockstep, to: u8, aim: Aim) {
+    same!(rt; node.aim(to), Some(aim));
+    same!(rt; node.aim(to), Some(aim));
+    let Some(bytes) = node.packet(to) else {
+        panic!(rt; "no packet to {to}");
+    };
+    same!(rt; bytes.len(), 8 + 8 * usize::from(aim.count), aim);
+    let bytes = bytes.as_slice();
+    let top = bytes.get(3).copied().unwrap_or(0) / 16;
+    same!(rt; (top, bytes.get(7).copied()), (aim.flags, Some(aim.count)), aim);
+    if aim.flags != SETUP {
+        let ask = (aim.ask.unwrap_or(0) % 256) as u8;
+        let low = [ask, (aim.start % 256) as u8, node.me()];
+        same!(rt; bytes.get(4..7), Some(low.as_slice()), aim);
+    }
+}
+
+fn numbers(flags: u8, ask: Option<u32>, start: u32, count: u8) -> Aim {
+    Aim {
+        flags,
+        ask,
+        start,
+        count,
+    }
+}
+
+#[test]
+fn who_has_no_packet_has_no_numbers(rt: HostRuntime) -> Result<(), Fail> {
+    for (stage, peers) in [
+        (Stage::Listener, [false, false, false, false]),
+        (Stage::Key, [false, true, true, false]),
+        (Stage::First, [false, true, true, false]),
+        (Stage::Second, [true, false, true, false]),
+        (Stage::Quitter, [false, false, false, false]),
+        (Stage::Leaver, [true, false, true, false]),
+    ] {
+        let mut node = at(rt.alloc(), stage)?;
+        for (to, there) in (0..4u8).zip(peers) {
+            same!(rt; node.aim(to).is_some(), there, (stage, to));
+            same!(rt; node.packet(to).is_some(), there, (stage, to));
+        }
+        same!(rt; node.aim(255), None, stage);
+        holds!(rt; node.packet(255).is_none(), stage);
+    }
+    Ok(())
+}
+
+/// A key player gives set-up at any time, and as often as one likes.
+#[test]
+fn set_up_has_no_numbers(rt: HostRuntime) -> Result<(), Fail> {
+    let mut key = at(rt.alloc(), Stage::Key)?;
+    for to in [1, 2, 1, 1, 1, 1, 1] {
+        agree(&rt, &mut key, to, numbers(SETUP, None, 0, 0));
+    }
+    Ok(())
+}
+
+#[test]
+fn commands_have_their_tics(rt: HostRuntime) -> Result<(), Fail> {
+    let (mut key, mut other) = pair(rt.alloc(), true)?;
+    agree(&rt, &mut key, 1, numbers(0, None, 0, 0));
+    let _ = key.build(Keys::from_bits(FORWARD));
+    agree(&rt, &mut key, 1, numbers(0, None, 0, 1));
+    let _ = key.build(Keys::from_bits(FORWARD));
+    agree(&rt, &mut key, 1, numbers(0, None, 0, 2));
+    agree(&rt, &mut key, 1, numbers(0, None, 1, 1));
+    hears(&rt, &mut key, 1, (0, (0, 3, 1), &[]), Heard::Gap);
+    agree(&rt, &mut key, 1, numbers(RETRANSMIT, Some(0), 1, 1));
+    agree(&rt, &mut key, 1, numbers(RETRANSMIT, Some(0), 1, 1));
+    let _ = other.build(Keys::from_bits(NO_KEYS));
+    same!(rt; pass(&mut other, &mut key), Some(Heard::Taken(1)));
+    agree(&rt, &mut key, 1, numbers(0, None, 1, 1));
+    Ok(())
+}
+
+/// Numbers go on past 255, where bytes begin again.
+#[test]
+fn numbers_are_exact(rt: HostRuntime) -> Result<(), Fail> {
+    let (mut key, mut other) = pair(rt.alloc(), false)?;
+    tics(&mut key, &mut other, 520, (FORWARD, NO_KEYS));
+    let _ = key.build(Keys::from_bits(FORWARD));
+    agree(&rt, &mut key, 1, numbers(0, None, 520, 1));
+    // a gap at 521, which asks for 512
+    let gap = datagram(RETRANSMIT, (0, 9, 1), &[]);
+    same!(rt; key.receive(1, gap.as_slice()), Heard::Gap);
+    agree(&rt, &mut key, 1, numbers(RETRANSMIT, Some(520), 512, 9));
+    let (mut key, mut other) = pair(rt.alloc(), false)?;
+    tics(&mut key, &mut other, 520, (FORWARD, NO_KEYS));
+    let asks = datagram(RETRANSMIT, (255, 8, 1), &[]);
+    same!(rt; key.receive(1, asks.as_slice()), Heard::Stale);
+    agree(&rt, &mut key, 1, numbers(0, None, 511, 9));
+    Ok(())
+}
+
+/// Who has left gives the commands that its peer may miss, asks for none, and never stops.
+#[test]
+fn who_left_tells_it_with_each_packet(rt: HostRuntime) -> Result<(), Fail> {
+    for (extra, first, next) in [(true, (299, 4), (302, 1)), (false, (300, 3), (303, 0))] {
+        let (mut key, mut other) = pair(rt.alloc(), extra)?;
+        tics(&mut key, &mut other, 300, (FORWARD, NO_KEYS));
+        for _ in 0..3 {
+            let _ = key.build(Keys::from_bits(FORWARD));
+        }
+        hears(&rt, &mut key, 1, (0, (0, 45, 1), &[]), Heard::Gap);
+        holds!(rt; key.quit());
+        agree(&rt, &mut key, 1, numbers(EXIT, None, first.0, first.1));
+        for _ in 0..20 {
+            agree(&rt, &mut key, 1, numbers(EXIT, None, next.0, next.1));
+        }
+    }
+    Ok(())
+}

@@ -1,0 +1,195 @@
+//! Tests of what a node answers to datagrams: each test that a datagram meets, and which comes first.
+
+use super::stages::{STOP, Stage, at};
+use super::{STILL, hears};
+use dn_lockstep::{Heard, Lockstep};
+use dn_packet::{EXIT, KILL, RETRANSMIT, SETUP};
+use dn_tic::TicCmd;
+use std::alloc::Global;
+use std::process::Abort;
+use std::test::Fail;
+
+/// Where a node looks at who sends.
+const PEERS: [Stage; 5] = [
+    Stage::Listener,
+    Stage::Key,
+    Stage::First,
+    Stage::Second,
+    Stage::Leaver,
+];
+
+/// A packet as a test writes it: the flags, the ask, start and player bytes, and the commands.
+type Written<'a> = (u8, (u8, u8, u8), &'a [TicCmd]);
+
+/// Hands a packet to a node that stands so, and compares its answer.
+fn answers(
+    rt: &impl Abort,
+    alloc: Global,
+    (stage, from): (Stage, u8),
+    packet: Written,
+    answer: Heard,
+) -> Result<(), Fail> {
+    let mut node = at(alloc, stage)?;
+    hears(rt, &mut node, from, packet, answer);
+    Ok(())
+}
+
+/// Hands a node no bytes, a plain packet and a set-up packet, all of a sender who is no peer.
+fn drops_all_of(rt: &impl Abort, node: &mut Lockstep, from: u8) {
+    let stranger = Heard::Dropped(5);
+    same!(rt; node.receive(from, &[]), stranger, from);
+    hears(rt, node, from, (0, (0, 0, from), &[]), stranger);
+    hears(rt, node, from, (SETUP, (2, 65, 111), &[]), stranger);
+}
+
+#[test]
+fn who_is_no_peer_is_a_stranger(rt: HostRuntime) -> Result<(), Fail> {
+    for stage in PEERS {
+        let mut node = at(rt.alloc(), stage)?;
+        for from in [node.me(), 3, 4, 255] {
+            drops_all_of(&rt, &mut node, from);
+        }
+    }
+    Ok(())
+}
+
+/// Hands bytes that are no packet to a node that stands so, and compares its answer.
+fn drops(
+    rt: &impl Abort,
+    alloc: Global,
+    stage: Stage,
+    bytes: &[u8],
+    number: u8,
+) -> Result<(), Fail> {
+    let mut node = at(alloc, stage)?;
+    same!(rt; node.receive(2, bytes), Heard::Dropped(number), (stage, bytes));
+    Ok(())
+}
+
+#[test]
+fn bytes_that_are_no_packet_are_told_apart(rt: HostRuntime) -> Result<(), Fail> {
+    // one command of player 2, forward 50 and attack, which every phase would answer otherwise
+    let one = [
+        0xCB, 0x45, 0x25, 0x05, 0, 0, 2, 1, 0x32, 0, 0, 0, 0, 0, 0, 1,
+    ];
+    let mut sum = one;
+    sum[15] = 2;
+    let mut many = one;
+    many[7] = 13;
+    let mut long = [0; 105];
+    long[7] = 12;
+    let mut longer = long;
+    longer[7] = 13;
+    for stage in PEERS {
+        for (bytes, number) in [
+            (&one[..0], 1),
+            (&one[..7], 1),
+            (many.as_slice(), 2),
+            (longer.as_slice(), 2),
+            (&one[..15], 3),
+            (&one[..8], 3),
+            (long.as_slice(), 3),
+            (sum.as_slice(), 4),
+        ] {
+            drops(&rt, rt.alloc(), stage, bytes, number)?;
+        }
+    }
+    Ok(())
+}
+
+#[test]
+fn set_up_is_for_listeners(rt: HostRuntime) -> Result<(), Fail> {
+    let rows: [(Stage, u8, (u8, u8, u8), Heard); 13] = [
+        (Stage::Listener, 0, (2, 65, 111), Heard::Started),
+        (Stage::Listener, 0, (2, 65, 110), Heard::Dropped(7)),
+        (Stage::Listener, 0, (5, 65, 110), Heard::Dropped(7)),
+        (Stage::Listener, 0, (5, 65, 111), Heard::Dropped(8)),
+        (Stage::Listener, 0, (2, 0, 111), Heard::Dropped(8)),
+        (Stage::Listener, 2, (2, 65, 111), Heard::Dropped(6)),
+        (Stage::Listener, 2, (5, 65, 110), Heard::Dropped(6)),
+        (Stage::Key, 1, (2, 65, 111), Heard::Dropped(6)),
+        (Stage::Key, 2, (5, 65, 1), Heard::Dropped(6)),
+        (Stage::First, 1, (2, 65, 111), Heard::Dropped(6)),
+        (Stage::First, 1, (0, 0, 1), Heard::Dropped(6)),
+        (Stage::Second, 0, (2, 65, 111), Heard::Dropped(6)),
+        (Stage::Second, 2, (5, 65, 110), Heard::Dropped(6)),
+    ];
+    for (stage, from, numbers, answer) in rows {
+        for flags in [SETUP, SETUP + KILL, SETUP + EXIT] {
+            let packet = (flags, numbers, [].as_slice());
+            answers(&rt, rt.alloc(), (stage, from), packet, answer)?;
+        }
+    }
+    Ok(())
+}
+
+#[test]
+fn before_the_game_nothing_is_taken(rt: HostRuntime) -> Result<(), Fail> {
+    let rows: [(Stage, u8, u8, (u8, u8, u8), Heard); 15] = [
+        (Stage::Listener, 0, 0, (0, 0, 0), Heard::Dropped(13)),
+        (Stage::Listener, 0, 0, (0, 0, 2), Heard::Dropped(13)),
+        (Stage::Listener, 2, KILL, (0, 0, 2), Heard::Dropped(13)),
+        (Stage::Listener, 2, EXIT, (0, 0, 2), Heard::Dropped(13)),
+        (Stage::Key, 2, 0, (0, 0, 1), Heard::Dropped(5)),
+        (Stage::Key, 2, KILL, (0, 0, 0x82), Heard::Dropped(5)),
+        (Stage::Key, 2, EXIT, (0, 0, 0), Heard::Dropped(5)),
+        (Stage::Key, 2, KILL, (0, 0, 2), Heard::Dropped(9)),
+        (Stage::Key, 1, KILL + EXIT, (0, 0, 1), Heard::Dropped(9)),
+        (Stage::Key, 1, 0, (0, 0, 1), Heard::Noted),
+        (Stage::Key, 2, 0, (0, 0, 2), Heard::Noted),
+        (Stage::Key, 2, EXIT, (0, 0, 2), Heard::Noted),
+        (Stage::Key, 2, EXIT + RETRANSMIT, (9, 255, 2), Heard::Noted),
+        (Stage::Key, 2, 0, (0, 255, 2), Heard::Noted),
+        (Stage::Key, 1, RETRANSMIT, (200, 100, 1), Heard::Noted),
+    ];
+    for (stage, from, flags, numbers, answer) in rows {
+        let packet = (flags, numbers, [STOP].as_slice());
+        answers(&rt, rt.alloc(), (stage, from), packet, answer)?;
+    }
+    Ok(())
+}
+
+#[test]
+fn a_playing_node_takes_what_comes_next(rt: HostRuntime) -> Result<(), Fail> {
+    let stop = [STOP; 12];
+    let still = [STILL; 12];
+    let rows: [(u8, (u8, u8, u8), &[TicCmd], Heard); 31] = [
+        (0, (0, 0, 0), &[], Heard::Dropped(5)),
+        (0, (0, 0, 1), &[], Heard::Dropped(5)),
+        (0, (0, 0, 0x82), &[], Heard::Dropped(5)),
+        (KILL, (0, 0, 1), &[], Heard::Dropped(5)),
+        (EXIT, (0, 0, 1), &[], Heard::Dropped(5)),
+        (EXIT, (0, 0, 2), &[], Heard::Left),
+        (EXIT, (0, 0, 2), &still[..3], Heard::Left),
+        (EXIT + RETRANSMIT, (77, 0, 2), &still, Heard::Left),
+        (EXIT, (0, 12, 2), &[], Heard::Gap),
+        (EXIT, (0, 1, 2), &still[..1], Heard::Gap),
+        (EXIT + KILL, (0, 0, 2), &[], Heard::Dropped(9)),
+        (EXIT + RETRANSMIT, (9, 255, 2), &stop, Heard::Dropped(10)),
+        (EXIT, (0, 0, 2), &stop[..1], Heard::Dropped(11)),
+        (EXIT, (0, 13, 2), &[], Heard::Dropped(12)),
+        (KILL, (0, 0, 2), &[], Heard::Dropped(9)),
+        (KILL + RETRANSMIT, (0, 255, 2), &stop, Heard::Dropped(9)),
+        (0, (0, 255, 2), &[], Heard::Dropped(10)),
+        (RETRANSMIT, (0, 65, 2), &stop, Heard::Dropped(10)),
+        (0, (0, 0, 2), &stop[..1], Heard::Dropped(11)),
+        (0, (0, 64, 2), &stop, Heard::Dropped(11)),
+        (0, (0, 1, 2), &still, Heard::Dropped(12)),
+        (0, (0, 13, 2), &[], Heard::Dropped(12)),
+        (0, (0, 64, 2), &[], Heard::Dropped(12)),
+        (0, (0, 0, 2), &[], Heard::Stale),
+        (RETRANSMIT, (0, 0, 2), &[], Heard::Stale),
+        (0, (0, 1, 2), &[], Heard::Gap),
+        (0, (0, 12, 2), &[], Heard::Gap),
+        (0, (0, 1, 2), &still[..11], Heard::Gap),
+        (0, (0, 0, 2), &still[..1], Heard::Taken(1)),
+        (0, (0, 0, 2), &still, Heard::Taken(12)),
+        (RETRANSMIT, (77, 0, 2), &still[..3], Heard::Taken(3)),
+    ];
+    for (flags, numbers, commands, answer) in rows {
+        let packet = (flags, numbers, commands);
+        answers(&rt, rt.alloc(), (Stage::First, 2), packet, answer)?;
+        answers(&rt, rt.alloc(), (Stage::Second, 2), packet, answer)?;
+    }
+    Ok(())
+}

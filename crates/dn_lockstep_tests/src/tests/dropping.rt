@@ -1,0 +1,157 @@
+//! Tests that a dropped datagram changes nothing.
+
+use super::stages::{STOP, Stage, at};
+use super::{IDLE, STILL, datagram, hears, pair, tics};
+use arrayvec::ArrayVec;
+use dn_lockstep::{Aim, Heard, Lockstep, Phase};
+use dn_packet::{EXIT, KILL, RETRANSMIT, SETUP};
+use dn_setup::Settings;
+use dn_tic::TicCmd;
+use std::process::Abort;
+use std::test::Fail;
+
+/// What a node tells of itself, but for its demo's bytes.
+#[derive(Clone, Copy, Debug, PartialEq, Eq)]
+struct Readings {
+    phase: Phase,
+    counts: (u32, u32),
+    got: [Option<u32>; 4],
+    settings: Option<Settings>,
+    written: usize,
+    aims: [Option<Aim>; 4],
+    ends: [Option<u32>; 4],
+}
+
+fn told(node: &Lockstep) -> Readings {
+    Readings {
+        phase: node.phase(),
+        counts: (node.made(), node.ran()),
+        got: [node.got(0), node.got(1), node.got(2), node.got(3)],
+        settings: node.settings(),
+        written: node.demo().len(),
+        aims: [node.aim(0), node.aim(1), node.aim(2), node.aim(3)],
+        ends: [node.end(0), node.end(1), node.end(2), node.end(3)],
+    }
+}
+
+/// Hands a node a datagram that it has to drop, and compares what it tells before and after.
+fn drops(rt: &impl Abort, node: &mut Lockstep, from: u8, bytes: &[u8], number: u8) {
+    let before = told(node);
+    same!(rt; node.receive(from, bytes), Heard::Dropped(number), bytes);
+    same!(rt; told(node), before, bytes);
+}
+
+/// The same of a packet.
+fn refuses(
+    rt: &impl Abort,
+    node: &mut Lockstep,
+    from: u8,
+    (flags, numbers, commands): (u8, (u8, u8, u8), &[TicCmd]),
+    number: u8,
+) {
+    assert!(rt; flags < 16);
+    drops(
+        rt,
+        node,
+        from,
+        datagram(flags, numbers, commands).as_slice(),
+        number,
+    );
+}
+
+#[test]
+fn before_the_game_nothing_is_changed(rt: HostRuntime) -> Result<(), Fail> {
+    let rows: [(Stage, u8, u8, (u8, u8, u8), u8); 16] = [
+        (Stage::Listener, 1, SETUP, (2, 65, 111), 5),
+        (Stage::Listener, 0, SETUP, (2, 65, 110), 7),
+        (Stage::Listener, 0, SETUP, (5, 65, 111), 8),
+        (Stage::Listener, 2, SETUP, (2, 65, 111), 6),
+        (Stage::Listener, 0, 0, (0, 0, 0), 13),
+        (Stage::Key, 1, SETUP, (2, 65, 111), 6),
+        (Stage::Key, 1, KILL, (0, 0, 1), 9),
+        (Stage::Key, 1, 0, (0, 0, 2), 5),
+        (Stage::Quitter, 0, SETUP, (2, 65, 111), 13),
+        (Stage::Leaver, 0, EXIT, (0, 0, 0), 13),
+        (Stage::Leaver, 0, EXIT + RETRANSMIT, (0, 255, 0), 13),
+        (Stage::Leaver, 0, SETUP, (2, 65, 111), 6),
+        (Stage::Leaver, 0, KILL + EXIT, (0, 0, 0), 9),
+        (Stage::Leaver, 0, RETRANSMIT, (0, 0, 2), 5),
+        (Stage::Leaver, 0, RETRANSMIT, (0, 255, 0), 10),
+        (Stage::Leaver, 3, 0, (0, 0, 3), 5),
+    ];
+    for (stage, from, flags, numbers, number) in rows {
+        let mut node = at(rt.alloc(), stage)?;
+        refuses(&rt, &mut node, from, (flags, numbers, &[]), number);
+        refuses(&rt, &mut node, from, (flags, numbers, &[]), number);
+    }
+    Ok(())
+}
+
+/// A player whose packet was dropped while the node gathers is still waited for.
+#[test]
+fn who_was_dropped_is_not_noted(rt: HostRuntime) -> Result<(), Fail> {
+    let mut key = at(rt.alloc(), Stage::Key)?;
+    for (from, flags, player, number) in [(1, KILL, 1, 9), (1, 0, 2, 5), (2, SETUP, 111, 6)] {
+        refuses(&rt, &mut key, from, (flags, (2, 65, player), &[]), number);
+    }
+    for (from, answer) in [(2, Heard::Noted), (2, Heard::Noted), (1, Heard::Started)] {
+        hears(&rt, &mut key, from, (0, (0, 0, from), &[]), answer);
+    }
+    Ok(())
+}
+
+/// What a node of two players that has run four tics drops of player 1, and of others.
+#[test]
+fn in_the_game_nothing_is_changed(rt: HostRuntime) -> Result<(), Fail> {
+    let stop = [STOP; 1];
+    let still = [STILL; 12];
+    let rows: [(u8, u8, (u8, u8, u8), &[TicCmd], u8); 14] = [
+        (0, 0, (0, 4, 0), &[], 5),
+        (2, 0, (0, 4, 2), &[], 5),
+        (1, 0, (0, 4, 0), &[], 5),
+        (1, EXIT, (0, 4, 0x81), &[], 5),
+        (1, SETUP, (2, 65, 111), &[], 6),
+        (1, KILL, (0, 4, 1), &[], 9),
+        (1, RETRANSMIT, (0, 200, 1), &[], 10),
+        (1, RETRANSMIT, (0, 4, 1), &stop, 11),
+        (1, RETRANSMIT, (0, 5, 1), &still, 12),
+        // packets that would tell an end
+        (1, EXIT + KILL, (0, 4, 1), &[], 9),
+        (1, EXIT, (0, 200, 1), &[], 10),
+        (1, EXIT, (0, 4, 1), &stop, 11),
+        (1, EXIT, (0, 17, 1), &[], 12),
+        (1, EXIT + RETRANSMIT, (0, 3, 1), &[], 14),
+    ];
+    let (mut key, mut other) = pair(rt.alloc(), false)?;
+    tics(&mut key, &mut other, 4, IDLE);
+    for (from, flags, numbers, commands, number) in rows {
+        refuses(&rt, &mut key, from, (flags, numbers, commands), number);
+    }
+    // a request that was dropped is not met: nothing goes out again
+    let packet = key.packet(1).ok_or("no packet")?;
+    let empty: [u8; 8] = [0x67, 0x49, 0x23, 0x01, 0, 4, 0, 0];
+    same!(rt; packet.as_slice(), empty.as_slice());
+    Ok(())
+}
+
+/// The bytes of the next packet are those of a node that was handed nothing.
+#[test]
+fn the_next_packet_is_the_same(rt: HostRuntime) -> Result<(), Fail> {
+    let (mut key, mut other) = pair(rt.alloc(), true)?;
+    let (mut key_again, mut other_again) = pair(rt.alloc(), true)?;
+    tics(&mut key, &mut other, 14, (1, 4));
+    tics(&mut key_again, &mut other_again, 14, (1, 4));
+    let mut wrong: ArrayVec<u8, 104> = datagram(0, (0, 14, 1), &[STILL]);
+    for byte in wrong.as_mut_slice() {
+        *byte ^= 1;
+    }
+    drops(&rt, &mut key, 1, wrong.as_slice(), 3);
+    refuses(&rt, &mut key, 1, (RETRANSMIT, (9, 15, 1), &[STILL; 12]), 12);
+    let (next, again) = (
+        key.packet(1).ok_or("no packet")?,
+        key_again.packet(1).ok_or("no packet")?,
+    );
+    same!(rt; next.as_slice(), again.as_slice());
+    same!(rt; key.demo(), key_again.demo());
+    Ok(())
+}

@@ -1,0 +1,146 @@
+//! Tests of nodes that have left: what they hear, and what they give.
+
+use super::stages::{STOP, Stage, at};
+use super::{IDLE, STILL, hears, pair, tics};
+use dn_lockstep::{Aim, Heard, Lockstep, Phase};
+use dn_packet::{EXIT, KILL, RETRANSMIT, SETUP};
+use dn_tic::TicCmd;
+use std::process::Abort;
+use std::test::Fail;
+
+/// What a node that has left makes of packets of player 2: of one who plays on it hears the request alone.
+#[test]
+fn a_leaver_hears_who_plays_on(rt: HostRuntime) -> Result<(), Fail> {
+    let stop = [STOP; 12];
+    let still = [STILL; 12];
+    let rows: [(u8, (u8, u8, u8), &[TicCmd], Heard); 16] = [
+        (SETUP, (2, 65, 111), &[], Heard::Dropped(6)),
+        (SETUP, (5, 65, 110), &[], Heard::Dropped(6)),
+        (0, (0, 0, 0), &[], Heard::Dropped(5)),
+        (KILL + EXIT, (0, 0, 1), &[], Heard::Dropped(5)),
+        (KILL, (0, 0, 2), &[], Heard::Dropped(9)),
+        (KILL + EXIT, (0, 255, 2), &stop, Heard::Dropped(9)),
+        (EXIT, (0, 0, 2), &[], Heard::Dropped(13)),
+        (EXIT + RETRANSMIT, (0, 255, 2), &stop, Heard::Dropped(13)),
+        (0, (0, 255, 2), &[], Heard::Dropped(10)),
+        (RETRANSMIT, (0, 65, 2), &stop, Heard::Dropped(10)),
+        (RETRANSMIT, (0, 64, 2), &stop, Heard::Dropped(11)),
+        (0, (0, 0, 2), &[], Heard::Noted),
+        (0, (0, 0, 2), &still, Heard::Noted),
+        (0, (0, 64, 2), &still, Heard::Noted),
+        (RETRANSMIT, (0, 0, 2), &[], Heard::Noted),
+        (RETRANSMIT, (77, 3, 2), &still, Heard::Noted),
+    ];
+    for (flags, numbers, commands, answer) in rows {
+        let mut node = at(rt.alloc(), Stage::Leaver)?;
+        hears(&rt, &mut node, 2, (flags, numbers, commands), answer);
+        same!(rt; (node.got(2), node.end(2)), (Some(0), None), (flags, numbers));
+    }
+    Ok(())
+}
+
+/// Hands a node that has left a request of player 1 who plays on, with a command that it does not take.
+fn ask(rt: &impl Abort, node: &mut Lockstep, tic: u8) {
+    hears(
+        rt,
+        node,
+        1,
+        (RETRANSMIT, (tic, 30, 1), &[STILL]),
+        Heard::Noted,
+    );
+    same!(rt; node.got(1), Some(30));
+}
+
+/// Compares the numbers of its next packet to player 1.
+fn sends(rt: &impl Abort, node: &mut Lockstep, start: u32, count: u8) {
+    let aim = Aim {
+        flags: EXIT,
+        ask: None,
+        start,
+        count,
+    };
+    same!(rt; node.aim(1), Some(aim));
+    let size = node.packet(1).map(|bytes| bytes.len());
+    same!(rt; size, Some(8 + 8 * usize::from(count)));
+}
+
+/// A node that has left answers requests as one that plays does, and runs nothing.
+#[test]
+fn a_leaver_answers_requests(rt: HostRuntime) -> Result<(), Fail> {
+    let (mut key, mut other) = pair(rt.alloc(), false)?;
+    tics(&mut key, &mut other, 30, IDLE);
+    holds!(rt; key.quit());
+    ask(&rt, &mut key, 17);
+    sends(&rt, &mut key, 30, 0);
+    ask(&rt, &mut key, 18);
+    sends(&rt, &mut key, 18, 12);
+    for _ in 0..10 {
+        ask(&rt, &mut key, 20);
+        sends(&rt, &mut key, 30, 0);
+    }
+    ask(&rt, &mut key, 20);
+    sends(&rt, &mut key, 20, 10);
+    same!(rt; (key.made(), key.ran()), (30, 30));
+    same!(rt; key.end(0), Some(30));
+    Ok(())
+}
+
+/// A node that has played and ended tells its own end, and any other tells none.
+#[test]
+fn a_node_tells_its_own_end(rt: HostRuntime) -> Result<(), Fail> {
+    for (stage, end) in [
+        (Stage::Listener, None),
+        (Stage::Key, None),
+        (Stage::First, None),
+        (Stage::Second, None),
+        (Stage::Quitter, None),
+        (Stage::Leaver, Some(0)),
+    ] {
+        let node = at(rt.alloc(), stage)?;
+        let me = node.me();
+        same!(rt; node.end(me), end, stage);
+        same!(rt; node.end(2), None, stage);
+        same!(rt; (node.end(3), node.end(255)), (None, None), stage);
+    }
+    Ok(())
+}
+
+/// An end is told by an EXIT packet that is not dropped, and stays; what speaks against it is dropped.
+#[test]
+fn an_end_stays(rt: HostRuntime) -> Result<(), Fail> {
+    let (mut key, _) = pair(rt.alloc(), false)?;
+    hears(
+        &rt,
+        &mut key,
+        1,
+        (0, (0, 0, 1), &[STILL; 5]),
+        Heard::Taken(5),
+    );
+    let rows: [(u8, u8, usize, Heard, Option<u32>); 15] = [
+        // before what is there
+        (EXIT, 4, 0, Heard::Dropped(14), None),
+        (EXIT, 2, 2, Heard::Dropped(14), None),
+        (0, 4, 0, Heard::Stale, None),
+        (EXIT + KILL, 5, 0, Heard::Dropped(9), None),
+        // the end 7, of which two commands are missing
+        (EXIT, 7, 0, Heard::Gap, Some(7)),
+        (EXIT, 6, 0, Heard::Dropped(14), Some(7)),
+        (EXIT, 8, 0, Heard::Dropped(14), Some(7)),
+        (0, 8, 0, Heard::Dropped(14), Some(7)),
+        (0, 5, 3, Heard::Dropped(14), Some(7)),
+        (0, 6, 1, Heard::Gap, Some(7)),
+        (0, 5, 1, Heard::Taken(1), Some(7)),
+        (EXIT, 5, 2, Heard::Left, Some(7)),
+        (EXIT, 7, 0, Heard::Left, Some(7)),
+        (0, 5, 2, Heard::Stale, Some(7)),
+        (EXIT, 6, 0, Heard::Dropped(14), Some(7)),
+    ];
+    for (flags, start, count, answer, end) in rows {
+        let still = [STILL; 3];
+        let commands = still.get(..count).ok_or("too many")?;
+        hears(&rt, &mut key, 1, (flags, (0, start, 1), commands), answer);
+        same!(rt; key.end(1), end, (flags, start, count));
+    }
+    same!(rt; (key.got(1), key.phase()), (Some(7), Phase::Playing));
+    Ok(())
+}

@@ -1,0 +1,102 @@
+//! Tests of how a node is made, and of why there is none.
+
+use super::{LIMIT, choice, run};
+use dn_lockstep::{Config, Lockstep, Made, NodeFault, Phase, Ran, is_game};
+use dn_setup::Settings;
+use dn_tic::Keys;
+use std::test::Fail;
+
+fn config(players: u8, me: u8, limit: u32, settings: Option<Settings>) -> Config {
+    Config {
+        players,
+        me,
+        extra: false,
+        limit,
+        settings,
+    }
+}
+
+#[test]
+fn two_to_four_may_play(rt: HostRuntime) {
+    for (players, may) in [
+        (0, false),
+        (1, false),
+        (2, true),
+        (4, true),
+        (5, false),
+        (usize::MAX, false),
+    ] {
+        same!(rt; is_game(players), may, players);
+    }
+}
+
+/// Each row has every later fault too, or none.
+#[test]
+fn the_first_fault_is_told(rt: HostRuntime) -> Result<(), Fail> {
+    let some = Some(choice()?);
+    for (players, me, settings, limit, fault) in [
+        (0, 0, None, 0, NodeFault::Players),
+        (1, 1, some, 1_023, NodeFault::Players),
+        (1, 0, some, LIMIT, NodeFault::Players),
+        (5, 5, some, 1_023, NodeFault::Players),
+        (5, 4, None, LIMIT, NodeFault::Players),
+        (255, 255, some, 16_777_217, NodeFault::Players),
+        (2, 2, some, 1_023, NodeFault::Me),
+        (2, 2, None, LIMIT, NodeFault::Me),
+        (4, 4, some, 16_777_217, NodeFault::Me),
+        (3, 255, some, 0, NodeFault::Me),
+        (2, 0, None, 1_023, NodeFault::Key),
+        (2, 0, None, LIMIT, NodeFault::Key),
+        (2, 1, some, 16_777_217, NodeFault::Key),
+        (2, 1, some, LIMIT, NodeFault::Key),
+        (4, 3, some, LIMIT, NodeFault::Key),
+        (2, 0, some, 1_023, NodeFault::Limit),
+        (2, 1, None, 1_023, NodeFault::Limit),
+        (2, 0, some, 16_777_217, NodeFault::Limit),
+        (4, 3, None, 0, NodeFault::Limit),
+        (4, 3, None, u32::MAX, NodeFault::Limit),
+    ] {
+        let made = Lockstep::new(rt.alloc(), config(players, me, limit, settings));
+        same!(rt; made.err(), Some(fault), (me, players, limit, settings));
+    }
+    Ok(())
+}
+
+#[test]
+fn a_node_begins_with_nothing(rt: HostRuntime) -> Result<(), Fail> {
+    let some = Some(choice()?);
+    for (players, me, settings, limit, phase) in [
+        (2, 0, some, 1_024, Phase::Gathering),
+        (2, 1, None, 1_024, Phase::Listening),
+        (3, 2, None, LIMIT, Phase::Listening),
+        (4, 0, some, 16_777_216, Phase::Gathering),
+        (4, 3, None, 16_777_216, Phase::Listening),
+    ] {
+        let mut node = Lockstep::new(rt.alloc(), config(players, me, limit, settings))?;
+        same!(rt; node.me(), me);
+        same!(rt; node.phase(), phase, me);
+        same!(rt; node.settings(), settings, me);
+        same!(rt; (node.made(), node.ran()), (0, 0), me);
+        for player in 0..=5 {
+            let got = (player < players).then_some(0);
+            same!(rt; node.got(player), got, (player, players));
+        }
+        same!(rt; node.got(255), None);
+        holds!(rt; node.demo().is_empty());
+        same!(rt; node.build(Keys::from_bits(1)), Made::NotPlaying);
+        same!(rt; run(&mut node), Ran::NotPlaying);
+        same!(rt; node.made(), 0);
+    }
+    Ok(())
+}
+
+/// Each request for memory may be refused: then the answer says so, and there is no other.
+#[test]
+fn refused_memory_is_told(rt: HostRuntime) -> Result<(), Fail> {
+    let settings = Some(choice()?);
+    match Lockstep::new(rt.alloc(), config(2, 0, LIMIT, settings)) {
+        Ok(node) => same!(rt; node.phase(), Phase::Gathering),
+        Err(fault) => same!(rt; fault, NodeFault::Memory),
+    }
+    Ok(())
+}

@@ -1,0 +1,159 @@
+//! Tests of how a game starts.
+
+use super::{LIMIT, NO_KEYS, STILL, choice, hears, opened, pass, run};
+use arrayvec::ArrayVec;
+use dn_lockstep::{Heard, Lockstep, Made, Phase, Ran};
+use dn_packet::{EXIT, KILL, RETRANSMIT, SETUP};
+use dn_setup::Settings;
+use dn_tic::Keys;
+use std::alloc::Global;
+use std::process::Abort;
+use std::test::Fail;
+
+/// Skill 3, deathmatch 1, no monsters, episode 1, map 7.
+const CHOICE: [u8; 8] = [0xCA, 0x8C, 0x92, 0x21, 0x63, 0x47, 0x6F, 0x00];
+
+/// The same of version 109, and of version 110.
+const OTHER_VERSIONS: [[u8; 8]; 2] = [
+    [0xCA, 0x8C, 0x90, 0x21, 0x63, 0x47, 0x6D, 0x00],
+    [0xCA, 0x8C, 0x91, 0x21, 0x63, 0x47, 0x6E, 0x00],
+];
+
+fn listener(alloc: Global) -> Result<Lockstep, Fail> {
+    opened(alloc, (2, 1), false, LIMIT)
+}
+
+#[test]
+fn a_listener_starts_once(rt: HostRuntime) -> Result<(), Fail> {
+    let mut node = listener(rt.alloc())?;
+    same!(rt; node.settings(), None);
+    same!(rt; node.packet(0).map(|bytes| bytes.len()), None);
+    same!(rt; node.receive(0, &CHOICE), Heard::Started);
+    let settings = Settings::new(3, 1, true, false, 1, 7)?;
+    same!(rt; node.settings(), Some(settings));
+    same!(rt; node.phase(), Phase::Playing);
+    let header = [0x6F, 3, 1, 7, 1, 0, 0, 1, 1, 1, 1, 0, 0];
+    same!(rt; node.demo(), header.as_slice());
+    same!(rt; node.players(), 2);
+    same!(rt; node.present(), [true, true, false, false]);
+    same!(rt; node.receive(0, &CHOICE), Heard::Dropped(6));
+    Ok(())
+}
+
+#[test]
+fn a_listener_takes_no_other_version(rt: HostRuntime) -> Result<(), Fail> {
+    let mut node = listener(rt.alloc())?;
+    for other in OTHER_VERSIONS {
+        same!(rt; node.receive(0, &other), Heard::Dropped(7), other);
+    }
+    same!(rt; node.phase(), Phase::Listening);
+    same!(rt; node.receive(0, &CHOICE), Heard::Started);
+    Ok(())
+}
+
+/// Other flags and commands of a set-up packet are not looked at.
+#[test]
+fn any_valid_choice_starts_a_listener(rt: HostRuntime) -> Result<(), Fail> {
+    for flags in [
+        SETUP,
+        SETUP + KILL,
+        SETUP + RETRANSMIT,
+        SETUP + EXIT,
+        SETUP + KILL + RETRANSMIT + EXIT,
+    ] {
+        let mut node = listener(rt.alloc())?;
+        hears(
+            &rt,
+            &mut node,
+            0,
+            (flags, (99, 71, 111), &[STILL]),
+            Heard::Started,
+        );
+        same!(rt; (node.made(), node.got(0)), (0, Some(0)), flags);
+    }
+    Ok(())
+}
+
+#[test]
+fn the_key_player_waits_for_all(rt: HostRuntime) -> Result<(), Fail> {
+    for (heard, answers) in [
+        (
+            [3, 3, 1, 2],
+            [Heard::Noted, Heard::Noted, Heard::Noted, Heard::Started],
+        ),
+        (
+            [1, 2, 2, 3],
+            [Heard::Noted, Heard::Noted, Heard::Noted, Heard::Started],
+        ),
+        (
+            [2, 0, 1, 3],
+            [
+                Heard::Noted,
+                Heard::Dropped(5),
+                Heard::Noted,
+                Heard::Started,
+            ],
+        ),
+    ] {
+        let mut key = opened(rt.alloc(), (4, 0), false, LIMIT)?;
+        for (player, answer) in heard.into_iter().zip(answers) {
+            same!(rt; key.phase(), Phase::Gathering, heard);
+            hears(&rt, &mut key, player, (0, (0, 0, player), &[STILL]), answer);
+        }
+        same!(rt; key.phase(), Phase::Playing, heard);
+        // what the packets carried is not kept
+        same!(rt; key.got(3), Some(0), heard);
+        let header = [0x6F, 2, 1, 1, 0, 0, 0, 0, 0, 1, 1, 1, 1];
+        same!(rt; key.demo(), header.as_slice(), heard);
+    }
+    Ok(())
+}
+
+/// The bytes of a packet, which has to be there.
+fn given(node: &mut Lockstep, to: u8) -> Result<ArrayVec<u8, 104>, Fail> {
+    Ok(node.packet(to).ok_or("no packet")?)
+}
+
+/// Compares what nodes tell of themselves: made, ran, the commands of both players, the demo's length.
+fn stands(rt: &impl Abort, node: &Lockstep, made: u32, got: (u32, u32)) {
+    same!(rt; node.phase(), Phase::Playing);
+    same!(rt; (node.made(), node.ran()), (made, 1));
+    same!(rt; (node.got(0), node.got(1)), (Some(got.0), Some(got.1)));
+    same!(rt; node.demo().len(), 23);
+}
+
+#[test]
+fn two_nodes_start_and_run_a_tic(rt: HostRuntime) -> Result<(), Fail> {
+    let keys = Keys::from_bits(NO_KEYS);
+    let mut key = opened(rt.alloc(), (2, 0), false, LIMIT)?;
+    let mut other = listener(rt.alloc())?;
+    let choice_bytes = [0x69, 0x86, 0x92, 0x21, 0x02, 0x41, 0x6F, 0x00];
+    let set_up = given(&mut key, 1)?;
+    same!(rt; set_up.as_slice(), choice_bytes.as_slice());
+    same!(rt; other.receive(0, set_up.as_slice()), Heard::Started);
+    same!(rt; other.settings(), Some(choice()?));
+    same!(rt; other.build(keys), Made::Made(0));
+    // its first packet is used up by the start
+    same!(rt; pass(&mut other, &mut key), Some(Heard::Started));
+    same!(rt; other.build(keys), Made::Made(1));
+    same!(rt; pass(&mut other, &mut key), Some(Heard::Gap));
+    same!(rt; key.build(keys), Made::Made(0));
+    let request = given(&mut key, 1)?;
+    let mut bytes = [0; 16];
+    bytes[..8].copy_from_slice(&[0x67, 0x45, 0x23, 0x42, 0, 0, 0, 1]);
+    same!(rt; request.as_slice(), bytes.as_slice());
+    same!(rt; other.receive(0, request.as_slice()), Heard::Taken(1));
+    let answer = given(&mut other, 0)?;
+    let mut bytes = [0; 24];
+    bytes[..8].copy_from_slice(&[0x67, 0x45, 0x24, 0x03, 0, 0, 1, 2]);
+    same!(rt; answer.as_slice(), bytes.as_slice());
+    same!(rt; key.receive(1, answer.as_slice()), Heard::Taken(2));
+    same!(rt; run(&mut key), Ran::Ran(0));
+    same!(rt; run(&mut other), Ran::Ran(0));
+    stands(&rt, &key, 1, (1, 2));
+    stands(&rt, &other, 2, (1, 2));
+    // the same once more
+    same!(rt; key.receive(1, answer.as_slice()), Heard::Stale);
+    stands(&rt, &key, 1, (1, 2));
+    Ok(())
+}

@@ -1,0 +1,149 @@
+//! A lockstep with a Walk beside it plays as a node with a Walk inside.
+
+use super::{LIMIT, choice, opened};
+use arrayvec::ArrayVec;
+use dn_lockstep::Lockstep;
+use dn_node::{Config, Heard, Node, Ran};
+use dn_tic::Keys;
+use dn_world::{Walk, World};
+use std::alloc::Global;
+use std::process::Abort;
+use std::test::Fail;
+
+/// A lockstep, and the world that its caller steps.
+#[derive(Drop)]
+struct Beside {
+    lockstep: Lockstep,
+    walk: Walk,
+}
+
+impl Beside {
+    fn new(alloc: Global, me: u8) -> Result<Beside, Fail> {
+        let settings = if me == 0 { Some(choice()?) } else { None };
+        let config = Config {
+            players: 2,
+            me,
+            extra: false,
+            limit: LIMIT,
+            settings,
+        };
+        Ok(Beside {
+            lockstep: Lockstep::new(alloc, config)?,
+            walk: Walk::new(),
+        })
+    }
+
+    /// Hears a datagram, and begins the world where the game starts.
+    fn receive(&mut self, from: u8, bytes: &[u8]) -> Result<Heard, Fail> {
+        let heard = self.lockstep.receive(from, bytes);
+        if heard == Heard::Started {
+            let settings = self.lockstep.settings().ok_or("no settings")?;
+            let present = self.lockstep.present();
+            self.walk.begin(&settings.start(), present);
+        }
+        Ok(heard)
+    }
+
+    /// Runs by the world's marks, and steps the world by the row.
+    fn run(&mut self) -> Ran {
+        let walk = &self.walk;
+        let marks = [walk.mark(0), walk.mark(1), walk.mark(2), walk.mark(3)];
+        let (ran, row) = self.lockstep.run(&marks);
+        if let Some(row) = row {
+            self.walk.step(&row);
+        }
+        ran
+    }
+}
+
+/// Both build with the same keys, and give the same packet to the other player.
+fn builds(
+    rt: &impl Abort,
+    beside: &mut Beside,
+    node: &mut Node<Walk>,
+    bits: u32,
+) -> Option<ArrayVec<u8, 104>> {
+    let keys = Keys::from_bits(bits >> 14);
+    same!(rt; beside.lockstep.build(keys), node.build(keys), bits);
+    gives(rt, beside, node)
+}
+
+/// Both give the same packet to the other player.
+fn gives(rt: &impl Abort, beside: &mut Beside, node: &mut Node<Walk>) -> Option<ArrayVec<u8, 104>> {
+    let to = u8::from(node.me() == 0);
+    let one = beside.lockstep.packet(to);
+    let two = node.packet(to);
+    match (&one, &two) {
+        (Some(one), Some(two)) => same!(rt; one.as_slice(), two.as_slice()),
+        (one, two) => same!(rt; (one.is_none(), two.is_none()), (true, true)),
+    }
+    one
+}
+
+/// Both hear the same packet, and answer alike.
+fn hears(
+    rt: &impl Abort,
+    beside: &mut Beside,
+    node: &mut Node<Walk>,
+    packet: Option<ArrayVec<u8, 104>>,
+) -> Result<(), Fail> {
+    if let Some(bytes) = packet {
+        let from = u8::from(node.me() == 0);
+        let heard = beside.receive(from, bytes.as_slice())?;
+        same!(rt; heard, node.receive(from, bytes.as_slice()));
+    }
+    Ok(())
+}
+
+/// Both tell the same of themselves, and their worlds are the same.
+fn agree(rt: &impl Abort, beside: &Beside, node: &Node<Walk>) {
+    let lockstep = &beside.lockstep;
+    same!(rt; lockstep.phase(), node.phase());
+    same!(rt; (lockstep.made(), lockstep.ran()), (node.made(), node.ran()));
+    same!(rt; lockstep.demo(), node.demo());
+    let (walk, world) = (&beside.walk, node.world());
+    for player in 0..2 {
+        same!(rt; lockstep.end(player), node.end(player), player);
+        same!(rt; (walk.x(player), walk.angle(player)), (world.x(player), world.angle(player)), player);
+    }
+}
+
+/// Both run, and leave where they are to.
+fn runs(rt: &impl Abort, beside: &mut Beside, node: &mut Node<Walk>, leaves: bool) {
+    same!(rt; beside.run(), node.run());
+    if leaves {
+        same!(rt; (beside.lockstep.quit(), node.quit()), (true, true));
+    }
+    agree(rt, beside, node);
+}
+
+#[test]
+fn a_world_beside_is_a_world_inside(rt: HostRuntime) -> Result<(), Fail> {
+    let alloc = rt.alloc();
+    let mut besides = (Beside::new(alloc, 0)?, Beside::new(alloc, 1)?);
+    let mut nodes = (
+        opened(alloc, (2, 0), false, LIMIT, Walk::new())?,
+        opened(alloc, (2, 1), false, LIMIT, Walk::new())?,
+    );
+    for round in 0u32..120 {
+        let bits = (
+            round.wrapping_mul(0x9E37_79B1),
+            round.wrapping_mul(0x85EB_CA6B),
+        );
+        let first = builds(&rt, &mut besides.0, &mut nodes.0, bits.0);
+        let second = builds(&rt, &mut besides.1, &mut nodes.1, bits.1);
+        // now and then a packet is lost
+        if round % 25 != 3 {
+            hears(&rt, &mut besides.1, &mut nodes.1, first)?;
+        }
+        if round % 31 != 4 {
+            hears(&rt, &mut besides.0, &mut nodes.0, second)?;
+        }
+        // the first leaves after a hundred rounds
+        runs(&rt, &mut besides.0, &mut nodes.0, round == 100);
+        runs(&rt, &mut besides.1, &mut nodes.1, false);
+    }
+    holds!(rt; nodes.0.ran() > 40);
+    holds!(rt; nodes.1.ran() > nodes.0.ran());
+    Ok(())
+}
