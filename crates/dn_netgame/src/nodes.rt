@@ -78,9 +78,9 @@ fn line_end(stopped: bool) -> &'static str
     if stopped { " stopped\n" } else { "\n" }
 }
 
-/// The line of a node.
+/// Appends the line of a node, which also tells whether its program has stopped. Err where memory is refused.
 #[tactic(auto, unfolding(crate::specs::NodeLines::node_line))]
-pub(crate) fn push_node<W: World>(
+pub fn push_node<W: World>(
     text: &mut String,
     node: &Node<W>,
     stopped: bool,
