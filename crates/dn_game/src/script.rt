@@ -7,8 +7,6 @@ ghost use Rattle.dn_game.specs.Script.{IsReadAs, IsSameButMemory, answered};
 
 mod laws;
 mod line;
-#[cfg(test)]
-mod tests;
 mod words;
 
 use dn_machine::Event;

@@ -32,6 +32,7 @@ mod opening;
 mod playing;
 mod rounds;
 mod schedules;
+mod scripts;
 mod storms;
 mod told;
 

@@ -1,6 +1,6 @@
 //! Tests of bad lines, long texts and refused memory.
 
-use crate::script::{ScriptFault, read_script};
+use dn_game::{ScriptFault, read_script};
 use std::test::Fail;
 
 #[test]

@@ -1,6 +1,6 @@
 //! Tests of good and skipped lines.
 
-use crate::script::read_script;
+use dn_game::read_script;
 use dn_machine::Event;
 use dn_tic::Keys;
 use std::test::Fail;
