@@ -1,4 +1,4 @@
-//! Tests of `dn_lockstep`, apart from it: a crate with tests is proved once more with them.
+//! Tests of `dn_lockstep`, in a crate of their own, since a crate that has tests is proved twice.
 #![tactic(auto)]
 
 #[cfg(test)]

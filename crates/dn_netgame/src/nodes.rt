@@ -78,7 +78,8 @@ fn line_end(stopped: bool) -> &'static str
     if stopped { " stopped\n" } else { "\n" }
 }
 
-/// Appends the line of a node, which also tells whether its program has stopped. Err where memory is refused.
+/// Appends the line of a node, which also tells whether its program has stopped. Err where memory is refused;
+/// the text may then have a front of the line.
 #[tactic(auto, unfolding(crate::specs::NodeLines::node_line))]
 pub fn push_node<W: World>(
     text: &mut String,

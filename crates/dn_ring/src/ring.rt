@@ -79,8 +79,8 @@ impl Ring {
         self.slot((tic % PLACES) as usize)
     }
 
-    /// The commands from a tic on, of at most the last twelve, in two pieces: those up to the end of the
-    /// table, and those that go on at its front, if there are any.
+    /// The commands from a tic on, of at most the last twelve, in two pieces of which the second goes on where
+    /// the first ends. Where they part is not promised.
     pub fn since(&self, tic: u32) -> (&[TicCmd], &[TicCmd])
         requires low { tic ≤ self.now.count }
         requires high { self.now.count ≤ tic + 12 }
