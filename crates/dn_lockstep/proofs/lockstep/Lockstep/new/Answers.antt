@@ -42,3 +42,18 @@ returns-clause-opened c marking settings key =
         writable = nothing_written config.players (omega arith) (omega arith);
       };
     }
+
+pub returns-in_err-demo-clause-admitted : goal.returns-in_err-demo-clause-admitted
+returns-in_err-demo-clause-admitted c = search rules
+
+pub capacity-requires-clause-limit : goal.capacity-requires-clause-limit
+capacity-requires-clause-limit c = search rules
+
+pub invariant_of-result : goal.invariant_of-result
+invariant_of-result c = search rules
+
+pub returns-clause-admitted : goal.returns-clause-admitted
+returns-clause-admitted c = search rules
+
+pub returns-clause-room : goal.returns-clause-room
+returns-clause-room c = search rules
