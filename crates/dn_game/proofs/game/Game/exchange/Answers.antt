@@ -1,4 +1,4 @@
-use Rattle.std.proofs.Common.{true≢false, sym, ◌∙◌}
+use Rattle.std.proofs.Common.{true≢false, sym, ◌∙◌, rules}
 use Rattle.dn_machine.specs.Worlds.{rules_of}
 use Rattle.dn_game.proofs.Arriving.{exchanges}
 use Rattle.dn_game.proofs.Recent.{flights_are}
@@ -15,3 +15,6 @@ returns-clause-good g c players extra capacity m r =
 
 pub returns-clause-limits : goal.returns-clause-limits
 returns-clause-limits g c = c.apply-2.ensures.limits ∙ c.apply.ensures.limits
+
+pub returns-then-is_left_out-clause-good : goal.returns-then-is_left_out-clause-good
+returns-then-is_left_out-clause-good g c = search rules
