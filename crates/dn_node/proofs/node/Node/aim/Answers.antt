@@ -1,4 +1,4 @@
-use Rattle.std.proofs.Common.{◌≡◌, Option, ap, ◌∙◌}
+use Rattle.std.proofs.Common.{◌≡◌, Option, ap, ◌∙◌, rules}
 use Rattle.std.specs.Option.{option_map}
 use Rattle.dn_machine.specs.Flight.{Flight}
 use Rattle.dn_machine.specs.Node as machine
@@ -15,3 +15,6 @@ returns-clause-told g c =
     (λ rules me m. c.aim.result ≡ option_map aim_of (sent_to c.args.to rules me m).1) c.aim.ensures.told
     (λ players extra capacity me m is. is ∙ ap (λ (x : machine.Node × Option Flight). option_map aim_of x.1)
     (sends_same g.W.World.physics players extra capacity m me c.args.to))
+
+pub returns-clause-reach : goal.returns-clause-reach
+returns-clause-reach g c = search rules

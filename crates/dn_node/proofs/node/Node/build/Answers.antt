@@ -1,4 +1,4 @@
-use Rattle.std.proofs.Common.{◌≡◌, refl}
+use Rattle.std.proofs.Common.{◌≡◌, refl, rules}
 use Rattle.dn_machine.specs.Building.{on_build}
 use Rattle.dn_machine.specs.Worlds.{rules_of}
 use Rattle.dn_lockstep.specs.Contents as lockstep
@@ -21,3 +21,15 @@ returns-clause-step g c =
     (λ made. c.build.result ≡ made) refl
     (λ players extra capacity me m answer. build_beside (rules_of g.W.World.physics players extra capacity) me
     m c.args.keys))
+
+pub returns-clause-full : goal.returns-clause-full
+returns-clause-full g c = search rules
+
+pub returns-clause-idle : goal.returns-clause-idle
+returns-clause-idle g c = search rules
+
+pub returns-clause-world : goal.returns-clause-world
+returns-clause-world g c = search rules
+
+pub returns-clause-room : goal.returns-clause-room
+returns-clause-room g c = search rules

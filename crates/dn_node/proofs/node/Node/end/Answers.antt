@@ -1,4 +1,4 @@
-use Rattle.std.proofs.Common.{◌≡◌, None}
+use Rattle.std.proofs.Common.{◌≡◌, None, rules}
 use Rattle.std.specs.Prelude.{nat_lt, if◌then◌else◌}
 use Rattle.dn_machine.specs.Node.{known_end}
 use Rattle.dn_node.specs.Contents.{contents}
@@ -13,3 +13,6 @@ returns-clause-told g c =
     (λ rules me m. c.end.result
     ≡ (if nat_lt c.args.player rules.players then known_end me m c.args.player else None))
     c.end.ensures.told (λ players extra capacity me m is. is)
+
+pub returns-clause-value : goal.returns-clause-value
+returns-clause-value g c = search rules

@@ -1,4 +1,4 @@
-use Rattle.std.proofs.Common.{◌≡◌, Option, refl, subst}
+use Rattle.std.proofs.Common.{◌≡◌, Option, refl, subst, rules}
 use Rattle.std.specs.Prelude.{IfSome}
 use Rattle.std.specs.Option.{option_map}
 use Rattle.dn_machine.specs.Flight.{Flight}
@@ -36,3 +36,12 @@ returns-clause-fair g c =
     (λ rules me m. IfSome (sent_to c.args.to rules me m).1 IsFair) c.packet.ensures.fair
     (λ players extra capacity me m. subst (λ (x : machine.Node × Option Flight). IfSome x.1 IsFair)
     (sends_same g.W.World.physics players extra capacity m me c.args.to))
+
+pub returns-clause-idle : goal.returns-clause-idle
+returns-clause-idle g c = search rules
+
+pub returns-clause-world : goal.returns-clause-world
+returns-clause-world g c = search rules
+
+pub returns-clause-room : goal.returns-clause-room
+returns-clause-room g c = search rules

@@ -1,4 +1,4 @@
-use Rattle.std.proofs.Common.{◌≡◌, Option, refl, subst}
+use Rattle.std.proofs.Common.{◌≡◌, Option, refl, subst, rules}
 use Rattle.std.specs.Prelude.{IfSome}
 use Rattle.std.specs.Bool.{then_some}
 use Rattle.std.specs.Option.{option_map}
@@ -37,3 +37,15 @@ returns-clause-fair g c =
     (λ rules me m. IfSome (sent_to c.args.to rules me m).1 IsFair) c.packet_into.ensures.fair
     (λ players extra capacity me m. subst (λ (x : machine.Node × Option Flight). IfSome x.1 IsFair)
     (sends_same g.W.World.physics players extra capacity m me c.args.to))
+
+pub returns-clause-idle : goal.returns-clause-idle
+returns-clause-idle g c = search rules
+
+pub returns-clause-world : goal.returns-clause-world
+returns-clause-world g c = search rules
+
+pub returns-clause-room : goal.returns-clause-room
+returns-clause-room g c = search rules
+
+pub returns-clause-unwritten : goal.returns-clause-unwritten
+returns-clause-unwritten g c = search rules
