@@ -1,4 +1,4 @@
-use Rattle.std.proofs.Common.{◌<◌, ◌∙◌, length, Some, ap, arith}
+use Rattle.std.proofs.Common.{◌<◌, ◌∙◌, length, Some, ap, arith, rules}
 use Rattle.dn_demo.specs.Layout.{layout_of}
 use Rattle.dn_demo.proofs.Kept.{row_kept, fold-row}
 use Rattle.dn_demo.proofs.playing.play.Goals as goal
@@ -23,3 +23,6 @@ loop-tic-preserved g c =
     below in
     fold-row physics.step (physics.begin demo.start demo.present) _ _ demo.rows c.loop-tic.tic _
     (ap (λ x. Some x) c.row.ensures ∙ row.1) c.loop-tic.invariant c.step.ensures
+
+pub loop-tic-init : goal.loop-tic-init
+loop-tic-init g c = search rules

@@ -99,3 +99,6 @@ returns c =
       (grind (arith, nat_tests)),
       λ i. record { limit = limit i; stage = stage i; bytes = closed i },
     )
+
+pub returns-then-tics-capacity : goal.returns-then-tics-capacity
+returns-then-tics-capacity c = search rules

@@ -9,3 +9,6 @@ loop-rest-preserved g c =
           c.advance-rest.ensures.front,
       λ none. absurd (omega (arith, some, ap length (c.loop-rest.invariant.1 none).0)),
     )
+
+pub returns-clause-empty : goal.returns-clause-empty
+returns-clause-empty g c = search rules
