@@ -30,6 +30,3 @@ returns-clause-idle g c = search rules
 
 pub returns-clause-world : goal.returns-clause-world
 returns-clause-world g c = search rules
-
-pub returns-clause-room : goal.returns-clause-room
-returns-clause-room g c = search rules

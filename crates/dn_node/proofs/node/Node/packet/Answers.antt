@@ -39,9 +39,3 @@ returns-clause-fair g c =
 
 pub returns-clause-idle : goal.returns-clause-idle
 returns-clause-idle g c = search rules
-
-pub returns-clause-world : goal.returns-clause-world
-returns-clause-world g c = search rules
-
-pub returns-clause-room : goal.returns-clause-room
-returns-clause-room g c = search rules

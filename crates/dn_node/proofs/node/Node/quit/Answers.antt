@@ -1,4 +1,4 @@
-use Rattle.std.proofs.Common.{◌≡◌, refl, rules}
+use Rattle.std.proofs.Common.{◌≡◌, refl}
 use Rattle.dn_machine.specs.Running.{on_quit}
 use Rattle.dn_machine.specs.Worlds.{rules_of}
 use Rattle.dn_lockstep.specs.Contents as lockstep
@@ -18,12 +18,3 @@ returns-clause-step g c =
     (λ quit. c.quit.result ≡ quit) refl
     (λ players extra capacity me m answer. quit_beside (rules_of g.W.World.physics players extra capacity) me
     m))
-
-pub returns-clause-idle : goal.returns-clause-idle
-returns-clause-idle g c = search rules
-
-pub returns-clause-world : goal.returns-clause-world
-returns-clause-world g c = search rules
-
-pub returns-clause-room : goal.returns-clause-room
-returns-clause-room g c = search rules
