@@ -1,4 +1,4 @@
-//! Tests of nodes.
+//! Tests of demos, of nodes without a world, and of nodes that step one.
 
 ghost use Rattle.std.specs.Prelude.{◌<◌};
 
@@ -23,23 +23,16 @@ macro_rules! holds {
     };
 }
 
-mod beside;
-mod demos;
-mod leaving;
-mod marks;
-mod opening;
-mod worlds;
+mod demo;
+mod lockstep;
+mod node;
 
 use arrayvec::ArrayVec;
-use dn_node::{Config, Heard, Node, Ran};
 use dn_packet::{Packet, encode};
 use dn_setup::{Settings, SettingsFault};
-use dn_tic::{Keys, TicCmd};
-use dn_world::{Walk, World};
-use std::alloc::Global;
+use dn_tic::TicCmd;
 use std::fmt::Debug;
 use std::process::Abort;
-use std::test::Fail;
 
 /// How many bytes the demos of most tests may have.
 const LIMIT: u32 = 131_072;
@@ -84,86 +77,9 @@ fn confirm(rt: &impl Abort, what: &str, row: &impl Debug, fact: bool) {
     assert!(rt; fact, "{what}, row {row:?}");
 }
 
-/// Hands a node a packet, and compares its answer.
-fn hears<W: World>(
-    rt: &impl Abort,
-    node: &mut Node<W>,
-    from: u8,
-    (flags, numbers, commands): (u8, (u8, u8, u8), &[TicCmd]),
-    answer: Heard,
-) {
-    assert!(rt; flags < 16);
-    let bytes = datagram(flags, numbers, commands);
-    same!(rt; node.receive(from, bytes.as_slice()), answer, (from, flags, numbers, commands));
-}
-
 /// Skill 2, episode 1, map 1.
 fn choice() -> Result<Settings, SettingsFault> {
     Settings::new(2, 0, false, false, 1, 1)
-}
-
-/// A node of a game with these rules, which has the settings where it is player 0.
-fn opened<W: World>(
-    alloc: Global,
-    (players, me): (u8, u8),
-    extra: bool,
-    limit: u32,
-    world: W,
-) -> Result<Node<W>, Fail> {
-    let settings = if me == 0 { Some(choice()?) } else { None };
-    let config = Config {
-        players,
-        me,
-        extra,
-        limit,
-        settings,
-    };
-    Ok(Node::new(alloc, config, world)?)
-}
-
-/// Hands the next packet of a node to another. None where there is no packet.
-fn pass<W: World>(from: &mut Node<W>, to: &mut Node<W>) -> Option<Heard> {
-    let bytes = from.packet(to.me())?;
-    Some(to.receive(from.me(), bytes.as_slice()))
-}
-
-/// Two nodes that play, and have built nothing.
-fn pair_of<W: World>(
-    alloc: Global,
-    extra: bool,
-    limit: u32,
-    (first, second): (W, W),
-) -> Result<(Node<W>, Node<W>), Fail> {
-    let mut key = opened(alloc, (2, 0), extra, limit, first)?;
-    let mut other = opened(alloc, (2, 1), extra, limit, second)?;
-    pass(&mut key, &mut other).ok_or("no set-up packet")?;
-    pass(&mut other, &mut key).ok_or("no packet")?;
-    Ok((key, other))
-}
-
-/// The same with Walks.
-fn pair(alloc: Global, extra: bool) -> Result<(Node<Walk>, Node<Walk>), Fail> {
-    pair_of(alloc, extra, LIMIT, (Walk::new(), Walk::new()))
-}
-
-/// Builds on both nodes, passes both their packets, and runs both. The answers are those of the runs.
-fn tic<W: World>(
-    key: &mut Node<W>,
-    other: &mut Node<W>,
-    (first, second): (u32, u32),
-) -> (Ran, Ran) {
-    let _ = key.build(Keys::from_bits(first));
-    let _ = other.build(Keys::from_bits(second));
-    let _ = pass(key, other);
-    let _ = pass(other, key);
-    (key.run(), other.run())
-}
-
-/// Plays `count` such tics.
-fn tics<W: World>(key: &mut Node<W>, other: &mut Node<W>, count: u32, keys: (u32, u32)) {
-    for _ in 0..count {
-        let _ = tic(key, other, keys);
-    }
 }
 
 /// The datagram of a packet with these flags, these ask, start and player bytes, and these commands.

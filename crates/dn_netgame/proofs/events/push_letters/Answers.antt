@@ -1,4 +1,4 @@
-use Rattle.std.proofs.Common.{◌≡◌, ◌+◌, ℕ, List, ◌++◌, take, ap, sym, ◌∙◌, subst}
+use Rattle.std.proofs.Common.{rules, ◌≡◌, ◌+◌, ℕ, List, ◌++◌, take, ap, sym, ◌∙◌, subst}
 use Rattle.std.specs.String.{string_bytes}
 use Rattle.std.specs.declared.alloc.Global.{Global}
 use Rattle.std.specs.declared.string.String.{String}
@@ -27,3 +27,6 @@ loop-place-preserved c =
           (letter_not c.args.bits place c.loop-place-test.true old (string_bytes c.loop-place.text)
           c.loop-place.invariant (ne_eqb _ _ w.if-bits-place-eq1.false))
     ]
+
+pub loop-place-init : goal.loop-place-init
+loop-place-init c = search rules

@@ -1,0 +1,63 @@
+//! Tests of games.
+
+mod agreeing;
+mod applying;
+mod belts;
+mod far;
+mod leaving;
+mod memory;
+mod old_packets;
+mod opening;
+mod playing;
+mod rounds;
+mod schedules;
+mod scripts;
+mod storms;
+mod told;
+
+use dn_game::{Done, Event, Game, GameConfig, Refusal};
+use dn_setup::{Settings, SettingsFault};
+use dn_tic::Keys;
+use dn_world::Walk;
+use std::alloc::{AllocError, Global};
+use std::process::Abort;
+use std::test::Fail;
+
+/// Applies an event, and compares the answer.
+fn applies(rt: &impl Abort, game: &mut Game<Walk>, event: Event, answer: Result<Done, Refusal>) {
+    let answered = game.apply(event);
+    same!(rt; answered, answer, event);
+}
+
+/// A game of skill 2 on the first map, with this many bytes for each demo.
+fn config(limit: u32) -> Result<GameConfig, SettingsFault> {
+    let settings = Settings::new(2, 0, false, false, 1, 1)?;
+    Ok(GameConfig {
+        settings,
+        extra: false,
+        limit,
+    })
+}
+
+fn walks(alloc: Global, count: usize) -> Result<Vec<Walk>, AllocError> {
+    let mut worlds = Vec::with_capacity(alloc, count)?;
+    for _ in 0..count {
+        worlds.push(Walk::new())?;
+    }
+    Ok(worlds)
+}
+
+/// A game that no event has met.
+fn opened(alloc: Global, players: usize) -> Result<Game<Walk>, Fail> {
+    let worlds = walks(alloc, players)?;
+    Ok(Game::new(alloc, config(131_072)?, worlds)?)
+}
+
+fn build(node: u32, bits: u32) -> Event {
+    let keys = Keys::from_bits(bits);
+    Event::Build { node, keys }
+}
+
+fn send(node: u32, to: u32) -> Event {
+    Event::Send { node, to }
+}

@@ -1,0 +1,116 @@
+//! Storms shown, through writers that are slow, full or failing.
+
+use super::games::{DEFAULT_LIMIT, rules};
+use super::streams::{NEVER, Sink};
+use dn_netgame::{RunFault, run_storm};
+use std::test::Fail;
+
+/// What a storm of one event prints.
+const ONE_SHOWN: &str = "node 0 gathering made 0 ran 0 got 0 0 demo 0\n\
+    node 1 listening made 0 ran 0 got 0 0 demo 0\n\
+    events 1 refused 0 flights 0\n";
+
+#[test]
+fn storms_are_shown(rt: HostRuntime) -> Result<(), Fail> {
+    let rows = [
+        (2, 1, 1, ONE_SHOWN),
+        (
+            2,
+            1,
+            1000,
+            "node 0 playing made 39 ran 34 got 39 36 demo 353\n\
+             node 1 playing made 36 ran 32 got 37 36 demo 333\n\
+             events 1000 refused 0 flights 276\n",
+        ),
+        (
+            2,
+            4_294_967_295,
+            1000,
+            "node 0 playing made 33 ran 28 got 33 35 demo 293\n\
+             node 1 playing made 36 ran 31 got 32 36 demo 323\n\
+             events 1000 refused 0 flights 259\n",
+        ),
+        (
+            4,
+            1,
+            700,
+            "node 0 playing made 5 ran 0 got 5 5 0 5 demo 13\n\
+             node 1 playing made 5 ran 0 got 5 5 2 0 demo 13\n\
+             node 2 playing made 9 ran 4 got 5 5 9 5 demo 93\n\
+             node 3 playing made 5 ran 0 got 0 5 5 5 demo 13\n\
+             events 700 refused 0 flights 161\n",
+        ),
+    ];
+    for (players, seed, count, text) in rows {
+        let config = rules(DEFAULT_LIMIT)?;
+        let mut output = Vec::new(rt.alloc());
+        let status = run_storm(rt.alloc(), config, players, seed, count, &mut output);
+        same!(rt; status, Ok(0), text);
+        same!(rt; output.as_slice(), text.as_bytes());
+    }
+    Ok(())
+}
+
+/// Each packet repeats a command, and the demos fill up.
+#[test]
+fn storms_with_repeats_are_shown(rt: HostRuntime) -> Result<(), Fail> {
+    let mut config = rules(1034)?;
+    config.extra = true;
+    let mut output = Vec::new(rt.alloc());
+    let status = run_storm(rt.alloc(), config, 3, 4_294_967_295, 20_000, &mut output);
+    let text = "node 0 ended full made 73 ran 68 got 73 72 71 demo 1034\n\
+        node 1 ended full made 73 ran 68 got 72 73 72 demo 1034\n\
+        node 2 ended full made 73 ran 68 got 72 73 73 demo 1034\n\
+        events 20000 refused 0 flights 5065\n";
+    same!(rt; status, Ok(0));
+    same!(rt; output.as_slice(), text.as_bytes());
+    Ok(())
+}
+
+#[test]
+fn a_failing_writer_has_a_front(rt: HostRuntime) -> Result<(), Fail> {
+    let text = ONE_SHOWN.as_bytes();
+    // A byte a call.
+    for fails_at in 1..=text.len() + 1 {
+        let mut output = Sink::new(rt.alloc(), 1, fails_at as u64);
+        let status = run_storm(rt.alloc(), rules(DEFAULT_LIMIT)?, 2, 1, 1, &mut output);
+        if fails_at <= text.len() {
+            same!(rt; status, Err(RunFault::Write), fails_at);
+            same!(rt; output.taken.as_slice(), &text[..fails_at - 1]);
+        } else {
+            same!(rt; status, Ok(0));
+            same!(rt; output.taken.as_slice(), text);
+        }
+    }
+    Ok(())
+}
+
+#[test]
+fn a_writer_that_takes_no_bytes_fails(rt: HostRuntime) -> Result<(), Fail> {
+    let mut output = Sink::new(rt.alloc(), 0, NEVER);
+    let status = run_storm(rt.alloc(), rules(DEFAULT_LIMIT)?, 2, 1, 1, &mut output);
+    same!(rt; status, Err(RunFault::Write));
+    holds!(rt; output.taken.is_empty());
+    Ok(())
+}
+
+/// Each request for memory may be refused: then the answer says so, and nothing is written.
+#[test]
+fn refused_memory_is_told(rt: HostRuntime) -> Result<(), Fail> {
+    let mut room = [0; 256];
+    let mut rest = room.as_mut_slice();
+    let status = run_storm(rt.alloc(), rules(DEFAULT_LIMIT)?, 2, 1, 1, &mut rest);
+    let left = rest.len();
+    let written = &room[..256_usize.saturating_sub(left)];
+    match status {
+        Ok(status) => {
+            same!(rt; status, 0);
+            same!(rt; written, ONE_SHOWN.as_bytes());
+        }
+        Err(fault) => {
+            same!(rt; fault, RunFault::Memory);
+            holds!(rt; written.is_empty());
+        }
+    }
+    Ok(())
+}

@@ -1,0 +1,351 @@
+//! Games told event by event, and the scripts of storms.
+
+use super::games::{DEFAULT_LIMIT, rules};
+use super::scripts::{QUIT, QUIT_SHOWN, STARTED, joined};
+use super::streams::{NEVER, Sink, Source, WHOLE};
+use dn_game::{Done, Refusal};
+use dn_netgame::{
+    RunFault, push_answer, run_calm, run_sim, run_storm, storm_script, trace_sim, trace_storm,
+};
+use dn_node::{Heard, Made, Ran};
+use std::alloc::Global;
+use std::test::Fail;
+
+/// What a trace tells of the script that starts a game.
+const STARTED_TOLD: &str = "event 0 send 0 1: sent 0\n\
+    event 1 deliver 0: started\n\
+    event 2 build 1 -: built 0\n\
+    event 3 send 1 0: sent 1\n\
+    event 4 deliver 1: started\n\
+    event 5 build 1 -: built 1\n\
+    event 6 send 1 0: sent 2\n\
+    event 7 deliver 2: gap\n\
+    event 8 build 0 -: built 0\n\
+    event 9 send 0 1: sent 3\n\
+    event 10 deliver 3: taken 1\n\
+    event 11 send 1 0: sent 4\n\
+    event 12 deliver 4: taken 2\n\
+    event 13 run 0: ran 0\n\
+    event 14 run 1: ran 0\n";
+
+/// More events of that game.
+const MORE: &str = "# more\ndeliver 4\ndeliver 9\nrun 0\nsend 0 5\nsend 0 0\nbuild 0 bfb\n\
+    build 0 87654321uxstdarlbf\nbuild 0 f8\nbuild 0 -\nbuild 0 -\nbuild 0 -\nquit 0\nquit 0\nbuild 0 f\nrun 0\n\
+    send 0 1\ndeliver 5\ndeliver 4\nstop 1\nstop 1\ndeliver 3";
+
+const MORE_TOLD: &str = "event 15 deliver 4: stale\n\
+    event 16 deliver 9: refused 2 no packet\n\
+    event 17 run 0: waiting 0\n\
+    event 18 send 0 5: refused 1 no node\n\
+    event 19 send 0 0: silent\n\
+    event 20 build 0 fb: built 1\n\
+    event 21 build 0 fblradtsxu12345678: built 2\n\
+    event 22 build 0 f8: built 3\n\
+    event 23 build 0 -: built 4\n\
+    event 24 build 0 -: built 5\n\
+    event 25 build 0 -: full\n\
+    event 26 quit 0: quit\n\
+    event 27 quit 0: had ended\n\
+    event 28 build 0 f: not playing\n\
+    event 29 run 0: not playing\n\
+    event 30 send 0 1: sent 5\n\
+    event 31 deliver 5: left\n\
+    event 32 deliver 4: noted\n\
+    event 33 stop 1: stopped\n\
+    event 34 stop 1: refused 4 stopped\n\
+    event 35 deliver 3: refused 4 stopped\n\
+    node 0 ended quit made 6 ran 1 got 6 2 demo 24\n\
+    node 1 playing made 2 ran 1 got 6 2 demo 23 stopped\n\
+    events 32 refused 4 flights 6\n";
+
+/// What a trace tells of the short script.
+const QUIT_TOLD: &str = "event 0 quit 0: quit\n";
+
+/// The first events for seed 42, by the words of the generator's published reference code.
+const DRAWN: &str = "send 1 0\nbuild 1 blrdt457\nrun 1\nbuild 0 fradtsx134\nsend 1 0\nrun 0\n";
+
+const DRAWN_TOLD: &str = "event 0 send 1 0: silent\n\
+    event 1 build 1 blrdt457: not playing\n\
+    event 2 run 1: not playing\n\
+    event 3 build 0 fradtsx134: not playing\n\
+    event 4 send 1 0: silent\n\
+    event 5 run 0: not playing\n";
+
+fn words(alloc: Global, answer: Result<Done, Refusal>) -> Result<String, Fail> {
+    let mut text = String::new(alloc);
+    push_answer(&mut text, answer)?;
+    Ok(text)
+}
+
+#[test]
+fn answers_are_told_in_words(rt: HostRuntime) -> Result<(), Fail> {
+    let inconsistent = Ran::Inconsistent {
+        player: 1,
+        was: -5,
+        should: 28_672,
+    };
+    let rows = [
+        (Ok(Done::Built(Made::Made(3))), "built 3"),
+        (Ok(Done::Sent(7)), "sent 7"),
+        (Ok(Done::Heard(Heard::Taken(2))), "taken 2"),
+        (Ok(Done::Heard(Heard::Dropped(0))), "dropped 0"),
+        (Ok(Done::Heard(Heard::Dropped(1))), "dropped 1 short"),
+        (Ok(Done::Heard(Heard::Dropped(2))), "dropped 2 many"),
+        (Ok(Done::Heard(Heard::Dropped(3))), "dropped 3 length"),
+        (Ok(Done::Heard(Heard::Dropped(4))), "dropped 4 sum"),
+        (Ok(Done::Heard(Heard::Dropped(5))), "dropped 5 stranger"),
+        (Ok(Done::Heard(Heard::Dropped(6))), "dropped 6 set-up"),
+        (Ok(Done::Heard(Heard::Dropped(7))), "dropped 7 version"),
+        (Ok(Done::Heard(Heard::Dropped(8))), "dropped 8 range"),
+        (Ok(Done::Heard(Heard::Dropped(9))), "dropped 9 kill"),
+        (Ok(Done::Heard(Heard::Dropped(10))), "dropped 10 tic"),
+        (Ok(Done::Heard(Heard::Dropped(11))), "dropped 11 command"),
+        (Ok(Done::Heard(Heard::Dropped(12))), "dropped 12 overrun"),
+        (
+            Ok(Done::Heard(Heard::Dropped(13))),
+            "dropped 13 not playing",
+        ),
+        (Ok(Done::Heard(Heard::Dropped(14))), "dropped 14 end"),
+        (Ok(Done::Heard(Heard::Dropped(255))), "dropped 255"),
+        (Ok(Done::Ran(Ran::Waiting(1))), "waiting 1"),
+        (Ok(Done::Ran(Ran::DemoFull)), "demo full"),
+        (
+            Ok(Done::Ran(inconsistent)),
+            "inconsistent 1 was -5 should 28672",
+        ),
+        (Err(Refusal::Far), "refused 3 far"),
+        (Err(Refusal::Memory), "refused 5 no memory"),
+    ];
+    for (answer, text) in rows {
+        same!(rt; words(rt.alloc(), answer)?.as_str(), text);
+    }
+    Ok(())
+}
+
+#[test]
+fn scripts_are_told_event_by_event(rt: HostRuntime) -> Result<(), Fail> {
+    let more = joined(rt.alloc(), STARTED, MORE)?;
+    let more_told = joined(rt.alloc(), STARTED_TOLD, MORE_TOLD)?;
+    let quit_told = joined(rt.alloc(), QUIT_TOLD, QUIT_SHOWN)?;
+    let rows = [
+        (more.as_bytes(), 0, more_told.as_str()),
+        (QUIT, 0, quit_told.as_str()),
+        (b"run 0\nbuild 0 q\n".as_slice(), 1, "script: line 2\n"),
+    ];
+    for (script, status, text) in rows {
+        let mut input = script;
+        let mut output = Vec::new(rt.alloc());
+        let answer = trace_sim(
+            rt.alloc(),
+            rules(DEFAULT_LIMIT)?,
+            2,
+            &mut input,
+            &mut output,
+        );
+        same!(rt; answer, Ok(status));
+        same!(rt; output.as_slice(), text.as_bytes());
+    }
+    Ok(())
+}
+
+#[test]
+fn packets_that_are_dropped_are_told(rt: HostRuntime) -> Result<(), Fail> {
+    let mut input = b"send 0 1\ndeliver 0\ndeliver 0\nsend 1 2\ndeliver 1\n".as_slice();
+    let mut output = Vec::new(rt.alloc());
+    let status = trace_sim(
+        rt.alloc(),
+        rules(DEFAULT_LIMIT)?,
+        3,
+        &mut input,
+        &mut output,
+    );
+    let text = b"event 0 send 0 1: sent 0\n\
+        event 1 deliver 0: started\n\
+        event 2 deliver 0: dropped 6 set-up\n\
+        event 3 send 1 2: sent 1\n\
+        event 4 deliver 1: dropped 13 not playing\n";
+    same!(rt; status, Ok(0));
+    holds!(rt; output.as_slice().starts_with(text));
+    Ok(())
+}
+
+#[test]
+fn storms_are_told_event_by_event(rt: HostRuntime) -> Result<(), Fail> {
+    for calm in [0, 4] {
+        let mut plain = Vec::new(rt.alloc());
+        let _ = run_calm(
+            rt.alloc(),
+            rules(DEFAULT_LIMIT)?,
+            2,
+            42,
+            6,
+            calm,
+            &mut plain,
+        )?;
+        let mut text = Vec::new(rt.alloc());
+        text.extend_from_slice(DRAWN_TOLD.as_bytes())?;
+        text.extend_from_slice(plain.as_slice())?;
+        let mut output = Vec::new(rt.alloc());
+        let status = trace_storm(
+            rt.alloc(),
+            rules(DEFAULT_LIMIT)?,
+            2,
+            42,
+            6,
+            calm,
+            &mut output,
+        );
+        same!(rt; status, Ok(0), calm);
+        same!(rt; output.as_slice(), text.as_slice(), calm);
+    }
+    Ok(())
+}
+
+#[test]
+fn a_storm_is_written_as_its_script(rt: HostRuntime) -> Result<(), Fail> {
+    let mut output = Vec::new(rt.alloc());
+    let status = storm_script(rt.alloc(), rules(DEFAULT_LIMIT)?, 2, 42, 6, &mut output);
+    same!(rt; status, Ok(0));
+    same!(rt; output.as_slice(), DRAWN.as_bytes());
+    Ok(())
+}
+
+/// The script of a storm, played, comes to the same end.
+#[test]
+fn a_storm_is_played_again_by_its_script(rt: HostRuntime) -> Result<(), Fail> {
+    for (players, seed, count) in [(2, 1, 1_000), (3, 7, 3_000), (4, 4_294_967_295, 5_000)] {
+        let mut storm = Vec::new(rt.alloc());
+        same!(rt; run_storm(
+                rt.alloc(),
+                rules(DEFAULT_LIMIT)?,
+                players,
+                seed,
+                count,
+                &mut storm
+            ), Ok(0));
+        let mut script = Vec::new(rt.alloc());
+        let written = storm_script(
+            rt.alloc(),
+            rules(DEFAULT_LIMIT)?,
+            players,
+            seed,
+            count,
+            &mut script,
+        );
+        same!(rt; written, Ok(0));
+        let mut again = Vec::new(rt.alloc());
+        let mut input = script.as_slice();
+        same!(rt; run_sim(
+                rt.alloc(),
+                rules(DEFAULT_LIMIT)?,
+                players,
+                &mut input,
+                &mut again
+            ), Ok(0));
+        same!(rt; again.as_slice(), storm.as_slice(), seed);
+    }
+    Ok(())
+}
+
+#[test]
+fn a_failing_reader_ends_the_trace_before_it_writes(rt: HostRuntime) -> Result<(), Fail> {
+    // A byte a call: 6 calls for the bytes, and one that finds the end.
+    for fails_at in 1..=7 {
+        let mut input = Source::new(QUIT, 1, fails_at);
+        let mut output = Sink::new(rt.alloc(), WHOLE, NEVER);
+        let status = trace_sim(
+            rt.alloc(),
+            rules(DEFAULT_LIMIT)?,
+            2,
+            &mut input,
+            &mut output,
+        );
+        same!(rt; status, Err(RunFault::Read), fails_at);
+        holds!(rt; output.taken.is_empty(), fails_at);
+    }
+    Ok(())
+}
+
+/// Which of the runs is meant.
+#[derive(Clone, Copy, Debug)]
+enum Run {
+    Sim,
+    Storm,
+    Script,
+}
+
+/// Runs it with a writer that takes a byte a call and fails at this one.
+fn written(alloc: Global, run: Run, fails_at: u64) -> Result<(Result<u8, RunFault>, Sink), Fail> {
+    let mut output = Sink::new(alloc, 1, fails_at);
+    let status = match run {
+        Run::Sim => {
+            let mut input = QUIT;
+            trace_sim(alloc, rules(DEFAULT_LIMIT)?, 2, &mut input, &mut output)
+        }
+        Run::Storm => trace_storm(alloc, rules(DEFAULT_LIMIT)?, 2, 42, 6, 0, &mut output),
+        Run::Script => storm_script(alloc, rules(DEFAULT_LIMIT)?, 2, 42, 6, &mut output),
+    };
+    Ok((status, output))
+}
+
+#[test]
+fn a_failing_writer_has_a_front(rt: HostRuntime) -> Result<(), Fail> {
+    for run in [Run::Sim, Run::Storm, Run::Script] {
+        let (status, whole) = written(rt.alloc(), run, NEVER)?;
+        same!(rt; status, Ok(0), run);
+        let text = whole.taken.as_slice();
+        for fails_at in 1..=text.len() {
+            let (status, output) = written(rt.alloc(), run, fails_at as u64)?;
+            same!(rt; status, Err(RunFault::Write), (run, fails_at));
+            same!(rt; output.taken.as_slice(), &text[..fails_at - 1]);
+        }
+    }
+    Ok(())
+}
+
+#[test]
+fn a_writer_that_takes_no_bytes_fails(rt: HostRuntime) -> Result<(), Fail> {
+    let mut output = Sink::new(rt.alloc(), 0, NEVER);
+    let mut input = QUIT;
+    let sim = trace_sim(
+        rt.alloc(),
+        rules(DEFAULT_LIMIT)?,
+        2,
+        &mut input,
+        &mut output,
+    );
+    let storm = trace_storm(rt.alloc(), rules(DEFAULT_LIMIT)?, 2, 42, 6, 0, &mut output);
+    let script = storm_script(rt.alloc(), rules(DEFAULT_LIMIT)?, 2, 42, 6, &mut output);
+    for status in [sim, storm, script] {
+        same!(rt; status, Err(RunFault::Write));
+    }
+    holds!(rt; output.taken.is_empty());
+    Ok(())
+}
+
+/// Each request for memory may be refused: then the answer says so, and nothing is written.
+#[test]
+fn refused_memory_is_told(rt: HostRuntime) -> Result<(), Fail> {
+    let mut room = [0; 512];
+    let mut rest = room.as_mut_slice();
+    let mut input = QUIT;
+    let size = rest.len();
+    let sim = trace_sim(rt.alloc(), rules(DEFAULT_LIMIT)?, 2, &mut input, &mut rest);
+    if let Err(fault) = sim {
+        same!(rt; fault, RunFault::Memory);
+        same!(rt; rest.len(), size);
+    }
+    let size = rest.len();
+    let storm = trace_storm(rt.alloc(), rules(DEFAULT_LIMIT)?, 2, 42, 1, 0, &mut rest);
+    if let Err(fault) = storm {
+        same!(rt; fault, RunFault::Memory);
+        same!(rt; rest.len(), size);
+    }
+    let size = rest.len();
+    let script = storm_script(rt.alloc(), rules(DEFAULT_LIMIT)?, 2, 42, 6, &mut rest);
+    if let Err(fault) = script {
+        same!(rt; fault, RunFault::Memory);
+        same!(rt; rest.len(), size);
+    }
+    Ok(())
+}

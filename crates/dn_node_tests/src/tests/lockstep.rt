@@ -1,0 +1,90 @@
+//! Tests of nodes without a world. Where marks do not matter, every mark that is handed in is 0.
+
+mod aims;
+mod answers;
+mod building;
+mod dropping;
+mod ending;
+mod leavers;
+mod marks;
+mod opening;
+mod repeats;
+mod requests;
+mod stages;
+mod starting;
+mod taking;
+
+use super::{FORWARD, IDLE, LEFT, LIMIT, NO_KEYS, RIGHT, SPEED, STILL, choice, datagram};
+use dn_lockstep::{Config, Heard, Lockstep, Ran};
+use dn_tic::{Keys, TicCmd};
+use std::alloc::Global;
+use std::process::Abort;
+use std::test::Fail;
+
+/// Hands a node a packet, and compares its answer.
+fn hears(
+    rt: &impl Abort,
+    node: &mut Lockstep,
+    from: u8,
+    (flags, numbers, commands): (u8, (u8, u8, u8), &[TicCmd]),
+    answer: Heard,
+) {
+    assert!(rt; flags < 16);
+    let bytes = datagram(flags, numbers, commands);
+    same!(rt; node.receive(from, bytes.as_slice()), answer, (from, flags, numbers, commands));
+}
+
+/// A node of a game with these rules, which has the settings where it is player 0.
+fn opened(
+    alloc: Global,
+    (players, me): (u8, u8),
+    extra: bool,
+    limit: u32,
+) -> Result<Lockstep, Fail> {
+    let settings = if me == 0 { Some(choice()?) } else { None };
+    let config = Config {
+        players,
+        me,
+        extra,
+        limit,
+        settings,
+    };
+    Ok(Lockstep::new(alloc, config)?)
+}
+
+/// Hands the next packet of a node to another. None where there is no packet.
+fn pass(from: &mut Lockstep, to: &mut Lockstep) -> Option<Heard> {
+    let bytes = from.packet(to.me())?;
+    Some(to.receive(from.me(), bytes.as_slice()))
+}
+
+/// Two nodes that play, and have built nothing.
+fn pair(alloc: Global, extra: bool) -> Result<(Lockstep, Lockstep), Fail> {
+    let mut key = opened(alloc, (2, 0), extra, LIMIT)?;
+    let mut other = opened(alloc, (2, 1), extra, LIMIT)?;
+    pass(&mut key, &mut other).ok_or("no set-up packet")?;
+    pass(&mut other, &mut key).ok_or("no packet")?;
+    Ok((key, other))
+}
+
+/// Runs with every mark 0.
+fn run(node: &mut Lockstep) -> Ran {
+    let (ran, _) = node.run(&[0; 4]);
+    ran
+}
+
+/// Builds on both nodes, passes both their packets, and runs both. The answers are those of the runs.
+fn tic(key: &mut Lockstep, other: &mut Lockstep, (first, second): (u32, u32)) -> (Ran, Ran) {
+    let _ = key.build(Keys::from_bits(first));
+    let _ = other.build(Keys::from_bits(second));
+    let _ = pass(key, other);
+    let _ = pass(other, key);
+    (run(key), run(other))
+}
+
+/// Plays `count` such tics.
+fn tics(key: &mut Lockstep, other: &mut Lockstep, count: u32, keys: (u32, u32)) {
+    for _ in 0..count {
+        let _ = tic(key, other, keys);
+    }
+}
