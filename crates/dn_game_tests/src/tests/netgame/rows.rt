@@ -1,4 +1,4 @@
-//! Rows listed, through readers and writers that are slow, full or failing.
+//! Rows listed.
 
 use super::demos::{TWO, TWO_LONG, lines};
 use super::streams::{NEVER, Sink, Source, WHOLE};
@@ -7,7 +7,7 @@ use std::alloc::Global;
 use std::test::Fail;
 
 /// The rows of both demos of two tics.
-const ROWS: &str = "tic 0 player 0 forward 50 side 0 turn 0 buttons 0\n\
+pub(crate) const ROWS: &str = "tic 0 player 0 forward 50 side 0 turn 0 buttons 0\n\
     tic 0 player 1 forward 0 side 0 turn 256 buttons 0\n\
     tic 1 player 0 forward -50 side 0 turn 0 buttons 1\n\
     tic 1 player 1 forward 25 side 24 turn 16384 buttons 0\n";
@@ -78,25 +78,6 @@ fn an_absent_player_has_no_line(rt: HostRuntime) {
     same!(rt; output.as_slice(), text.as_bytes());
 }
 
-/// One piece: nothing is written before it has come.
-#[test]
-fn a_failing_reader_leaves_the_rows_of_whole_pieces(rt: HostRuntime) -> Result<(), Fail> {
-    let text = listed(rt.alloc(), "version 109", "tics 2 cut 0 after 0\n")?;
-    // A byte a call: 30 calls for the bytes, and one that finds the end.
-    for fails_at in 1..=32 {
-        let mut output = Sink::new(rt.alloc(), WHOLE, NEVER);
-        let status = run_rows(rt.alloc(), &mut Source::new(&TWO, 1, fails_at), &mut output);
-        if fails_at <= 31 {
-            same!(rt; status, Err(RunFault::Read), fails_at);
-            holds!(rt; output.taken.is_empty(), fails_at);
-        } else {
-            same!(rt; status, Ok(0));
-            same!(rt; output.taken.as_slice(), text.as_bytes());
-        }
-    }
-    Ok(())
-}
-
 /// Two pieces: the first call gives 4,096 bytes, with 1,020 tics of one player.
 #[test]
 fn a_failing_reader_leaves_the_rows_of_the_first_piece(rt: HostRuntime) {
@@ -110,44 +91,4 @@ fn a_failing_reader_leaves_the_rows_of_the_first_piece(rt: HostRuntime) {
     same!(rt; status, Err(RunFault::Read));
     holds!(rt; output.taken.as_slice().starts_with(first));
     holds!(rt; output.taken.as_slice().ends_with(last));
-}
-
-#[test]
-fn a_failing_writer_has_a_front(rt: HostRuntime) -> Result<(), Fail> {
-    let all = listed(rt.alloc(), "version 109", "tics 2 cut 0 after 0\n")?;
-    let text = all.as_bytes();
-    // A byte a call.
-    for fails_at in 1..=text.len() + 1 {
-        let mut output = Sink::new(rt.alloc(), 1, fails_at as u64);
-        let mut input = Source::new(&TWO, WHOLE, NEVER);
-        let status = run_rows(rt.alloc(), &mut input, &mut output);
-        if fails_at <= text.len() {
-            same!(rt; status, Err(RunFault::Write), fails_at);
-            same!(rt; output.taken.as_slice(), &text[..fails_at - 1]);
-        } else {
-            same!(rt; status, Ok(0));
-            same!(rt; output.taken.as_slice(), text);
-        }
-    }
-    Ok(())
-}
-
-/// Each request for memory may be refused: then the answer says so, and the rows that were written stay.
-#[test]
-fn refused_memory_is_told(rt: HostRuntime) {
-    let mut room = [0; 512];
-    let mut rest = room.as_mut_slice();
-    let shown = run_rows(rt.alloc(), &mut TWO.as_slice(), &mut rest);
-    let left = rest.len();
-    let written = &room[..512_usize.saturating_sub(left)];
-    match shown {
-        Ok(status) => {
-            same!(rt; status, 0);
-            holds!(rt; written.starts_with(ROWS.as_bytes()));
-        }
-        Err(fault) => {
-            same!(rt; fault, RunFault::Memory);
-            holds!(rt; written.is_empty() || written == ROWS.as_bytes());
-        }
-    }
 }

@@ -1,8 +1,7 @@
-//! Texts that are no script, and readers and writers that are slow, full or failing.
+//! Texts that are no script, and a packet that finds no memory.
 
 use super::games::{DEFAULT_LIMIT, rules};
-use super::scripts::{QUIT, QUIT_SHOWN};
-use super::streams::{NEVER, Sink, Source, WHOLE, Zeros};
+use super::streams::Zeros;
 use dn_netgame::{RunFault, run_sim};
 use std::test::Fail;
 
@@ -56,71 +55,6 @@ fn too_long_comes_before_a_bad_line(rt: HostRuntime) -> Result<(), Fail> {
         same!(rt; output.as_slice(), text.as_bytes());
         same!(rt; input.rest, left);
     }
-    Ok(())
-}
-
-#[test]
-fn a_failing_reader_ends_the_run_before_it_writes(rt: HostRuntime) -> Result<(), Fail> {
-    // A byte a call: 6 calls for the bytes, and one that finds the end.
-    for fails_at in 1..=8 {
-        let mut input = Source::new(QUIT, 1, fails_at);
-        let mut output = Sink::new(rt.alloc(), WHOLE, NEVER);
-        let status = run_sim(
-            rt.alloc(),
-            rules(DEFAULT_LIMIT)?,
-            2,
-            &mut input,
-            &mut output,
-        );
-        if fails_at <= 7 {
-            same!(rt; status, Err(RunFault::Read), fails_at);
-            holds!(rt; output.taken.is_empty(), fails_at);
-        } else {
-            same!(rt; status, Ok(0));
-            same!(rt; output.taken.as_slice(), QUIT_SHOWN.as_bytes());
-        }
-    }
-    Ok(())
-}
-
-#[test]
-fn a_failing_writer_has_a_front(rt: HostRuntime) -> Result<(), Fail> {
-    let text = QUIT_SHOWN.as_bytes();
-    // A byte a call.
-    for fails_at in 1..=text.len() + 1 {
-        let mut input = Source::new(QUIT, WHOLE, NEVER);
-        let mut output = Sink::new(rt.alloc(), 1, fails_at as u64);
-        let status = run_sim(
-            rt.alloc(),
-            rules(DEFAULT_LIMIT)?,
-            2,
-            &mut input,
-            &mut output,
-        );
-        if fails_at <= text.len() {
-            same!(rt; status, Err(RunFault::Write), fails_at);
-            same!(rt; output.taken.as_slice(), &text[..fails_at - 1]);
-        } else {
-            same!(rt; status, Ok(0));
-            same!(rt; output.taken.as_slice(), text);
-        }
-    }
-    Ok(())
-}
-
-#[test]
-fn a_writer_that_takes_no_bytes_fails(rt: HostRuntime) -> Result<(), Fail> {
-    let mut input = QUIT;
-    let mut output = Sink::new(rt.alloc(), 0, NEVER);
-    let status = run_sim(
-        rt.alloc(),
-        rules(DEFAULT_LIMIT)?,
-        2,
-        &mut input,
-        &mut output,
-    );
-    same!(rt; status, Err(RunFault::Write));
-    holds!(rt; output.taken.is_empty());
     Ok(())
 }
 

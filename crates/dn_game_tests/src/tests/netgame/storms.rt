@@ -1,8 +1,7 @@
-//! Storms shown, through writers that are slow, full or failing.
+//! Storms shown.
 
 use super::games::{DEFAULT_LIMIT, rules};
-use super::streams::{NEVER, Sink};
-use dn_netgame::{RunFault, run_storm};
+use dn_netgame::run_storm;
 use std::test::Fail;
 
 /// What a storm of one event prints.
@@ -64,53 +63,5 @@ fn storms_with_repeats_are_shown(rt: HostRuntime) -> Result<(), Fail> {
         events 20000 refused 0 flights 5065\n";
     same!(rt; status, Ok(0));
     same!(rt; output.as_slice(), text.as_bytes());
-    Ok(())
-}
-
-#[test]
-fn a_failing_writer_has_a_front(rt: HostRuntime) -> Result<(), Fail> {
-    let text = ONE_SHOWN.as_bytes();
-    // A byte a call.
-    for fails_at in 1..=text.len() + 1 {
-        let mut output = Sink::new(rt.alloc(), 1, fails_at as u64);
-        let status = run_storm(rt.alloc(), rules(DEFAULT_LIMIT)?, 2, 1, 1, &mut output);
-        if fails_at <= text.len() {
-            same!(rt; status, Err(RunFault::Write), fails_at);
-            same!(rt; output.taken.as_slice(), &text[..fails_at - 1]);
-        } else {
-            same!(rt; status, Ok(0));
-            same!(rt; output.taken.as_slice(), text);
-        }
-    }
-    Ok(())
-}
-
-#[test]
-fn a_writer_that_takes_no_bytes_fails(rt: HostRuntime) -> Result<(), Fail> {
-    let mut output = Sink::new(rt.alloc(), 0, NEVER);
-    let status = run_storm(rt.alloc(), rules(DEFAULT_LIMIT)?, 2, 1, 1, &mut output);
-    same!(rt; status, Err(RunFault::Write));
-    holds!(rt; output.taken.is_empty());
-    Ok(())
-}
-
-/// Each request for memory may be refused: then the answer says so, and nothing is written.
-#[test]
-fn refused_memory_is_told(rt: HostRuntime) -> Result<(), Fail> {
-    let mut room = [0; 256];
-    let mut rest = room.as_mut_slice();
-    let status = run_storm(rt.alloc(), rules(DEFAULT_LIMIT)?, 2, 1, 1, &mut rest);
-    let left = rest.len();
-    let written = &room[..256_usize.saturating_sub(left)];
-    match status {
-        Ok(status) => {
-            same!(rt; status, 0);
-            same!(rt; written, ONE_SHOWN.as_bytes());
-        }
-        Err(fault) => {
-            same!(rt; fault, RunFault::Memory);
-            holds!(rt; written.is_empty());
-        }
-    }
     Ok(())
 }

@@ -2,11 +2,8 @@
 
 use super::games::{DEFAULT_LIMIT, rules};
 use super::scripts::{QUIT, QUIT_SHOWN, STARTED, joined};
-use super::streams::{NEVER, Sink, Source, WHOLE};
 use dn_game::{Done, Refusal};
-use dn_netgame::{
-    RunFault, push_answer, run_calm, run_sim, run_storm, storm_script, trace_sim, trace_storm,
-};
+use dn_netgame::{push_answer, run_calm, run_sim, run_storm, storm_script, trace_sim, trace_storm};
 use dn_node::{Heard, Made, Ran};
 use std::alloc::Global;
 use std::test::Fail;
@@ -243,109 +240,6 @@ fn a_storm_is_played_again_by_its_script(rt: HostRuntime) -> Result<(), Fail> {
                 &mut again
             ), Ok(0));
         same!(rt; again.as_slice(), storm.as_slice(), seed);
-    }
-    Ok(())
-}
-
-#[test]
-fn a_failing_reader_ends_the_trace_before_it_writes(rt: HostRuntime) -> Result<(), Fail> {
-    // A byte a call: 6 calls for the bytes, and one that finds the end.
-    for fails_at in 1..=7 {
-        let mut input = Source::new(QUIT, 1, fails_at);
-        let mut output = Sink::new(rt.alloc(), WHOLE, NEVER);
-        let status = trace_sim(
-            rt.alloc(),
-            rules(DEFAULT_LIMIT)?,
-            2,
-            &mut input,
-            &mut output,
-        );
-        same!(rt; status, Err(RunFault::Read), fails_at);
-        holds!(rt; output.taken.is_empty(), fails_at);
-    }
-    Ok(())
-}
-
-/// Which of the runs is meant.
-#[derive(Clone, Copy, Debug)]
-enum Run {
-    Sim,
-    Storm,
-    Script,
-}
-
-/// Runs it with a writer that takes a byte a call and fails at this one.
-fn written(alloc: Global, run: Run, fails_at: u64) -> Result<(Result<u8, RunFault>, Sink), Fail> {
-    let mut output = Sink::new(alloc, 1, fails_at);
-    let status = match run {
-        Run::Sim => {
-            let mut input = QUIT;
-            trace_sim(alloc, rules(DEFAULT_LIMIT)?, 2, &mut input, &mut output)
-        }
-        Run::Storm => trace_storm(alloc, rules(DEFAULT_LIMIT)?, 2, 42, 6, 0, &mut output),
-        Run::Script => storm_script(alloc, rules(DEFAULT_LIMIT)?, 2, 42, 6, &mut output),
-    };
-    Ok((status, output))
-}
-
-#[test]
-fn a_failing_writer_has_a_front(rt: HostRuntime) -> Result<(), Fail> {
-    for run in [Run::Sim, Run::Storm, Run::Script] {
-        let (status, whole) = written(rt.alloc(), run, NEVER)?;
-        same!(rt; status, Ok(0), run);
-        let text = whole.taken.as_slice();
-        for fails_at in 1..=text.len() {
-            let (status, output) = written(rt.alloc(), run, fails_at as u64)?;
-            same!(rt; status, Err(RunFault::Write), (run, fails_at));
-            same!(rt; output.taken.as_slice(), &text[..fails_at - 1]);
-        }
-    }
-    Ok(())
-}
-
-#[test]
-fn a_writer_that_takes_no_bytes_fails(rt: HostRuntime) -> Result<(), Fail> {
-    let mut output = Sink::new(rt.alloc(), 0, NEVER);
-    let mut input = QUIT;
-    let sim = trace_sim(
-        rt.alloc(),
-        rules(DEFAULT_LIMIT)?,
-        2,
-        &mut input,
-        &mut output,
-    );
-    let storm = trace_storm(rt.alloc(), rules(DEFAULT_LIMIT)?, 2, 42, 6, 0, &mut output);
-    let script = storm_script(rt.alloc(), rules(DEFAULT_LIMIT)?, 2, 42, 6, &mut output);
-    for status in [sim, storm, script] {
-        same!(rt; status, Err(RunFault::Write));
-    }
-    holds!(rt; output.taken.is_empty());
-    Ok(())
-}
-
-/// Each request for memory may be refused: then the answer says so, and nothing is written.
-#[test]
-fn refused_memory_is_told(rt: HostRuntime) -> Result<(), Fail> {
-    let mut room = [0; 512];
-    let mut rest = room.as_mut_slice();
-    let mut input = QUIT;
-    let size = rest.len();
-    let sim = trace_sim(rt.alloc(), rules(DEFAULT_LIMIT)?, 2, &mut input, &mut rest);
-    if let Err(fault) = sim {
-        same!(rt; fault, RunFault::Memory);
-        same!(rt; rest.len(), size);
-    }
-    let size = rest.len();
-    let storm = trace_storm(rt.alloc(), rules(DEFAULT_LIMIT)?, 2, 42, 1, 0, &mut rest);
-    if let Err(fault) = storm {
-        same!(rt; fault, RunFault::Memory);
-        same!(rt; rest.len(), size);
-    }
-    let size = rest.len();
-    let script = storm_script(rt.alloc(), rules(DEFAULT_LIMIT)?, 2, 42, 6, &mut rest);
-    if let Err(fault) = script {
-        same!(rt; fault, RunFault::Memory);
-        same!(rt; rest.len(), size);
     }
     Ok(())
 }

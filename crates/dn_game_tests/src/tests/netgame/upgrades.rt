@@ -1,11 +1,11 @@
-//! Demos upgraded, through readers and writers that are slow, full or failing.
+//! Demos upgraded.
 
 use super::demos::{TWO, TWO_LONG};
-use super::streams::{NEVER, Sink, Source, WHOLE, Zeros};
-use dn_netgame::{RunFault, run_upgrade};
+use super::streams::Zeros;
+use dn_netgame::run_upgrade;
 
 /// The least and the greatest number of bytes that a demo may be kept to.
-const LEAST: u32 = 1_024;
+pub(crate) const LEAST: u32 = 1_024;
 
 const GREATEST: u32 = 16_777_216;
 
@@ -97,67 +97,5 @@ fn too_long_comes_before_every_other_refusal(rt: HostRuntime) {
         same!(rt; status, Ok(1));
         same!(rt; output.as_slice(), text.as_bytes());
         same!(rt; input.rest, left);
-    }
-}
-
-#[test]
-fn a_failing_reader_ends_the_run_before_it_writes(rt: HostRuntime) {
-    // A byte a call: 30 calls for the bytes, and one that finds the end.
-    for fails_at in 1..=32 {
-        let mut input = Source::new(&TWO, 1, fails_at);
-        let mut output = Sink::new(rt.alloc(), WHOLE, NEVER);
-        let status = run_upgrade(rt.alloc(), LEAST, &mut input, &mut output);
-        if fails_at <= 31 {
-            same!(rt; status, Err(RunFault::Read), fails_at);
-            holds!(rt; output.taken.is_empty(), fails_at);
-        } else {
-            same!(rt; status, Ok(0));
-            same!(rt; output.taken.as_slice(), TWO_LONG.as_slice());
-        }
-    }
-}
-
-#[test]
-fn a_failing_writer_has_a_front(rt: HostRuntime) {
-    // A byte a call.
-    for fails_at in 1..=TWO_LONG.len() + 1 {
-        let mut input = Source::new(&TWO, WHOLE, NEVER);
-        let mut output = Sink::new(rt.alloc(), 1, fails_at as u64);
-        let status = run_upgrade(rt.alloc(), LEAST, &mut input, &mut output);
-        if fails_at <= TWO_LONG.len() {
-            same!(rt; status, Err(RunFault::Write), fails_at);
-            same!(rt; output.taken.as_slice(), &TWO_LONG[..fails_at - 1]);
-        } else {
-            same!(rt; status, Ok(0));
-            same!(rt; output.taken.as_slice(), TWO_LONG.as_slice());
-        }
-    }
-}
-
-#[test]
-fn a_writer_that_takes_no_bytes_fails(rt: HostRuntime) {
-    let mut output = Sink::new(rt.alloc(), 0, NEVER);
-    let status = run_upgrade(rt.alloc(), LEAST, &mut TWO.as_slice(), &mut output);
-    same!(rt; status, Err(RunFault::Write));
-    holds!(rt; output.taken.is_empty());
-}
-
-/// Each request for memory may be refused: then the answer says so, and nothing is written.
-#[test]
-fn refused_memory_is_told(rt: HostRuntime) {
-    let mut room = [0; 64];
-    let mut rest = room.as_mut_slice();
-    let status = run_upgrade(rt.alloc(), LEAST, &mut TWO.as_slice(), &mut rest);
-    let left = rest.len();
-    let written = &room[..64_usize.saturating_sub(left)];
-    match status {
-        Ok(status) => {
-            same!(rt; status, 0);
-            same!(rt; written, TWO_LONG.as_slice());
-        }
-        Err(fault) => {
-            same!(rt; fault, RunFault::Memory);
-            holds!(rt; written.is_empty());
-        }
     }
 }
