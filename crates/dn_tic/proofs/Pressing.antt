@@ -1,10 +1,10 @@
 -- The command that one more key state makes.
-use Rattle.std.proofs.Common.{◌≡◌, ℕ, ◌-◌, Bool, true, false, ◌-ℤ◌, ◌*ℤ◌, to_z, of_z, List, [], ◌∷◌, ◌++◌, length, get_or, ℤ, pos, negsuc, ◌+ℤ◌, ◌≤ℤ◌, refl, ap, ◌∙◌, arith, length-append}
+use Rattle.std.proofs.Common.{◌≡◌, ℕ, ◌-◌, Bool, true, false, ◌-ℤ◌, ◌*ℤ◌, SFits, to_z, of_z, List, [], ◌∷◌, ◌++◌, length, get_or, ℤ, pos, negsuc, ◌+ℤ◌, ◌≤ℤ◌, refl, ap, ◌∙◌, arith, length-append}
 use Rattle.std.proofs.Math.Seq.{get_or-append_seam}
 use Rattle.std.specs.Int.{w16, from_bool}
 use Rattle.std.proofs.lemmas.Int.{ints, clamps}
 use Rattle.dn_tic.specs.declared.keys.Key.TheVariants.{Forward, Back, StrafeRight, StrafeLeft}
-use Rattle.dn_tic.specs.Pressed.{pressed, clamped, opposed, strafed, forward_amount, side_amount, command_of, turn_hold, last_state}
+use Rattle.dn_tic.specs.Pressed.{pressed, clamped, amount_if, opposed, strafed, forward_amount, side_amount, command_of, turn_hold, last_state}
 
 -- the last of some states and one more
 pub last_state-push : (states : List ℕ) (keys : ℕ) → last_state (states ++ keys ∷ []) ≡ keys
@@ -35,17 +35,40 @@ unfolding pressed
 forward-high states mark =
     clamped-high (opposed (last_state states) Forward Back (forward_amount (last_state states)))
 
--- a pair of opposite keys gives no more than the amount
-pub opposed-high : (more less : Bool) (one other amount : ℤ) → one ≡ pos (from_bool more)
+-- the difference of two keys, and its product with an amount, in the code's sixteen bits
+abbrev pub difference : (one other : ℤ) → ℤ
+difference one other = to_z w16 (of_z w16 one) -ℤ to_z w16 (of_z w16 other)
+
+abbrev pub product : (one other amount : ℤ) → ℤ
+product one other amount = to_z w16 (of_z w16 (difference one other)) *ℤ to_z w16 (of_z w16 amount)
+
+-- both fit, and the product is what the pair of keys gives, at most the amount either way
+pub record IsOpposed (more less : Bool) (one other amount : ℤ) : Type 0 where
+  pub difference_fits : SFits w16 (difference one other)
+  pub product_fits : SFits w16 (product one other amount)
+  pub value : to_z w16 (of_z w16 (product one other amount)) ≡ amount_if more amount -ℤ amount_if less amount
+  pub low : pos 0 ≤ℤ (to_z w16 (of_z w16 (product one other amount)) +ℤ amount)
+  pub high : to_z w16 (of_z w16 (product one other amount)) ≤ℤ amount
+
+pub is_opposed : (more less : Bool) (one other amount : ℤ) → one ≡ pos (from_bool more)
     → other ≡ pos (from_bool less)
-    → pos 0 ≤ℤ amount → amount ≤ℤ pos 1280
-    → to_z w16
-    (of_z w16 (to_z w16 (of_z w16 (to_z w16 (of_z w16 one) -ℤ to_z w16 (of_z w16 other))) *ℤ to_z w16
-    (of_z w16 amount))) ≤ℤ amount
-opposed-high true true one other amount e f least most = rw (e, f) (omega (arith, ints, least, most))
-opposed-high true false one other amount e f least most = rw (e, f) (omega (arith, ints, least, most))
-opposed-high false true one other amount e f least most = rw (e, f) (omega (arith, ints, least, most))
-opposed-high false false one other amount e f least most = rw (e, f) (omega (arith, ints, least, most))
+    → pos 0 ≤ℤ amount → amount ≤ℤ pos 1280 → IsOpposed more less one other amount
+is_opposed true true one other amount e f least most = rw (e, f) (search (arith, ints))
+is_opposed true false one other amount e f least most = rw (e, f) (search (arith, ints))
+is_opposed false true one other amount e f least most = rw (e, f) (search (arith, ints))
+is_opposed false false one other amount e f least most = rw (e, f) (search (arith, ints))
+
+-- the product of a key and a side move fits, and is the move where the key is down
+pub record IsKept (down : Bool) (one side : ℤ) : Type 0 where
+  pub fits : SFits w16 (to_z w16 (of_z w16 one) *ℤ to_z w16 (of_z w16 side))
+  pub value : to_z w16 (of_z w16 (to_z w16 (of_z w16 one) *ℤ to_z w16 (of_z w16 side))) ≡ amount_if down side
+  pub low : negsuc 39 ≤ℤ to_z w16 (of_z w16 (to_z w16 (of_z w16 one) *ℤ to_z w16 (of_z w16 side)))
+  pub high : to_z w16 (of_z w16 (to_z w16 (of_z w16 one) *ℤ to_z w16 (of_z w16 side))) ≤ℤ pos 40
+
+pub is_kept : (down : Bool) (one side : ℤ) → one ≡ pos (from_bool down) → negsuc 39 ≤ℤ side → side ≤ℤ pos 40
+    → IsKept down one side
+is_kept true one side e least most = rw e (search (arith, ints))
+is_kept false one side e least most = rw e (search (arith, ints))
 
 -- the two parts of a side move
 pub side_is : (keys : ℕ) (from_turn amount from_strafe : ℤ) → from_turn ≡ strafed keys
