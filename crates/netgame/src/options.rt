@@ -45,6 +45,19 @@ fn number<'a>(
         .help(about)
 }
 
+/// An option without a value.
+fn switch<'a>(alloc: Global, name: &'a str, about: &'a str) -> Arg<'a> {
+    Arg::new(alloc, name)
+        .long(name)
+        .action(ArgAction::SetTrue)
+        .help(about)
+}
+
+/// The option that seeds a generator.
+fn seed<'a>(alloc: Global, about: &'a str) -> Arg<'a> {
+    number(alloc, "seed", 0, 4_294_967_295, "1", about)
+}
+
 /// The option that limits a demo.
 fn demo_limit<'a>(alloc: Global, default: &'a str) -> Arg<'a> {
     number(
@@ -76,30 +89,24 @@ pub(crate) fn with_game<'a>(
     }
     command = command.arg(demo_limit(alloc, "131072"))?;
     for (name, about) in FLAGS {
-        let flag = Arg::new(alloc, name)
-            .long(name)
-            .action(ArgAction::SetTrue)
-            .help(about);
-        command = command.arg(flag)?;
+        command = command.arg(switch(alloc, name, about))?;
     }
     Ok(command)
 }
 
 /// The flag that tells each event.
 fn trace_flag<'a>(alloc: Global) -> Arg<'a> {
-    Arg::new(alloc, "trace")
-        .long("trace")
-        .action(ArgAction::SetTrue)
-        .help("Prints a line for each event first")
+    switch(alloc, "trace", "Prints a line for each event first")
 }
 
 /// The flag that asks for the script of a storm. It has no lines of its own for a trace, and no events for a
 /// calm.
 fn script_flag<'a>(alloc: Global) -> Result<Arg<'a>, AllocError> {
-    let script = Arg::new(alloc, "script")
-        .long("script")
-        .action(ArgAction::SetTrue)
-        .help("Prints the events as a script and nothing else");
+    let script = switch(
+        alloc,
+        "script",
+        "Prints the events as a script and nothing else",
+    );
     script.conflicts_with("trace")?.conflicts_with("calm")
 }
 
@@ -113,14 +120,7 @@ pub(crate) fn with_storm<'a>(
     alloc: Global,
     command: Command<'a>,
 ) -> Result<Command<'a>, AllocError> {
-    let seed = number(
-        alloc,
-        "seed",
-        0,
-        4_294_967_295,
-        "1",
-        "What the events are drawn from",
-    );
+    let seed = seed(alloc, "What the events are drawn from");
     let count = number(
         alloc,
         "count",
@@ -146,14 +146,7 @@ pub(crate) fn with_rounds<'a>(
     alloc: Global,
     command: Command<'a>,
 ) -> Result<Command<'a>, AllocError> {
-    let seed = number(
-        alloc,
-        "seed",
-        0,
-        4_294_967_295,
-        "1",
-        "What the keys are drawn from",
-    );
+    let seed = seed(alloc, "What the keys are drawn from");
     let rounds = number(
         alloc,
         "rounds",
@@ -179,10 +172,7 @@ pub(crate) fn with_player<'a>(
     command: Command<'a>,
 ) -> Result<Command<'a>, AllocError> {
     let me = number(alloc, "me", 0, 3, "0", "Which player this is");
-    let raw = Arg::new(alloc, "raw")
-        .long("raw")
-        .action(ArgAction::SetTrue)
-        .help("Prints the bytes of the demo and no line");
+    let raw = switch(alloc, "raw", "Prints the bytes of the demo and no line");
     with_rounds(alloc, command)?.arg(me)?.arg(raw)
 }
 

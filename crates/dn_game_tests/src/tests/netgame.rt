@@ -7,6 +7,7 @@ mod faults;
 mod games;
 mod leaving;
 mod nets;
+mod printed;
 mod rows;
 mod script_faults;
 mod scripts;

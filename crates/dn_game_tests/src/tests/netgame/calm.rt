@@ -1,7 +1,7 @@
 //! Storms and the calm after them shown.
 
 use super::games::{DEFAULT_LIMIT, rules};
-use dn_netgame::{run_calm, run_storm};
+use super::printed::{calm, prints, storm};
 use std::test::Fail;
 
 /// What a storm of one event prints that four rounds follow: the first starts both nodes, in the second
@@ -13,10 +13,8 @@ const FOUR_ROUNDS: &str = "node 0 playing made 3 ran 1 got 3 4 demo 23\n\
 
 #[test]
 fn calm_is_shown(rt: HostRuntime) -> Result<(), Fail> {
-    let mut output = Vec::new(rt.alloc());
-    let status = run_calm(rt.alloc(), rules(DEFAULT_LIMIT)?, 2, 1, 1, 4, &mut output);
-    same!(rt; status, Ok(0));
-    same!(rt; output.as_slice(), FOUR_ROUNDS.as_bytes());
+    let printed = calm(rt.alloc(), rules(DEFAULT_LIMIT)?, 2, (1, 1, 4));
+    prints(&rt, printed, 0, FOUR_ROUNDS.as_bytes(), ());
     Ok(())
 }
 
@@ -29,15 +27,11 @@ fn without_calm_there_is_the_storm(rt: HostRuntime) -> Result<(), Fail> {
         (4, 4_294_967_295, 700),
     ];
     for (players, seed, count) in rows {
-        let config = rules(DEFAULT_LIMIT)?;
-        let mut calm = Vec::new(rt.alloc());
-        let status = run_calm(rt.alloc(), config, players, seed, count, 0, &mut calm);
-        same!(rt; status, Ok(0));
-        let config = rules(DEFAULT_LIMIT)?;
-        let mut storm = Vec::new(rt.alloc());
-        let status = run_storm(rt.alloc(), config, players, seed, count, &mut storm);
-        same!(rt; status, Ok(0));
-        same!(rt; calm.as_slice(), storm.as_slice());
+        let game = rules(DEFAULT_LIMIT)?;
+        let storm = storm(rt.alloc(), game, players, seed, count);
+        let printed = calm(rt.alloc(), game, players, (seed, count, 0));
+        same!(rt; storm.status, Ok(0), seed);
+        prints(&rt, printed, 0, storm.bytes.as_slice(), seed);
     }
     Ok(())
 }

@@ -1,8 +1,9 @@
-//! Bytes that are no demo.
+//! Bytes that are no demo, shown and upgraded.
 
 use super::demos::{TWO, TWO_LONG};
+use super::printed::{demo, prints, upgrade};
 use super::streams::Zeros;
-use dn_netgame::run_demo;
+use super::upgrades::LEAST;
 
 #[test]
 fn bytes_that_are_no_demo_are_refused(rt: HostRuntime) {
@@ -25,11 +26,16 @@ fn bytes_that_are_no_demo_are_refused(rt: HostRuntime) {
         (&TWO_LONG[..33], "demo: no marker\n"),
     ];
     for (bytes, text) in rows {
-        let mut input = bytes;
-        let mut output = Vec::new(rt.alloc());
-        let shown = run_demo(rt.alloc(), &mut input, &mut output);
-        same!(rt; shown, Ok(1), text);
-        same!(rt; output.as_slice(), text.as_bytes());
+        let (mut input, mut again) = (bytes, bytes);
+        prints(
+            &rt,
+            demo(rt.alloc(), &mut input),
+            1,
+            text.as_bytes(),
+            bytes.len(),
+        );
+        let upgraded = upgrade(rt.alloc(), LEAST, &mut again);
+        prints(&rt, upgraded, 1, text.as_bytes(), bytes.len());
     }
 }
 
@@ -41,9 +47,11 @@ fn too_long_comes_before_every_other_refusal(rt: HostRuntime) {
         (33_554_500, "demo: too long\n", 67),
     ] {
         let mut input = Zeros { rest: size };
-        let mut output = Vec::new(rt.alloc());
-        same!(rt; run_demo(rt.alloc(), &mut input, &mut output), Ok(1));
-        same!(rt; output.as_slice(), text.as_bytes());
+        prints(&rt, demo(rt.alloc(), &mut input), 1, text.as_bytes(), size);
         same!(rt; input.rest, left);
+        let mut again = Zeros { rest: size };
+        let upgraded = upgrade(rt.alloc(), LEAST, &mut again);
+        prints(&rt, upgraded, 1, text.as_bytes(), size);
+        same!(rt; again.rest, left);
     }
 }

@@ -1,6 +1,6 @@
 //! Demos shown.
 
-use dn_netgame::run_demo;
+use super::printed::{demo, prints};
 use std::alloc::Global;
 use std::test::Fail;
 
@@ -62,10 +62,8 @@ fn demos_are_shown(rt: HostRuntime) -> Result<(), Fail> {
     ];
     for (bytes, version, size) in rows {
         let mut input = bytes;
-        let mut output = Vec::new(rt.alloc());
-        let shown = run_demo(rt.alloc(), &mut input, &mut output);
-        same!(rt; shown, Ok(0), (version, size));
-        same!(rt; output.as_slice(), lines(rt.alloc(), version, size)?.as_bytes());
+        let text = lines(rt.alloc(), version, size)?;
+        prints(&rt, demo(rt.alloc(), &mut input), 0, text.as_bytes(), ());
     }
     Ok(())
 }
@@ -108,9 +106,6 @@ fn demos_of_a_tic_or_none_are_shown(rt: HostRuntime) {
     ];
     for (bytes, text) in rows {
         let mut input = bytes;
-        let mut output = Vec::new(rt.alloc());
-        let shown = run_demo(rt.alloc(), &mut input, &mut output);
-        same!(rt; shown, Ok(0), text);
-        same!(rt; output.as_slice(), text.as_bytes());
+        prints(&rt, demo(rt.alloc(), &mut input), 0, text.as_bytes(), ());
     }
 }

@@ -1,8 +1,8 @@
 //! Scripts in which a player leaves.
 
-use super::games::{DEFAULT_LIMIT, rules};
+use super::games::DEFAULT_LIMIT;
+use super::printed::{prints, sim};
 use super::scripts::{STARTED, joined};
-use dn_netgame::run_sim;
 use std::test::Fail;
 
 /// What is played once player 1 has made two commands and both players have run a tic, and what is
@@ -49,17 +49,8 @@ const ROWS: [(&str, &str); 5] = [
 fn a_game_is_shown_once_a_player_has_left(rt: HostRuntime) -> Result<(), Fail> {
     for (more, text) in ROWS {
         let script = joined(rt.alloc(), STARTED, more)?;
-        let mut output = Vec::new(rt.alloc());
-        let mut input = script.as_bytes();
-        let status = run_sim(
-            rt.alloc(),
-            rules(DEFAULT_LIMIT)?,
-            2,
-            &mut input,
-            &mut output,
-        );
-        same!(rt; status, Ok(0), more);
-        same!(rt; output.as_slice(), text.as_bytes(), more);
+        let printed = sim(rt.alloc(), DEFAULT_LIMIT, 2, &mut script.as_bytes())?;
+        prints(&rt, printed, 0, text.as_bytes(), more);
     }
     Ok(())
 }

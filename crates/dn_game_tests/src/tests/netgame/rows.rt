@@ -1,6 +1,7 @@
 //! Rows listed.
 
 use super::demos::{TWO, TWO_LONG, lines};
+use super::printed::{prints, rows};
 use super::streams::{NEVER, Sink, Source, WHOLE};
 use dn_netgame::{RunFault, run_rows};
 use std::alloc::Global;
@@ -34,9 +35,8 @@ fn rows_of_demos_are_listed(rt: HostRuntime) -> Result<(), Fail> {
         (followed.as_slice(), "version 111", "tics 2 cut 0 after 3\n"),
     ] {
         let mut input = bytes;
-        let mut output = Vec::new(rt.alloc());
-        same!(rt; run_rows(rt.alloc(), &mut input, &mut output), Ok(0), (version, size));
-        same!(rt; output.as_slice(), listed(rt.alloc(), version, size)?.as_bytes());
+        let text = listed(rt.alloc(), version, size)?;
+        prints(&rt, rows(rt.alloc(), &mut input), 0, text.as_bytes(), ());
     }
     Ok(())
 }
@@ -55,9 +55,7 @@ fn bytes_that_are_no_demo_are_refused(rt: HostRuntime) -> Result<(), Fail> {
         (&TWO[..29], unmarked.as_str()),
     ] {
         let mut input = bytes;
-        let mut output = Vec::new(rt.alloc());
-        same!(rt; run_rows(rt.alloc(), &mut input, &mut output), Ok(1), text);
-        same!(rt; output.as_slice(), text.as_bytes());
+        prints(&rt, rows(rt.alloc(), &mut input), 1, text.as_bytes(), ());
     }
     Ok(())
 }
@@ -73,9 +71,13 @@ fn an_absent_player_has_no_line(rt: HostRuntime) {
         tics 1 cut 0 after 0\n\
         player 0 x 0 y -2048 angle 0 mark 0\n\
         player 2 x 8648959 y 0 angle 32768 mark -1793\n";
-    let mut output = Vec::new(rt.alloc());
-    same!(rt; run_rows(rt.alloc(), &mut bytes.as_slice(), &mut output), Ok(0));
-    same!(rt; output.as_slice(), text.as_bytes());
+    prints(
+        &rt,
+        rows(rt.alloc(), &mut bytes.as_slice()),
+        0,
+        text.as_bytes(),
+        (),
+    );
 }
 
 /// Two pieces: the first call gives 4,096 bytes, with 1,020 tics of one player.

@@ -1,6 +1,7 @@
 //! Texts that are no script, and a packet that finds no memory.
 
 use super::games::{DEFAULT_LIMIT, rules};
+use super::printed::{prints, sim};
 use super::streams::Zeros;
 use dn_netgame::{RunFault, run_sim};
 use std::test::Fail;
@@ -20,17 +21,9 @@ fn texts_that_are_no_script_are_refused(rt: HostRuntime) -> Result<(), Fail> {
         (b"run 0\r\n".as_slice(), "script: line 1\n"),
     ];
     for (script, text) in rows {
-        let mut output = Vec::new(rt.alloc());
         let mut input = script;
-        let status = run_sim(
-            rt.alloc(),
-            rules(DEFAULT_LIMIT)?,
-            2,
-            &mut input,
-            &mut output,
-        );
-        same!(rt; status, Ok(1), text);
-        same!(rt; output.as_slice(), text.as_bytes());
+        let printed = sim(rt.alloc(), DEFAULT_LIMIT, 2, &mut input)?;
+        prints(&rt, printed, 1, text.as_bytes(), script);
     }
     Ok(())
 }
@@ -43,16 +36,8 @@ fn too_long_comes_before_a_bad_line(rt: HostRuntime) -> Result<(), Fail> {
         (1_048_600, "script: too long\n", 23),
     ] {
         let mut input = Zeros { rest: size };
-        let mut output = Vec::new(rt.alloc());
-        let status = run_sim(
-            rt.alloc(),
-            rules(DEFAULT_LIMIT)?,
-            2,
-            &mut input,
-            &mut output,
-        );
-        same!(rt; status, Ok(1));
-        same!(rt; output.as_slice(), text.as_bytes());
+        let printed = sim(rt.alloc(), DEFAULT_LIMIT, 2, &mut input)?;
+        prints(&rt, printed, 1, text.as_bytes(), size);
         same!(rt; input.rest, left);
     }
     Ok(())

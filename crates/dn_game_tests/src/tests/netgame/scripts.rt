@@ -1,7 +1,7 @@
 //! Scripts played.
 
-use super::games::{DEFAULT_LIMIT, rules};
-use dn_netgame::run_sim;
+use super::games::DEFAULT_LIMIT;
+use super::printed::{prints, sim};
 use std::alloc::Global;
 use std::test::Fail;
 
@@ -55,17 +55,8 @@ fn a_started_game_is_shown(rt: HostRuntime) -> Result<(), Fail> {
     ];
     for (more, text) in rows {
         let script = joined(rt.alloc(), STARTED, more)?;
-        let mut output = Vec::new(rt.alloc());
-        let mut input = script.as_bytes();
-        let status = run_sim(
-            rt.alloc(),
-            rules(DEFAULT_LIMIT)?,
-            2,
-            &mut input,
-            &mut output,
-        );
-        same!(rt; status, Ok(0), more);
-        same!(rt; output.as_slice(), text.as_bytes(), more);
+        let printed = sim(rt.alloc(), DEFAULT_LIMIT, 2, &mut script.as_bytes())?;
+        prints(&rt, printed, 0, text.as_bytes(), more);
     }
     Ok(())
 }
@@ -100,17 +91,9 @@ fn scripts_before_the_start_are_shown(rt: HostRuntime) -> Result<(), Fail> {
         ),
     ];
     for (players, script, text) in rows {
-        let mut output = Vec::new(rt.alloc());
         let mut input = script;
-        let status = run_sim(
-            rt.alloc(),
-            rules(DEFAULT_LIMIT)?,
-            players,
-            &mut input,
-            &mut output,
-        );
-        same!(rt; status, Ok(0), text);
-        same!(rt; output.as_slice(), text.as_bytes());
+        let printed = sim(rt.alloc(), DEFAULT_LIMIT, players, &mut input)?;
+        prints(&rt, printed, 0, text.as_bytes(), players);
     }
     Ok(())
 }
@@ -148,11 +131,8 @@ fn full_demos_are_shown(rt: HostRuntime) -> Result<(), Fail> {
     ];
     for (limit, tics, text) in rows {
         let script = script_of(rt.alloc(), tics)?;
-        let mut output = Vec::new(rt.alloc());
-        let mut input = script.as_bytes();
-        let status = run_sim(rt.alloc(), rules(limit)?, 2, &mut input, &mut output);
-        same!(rt; status, Ok(0), limit);
-        same!(rt; output.as_slice(), text.as_bytes(), limit);
+        let printed = sim(rt.alloc(), limit, 2, &mut script.as_bytes())?;
+        prints(&rt, printed, 0, text.as_bytes(), limit);
     }
     Ok(())
 }

@@ -1,7 +1,7 @@
 //! Storms shown.
 
 use super::games::{DEFAULT_LIMIT, rules};
-use dn_netgame::run_storm;
+use super::printed::{prints, storm};
 use std::test::Fail;
 
 /// What a storm of one event prints.
@@ -41,11 +41,8 @@ fn storms_are_shown(rt: HostRuntime) -> Result<(), Fail> {
         ),
     ];
     for (players, seed, count, text) in rows {
-        let config = rules(DEFAULT_LIMIT)?;
-        let mut output = Vec::new(rt.alloc());
-        let status = run_storm(rt.alloc(), config, players, seed, count, &mut output);
-        same!(rt; status, Ok(0), text);
-        same!(rt; output.as_slice(), text.as_bytes());
+        let printed = storm(rt.alloc(), rules(DEFAULT_LIMIT)?, players, seed, count);
+        prints(&rt, printed, 0, text.as_bytes(), (players, seed, count));
     }
     Ok(())
 }
@@ -55,13 +52,11 @@ fn storms_are_shown(rt: HostRuntime) -> Result<(), Fail> {
 fn storms_with_repeats_are_shown(rt: HostRuntime) -> Result<(), Fail> {
     let mut config = rules(1034)?;
     config.extra = true;
-    let mut output = Vec::new(rt.alloc());
-    let status = run_storm(rt.alloc(), config, 3, 4_294_967_295, 20_000, &mut output);
+    let printed = storm(rt.alloc(), config, 3, 4_294_967_295, 20_000);
     let text = "node 0 ended full made 73 ran 68 got 73 72 71 demo 1034\n\
         node 1 ended full made 73 ran 68 got 72 73 72 demo 1034\n\
         node 2 ended full made 73 ran 68 got 72 73 73 demo 1034\n\
         events 20000 refused 0 flights 5065\n";
-    same!(rt; status, Ok(0));
-    same!(rt; output.as_slice(), text.as_bytes());
+    prints(&rt, printed, 0, text.as_bytes(), ());
     Ok(())
 }

@@ -1,9 +1,10 @@
 //! Games told event by event, and the scripts of storms.
 
 use super::games::{DEFAULT_LIMIT, rules};
+use super::printed::{calm, prints, sim, storm};
 use super::scripts::{QUIT, QUIT_SHOWN, STARTED, joined};
 use dn_game::{Done, Refusal};
-use dn_netgame::{push_answer, run_calm, run_sim, run_storm, storm_script, trace_sim, trace_storm};
+use dn_netgame::{push_answer, storm_script, trace_sim, trace_storm};
 use dn_node::{Heard, Made, Ran};
 use std::alloc::Global;
 use std::test::Fail;
@@ -168,32 +169,16 @@ fn packets_that_are_dropped_are_told(rt: HostRuntime) -> Result<(), Fail> {
 
 #[test]
 fn storms_are_told_event_by_event(rt: HostRuntime) -> Result<(), Fail> {
-    for calm in [0, 4] {
-        let mut plain = Vec::new(rt.alloc());
-        let _ = run_calm(
-            rt.alloc(),
-            rules(DEFAULT_LIMIT)?,
-            2,
-            42,
-            6,
-            calm,
-            &mut plain,
-        )?;
+    let game = rules(DEFAULT_LIMIT)?;
+    for rounds in [0, 4] {
+        let plain = calm(rt.alloc(), game, 2, (42, 6, rounds));
         let mut text = Vec::new(rt.alloc());
         text.extend_from_slice(DRAWN_TOLD.as_bytes())?;
-        text.extend_from_slice(plain.as_slice())?;
+        text.extend_from_slice(plain.bytes.as_slice())?;
         let mut output = Vec::new(rt.alloc());
-        let status = trace_storm(
-            rt.alloc(),
-            rules(DEFAULT_LIMIT)?,
-            2,
-            42,
-            6,
-            calm,
-            &mut output,
-        );
-        same!(rt; status, Ok(0), calm);
-        same!(rt; output.as_slice(), text.as_slice(), calm);
+        let status = trace_storm(rt.alloc(), game, 2, 42, 6, rounds, &mut output);
+        same!(rt; status, Ok(0), rounds);
+        same!(rt; output.as_slice(), text.as_slice(), rounds);
     }
     Ok(())
 }
@@ -211,35 +196,14 @@ fn a_storm_is_written_as_its_script(rt: HostRuntime) -> Result<(), Fail> {
 #[test]
 fn a_storm_is_played_again_by_its_script(rt: HostRuntime) -> Result<(), Fail> {
     for (players, seed, count) in [(2, 1, 1_000), (3, 7, 3_000), (4, 4_294_967_295, 5_000)] {
-        let mut storm = Vec::new(rt.alloc());
-        same!(rt; run_storm(
-                rt.alloc(),
-                rules(DEFAULT_LIMIT)?,
-                players,
-                seed,
-                count,
-                &mut storm
-            ), Ok(0));
+        let game = rules(DEFAULT_LIMIT)?;
+        let storm = storm(rt.alloc(), game, players, seed, count);
+        same!(rt; storm.status, Ok(0), seed);
         let mut script = Vec::new(rt.alloc());
-        let written = storm_script(
-            rt.alloc(),
-            rules(DEFAULT_LIMIT)?,
-            players,
-            seed,
-            count,
-            &mut script,
-        );
+        let written = storm_script(rt.alloc(), game, players, seed, count, &mut script);
         same!(rt; written, Ok(0));
-        let mut again = Vec::new(rt.alloc());
-        let mut input = script.as_slice();
-        same!(rt; run_sim(
-                rt.alloc(),
-                rules(DEFAULT_LIMIT)?,
-                players,
-                &mut input,
-                &mut again
-            ), Ok(0));
-        same!(rt; again.as_slice(), storm.as_slice(), seed);
+        let again = sim(rt.alloc(), DEFAULT_LIMIT, players, &mut script.as_slice())?;
+        prints(&rt, again, 0, storm.bytes.as_slice(), seed);
     }
     Ok(())
 }

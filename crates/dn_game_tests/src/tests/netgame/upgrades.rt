@@ -1,8 +1,7 @@
 //! Demos upgraded.
 
 use super::demos::{TWO, TWO_LONG};
-use super::streams::Zeros;
-use dn_netgame::run_upgrade;
+use super::printed::{prints, upgrade};
 
 /// The least and the greatest number of bytes that a demo may be kept to.
 pub(crate) const LEAST: u32 = 1_024;
@@ -26,10 +25,8 @@ fn demos_of_both_versions_are_upgraded(rt: HostRuntime) {
     ] {
         for limit in [LEAST, GREATEST] {
             let mut input = bytes;
-            let mut output = Vec::new(rt.alloc());
-            let status = run_upgrade(rt.alloc(), limit, &mut input, &mut output);
-            same!(rt; status, Ok(0), limit);
-            same!(rt; output.as_slice(), TWO_LONG.as_slice());
+            let upgraded = upgrade(rt.alloc(), limit, &mut input);
+            prints(&rt, upgraded, 0, &TWO_LONG, limit);
         }
     }
 }
@@ -54,48 +51,12 @@ fn demos_that_do_not_fit_are_refused(rt: HostRuntime) {
         (long.as_slice(), 1_034, 0, long.as_slice()),
     ] {
         let mut input = bytes;
-        let mut output = Vec::new(rt.alloc());
-        let upgraded = run_upgrade(rt.alloc(), limit, &mut input, &mut output);
-        same!(rt; upgraded, Ok(status), limit);
-        same!(rt; output.as_slice(), text);
-    }
-}
-
-#[test]
-fn bytes_that_are_no_demo_are_refused(rt: HostRuntime) {
-    let mut version = TWO;
-    version[0] = 0x6E;
-    let mut nobody = TWO_LONG;
-    nobody[9..13].copy_from_slice(&[0; 4]);
-    let rows = [
-        (&TWO[..0], "demo: short\n"),
-        (&TWO_LONG[..12], "demo: short\n"),
-        (version.as_slice(), "demo: version\n"),
-        (nobody.as_slice(), "demo: no players\n"),
-        (&TWO[..29], "demo: no marker\n"),
-        (&TWO_LONG[..33], "demo: no marker\n"),
-    ];
-    for (bytes, text) in rows {
-        let mut input = bytes;
-        let mut output = Vec::new(rt.alloc());
-        let status = run_upgrade(rt.alloc(), LEAST, &mut input, &mut output);
-        same!(rt; status, Ok(1), text);
-        same!(rt; output.as_slice(), text.as_bytes());
-    }
-}
-
-#[test]
-fn too_long_comes_before_every_other_refusal(rt: HostRuntime) {
-    for (size, text, left) in [
-        (33_554_432, "demo: version\n", 0),
-        (33_554_433, "demo: too long\n", 0),
-        (33_554_500, "demo: too long\n", 67),
-    ] {
-        let mut input = Zeros { rest: size };
-        let mut output = Vec::new(rt.alloc());
-        let status = run_upgrade(rt.alloc(), LEAST, &mut input, &mut output);
-        same!(rt; status, Ok(1));
-        same!(rt; output.as_slice(), text.as_bytes());
-        same!(rt; input.rest, left);
+        prints(
+            &rt,
+            upgrade(rt.alloc(), limit, &mut input),
+            status,
+            text,
+            limit,
+        );
     }
 }
