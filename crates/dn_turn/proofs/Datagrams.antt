@@ -1,5 +1,5 @@
 -- One datagram after another.
-use Rattle.std.proofs.Common.{◌≡◌, ◌+◌, ℕ, suc, List, Result, Some, Ok, Err, subst, arith}
+use Rattle.std.proofs.Common.{◌≡◌, ◌+◌, ℕ, suc, List, Option, Result, Some, Ok, Err, subst, arith}
 use Rattle.dn_packet.specs.Read as packet
 use Rattle.dn_packet.specs.declared.packet.Packet.{Packet}
 use Rattle.dn_packet.specs.declared.packet.PacketFault.{PacketFault}
@@ -8,6 +8,7 @@ use Rattle.dn_setup.specs.Setup.{Told}
 use Rattle.dn_setup.specs.declared.setup.SetupFault.{SetupFault}
 use Rattle.dn_setup.specs.declared.setup.SetupFault.TheVariants.{NotSetup}
 use Rattle.dn_line.specs.declared.line.Datagram.{Datagram}
+use Rattle.dn_line.specs.declared.line.LineFault.{LineFault}
 use Rattle.dn_machine.specs.Worlds.{Rules}
 use Rattle.dn_machine.specs.Node as machine
 use Rattle.dn_lockstep.specs.Received.{IsTold}
@@ -34,3 +35,12 @@ heard_more polls rules me heard datagram old mid new before polled received =
     let P : ℕ → Type 0 = λ k. Hears polls rules me k old new in
     let next : suc heard ≡ heard + 1 = omega arith in
     subst P next (mid, before, record { datagram = datagram; polled = polled; received = received })
+
+-- a poll by its player's number and its answer, as they are written
+pub polled_as : {L : Type 0} (polls : Polls L) (old new : L) (n me : ℕ)
+    (found answer : Result (Option Datagram) LineFault)
+    → n ≡ me → found ≡ answer → polls old n found new → polls old me answer new
+polled_as polls old new n me found answer number is polled =
+    let M : ℕ → Type 0 = λ p. polls old p found new in
+    let A : Result (Option Datagram) LineFault → Type 0 = λ a. polls old me a new in
+    subst A is (subst M number polled)

@@ -1,61 +1,84 @@
--- The machine value of a `Handle`, and what it owns.
-use Rattle.std.proofs.Common.{◌≡◌, List, [], ◌∷◌, refl}
+-- A handle of C, whatever it holds: its machine value, and what it owns.
+use Rattle.std.proofs.Common.{◌≡◌, List, [], ◌∷◌, refl, sym, ◌∙◌, ◌++◌}
 use mathlib.Core.Bool.{Bool, true}
 use Rattle.std.specs.Prelude.{Option, Some, None}
-use base.Logic.{SProp, ent, sep, via, never, never_e, fst∗, id⊢}
+use base.Logic.{via, never, never_e, id⊢}
 use Rattle.std.specs.declared.alloc.Global.{Global}
-use base.Fml.{fex, ftrue}
+use base.Fml.{Fml, fex, fsep, ftrue}
 use seplogic.Ra.Ura.{Ura}
+use mir.Syntax.{Sym, Ty, ty_struct, ty_bool, ty_ptr, tcons, tnil}
 use mir.Val.{Val, vbool, vstruct, of_list}
-use types.Logic.{Logic, sem}
-use types.Kit.{Item, Goal, Seq, Step, step, given, learn, use1, ‵, ◌$◌, drop, fsplit, fjoin, fpack, feq_i}
+use types.Logic.{Logic}
+use types.Kit.{Item, Goal, Seq, Step, step, given, learn, use1, ‵, ◌$◌, drop, fsplit, fjoin, fpick, fpack, feq_i, feq_l, rewrite}
+use denote.Exit.{unseen}
 use denote.RattleType.{RattleType, Valss}
 use denote.Builtin.{RawPtr, bool}
-use denote.Laws.{Is, shows}
 use denote.RawPtr.{Ptr, ptr_val}
-use denote.Steps.{nothing, peeks}
-use denote.Struct.Struct.{within}
-use denote.Struct.Owning.{shape}
-use Rattle.zirmegat.specs.Held.{held, owned, held_node}
-use Rattle.zirmegat.specs.contracts.handle.NodeHandle as handle
-use Rattle.zirmegat.proofs.handle.NodeHandle.TheLaws.{lowers}
-use Rattle.zirmegat.specs.declared.handle.NodeHandle.{NodeHandle}
-use Rattle.dn_lockstep.specs.declared.lockstep.Lockstep.{Lockstep}
+use denote.Steps.{nothing}
+use denote.Struct.Struct.{Shape, within}
+use Rattle.zirmegat.specs.Held.{held, owned}
 
-abbrev pub H : RattleType
-H = handle.the_row
+-- a handle that may hold a value of this row: its struct, by its name, its row and its fields
+pub record Handle (N : RattleType) : Type 1 where
+  pub name : Sym
+  pub struct : RattleType
+  pub live : struct.Denot → Bool
+  pub at : struct.Denot → Ptr
+  pub value : struct.Denot → Option N.Denot
+  pub make : Bool → Ptr → Option N.Denot → struct.Denot
+  pub made : (b : Bool) (p : Ptr) (n : Option N.Denot)
+      → (live (make b p n) ≡ b) × (at (make b p n) ≡ p) × (value (make b p n) ≡ n)
 
 abbrev pub word : Bool → Ptr → Val
 word b p = vstruct (of_list (vbool b ∷ ptr_val p ∷ []))
 
-module _ {M : Type 1} {𝓤 : Ura M} {𝓛 : Logic 𝓤} {K : Type 0} {Γ : List (Item 𝓤)} {G : Goal 𝓤 𝓛.H} where
-  pub handle_out : K → (d : NodeHandle) (vs : List Val)
-      → (vs ≡ word d.live d.at ∷ [] → Seq K 𝓛 (‵ (held_node d.live d.at d.node) ∷ Γ) G)
-      → Seq K 𝓛 (‵ (H.own_val d vs) ∷ Γ) G
-  handle_out t d vs k = peeks t H (Is H) (shows 𝓛 H) d vs
-      (λ is. fsplit t $ drop t $ k (lowers.val_is d vs is))
+module _ {N : RattleType} (K : Handle N) where
+  abbrev pub handle_type : Ty
+  handle_type = ty_struct K.name (tcons ty_bool (tcons ty_ptr tnil))
 
-  pub handle_in : K → (b : Bool) (p : Ptr) (n : Option Lockstep)
-      → Step K 𝓛 (‵ (H.own_val (record { live = b; at = p; node = n }) (word b p ∷ [])) ∷ Γ) G
-      (‵ (held_node b p n) ∷ Γ) G
-  handle_in t b p n = step (λ s. let v : Val = word b p in
-      nothing t $ feq_i t (List Val) (ptr_val p ∷ []) (ptr_val p ∷ []) refl $ fjoin t $ feq_i t (List Val)
-      (vbool b ∷ []) (vbool b ∷ []) refl $ fjoin t $ feq_i t (List Val) (v ∷ []) (v ∷ []) refl $ fjoin t $
-      fpack t (Valss (bool ∷ RawPtr ∷ [])) (within (shape handle.the_type) (b, (p, tt)) (v ∷ []))
-      (vbool b ∷ [], (ptr_val p ∷ [], tt)) $ fjoin t $ s)
+  abbrev shape : Shape
+  shape = record { name = K.name; args = []; types = []; fields = bool ∷ RawPtr ∷ [] }
 
-  -- what a live handle owns is a block with a value
-  pub live_out : K → (R : RattleType) (p : Ptr) (n : Option R.Denot)
-      → ((x : R.Denot) → n ≡ Some x → Seq K 𝓛 (‵ (fex Global (owned R p x)) ∷ Γ) G)
-      → Seq K 𝓛 (‵ (held R true p n) ∷ Γ) G
-  live_out t R p None k =
-      use1 𝓛 (given ⊥ (‵ ftrue)) (via 𝓤 (never 𝓤) (id⊢ 𝓤 (never 𝓤)) (never_e 𝓤 _)) $ learn t (λ z. absurd z)
-  live_out t R p (Some x) k = k x refl
+  abbrev pub shown : Bool → Ptr → Option N.Denot → List Val → Fml
+  shown b p n vs = fsep (fex (Valss (bool ∷ RawPtr ∷ [])) (within shape (b, (p, tt)) vs)) (held N b p n)
 
--- what a live handle owns has a value
-module _ {M : Type 1} {𝓤 : Ura M} (𝓛 : Logic 𝓤) (R : RattleType) where
-  pub live_held : (p : Ptr) (n : Option R.Denot) (P Q : SProp 𝓤)
-      → ((x : R.Denot) → n ≡ Some x → ent 𝓤 (sep 𝓤 (sem 𝓛 (fex Global (owned R p x))) P) Q)
-      → ent 𝓤 (sep 𝓤 (sem 𝓛 (held R true p n)) P) Q
-  live_held p None P Q k = via 𝓤 (never 𝓤) (fst∗ 𝓤 (never 𝓤) P) (never_e 𝓤 Q)
-  live_held p (Some x) P Q k = k x refl
+  -- the struct's own row, with what it owns spelled out
+  abbrev pub row : RattleType
+  row = record K.struct {
+    mir = handle_type ∷ [];
+    own_val = λ h vs. shown (K.live h) (K.at h) (K.value h) vs;
+    exit = λ k. unseen;
+  }
+
+  module _ {M : Type 1} {𝓤 : Ura M} {𝓛 : Logic 𝓤} {T : Type 0} {Γ : List (Item 𝓤)} {G : Goal 𝓤 𝓛.H} where
+    pub handle_out : T → (h : K.struct.Denot) (vs : List Val)
+        → (vs ≡ word (K.live h) (K.at h) ∷ [] → Seq T 𝓛 (‵ (held N (K.live h) (K.at h) (K.value h)) ∷ Γ) G)
+        → Seq T 𝓛 (‵ (row.own_val h vs) ∷ Γ) G
+    handle_out t h vs k =
+        fsplit t $ fpick t
+        (λ vss. fsplit t $ feq_l t
+        (λ ev. fsplit t $ feq_l t
+        (λ eb. fsplit t $ feq_l t
+        (λ ep. drop t $ k (ev ∙ (λ i. vstruct (of_list (eb i ++ (ep i ++ []))) ∷ []))))))
+
+    pub shown_in : T → (b : Bool) (p : Ptr) (n : Option N.Denot)
+        → Step T 𝓛 (‵ (shown b p n (word b p ∷ [])) ∷ Γ) G (‵ (held N b p n) ∷ Γ) G
+    shown_in t b p n = step (λ s. let v : Val = word b p in
+        nothing t $ feq_i t (List Val) (ptr_val p ∷ []) (ptr_val p ∷ []) refl $ fjoin t $ feq_i t (List Val)
+        (vbool b ∷ []) (vbool b ∷ []) refl $ fjoin t $ feq_i t (List Val) (v ∷ []) (v ∷ []) refl $ fjoin t $
+        fpack t (Valss (bool ∷ RawPtr ∷ [])) (within shape (b, (p, tt)) (v ∷ []))
+        (vbool b ∷ [], (ptr_val p ∷ [], tt)) $ fjoin t $ s)
+
+    pub handle_in : T → (b : Bool) (p : Ptr) (n : Option N.Denot)
+        → Step T 𝓛 (‵ (row.own_val (K.make b p n) (word b p ∷ [])) ∷ Γ) G (‵ (held N b p n) ∷ Γ) G
+    handle_in t b p n = step (λ s. let e = K.made b p n in shown_in t b p n $
+        rewrite t 0 (λ (d : Bool × (Ptr × Option N.Denot)). ‵ (shown d.0 d.1.0 d.1.1 (word b p ∷ [])))
+        (λ i. (sym e.0 i, (sym e.1 i, sym e.2 i))) refl $ s)
+
+    -- what a live handle owns is a block with a value
+    pub live_out : T → (p : Ptr) (n : Option N.Denot)
+        → ((x : N.Denot) → n ≡ Some x → Seq T 𝓛 (‵ (fex Global (owned N p x)) ∷ Γ) G)
+        → Seq T 𝓛 (‵ (held N true p n) ∷ Γ) G
+    live_out t p None k =
+        use1 𝓛 (given ⊥ (‵ ftrue)) (via 𝓤 (never 𝓤) (id⊢ 𝓤 (never 𝓤)) (never_e 𝓤 _)) $ learn t (λ z. absurd z)
+    live_out t p (Some x) k = k x refl

@@ -1,6 +1,6 @@
 pub mod Handles
+pub mod HandleFunctions
+pub mod HandleKinds
 pub mod Node
 pub mod Values
 pub mod Calling
-pub mod DemoHandles
-pub mod DemoRows

@@ -1,4 +1,4 @@
--- The rows of a node of a game, of the allocator and of a loose box.
+-- The rows of a node of a game and of the allocator.
 use denote.RattleType.{RattleType}
 use denote.Param.Laws.{Laws}
 use Rattle.std.specs.declared.alloc.Allocator.{Ghosts}
@@ -6,7 +6,6 @@ use Rattle.std.specs.contracts.alloc.Global as heap
 use Rattle.std.proofs.alloc.Global.TheLaws as heap_laws
 use Rattle.std.specs.contracts.impls.GlobalAllocator.TheImpl as impl
 use Rattle.dn_lockstep.specs.contracts.lockstep.Lockstep as lockstep
-use Rattle.zirmegat.specs.contracts.loose.Loose as loose
 
 abbrev pub N : RattleType
 N = lockstep.the_row
@@ -19,6 +18,3 @@ LZ = heap_laws.the_row_laws
 
 abbrev pub g : Ghosts Z.Denot
 g = impl.ghosts
-
-abbrev pub L : RattleType
-L = loose.the_row N Z g

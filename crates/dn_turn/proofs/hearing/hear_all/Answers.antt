@@ -4,20 +4,16 @@ use Rattle.dn_line.specs.declared.line.Datagram.{Datagram}
 use Rattle.dn_line.specs.declared.line.LineFault.{LineFault}
 use Rattle.dn_machine.specs.Worlds.{rules_of}
 use Rattle.dn_turn.specs.Hearing.{IsHeard, most_polls}
-use Rattle.dn_turn.proofs.Datagrams.{heard_more}
+use Rattle.dn_turn.proofs.Datagrams.{heard_more, polled_as}
 use Rattle.dn_turn.proofs.hearing.hear_all.Goals as goal
 
 pub returns-in-Ok-None-clause-heard : goal.returns-in-Ok-None-clause-heard
 returns-in-Ok-None-clause-heard g c players extra capacity me m r =
     let so_far = c.loop-heard.invariant.3 players extra capacity me m r in
-    let M : ℕ → Type 0 = λ p. g.L.Line.polls c.loop-heard.line p c.poll.result c.poll.new.self in
-    let A : Result (Option Datagram) LineFault → Type 0 =
-    λ a. g.L.Line.polls c.loop-heard.line me a c.poll.new.self in
-    let said = subst A (c.in-Ok-None.is ∙ ap Ok c.in-Ok-None.field-0-is)
-    (subst M (c.me-me.ensures ∙ r.lockstep.whose.number) c.poll.ensures.polled) in
-    let few : c.loop-heard.heard < most_polls players =
-    subst (λ (n : ℕ). c.loop-heard.heard < n)
-    (c.loop-heard.invariant.1 ∙ ap most_polls r.lockstep.whose.players) c.loop-heard-test.true in
+    let said = polled_as g.L.Line.polls _ _ _ _ _ _ (c.me-me.ensures ∙ r.lockstep.whose.number)
+    (c.in-Ok-None.is ∙ ap Ok c.in-Ok-None.field-0-is) c.poll.ensures.polled in
+    let most = c.loop-heard.invariant.1 ∙ ap most_polls r.lockstep.whose.players in
+    let few : c.loop-heard.heard < most_polls players = omega (arith, c.loop-heard-test.true, most) in
     record {
       after = so_far.after;
       node = so_far.node;
@@ -32,14 +28,10 @@ returns-in-Ok-None-clause-heard g c players extra capacity me m r =
 pub returns-in-Err-clause-heard : goal.returns-in-Err-clause-heard
 returns-in-Err-clause-heard g c players extra capacity me m r =
     let so_far = c.loop-heard.invariant.3 players extra capacity me m r in
-    let M : ℕ → Type 0 = λ p. g.L.Line.polls c.loop-heard.line p c.poll.result c.poll.new.self in
-    let A : Result (Option Datagram) LineFault → Type 0 =
-    λ a. g.L.Line.polls c.loop-heard.line me a c.poll.new.self in
-    let said =
-    subst A c.in-Err.is (subst M (c.me-me.ensures ∙ r.lockstep.whose.number) c.poll.ensures.polled) in
-    let few : c.loop-heard.heard < most_polls players =
-    subst (λ (n : ℕ). c.loop-heard.heard < n)
-    (c.loop-heard.invariant.1 ∙ ap most_polls r.lockstep.whose.players) c.loop-heard-test.true in
+    let said = polled_as g.L.Line.polls _ _ _ _ _ _ (c.me-me.ensures ∙ r.lockstep.whose.number) c.in-Err.is
+    c.poll.ensures.polled in
+    let most = c.loop-heard.invariant.1 ∙ ap most_polls r.lockstep.whose.players in
+    let few : c.loop-heard.heard < most_polls players = omega (arith, c.loop-heard-test.true, most) in
     record {
       after = so_far.after;
       node = so_far.node;
@@ -61,11 +53,8 @@ loop-heard-preserved g c =
           c.in-Ok-Some.is ∙ before.2,
       λ players extra capacity me m r.
           let so_far = before.3 players extra capacity me m r in
-          let M : ℕ → Type 0 = λ p. g.L.Line.polls c.loop-heard.line p c.poll.result c.poll.new.self in
-          let A : Result (Option Datagram) LineFault → Type 0 =
-          λ a. g.L.Line.polls c.loop-heard.line me a c.poll.new.self in
-          let said = subst A (c.in-Ok-Some.is ∙ ap Ok c.in-Ok-Some.field-0-is)
-          (subst M (c.me-me.ensures ∙ r.lockstep.whose.number) c.poll.ensures.polled) in
+          let said = polled_as g.L.Line.polls _ _ _ _ _ _ (c.me-me.ensures ∙ r.lockstep.whose.number)
+          (c.in-Ok-Some.is ∙ ap Ok c.in-Ok-Some.field-0-is) c.poll.ensures.polled in
           let one = c.hear.ensures players extra capacity me so_far.after so_far.node in
           record {
             after = one.after;

@@ -19,6 +19,7 @@ use types.ByLocal.{alloc_all, pass_all, free_all, look_at, get, through, sets, s
 use denote.Exit.{no}
 use denote.Follow.{follows, Part, lends_Part}
 use denote.Memory.{lone, cell_at, part_at, part_of, mem}
+use denote.RattleType.{RattleType}
 use denote.RawPtr.{block_ptr, null_ptr, in_a_block}
 use denote.Ref.{MutBor, MutRef, mut_vals, mut_Tells}
 use denote.Signature.{plain, mut_ref_to}
@@ -31,11 +32,16 @@ use Rattle.dn_lockstep.specs.declared.lockstep.Lockstep.{Lockstep}
 use Rattle.zirmegat.specs.declared.handle.NodeHandle.{NodeHandle}
 use Rattle.zirmegat.specs.Held.{held_node, owned}
 use Rattle.zirmegat.specs.Lends.{with_node}
-use Rattle.zirmegat.proofs.Handles.{H, word, handle_out, handle_in, live_out}
+use Rattle.zirmegat.specs.contracts.handle.NodeHandle as handle
+use Rattle.zirmegat.proofs.Handles.{word, handle_out, handle_in, live_out}
+use Rattle.zirmegat.proofs.HandleKinds.{node_handle}
 use Rattle.zirmegat.proofs.Node.{N, g}
 use Rattle.zirmegat.specs.contracts.handle.NodeHandle.lend as f
 use Rattle.zirmegat.proofs.handle.NodeHandle.lend.Statement.{statement}
 use Rattle.zirmegat.proofs.handle.NodeHandle.lend.Code as code
+
+abbrev H : RattleType
+H = handle.the_row
 
 abbrev stayed : Stays f.ended.signature.params f.ended.kept
 stayed = (stay_dropped (mut_ref_to (0 ∷ []) tt (plain (λ _. H))) no, tt)
@@ -56,7 +62,7 @@ module _ {M : Type 1} {𝓤 : Ura M} (𝓛 : Logic 𝓤) (h : NodeHandle) (rb ro
       λ i. record { live = sym live i; at = sym at i; node = Some w } in
       qed 𝓛 (‵ (part_at N full_share w b o) ∷ ‵ Rest ∷ []) ∵ move ! (1 ∷ []) $ fsplit ! $
       move ! (2 ∷ 0 ∷ []) $
-      fjoin ! $ fpack ! Global (owned N (block_ptr b o) w) a $ handle_in ! true (block_ptr b o) (Some w) $
+      fjoin ! $ fpack ! Global (owned N (block_ptr b o) w) a $ handle_in node_handle ! true (block_ptr b o) (Some w) $
       rewrite ! 0 (λ (d : NodeHandle). ‵ (H.own_val d (word true (block_ptr b o) ∷ []))) made refl $
       move ! (1 ∷ 0 ∷ []) $ fjoin ! $
       fpack ! (List Val) (λ us. fsep (cell_at full_share H.mir us rb ro) (H.own_val (with_node h w) us))
@@ -77,9 +83,9 @@ lend_spec 𝓤 𝓛 𝓜 𝓡 wired =
     split ! $ split ! $ move ! (2 ∷ []) $ split ! $ keep ! (0 ∷ 2 ∷ []) $
     enter ! _ _ _ _ _ $ alloc_all ! (λ l. pass_all ! refl ((tt, tt), tt) $
     fsplit3 ! $ move ! (1 ∷ 2 ∷ 3 ∷ []) $ opens ! tt H rb ro (λ us.
-    move ! (1 ∷ []) $ handle_out ! h us (λ ew.
+    move ! (1 ∷ []) $ handle_out node_handle ! h us (λ ew.
     rewrite ! 0 (λ d. ‵ (held_node d h.at h.node)) live refl $
-    live_out ! N h.at h.node (λ x en. fpick ! (λ a'.
+    live_out node_handle ! h.at h.node (λ x en. fpick ! (λ a'.
     in_a_block ! h.at (λ p. owned N p x a')
     (fst∗ 𝓤 (never 𝓤) (sem 𝓛 (g.dealloc_token a' (bare (lone N.mir)) null_ptr))) (λ b o e. fsplit ! $
     let cell : us ≡ word true (block_ptr b o) ∷ [] = ew ∙ (λ i. word (live i) (e i) ∷ []) in
