@@ -9,11 +9,14 @@ pub mod ReadBack
 pub mod Writable
 pub mod RecordedAnew
 mod ToldBehind
+mod Gets
 mod Stepping
 mod HeadersKept
 mod RowsKept
+mod RowsMarked
 mod FeedKept
 mod FeedSteps
+mod FeedRows
 mod FeedEnds
 mod PiecesJoined
 pub mod Listing
