@@ -19,5 +19,6 @@ mod FeedSteps
 mod FeedRows
 mod FeedEnds
 mod PiecesJoined
+mod TicsCounted
 pub mod Listing
 mod RowsTold

@@ -1,22 +1,18 @@
 -- The rows that are told as bytes come.
-use Rattle.std.proofs.Common.{◌≡◌, ◌<◌, ◌≤◌, ℕ, ◌+◌, ◌-◌, ◌*◌, ◌/◌, ◌%◌, Bool, true, false, List, [], ◌∷◌, ◌++◌, length, take, Option, Some, None, refl, sym, ap, ◌∙◌, subst, arith, inl, inr, append_assoc, append-nil, length-append}
-use Rattle.std.proofs.Math.Nat.{div-add-mod, mod-lt, lt_of_mul-lt-mul_left}
-use Rattle.std.proofs.lemmas.Nat.{div-mul-add}
-use Rattle.std.proofs.lemmas.List.{length-take-le, length-drop}
-use Rattle.std.proofs.lemmas.Option.{slice_get_within}
+use Rattle.std.proofs.Common.{◌≡◌, ◌<◌, ◌≤◌, ℕ, ◌+◌, ◌*◌, List, [], ◌∷◌, ◌++◌, length, take, Option, Some, None, refl, sym, ap, ◌∙◌, subst, arith, append_assoc, append-nil, length-append}
+use Rattle.std.proofs.lemmas.List.{length-drop}
 use Rattle.std.proofs.lemmas.List.FromFn.{map-range_with_len_more}
 use Rattle.dn_tic.specs.declared.command.Move.{Move}
 use Rattle.dn_world.specs.Physics.{Physics}
-use Rattle.dn_demo.specs.Layout.{Layout, command_size}
+use Rattle.dn_demo.specs.Layout.{Layout}
 use Rattle.dn_demo.specs.Rows.{player_count}
-use Rattle.dn_demo.specs.Text.{marker}
-use Rattle.dn_demo.specs.Places.{seats_in, place, row_in, rows_in, HasCommands}
+use Rattle.dn_demo.specs.Places.{seats_in, place, row_in, rows_in}
 use Rattle.dn_demo.specs.Reading.{HasHeader, HasRows}
-use Rattle.dn_demo.specs.Feeding.{Feeding, IsFront, Shows, ShowsRows, Takes}
+use Rattle.dn_demo.specs.Feeding.{Feeding, Shows, ShowsRows, Takes}
 use Rattle.dn_demo.specs.Listed.{told, EndsRow, AreListed, Lists, TellsFront}
 use Rattle.dn_demo.proofs.HeadersKept.{header_kept, header_of_kept, kept_longer}
-use Rattle.dn_demo.proofs.Layouts.{place_order}
 use Rattle.dn_demo.proofs.OneReading.{same_layout}
+use Rattle.dn_demo.proofs.TicsCounted.{counted}
 use Rattle.dn_demo.proofs.RowsMarked.{front_within}
 use Rattle.dn_demo.proofs.Stepping.{rows_in-append}
 
@@ -152,48 +148,6 @@ tells_all state physics f g piece rows all =
       subst (λ (p : List ℕ). Takes state physics f p g) whole all.shown,
       subst (λ (p : List ℕ). Lists state physics f p g rows) whole all.listed,
     )
-
--- a number between a product and the next is divided to the factor
-quotient : (players tics commands : ℕ) → players * tics ≤ commands → commands < players * tics + players
-    → commands / players ≡ tics
-quotient players tics commands least most =
-    let cut = commands - players * tics in
-    let turned : commands ≡ tics * players + cut = omega arith in
-    ap (λ n. n / players) turned ∙ div-mul-add tics players cut (omega arith)
-
--- the commands before the marker, or before the end, make this many tics
-counted : (layout : Layout) (bytes : List ℕ) (players tics : ℕ) (marked : Bool) (front : List ℕ) (after : ℕ)
-    → IsFront layout bytes marked front after
-    → 13 ≤ length bytes → place layout (players * tics) ≤ length front
-    → length front < place layout (players * tics) + command_size layout * players
-    → (commands : ℕ) × HasCommands layout bytes commands × (commands / players ≡ tics)
-counted layout bytes players tics true front after ends long least most =
-    let commands = ends.0 in
-    let size = command_size layout in
-    let inside = slice_get_within bytes (place layout commands) marker ends.1.marked in
-    let same : length front ≡ place layout commands = ap length ends.2
-    ∙ length-take-le (place layout commands) bytes (omega arith) in
-    let next : size * (players * tics + players) ≡ size * (players * tics) + size * players = omega arith in
-    let low : players * tics ≤ commands = place_order layout (players * tics) commands
-    (omega (arith, same, least)) in
-    let high : commands < players * tics + players =
-    lt_of_mul-lt-mul_left size (omega (arith, same, most, next)) in
-    (commands, inl ends.1, quotient players tics commands low high)
-counted layout bytes players tics false front after ends long least most =
-    let size = command_size layout in
-    let body = length bytes - 13 in
-    let commands = body / size in
-    let same : length front ≡ length bytes = ap length ends.1 in
-    let split = div-add-mod body size in
-    let left : body % size < size = mod-lt body (omega arith) in
-    let next : size * (players * tics + players) ≡ size * (players * tics) + size * players = omega arith in
-    let more : size * (commands + 1) ≡ size * commands + size = omega arith in
-    let low : players * tics < commands + 1 =
-    lt_of_mul-lt-mul_left size (omega (arith, same, least, split, left, more)) in
-    let high : commands < players * tics + players =
-    lt_of_mul-lt-mul_left size
-    (omega (arith, same, most, split, next, long)) in
-    (commands, inr (ends.0, refl), quotient players tics commands (omega (arith, low)) high)
 
 -- the rows told are those that the bytes have
 pub rows_of_listed : {S W : Type 0} (state : W → S) (physics : Physics S) (bytes : List ℕ) (f : Feeding W)
