@@ -73,6 +73,7 @@ module _ {S W : Type 0} (state : W → S) (physics : Physics S) {taken tics afte
     free : marked ≡ false
     free = subst (λ (h : Feeding W). h.marked ≡ false) (sym view) unmarked
 
+    -- what was kept of whatever bytes were shown
     kept_before : (bytes : List ℕ) → Shows state physics bytes old
         → Unmarked state physics layout bytes after tics (take kept row) world
     kept_before bytes shown = rows.unmarked state physics layout bytes old free
@@ -81,6 +82,7 @@ module _ {S W : Type 0} (state : W → S) (physics : Physics S) {taken tics afte
     seats_of : (bytes : List ℕ) → Shows state physics bytes old → seats_in header ≡ seats_in bytes
     seats_of bytes shown = ap seats_in (sym all) ∙ seats_kept bytes (take taken header) shown.header
 
+    -- more bytes are taken where their rows are shown
     shown_on : (more : List ℕ) (g : Feeding W) → g.taken ≡ taken + length more
         → g.header ≡ take taken header
         → ((bytes : List ℕ) → seats_in header ≡ seats_in bytes
@@ -104,6 +106,7 @@ module _ {S W : Type 0} (state : W → S) (physics : Physics S) {taken tics afte
           (marker_came state physics layout bytes old new.taken new.header u
           (ap (λ n. n % command_size layout) row_length ∙ at.1)))
 
+      -- the row with the byte
       joined : take (kept + 1) (set row kept byte) ≡ take kept row ++ byte ∷ []
       joined = take_more_set row kept byte (omega (arith, sized.1, room))
 
@@ -128,6 +131,7 @@ module _ {S W : Type 0} (state : W → S) (physics : Physics S) {taken tics afte
               | inr full ↦ absurd (not (omega (arith, count, full, unfinished)))
             ]
 
+        -- a feed that took a byte of a row
         pub still_kept : (kept + 1 ≡ size * players → ⊥)
             → (kept + 1 ≤ 20)
             × IsKept (feeding_of (taken + 1) header tics (kept + 1) (set row kept byte) marked after world)
@@ -182,6 +186,7 @@ module _ {S W : Type 0} (state : W → S) (physics : Physics S) {taken tics afte
               (seats ∙ same) told_joined new (no_marker not)
               (longer ∙ full ∙ count ∙ ap (row_size layout) same) stepped))
 
+          -- and it is the row that is told
           pub row_ended : (bytes : List ℕ) → Shows state physics bytes f
               → EndsRow layout (bytes ++ byte ∷ []) f.tics (tics + 1) (Some moves)
           row_ended =
