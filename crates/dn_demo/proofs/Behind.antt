@@ -71,10 +71,7 @@ row_of layout (false ∷ seats) (None ∷ row) same fits told can =
     let Q : Option Move → Type 0 = λ step. IfSome step IsRecordable in
     row_of layout seats row (cc) (All-tail P None row fits) (All-tail T None row told)
     (All-tail Q None row can)
-row_of layout (true ∷ seats) (None ∷ row) same fits told can = cc
-row_of layout (false ∷ seats) (Some m ∷ row) same fits told can = cc
-row_of layout [] (step ∷ row) same fits told can = cc
-row_of layout (seat ∷ seats) [] same fits told can = cc
+row_of layout _ _ same fits told can = cc
 
 -- the first of two parts that stand behind a front, and the other behind it
 apart : (front one other rest : List ℕ) → front ++ ((one ++ other) ++ rest)
@@ -107,11 +104,7 @@ row_behind layout front rest (true ∷ seats) (Some m ∷ row) k sound e is =
 row_behind layout front rest (false ∷ seats) (None ∷ row) k sound e is =
     let others = row_behind layout front rest seats row k sound e is in
     λ i. None ∷ others i
-row_behind layout front rest (true ∷ seats) (None ∷ row) k sound e is = absurd is
-row_behind layout front rest (false ∷ seats) (Some m ∷ row) k sound e is = absurd is
-row_behind layout front rest [] (step ∷ row) k sound e is = absurd is
-row_behind layout front rest (true ∷ seats) [] k sound e is = absurd is
-row_behind layout front rest (false ∷ seats) [] k sound e is = absurd is
+row_behind layout front rest _ _ k sound e is = absurd is
 
 -- and no marker stands in it
 none_in_row : (layout : Layout) (front rest : List ℕ) (seats : List Bool) (row : List (Option Move)) (k : ℕ)
@@ -137,11 +130,7 @@ none_in_row layout front rest (true ∷ seats) (Some m ∷ row) k sound e is j l
     ]
 none_in_row layout front rest (false ∷ seats) (None ∷ row) k sound e is j low high =
     none_in_row layout front rest seats row k sound e is j low high
-none_in_row layout front rest (true ∷ seats) (None ∷ row) k sound e is j low high = absurd is
-none_in_row layout front rest (false ∷ seats) (Some m ∷ row) k sound e is j low high = absurd is
-none_in_row layout front rest [] (step ∷ row) k sound e is j low high = absurd is
-none_in_row layout front rest (true ∷ seats) [] k sound e is j low high = absurd is
-none_in_row layout front rest (false ∷ seats) [] k sound e is j low high = absurd is
+none_in_row layout front rest _ _ k sound e is j low high = absurd is
 
 -- rows, each seat by seat
 abbrev pub RowsOf : Layout → List Bool → List (List (Option Move)) → Type 0

@@ -1,23 +1,21 @@
 -- What a feed has kept, as bytes come.
-use Rattle.std.proofs.Common.{◌≡◌, ◌<◌, ◌≤◌, ℕ, ◌+◌, ◌-◌, ◌*◌, ◌/◌, ◌%◌, true, false, List, [], ◌∷◌, ◌++◌, length, Ok, Err, sym, ap, ◌∙◌, subst, arith, inl, inr, append_assoc, append-nil, length-append}
-use Rattle.std.proofs.Math.Nat.{mul-div_cancel_left}
+use Rattle.std.proofs.Common.{◌≡◌, ◌<◌, ◌≤◌, ℕ, ◌+◌, ◌-◌, ◌*◌, ◌/◌, ◌%◌, true, false, List, ◌++◌, length, Ok, Err, sym, ap, ◌∙◌, subst, arith, append_assoc, length-append}
+use Rattle.std.proofs.Math.Nat.{mul-div_cancel_left, lt_of_mul-lt-mul_left}
 use Rattle.std.proofs.lemmas.Nat.{div-mul-add, mod-mul-add}
-use Rattle.std.proofs.lemmas.Bool.{cases_lt}
 use Rattle.std.proofs.lemmas.List.{length-take-le, length-drop}
-use Rattle.std.proofs.lemmas.List.FromFn.{length-map-range_with_len}
 use Rattle.std.proofs.lemmas.Option.{slice_get_within}
 use Rattle.dn_world.specs.Physics.{Physics}
 use Rattle.dn_demo.specs.Layout.{Layout, command_size}
 use Rattle.dn_demo.specs.Rows.{player_count}
 use Rattle.dn_demo.specs.Text.{marker}
-use Rattle.dn_demo.specs.Places.{seats_in, place, row_in}
-use Rattle.dn_demo.specs.Reading.{Recording, recording, HasHeader, IsReadAs, state_after}
-use Rattle.dn_demo.specs.Feeding.{Feeding, IsFront, Shows, ShowsRows, Takes, TakesFront, state_by}
+use Rattle.dn_demo.specs.Places.{seats_in, place}
+use Rattle.dn_demo.specs.Reading.{recording, HasHeader, IsReadAs}
+use Rattle.dn_demo.specs.Feeding.{Feeding, IsFront, Shows, ShowsRows, TakesFront}
 use Rattle.dn_demo.specs.declared.demo.DemoFault.TheVariants.{NoMarker}
 use Rattle.dn_demo.proofs.OneReading.{same_layout}
-use Rattle.dn_demo.proofs.Layouts.{place_below}
+use Rattle.dn_demo.proofs.Layouts.{place_order}
 use Rattle.dn_demo.proofs.HeadersKept.{header_kept, header_of_kept, kept_longer}
-use Rattle.dn_demo.proofs.RowsKept.{unmarked, lt_of_product}
+use Rattle.dn_demo.proofs.RowsKept.{unmarked}
 
 -- behind a whole header that stays, bytes are shown where their rows are
 pub shown_more : {S W : Type 0} (state : W → S) (physics : Physics S) (bytes more : List ℕ) (f g : Feeding W)
@@ -50,15 +48,13 @@ shown_in state physics layout bytes more f g h long shown taken header rows =
     let same : layout ≡ own = same_layout bytes layout own mine.known has.known in
     subst (λ (l : Layout). ShowsRows state physics l (bytes ++ more) g) same (rows (shown.rows layout mine)))
 
--- the bytes before the marker are read as the demo that was stepped by
+-- the commands before the marker make the tics that the world was stepped by, and the rest of them is cut
 pub fed_as : {S W : Type 0} (state : W → S) (physics : Physics S) (layout : Layout) (bytes : List ℕ)
     (f : Feeding W) → HasHeader layout bytes → f.marked ≡ true
     → ShowsRows state physics layout bytes f
-    → (demo : Recording) × IsReadAs bytes (Ok demo)
-    × (demo ≡ recording layout bytes
-    (player_count (seats_in bytes) * f.tics + length f.row / command_size layout) f.after)
-    × (f.tics ≡ length demo.rows) × (length f.row / command_size layout ≡ demo.cut)
-    × (state f.world ≡ state_after physics demo)
+    → (commands : ℕ) × IsReadAs bytes (Ok (recording layout bytes commands f.after))
+    × (commands / player_count (seats_in bytes) ≡ f.tics)
+    × (length f.row / command_size layout ≡ commands % player_count (seats_in bytes))
 fed_as state physics layout bytes f h marked rows =
     let ends : IsFront layout bytes true rows.front f.after =
     subst (λ m. IsFront layout bytes m rows.front f.after) marked rows.ends in
@@ -71,33 +67,20 @@ fed_as state physics layout bytes f h marked rows =
     let row : length f.row ≡ place layout commands - place layout (players * f.tics) =
     ap length rows.row ∙ length-drop (place layout (players * f.tics)) rows.front
     ∙ ap (λ n. n - place layout (players * f.tics)) front in
-    let order : players * f.tics ≤ commands = elim (cases_lt commands (players * f.tics)) [
-      | inl below ↦ let above = place_below layout commands (players * f.tics) below in
-          absurd (omega (arith, above, rows.whole, front))
-      | inr within ↦ omega arith
-    ] in
+    let order : players * f.tics ≤ commands =
+    place_order layout (players * f.tics) commands (omega (arith, rows.whole, front)) in
     let cut = commands - players * f.tics in
-    let sum : commands ≡ players * f.tics + cut = omega arith in
-    let apart : size * (players * f.tics + cut) ≡ size * (players * f.tics) + size * cut = omega arith in
+    let sum : commands ≡ f.tics * players + cut = omega arith in
+    let apart : size * (f.tics * players + cut) ≡ size * (players * f.tics) + size * cut = omega arith in
     let spread : size * commands ≡ size * (players * f.tics) + size * cut = ap (λ n. size * n) sum ∙ apart in
     let bytes_cut : length f.row ≡ size * cut = omega (arith, row, spread) in
-    let few : cut < players = lt_of_product size cut players (omega (arith, bytes_cut, rows.unfinished)) in
-    let cut_is : length f.row / size ≡ cut = ap (λ n. n / size) bytes_cut
-    ∙ mul-div_cancel_left cut (omega arith) in
-    let turned : commands ≡ f.tics * players + cut = omega (arith, sum) in
-    let tics : commands / players ≡ f.tics = ap (λ n. n / players) turned
-    ∙ div-mul-add f.tics players cut few in
-    let left : commands % players ≡ cut = ap (λ n. n % players) turned ∙ mod-mul-add f.tics players cut few in
-    let demo = recording layout bytes commands f.after in
-    let read : IsReadAs bytes (Ok demo) =
-    (layout, h, (commands, ends.1, ap (recording layout bytes commands) ends.3)) in
-    let same : demo ≡ recording layout bytes (players * f.tics + length f.row / size) f.after =
-    ap (λ n. recording layout bytes n f.after) (sum ∙ ap (λ n. players * f.tics + n) (sym cut_is)) in
-    let count : f.tics ≡ length demo.rows = sym tics
-    ∙ sym (length-map-range_with_len (row_in layout bytes) 0 (commands / players)) in
-    let world : state f.world ≡ state_after physics demo =
-    rows.world ∙ ap (state_by physics layout bytes) (sym tics) in
-    (demo, read, same, count, cut_is ∙ sym left, world)
+    let few : cut < players = lt_of_mul-lt-mul_left size (omega (arith, bytes_cut, rows.unfinished)) in (
+      commands,
+      (layout, h, (commands, ends.1, ap (recording layout bytes commands) ends.3)),
+      ap (λ n. n / players) sum ∙ div-mul-add f.tics players cut few,
+      ap (λ n. n / size) bytes_cut ∙ mul-div_cancel_left cut (omega arith)
+          ∙ sym (ap (λ n. n % players) sum ∙ mod-mul-add f.tics players cut few),
+    )
 
 -- without a marker there is none
 pub no_marker : {S W : Type 0} (state : W → S) (physics : Physics S) (layout : Layout) (bytes : List ℕ)
@@ -121,11 +104,3 @@ front_more state physics f g h piece mid rest one other =
           (append_assoc bytes one.front other.front)
           (other.shown (bytes ++ one.front) (one.shown bytes shown));
     }
-
--- all of a piece
-pub front_all : {S W : Type 0} (state : W → S) (physics : Physics S) (f g : Feeding W) (piece rest : List ℕ)
-    → length rest ≡ 0
-    → TakesFront state physics f piece rest g → Takes state physics f piece g
-front_all state physics f g piece [] empty all =
-    subst (λ (p : List ℕ). Takes state physics f p g) (sym (all.split ∙ append-nil all.front)) all.shown
-front_all state physics f g piece (x ∷ rest) empty all = absurd (omega (arith, empty))

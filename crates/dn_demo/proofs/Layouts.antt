@@ -1,7 +1,7 @@
 -- What holds of both layouts.
 use Rattle.std.proofs.Common.{◌≡◌, ◌<◌, ◌≤◌, ℕ, suc, ◌+◌, ◌-◌, ◌*◌, ◌/◌, ◌%◌, ◌^◌, ℤ, pos, negsuc, int_rem, [], ◌∷◌, ◌++◌, length, take, Some, FitsSigned, refl, sym, ap, ◌∙◌, arith, w8, length-append}
 use Rattle.std.specs.Int.{w16, cast_signed, cast_unsigned}
-use Rattle.std.proofs.Math.Nat.{mul-le-mul_left}
+use Rattle.std.proofs.Math.Nat.{mul-le-mul_left, le_of_mul-le-mul_left}
 use Rattle.std.proofs.Math.Seq.{take-append_seam}
 use Rattle.std.proofs.lemmas.Int.{ints, to_z-of_z}
 use Rattle.std.proofs.lemmas.List.{get_or_at}
@@ -78,3 +78,6 @@ place_below layout j k below =
     let more : command_size layout * (j + 1) ≤ command_size layout * k =
     mul-le-mul_left (command_size layout) (omega arith) in
     omega arith
+
+pub place_order : (layout : Layout) (j k : ℕ) → place layout j ≤ place layout k → j ≤ k
+place_order layout j k order = le_of_mul-le-mul_left {k = command_size layout} (omega arith) (omega arith)

@@ -1,38 +1,20 @@
 -- The rows that are told as bytes come.
-use Rattle.std.proofs.Common.{◌≡◌, ◌<◌, ◌≤◌, ℕ, ◌+◌, ◌-◌, ◌*◌, ◌/◌, ◌%◌, Bool, true, false, List, [], ◌∷◌, ◌++◌, length, take, Option, Some, None, refl, sym, ap, ◌∙◌, subst, arith, inl, inr, append_assoc, append-nil, length-append}
-use Rattle.std.proofs.Math.Nat.{div-add-mod, mod-lt}
-use Rattle.std.proofs.lemmas.Nat.{div-mul-add}
-use Rattle.std.proofs.lemmas.List.{length-take-le, length-drop}
-use Rattle.std.proofs.lemmas.Option.{slice_get_within}
+use Rattle.std.proofs.Common.{◌≡◌, ◌<◌, ◌≤◌, ℕ, ◌+◌, ◌*◌, List, [], ◌∷◌, ◌++◌, length, take, Option, Some, None, refl, sym, ap, ◌∙◌, subst, arith, append_assoc, append-nil, length-append}
+use Rattle.std.proofs.lemmas.List.{length-drop}
 use Rattle.std.proofs.lemmas.List.FromFn.{map-range_with_len_more}
 use Rattle.dn_tic.specs.declared.command.Move.{Move}
 use Rattle.dn_world.specs.Physics.{Physics}
-use Rattle.dn_demo.specs.Layout.{Layout, command_size}
+use Rattle.dn_demo.specs.Layout.{Layout}
 use Rattle.dn_demo.specs.Rows.{player_count}
-use Rattle.dn_demo.specs.Text.{marker}
-use Rattle.dn_demo.specs.Places.{seats_in, place, moves_from, row_in, rows_in, HasCommands}
+use Rattle.dn_demo.specs.Places.{seats_in, place, row_in, rows_in}
 use Rattle.dn_demo.specs.Reading.{HasHeader, HasRows}
-use Rattle.dn_demo.specs.Feeding.{Feeding, IsFront, Shows, ShowsRows, Takes}
+use Rattle.dn_demo.specs.Feeding.{Feeding, Shows, ShowsRows, Takes}
 use Rattle.dn_demo.specs.Listed.{told, EndsRow, AreListed, Lists, TellsFront}
-use Rattle.dn_demo.proofs.HeadersKept.{header_kept, header_of_kept, kept_longer, seats_kept}
+use Rattle.dn_demo.proofs.HeadersKept.{header_kept, header_of_kept, kept_longer}
 use Rattle.dn_demo.proofs.OneReading.{same_layout}
-use Rattle.dn_demo.proofs.RowsKept as kept
-use Rattle.dn_demo.proofs.RowsKept.{unmarked, lt_of_product, place_order}
+use Rattle.dn_demo.proofs.TicsCounted.{counted}
+use Rattle.dn_demo.proofs.RowsMarked.{front_within}
 use Rattle.dn_demo.proofs.Stepping.{rows_in-append}
-
--- the row that a byte ends, of whatever bytes were shown
-pub row_told : {S W : Type 0} (state : W → S) (physics : Physics S) (layout : Layout) (bytes : List ℕ)
-    (f : Feeding W) (byte : ℕ)
-    (present : List Bool) (moves : List (Option Move))
-    → HasHeader layout f.header → f.marked ≡ false → present ≡ seats_in f.header
-    → ((front : List ℕ) (command : ℕ) → length front + 0 ≡ place layout command
-    → moves ≡ moves_from layout (front ++ (f.row ++ byte ∷ [])) present command)
-    → Shows state physics bytes f → moves ≡ row_in layout (bytes ++ byte ∷ []) f.tics
-row_told state physics layout bytes f byte present moves h free seats told shown =
-    let here = header_of_kept layout bytes f.header shown.header h in
-    kept.row_told state physics layout bytes f byte present moves
-    (unmarked state physics layout bytes f free (shown.rows layout here))
-    (seats ∙ seats_kept bytes f.header shown.header) told
 
 -- a header that bytes have once more came behind them
 old_header : (layout : Layout) (bytes more : List ℕ) → 13 ≤ length bytes → HasHeader layout (bytes ++ more)
@@ -50,13 +32,6 @@ longer_header layout bytes more h =
     (header_kept layout bytes (take 13 bytes) refl h)
 
 -- the whole tics of the bytes lie within them
-front_within : (layout : Layout) (bytes : List ℕ) (marked : Bool) (front : List ℕ) (after : ℕ)
-    → IsFront layout bytes marked front after → length front ≤ length bytes
-front_within layout bytes true front after ends =
-    let inside = slice_get_within bytes (place layout ends.0) marker ends.1.marked in
-    omega (arith, ap length ends.2, length-take-le (place layout ends.0) bytes (omega arith))
-front_within layout bytes false front after ends = omega (arith, ap length ends.1)
-
 tics_within : {S W : Type 0} (state : W → S) (physics : Physics S) (layout : Layout) (bytes : List ℕ)
     (f : Feeding W) → ShowsRows state physics layout bytes f
     → place layout (player_count (seats_in bytes) * f.tics) ≤ length bytes
@@ -128,24 +103,6 @@ lists_ended state physics layout f g byte (Some row) h long tics ends =
           };
     }
 
--- nothing came yet
-pub tells_none : {S W : Type 0} (state : W → S) (physics : Physics S) (f : Feeding W) (piece : List ℕ)
-    → TellsFront state physics f piece piece f []
-tells_none state physics f piece =
-    record {
-      front = [];
-      split = refl;
-      count = omega arith;
-      shown = λ bytes shown. subst (λ (b : List ℕ). Shows state physics b f) (sym (append-nil bytes)) shown;
-      listed = record {
-        tics = omega arith;
-        each = λ bytes before shown listed.
-            subst (λ (b : List ℕ). AreListed b f.tics (before ++ [])) (sym (append-nil bytes))
-            (subst (λ (r : List (List (Option Move))). AreListed bytes f.tics r) (sym (append-nil before))
-            listed);
-      };
-    }
-
 -- one byte of a piece
 pub tells_byte : {S W : Type 0} (state : W → S) (physics : Physics S) (f g : Feeding W) (piece rest : List ℕ)
     (byte : ℕ) (rows : List (List (Option Move)))
@@ -191,52 +148,6 @@ tells_all state physics f g piece rows all =
       subst (λ (p : List ℕ). Takes state physics f p g) whole all.shown,
       subst (λ (p : List ℕ). Lists state physics f p g rows) whole all.listed,
     )
-
--- nothing was told of no bytes
-pub listed_none : AreListed [] 0 []
-listed_none = record { some = λ layout h. refl; none = λ no. refl }
-
--- a number between a product and the next is divided to the factor
-quotient : (players tics commands : ℕ) → players * tics ≤ commands → commands < players * tics + players
-    → commands / players ≡ tics
-quotient players tics commands least most =
-    let cut = commands - players * tics in
-    let turned : commands ≡ tics * players + cut = omega arith in
-    ap (λ n. n / players) turned ∙ div-mul-add tics players cut (omega arith)
-
--- the commands before the marker, or before the end, make this many tics
-counted : (layout : Layout) (bytes : List ℕ) (players tics : ℕ) (marked : Bool) (front : List ℕ) (after : ℕ)
-    → IsFront layout bytes marked front after
-    → 13 ≤ length bytes → place layout (players * tics) ≤ length front
-    → length front < place layout (players * tics) + command_size layout * players
-    → (commands : ℕ) × HasCommands layout bytes commands × (commands / players ≡ tics)
-counted layout bytes players tics true front after ends long least most =
-    let commands = ends.0 in
-    let size = command_size layout in
-    let inside = slice_get_within bytes (place layout commands) marker ends.1.marked in
-    let same : length front ≡ place layout commands = ap length ends.2
-    ∙ length-take-le (place layout commands) bytes (omega arith) in
-    let next : size * (players * tics + players) ≡ size * (players * tics) + size * players = omega arith in
-    let low : players * tics ≤ commands = place_order layout (players * tics) commands
-    (omega (arith, same, least)) in
-    let high : commands < players * tics + players =
-    lt_of_product size commands (players * tics + players) (omega (arith, same, most, next)) in
-    (commands, inl ends.1, quotient players tics commands low high)
-counted layout bytes players tics false front after ends long least most =
-    let size = command_size layout in
-    let body = length bytes - 13 in
-    let commands = body / size in
-    let same : length front ≡ length bytes = ap length ends.1 in
-    let split = div-add-mod body size in
-    let left : body % size < size = mod-lt body (omega arith) in
-    let next : size * (players * tics + players) ≡ size * (players * tics) + size * players = omega arith in
-    let more : size * (commands + 1) ≡ size * commands + size = omega arith in
-    let low : players * tics < commands + 1 =
-    lt_of_product size (players * tics) (commands + 1) (omega (arith, same, least, split, left, more)) in
-    let high : commands < players * tics + players =
-    lt_of_product size commands (players * tics + players)
-    (omega (arith, same, most, split, next, long)) in
-    (commands, inr (ends.0, refl), quotient players tics commands (omega (arith, low)) high)
 
 -- the rows told are those that the bytes have
 pub rows_of_listed : {S W : Type 0} (state : W → S) (physics : Physics S) (bytes : List ℕ) (f : Feeding W)

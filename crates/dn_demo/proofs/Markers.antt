@@ -1,9 +1,7 @@
 -- The search for the marker, from one command's place to the next.
 use Rattle.std.proofs.Common.{◌≡◌, ◌≢◌, ◌<◌, ℕ, ◌+◌, List, length, min, drop, get_or, slice_get, Some, sym, ap, ◌∙◌, arith, inl, inr, below_more}
-use Rattle.std.proofs.Math.ListN.{drop_of_length-le}
-use Rattle.std.proofs.Math.Seq.{drop-length}
-use Rattle.std.proofs.lemmas.List.{get_or-drop, length-drop, drop-drop}
-use Rattle.std.proofs.lemmas.Bool.{cases_lt, cases_order}
+use Rattle.std.proofs.lemmas.List.{get_or-drop, length-drop, drop-drop, drop_min}
+use Rattle.std.proofs.lemmas.Bool.{cases_order}
 use Rattle.std.proofs.lemmas.Option.{slice_get-get_or, slice_get_within}
 use Rattle.dn_demo.specs.Layout.{Layout, command_size}
 use Rattle.dn_demo.specs.Text.{marker}
@@ -35,16 +33,6 @@ passed layout bytes rest k e some none not =
     let not_here : slice_get bytes (place layout k) ≢ Some marker = λ here. let same =
     byte_at layout bytes rest k e some in not cc in
     below_more (λ j. slice_get bytes (place layout j) ≢ Some marker) k none not_here
-
--- dropping no more than there is
-drop_min : (n : ℕ) (xs : List ℕ) → drop (min n (length xs)) xs ≡ drop n xs
-drop_min n xs =
-    elim (cases_lt (length xs) n) [
-      | inl past ↦
-          let all : min n (length xs) ≡ length xs = omega arith in
-          ap (λ m. drop m xs) all ∙ drop-length xs ∙ sym (drop_of_length-le xs (omega arith))
-      | inr within ↦ let part : min n (length xs) ≡ n = omega arith in ap (λ m. drop m xs) part
-    ]
 
 -- one command on, or to the end where less than a command is left
 pub next_rest : (layout : Layout) (bytes rest after : List ℕ) (k : ℕ) → rest ≡ drop (place layout k) bytes

@@ -17,78 +17,7 @@ use Rattle.dn_demo.proofs.Layouts.{IsSound, IsTold, vanilla_sound, long_tics_sou
 use Rattle.dn_demo.proofs.Text.{header-seats}
 use Rattle.dn_demo.proofs.Behind.{RowsOf, rows_of, rows_behind, none_in_rows, length-rows}
 
--- what a text tells of its header
-start_in-text : (layout : Layout) (start : Start) (view : ℕ) (present : List Bool)
-    (rows : List (List (Option Move))) (closed : Bool)
-    → start_in (demo_text layout start view present rows closed) ≡ start
-unfolding demo_text
-start_in-text layout start view present rows closed = refl
-
-view-text : (layout : Layout) (start : Start) (view : ℕ) (present : List Bool)
-    (rows : List (List (Option Move))) (closed : Bool)
-    → get_or (demo_text layout start view present rows closed) 8 0 ≡ view
-unfolding demo_text
-view-text layout start view present rows closed = refl
-
-version-text : (layout : Layout) (start : Start) (view : ℕ) (present : List Bool)
-    (rows : List (List (Option Move))) (closed : Bool)
-    → get_or (demo_text layout start view present rows closed) 0 0 ≡ layout.version
-unfolding demo_text
-version-text layout start view present rows closed = refl
-
-pub seats_in-text : (layout : Layout) (start : Start) (view : ℕ) (present : List Bool)
-    (rows : List (List (Option Move))) (closed : Bool) → length present ≡ 4
-    → seats_in (demo_text layout start view present rows closed) ≡ present
-unfolding demo_text
-seats_in-text layout start view present rows closed four =
-    ap seats_in (append_assoc (header layout start view present) (commands_of layout rows) _)
-    ∙ header-seats layout start view present _ four
-
--- the text up to the marker, and the marker
-pub length-text : (layout : Layout) (start : Start) (view : ℕ) (present : List Bool)
-    (rows : List (List (Option Move))) → length present ≡ 4 → RowsOf layout present rows
-    → IsSound layout → length (header layout start view present ++ commands_of layout rows)
-    ≡ place layout (player_count present * length rows)
-length-text layout start view present rows four is sound =
-    omega (
-      arith,
-      length-append (header layout start view present) (commands_of layout rows),
-      length-map present bit,
-      length-rows layout present rows sound is,
-    )
-
-closed_text : (layout : Layout) (start : Start) (view : ℕ) (present : List Bool)
-    (rows : List (List (Option Move)))
-    → demo_text layout start view present rows true
-    ≡ (header layout start view present ++ commands_of layout rows) ++ marker ∷ []
-unfolding demo_text
-closed_text layout start view present rows = refl
-
-text_ends : (layout : Layout) (start : Start) (view : ℕ) (present : List Bool)
-    (rows : List (List (Option Move))) → length present ≡ 4 → RowsOf layout present rows
-    → IsSound layout → EndsBehind layout (demo_text layout start view present rows true)
-    (player_count present * length rows)
-text_ends layout start view present rows four is sound =
-    let text = demo_text layout start view present rows true in
-    let commands = player_count present * length rows in
-    let front = header layout start view present ++ commands_of layout rows in
-    let len = length-text layout start view present rows four is sound in
-    let shape = closed_text layout start view present rows in
-    let inside : place layout commands < length text =
-    omega (arith, ap length shape, length-append front (marker ∷ [])) in
-    let there : get_or text (place layout commands) 0 ≡ marker =
-    ap (λ (t : List ℕ). get_or t (place layout commands) 0) shape
-    ∙ get_or_at front marker [] 0 (place layout commands) len in
-    let apart = shape ∙ append_assoc (header layout start view present) (commands_of layout rows)
-    (marker ∷ []) in
-    let head : length (header layout start view present) ≡ place layout (player_count present * 0) =
-    omega (arith, length-map present bit) in
-    record {
-      marked = slice_get-get_or text (place layout commands) 0 inside ∙ ap (λ b. Some b) there;
-      first = λ j below. none_in_rows layout text (header layout start view present) (marker ∷ []) present
-          rows 0 sound apart head is j (omega arith) (omega arith);
-    }
-
+-- rows at their places, where there are as many seats
 rows_in-text : (layout : Layout) (text : List ℕ) (seats present : List Bool)
     (rows : List (List (Option Move))) → seats ≡ present → 0 < player_count present
     → map (λ t. moves_from layout text present (player_count present * t)) (range_with_len 0 (length rows))
@@ -103,55 +32,107 @@ rows_in-text layout text seats present rows same some all =
     ∙ ap (λ n. map (λ t. moves_from layout text present (player_count present * t)) (range_with_len 0 n)) tics
     ∙ all
 
--- the closed text of rows is read as they are
-read_back : (layout : Layout) (start : Start) (view : ℕ) (present : List Bool)
-    (rows : List (List (Option Move))) → IsSound layout
-    → AreWritable present rows → AllMoves (IsTold layout) rows
-    → IsReadAs (demo_text layout start view present rows true)
-    (Ok (written_demo layout start view present rows))
-read_back layout start view present rows sound can told_turns =
-    let text = demo_text layout start view present rows true in
-    let players = player_count present in
-    let commands = players * length rows in
-    let is = rows_of layout present rows can.recordable can.moves told_turns in
-    let seats = seats_in-text layout start view present rows true can.four in
-    let ends = text_ends layout start view present rows can.four is sound in
-    let shape = closed_text layout start view present rows in
-    let front = header layout start view present ++ commands_of layout rows in
-    let len = length-text layout start view present rows can.four is sound in
-    let whole : length text ≡ place layout commands + 1 =
-    omega (arith, ap length shape, length-append front (marker ∷ [])) in
-    let apart = shape ∙ append_assoc (header layout start view present) (commands_of layout rows)
-    (marker ∷ []) in
-    let head : length (header layout start view present) ≡ place layout (players * 0) =
-    omega (arith, length-map present bit, can.four) in
-    let all = rows_behind layout text (header layout start view present) (marker ∷ []) present rows 0 sound
-    apart head is in
-    let told = rows_in-text layout text (seats_in text) present rows seats can.somebody all in
-    let none_cut : commands % player_count (seats_in text) ≡ 0 =
-    ap (λ s. commands % player_count s) seats ∙ mul-mod_right players (length rows) in
-    let none_after : length text - (place layout commands + 1) ≡ 0 = omega arith in
-    let somebody : 0 < player_count (seats_in text) = omega (arith, can.somebody, ap player_count seats) in (
-      layout,
-      record {
-        whole = omega arith;
-        known = ap layout_of_version (version-text layout start view present rows true) ∙ sound.known;
-        somebody = somebody;
-      },
-      (
-        commands,
-        ends,
-        λ i. record {
-          version = sym (version-text layout start view present rows true) i;
-          start = sym (start_in-text layout start view present rows true) i;
-          view = sym (view-text layout start view present rows true) i;
-          present = sym seats i;
-          rows = sym told i;
-          cut = sym none_cut i;
-          after = sym none_after i;
-        },
-      ),
-    )
+module _ (layout : Layout) (start : Start) (view : ℕ) (present : List Bool)
+    (rows : List (List (Option Move))) where
+  abbrev head : List ℕ
+  head = header layout start view present
+
+  abbrev commands : ℕ
+  commands = player_count present * length rows
+
+  abbrev text : List ℕ
+  text = demo_text layout start view present rows true
+
+  -- what the text tells of its header
+  start-text : start_in text ≡ start
+  unfolding demo_text
+  start-text = refl
+
+  view-text : get_or text 8 0 ≡ view
+  unfolding demo_text
+  view-text = refl
+
+  version-text : get_or text 0 0 ≡ layout.version
+  unfolding demo_text
+  version-text = refl
+
+  -- the header, the commands and the marker
+  closed_text : text ≡ head ++ (commands_of layout rows ++ marker ∷ [])
+  unfolding demo_text
+  closed_text = append_assoc head (commands_of layout rows) (marker ∷ [])
+
+  -- the closed text of rows is read as they are
+  module _ (sound : IsSound layout) (can : AreWritable present rows) (told : AllMoves (IsTold layout) rows)
+    where
+      row_list : RowsOf layout present rows
+      row_list = rows_of layout present rows can.recordable can.moves told
+
+      seats-text : seats_in text ≡ present
+      seats-text = ap seats_in closed_text
+          ∙ header-seats layout start view present (commands_of layout rows ++ marker ∷ []) can.four
+
+      head_length : length head ≡ place layout (player_count present * 0)
+      head_length = omega (arith, length-map present bit, can.four)
+
+      end : length (head ++ commands_of layout rows) ≡ place layout commands
+      end = omega (
+        arith,
+        length-append head (commands_of layout rows),
+        head_length,
+        length-rows layout present rows sound row_list,
+      )
+
+      whole : length text ≡ place layout commands + 1
+      whole = omega (
+        arith,
+        ap length closed_text,
+        length-append head (commands_of layout rows ++ marker ∷ []),
+        length-append (commands_of layout rows) (marker ∷ []),
+        length-append head (commands_of layout rows),
+        end,
+      )
+
+      ends : EndsBehind layout text commands
+      ends =
+          let there : get_or text (place layout commands) 0 ≡ marker =
+          ap (λ (t : List ℕ). get_or t (place layout commands) 0)
+          (closed_text ∙ sym (append_assoc head (commands_of layout rows) (marker ∷ [])))
+          ∙ get_or_at (head ++ commands_of layout rows) marker [] 0 (place layout commands) end in
+          record {
+            marked = slice_get-get_or text (place layout commands) 0 (omega (arith, whole))
+                ∙ ap (λ b. Some b) there;
+            first = λ j below. none_in_rows layout text head (marker ∷ []) present rows 0 sound closed_text
+                head_length row_list j (omega arith) (omega arith);
+          }
+
+      read_back : IsReadAs text (Ok (written_demo layout start view present rows))
+      read_back =
+          let seats = seats-text in
+          let all = rows_in-text layout text (seats_in text) present rows seats can.somebody
+          (rows_behind layout text head (marker ∷ []) present rows 0 sound closed_text head_length row_list) in
+          let none_cut : commands % player_count (seats_in text) ≡ 0 =
+          ap (λ s. commands % player_count s) seats ∙ mul-mod_right (player_count present) (length rows) in
+          let none_after : length text - (place layout commands + 1) ≡ 0 = omega (arith, whole) in (
+            layout,
+            record {
+              whole = omega (arith, whole);
+              known = ap layout_of_version version-text ∙ sound.known;
+              somebody = omega (arith, can.somebody, ap player_count seats);
+            },
+            (
+              commands,
+              ends,
+              λ i. record {
+                version = sym version-text i;
+                start = sym start-text i;
+                view = sym view-text i;
+                present = sym seats i;
+                rows = sym all i;
+                cut = sym none_cut i;
+                after = sym none_after i;
+              },
+            ),
+          )
 
 -- a fact that follows from two others
 all_then : {X : Type 0} (P Q R : X → Type 0) → ((x : X) → P x → Q x → R x) → (xs : List X) → All P xs

@@ -1,12 +1,11 @@
 -- A world that is stepped by the rows of a demo.
-use Rattle.std.proofs.Common.{◌≡◌, ◌≢◌, ◌<◌, ◌≤◌, ℕ, ◌+◌, ◌-◌, ◌*◌, Bool, List, [], ◌∷◌, ◌++◌, length, map, take, drop, fold, get_or, slice_get, Option, Some, sym, ap, subst, ◌∙◌, arith, inl, inr, append_assoc, length-append}
+use Rattle.std.proofs.Common.{◌≡◌, ◌≢◌, ◌<◌, ◌≤◌, ℕ, ◌+◌, ◌-◌, ◌*◌, Bool, List, [], ◌∷◌, ◌++◌, length, map, take, drop, fold, slice_get, Option, Some, sym, ap, subst, ◌∙◌, arith, inl, inr, append_assoc, length-append}
 use Rattle.std.specs.List.{range_with_len}
 use Rattle.std.proofs.Math.Nat.{mul-le-mul_left}
 use Rattle.std.proofs.lemmas.Bool.{cases_lt}
-use Rattle.std.proofs.lemmas.List.{take-append-le, take-append-drop, length-take-le, length-drop, drop-drop, get_or-drop}
+use Rattle.std.proofs.lemmas.List.{take-append-le, take-append-drop, length-take-le, length-drop, drop-drop}
 use Rattle.std.proofs.lemmas.List.FromFn.{map-range_with_len_more}
 use Rattle.std.proofs.lemmas.List.Sums.{fold-append}
-use Rattle.std.proofs.lemmas.Option.{slice_get-get_or, slice_get_within}
 use Rattle.dn_tic.specs.declared.command.Move.{Move}
 use Rattle.dn_world.specs.Physics.{Physics}
 use Rattle.dn_demo.specs.Layout.{Layout, command_size}
@@ -14,6 +13,7 @@ use Rattle.dn_demo.specs.Rows.{player_count}
 use Rattle.dn_demo.specs.Text.{marker}
 use Rattle.dn_demo.specs.Places.{start_in, seats_in, place, moves_from, row_in, rows_in}
 use Rattle.dn_demo.specs.Feeding.{row_size, state_by, Steps}
+use Rattle.dn_demo.proofs.Gets.{get_rest}
 use Rattle.dn_demo.proofs.Fronts.{start_in-take, seats_in-take, moves_from-take, map-agree}
 
 -- a header tells the same, whatever stands behind it
@@ -76,15 +76,6 @@ state_by-more physics layout bytes tics =
     ∙ fold-append physics.step begun (map (row_in layout bytes) (range_with_len 0 tics))
     (row_in layout bytes tics ∷ [])
 
--- what stands at an index of a rest
-pub get-drop : (n i : ℕ) (xs : List ℕ) (x : ℕ) → slice_get xs (n + i) ≡ Some x
-    → slice_get (drop n xs) i ≡ Some x
-get-drop n i xs x here =
-    let inside = slice_get_within xs (n + i) x here in
-    let same : Some (get_or xs (n + i) 0) ≡ Some x = sym (slice_get-get_or xs (n + i) 0 inside) ∙ here in
-    slice_get-get_or (drop n xs) i 0 (omega (arith, length-drop n xs))
-    ∙ ap (λ b. Some b) (get_or-drop n xs i 0) ∙ same
-
 -- no step yet
 pub steps_none : {S W : Type 0} (state : W → S) (physics : Physics S) (layout : Layout) (present : List Bool)
     (w : W) (piece : List ℕ)
@@ -141,7 +132,7 @@ steps_more state physics layout present old mid new piece rest after moves so_fa
             let at : all * command ≡ size * n + all * j = ap (λ c. all * c) sum ∙ spread in
             let there : slice_get rest (all * j) ≡ Some marker =
             ap (λ (t : List ℕ). slice_get t (all * j)) so_far.left
-            ∙ get-drop (size * n) (all * j) piece marker (ap (slice_get piece) (sym at) ∙ here) in
+            ∙ get_rest (size * n) (all * j) piece ∙ ap (slice_get piece) (sym at) ∙ here in
             none j (omega arith) there
       ];
       world = λ bytes before seats e is.

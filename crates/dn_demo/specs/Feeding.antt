@@ -19,6 +19,20 @@ pub record Feeding (W : Type 0) : Type 0 where
   pub after : ℕ
   pub world : W
 
+-- what is kept in the fields of a feed: the header and the row are fronts of arrays
+abbrev pub feeding_of : {W : Type 0} → (taken : ℕ) (header : List ℕ) (tics kept : ℕ) (row : List ℕ)
+    (marked : Bool) (after : ℕ) → W → Feeding W
+feeding_of taken header tics kept row marked after world =
+    record {
+      taken = taken;
+      header = take taken header;
+      tics = tics;
+      row = take kept row;
+      marked = marked;
+      after = after;
+      world = world;
+    }
+
 -- how many bytes a row has: a command for each player who is present
 abbrev pub row_size : Layout → List Bool → ℕ
 row_size layout present = command_size layout * player_count present

@@ -38,31 +38,15 @@ pub struct Feed<W> {
 }
 
 impl<W> Model for Feed<W> {
-    ghost use Rattle.std.specs.Prelude.{◌≤◌, take};
-    ghost use Rattle.dn_demo.specs.Feeding.{Feeding, IsKept};
+    ghost use Rattle.std.specs.Prelude.{◌≤◌};
+    ghost use Rattle.dn_demo.specs.Feeding.{Feeding, feeding_of, IsKept};
 
     ghost Value = { Feeding W };
 
-    ghost view = { λ f. record {
-      taken = f.taken;
-      header = take f.taken f.header;
-      tics = f.tics;
-      row = take f.kept f.row;
-      marked = f.marked;
-      after = f.after;
-      world = f.world;
-    } };
+    ghost view = { λ f. feeding_of f.taken f.header f.tics f.kept f.row f.marked f.after f.world };
 
     ghost invariant = { λ f. (f.kept ≤ 20)
-        × IsKept (record {
-          taken = f.taken;
-          header = take f.taken f.header;
-          tics = f.tics;
-          row = take f.kept f.row;
-          marked = f.marked;
-          after = f.after;
-          world = f.world;
-        }) };
+        × IsKept (feeding_of f.taken f.header f.tics f.kept f.row f.marked f.after f.world) };
 }
 
 /// Whether a byte is the marker, behind `kept` bytes of a row: it is at a command's place.
