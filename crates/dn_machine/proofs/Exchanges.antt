@@ -1,48 +1,29 @@
 -- What an exchange leaves in a game that goes on, where each node plays or has left.
 use Rattle.std.proofs.Common.{◌≡◌, ℕ, ◌+◌, ◌-◌, ◌<◌, ◌≤◌, ◌≢◌, Bool, true, false, true≢false, not, cond, ◌&&◌, ◌||◌, List, ◌++◌, length, drop, refl, sym, ◌∙◌, ap, subst, arith, Option, Some, None, inl, inr, ltb, leb, eqb}
 use Rattle.std.specs.Prelude.{◌⊎◌}
-use Rattle.std.proofs.lemmas.Bool.{cases_eq, cases_lt, cases_Bool, cond_both, cond-false, leb-true, leb-false, ltb-false, ltb-true, eqb-false, le-leb, le-ltb, and_parts, and_from, not-true, or_cases}
+use Rattle.std.proofs.lemmas.Bool.{cases_eq, cases_lt, cases_Bool, cond-false, ltb-true, eqb-false, le-leb, le-ltb, and_parts, and_from, not-true, or_cases}
 use Rattle.std.proofs.lemmas.List.{length-append, length-drop}
 use Rattle.dn_tic.specs.declared.command.TicCmd.{TicCmd}
 use Rattle.dn_setup.specs.Settings.{Settings}
 use Rattle.dn_machine.specs.declared.answers.Phase.{Phase}
 use Rattle.dn_machine.specs.declared.answers.Phase.TheVariants.{Playing}
 use Rattle.dn_machine.specs.declared.answers.Heard.{Heard}
-use Rattle.dn_machine.specs.declared.events.Event.{Event}
 use Rattle.dn_machine.specs.declared.peer.Peer.{Peer}
 use Rattle.dn_machine.specs.declared.events.Event.TheVariants.{Send, Deliver}
 use Rattle.dn_machine.specs.Worlds.{Rules}
 use Rattle.dn_machine.specs.Flight.{Flight, end_of, is_exit, is_near}
-use Rattle.dn_machine.specs.Node.{Node, put, with_peer, ends_of, got, made, ran, is_ended, has_left}
+use Rattle.dn_machine.specs.Node.{Node, put, with_peer, ends_of, got, made, is_ended, has_left}
 use Rattle.dn_machine.specs.Sending.{commands_flight, after_sent, on_send}
-use Rattle.dn_machine.specs.Hearing.{is_within, after_request, is_past_end, is_strange_end, after_exit, after_flight, on_commands, on_ended, on_packet, on_packet_in}
+use Rattle.dn_machine.specs.Hearing.{is_within, after_request, is_past_end, after_exit, on_commands, on_ended, on_packet, on_packet_in}
 use Rattle.dn_machine.specs.Game.{Game, with_node}
 use Rattle.dn_machine.proofs.Invariant.{HoldsAll, history_of}
 use Rattle.dn_machine.specs.Progress.{after, exchange}
 use Rattle.dn_machine.proofs.Put.{put_at, put_off, same_functions}
-use Rattle.dn_machine.proofs.Games.{applied_keeps}
-use Rattle.dn_machine.proofs.Growth.{IsPatient, applied_grows}
-use Rattle.dn_machine.proofs.Lists
-use Rattle.dn_machine.proofs.Pairs.{side, same_side, Holds, holds_same, Taken, Asked, IsAsked, asks, IsLive, accepted}
+use Rattle.dn_machine.proofs.Calls.{commands_cases, sender_after}
+use Rattle.dn_machine.proofs.GoingOn.{IsOn, ran_after, live_after, on_alike}
+use Rattle.dn_machine.proofs.Stages.{side, same_side, Holds, Taken, Asked, IsAsked, asks}
 use Rattle.dn_machine.proofs.Pairs
-use Rattle.dn_machine.proofs.Roomy.{ended_cause, IsRoomy, roomy_after}
-
--- every demo is as good as full, as far as the nodes that stay go
-abbrev pub IsFar : {S : Type 0} → Rules S → ℕ → (ℕ → Bool) → Game → Type 0
-IsFar rules cap stay game = (q : ℕ) → q < rules.players → stay q ≡ true → cap ≤ ran (game.nodes q) + 5
-
--- those that stay have run this many tics
-abbrev pub StayRan : {S : Type 0} → Rules S → (ℕ → Bool) → Game → ℕ → Type 0
-StayRan rules stay game tics = (q : ℕ) → q < rules.players → stay q ≡ true → tics ≤ ran (game.nodes q)
-
--- a game that goes on, where those that stay play and have run `tic` tics, and the others have left
-pub record IsOn {S : Type 0} (rules : Rules S) (settings : Settings) (cap : ℕ) (stay : ℕ → Bool) (tic : ℕ)
-    (game : Game) : Type 0 where
-  pub live : IsLive rules settings game
-  pub plays : (q : ℕ) → q < rules.players → stay q ≡ true → (game.nodes q).phase ≡ Playing
-  pub left : (q : ℕ) → q < rules.players → stay q ≡ false → has_left (game.nodes q) ≡ true
-  pub ran : StayRan rules stay game tic
-  pub room : IsRoomy rules cap tic game
+use Rattle.dn_machine.proofs.Roomy.{ended_cause, roomy_after}
 
 -- what a node keeps of the others is as it was
 abbrev pub IsQuiet : Game → Game → Type 0
@@ -63,32 +44,6 @@ pub record IsExchanged (stay : ℕ → Bool) (tic start : ℕ) (i j : ℕ) (old 
       ((new.nodes j).peers i)
   pub phase : (r : ℕ) → (new.nodes r).phase ≡ (old.nodes r).phase
   pub played : (r : ℕ) → (new.nodes r).played ≡ (old.nodes r).played
-  pub stopped : new.stopped ≡ old.stopped
-
-pub far_after : {S : Type 0} (rules : Rules S) (cap : ℕ) (stay : ℕ → Bool) (event : Event) (game : Game)
-    → IsFar rules cap stay game → IsFar rules cap stay (after rules event game)
-far_after rules cap stay event game far q l s = let old = far q l s in
-    let more = (applied_grows rules game q event).rows in omega arith
-
-pub ran_after : {S : Type 0} (rules : Rules S) (stay : ℕ → Bool) (event : Event) (game : Game) (tic : ℕ)
-    → StayRan rules stay game tic → StayRan rules stay (after rules event game) tic
-ran_after rules stay event game tic far q l s = let old = far q l s in
-    let more = (applied_grows rules game q event).rows in omega arith
-
-pub patient_after : {S : Type 0} (rules : Rules S) (event : Event) (game : Game) → IsPatient game
-    → IsPatient (after rules event game)
-patient_after rules event game patient q s = (applied_grows rules game q event).pause s (patient q s)
-
--- where one demo is full, every demo is as good as full
-pub full_far : {S : Type 0} (rules : Rules S) (settings : Settings) (cap : ℕ) (stay : ℕ → Bool) (game : Game)
-    (live : IsLive rules settings game)
-    → ((q : ℕ) → q < rules.players → stay q ≡ true → is_ended (game.nodes q).phase ≡ false)
-    → (r : ℕ) → r < rules.players → cap ≤ ran (game.nodes r) → IsFar rules cap stay game
-full_far rules settings cap stay game live there r mine full q l s =
-    let a = Lists.ran_below rules settings (history_of game) game.flights live.kept.from_keys r q mine l
-    (Pairs.stays rules settings game live q (there q l s)) in
-    let b = live.kept.from_keys.ahead q l in
-    omega arith
 
 -- what a packet that is not dropped leaves of what is kept of its sender
 record IsTold (exit want : Bool) (request end : ℕ) (old new : Peer) : Type 0 where
@@ -254,39 +209,32 @@ module _ {S : Type 0} (rules : Rules S) (settings : Settings) (cap : ℕ) (stay 
         let a = f.close i j mine its (in_play j its s) in
         let b = f.ahead j its in
         let mid : Peer = after_request (made j J) (J.peers i) flight.request in
-        let base : Peer = after_flight (made j J) (J.peers i) flight in
+        let base : Peer = sender_after rules j J flight in
         let t : IsTold (is_exit flight.kind) asks_it (got I j) (end_of flight) (J.peers i) base =
         tells (is_exit flight.kind) asks_it (got I j) (end_of flight) (J.peers i) mid
         (asks (made j J) (J.peers i) asks_it (got I j) within) in
-        cond_both (ltb (ran J + 12) (end_of flight)) _ _ (λ (r : Node × Heard). Heard_so r.0)
-        (λ over. let x = ltb-true (ran J + 12) (end_of flight) over in absurd (omega arith))
-        (λ x. cond_both (is_strange_end (is_exit flight.kind) (got J i) (ends_of J i) (end_of flight)) _ _
-        (λ (r : Node × Heard). Heard_so r.0)
-        (λ strange. absurd (no_strange (is_exit flight.kind) strange))
-        (λ x. cond_both (leb (end_of flight) (got J i)) _ _ (λ (r : Node × Heard). Heard_so r.0)
-        (λ stale. let y = leb-true (end_of flight) (got J i) stale in
-        heard_as base J.held (λ s n. refl) t.asked (λ u. elim reach [
-          | inl more ↦ inl (inl (omega arith))
-          | inr done ↦ inl (inr (end_of flight, t.told (kind_is ∙ (is_gone ∙ done.0)), done.1))
-        ]))
-        (λ later. cond_both (ltb (got J i) flight.start) _ _ (λ (r : Node × Heard). Heard_so r.0)
-        (λ gap. let y = ltb-true (got J i) flight.start gap in
-        heard_as (record base { want = true }) J.held (λ s n. refl) t.asked (λ u. elim reach [
-          | inl more ↦ inr (refl, y, refl, λ holds. inl (still_has more holds refl))
-          | inr done ↦ inl (inr (end_of flight, t.told (kind_is ∙ (is_gone ∙ done.0)), done.1))
-        ]))
-        (λ joins.
-        let y = ltb-false (got J i) flight.start joins in
-        let z = leb-false (end_of flight) (got J i) later in
-        let new : List TicCmd = J.held i ++ drop (got J i - flight.start) flight.commands in
-        let c = length-append (J.held i) (drop (got J i - flight.start) flight.commands) in
-        let d = length-drop (got J i - flight.start) flight.commands in
-        let at = ap (length {A = TicCmd}) (put_at J.held i i new refl) in
-        heard_as (record base { want = false }) (put J.held i new)
-        (λ s n. ap (length {A = TicCmd}) (put_off J.held i s new n)) t.asked (λ u. elim reach [
-          | inl more ↦ inl (inl (omega arith))
-          | inr done ↦ inl (inr (end_of flight, t.told (kind_is ∙ (is_gone ∙ done.0)), done.1))
-        ])))))
+        commands_cases rules j J flight (λ (r : Node × Heard). Heard_so r.0) (record {
+          overrun = λ x. absurd (omega arith);
+          strange = λ strange. absurd (no_strange (is_exit flight.kind) strange);
+          stale = λ x. heard_as base J.held (λ s n. refl) t.asked (λ u. elim reach [
+            | inl more ↦ inl (inl (omega arith))
+            | inr done ↦ inl (inr (end_of flight, t.told (kind_is ∙ (is_gone ∙ done.0)), done.1))
+          ]);
+          gap = λ x. heard_as (record base { want = true }) J.held (λ s n. refl) t.asked (λ u. elim reach [
+            | inl more ↦ inr (refl, x, refl, λ holds. inl (still_has more holds refl))
+            | inr done ↦ inl (inr (end_of flight, t.told (kind_is ∙ (is_gone ∙ done.0)), done.1))
+          ]);
+          takes = λ x y.
+              let new : List TicCmd = J.held i ++ drop (got J i - flight.start) flight.commands in
+              let c = length-append (J.held i) (drop (got J i - flight.start) flight.commands) in
+              let d = length-drop (got J i - flight.start) flight.commands in
+              let at = ap (length {A = TicCmd}) (put_at J.held i i new refl) in
+              heard_as (record base { want = false }) (put J.held i new)
+              (λ s n. ap (length {A = TicCmd}) (put_off J.held i s new n)) t.asked (λ u. elim reach [
+                | inl more ↦ inl (inl (omega arith))
+                | inr done ↦ inl (inr (end_of flight, t.told (kind_is ∙ (is_gone ∙ done.0)), done.1))
+              ]);
+        })
       where
         reach : (tic < end_of flight) ⊎ ((gone ≡ true) × (end_of flight ≤ tic))
         reach =
@@ -408,7 +356,6 @@ module _ {S : Type 0} (rules : Rules S) (settings : Settings) (cap : ℕ) (stay 
               | inr c ↦ ap (λ (x : Node). x.played) (off r c d)
             ]
           ];
-          stopped = refl;
         }
 
     -- where the packet is refused, nodes are as if it came to nothing
@@ -464,20 +411,8 @@ module _ {S : Type 0} (rules : Rules S) (settings : Settings) (cap : ℕ) (stay 
         let mid : Game = after rules (Send i j) game in
         let which : ℕ = length game.flights in
         let x = exchanges.1 in
-        record {
-          live = record {
-            kept = applied_keeps rules settings mid
-                (applied_keeps rules settings game on.live.kept (Send i j)) (Deliver which);
-            patient = patient_after rules (Deliver which) mid
-                (patient_after rules (Send i j) game on.live.patient);
-            running = λ q l. ap (λ (s : ℕ → Bool). s q) x.stopped ∙ on.live.running q l;
-          };
-          plays = λ q l s. x.phase q ∙ on.plays q l s;
-          left = λ q l s. ap (λ (b : Bool). b && is_ended ((exchange rules i game j).nodes q).phase)
-              (x.played q) ∙ (ap (λ (ph : Phase). (game.nodes q).played && is_ended ph) (x.phase q)
-              ∙ on.left q l s);
-          ran = ran_after rules stay (Deliver which) mid tic
-              (ran_after rules stay (Send i j) game tic on.ran);
-          room = roomy_after rules cap tic mid (Deliver which)
-              (roomy_after rules cap tic game (Send i j) on.room);
-        }
+        on_alike rules settings cap stay tic game (exchange rules i game j) on x.phase x.played
+        (live_after rules settings (Deliver which) mid refl
+        (live_after rules settings (Send i j) game refl on.live))
+        (ran_after rules stay (Deliver which) mid tic (ran_after rules stay (Send i j) game tic on.ran))
+        (roomy_after rules cap tic mid (Deliver which) (roomy_after rules cap tic game (Send i j) on.room))

@@ -13,7 +13,10 @@ use Rattle.dn_machine.specs.Worlds.{Rules}
 use Rattle.dn_machine.specs.Flight.{Flight}
 use Rattle.dn_machine.specs.Game.{Game, opening_game, refused_at, refused, delivered, on_event, applied_if, applied}
 use Rattle.dn_machine.proofs.Invariant.{IsKept}
-use Rattle.dn_machine.proofs.Steps
+use Rattle.dn_machine.proofs.BuildKeeps.{builds}
+use Rattle.dn_machine.proofs.SendKeeps.{sends}
+use Rattle.dn_machine.proofs.HearKeeps.{hears}
+use Rattle.dn_machine.proofs.RunKeeps.{runs, quits}
 use Rattle.dn_machine.specs.Runs.{Next, Leads, Runs}
 
 -- the phases and the settings of the nodes as a game opens
@@ -66,19 +69,19 @@ module _ {S : Type 0} (rules : Rules S) (settings : Settings) where
     delivers None which h = kept
     delivers (Some flight) which h =
         let piece = kept.from_keys.pieces which flight h in
-        Steps.hears rules settings game kept flight.to piece.receiver flight piece refl
+        hears rules settings game kept flight.to piece.receiver flight piece refl
 
     pub happens_keeps : (event : Event) → refused rules.players game event ≡ None
         → IsKept rules settings (on_event rules game event).0
-    happens_keeps (Build node keys) h = Steps.builds rules settings game kept node (named node h) keys
+    happens_keeps (Build node keys) h = builds rules settings game kept node (named node h) keys
     happens_keeps (Send node to) h =
         let both = and_parts (ltb node rules.players) (ltb to rules.players)
         (passes (ltb node rules.players && ltb to rules.players) _ _ h) in
-        Steps.sends rules settings game kept node (ltb-true node rules.players both.0) to
+        sends rules settings game kept node (ltb-true node rules.players both.0) to
         (ltb-true to rules.players both.1)
     happens_keeps (Deliver which) h = delivers (slice_get game.flights which) which refl
-    happens_keeps (Run node) h = Steps.runs rules settings game kept node (named node h)
-    happens_keeps (Quit node) h = Steps.quits rules settings game kept node (named node h)
+    happens_keeps (Run node) h = runs rules settings game kept node (named node h)
+    happens_keeps (Quit node) h = quits rules settings game kept node (named node h)
     happens_keeps (Stop node) h = record { from_keys = kept.from_keys; sound = kept.sound }
 
     pub applied_keeps : (event : Event) → IsKept rules settings (applied rules game event).0

@@ -13,13 +13,16 @@ use Rattle.dn_machine.specs.Runs.{Runs}
 use Rattle.dn_machine.specs.Progress.{in_order, turn, good_round, good_rounds, NoneLost, AllRan, HasRoom}
 use Rattle.dn_machine.proofs.Games.{always}
 use Rattle.dn_machine.proofs.Growth.{always_patient}
-use Rattle.dn_machine.proofs.Pairs.{Unknown}
-use Rattle.dn_machine.proofs.Exchanges.{IsFar, IsOn}
-use Rattle.dn_machine.proofs.Turns.{each_of}
-use Rattle.dn_machine.proofs.Rounds.{rounds_ran, At, AtFar, AtOn, turn_keeps, round_nearer, has_after, thirteen}
+use Rattle.dn_machine.proofs.Stages.{Unknown}
+use Rattle.dn_machine.proofs.GoingOn.{IsFar, IsOn}
+use Rattle.dn_machine.proofs.InOrder.{each_of}
+use Rattle.dn_machine.proofs.RowsStay.{rounds_ran}
+use Rattle.dn_machine.proofs.Rounds.{At, AtFar, AtOn, turn_keeps, round_nearer, has_after}
+use Rattle.dn_machine.proofs.LastRound.{thirteen}
 use Rattle.dn_machine.proofs.Roomy.{IsRoomy, InDemos, Without, roomy_on}
 use Rattle.dn_machine.proofs.Openings.{Stands, Gathers, Listens, Plays, HasGone, always_open}
-use Rattle.dn_machine.proofs.StartUp.{IsBegun, all_play, round_starts}
+use Rattle.dn_machine.proofs.Begun.{IsBegun, all_play}
+use Rattle.dn_machine.proofs.StartUp.{round_starts}
 
 module _ {S : Type 0} (rules : Rules S) where
   -- some rounds and then more

@@ -23,7 +23,7 @@ use Rattle.dn_machine.specs.declared.answers.Heard.{Heard}
 use Rattle.dn_machine.proofs.Calls.{build_cases, send_cases, run_cases, quit_cases, packet_cases}
 use Rattle.dn_machine.proofs.EachEvent.{after_event}
 use Rattle.dn_machine.proofs.Demos.{whole_has}
-use Rattle.dn_machine.proofs.Steps
+use Rattle.dn_machine.proofs.RunKeeps
 
 -- who has left is as it was, and has made no more
 record Stays (old new : Node) : Type 0 where
@@ -105,7 +105,7 @@ module _ {S : Type 0} (rules : Rules S) (cap tic : ℕ) (game : Game) where
   -- the row that a node runs next, with all that it needs, has room
   pub row_fits : (settings : Settings) (kept : IsKept rules settings game) (r : ℕ) (mine : r < rules.players)
       → tic ≤ ran (game.nodes r)
-      → Steps.IsThere rules settings game kept r mine → IsRoomy rules cap tic game
+      → RunKeeps.IsThere rules settings game kept r mine → IsRoomy rules cap tic game
       → cap ≤ full_at rules (row_held rules (game.nodes r))
   row_fits settings kept r mine far there (InDemos a b) =
       cond_both (is_whole rules.players (row_held rules (game.nodes r))) rules.capacity tic_limit

@@ -1,57 +1,19 @@
--- In twelve good rounds each player gives each other the command of a tic that all have reached, and in one
--- more all run it.
-use Rattle.std.proofs.Common.{◌≡◌, ℕ, zero, suc, ◌+◌, ◌<◌, ◌≤◌, ◌≢◌, Bool, true, length, refl, sym, ◌∙◌, ap, subst, arith, Option, inl, inr}
-use Rattle.std.specs.Prelude.{◌⊎◌}
-use Rattle.std.proofs.lemmas.Bool.{cases_eq, cases_lt, le-leb}
+-- In twelve good rounds each player gives each other the command of a tic that all have reached.
+use Rattle.std.proofs.Common.{◌≡◌, ℕ, zero, suc, ◌+◌, ◌<◌, ◌≤◌, ◌≢◌, Bool, true, refl, sym, ap, subst, arith, inl, inr}
+use Rattle.std.proofs.lemmas.Bool.{cases_eq, cases_lt}
 use Rattle.dn_setup.specs.Settings.{Settings}
-use Rattle.dn_machine.specs.declared.events.Event.TheVariants.{Build, Send, Deliver, Run}
+use Rattle.dn_machine.specs.declared.events.Event.TheVariants.{Build, Run}
 use Rattle.dn_machine.specs.Worlds.{Rules}
-use Rattle.dn_machine.specs.Node.{got, made, ran}
-use Rattle.dn_machine.specs.Running.{is_over, is_absent}
+use Rattle.dn_machine.specs.Node.{made, ran}
 use Rattle.dn_machine.specs.Game.{Game}
 use Rattle.dn_machine.specs.Progress.{after, in_order, exchange, turn, good_round, good_rounds}
-use Rattle.dn_machine.proofs.Growth.{applied_grows}
-use Rattle.dn_machine.proofs.Pairs.{Side, side, Stage, Has, Meets, Asks, Unknown, sent_stage, asked_stage}
+use Rattle.dn_machine.proofs.Stages.{Side, side, Stage, Unknown, sent_stage, asked_stage}
 use Rattle.dn_machine.proofs.Pairs
-use Rattle.dn_machine.proofs.Exchanges.{IsFar, IsOn, IsExchanged, far_after, ran_after}
+use Rattle.dn_machine.proofs.Exchanges.{IsExchanged}
+use Rattle.dn_machine.proofs.GoingOn.{IsFar, IsOn, far_after, exchange_far}
 use Rattle.dn_machine.proofs.Exchanges
-use Rattle.dn_machine.proofs.Turns.{each_of, two_of, one_of}
+use Rattle.dn_machine.proofs.InOrder.{each_of, two_of, one_of}
 use Rattle.dn_machine.proofs.Turns
-
-module _ {S : Type 0} (rules : Rules S) where
-  -- rows stay, over an exchange, a turn and rounds
-  pub exchange_ran : (q n i : ℕ) (g : Game) (j : ℕ) → n ≤ ran (g.nodes q)
-      → n ≤ ran ((exchange rules i g j).nodes q)
-  unfolding exchange
-  exchange_ran q n i g j l =
-      let mid : Game = after rules (Send i j) g in
-      let a = (applied_grows rules g q (Send i j)).rows in
-      let b = (applied_grows rules mid q (Deliver (length g.flights))).rows in
-      omega arith
-
-  pub turn_ran : (keys : ℕ → ℕ) (q n : ℕ) (g : Game) (i : ℕ) → n ≤ ran (g.nodes q)
-      → n ≤ ran ((turn rules keys g i).nodes q)
-  unfolding turn
-  turn_ran keys q n g i l =
-      let built : Game = after rules (Build i (keys i)) g in
-      let a = (applied_grows rules g q (Build i (keys i))).rows in
-      let sent : Game = in_order (exchange rules i) rules.players built in
-      let b : n ≤ ran (sent.nodes q) = each_of (λ (h : Game). n ≤ ran (h.nodes q)) (exchange rules i)
-      rules.players built (λ j h m x. exchange_ran q n i h j x) (omega arith) in
-      let c = (applied_grows rules sent q (Run i)).rows in
-      omega arith
-
-  pub round_ran : (keys : ℕ → ℕ) (q n : ℕ) (g : Game) → n ≤ ran (g.nodes q)
-      → n ≤ ran ((good_round rules keys g).nodes q)
-  unfolding good_round
-  round_ran keys q n g l = each_of (λ (h : Game). n ≤ ran (h.nodes q)) (turn rules keys) rules.players g
-      (λ i h m x. turn_ran keys q n h i x) l
-
-  pub rounds_ran : (keys : ℕ → ℕ → ℕ) (count q n : ℕ) (g : Game) → n ≤ ran (g.nodes q)
-      → n ≤ ran ((good_rounds rules keys count g).nodes q)
-  unfolding good_rounds
-  rounds_ran keys count q n g l = each_of (λ (h : Game). n ≤ ran (h.nodes q))
-      (λ before round. good_round rules (keys round) before) count g (λ i h m x. round_ran (keys i) q n h x) l
 
 module _ {S : Type 0} (rules : Rules S) (settings : Settings) (cap : ℕ) (stay : ℕ → Bool) (tic : ℕ) where
   module _ (p q : ℕ) (l : p < rules.players) (m : q < rules.players) (stays : stay q ≡ true) (apart : p ≢ q)
@@ -74,13 +36,6 @@ module _ {S : Type 0} (rules : Rules S) (settings : Settings) (cap : ℕ) (stay 
           → side (h.nodes q) p ≡ side (g.nodes q) p → StageOf rounds g → StageOf rounds h
       stage_kept rounds g h a b stage = subst (λ (x : Side). Stage tic rounds x (side (h.nodes q) p)) (sym a)
           (subst (λ (y : Side). Stage tic rounds (side (g.nodes p) q) y) (sym b) stage)
-
-      far_exchange : (r j : ℕ) (g : Game) → IsFar rules cap stay g
-          → IsFar rules cap stay (exchange rules r g j)
-      unfolding exchange
-      far_exchange r j g far = far_after rules cap stay (Deliver (length g.flights))
-          (after rules (Send r j) g)
-          (far_after rules cap stay (Send r j) g far)
 
       built_in : (r : ℕ) → r < rules.players → (state rounds : ℕ) (g : Game) → At rounds g
           → In r rounds (after rules (Build r state) g)
@@ -115,7 +70,7 @@ module _ {S : Type 0} (rules : Rules S) (settings : Settings) (cap : ℕ) (stay 
       -- an exchange of others
       passes : (r j rounds : ℕ) → r < rules.players → j < rules.players → (g : Game) → (r ≡ p → j ≢ q)
           → (r ≡ q → j ≢ p) → In r rounds g → In r rounds (exchange rules r g j)
-      passes r j rounds o k g a b (InFar far) = InFar (far_exchange r j g far)
+      passes r j rounds o k g a b (InFar far) = InFar (exchange_far rules cap stay r j g far)
       passes r j rounds o k g a b (InOn on built stage) = elim (cases_eq r j) [
         | inl e ↦
             let own : exchange rules r g j ≡ g =
@@ -134,7 +89,7 @@ module _ {S : Type 0} (rules : Rules S) (settings : Settings) (cap : ℕ) (stay 
       -- the player gives the other a packet
       gives : (rounds later : ℕ) → (2 ≤ rounds → rounds ≤ 12 → rounds ≤ later) → (13 ≤ rounds → 12 ≤ later)
           → (g : Game) → In p rounds g → In p later (exchange rules p g q)
-      gives rounds later c d g (InFar far) = InFar (far_exchange p q g far)
+      gives rounds later c d g (InFar far) = InFar (exchange_far rules cap stay p q g far)
       gives rounds later c d g (InOn on built stage) =
           let x = (Exchanges.exchanges rules settings cap stay tic g on p q l m apart built).1 in
           InOn (Exchanges.exchange_on rules settings cap stay tic g on p q l m apart built)
@@ -146,7 +101,7 @@ module _ {S : Type 0} (rules : Rules S) (settings : Settings) (cap : ℕ) (stay 
       -- and hears one of it
       hears : (rounds later : ℕ) → (1 ≤ rounds → 1 ≤ later) → rounds ≤ later + 1 → (13 ≤ rounds → 13 ≤ later)
           → (g : Game) → In q rounds g → In q later (exchange rules q g p)
-      hears rounds later a b c g (InFar far) = InFar (far_exchange q p g far)
+      hears rounds later a b c g (InFar far) = InFar (exchange_far rules cap stay q p g far)
       hears rounds later a b c g (InOn on built stage) =
           let back : q ≢ p = λ e. apart (sym e) in
           let x = (Exchanges.exchanges rules settings cap stay tic g on q p m l back built).1 in
@@ -299,82 +254,3 @@ module _ {S : Type 0} (rules : Rules S) (settings : Settings) (cap : ℕ) (stay 
             (λ x y. omega arith) (λ x. omega arith) (omega arith) _
             (rounds_nearer keys 11 2 refl g (AtOn on (Unknown (omega arith))))
       ]
-
-  -- in the next round each runs it
-  module _ (room : tic + 6 ≤ cap) (several : 2 ≤ rules.players) (q : ℕ) (m : q < rules.players)
-      (stays : stay q ≡ true) where
-    -- all others' commands have come to this player
-    abbrev HasAll : Game → Type 0
-    HasAll g = (p : ℕ) (l : p < rules.players) (apart : p ≢ q) → At p q l m stays apart 0 g
-
-    -- another player
-    other : (p : ℕ) × (p < rules.players) × (p ≢ q)
-    other = elim (cases_eq q 0) [
-      | inl e ↦ (1, omega arith, λ f. omega arith)
-      | inr n ↦ (0, omega arith, λ f. omega arith)
-    ]
-
-    -- within the turn, before the run
-    abbrev HasAllIn : Game → Type 0
-    HasAllIn g = (p : ℕ) (l : p < rules.players) (apart : p ≢ q) → In p q l m stays apart q 0 g
-
-    runs_it : (g : Game) → HasAllIn g → tic < ran ((after rules (Run q) g).nodes q)
-    runs_it g all =
-        let more = (applied_grows rules g q (Run q)).rows in
-        elim (cases_lt tic (ran (g.nodes q))) [
-          | inl done ↦ omega arith
-          | inr low ↦ go low (all other.0 other.1 other.2)
-        ]
-      where
-        far_off : ran (g.nodes q) ≤ tic → IsFar rules cap stay g → ⊥
-        far_off low far = let x = far q m stays in omega arith
-
-        has_of : ran (g.nodes q) ≤ tic → tic ≤ ran (g.nodes q)
-            → (p : ℕ) (l : p < rules.players) (apart : p ≢ q) → In p q l m stays apart q 0 g
-            → (ran (g.nodes q) < got (g.nodes q) p) ⊎ (is_absent (g.nodes q) p ≡ true)
-        has_of low high p l apart (InFar far) = absurd (far_off low far)
-        has_of low high p l apart (InOn on built (Has (inl h))) = inl (omega arith)
-        has_of low high p l apart (InOn on built (Has (inr h))) = let at = h.2 in
-            inr (ap (λ (o : Option ℕ). is_over o (ran (g.nodes q))) h.1
-            ∙ le-leb h.0 (ran (g.nodes q)) (omega arith))
-        has_of low high p l apart (InOn on built (Meets h e)) = absurd (omega arith)
-        has_of low high p l apart (InOn on built (Asks w h)) = absurd (omega arith)
-        has_of low high p l apart (InOn on built (Unknown h)) = absurd (omega arith)
-
-        has : ran (g.nodes q) ≤ tic → tic ≤ ran (g.nodes q) → tic < made q (g.nodes q) → (p : ℕ)
-            → p < rules.players → (ran (g.nodes q) < got (g.nodes q) p) ⊎ (is_absent (g.nodes q) p ≡ true)
-        has low high built p l = elim (cases_eq p q) [
-          | inl e ↦ let same = ap (λ (r : ℕ). got (g.nodes q) r) e in inl (omega arith)
-          | inr n ↦ has_of low high p l n (all p l n)
-        ]
-
-        go : ran (g.nodes q) ≤ tic → In other.0 q other.1 m stays other.2 q 0 g
-            → tic < ran ((after rules (Run q) g).nodes q)
-        go low (InFar far) = absurd (far_off low far)
-        go low (InOn on built stage) =
-            let least = on.ran q m stays in
-            elim (Turns.run_on rules settings cap stay tic g on q m) [
-              | inl far ↦ absurd (far_off low far)
-              | inr done ↦ let more = done.more stays (has low least (built stays)) in omega arith
-            ]
-
-    turn_runs : (keys : ℕ → ℕ) (g : Game) → HasAll g → tic < ran ((turn rules keys g q).nodes q)
-    unfolding turn
-    turn_runs keys g all =
-        runs_it _ (λ p l apart. turn_hears p q l m stays apart keys 0 0 (λ h. absurd (omega arith))
-        (omega arith) (λ h. absurd (omega arith)) g (all p l apart))
-
-    pub round_runs : (keys : ℕ → ℕ) (g : Game) → HasAll g → tic < ran ((good_round rules keys g).nodes q)
-    unfolding good_round
-    round_runs keys g all =
-        one_of HasAll (λ (h : Game). tic < ran (h.nodes q)) (turn rules keys) rules.players q
-        (λ i h o n x p l apart. turn_keeps p q l m stays apart keys i o h (x p l apart))
-        (λ i h o n x. let more = turn_ran rules keys q (suc tic) h i (omega arith) in omega arith)
-        (λ h x. turn_runs keys h x)
-        g m all
-
-    pub thirteen : (keys : ℕ → ℕ → ℕ) (g : Game) → IsOn rules settings cap stay tic g
-        → tic < ran ((good_rounds rules keys 13 g).nodes q)
-    unfolding good_rounds in_order
-    thirteen keys g on = round_runs (keys 12) (good_rounds rules keys 12 g)
-        (λ p l apart. has_after p q l m stays apart keys g on)
