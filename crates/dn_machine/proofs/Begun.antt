@@ -1,5 +1,5 @@
--- A game before or after its start, of which some may have left: what the events of a round leave of it, unless
--- every demo is as good as full.
+-- A game before or after its start, of which some may have left: what the events of a round leave of it,
+-- unless every demo is as good as full.
 use Rattle.std.proofs.Common.{◌≡◌, ℕ, ◌<◌, ◌≤◌, Bool, true, false, true≢false, length, refl, sym, ◌∙◌, ap, subst, arith, inl, inr}
 use Rattle.std.specs.Prelude.{◌⊎◌}
 use Rattle.std.proofs.lemmas.Bool.{cases_eq}
@@ -104,6 +104,12 @@ module _ {S : Type 0} (rules : Rules S) (settings : Settings) (cap : ℕ) (stay 
     WithFar : IsFar rules cap stay game → With Y game
     WithSo : IsBegun game → Y game → With Y game
 
+  -- what an exchange leads to
+  pub with_exchange : (Y Z : Game → Type 0) (i j : ℕ) (g : Game)
+      → (IsBegun g → Y g → Z (exchange rules i g j)) → With Y g → With Z (exchange rules i g j)
+  with_exchange Y Z i j g leads (WithFar far) = WithFar (exchange_far rules cap stay i j g far)
+  with_exchange Y Z i j g leads (WithSo begun y) = WithSo (exchange_begun i j g begun) (leads begun y)
+
   module _ (Y : Game → Type 0) (stable : (old new : Game) → AllGentle old new → Y old → Y new) where
     pub keep_build : (i state : ℕ) (g : Game) → With Y g → With Y (after rules (Build i state) g)
     keep_build i state g (WithFar far) = WithFar (far_after rules cap stay (Build i state) g far)
@@ -111,16 +117,15 @@ module _ {S : Type 0} (rules : Rules S) (settings : Settings) (cap : ℕ) (stay 
         WithSo (gentle_begun (Build i state) g refl gentle begun) (stable g _ gentle y)
 
     pub keep_exchange : (i j : ℕ) (g : Game) → With Y g → With Y (exchange rules i g j)
-    keep_exchange i j g (WithFar far) = WithFar (exchange_far rules cap stay i j g far)
-    keep_exchange i j g (WithSo begun y) =
-        WithSo (exchange_begun i j g begun)
-        (stable g (exchange rules i g j) (exchange_gentle rules g i j) y)
+    keep_exchange i j g = with_exchange Y Y i j g
+        (λ begun y. stable g (exchange rules i g j) (exchange_gentle rules g i j) y)
 
     pub keep_run : (i : ℕ) → i < rules.players → (g : Game) → With Y g → With Y (after rules (Run i) g)
     keep_run i l g (WithFar far) = WithFar (far_after rules cap stay (Run i) g far)
     keep_run i l g (WithSo begun y) = elim (run_gentle g begun i l) [
       | inl far ↦ WithFar (far_after rules cap stay (Run i) g far)
-      | inr gentle ↦ WithSo (gentle_begun (Run i) g refl gentle begun) (stable g (after rules (Run i) g) gentle y)
+      | inr gentle ↦ WithSo (gentle_begun (Run i) g refl gentle begun)
+          (stable g (after rules (Run i) g) gentle y)
     ]
 
     pub keep_turn : (keys : ℕ → ℕ) (i : ℕ) → i < rules.players → (g : Game) → With Y g

@@ -38,8 +38,10 @@ module _ {S : Type 0} (rules : Rules S) (me : ℕ) (node : Node) where
         (node.held me ++ pressed (node.keys ++ state ∷ []) (own_mark rules node me (made me node)) ∷ []);
   }
 
-  pub build_cases : (P : Node → Type 0) (state : ℕ) → ((node.phase ≡ Playing → ran node + 5 ≤ made me node) → P node)
-      → (node.phase ≡ Playing → made me node < ran node + 5 → P (built state)) → P (on_build rules me node state).0
+  pub build_cases : (P : Node → Type 0) (state : ℕ)
+      → ((node.phase ≡ Playing → ran node + 5 ≤ made me node) → P node)
+      → (node.phase ≡ Playing → made me node < ran node + 5 → P (built state))
+      → P (on_build rules me node state).0
   unfolding on_build
   build_cases P state same builds = go node.phase refl
     where
@@ -54,8 +56,10 @@ module _ {S : Type 0} (rules : Rules S) (me : ℕ) (node : Node) where
   -- send
   pub send_cases : (P : Node × Option Flight → Type 0) (to : ℕ) → P (node, None)
       → (me ≢ to → node.phase ≡ Gathering → P (node, set_up_flight me to node.settings))
-      → (me ≢ to → node.phase ≡ Playing → P (after_sent rules me node to, Some (commands_flight rules me node to Play (request_to node to))))
-      → (me ≢ to → has_left node ≡ true → P (after_sent rules me node to, Some (commands_flight rules me node to Exit None)))
+      → (me ≢ to → node.phase ≡ Playing
+      → P (after_sent rules me node to, Some (commands_flight rules me node to Play (request_to node to))))
+      → (me ≢ to → has_left node ≡ true
+      → P (after_sent rules me node to, Some (commands_flight rules me node to Exit None)))
       → P (on_send rules me node to)
   unfolding on_send
   send_cases P to none sets_up plays left =
@@ -74,7 +78,8 @@ module _ {S : Type 0} (rules : Rules S) (me : ℕ) (node : Node) where
       → ((node.phase ≡ Playing → lowest rules.players (is_awaited node) ≢ None) → P node)
       → ((player : ℕ) → node.phase ≡ Playing → lowest rules.players (is_awaited node) ≡ None
       → first_off rules node ≡ Some player
-      → P (ended_by (Cause.Inconsistent player (held_at node player (ran node)).mark (own_mark rules node player (ran node)))))
+      → P (ended_by (Cause.Inconsistent player (held_at node player (ran node)).mark
+      (own_mark rules node player (ran node)))))
       → (node.phase ≡ Playing → lowest rules.players (is_awaited node) ≡ None
       → ran node ≡ full_at rules (row_held rules node) → P (ended_by Cause.Full))
       → (node.phase ≡ Playing → lowest rules.players (is_awaited node) ≡ None
@@ -84,8 +89,9 @@ module _ {S : Type 0} (rules : Rules S) (me : ℕ) (node : Node) where
   unfolding on_run
   run_cases P same off full runs = go node.phase refl
     where
-      by : node.phase ≡ Playing → (awaited off_mark : Option ℕ) → lowest rules.players (is_awaited node) ≡ awaited
-          → first_off rules node ≡ off_mark → P (on_run_playing rules node awaited off_mark).0
+      by : node.phase ≡ Playing → (awaited off_mark : Option ℕ)
+          → lowest rules.players (is_awaited node) ≡ awaited → first_off rules node ≡ off_mark
+          → P (on_run_playing rules node awaited off_mark).0
       by plays (Some player) o a f = same (λ e none. absurd (cc))
       by plays None (Some player) a f = off player plays a f
       by plays None None a f = cond_both (eqb (ran node) (full_at rules (row_held rules node))) _ _
@@ -100,7 +106,8 @@ module _ {S : Type 0} (rules : Rules S) (me : ℕ) (node : Node) where
       go Playing e = by e (lowest rules.players (is_awaited node)) (first_off rules node) refl refl
 
   -- quit
-  pub quit_cases : (P : Node → Type 0) → P node → (is_ended node.phase ≡ false → P (ended_by Cause.Quit)) → P (on_quit node).0
+  pub quit_cases : (P : Node → Type 0) → P node → (is_ended node.phase ≡ false → P (ended_by Cause.Quit))
+      → P (on_quit node).0
   unfolding on_quit
   quit_cases P same quits = go node.phase refl
     where
@@ -118,7 +125,8 @@ module _ {S : Type 0} (rules : Rules S) (me : ℕ) (node : Node) where
     -- the commands of a packet
     pub record Commands (P : Node × Heard → Type 0) : Type 0 where
       pub overrun : ran node + 12 < end_of flight → P (node, Heard.Dropped drops.overrun)
-      pub strange : is_strange_end (is_exit flight.kind) (got node flight.from) (ends_of node flight.from) (end_of flight) ≡ true
+      pub strange : is_strange_end (is_exit flight.kind) (got node flight.from) (ends_of node flight.from)
+          (end_of flight) ≡ true
           → P (node, Heard.Dropped drops.strange_end)
       pub stale : end_of flight ≤ got node flight.from
           → P (with_peer node flight.from sender_after, left_or (is_exit flight.kind) Heard.Stale)
@@ -127,7 +135,8 @@ module _ {S : Type 0} (rules : Rules S) (me : ℕ) (node : Node) where
       pub takes : flight.start ≤ got node flight.from → got node flight.from < end_of flight
           → P (
             record (with_peer node flight.from (record sender_after { want = false })) {
-              held = put node.held flight.from (node.held flight.from ++ drop (got node flight.from - flight.start) flight.commands);
+              held = put node.held flight.from
+                  (node.held flight.from ++ drop (got node flight.from - flight.start) flight.commands);
             },
             left_or (is_exit flight.kind) (Heard.Taken (end_of flight - got node flight.from)),
           )
@@ -137,7 +146,8 @@ module _ {S : Type 0} (rules : Rules S) (me : ℕ) (node : Node) where
         cond_both (ltb (ran node + 12) (end_of flight)) _ _ P
         (λ over. cases.overrun (ltb-true (ran node + 12) (end_of flight) over))
         (λ fits. cond_both
-        (is_strange_end (is_exit flight.kind) (got node flight.from) (ends_of node flight.from) (end_of flight)) _ _ P
+        (is_strange_end (is_exit flight.kind) (got node flight.from) (ends_of node flight.from)
+        (end_of flight)) _ _ P
         cases.strange
         (λ known. cond_both (leb (end_of flight) (got node flight.from)) _ _ P
         (λ old. cases.stale (leb-true (end_of flight) (got node flight.from) old))
@@ -154,13 +164,20 @@ module _ {S : Type 0} (rules : Rules S) (me : ℕ) (node : Node) where
           → P (started node settings, Heard.Started)
       pub completes : IsWord flight.kind → node.phase ≡ Gathering
           → all_noted rules.players (put node.noted flight.from true) ≡ true
-          → P (record node { phase = Playing; played = true; noted = put node.noted flight.from true }, Heard.Started)
+          → P (
+            record node { phase = Playing; played = true; noted = put node.noted flight.from true },
+            Heard.Started,
+          )
       pub notes : IsWord flight.kind → node.phase ≡ Gathering
           → all_noted rules.players (put node.noted flight.from true) ≡ false
           → P (record node { noted = put node.noted flight.from true }, Heard.Noted)
       pub commands : node.phase ≡ Playing → Commands P
       pub requests : is_ended node.phase ≡ true
-          → P (with_peer node flight.from (after_request (made me node) (node.peers flight.from) flight.request), Heard.Noted)
+          → P (
+            with_peer node flight.from
+                (after_request (made me node) (node.peers flight.from) flight.request),
+            Heard.Noted,
+          )
 
     pub packet_cases : (P : Node × Heard → Type 0) → Packet P → P (on_packet rules me node flight)
     unfolding on_packet
@@ -176,7 +193,8 @@ module _ {S : Type 0} (rules : Rules S) (me : ℕ) (node : Node) where
         gathers word e = cond_both (all_noted rules.players (put node.noted flight.from true)) _ _ P
             (cases.completes word e) (cases.notes word e)
 
-        ended : (played : Bool) (kind : Kind) → is_ended node.phase ≡ true → P (on_ended played me node flight kind)
+        ended : (played : Bool) (kind : Kind) → is_ended node.phase ≡ true
+            → P (on_ended played me node flight kind)
         ended false kind e = early
         ended true (SetUp s) e = misplaced
         ended true Exit e = early

@@ -1,5 +1,6 @@
--- A relation between a node before and after that each call on a node keeps to: at every node each event does.
-use Rattle.std.proofs.Common.{ℕ, Option, Some, None, sym, subst, inl, inr}
+-- A relation between a node before and after that each call on a node keeps to: at every node each event
+-- does. And what each event keeps, every list of events keeps.
+use Rattle.std.proofs.Common.{ℕ, List, [], ◌∷◌, Option, Some, None, sym, subst, inl, inr}
 use Rattle.std.specs.Prelude.{slice_get}
 use Rattle.std.proofs.lemmas.Bool.{cases_eq}
 use Rattle.dn_machine.specs.declared.events.Event.{Event}
@@ -13,6 +14,7 @@ use Rattle.dn_machine.specs.Sending.{on_send}
 use Rattle.dn_machine.specs.Hearing.{on_packet}
 use Rattle.dn_machine.specs.Running.{on_run, on_quit}
 use Rattle.dn_machine.specs.Game.{Game, posted, refused, delivered, on_event, applied_if, applied}
+use Rattle.dn_machine.specs.Runs.{Next, Leads}
 use Rattle.dn_machine.proofs.Put.{put_at, put_off}
 
 module _ {S : Type 0} (rules : Rules S) (R : Node → Node → Type 0) (same : (node : Node) → R node node)
@@ -42,7 +44,8 @@ module _ {S : Type 0} (rules : Rules S) (R : Node → Node → Type 0) (same : (
   after_build i state related = by_refusal (Build i state) (placed i _ related)
 
   pub after_send : (i to : ℕ) → R (game.nodes i) (on_send rules i (game.nodes i) to).0 → After (Send i to)
-  after_send i to related = by_refusal (Send i to) (go _ (on_send rules i (game.nodes i) to).1 (placed i _ related))
+  after_send i to related = by_refusal (Send i to)
+      (go _ (on_send rules i (game.nodes i) to).1 (placed i _ related))
     where
       go : (base : Game) (o : Option Flight) → R (game.nodes q) (base.nodes q)
           → R (game.nodes q) ((posted base o).0.nodes q)
@@ -72,3 +75,15 @@ module _ {S : Type 0} (rules : Rules S) (R : Node → Node → Type 0) (same : (
     after_event (Run i) = by_refusal (Run i) (placed i _ (runs (game.nodes i)))
     after_event (Quit i) = by_refusal (Quit i) (placed i _ (quits (game.nodes i)))
     after_event (Stop i) = by_refusal (Stop i) (same (game.nodes q))
+
+-- lists of events
+module _ {S : Type 0} (rules : Rules S) (P : Game → Type 0)
+    (keeps : (game : Game) (event : Event) → P game → P (applied rules game event).0) where
+  pub next_keeps : (game next : Game) (event : Event) → P game → Next rules game event next → P next
+  next_keeps game next event p (inl same) = subst P (sym same) (keeps game event p)
+  next_keeps game next event p (inr left) = subst P (sym left.1) p
+
+  pub leads_keep : (events : List Event) (game last : Game) → P game → Leads rules game events last → P last
+  leads_keep [] game last p same = subst P (sym same) p
+  leads_keep (event ∷ events) game last p way =
+      leads_keep events way.0 last (next_keeps game way.0 event p way.1) way.2

@@ -1,5 +1,5 @@
 -- The game as it opens has what every event keeps, each event keeps it, and so does every list of events.
-use Rattle.std.proofs.Common.{◌≡◌, ℕ, ◌<◌, ◌≢◌, Bool, true, false, not, cond, ◌&&◌, List, [], ◌∷◌, ◌++◌, refl, sym, subst, arith, Option, Some, None, inl, inr, ltb, eqb, ℤ}
+use Rattle.std.proofs.Common.{◌≡◌, ℕ, ◌<◌, ◌≢◌, Bool, true, false, not, cond, ◌&&◌, List, [], ◌∷◌, ◌++◌, refl, subst, arith, Option, Some, None, inl, ltb, eqb, ℤ}
 use Rattle.std.specs.Prelude.{slice_get}
 use Rattle.std.proofs.lemmas.Bool.{ltb-true, and_parts}
 use Rattle.std.proofs.lemmas.Option.{none-some}
@@ -17,6 +17,7 @@ use Rattle.dn_machine.proofs.BuildKeeps.{builds}
 use Rattle.dn_machine.proofs.SendKeeps.{sends}
 use Rattle.dn_machine.proofs.HearKeeps.{hears}
 use Rattle.dn_machine.proofs.RunKeeps.{runs, quits}
+use Rattle.dn_machine.proofs.EachEvent.{leads_keep}
 use Rattle.dn_machine.specs.Runs.{Next, Leads, Runs}
 
 -- the phases and the settings of the nodes as a game opens
@@ -93,17 +94,10 @@ module _ {S : Type 0} (rules : Rules S) (settings : Settings) where
         go (Some refusal) h = kept
         go None h = happens_keeps event h
 
-  pub next_keeps : (game next : Game) (event : Event) → IsKept rules settings game
-      → Next rules game event next → IsKept rules settings next
-  next_keeps game next event kept (inl same) =
-      subst (λ (g : Game). IsKept rules settings g) (sym same) (applied_keeps game kept event)
-  next_keeps game next event kept (inr left) = subst (λ (g : Game). IsKept rules settings g) (sym left.1) kept
-
   pub leads_keeps : (events : List Event) (game last : Game) → IsKept rules settings game
       → Leads rules game events last → IsKept rules settings last
-  leads_keeps [] game last kept same = subst (λ (g : Game). IsKept rules settings g) (sym same) kept
-  leads_keeps (event ∷ events) game last kept way =
-      leads_keeps events way.0 last (next_keeps game way.0 event kept way.1) way.2
+  leads_keeps = leads_keep rules (λ (game : Game). IsKept rules settings game)
+      (λ game event kept. applied_keeps game kept event)
 
   -- what every event keeps holds after every list of events
   pub always : (events : List Event) (game : Game) → Runs rules settings events game

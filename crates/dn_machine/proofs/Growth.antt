@@ -1,6 +1,6 @@
 -- What no event takes back: the rows that a node ran, that it has played, and that it pauses for no more than
 -- ten packets.
-use Rattle.std.proofs.Common.{◌≡◌, ℕ, ◌≤◌, Bool, true, false, ◌&&◌, List, [], ◌∷◌, length, refl, sym, ap, subst, arith, Option, inl, inr, eqb}
+use Rattle.std.proofs.Common.{◌≡◌, ℕ, ◌≤◌, Bool, true, false, ◌&&◌, List, length, refl, ap, subst, arith, Option, inl, inr, eqb}
 use Rattle.std.proofs.lemmas.Bool.{cases_eq, cond_both}
 use Rattle.std.proofs.lemmas.List.{length_push}
 use Rattle.dn_tic.specs.declared.command.TicCmd.{TicCmd}
@@ -16,10 +16,10 @@ use Rattle.dn_machine.specs.Sending.{after_sent, on_send}
 use Rattle.dn_machine.specs.Hearing.{is_within, after_request, after_exit, on_packet}
 use Rattle.dn_machine.specs.Running.{row_held, on_run, on_quit}
 use Rattle.dn_machine.specs.Game.{Game, opening_game, applied}
-use Rattle.dn_machine.specs.Runs.{Next, Leads, Runs}
+use Rattle.dn_machine.specs.Runs.{Runs}
 use Rattle.dn_machine.proofs.Put.{put_at, put_off}
 use Rattle.dn_machine.proofs.Calls.{build_cases, send_cases, run_cases, quit_cases, packet_cases, sender_after}
-use Rattle.dn_machine.proofs.EachEvent.{placed, after_event}
+use Rattle.dn_machine.proofs.EachEvent.{placed, after_event, leads_keep}
 
 pub record Grows (old new : Node) : Type 0 where
   pub rows : length old.rows ≤ length new.rows
@@ -115,19 +115,9 @@ module _ {S : Type 0} (rules : Rules S) (game : Game) (q : ℕ) where
 abbrev pub IsPatient : Game → Type 0
 IsPatient game = (q peer : ℕ) → ((game.nodes q).peers peer).pause ≤ 10
 
-module _ {S : Type 0} (rules : Rules S) (settings : Settings) where
-  leads_patient : (events : List Event) (game last : Game) → IsPatient game → Leads rules game events last
-      → IsPatient last
-  leads_patient [] game last patient same = subst IsPatient (sym same) patient
-  leads_patient (event ∷ events) game last patient way =
-      leads_patient events way.0 last (next way.0 way.1) way.2
-    where
-      next : (mid : Game) → Next rules game event mid → IsPatient mid
-      next mid (inl same) = subst IsPatient (sym same)
-          (λ q peer. (applied_grows rules game q event).pause peer (patient q peer))
-      next mid (inr left) = subst IsPatient (sym left.1) patient
-
-  pub always_patient : (events : List Event) (game : Game) → Runs rules settings events game → IsPatient game
-  unfolding opening_game
-  always_patient events game run = leads_patient events (opening_game settings) game (λ q peer. omega arith)
-      run
+pub always_patient : {S : Type 0} (rules : Rules S) (settings : Settings) (events : List Event) (game : Game)
+    → Runs rules settings events game → IsPatient game
+unfolding opening_game
+always_patient rules settings events game run = leads_keep rules IsPatient
+    (λ now event patient q peer. (applied_grows rules now q event).pause peer (patient q peer))
+    events (opening_game settings) game (λ q peer. omega arith) run

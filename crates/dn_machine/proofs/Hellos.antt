@@ -44,7 +44,8 @@ knows_stable j old new gentle (inr y) = inr ((gentle 0).noted j y)
 module _ {S : Type 0} (rules : Rules S) (settings : Settings) (cap : ℕ) (stay : ℕ → Bool) (tic : ℕ) where
   module _ (some : 0 < rules.players) (key_stays : stay 0 ≡ true) where
     -- the key player's packet starts a listener
-    module _ (j : ℕ) (its : j < rules.players) (other : j ≢ 0) (game : Game) (begun : IsBegun rules settings cap stay tic game)
+    module _ (j : ℕ) (its : j < rules.players) (other : j ≢ 0) (game : Game)
+        (begun : IsBegun rules settings cap stay tic game)
         (key : KeyGathers game) where
       abbrev set_up : Flight
       set_up = record { from = 0; to = j; kind = SetUp settings; start = 0; request = None; commands = [] }
@@ -97,7 +98,8 @@ module _ {S : Type 0} (rules : Rules S) (settings : Settings) (cap : ℕ) (stay 
           ∙ put_at game.nodes 0 0 (game.nodes 0) refl) ∙ key)
 
     -- and a player's packet is noted
-    module _ (j : ℕ) (its : j < rules.players) (other : j ≢ 0) (game : Game) (begun : IsBegun rules settings cap stay tic game)
+    module _ (j : ℕ) (its : j < rules.players) (other : j ≢ 0) (game : Game)
+        (begun : IsBegun rules settings cap stay tic game)
         (gone asks_it : Bool) (sends : on_send rules j (game.nodes j) 0
         ≡ (
           after_sent rules j (game.nodes j) 0,
@@ -146,7 +148,8 @@ module _ {S : Type 0} (rules : Rules S) (settings : Settings) (cap : ℕ) (stay 
               ∙ (ap (λ (ph : Phase). (on_packet_in rules 0 (game.nodes 0) F ph F.kind).0.noted j) e
               ∙ noted_in gone)))
 
-    pub knows : (j : ℕ) → j < rules.players → j ≢ 0 → (game : Game) → IsBegun rules settings cap stay tic game → IsIn j game
+    pub knows : (j : ℕ) → j < rules.players → j ≢ 0 → (game : Game)
+        → IsBegun rules settings cap stay tic game → IsIn j game
         → KnowsOf j (exchange rules j game 0)
     knows j its other game begun (inl plays) =
         knows_by j its other game begun false ((game.nodes j).peers 0).want

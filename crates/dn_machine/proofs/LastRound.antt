@@ -23,7 +23,8 @@ module _ {S : Type 0} (rules : Rules S) (settings : Settings) (cap : ℕ) (stay 
       (stays : stay q ≡ true) where
     -- all others' commands have come to this player
     abbrev HasAll : Game → Type 0
-    HasAll g = (p : ℕ) (l : p < rules.players) (apart : p ≢ q) → At rules settings cap stay tic p q l m stays apart 0 g
+    HasAll g = (p : ℕ) (l : p < rules.players) (apart : p ≢ q)
+        → At rules settings cap stay tic p q l m stays apart 0 g
 
     -- another player
     other : (p : ℕ) × (p < rules.players) × (p ≢ q)
@@ -34,7 +35,8 @@ module _ {S : Type 0} (rules : Rules S) (settings : Settings) (cap : ℕ) (stay 
 
     -- within the turn, before the run
     abbrev HasAllIn : Game → Type 0
-    HasAllIn g = (p : ℕ) (l : p < rules.players) (apart : p ≢ q) → In rules settings cap stay tic p q l m stays apart q 0 g
+    HasAllIn g = (p : ℕ) (l : p < rules.players) (apart : p ≢ q)
+        → In rules settings cap stay tic p q l m stays apart q 0 g
 
     runs_it : (g : Game) → HasAllIn g → tic < ran ((after rules (Run q) g).nodes q)
     runs_it g all =
@@ -48,7 +50,8 @@ module _ {S : Type 0} (rules : Rules S) (settings : Settings) (cap : ℕ) (stay 
         far_off low far = let x = far q m stays in omega arith
 
         has_of : ran (g.nodes q) ≤ tic → tic ≤ ran (g.nodes q)
-            → (p : ℕ) (l : p < rules.players) (apart : p ≢ q) → In rules settings cap stay tic p q l m stays apart q 0 g
+            → (p : ℕ) (l : p < rules.players) (apart : p ≢ q)
+            → In rules settings cap stay tic p q l m stays apart q 0 g
             → (ran (g.nodes q) < got (g.nodes q) p) ⊎ (is_absent (g.nodes q) p ≡ true)
         has_of low high p l apart (InFar far) = absurd (far_off low far)
         has_of low high p l apart (InOn on built (Has (inl h))) = inl (omega arith)
@@ -79,14 +82,16 @@ module _ {S : Type 0} (rules : Rules S) (settings : Settings) (cap : ℕ) (stay 
     turn_runs : (keys : ℕ → ℕ) (g : Game) → HasAll g → tic < ran ((turn rules keys g q).nodes q)
     unfolding turn
     turn_runs keys g all =
-        runs_it _ (λ p l apart. turn_hears rules settings cap stay tic p q l m stays apart keys 0 0 (λ h. absurd (omega arith))
+        runs_it _ (λ p l apart. turn_hears rules settings cap stay tic p q l m stays apart keys 0 0
+        (λ h. absurd (omega arith))
         (omega arith) (λ h. absurd (omega arith)) g (all p l apart))
 
     pub round_runs : (keys : ℕ → ℕ) (g : Game) → HasAll g → tic < ran ((good_round rules keys g).nodes q)
     unfolding good_round
     round_runs keys g all =
         one_of HasAll (λ (h : Game). tic < ran (h.nodes q)) (turn rules keys) rules.players q
-        (λ i h o n x p l apart. turn_keeps rules settings cap stay tic p q l m stays apart keys i o h (x p l apart))
+        (λ i h o n x p l apart. turn_keeps rules settings cap stay tic p q l m stays apart keys i o h
+        (x p l apart))
         (λ i h o n x. let more = turn_ran rules keys q (suc tic) h i (omega arith) in omega arith)
         (λ h x. turn_runs keys h x)
         g m all

@@ -1,6 +1,6 @@
 -- How a game opens: the key player gathers and the others listen, and the key player starts once all others
 -- have played.
-use Rattle.std.proofs.Common.{◌≡◌, ℕ, ◌<◌, ◌≤◌, ◌≢◌, Bool, true, false, true≢false, ◌&&◌, List, [], ◌∷◌, length, refl, sym, ◌∙◌, ap, subst, arith, Option, Some, None, inl, inr, ltb, eqb}
+use Rattle.std.proofs.Common.{◌≡◌, ℕ, ◌<◌, ◌≤◌, ◌≢◌, Bool, true, false, true≢false, ◌&&◌, List, length, refl, sym, ◌∙◌, ap, subst, arith, Option, Some, None, inl, inr, ltb, eqb}
 use Rattle.std.specs.Prelude.{slice_get}
 use Rattle.std.proofs.lemmas.Bool.{cases_eq, cases_Bool, cond-true, cond-false, ltb-true, eq-eqb, ne_eqb, and_parts}
 use Rattle.std.proofs.lemmas.Option.{none-some, same_Some}
@@ -14,11 +14,12 @@ use Rattle.dn_machine.specs.Worlds.{Rules}
 use Rattle.dn_machine.specs.Flight.{Flight}
 use Rattle.dn_machine.specs.Node.{Node, put, is_ended}
 use Rattle.dn_machine.specs.Sending.{on_send, set_up_flight}
-use Rattle.dn_machine.specs.Game.{Game, fresh, opening_game, with_node, posted, refused_at, refused, delivered, on_event, applied_if, applied}
+use Rattle.dn_machine.specs.Game.{Game, fresh, opening_game, with_node, posted, refused, delivered, on_event, applied_if, applied}
 use Rattle.dn_machine.proofs.Invariant.{IsKept}
-use Rattle.dn_machine.specs.Runs.{Next, Leads, Runs}
+use Rattle.dn_machine.specs.Runs.{Runs}
 use Rattle.dn_machine.proofs.Put.{put_at, put_off, slice_get_push}
-use Rattle.dn_machine.proofs.Games.{opens, next_keeps, passes}
+use Rattle.dn_machine.proofs.Games.{opens, applied_keeps, passes}
+use Rattle.dn_machine.proofs.EachEvent.{leads_keep}
 use Rattle.dn_machine.proofs.Calls.{IsWord, send_cases}
 use Rattle.dn_machine.proofs.Growth.{Grows, build_grows, send_grows, run_grows, quit_grows, hear_grows, placed_grows}
 use Rattle.dn_machine.proofs.Changes.{each_noted, Change, Same, Starts, Notes, Completes, Gone, build_change, send_change, run_change, quit_change, hear_change, noted_of}
@@ -181,9 +182,6 @@ module _ {S : Type 0} (rules : Rules S) (settings : Settings) (game : Game)
       (λ q. placed_grows rules game q flight.to _ (hear_grows rules flight.to (game.nodes flight.to) flight))
 
   -- an event that is not refused
-  named : (node : ℕ) → refused_at rules.players game node ≡ None → node < rules.players
-  named node h = ltb-true node rules.players (passes (ltb node rules.players) _ _ h)
-
   happens_open : (event : Event) → refused rules.players game event ≡ None
       → IsOpen rules (on_event rules game event).0
   happens_open (Build node keys) h = placed_open rules game is_open node 0 ⊥ ⊥ _
@@ -245,18 +243,10 @@ module _ {S : Type 0} (rules : Rules S) (settings : Settings) (several : 2 ≤ r
     sent = λ which flight h w. absurd (none-some flight h);
   }
 
-  leads_open : (events : List Event) (game last : Game) → IsKept rules settings game → IsOpen rules game
-      → Leads rules game events last → IsOpen rules last
-  leads_open [] game last kept is_open same = subst (λ (g : Game). IsOpen rules g) (sym same) is_open
-  leads_open (event ∷ events) game last kept is_open way =
-      leads_open events way.0 last (next_keeps rules settings game way.0 event kept way.1) (next way.0 way.1)
-      way.2
-    where
-      next : (mid : Game) → Next rules game event mid → IsOpen rules mid
-      next mid (inl same) = subst (λ (g : Game). IsOpen rules g) (sym same)
-          (applied_open rules settings game kept is_open event)
-      next mid (inr left) = subst (λ (g : Game). IsOpen rules g) (sym left.1) is_open
-
   pub always_open : (events : List Event) (game : Game) → Runs rules settings events game → IsOpen rules game
-  always_open events game run = leads_open events (opening_game settings) game (opens rules settings)
-      opening_open run
+  always_open events game run =
+      (leads_keep rules (λ (now : Game). IsKept rules settings now × IsOpen rules now)
+      (λ now event both. (
+        applied_keeps rules settings now both.0 event,
+        applied_open rules settings now both.0 both.1 event,
+      )) events (opening_game settings) game (opens rules settings, opening_open) run).1

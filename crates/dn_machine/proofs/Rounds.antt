@@ -94,8 +94,8 @@ module _ {S : Type 0} (rules : Rules S) (settings : Settings) (cap : ℕ) (stay 
           let x = (Exchanges.exchanges rules settings cap stay tic g on p q l m apart built).1 in
           InOn (Exchanges.exchange_on rules settings cap stay tic g on p q l m apart built)
           (still_made p q g _ apart x built)
-          (sent_stage tic rounds later _ (side (g.nodes p) q) (side ((exchange rules p g q).nodes p) q)
-          (side (g.nodes q) p) (side ((exchange rules p g q).nodes q) p) stage x.mine_pause
+          (sent_stage tic rounds later (side (g.nodes p) q) (side ((exchange rules p g q).nodes p) q)
+          (side (g.nodes q) p) (side ((exchange rules p g q).nodes q) p) _ stage x.mine_pause
           (on.live.patient p q) (x.begins stays) (x.taken stays) c d)
 
       -- and hears one of it

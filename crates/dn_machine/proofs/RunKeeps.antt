@@ -88,7 +88,8 @@ module _ {S : Type 0} (rules : Rules S) (settings : Settings) (game : Game)
             ap (λ (c : TicCmd). c.mark)
             (kept.from_keys.commands i p (ran (game.nodes i)) mine l (present_held there p l present))
             ∙ (command_mark rules settings keys_now p (ran (game.nodes i))
-            ∙ sym (Placing.own_mark_kept rules settings game kept i mine p (ran (game.nodes i)) e (omega arith)))))
+            ∙ sym (Placing.own_mark_kept rules settings game kept i mine p (ran (game.nodes i)) e
+            (omega arith)))))
       ]))
       (λ early. refl)
 

@@ -27,7 +27,8 @@ module _ {S : Type 0} (rules : Rules S) (settings : Settings) (game : Game)
       → IsPiece rules settings keys_now (λ q. has_left (game.nodes q)) flight
       → IsKept rules settings (posted (with_node game i new) (Some flight)).0
   posts new flight a b c d more sound piece =
-      Placing.quiet_with rules settings game kept i mine new game.stopped (game.flights ++ flight ∷ []) a b c d more
+      Placing.quiet_with rules settings game kept i mine new game.stopped
+      (game.flights ++ flight ∷ []) a b c d more
       (Lists.sends rules settings (history_of game) game.flights kept.from_keys flight piece) sound
 
   -- a set-up packet
@@ -46,8 +47,8 @@ module _ {S : Type 0} (rules : Rules S) (settings : Settings) (game : Game)
         exit = λ e. absurd (cc);
       }
 
-  -- a packet starts at no tic past what was on_build
-  first_reached : (to : ℕ) → first_sent rules i (game.nodes i) to ≤ made i (game.nodes i)
+  -- a packet starts at no tic past what was built
+  pub first_reached : (to : ℕ) → first_sent rules i (game.nodes i) to ≤ made i (game.nodes i)
   first_reached to =
       let sound = (kept.sound i mine).resend to in
       cond_both (ltb ((game.nodes i).peers to).resend (made i (game.nodes i) - 12)) _ _

@@ -49,73 +49,60 @@ abbrev pub Asked : ℕ → Bool → Peer → Peer → Type 0
 Asked request want mine later = (later.resend ≡ request)
     ⊎ ((later.resend ≡ mine.resend) × (later.pause ≤ mine.pause - 1) × (want ≡ true → 0 < mine.pause))
 
-pub sent_stage : (tic rounds later start : ℕ) (mine mine_later its its_later : Side)
-    → Stage tic rounds mine its
-    → mine_later.kept.pause ≡ mine.kept.pause → mine.kept.pause ≤ 10
-    → (mine.kept.resend ≡ its.got → start ≡ its.got) → Taken tic start its its_later
-    → (2 ≤ rounds → rounds ≤ 12 → rounds ≤ later) → (13 ≤ rounds → 12 ≤ later)
-    → Stage tic later mine_later its_later
-sent_stage tic rounds later start mine mine_later its its_later stage same low begins (inl has) c d = Has has
-sent_stage tic rounds later start mine mine_later its its_later (Has h) same low begins (inr gap) c d =
-    Has (gap.3 h)
-sent_stage tic rounds later start mine mine_later its its_later (Meets l e) same low begins (inr gap) c d =
-    let k = gap.1 in let b = begins e in absurd (omega arith)
-sent_stage tic rounds later start mine mine_later its its_later (Asks w l) same low begins (inr gap) c d =
-    Asks gap.2 (elim (cases_lt rounds 13) [
-      | inl s ↦ let x = c (omega arith) (omega arith) in
-          omega arith
-      | inr m ↦ let x = d m in omega arith
-    ])
-sent_stage tic rounds later start mine mine_later its its_later (Unknown l) same low begins (inr gap) c d =
-    let x = d l in Asks gap.2 (omega arith)
+module _ (tic rounds later : ℕ) (mine mine_later its its_later : Side) where
+  pub sent_stage : (start : ℕ) → Stage tic rounds mine its
+      → mine_later.kept.pause ≡ mine.kept.pause → mine.kept.pause ≤ 10
+      → (mine.kept.resend ≡ its.got → start ≡ its.got) → Taken tic start its its_later
+      → (2 ≤ rounds → rounds ≤ 12 → rounds ≤ later) → (13 ≤ rounds → 12 ≤ later)
+      → Stage tic later mine_later its_later
+  sent_stage start stage same low begins (inl has) c d = Has has
+  sent_stage start (Has h) same low begins (inr gap) c d =
+      Has (gap.3 h)
+  sent_stage start (Meets l e) same low begins (inr gap) c d =
+      let k = gap.1 in let b = begins e in absurd (omega arith)
+  sent_stage start (Asks w l) same low begins (inr gap) c d =
+      Asks gap.2 (elim (cases_lt rounds 13) [
+        | inl s ↦ let x = c (omega arith) (omega arith) in
+            omega arith
+        | inr m ↦ let x = d m in omega arith
+      ])
+  sent_stage start (Unknown l) same low begins (inr gap) c d =
+      let x = d l in Asks gap.2 (omega arith)
 
-pub asked_stage : (tic rounds later : ℕ) (mine mine_later its its_later : Side) → Stage tic rounds mine its
-    → its_later.got ≡ its.got → its_later.kept.want ≡ its.kept.want → its_later.kept.end ≡ its.kept.end
-    → Holds tic its ⊎ Asked its.got its.kept.want mine.kept mine_later.kept
-    → (1 ≤ rounds → 1 ≤ later) → (rounds ≤ later + 1) → (13 ≤ rounds → 13 ≤ later)
-    → Stage tic later mine_later its_later
-asked_stage tic rounds later mine mine_later its its_later stage g w e (inl has) a b c =
-    Has (holds_same tic its its_later g e has)
-asked_stage tic rounds later mine mine_later its its_later (Has h) g w e (inr asked) a b c =
-    Has (holds_same tic its its_later g e h)
-asked_stage tic rounds later mine mine_later its its_later (Unknown h) g w e (inr asked) a b c = Unknown (c h)
-asked_stage tic rounds later mine mine_later its its_later (Meets l m) g w e (inr (inl met)) a b c =
-    Meets (a l) (met ∙ sym g)
-asked_stage tic rounds later mine mine_later its its_later (Meets l m) g w e (inr (inr off)) a b c =
-    Meets (a l) (off.0 ∙ (m ∙ sym g))
-asked_stage tic rounds later mine mine_later its its_later (Asks x l) g w e (inr (inl met)) a b c =
-    Meets (a (omega arith)) (met ∙ sym g)
-asked_stage tic rounds later mine mine_later its its_later (Asks x l) g w e (inr (inr off)) a b c = let p =
-    off.2 x in let h = off.1 in Asks (w ∙ x) (omega arith)
+  pub asked_stage : Stage tic rounds mine its
+      → its_later.got ≡ its.got → its_later.kept.want ≡ its.kept.want → its_later.kept.end ≡ its.kept.end
+      → Holds tic its ⊎ Asked its.got its.kept.want mine.kept mine_later.kept
+      → (1 ≤ rounds → 1 ≤ later) → (rounds ≤ later + 1) → (13 ≤ rounds → 13 ≤ later)
+      → Stage tic later mine_later its_later
+  asked_stage stage g w e (inl has) a b c =
+      Has (holds_same tic its its_later g e has)
+  asked_stage (Has h) g w e (inr asked) a b c =
+      Has (holds_same tic its its_later g e h)
+  asked_stage (Unknown h) g w e (inr asked) a b c = Unknown (c h)
+  asked_stage (Meets l m) g w e (inr (inl met)) a b c =
+      Meets (a l) (met ∙ sym g)
+  asked_stage (Meets l m) g w e (inr (inr off)) a b c =
+      Meets (a l) (off.0 ∙ (m ∙ sym g))
+  asked_stage (Asks x l) g w e (inr (inl met)) a b c =
+      Meets (a (omega arith)) (met ∙ sym g)
+  asked_stage (Asks x l) g w e (inr (inr off)) a b c = let p =
+      off.2 x in let h = off.1 in Asks (w ∙ x) (omega arith)
 
 -- what another's request leaves of what is kept of it
-pub record IsAsked (want : Bool) (tic : ℕ) (old new : Peer) : Type 0 where
-  pub want_same : new.want ≡ old.want
-  pub end : new.end ≡ old.end
-  pub asked : Asked tic want old new
-
 pub asks : (made : ℕ) (peer : Peer) (want : Bool) (tic : ℕ) → (want ≡ true → is_within made (Some tic) ≡ true)
-    → IsAsked want tic peer (after_request made peer (cond want (Some tic) None))
+    → Asked tic want peer (after_request made peer (cond want (Some tic) None))
 asks made peer true tic fits =
-    cond_both (eqb peer.pause 0 && is_within made (Some tic)) _ _ (λ (p : Peer). IsAsked true tic peer p)
-    (λ met. record { want_same = refl; end = refl; asked = inl refl })
-    (λ off. record {
-      want_same = refl;
-      end = refl;
-      asked = inr (
-        refl,
-        omega arith,
-        (λ w. elim (and_cases (eqb peer.pause 0) (is_within made (Some tic)) off) [
-          | inl never ↦ let n = eqb-false peer.pause 0 never in omega arith
-          | inr never ↦ absurd (true≢false (sym (fits refl) ∙ never))
-        ]),
-      );
-    })
+    cond_both (eqb peer.pause 0 && is_within made (Some tic)) _ _ (λ (p : Peer). Asked tic true peer p)
+    (λ met. inl refl)
+    (λ off. inr (
+      refl,
+      omega arith,
+      (λ w. elim (and_cases (eqb peer.pause 0) (is_within made (Some tic)) off) [
+        | inl never ↦ let n = eqb-false peer.pause 0 never in omega arith
+        | inr never ↦ absurd (true≢false (sym (fits refl) ∙ never))
+      ]),
+    ))
 asks made peer false tic fits =
-    cond_both (eqb peer.pause 0 && false) _ _ (λ (p : Peer). IsAsked false tic peer p)
+    cond_both (eqb peer.pause 0 && false) _ _ (λ (p : Peer). Asked tic false peer p)
     (λ met. absurd (true≢false (sym (and_parts (eqb peer.pause 0) false met).1)))
-    (λ off. record {
-      want_same = refl;
-      end = refl;
-      asked = inr (refl, omega arith, (λ w. absurd (true≢false (sym w))));
-    })
+    (λ off. inr (refl, omega arith, (λ w. absurd (true≢false (sym w)))))

@@ -19,8 +19,23 @@ use Rattle.dn_machine.proofs.InOrder.{two_of, one_of}
 use Rattle.dn_machine.proofs.Changes.{noted_all}
 use Rattle.dn_machine.proofs.Openings.{Stands, Gathers, Listens, Plays, HasGone}
 use Rattle.dn_machine.proofs.Gentle.{build_gentle}
-use Rattle.dn_machine.proofs.Begun.{IsBegun, With, WithFar, WithSo, gentle_begun, exchange_begun, all_play, keep_build, keep_exchange, keep_run, keep_turn}
+use Rattle.dn_machine.proofs.Begun.{with_exchange, IsBegun, With, WithFar, WithSo, gentle_begun, all_play, keep_build, keep_exchange, keep_run, keep_turn}
 use Rattle.dn_machine.proofs.Hellos.{KeyGathers, IsIn, KnowsOf, in_stable, knows_stable, starts, still_gathers, knows}
+
+-- each of a bounded number of facts, or what stands beside each
+all_or : (A : Type 0) (P : ℕ → Type 0) (bound : ℕ) → ((j : ℕ) → j < bound → A ⊎ P j)
+    → A ⊎ ((j : ℕ) → j < bound → P j)
+all_or A P zero h = inr (λ j l. absurd (omega arith))
+all_or A P (suc bound) h = elim (all_or A P bound (λ j l. h j (omega arith))) [
+  | inl a ↦ inl a
+  | inr before ↦ elim (h bound (omega arith)) [
+    | inl a ↦ inl a
+    | inr here ↦ inr (λ j l. elim (cases_eq j bound) [
+      | inl e ↦ subst P (sym e) here
+      | inr n ↦ before j (omega arith)
+    ])
+  ]
+]
 
 module _ {S : Type 0} (rules : Rules S) (settings : Settings) (cap : ℕ) (stay : ℕ → Bool) (tic : ℕ) where
   -- so, or every demo is as good as full
@@ -39,23 +54,29 @@ module _ {S : Type 0} (rules : Rules S) (settings : Settings) (cap : ℕ) (stay 
       module _ (j : ℕ) (its : j < rules.players) (other : j ≢ 0) where
         gathers_on : (i : ℕ) (g : Game) → i < rules.players → i ≢ j → So KeyGathers g
             → So KeyGathers (exchange rules 0 g i)
-        gathers_on i g l n (WithFar far) = WithFar (exchange_far rules cap stay 0 i g far)
-        gathers_on i g l n (WithSo begun key) = elim (cases_eq i 0) [
-          | inl e ↦
-              let own : exchange rules 0 g i ≡ g = ap (λ (k : ℕ). exchange rules 0 g k) e
-              ∙ Pairs.exchange_own rules settings g begun.live 0 some in
-              subst (λ (h : Game). So KeyGathers h) (sym own) (WithSo begun key)
-          | inr d ↦ WithSo (exchange_begun rules settings cap stay tic 0 i g begun) (still_gathers rules settings cap stay tic some key_stays i l d g begun key)
+        gathers_on i g l n at = elim (cases_eq i 0) [
+          | inl e ↦ own i g e at
+          | inr d ↦ with_exchange rules settings cap stay tic KeyGathers KeyGathers 0 i g
+              (λ begun key. still_gathers rules settings cap stay tic some key_stays i l d g begun key) at
         ]
+          where
+            -- to itself it gives nothing
+            own : (k : ℕ) (h : Game) → k ≡ 0 → So KeyGathers h → So KeyGathers (exchange rules 0 h k)
+            own k h e (WithFar far) = WithFar (exchange_far rules cap stay 0 k h far)
+            own k h e (WithSo begun key) =
+                let same : exchange rules 0 h k ≡ h = ap (λ (m : ℕ). exchange rules 0 h m) e
+                ∙ Pairs.exchange_own rules settings h begun.live 0 some in
+                subst (λ (x : Game). So KeyGathers x) (sym same) (WithSo begun key)
 
         starts_one : (g : Game) → So KeyGathers g → So (IsIn j) (exchange rules 0 g j)
-        starts_one g (WithFar far) = WithFar (exchange_far rules cap stay 0 j g far)
-        starts_one g (WithSo begun key) = WithSo (exchange_begun rules settings cap stay tic 0 j g begun) (starts rules settings cap stay tic some key_stays j its other g begun key)
+        starts_one g = with_exchange rules settings cap stay tic KeyGathers (IsIn j) 0 j g
+            (λ begun key. starts rules settings cap stay tic some key_stays j its other g begun key)
 
         key_built : (g : Game) → So KeyGathers g → So KeyGathers (after rules (Build 0 (keys 0)) g)
         key_built g (WithFar far) = WithFar (far_after rules cap stay (Build 0 (keys 0)) g far)
         key_built g (WithSo begun key) =
-            WithSo (gentle_begun rules settings cap stay tic (Build 0 (keys 0)) g refl (build_gentle rules g 0 (keys 0)) begun)
+            WithSo (gentle_begun rules settings cap stay tic (Build 0 (keys 0)) g refl
+            (build_gentle rules g 0 (keys 0)) begun)
             (ap (λ (h : Game). (h.nodes 0).phase)
             (accepted rules g (Build 0 (keys 0)) (Pairs.accepts rules settings g begun.live 0 some))
             ∙ (ap (λ (n : Node). n.phase) (put_at g.nodes 0 0 (on_build rules 0 (g.nodes 0) (keys 0)).0 refl)
@@ -71,9 +92,8 @@ module _ {S : Type 0} (rules : Rules S) (settings : Settings) (cap : ℕ) (stay 
             (after rules (Build 0 (keys 0)) g) its (key_built g key))
 
         notes_one : (g : Game) → So (IsIn j) g → So (KnowsOf j) (exchange rules j g 0)
-        notes_one g (WithFar far) = WithFar (exchange_far rules cap stay j 0 g far)
-        notes_one g (WithSo begun plays) =
-            WithSo (exchange_begun rules settings cap stay tic j 0 g begun) (knows rules settings cap stay tic some key_stays j its other g begun plays)
+        notes_one g = with_exchange rules settings cap stay tic (IsIn j) (KnowsOf j) j 0 g
+            (λ begun plays. knows rules settings cap stay tic some key_stays j its other g begun plays)
 
         other_turn : (g : Game) → So (IsIn j) g → So (KnowsOf j) (turn rules keys g j)
         unfolding turn
@@ -82,7 +102,8 @@ module _ {S : Type 0} (rules : Rules S) (settings : Settings) (cap : ℕ) (stay 
             (λ i h l n x. keep_exchange rules settings cap stay tic (IsIn j) (in_stable j) j i h x)
             (λ i h l n x. keep_exchange rules settings cap stay tic (KnowsOf j) (knows_stable j) j i h x)
             (λ h x. notes_one h x)
-            (after rules (Build j (keys j)) g) some (keep_build rules settings cap stay tic (IsIn j) (in_stable j) j (keys j) g plays))
+            (after rules (Build j (keys j)) g) some
+            (keep_build rules settings cap stay tic (IsIn j) (in_stable j) j (keys j) g plays))
 
         round_notes : (g : Game) → So KeyGathers g → So (KnowsOf j) (good_round rules keys g)
         unfolding good_round
@@ -95,45 +116,30 @@ module _ {S : Type 0} (rules : Rules S) (settings : Settings) (cap : ℕ) (stay 
             (λ h x. other_turn h x)
             g its key
 
-      -- of a bounded number of games' facts: each holds, or the demos are as good as full
-      gather_all : (g : Game) (bound : ℕ) → bound ≤ rules.players
-          → ((j : ℕ) → 0 < j → j < bound → So (KnowsOf j) g)
-          → IsFar rules cap stay g ⊎ ((j : ℕ) → 0 < j → j < bound → KnowsOf j g)
-      gather_all g zero l h = inr (λ j a b. absurd (omega arith))
-      gather_all g (suc bound) l h = elim (gather_all g bound (omega arith) (λ j a b. h j a (omega arith))) [
-        | inl far ↦ inl far
-        | inr before ↦ last before
-      ]
-        where
-          last : ((j : ℕ) → 0 < j → j < bound → KnowsOf j g)
-              → IsFar rules cap stay g ⊎ ((j : ℕ) → 0 < j → j < suc bound → KnowsOf j g)
-          last before = elim (cases_eq bound 0) [
-            | inl e ↦ inr (λ j a b. absurd (omega arith))
-            | inr n ↦ tip (h bound (omega arith) (omega arith))
-          ]
-            where
-              tip : So (KnowsOf bound) g → IsFar rules cap stay g
-                  ⊎ ((j : ℕ) → 0 < j → j < suc bound → KnowsOf j g)
-              tip (WithFar far) = inl far
-              tip (WithSo begun y) = inr (λ j a b. elim (cases_eq j bound) [
-                | inl e ↦ subst (λ (k : ℕ). KnowsOf k g) (sym e) y
-                | inr n ↦ before j a (omega arith)
-              ])
-
-      pub round_starts : 2 ≤ rules.players → (g : Game) → IsBegun rules settings cap stay tic g → (g.nodes 0).phase ≡ Gathering
-          → IsFar rules cap stay (good_round rules keys g)
+      pub round_starts : 2 ≤ rules.players → (g : Game) → IsBegun rules settings cap stay tic g
+          → (g.nodes 0).phase ≡ Gathering → IsFar rules cap stay (good_round rules keys g)
           ⊎ IsOn rules settings cap stay tic (good_round rules keys g)
       round_starts several g begun key =
-          elim (gather_all (good_round rules keys g) rules.players (omega arith)
-          (λ j a b. round_notes j b (λ e. omega arith) g (WithSo begun key))) [
+          elim (all_or (IsFar rules cap stay (good_round rules keys g))
+          (λ (j : ℕ). 0 < j → KnowsOf j (good_round rules keys g)) rules.players one) [
             | inl far ↦ inl far
             | inr each ↦ with_begun each (round_notes 1 (omega arith) (λ e. omega arith) g (WithSo begun key))
           ]
         where
-          new : Game
-          new = good_round rules keys g
+          one : (j : ℕ) → j < rules.players → IsFar rules cap stay (good_round rules keys g)
+              ⊎ (0 < j → KnowsOf j (good_round rules keys g))
+          one j l = elim (cases_eq j 0) [
+            | inl e ↦ inr (λ low. absurd (omega arith))
+            | inr n ↦ known (round_notes j l n g (WithSo begun key))
+          ]
+            where
+              known : So (KnowsOf j) (good_round rules keys g)
+                  → IsFar rules cap stay (good_round rules keys g)
+                  ⊎ (0 < j → KnowsOf j (good_round rules keys g))
+              known (WithFar far) = inl far
+              known (WithSo now y) = inr (λ low. y)
 
-          with_begun : ((j : ℕ) → 0 < j → j < rules.players → KnowsOf j (good_round rules keys g))
+          with_begun : ((j : ℕ) → j < rules.players → 0 < j → KnowsOf j (good_round rules keys g))
               → So (KnowsOf 1) (good_round rules keys g) → IsFar rules cap stay (good_round rules keys g)
               ⊎ IsOn rules settings cap stay tic (good_round rules keys g)
           with_begun each (WithFar far) = inl far
@@ -141,12 +147,13 @@ module _ {S : Type 0} (rules : Rules S) (settings : Settings) (cap : ℕ) (stay 
             where
               go : Stands 0 ((good_round rules keys g).nodes 0)
                   → IsOn rules settings cap stay tic (good_round rules keys g)
-              go (Plays e) = all_play rules settings cap stay tic (good_round rules keys g) now ((now.live.kept.sound 0 some).playing e)
+              go (Plays e) = all_play rules settings cap stay tic (good_round rules keys g) now
+                  ((now.live.kept.sound 0 some).playing e)
               go (Listens z e f) = absurd (z refl)
               go (HasGone e) = absurd (true≢false (sym e ∙ now.there 0 some key_stays))
               go (Gathers z e f k) =
                   let all = noted_all rules.players ((good_round rules keys g).nodes 0).noted
-                  (λ k a b. elim (each k a b) [
+                  (λ k a b. elim (each k b a) [
                     | inl plays ↦ absurd (cc)
                     | inr noted ↦ noted
                   ]) in
