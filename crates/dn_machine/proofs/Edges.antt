@@ -220,7 +220,7 @@ unfolding three from_player packet on_packet
 gathers = refl
 
 -- quits, stops and events that are refused
-refusals : (answers (opening_game settings)
+refusals : (answers counting (opening_game settings)
     (Send 0 1 ∷ Stop 1 ∷ Send 1 0 ∷ Stop 1 ∷ Send 0 1 ∷ Deliver 0 ∷ Run 1 ∷ Run 2 ∷ Send 0
     2 ∷ Run 0 ∷ Quit 0 ∷ Quit 0 ∷ Send 0 1 ∷ [])).0
     ≡ Ok (Done.Sent 0) ∷ Ok Done.Stopped ∷ Err Refusal.Stopped ∷ Err Refusal.Stopped ∷ Ok (Done.Sent 1)

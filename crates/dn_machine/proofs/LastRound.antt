@@ -17,6 +17,13 @@ use Rattle.dn_machine.proofs.Turns
 use Rattle.dn_machine.proofs.RowsStay.{turn_ran}
 use Rattle.dn_machine.proofs.Rounds.{At, In, InFar, InOn, turn_hears, turn_keeps, has_after}
 
+-- of several players another than this one
+pub other_player : (players q : ℕ) → 2 ≤ players → (p : ℕ) × (p < players) × (p ≢ q)
+other_player players q several = elim (cases_eq q 0) [
+  | inl e ↦ (1, several, λ f. omega arith)
+  | inr n ↦ (0, omega arith, λ f. omega arith)
+]
+
 module _ {S : Type 0} (rules : Rules S) (settings : Settings) (cap : ℕ) (stay : ℕ → Bool) (tic : ℕ) where
   -- in the next round each runs it
   module _ (room : tic + 6 ≤ cap) (several : 2 ≤ rules.players) (q : ℕ) (m : q < rules.players)
@@ -26,12 +33,8 @@ module _ {S : Type 0} (rules : Rules S) (settings : Settings) (cap : ℕ) (stay 
     HasAll g = (p : ℕ) (l : p < rules.players) (apart : p ≢ q)
         → At rules settings cap stay tic p q l m stays apart 0 g
 
-    -- another player
     other : (p : ℕ) × (p < rules.players) × (p ≢ q)
-    other = elim (cases_eq q 0) [
-      | inl e ↦ (1, omega arith, λ f. omega arith)
-      | inr n ↦ (0, omega arith, λ f. omega arith)
-    ]
+    other = other_player rules.players q several
 
     -- within the turn, before the run
     abbrev HasAllIn : Game → Type 0
@@ -83,8 +86,7 @@ module _ {S : Type 0} (rules : Rules S) (settings : Settings) (cap : ℕ) (stay 
     unfolding turn
     turn_runs keys g all =
         runs_it _ (λ p l apart. turn_hears rules settings cap stay tic p q l m stays apart keys 0 0
-        (λ h. absurd (omega arith))
-        (omega arith) (λ h. absurd (omega arith)) g (all p l apart))
+        (omega arith) g (all p l apart))
 
     pub round_runs : (keys : ℕ → ℕ) (g : Game) → HasAll g → tic < ran ((good_round rules keys g).nodes q)
     unfolding good_round

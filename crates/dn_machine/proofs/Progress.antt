@@ -1,7 +1,7 @@
 -- A game goes on as soon as the network delivers: one good round for the start, and thirteen for each tic.
 use Rattle.std.proofs.Common.{◌≡◌, ℕ, zero, suc, ◌+◌, ◌-◌, ◌*◌, ◌<◌, ◌≤◌, ◌≢◌, Bool, true, not, List, refl, sym, ◌∙◌, ap, subst, arith, inl, inr}
 use Rattle.std.specs.Prelude.{◌⊎◌}
-use Rattle.std.proofs.lemmas.Bool.{cases_eq, and_from, not-true, not-false}
+use Rattle.std.proofs.lemmas.Bool.{and_from, not-true, not-false}
 use Rattle.dn_setup.specs.Settings.{Settings}
 use Rattle.dn_machine.specs.declared.answers.Phase.{Phase}
 use Rattle.dn_machine.specs.declared.events.Event.{Event}
@@ -18,7 +18,7 @@ use Rattle.dn_machine.proofs.GoingOn.{IsFar, IsOn}
 use Rattle.dn_machine.proofs.InOrder.{each_of}
 use Rattle.dn_machine.proofs.RowsStay.{rounds_ran}
 use Rattle.dn_machine.proofs.Rounds.{At, AtFar, AtOn, turn_keeps, round_nearer, has_after}
-use Rattle.dn_machine.proofs.LastRound.{thirteen}
+use Rattle.dn_machine.proofs.LastRound.{other_player, thirteen}
 use Rattle.dn_machine.proofs.Roomy.{IsRoomy, InDemos, Without, roomy_on}
 use Rattle.dn_machine.proofs.Openings.{Stands, Gathers, Listens, Plays, HasGone, always_open}
 use Rattle.dn_machine.proofs.Begun.{IsBegun, all_play}
@@ -51,10 +51,7 @@ module _ {S : Type 0} (rules : Rules S) (settings : Settings) (cap : ℕ) (sever
     Settled tic game = IsFar rules cap stay game ⊎ IsOn rules settings cap stay tic game
 
     another : (p : ℕ) × (p < rules.players) × (p ≢ one)
-    another = elim (cases_eq one 0) [
-      | inl e ↦ (1, omega arith, λ f. omega arith)
-      | inr n ↦ (0, omega arith, λ f. omega arith)
-    ]
+    another = other_player rules.players one several
 
     -- how far another player is from giving the one a command
     abbrev AtPair : ℕ → ℕ → Game → Type 0

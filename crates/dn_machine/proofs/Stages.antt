@@ -49,44 +49,44 @@ abbrev pub Asked : ℕ → Bool → Peer → Peer → Type 0
 Asked request want mine later = (later.resend ≡ request)
     ⊎ ((later.resend ≡ mine.resend) × (later.pause ≤ mine.pause - 1) × (want ≡ true → 0 < mine.pause))
 
+-- how many rounds are left after a packet of the player's, and after one of the other's
+abbrev pub AfterSent : ℕ → ℕ → Type 0
+AfterSent rounds later = (2 ≤ rounds → rounds ≤ 12 → rounds ≤ later) × (13 ≤ rounds → 12 ≤ later)
+
+abbrev pub AfterHeard : ℕ → ℕ → Type 0
+AfterHeard rounds later = (1 ≤ rounds → 1 ≤ later) × (rounds ≤ later + 1) × (13 ≤ rounds → 13 ≤ later)
+
 module _ (tic rounds later : ℕ) (mine mine_later its its_later : Side) where
   pub sent_stage : (start : ℕ) → Stage tic rounds mine its
       → mine_later.kept.pause ≡ mine.kept.pause → mine.kept.pause ≤ 10
       → (mine.kept.resend ≡ its.got → start ≡ its.got) → Taken tic start its its_later
-      → (2 ≤ rounds → rounds ≤ 12 → rounds ≤ later) → (13 ≤ rounds → 12 ≤ later)
+      → AfterSent rounds later
       → Stage tic later mine_later its_later
-  sent_stage start stage same low begins (inl has) c d = Has has
-  sent_stage start (Has h) same low begins (inr gap) c d =
-      Has (gap.3 h)
-  sent_stage start (Meets l e) same low begins (inr gap) c d =
+  sent_stage start stage same low begins (inl has) fit = Has has
+  sent_stage start (Has h) same low begins (inr gap) fit = Has (gap.3 h)
+  sent_stage start (Meets l e) same low begins (inr gap) fit =
       let k = gap.1 in let b = begins e in absurd (omega arith)
-  sent_stage start (Asks w l) same low begins (inr gap) c d =
+  sent_stage start (Asks w l) same low begins (inr gap) fit =
       Asks gap.2 (elim (cases_lt rounds 13) [
-        | inl s ↦ let x = c (omega arith) (omega arith) in
+        | inl s ↦ let x = fit.0 (omega arith) (omega arith) in
             omega arith
-        | inr m ↦ let x = d m in omega arith
+        | inr m ↦ let x = fit.1 m in omega arith
       ])
-  sent_stage start (Unknown l) same low begins (inr gap) c d =
-      let x = d l in Asks gap.2 (omega arith)
+  sent_stage start (Unknown l) same low begins (inr gap) fit = let x = fit.1 l in Asks gap.2 (omega arith)
 
   pub asked_stage : Stage tic rounds mine its
       → its_later.got ≡ its.got → its_later.kept.want ≡ its.kept.want → its_later.kept.end ≡ its.kept.end
       → Holds tic its ⊎ Asked its.got its.kept.want mine.kept mine_later.kept
-      → (1 ≤ rounds → 1 ≤ later) → (rounds ≤ later + 1) → (13 ≤ rounds → 13 ≤ later)
+      → AfterHeard rounds later
       → Stage tic later mine_later its_later
-  asked_stage stage g w e (inl has) a b c =
-      Has (holds_same tic its its_later g e has)
-  asked_stage (Has h) g w e (inr asked) a b c =
-      Has (holds_same tic its its_later g e h)
-  asked_stage (Unknown h) g w e (inr asked) a b c = Unknown (c h)
-  asked_stage (Meets l m) g w e (inr (inl met)) a b c =
-      Meets (a l) (met ∙ sym g)
-  asked_stage (Meets l m) g w e (inr (inr off)) a b c =
-      Meets (a l) (off.0 ∙ (m ∙ sym g))
-  asked_stage (Asks x l) g w e (inr (inl met)) a b c =
-      Meets (a (omega arith)) (met ∙ sym g)
-  asked_stage (Asks x l) g w e (inr (inr off)) a b c = let p =
-      off.2 x in let h = off.1 in Asks (w ∙ x) (omega arith)
+  asked_stage stage g w e (inl has) fit = Has (holds_same tic its its_later g e has)
+  asked_stage (Has h) g w e (inr asked) fit = Has (holds_same tic its its_later g e h)
+  asked_stage (Unknown h) g w e (inr asked) fit = Unknown (fit.2 h)
+  asked_stage (Meets l m) g w e (inr (inl met)) fit = Meets (fit.0 l) (met ∙ sym g)
+  asked_stage (Meets l m) g w e (inr (inr off)) fit = Meets (fit.0 l) (off.0 ∙ (m ∙ sym g))
+  asked_stage (Asks x l) g w e (inr (inl met)) fit = Meets (fit.0 (omega arith)) (met ∙ sym g)
+  asked_stage (Asks x l) g w e (inr (inr off)) fit =
+      let p = off.2 x in let h = off.1 in let n = fit.1 in Asks (w ∙ x) (omega arith)
 
 -- what another's request leaves of what is kept of it
 pub asks : (made : ℕ) (peer : Peer) (want : Bool) (tic : ℕ) → (want ≡ true → is_within made (Some tic) ≡ true)
