@@ -3,7 +3,7 @@ use Rattle.std.proofs.Common.{◌≡◌, ℕ, zero, suc, ◌<◌, ◌≤◌, Boo
 use Rattle.std.specs.List.{take_while, prefix_len}
 use Rattle.std.specs.Option.{option_map, is_none}
 use Rattle.std.proofs.lemmas.Bool.{cases_lt, lt-ltb, le-ltb, le-leb, lt-leb}
-use Rattle.std.proofs.lemmas.List.{get_or-take}
+use Rattle.std.proofs.lemmas.List.{get_or-take, get_or_past}
 use Rattle.std.proofs.lemmas.List.Sums.{take_while-cons, prefix_len_passes, prefix_len-le-length}
 use Rattle.std.proofs.lemmas.List.Folds.{length-prefix_len}
 use Rattle.dn_tic.specs.declared.command.TicCmd.{TicCmd}
@@ -90,30 +90,6 @@ seat_some true None h = refl
 seat_some true (Some c) h = refl
 seat_some false x h = absurd (cc)
 
--- a seat of one row is taken where that of another is
-seats_more : (players : ℕ) (f g : ℕ → Option TicCmd)
-    → ((p : ℕ) → p < players → is_none (f p) ≡ false → is_none (g p) ≡ false)
-    → (p : ℕ) → p < players → is_none (get_or (row_of players f) p None) ≡ false
-    → is_none (get_or (row_of players g) p None) ≡ false
-unfolding row_of
-seats_more players f g h zero l e = seat_some (ltb 0 players) (g 0) (lt-ltb 0 players l)
-    ∙ h 0 l (sym (seat_some (ltb 0 players) (f 0) (lt-ltb 0 players l)) ∙ e)
-seats_more players f g h (suc zero) l e = seat_some (ltb 1 players) (g 1) (lt-ltb 1 players l)
-    ∙ h 1 l (sym (seat_some (ltb 1 players) (f 1) (lt-ltb 1 players l)) ∙ e)
-seats_more players f g h (suc (suc zero)) l e = seat_some (ltb 2 players) (g 2) (lt-ltb 2 players l)
-    ∙ h 2 l (sym (seat_some (ltb 2 players) (f 2) (lt-ltb 2 players l)) ∙ e)
-seats_more players f g h (suc (suc (suc zero))) l e = seat_some (ltb 3 players) (g 3) (lt-ltb 3 players l)
-    ∙ h 3 l (sym (seat_some (ltb 3 players) (f 3) (lt-ltb 3 players l)) ∙ e)
-seats_more players f g h (suc (suc (suc (suc p)))) l e = e
-
-pub whole_more : (players : ℕ) (f g : ℕ → Option TicCmd)
-    → ((p : ℕ) → p < players → is_none (f p) ≡ false → is_none (g p) ≡ false)
-    → is_whole players (row_of players f) ≡ true → is_whole players (row_of players g) ≡ true
-whole_more players f g h e =
-    let each = lowest_none_each players (λ p. is_none (get_or (row_of players f) p None)) (none_is _ e) in
-    ap is_none (lowest_none players (λ p. is_none (get_or (row_of players g) p None))
-    (λ p l. seats_more players f g h p l (each p l)))
-
 -- a seat is empty where its player has no command
 pub seat_is : (players : ℕ) (f : ℕ → Option TicCmd) (p : ℕ) → p < players → p < 4
     → lacks (row_of players f) p ≡ is_none (f p)
@@ -124,6 +100,25 @@ seat_is players f (suc (suc zero)) l s = seat_some (ltb 2 players) (f 2) (lt-ltb
 seat_is players f (suc (suc (suc zero))) l s = seat_some (ltb 3 players) (f 3) (lt-ltb 3 players l)
 seat_is players f (suc (suc (suc (suc p)))) l s = absurd (omega arith)
 
+-- a taken seat is one of the four, and its player has a command
+seat_taken : (players : ℕ) (f : ℕ → Option TicCmd) (p : ℕ) → p < players
+    → lacks (row_of players f) p ≡ false → (p < 4) × (is_none (f p) ≡ false)
+unfolding row_of
+seat_taken players f p l e = elim (cases_lt p 4) [
+  | inl s ↦ (s, sym (seat_is players f p l s) ∙ e)
+  | inr past ↦ absurd (true≢false
+      (sym (ap is_none (get_or_past (row_of players f) p None past)) ∙ e))
+]
+
+pub whole_more : (players : ℕ) (f g : ℕ → Option TicCmd)
+    → ((p : ℕ) → p < players → is_none (f p) ≡ false → is_none (g p) ≡ false)
+    → is_whole players (row_of players f) ≡ true → is_whole players (row_of players g) ≡ true
+whole_more players f g h e =
+    let each = lowest_none_each players (λ p. is_none (get_or (row_of players f) p None)) (none_is _ e) in
+    ap is_none (lowest_none players (λ p. is_none (get_or (row_of players g) p None))
+    (λ p l. let taken = seat_taken players f p l (each p l) in
+    seat_is players g p l taken.0 ∙ h p l taken.1))
+
 pub if_made_is : (keys : List ℕ) (tic : ℕ) (command : TicCmd)
     → is_none (if_made keys tic command) ≡ leb (length keys) tic
 if_made_is keys tic command = elim (cases_lt tic (length keys)) [
@@ -133,22 +128,11 @@ if_made_is keys tic command = elim (cases_lt tic (length keys)) [
       ∙ sym (le-leb (length keys) tic past)
 ]
 
--- a taken seat has its player's command
-seat_taken : (players : ℕ) (f : ℕ → Option TicCmd) (p : ℕ) → p < players
-    → is_none (get_or (row_of players f) p None) ≡ false → is_none (f p) ≡ false
-unfolding row_of
-seat_taken players f zero l e = sym (seat_some (ltb 0 players) (f 0) (lt-ltb 0 players l)) ∙ e
-seat_taken players f (suc zero) l e = sym (seat_some (ltb 1 players) (f 1) (lt-ltb 1 players l)) ∙ e
-seat_taken players f (suc (suc zero)) l e = sym (seat_some (ltb 2 players) (f 2) (lt-ltb 2 players l)) ∙ e
-seat_taken players f (suc (suc (suc zero))) l e = sym (seat_some (ltb 3 players) (f 3) (lt-ltb 3 players l))
-    ∙ e
-seat_taken players f (suc (suc (suc (suc p)))) l e = absurd (true≢false e)
-
 pub whole_has : (players : ℕ) (f : ℕ → Option TicCmd) → is_whole players (row_of players f) ≡ true → (p : ℕ)
     → p < players → is_none (f p) ≡ false
 whole_has players f e p l =
-    seat_taken players f p l (lowest_none_each players (λ q. is_none (get_or (row_of players f) q None))
-    (none_is _ e) p l)
+    (seat_taken players f p l (lowest_none_each players (λ q. is_none (get_or (row_of players f) q None))
+    (none_is _ e) p l)).1
 
 absent_none : (b : Bool) (c : TicCmd) → is_none (cond b None (Some c)) ≡ b
 absent_none true c = refl

@@ -2,7 +2,7 @@
 use Rattle.std.specs.Prelude.{ℕ, ◌-◌, Bool, true, false, List, [], ◌∷◌, ◌++◌, ◌≡◌, ◌==◌, refl, pos, length, get_or, min, replicate, Option, Some, None, if◌then◌else◌, map, nat_lt, is_some, Ok, Err}
 use Rattle.std.specs.Option.{is_none}
 use Rattle.dn_machine.specs.declared.answers.Cause.{Cause}
-use Rattle.dn_machine.specs.declared.answers.Phase.TheVariants.{Playing, Ended}
+use Rattle.dn_machine.specs.declared.answers.Phase.TheVariants.{Ended}
 use Rattle.dn_machine.specs.declared.answers.Heard.{Heard}
 use Rattle.dn_machine.specs.declared.answers.Ran.{Ran}
 use Rattle.dn_machine.specs.declared.events.Done.{Done}
@@ -16,27 +16,8 @@ use Rattle.dn_machine.specs.Sending.{on_send}
 use Rattle.dn_machine.specs.Hearing.{on_packet}
 use Rattle.dn_machine.specs.Running.{full_at, row_held, on_run, on_quit}
 use Rattle.dn_machine.proofs.TwoPlayers.{settings, counting, answers}
+use Rattle.dn_machine.proofs.SingleNodes.{playing, packet}
 use Rattle.dn_tic.specs.Command.{used}
-
--- a node of player 0 that made some commands, ran some tics, and holds as many of each other player
-playing : ℕ → ℕ → Node
-playing made ran = record (fresh settings 0) {
-  phase = Playing;
-  played = true;
-  keys = replicate made 0;
-  held = λ p. replicate made blank;
-  rows = replicate ran [];
-}
-
-packet : ℕ → Option ℕ → ℕ → Flight
-packet start request count = record {
-  from = 1;
-  to = 0;
-  kind = Play;
-  start = start;
-  request = request;
-  commands = replicate count blank;
-}
 
 -- of several players that are waited for the lowest is answered
 lowest_awaited : (on_run counting (record (playing 3 0) { held = λ p. [] })).1 ≡ Ran.Waiting 0
@@ -239,7 +220,7 @@ unfolding three from_player packet on_packet
 gathers = refl
 
 -- quits, stops and events that are refused
-refusals : (answers (opening_game settings)
+refusals : (answers counting (opening_game settings)
     (Send 0 1 ∷ Stop 1 ∷ Send 1 0 ∷ Stop 1 ∷ Send 0 1 ∷ Deliver 0 ∷ Run 1 ∷ Run 2 ∷ Send 0
     2 ∷ Run 0 ∷ Quit 0 ∷ Quit 0 ∷ Send 0 1 ∷ [])).0
     ≡ Ok (Done.Sent 0) ∷ Ok Done.Stopped ∷ Err Refusal.Stopped ∷ Err Refusal.Stopped ∷ Ok (Done.Sent 1)

@@ -1,48 +1,30 @@
 -- What an exchange leaves in a game that goes on, where each node plays or has left.
-use Rattle.std.proofs.Common.{◌≡◌, ℕ, ◌+◌, ◌-◌, ◌<◌, ◌≤◌, ◌≢◌, Bool, true, false, true≢false, not, cond, ◌&&◌, ◌||◌, List, ◌++◌, length, drop, refl, sym, ◌∙◌, ap, subst, arith, Option, Some, None, inl, inr, ltb, leb, eqb}
+use Rattle.std.proofs.Common.{◌≡◌, ℕ, ◌+◌, ◌-◌, ◌<◌, ◌≤◌, ◌≢◌, Bool, true, false, true≢false, cond, List, ◌++◌, length, drop, refl, sym, ◌∙◌, ap, subst, arith, Some, None, inl, inr, ltb, leb}
 use Rattle.std.specs.Prelude.{◌⊎◌}
-use Rattle.std.proofs.lemmas.Bool.{cases_eq, cases_lt, cases_Bool, cond_both, cond-false, leb-true, leb-false, ltb-false, ltb-true, eqb-false, le-leb, le-ltb, and_parts, and_from, not-true, or_cases}
+use Rattle.std.proofs.lemmas.Bool.{cases_eq, cases_lt, cases_Bool, cond-false, le-leb, le-ltb, and_parts, and_from}
 use Rattle.std.proofs.lemmas.List.{length-append, length-drop}
 use Rattle.dn_tic.specs.declared.command.TicCmd.{TicCmd}
 use Rattle.dn_setup.specs.Settings.{Settings}
 use Rattle.dn_machine.specs.declared.answers.Phase.{Phase}
 use Rattle.dn_machine.specs.declared.answers.Phase.TheVariants.{Playing}
 use Rattle.dn_machine.specs.declared.answers.Heard.{Heard}
-use Rattle.dn_machine.specs.declared.events.Event.{Event}
 use Rattle.dn_machine.specs.declared.peer.Peer.{Peer}
 use Rattle.dn_machine.specs.declared.events.Event.TheVariants.{Send, Deliver}
 use Rattle.dn_machine.specs.Worlds.{Rules}
 use Rattle.dn_machine.specs.Flight.{Flight, end_of, is_exit, is_near}
-use Rattle.dn_machine.specs.Node.{Node, put, with_peer, ends_of, got, made, ran, is_ended, has_left}
+use Rattle.dn_machine.specs.Node.{Node, put, with_peer, ends_of, got, made, is_ended, has_left}
 use Rattle.dn_machine.specs.Sending.{commands_flight, after_sent, on_send}
-use Rattle.dn_machine.specs.Hearing.{is_within, after_request, is_past_end, is_strange_end, after_exit, after_flight, on_commands, on_ended, on_packet, on_packet_in}
+use Rattle.dn_machine.specs.Hearing.{is_strange_end, is_within, after_request, after_exit, on_commands, on_ended, on_packet, on_packet_in}
 use Rattle.dn_machine.specs.Game.{Game, with_node}
 use Rattle.dn_machine.proofs.Invariant.{HoldsAll, history_of}
 use Rattle.dn_machine.specs.Progress.{after, exchange}
-use Rattle.dn_machine.proofs.Put.{put_at, put_off, same_functions}
-use Rattle.dn_machine.proofs.Games.{applied_keeps}
-use Rattle.dn_machine.proofs.Growth.{IsPatient, applied_grows}
-use Rattle.dn_machine.proofs.Lists
-use Rattle.dn_machine.proofs.Pairs.{side, same_side, Holds, holds_same, Taken, Asked, IsAsked, asks, IsLive, accepted}
+use Rattle.dn_machine.proofs.Put.{put_at, put_off, view_kept}
+use Rattle.dn_machine.proofs.Peers.{no_strange_end}
+use Rattle.dn_machine.proofs.Calls.{commands_cases, sender_after}
+use Rattle.dn_machine.proofs.GoingOn.{IsOn, ran_after, live_after, on_alike}
+use Rattle.dn_machine.proofs.Stages.{side, same_side, Holds, Taken, Asked, asks}
 use Rattle.dn_machine.proofs.Pairs
-use Rattle.dn_machine.proofs.Roomy.{ended_cause, IsRoomy, roomy_after}
-
--- every demo is as good as full, as far as the nodes that stay go
-abbrev pub IsFar : {S : Type 0} → Rules S → ℕ → (ℕ → Bool) → Game → Type 0
-IsFar rules cap stay game = (q : ℕ) → q < rules.players → stay q ≡ true → cap ≤ ran (game.nodes q) + 5
-
--- those that stay have run this many tics
-abbrev pub StayRan : {S : Type 0} → Rules S → (ℕ → Bool) → Game → ℕ → Type 0
-StayRan rules stay game tics = (q : ℕ) → q < rules.players → stay q ≡ true → tics ≤ ran (game.nodes q)
-
--- a game that goes on, where those that stay play and have run `tic` tics, and the others have left
-pub record IsOn {S : Type 0} (rules : Rules S) (settings : Settings) (cap : ℕ) (stay : ℕ → Bool) (tic : ℕ)
-    (game : Game) : Type 0 where
-  pub live : IsLive rules settings game
-  pub plays : (q : ℕ) → q < rules.players → stay q ≡ true → (game.nodes q).phase ≡ Playing
-  pub left : (q : ℕ) → q < rules.players → stay q ≡ false → has_left (game.nodes q) ≡ true
-  pub ran : StayRan rules stay game tic
-  pub room : IsRoomy rules cap tic game
+use Rattle.dn_machine.proofs.Roomy.{ended_cause, roomy_after}
 
 -- what a node keeps of the others is as it was
 abbrev pub IsQuiet : Game → Game → Type 0
@@ -63,44 +45,12 @@ pub record IsExchanged (stay : ℕ → Bool) (tic start : ℕ) (i j : ℕ) (old 
       ((new.nodes j).peers i)
   pub phase : (r : ℕ) → (new.nodes r).phase ≡ (old.nodes r).phase
   pub played : (r : ℕ) → (new.nodes r).played ≡ (old.nodes r).played
-  pub stopped : new.stopped ≡ old.stopped
 
-pub far_after : {S : Type 0} (rules : Rules S) (cap : ℕ) (stay : ℕ → Bool) (event : Event) (game : Game)
-    → IsFar rules cap stay game → IsFar rules cap stay (after rules event game)
-far_after rules cap stay event game far q l s = let old = far q l s in
-    let more = (applied_grows rules game q event).rows in omega arith
-
-pub ran_after : {S : Type 0} (rules : Rules S) (stay : ℕ → Bool) (event : Event) (game : Game) (tic : ℕ)
-    → StayRan rules stay game tic → StayRan rules stay (after rules event game) tic
-ran_after rules stay event game tic far q l s = let old = far q l s in
-    let more = (applied_grows rules game q event).rows in omega arith
-
-pub patient_after : {S : Type 0} (rules : Rules S) (event : Event) (game : Game) → IsPatient game
-    → IsPatient (after rules event game)
-patient_after rules event game patient q s = (applied_grows rules game q event).pause s (patient q s)
-
--- where one demo is full, every demo is as good as full
-pub full_far : {S : Type 0} (rules : Rules S) (settings : Settings) (cap : ℕ) (stay : ℕ → Bool) (game : Game)
-    (live : IsLive rules settings game)
-    → ((q : ℕ) → q < rules.players → stay q ≡ true → is_ended (game.nodes q).phase ≡ false)
-    → (r : ℕ) → r < rules.players → cap ≤ ran (game.nodes r) → IsFar rules cap stay game
-full_far rules settings cap stay game live there r mine full q l s =
-    let a = Lists.ran_below rules settings (history_of game) game.flights live.kept.from_keys r q mine l
-    (Pairs.stays rules settings game live q (there q l s)) in
-    let b = live.kept.from_keys.ahead q l in
-    omega arith
-
--- what a packet that is not dropped leaves of what is kept of its sender
-record IsTold (exit want : Bool) (request end : ℕ) (old new : Peer) : Type 0 where
-  want_same : new.want ≡ old.want
-  asked : Asked request want old new
-  told : exit ≡ true → new.end ≡ Some end
-
-tells : (exit want : Bool) (request end : ℕ) (old mid : Peer) → IsAsked want request old mid
-    → IsTold exit want request end old (after_exit mid exit end)
-tells true want request end old mid a = record { want_same = a.want_same; asked = a.asked; told = λ e. refl }
-tells false want request end old mid a =
-    record { want_same = a.want_same; asked = a.asked; told = λ e. absurd (true≢false (sym e)) }
+-- an end that is told changes nothing that was asked
+still_asked : (exit want : Bool) (request end : ℕ) (old mid : Peer) → Asked request want old mid
+    → Asked request want old (after_exit mid exit end)
+still_asked true want request end old mid asked = asked
+still_asked false want request end old mid asked = asked
 
 -- what a receiver is left as
 record IsHeard (tic start request : ℕ) (want : Bool) (stays asks_too : Type 0) (i : ℕ)
@@ -193,30 +143,13 @@ module _ {S : Type 0} (rules : Rules S) (settings : Settings) (cap : ℕ) (stay 
     known e h = (on.live.kept.from_keys.ended j i e its mine h).1
         ∙ sym (on.live.kept.from_keys.counted i mine)
 
-    no_strange : (exit : Bool)
-        → ((exit && ltb (end_of flight) (got J i)) || is_past_end exit (ends_of J i) (end_of flight)) ≡ true
-        → ⊥
+    no_strange : (exit : Bool) → is_strange_end exit (got J i) (ends_of J i) (end_of flight) ≡ true → ⊥
     no_strange exit h =
         let f = Pairs.fits rules settings game on.live in
         let bound = f.held j i its mine in
         let tip = end in
-        elim (or_cases _ _ h) [
-          | inl before ↦ let low = ltb-true (end_of flight) (got J i)
-              (and_parts exit (ltb (end_of flight) (got J i)) before).1 in omega arith
-          | inr past ↦ past_known (ends_of J i) refl past
-        ]
-      where
-        past_known : (o : Option ℕ) → ends_of J i ≡ o → is_past_end exit o (end_of flight) ≡ true → ⊥
-        past_known None e p = true≢false (sym p)
-        past_known (Some k) e p =
-            let same = known k e in
-            let tip = end in
-            elim (or_cases (ltb k (end_of flight)) (exit && not (eqb (end_of flight) k)) p) [
-              | inl less ↦ let low = ltb-true k (end_of flight) less in omega arith
-              | inr differs ↦ eqb-false (end_of flight) k
-                  (not-true (eqb (end_of flight) k) (and_parts exit (not (eqb (end_of flight) k)) differs).1)
-                  (omega arith)
-            ]
+        no_strange_end exit (got J i) (ends_of J i) (end_of flight) (λ e. omega arith)
+        (λ k e. let same = known k e in (omega arith, λ x. omega arith)) h
 
     within : asks_it ≡ true → is_within (made j J) (Some (got I j)) ≡ true
     within w =
@@ -245,77 +178,71 @@ module _ {S : Type 0} (rules : Rules S) (settings : Settings) (cap : ℕ) (stay 
           asked = λ u. subst (λ (x : Peer). Asked (got I j) asks_it (J.peers i) x) (sym at) asked;
         }
 
+    exit_gone : (b : Bool) → is_exit (Pairs.kind_of rules settings game on.live b) ≡ b
+    exit_gone true = refl
+    exit_gone false = refl
+
+    -- the packet reaches past the tic, or tells that the sender has no command for it
+    reach : (tic < end_of flight) ⊎ ((is_exit flight.kind ≡ true) × (end_of flight ≤ tic))
+    reach =
+        let tip = end in
+        elim (cases_lt tic (end_of flight)) [
+          | inl l ↦ inl l
+          | inr m ↦ elim (cases_Bool gone) [
+            | inl left ↦ inr (exit_gone gone ∙ left, m)
+            | inr stays ↦ let b = built (here stays) in absurd (omega arith)
+          ]
+        ]
+
+    still_has : {n : ℕ} → tic < end_of flight → Holds tic (side J i) → n ≡ got J i → tic < n
+    still_has more (inl has) e = omega arith
+    still_has more (inr over) e =
+        let same = known over.0 over.1 in
+        let tip = end in
+        let low = over.2 in
+        absurd (omega arith)
+
     -- a playing node hears commands, and maybe an end
-    heard : (exit : Bool) → (exit ≡ gone) → stay j ≡ true → is_exit flight.kind ≡ exit
-        → Heard_so (on_commands j J flight).0
-    heard exit is_gone s kind_is =
+    heard : stay j ≡ true → Heard_so (on_commands j J flight).0
+    heard s =
         let f = Pairs.fits rules settings game on.live in
         let tip = end in
         let a = f.close i j mine its (in_play j its s) in
         let b = f.ahead j its in
         let mid : Peer = after_request (made j J) (J.peers i) flight.request in
-        let base : Peer = after_flight (made j J) (J.peers i) flight in
-        let t : IsTold (is_exit flight.kind) asks_it (got I j) (end_of flight) (J.peers i) base =
-        tells (is_exit flight.kind) asks_it (got I j) (end_of flight) (J.peers i) mid
+        let base : Peer = sender_after rules j J flight in
+        let asked : Asked (got I j) asks_it (J.peers i) base =
+        still_asked (is_exit flight.kind) asks_it (got I j) (end_of flight) (J.peers i) mid
         (asks (made j J) (J.peers i) asks_it (got I j) within) in
-        cond_both (ltb (ran J + 12) (end_of flight)) _ _ (λ (r : Node × Heard). Heard_so r.0)
-        (λ over. let x = ltb-true (ran J + 12) (end_of flight) over in absurd (omega arith))
-        (λ x. cond_both (is_strange_end (is_exit flight.kind) (got J i) (ends_of J i) (end_of flight)) _ _
-        (λ (r : Node × Heard). Heard_so r.0)
-        (λ strange. absurd (no_strange (is_exit flight.kind) strange))
-        (λ x. cond_both (leb (end_of flight) (got J i)) _ _ (λ (r : Node × Heard). Heard_so r.0)
-        (λ stale. let y = leb-true (end_of flight) (got J i) stale in
-        heard_as base J.held (λ s n. refl) t.asked (λ u. elim reach [
-          | inl more ↦ inl (inl (omega arith))
-          | inr done ↦ inl (inr (end_of flight, t.told (kind_is ∙ (is_gone ∙ done.0)), done.1))
-        ]))
-        (λ later. cond_both (ltb (got J i) flight.start) _ _ (λ (r : Node × Heard). Heard_so r.0)
-        (λ gap. let y = ltb-true (got J i) flight.start gap in
-        heard_as (record base { want = true }) J.held (λ s n. refl) t.asked (λ u. elim reach [
-          | inl more ↦ inr (refl, y, refl, λ holds. inl (still_has more holds refl))
-          | inr done ↦ inl (inr (end_of flight, t.told (kind_is ∙ (is_gone ∙ done.0)), done.1))
-        ]))
-        (λ joins.
-        let y = ltb-false (got J i) flight.start joins in
-        let z = leb-false (end_of flight) (got J i) later in
-        let new : List TicCmd = J.held i ++ drop (got J i - flight.start) flight.commands in
-        let c = length-append (J.held i) (drop (got J i - flight.start) flight.commands) in
-        let d = length-drop (got J i - flight.start) flight.commands in
-        let at = ap (length {A = TicCmd}) (put_at J.held i i new refl) in
-        heard_as (record base { want = false }) (put J.held i new)
-        (λ s n. ap (length {A = TicCmd}) (put_off J.held i s new n)) t.asked (λ u. elim reach [
-          | inl more ↦ inl (inl (omega arith))
-          | inr done ↦ inl (inr (end_of flight, t.told (kind_is ∙ (is_gone ∙ done.0)), done.1))
-        ])))))
-      where
-        reach : (tic < end_of flight) ⊎ ((gone ≡ true) × (end_of flight ≤ tic))
-        reach =
-            let tip = end in
-            elim (cases_lt tic (end_of flight)) [
-              | inl l ↦ inl l
-              | inr m ↦ elim (cases_Bool gone) [
-                | inl left ↦ inr (left, m)
-                | inr stays ↦ let b = built (here stays) in absurd (omega arith)
-              ]
-            ]
+        let told : is_exit flight.kind ≡ true → base.end ≡ Some (end_of flight) =
+        λ e. ap (λ (x : Bool). (after_exit mid x (end_of flight)).end) e in
+        commands_cases rules j J flight (λ (r : Node × Heard). Heard_so r.0) (record {
+          overrun = λ x. absurd (omega arith);
+          strange = λ strange. absurd (no_strange (is_exit flight.kind) strange);
+          stale = λ x. heard_as base J.held (λ s n. refl) asked (λ u. elim reach [
+            | inl more ↦ inl (inl (omega arith))
+            | inr done ↦ inl (inr (end_of flight, told done.0, done.1))
+          ]);
+          gap = λ x. heard_as (record base { want = true }) J.held (λ s n. refl) asked (λ u. elim reach [
+            | inl more ↦ inr (refl, x, refl, λ holds. inl (still_has more holds refl))
+            | inr done ↦ inl (inr (end_of flight, told done.0, done.1))
+          ]);
+          takes = λ x y.
+              let new : List TicCmd = J.held i ++ drop (got J i - flight.start) flight.commands in
+              let c = length-append (J.held i) (drop (got J i - flight.start) flight.commands) in
+              let d = length-drop (got J i - flight.start) flight.commands in
+              let at = ap (length {A = TicCmd}) (put_at J.held i i new refl) in
+              heard_as (record base { want = false }) (put J.held i new)
+              (λ s n. ap (length {A = TicCmd}) (put_off J.held i s new n)) asked (λ u. elim reach [
+                | inl more ↦ inl (inl (omega arith))
+                | inr done ↦ inl (inr (end_of flight, told done.0, done.1))
+              ]);
+        })
 
-        still_has : {n : ℕ} → tic < end_of flight → Holds tic (side J i) → n ≡ got J i → tic < n
-        still_has more (inl has) e = omega arith
-        still_has more (inr over) e = let same = known over.0 over.1 in let tip = end in let low = over.2 in
-            absurd (omega arith)
-
-    heard_kind : stay j ≡ true → Heard_so (on_commands j J flight).0
-    heard_kind s = heard (is_exit flight.kind) (exit_gone gone) s refl
-      where
-        exit_gone : (b : Bool) → is_exit (Pairs.kind_of rules settings game on.live b) ≡ b
-        exit_gone true = refl
-        exit_gone false = refl
-
-    receives : (phase : Phase) (b : Bool) → stay j ≡ true → J.phase ≡ Playing
-        → (on_packet_in rules j J flight Playing (Pairs.kind_of rules settings game on.live b)).0
-        ≡ (on_commands j J flight).0
-    receives phase true s e = refl
-    receives phase false s e = refl
+    receives : (b : Bool) → (on_packet_in rules j J flight Playing
+        (Pairs.kind_of rules settings game on.live b)).0 ≡ (on_commands j J flight).0
+    receives true = refl
+    receives false = refl
 
     -- one that has left hears the request
     left_hears : (b : Bool) → b ≡ gone → stay j ≡ false
@@ -329,14 +256,14 @@ module _ {S : Type 0} (rules : Rules S) (settings : Settings) (cap : ℕ) (stay 
     }
     left_hears false e s =
         heard_as (after_request (made j J) (J.peers i) flight.request) J.held (λ k n. refl)
-        (asks (made j J) (J.peers i) asks_it (got I j) within).asked (λ u. absurd (true≢false (sym u ∙ s)))
+        (asks (made j J) (J.peers i) asks_it (got I j) within) (λ u. absurd (true≢false (sym u ∙ s)))
 
     hears : Heard_so (on_packet rules j J flight).0
     unfolding on_packet
     hears = elim (cases_Bool (stay j)) [
       | inl s ↦ subst (λ (ph : Phase). Heard_so (on_packet_in rules j J flight ph flight.kind).0)
           (sym (on.plays j its s))
-          (subst (λ (n : Node). Heard_so n) (sym (receives Playing gone s (on.plays j its s))) (heard_kind s))
+          (subst (λ (n : Node). Heard_so n) (sym (receives gone)) (heard s))
       | inr s ↦
           let both = and_parts J.played (is_ended J.phase) (on.left j its s) in
           let cause = ended_cause J.phase both.1 in
@@ -350,6 +277,14 @@ module _ {S : Type 0} (rules : Rules S) (settings : Settings) (cap : ℕ) (stay 
 
     abbrev sent_game : Game
     sent_game = Pairs.sent rules settings game on.live i j mine its apart gone asks_it sends
+
+    -- a view in which both nodes are as they were
+    looks : {A : Type 0} (y : Node) (view : Node → A) → view new_i ≡ view I → view y ≡ view J → (r : ℕ)
+        → view (put (put game.nodes i new_i) j y r) ≡ view (game.nodes r)
+    looks y view mine_same its_same r =
+        let back : put game.nodes i new_i j ≡ J = put_off game.nodes i j new_i (λ e. apart (sym e)) in
+        ap (λ f. f r) (view_kept view (put game.nodes i new_i) j y (its_same ∙ ap view (sym back)))
+        ∙ ap (λ f. f r) (view_kept view game.nodes i new_i mine_same)
 
     -- the game after an exchange, with this receiver
     placed : (y : Node) → y.phase ≡ J.phase → y.played ≡ J.played → ((s : ℕ) → s ≢ i → side y s ≡ side J s)
@@ -392,34 +327,16 @@ module _ {S : Type 0} (rules : Rules S) (settings : Settings) (cap : ℕ) (stay 
               (y_taken u);
           asked = λ u. subst (λ (x : Node). Holds tic (side I j)
               ⊎ Asked (got I j) (I.peers j).want (J.peers i) (x.peers i)) (sym (at_j j refl)) (y_asked u);
-          phase = λ r. elim (cases_eq r j) [
-            | inl e ↦ ap (λ (x : Node). x.phase) (at_j r e)
-                ∙ (y_phase ∙ ap (λ (k : ℕ). (game.nodes k).phase) (sym e))
-            | inr d ↦ elim (cases_eq r i) [
-              | inl e ↦ ap (λ (x : Node). x.phase) (at_i r e) ∙ ap (λ (k : ℕ). (game.nodes k).phase) (sym e)
-              | inr c ↦ ap (λ (x : Node). x.phase) (off r c d)
-            ]
-          ];
-          played = λ r. elim (cases_eq r j) [
-            | inl e ↦ ap (λ (x : Node). x.played) (at_j r e)
-                ∙ (y_played ∙ ap (λ (k : ℕ). (game.nodes k).played) (sym e))
-            | inr d ↦ elim (cases_eq r i) [
-              | inl e ↦ ap (λ (x : Node). x.played) (at_i r e) ∙ ap (λ (k : ℕ). (game.nodes k).played) (sym e)
-              | inr c ↦ ap (λ (x : Node). x.played) (off r c d)
-            ]
-          ];
-          stopped = refl;
+          phase = λ r. looks y (λ (x : Node). x.phase) refl y_phase r;
+          played = λ r. looks y (λ (x : Node). x.played) refl y_played r;
         }
 
     -- where the packet is refused, nodes are as if it came to nothing
     same_game : sent_game ≡ with_node sent_game j J
-    same_game = ap (λ (n : ℕ → Node). record sent_game { nodes = n })
-        (same_functions (λ q. elim (cases_eq q j) [
-          | inl e ↦ ap (put game.nodes i new_i) e
-              ∙ (put_off game.nodes i j new_i (λ d. apart (sym d))
-              ∙ sym (put_at (put game.nodes i new_i) j q J e))
-          | inr n ↦ sym (put_off (put game.nodes i new_i) j q J n)
-        ]))
+    same_game =
+        let back : put game.nodes i new_i j ≡ J = put_off game.nodes i j new_i (λ e. apart (sym e)) in
+        ap (λ (n : ℕ → Node). record sent_game { nodes = n })
+        (sym (view_kept (λ (n : Node). n) (put game.nodes i new_i) j J (sym back)))
 
     pub exchanges_by : IsExchanged stay tic flight.start i j game (exchange rules i game j)
     exchanges_by = elim (cases_Bool (is_near (made j J) flight)) [
@@ -464,20 +381,8 @@ module _ {S : Type 0} (rules : Rules S) (settings : Settings) (cap : ℕ) (stay 
         let mid : Game = after rules (Send i j) game in
         let which : ℕ = length game.flights in
         let x = exchanges.1 in
-        record {
-          live = record {
-            kept = applied_keeps rules settings mid
-                (applied_keeps rules settings game on.live.kept (Send i j)) (Deliver which);
-            patient = patient_after rules (Deliver which) mid
-                (patient_after rules (Send i j) game on.live.patient);
-            running = λ q l. ap (λ (s : ℕ → Bool). s q) x.stopped ∙ on.live.running q l;
-          };
-          plays = λ q l s. x.phase q ∙ on.plays q l s;
-          left = λ q l s. ap (λ (b : Bool). b && is_ended ((exchange rules i game j).nodes q).phase)
-              (x.played q) ∙ (ap (λ (ph : Phase). (game.nodes q).played && is_ended ph) (x.phase q)
-              ∙ on.left q l s);
-          ran = ran_after rules stay (Deliver which) mid tic
-              (ran_after rules stay (Send i j) game tic on.ran);
-          room = roomy_after rules cap tic mid (Deliver which)
-              (roomy_after rules cap tic game (Send i j) on.room);
-        }
+        on_alike rules settings cap stay tic game (exchange rules i game j) on x.phase x.played
+        (live_after rules settings (Deliver which) mid refl
+        (live_after rules settings (Send i j) game refl on.live))
+        (ran_after rules stay (Deliver which) mid tic (ran_after rules stay (Send i j) game tic on.ran))
+        (roomy_after rules cap tic mid (Deliver which) (roomy_after rules cap tic game (Send i j) on.room))

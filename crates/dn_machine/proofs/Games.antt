@@ -1,5 +1,5 @@
 -- The game as it opens has what every event keeps, each event keeps it, and so does every list of events.
-use Rattle.std.proofs.Common.{◌≡◌, ℕ, ◌<◌, ◌≢◌, Bool, true, false, not, cond, ◌&&◌, List, [], ◌∷◌, ◌++◌, refl, sym, subst, arith, Option, Some, None, inl, inr, ltb, eqb, ℤ}
+use Rattle.std.proofs.Common.{◌≡◌, ℕ, ◌<◌, ◌≢◌, Bool, true, false, not, cond, ◌&&◌, List, [], ◌∷◌, ◌++◌, refl, subst, arith, Option, Some, None, inl, ltb, eqb, ℤ}
 use Rattle.std.specs.Prelude.{slice_get}
 use Rattle.std.proofs.lemmas.Bool.{ltb-true, and_parts}
 use Rattle.std.proofs.lemmas.Option.{none-some}
@@ -13,7 +13,11 @@ use Rattle.dn_machine.specs.Worlds.{Rules}
 use Rattle.dn_machine.specs.Flight.{Flight}
 use Rattle.dn_machine.specs.Game.{Game, opening_game, refused_at, refused, delivered, on_event, applied_if, applied}
 use Rattle.dn_machine.proofs.Invariant.{IsKept}
-use Rattle.dn_machine.proofs.Steps
+use Rattle.dn_machine.proofs.BuildKeeps.{builds}
+use Rattle.dn_machine.proofs.SendKeeps.{sends}
+use Rattle.dn_machine.proofs.HearKeeps.{hears}
+use Rattle.dn_machine.proofs.RunKeeps.{runs, quits}
+use Rattle.dn_machine.proofs.EachEvent.{leads_keep}
 use Rattle.dn_machine.specs.Runs.{Next, Leads, Runs}
 
 -- the phases and the settings of the nodes as a game opens
@@ -66,19 +70,19 @@ module _ {S : Type 0} (rules : Rules S) (settings : Settings) where
     delivers None which h = kept
     delivers (Some flight) which h =
         let piece = kept.from_keys.pieces which flight h in
-        Steps.hears rules settings game kept flight.to piece.receiver flight piece refl
+        hears rules settings game kept flight.to piece.receiver flight piece refl
 
     pub happens_keeps : (event : Event) → refused rules.players game event ≡ None
         → IsKept rules settings (on_event rules game event).0
-    happens_keeps (Build node keys) h = Steps.builds rules settings game kept node (named node h) keys
+    happens_keeps (Build node keys) h = builds rules settings game kept node (named node h) keys
     happens_keeps (Send node to) h =
         let both = and_parts (ltb node rules.players) (ltb to rules.players)
         (passes (ltb node rules.players && ltb to rules.players) _ _ h) in
-        Steps.sends rules settings game kept node (ltb-true node rules.players both.0) to
+        sends rules settings game kept node (ltb-true node rules.players both.0) to
         (ltb-true to rules.players both.1)
     happens_keeps (Deliver which) h = delivers (slice_get game.flights which) which refl
-    happens_keeps (Run node) h = Steps.runs rules settings game kept node (named node h)
-    happens_keeps (Quit node) h = Steps.quits rules settings game kept node (named node h)
+    happens_keeps (Run node) h = runs rules settings game kept node (named node h)
+    happens_keeps (Quit node) h = quits rules settings game kept node (named node h)
     happens_keeps (Stop node) h = record { from_keys = kept.from_keys; sound = kept.sound }
 
     pub applied_keeps : (event : Event) → IsKept rules settings (applied rules game event).0
@@ -90,17 +94,10 @@ module _ {S : Type 0} (rules : Rules S) (settings : Settings) where
         go (Some refusal) h = kept
         go None h = happens_keeps event h
 
-  pub next_keeps : (game next : Game) (event : Event) → IsKept rules settings game
-      → Next rules game event next → IsKept rules settings next
-  next_keeps game next event kept (inl same) =
-      subst (λ (g : Game). IsKept rules settings g) (sym same) (applied_keeps game kept event)
-  next_keeps game next event kept (inr left) = subst (λ (g : Game). IsKept rules settings g) (sym left.1) kept
-
   pub leads_keeps : (events : List Event) (game last : Game) → IsKept rules settings game
       → Leads rules game events last → IsKept rules settings last
-  leads_keeps [] game last kept same = subst (λ (g : Game). IsKept rules settings g) (sym same) kept
-  leads_keeps (event ∷ events) game last kept way =
-      leads_keeps events way.0 last (next_keeps game way.0 event kept way.1) way.2
+  leads_keeps = leads_keep rules (λ (game : Game). IsKept rules settings game)
+      (λ game event kept. applied_keeps game kept event)
 
   -- what every event keeps holds after every list of events
   pub always : (events : List Event) (game : Game) → Runs rules settings events game

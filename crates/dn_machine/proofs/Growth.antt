@@ -1,31 +1,25 @@
 -- What no event takes back: the rows that a node ran, that it has played, and that it pauses for no more than
 -- ten packets.
-use Rattle.std.proofs.Common.{◌≡◌, ℕ, ◌+◌, ◌-◌, ◌≤◌, Bool, true, false, ◌&&◌, List, [], ◌∷◌, length, refl, sym, ap, subst, arith, Option, Some, None, inl, inr, ltb, leb, eqb}
-use Rattle.std.specs.Prelude.{slice_get}
+use Rattle.std.proofs.Common.{◌≡◌, ℕ, ◌≤◌, Bool, true, false, ◌&&◌, List, length, refl, ap, subst, arith, Option, inl, inr, eqb}
 use Rattle.std.proofs.lemmas.Bool.{cases_eq, cond_both}
 use Rattle.std.proofs.lemmas.List.{length_push}
 use Rattle.dn_tic.specs.declared.command.TicCmd.{TicCmd}
 use Rattle.dn_setup.specs.Settings.{Settings}
-use Rattle.dn_setup.specs.Gathered.{all_noted}
-use Rattle.dn_machine.specs.declared.answers.Phase.{Phase}
-use Rattle.dn_machine.specs.declared.answers.Phase.TheVariants.{Listening, Gathering, Playing, Ended}
-use Rattle.dn_machine.specs.declared.answers.Made.{Made}
 use Rattle.dn_machine.specs.declared.answers.Heard.{Heard}
-use Rattle.dn_machine.specs.declared.answers.Ran.{Ran}
 use Rattle.dn_machine.specs.declared.events.Event.{Event}
-use Rattle.dn_machine.specs.declared.events.Event.TheVariants.{Build, Send, Deliver, Run, Quit, Stop}
-use Rattle.dn_machine.specs.declared.events.Refusal.{Refusal}
 use Rattle.dn_machine.specs.declared.peer.Peer.{Peer}
 use Rattle.dn_machine.specs.Worlds.{Rules}
-use Rattle.dn_machine.specs.Flight.{Kind, SetUp, Play, Exit, Flight, is_exit, end_of}
-use Rattle.dn_machine.specs.Node.{Node, put, with_peer, ends_of, got, made, ran, lowest}
-use Rattle.dn_machine.specs.Building.{on_build, on_build_in}
-use Rattle.dn_machine.specs.Sending.{after_sent, on_send, on_send_in}
-use Rattle.dn_machine.specs.Hearing.{on_gathering, is_within, after_request, is_strange_end, after_exit, after_flight, on_commands, on_ended, on_packet, on_packet_in}
-use Rattle.dn_machine.specs.Running.{is_awaited, first_off, row_held, full_at, on_run_playing, on_run_in, on_run, on_quit, on_quit_in}
-use Rattle.dn_machine.specs.Game.{Game, opening_game, posted, refused, delivered, on_event, applied_if, applied}
-use Rattle.dn_machine.specs.Runs.{Next, Leads, Runs}
+use Rattle.dn_machine.specs.Flight.{Flight, is_exit, end_of}
+use Rattle.dn_machine.specs.Node.{Node, put, with_peer, made}
+use Rattle.dn_machine.specs.Building.{on_build}
+use Rattle.dn_machine.specs.Sending.{after_sent, on_send}
+use Rattle.dn_machine.specs.Hearing.{is_within, after_request, after_exit, on_packet}
+use Rattle.dn_machine.specs.Running.{row_held, on_run, on_quit}
+use Rattle.dn_machine.specs.Game.{Game, opening_game, applied}
+use Rattle.dn_machine.specs.Runs.{Runs}
 use Rattle.dn_machine.proofs.Put.{put_at, put_off}
+use Rattle.dn_machine.proofs.Calls.{build_cases, send_cases, run_cases, quit_cases, packet_cases, sender_after}
+use Rattle.dn_machine.proofs.EachEvent.{placed, after_event, leads_keep}
 
 pub record Grows (old new : Node) : Type 0 where
   pub rows : length old.rows ≤ length new.rows
@@ -53,60 +47,28 @@ module _ {S : Type 0} (rules : Rules S) (i : ℕ) (node : Node) where
   }
 
   pub build_grows : (state : ℕ) → Grows node (on_build rules i node state).0
-  unfolding on_build
-  build_grows state = go node.phase
-    where
-      go : (phase : Phase) → Grows node (on_build_in rules i node state phase).0
-      go Listening = grows_same node
-      go Gathering = grows_same node
-      go (Ended cause) = grows_same node
-      go Playing = cond_both (leb 5 (made i node - ran node)) _ _ (λ (r : Node × Made). Grows node r.0)
-          (λ full. grows_same node)
-          (λ free. record { rows = omega arith; pause = λ peer h. h; played = λ h. h })
+  build_grows state = build_cases rules i node (λ (new : Node). Grows node new) state
+      (λ full. grows_same node)
+      (λ plays free. record { rows = omega arith; pause = λ peer h. h; played = λ h. h })
 
   pub send_grows : (to : ℕ) → Grows node (on_send rules i node to).0
-  unfolding on_send
-  send_grows to = cond_both (eqb i to) _ _ (λ (r : Node × Option Flight). Grows node r.0)
-      (λ own. grows_same node) (λ other. go node.phase)
+  send_grows to = send_cases rules i node (λ (r : Node × Option Flight). Grows node r.0) to
+      (grows_same node) (λ other e. grows_same node) (λ other e. sent) (λ other left. sent)
     where
       sent : Grows node (after_sent rules i node to)
       sent = peer_grows to _ node.held (λ h. h)
 
-      go : (phase : Phase) → Grows node (on_send_in rules i node to phase).0
-      go Listening = grows_same node
-      go Gathering = grows_same node
-      go Playing = sent
-      go (Ended cause) = cond_both node.played _ _ (λ (r : Node × Option Flight). Grows node r.0)
-          (λ gives. sent) (λ never. grows_same node)
-
   pub run_grows : Grows node (on_run rules node).0
-  unfolding on_run
-  run_grows = go node.phase
-    where
-      run : (a b : Option ℕ) → Grows node (on_run_playing rules node a b).0
-      run (Some awaited) b = grows_same node
-      run None (Some off) = record { rows = omega arith; pause = λ peer h. h; played = λ h. h }
-      run None None = cond_both (eqb (ran node) (full_at rules (row_held rules node))) _ _
-          (λ (r : Node × Ran). Grows node r.0)
-          (λ full. record { rows = omega arith; pause = λ peer h. h; played = λ h. h })
-          (λ free. let count = length_push node.rows (row_held rules node) in
-          record { rows = omega arith; pause = λ peer h. h; played = λ h. h })
-
-      go : (phase : Phase) → Grows node (on_run_in rules node phase).0
-      go Listening = grows_same node
-      go Gathering = grows_same node
-      go (Ended cause) = grows_same node
-      go Playing = run (lowest rules.players (is_awaited node)) (first_off rules node)
+  run_grows = run_cases rules i node (λ (new : Node). Grows node new)
+      (λ waits. grows_same node)
+      (λ player plays none off. record { rows = omega arith; pause = λ peer h. h; played = λ h. h })
+      (λ plays none full. record { rows = omega arith; pause = λ peer h. h; played = λ h. h })
+      (λ plays none free. let count = length_push node.rows (row_held rules node) in
+      record { rows = omega arith; pause = λ peer h. h; played = λ h. h })
 
   pub quit_grows : Grows node (on_quit node).0
-  unfolding on_quit
-  quit_grows = go node.phase
-    where
-      go : (phase : Phase) → Grows node (on_quit_in node phase).0
-      go (Ended cause) = grows_same node
-      go Listening = record { rows = omega arith; pause = λ peer h. h; played = λ h. h }
-      go Gathering = record { rows = omega arith; pause = λ peer h. h; played = λ h. h }
-      go Playing = record { rows = omega arith; pause = λ peer h. h; played = λ h. h }
+  quit_grows = quit_cases rules i node (λ (new : Node). Grows node new) (grows_same node)
+      (λ goes_on. record { rows = omega arith; pause = λ peer h. h; played = λ h. h })
 
   request_low : (peer : Peer) (request : Option ℕ) → peer.pause ≤ 10
       → (after_request (made i node) peer request).pause ≤ 10
@@ -117,106 +79,45 @@ module _ {S : Type 0} (rules : Rules S) (i : ℕ) (node : Node) where
   exit_low peer true end low = low
   exit_low peer false end low = low
 
-  commands_grows : (flight : Flight) → Grows node (on_commands i node flight).0
-  commands_grows flight =
-      let peer : Peer = after_flight (made i node) (node.peers flight.from) flight in
-      let low : (node.peers flight.from).pause ≤ 10 → peer.pause ≤ 10 =
+  pub hear_grows : (flight : Flight) → Grows node (on_packet rules i node flight).0
+  hear_grows flight =
+      let low : (node.peers flight.from).pause ≤ 10 → (sender_after rules i node flight).pause ≤ 10 =
       λ h. exit_low _ (is_exit flight.kind) (end_of flight)
       (request_low (node.peers flight.from) flight.request h) in
-      cond_both (ltb (ran node + 12) (end_of flight)) _ _ (λ (r : Node × Heard). Grows node r.0)
-      (λ a. grows_same node)
-      (λ a. cond_both (is_strange_end (is_exit flight.kind) (got node flight.from) (ends_of node flight.from)
-      (end_of flight)) _ _ (λ (r : Node × Heard). Grows node r.0)
-      (λ b. grows_same node)
-      (λ b. cond_both (leb (end_of flight) (got node flight.from)) _ _ (λ (r : Node × Heard). Grows node r.0)
-      (λ c. peer_grows flight.from peer node.held low)
-      (λ c. cond_both (ltb (got node flight.from) flight.start) _ _ (λ (r : Node × Heard). Grows node r.0)
-      (λ d. peer_grows flight.from (record peer { want = true }) node.held low)
-      (λ d. peer_grows flight.from (record peer { want = false }) _ low))))
-
-  gathering_grows : (player : ℕ) → Grows node (on_gathering rules node player).0
-  gathering_grows player = cond_both (all_noted rules.players (put node.noted player true)) _ _
-      (λ (r : Node × Heard). Grows node r.0)
-      (λ all. record { rows = omega arith; pause = λ peer h. h; played = λ h. refl })
-      (λ some. record { rows = omega arith; pause = λ peer h. h; played = λ h. h })
-
-  pub hear_grows : (flight : Flight) → Grows node (on_packet rules i node flight).0
-  unfolding on_packet
-  hear_grows flight = go node.phase flight.kind
-    where
-      ended : (played : Bool) (kind : Kind) → Grows node (on_ended played i node flight kind).0
-      ended false kind = grows_same node
-      ended true (SetUp s) = grows_same node
-      ended true Exit = grows_same node
-      ended true Play = peer_grows flight.from _ node.held
-          (request_low (node.peers flight.from) flight.request)
-
-      go : (phase : Phase) (kind : Kind) → Grows node (on_packet_in rules i node flight phase kind).0
-      go (Ended cause) kind = ended node.played kind
-      go Listening (SetUp s) = record { rows = omega arith; pause = λ peer h. h; played = λ h. refl }
-      go Gathering (SetUp s) = grows_same node
-      go Playing (SetUp s) = grows_same node
-      go Listening Play = grows_same node
-      go Listening Exit = grows_same node
-      go Gathering Play = gathering_grows flight.from
-      go Gathering Exit = gathering_grows flight.from
-      go Playing Exit = commands_grows flight
-      go Playing Play = commands_grows flight
+      packet_cases rules i node flight (λ (r : Node × Heard). Grows node r.0) (record {
+        dropped = λ number why. grows_same node;
+        starts = λ s e k. record { rows = omega arith; pause = λ peer h. h; played = λ h. refl };
+        completes = λ word e all. record { rows = omega arith; pause = λ peer h. h; played = λ h. refl };
+        notes = λ word e some. record { rows = omega arith; pause = λ peer h. h; played = λ h. h };
+        commands = λ plays. record {
+          overrun = λ l. grows_same node;
+          strange = λ h. grows_same node;
+          stale = λ l. peer_grows flight.from _ node.held low;
+          gap = λ l. peer_grows flight.from _ node.held low;
+          takes = λ l m. peer_grows flight.from _ _ low;
+        };
+        requests = λ ended. peer_grows flight.from _ node.held
+            (request_low (node.peers flight.from) flight.request);
+      })
 
 module _ {S : Type 0} (rules : Rules S) (game : Game) (q : ℕ) where
   pub placed_grows : (i : ℕ) (new : Node) → Grows (game.nodes i) new
       → Grows (game.nodes q) (put game.nodes i new q)
-  placed_grows i new grows = elim (cases_eq q i) [
-    | inl e ↦ subst (λ (n : Node). Grows (game.nodes q) n) (sym (put_at game.nodes i q new e))
-        (subst (λ (r : ℕ). Grows (game.nodes r) new) (sym e) grows)
-    | inr n ↦ subst (λ (m : Node). Grows (game.nodes q) m) (sym (put_off game.nodes i q new n))
-        (grows_same (game.nodes q))
-  ]
-
-  posted_grows : (base : Game) (o : Option Flight) → Grows (game.nodes q) (base.nodes q)
-      → Grows (game.nodes q) ((posted base o).0.nodes q)
-  posted_grows base None grows = grows
-  posted_grows base (Some flight) grows = grows
-
-  delivered_grows : (o : Option Flight) → Grows (game.nodes q) ((delivered rules game o).0.nodes q)
-  delivered_grows None = grows_same (game.nodes q)
-  delivered_grows (Some flight) =
-      placed_grows flight.to _ (hear_grows rules flight.to (game.nodes flight.to) flight)
-
-  happens_grows : (event : Event) → Grows (game.nodes q) ((on_event rules game event).0.nodes q)
-  happens_grows (Build node keys) = placed_grows node _ (build_grows rules node (game.nodes node) keys)
-  happens_grows (Send node to) = posted_grows _ (on_send rules node (game.nodes node) to).1
-      (placed_grows node _ (send_grows rules node (game.nodes node) to))
-  happens_grows (Deliver which) = delivered_grows (slice_get game.flights which)
-  happens_grows (Run node) = placed_grows node _ (run_grows rules node (game.nodes node))
-  happens_grows (Quit node) = placed_grows node _ (quit_grows rules node (game.nodes node))
-  happens_grows (Stop node) = grows_same (game.nodes q)
+  placed_grows i new grows = placed rules (λ (old new : Node). Grows old new) grows_same game q i new grows
 
   pub applied_grows : (event : Event) → Grows (game.nodes q) ((applied rules game event).0.nodes q)
-  unfolding applied
-  applied_grows event = go (refused rules.players game event)
-    where
-      go : (o : Option Refusal) → Grows (game.nodes q) ((applied_if rules game event o).0.nodes q)
-      go (Some refusal) = grows_same (game.nodes q)
-      go None = happens_grows event
+  applied_grows event = after_event rules (λ (old new : Node). Grows old new) grows_same game q
+      (λ i state node. build_grows rules i node state) (λ i to node. send_grows rules i node to)
+      (λ i flight node. hear_grows rules i node flight) (λ node. run_grows rules 0 node)
+      (λ node. quit_grows rules 0 node) event
 
 -- no node holds off more than ten packets
 abbrev pub IsPatient : Game → Type 0
 IsPatient game = (q peer : ℕ) → ((game.nodes q).peers peer).pause ≤ 10
 
-module _ {S : Type 0} (rules : Rules S) (settings : Settings) where
-  leads_patient : (events : List Event) (game last : Game) → IsPatient game → Leads rules game events last
-      → IsPatient last
-  leads_patient [] game last patient same = subst IsPatient (sym same) patient
-  leads_patient (event ∷ events) game last patient way =
-      leads_patient events way.0 last (next way.0 way.1) way.2
-    where
-      next : (mid : Game) → Next rules game event mid → IsPatient mid
-      next mid (inl same) = subst IsPatient (sym same)
-          (λ q peer. (applied_grows rules game q event).pause peer (patient q peer))
-      next mid (inr left) = subst IsPatient (sym left.1) patient
-
-  pub always_patient : (events : List Event) (game : Game) → Runs rules settings events game → IsPatient game
-  unfolding opening_game
-  always_patient events game run = leads_patient events (opening_game settings) game (λ q peer. omega arith)
-      run
+pub always_patient : {S : Type 0} (rules : Rules S) (settings : Settings) (events : List Event) (game : Game)
+    → Runs rules settings events game → IsPatient game
+unfolding opening_game
+always_patient rules settings events game run = leads_keep rules IsPatient
+    (λ now event patient q peer. (applied_grows rules now q event).pause peer (patient q peer))
+    events (opening_game settings) game (λ q peer. omega arith) run

@@ -1,7 +1,8 @@
 -- Good rounds are lists of events.
-use Rattle.std.proofs.Common.{◌≡◌, ℕ, zero, suc, Bool, true, List, [], ◌∷◌, ◌++◌, length, refl, subst, inl}
+use Rattle.std.proofs.Common.{◌≡◌, ℕ, zero, suc, Bool, true, List, [], ◌∷◌, ◌++◌, length, refl, ◌∙◌, subst, inl}
 use Rattle.std.specs.List.{list_all}
-use Rattle.std.proofs.lemmas.Bool.{and_from, and_parts}
+use Rattle.std.proofs.lemmas.Bool.{and_from}
+use Rattle.std.proofs.lemmas.List.Folds.{list_all-append}
 use Rattle.dn_machine.specs.declared.events.Event.{Event}
 use Rattle.dn_machine.specs.declared.events.Event.TheVariants.{Build, Send, Deliver, Run}
 use Rattle.dn_machine.specs.Worlds.{Rules}
@@ -12,9 +13,7 @@ use Rattle.dn_machine.specs.Progress.{after, in_order, is_of_round, exchange, tu
 -- what holds of each of two lists holds of each of both
 pub all_more : {A : Type 0} (test : A → Bool) (xs ys : List A) → list_all test xs ≡ true
     → list_all test ys ≡ true → list_all test (xs ++ ys) ≡ true
-all_more test [] ys one other = other
-all_more test (x ∷ xs) ys one other = let parts = and_parts (test x) (list_all test xs) one in
-    and_from _ _ parts.0 (all_more test xs ys parts.1 other)
+all_more test xs ys one other = list_all-append test xs ys ∙ and_from _ _ one other
 
 module _ {S : Type 0} (rules : Rules S) where
   -- some events that rounds are made of lead from a game to another

@@ -1,5 +1,5 @@
 -- A game of three players who press no key, where one leaves, worked out event by event.
-use Rattle.std.specs.Prelude.{ℕ, ◌-◌, Bool, true, false, List, [], ◌∷◌, ◌++◌, ◌≡◌, refl, length, get_or, replicate, Option, Some, if◌then◌else◌, map, ◌==◌, is_some, Result, Ok, Err}
+use Rattle.std.specs.Prelude.{ℕ, ◌-◌, Bool, true, false, List, [], ◌∷◌, ◌++◌, ◌≡◌, refl, length, get_or, replicate, Option, Some, if◌then◌else◌, map, ◌==◌, is_some, Ok, Err}
 use Rattle.dn_machine.specs.declared.answers.Phase.TheVariants.{Playing}
 use Rattle.dn_machine.specs.declared.answers.Heard.TheVariants as Heard
 use Rattle.dn_machine.specs.declared.answers.Ran.TheVariants as Ran
@@ -20,7 +20,7 @@ use Rattle.std.specs.Int.{int_wrap}
 use Rattle.dn_world.specs.Plane.{Spots, walking}
 use Rattle.dn_tic.specs.Pressed.{pressed}
 use Rattle.dn_tic.specs.Command.{used}
-use Rattle.dn_machine.proofs.TwoPlayers.{settings, answers}
+use Rattle.dn_machine.proofs.TwoPlayers.{counting, settings, answers}
 
 rules : Rules Spots
 rules = record { physics = walking; players = 3; extra = false; capacity = 8738 }
@@ -41,13 +41,6 @@ before me = record (fresh settings me) {
 start : Game
 start = record { nodes = before; stopped = λ node. false; flights = [] }
 
-follows : Game → List Event → List (Result Done Refusal) × Game
-follows game [] = ([], game)
-follows game (event ∷ events) =
-    let after = applied rules game event in
-    let rest = follows after.0 events in
-    (after.1 ∷ rest.0, rest.1)
-
 -- node 2 quits and gives two packets to each peer; node 0 hears the first, and node 1 only the second
 told : List Event
 told = Quit 2 ∷ Send 2 0 ∷ Send 2 1 ∷ Send 2 0 ∷ Send 2 1 ∷ Deliver 0 ∷ Deliver 3 ∷ []
@@ -60,19 +53,19 @@ shape flight = (flight.start, length flight.commands, is_exit flight.kind)
 knows : Game → ℕ → ℕ × Option ℕ
 knows game me = (got (game.nodes me) 2, known_end me (game.nodes me) 2)
 
-told_so : (follows start told).0 ≡ Ok (Done.Quit true) ∷ Ok (Done.Sent 0) ∷ Ok (Done.Sent 1)
+told_so : (answers rules start told).0 ≡ Ok (Done.Quit true) ∷ Ok (Done.Sent 0) ∷ Ok (Done.Sent 1)
     ∷ Ok (Done.Sent 2) ∷ Ok (Done.Sent 3) ∷ Ok (Done.Heard Heard.Left) ∷ Ok (Done.Heard Heard.Gap) ∷ []
-unfolding follows start before told rules applied on_send on_packet on_quit row_of used
+unfolding answers start before told rules applied on_send on_packet on_quit row_of used
 told_so = refl
 
-packets_so : map shape (follows start told).1.flights
+packets_so : map shape (answers rules start told).1.flights
     ≡ (33, 2, true) ∷ (33, 2, true) ∷ (35, 0, true) ∷ (35, 0, true) ∷ []
-unfolding follows start before told rules applied on_send on_packet on_quit row_of used shape
+unfolding answers start before told rules applied on_send on_packet on_quit row_of used shape
 packets_so = refl
 
-knows_so : map (knows (follows start told).1) (0 ∷ 1 ∷ 2 ∷ [])
+knows_so : map (knows (answers rules start told).1) (0 ∷ 1 ∷ 2 ∷ [])
     ≡ (35, Some 35) ∷ (33, Some 35) ∷ (35, Some 35) ∷ []
-unfolding follows start before told rules applied on_send on_packet on_quit row_of used knows
+unfolding answers start before told rules applied on_send on_packet on_quit row_of used knows
 knows_so = refl
 
 -- node 1 runs up to tic 32, asks for 33 and is answered; both go on past the end, with a command each for tic
@@ -80,11 +73,11 @@ knows_so = refl
 goes_on : List Event
 goes_on = told ++ (Run 1 ∷ Run 1 ∷ Run 1 ∷ Run 1 ∷ Send 1 2 ∷ Deliver 4 ∷ Send 2 1 ∷ Deliver 5 ∷ [])
 
-goes_on_so : (follows start goes_on).0 ≡ (follows start told).0
+goes_on_so : (answers rules start goes_on).0 ≡ (answers rules start told).0
     ++ (Ok (Done.Ran (Ran.Ran 30)) ∷ Ok (Done.Ran (Ran.Ran 31)) ∷ Ok (Done.Ran (Ran.Ran 32))
     ∷ Ok (Done.Ran (Ran.Waiting 2)) ∷ Ok (Done.Sent 4) ∷ Ok (Done.Heard Heard.Noted) ∷ Ok (Done.Sent 5)
     ∷ Ok (Done.Heard Heard.Left) ∷ [])
-unfolding follows start before told goes_on rules applied on_send on_packet on_quit on_run row_of used lowest
+unfolding answers start before told goes_on rules applied on_send on_packet on_quit on_run row_of used lowest
     world_after int_wrap
 goes_on_so = refl
 
@@ -102,35 +95,36 @@ demo_of game me = (
   map is_some (get_or (game.nodes me).rows (ran (game.nodes me) - 1) []),
 )
 
-goes_past_so : (follows start goes_past).0 ≡ (follows start goes_on).0
+goes_past_so : (answers rules start goes_past).0 ≡ (answers rules start goes_on).0
     ++ (Ok (Done.Ran (Ran.Ran 33)) ∷ Ok (Done.Ran (Ran.Ran 34)) ∷ Ok (Done.Ran (Ran.Ran 30))
     ∷ Ok (Done.Ran (Ran.Ran 31)) ∷ Ok (Done.Ran (Ran.Ran 32)) ∷ Ok (Done.Ran (Ran.Ran 33))
     ∷ Ok (Done.Ran (Ran.Ran 34)) ∷ Ok (Done.Ran (Ran.Waiting 0)) ∷ Ok (Done.Built (Made.Made 35))
     ∷ Ok (Done.Built (Made.Made 35)) ∷ Ok (Done.Sent 6) ∷ Ok (Done.Heard (Heard.Taken 1)) ∷ Ok (Done.Sent 7)
     ∷ Ok (Done.Heard (Heard.Taken 1)) ∷ Ok (Done.Ran (Ran.Ran 35)) ∷ Ok (Done.Ran (Ran.Ran 35))
     ∷ Ok (Done.Ran (Ran.Waiting 0)) ∷ [])
-unfolding follows start before told goes_on goes_past rules applied on_build on_send on_packet on_quit on_run
+unfolding answers start before told goes_on goes_past rules applied on_build on_send on_packet on_quit on_run
     row_of used lowest world_after int_wrap pressed
 goes_past_so = refl
 
-demos_so : map (demo_of (follows start goes_past).1) (0 ∷ 1 ∷ 2 ∷ [])
+demos_so : map (demo_of (answers rules start goes_past).1) (0 ∷ 1 ∷ 2 ∷ [])
     ≡ (36, 35, true ∷ true ∷ false ∷ false ∷ []) ∷ (36, 35, true ∷ true ∷ false ∷ false ∷ [])
     ∷ (30, 30, true ∷ true ∷ true ∷ false ∷ []) ∷ []
-unfolding follows start before told goes_on goes_past rules applied on_build on_send on_packet on_quit on_run
+unfolding answers start before told goes_on goes_past rules applied on_build on_send on_packet on_quit on_run
     row_of used lowest world_after int_wrap pressed demo_of
 demos_so = refl
 
 -- had node 2 stopped instead, the others would wait once its commands are used up
-stopped_so : (follows start (Stop 2 ∷ Send 2 0 ∷ Run 0 ∷ Run 0 ∷ Run 0 ∷ Run 0 ∷ Send 0 2 ∷ Deliver 0 ∷ [])).0
+stopped_so : (answers rules start
+    (Stop 2 ∷ Send 2 0 ∷ Run 0 ∷ Run 0 ∷ Run 0 ∷ Run 0 ∷ Send 0 2 ∷ Deliver 0 ∷ [])).0
     ≡ Ok Done.Stopped ∷ Err Refusal.Stopped ∷ Ok (Done.Ran (Ran.Ran 30)) ∷ Ok (Done.Ran (Ran.Ran 31))
     ∷ Ok (Done.Ran (Ran.Ran 32)) ∷ Ok (Done.Ran (Ran.Waiting 2)) ∷ Ok (Done.Sent 0) ∷ Err Refusal.Stopped ∷ []
-unfolding follows start before rules applied on_send on_packet on_quit on_run row_of used lowest world_after
+unfolding answers start before rules applied on_send on_packet on_quit on_run row_of used lowest world_after
     int_wrap
 stopped_so = refl
 
 -- two nodes start, node 1 makes two commands and quits; node 0 waits for them, runs tics 0 and 1 with it, tic
 -- 2 without it, and then waits for no one but itself
-alone : (answers (opening_game settings)
+alone : (answers counting (opening_game settings)
     (Send 0 1 ∷ Deliver 0 ∷ Send 1 0 ∷ Deliver 1 ∷ Build 1 0 ∷ Build 1 0 ∷ Quit 1 ∷ Build 0 0 ∷ Build 0
     0 ∷ Build 0 0 ∷ Run 0 ∷ Send 1 0 ∷ Deliver 2 ∷ Run 0 ∷ Run 0 ∷ Run 0 ∷ Run 0 ∷ Build 1 0 ∷ Run 1 ∷ [])).0
     ≡

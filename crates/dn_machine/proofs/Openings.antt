@@ -1,191 +1,28 @@
 -- How a game opens: the key player gathers and the others listen, and the key player starts once all others
 -- have played.
-use Rattle.std.proofs.Common.{◌≡◌, ℕ, zero, suc, ◌+◌, ◌-◌, ◌<◌, ◌≤◌, ◌≢◌, Bool, true, false, true≢false, ◌&&◌, List, [], ◌∷◌, length, refl, sym, ◌∙◌, ap, subst, arith, Option, Some, None, inl, inr, ltb, leb, eqb}
+use Rattle.std.proofs.Common.{◌≡◌, ℕ, ◌<◌, ◌≤◌, ◌≢◌, Bool, true, false, true≢false, ◌&&◌, List, length, refl, sym, ◌∙◌, ap, subst, arith, Option, Some, None, inl, inr, ltb, eqb}
 use Rattle.std.specs.Prelude.{slice_get}
-use Rattle.std.specs.List.{list_all, range_with_len}
-use Rattle.std.proofs.lemmas.Bool.{cases_eq, cases_Bool, cond_both, cond-true, cond-false, ltb-true, eq-eqb, ne_eqb, and_parts, and_from}
-use Rattle.std.proofs.lemmas.Option.{none-some}
-use Rattle.dn_tic.specs.declared.command.Move.{Move}
+use Rattle.std.proofs.lemmas.Bool.{cases_eq, cases_Bool, cond-true, cond-false, ltb-true, eq-eqb, ne_eqb, and_parts}
+use Rattle.std.proofs.lemmas.Option.{none-some, same_Some}
 use Rattle.dn_setup.specs.Settings.{Settings}
 use Rattle.dn_setup.specs.Gathered.{all_noted}
-use Rattle.dn_machine.specs.declared.answers.Phase.{Phase}
-use Rattle.dn_machine.specs.declared.answers.Phase.TheVariants.{Listening, Gathering, Playing, Ended}
-use Rattle.dn_machine.specs.declared.answers.Made.{Made}
-use Rattle.dn_machine.specs.declared.answers.Heard.{Heard}
-use Rattle.dn_machine.specs.declared.answers.Ran.{Ran}
+use Rattle.dn_machine.specs.declared.answers.Phase.TheVariants.{Listening, Gathering, Playing}
 use Rattle.dn_machine.specs.declared.events.Event.{Event}
 use Rattle.dn_machine.specs.declared.events.Event.TheVariants.{Build, Send, Deliver, Run, Quit, Stop}
 use Rattle.dn_machine.specs.declared.events.Refusal.{Refusal}
 use Rattle.dn_machine.specs.Worlds.{Rules}
-use Rattle.dn_machine.specs.Flight.{Kind, SetUp, Play, Exit, Flight, is_exit, end_of}
-use Rattle.dn_machine.specs.Node.{Node, put, ends_of, got, made, ran, lowest, is_ended}
-use Rattle.dn_machine.specs.Building.{on_build, on_build_in}
-use Rattle.dn_machine.specs.Sending.{on_send, on_send_in, set_up_flight}
-use Rattle.dn_machine.specs.Hearing.{on_gathering, is_strange_end, on_commands, on_ended, on_packet, on_packet_in}
-use Rattle.dn_machine.specs.Running.{is_awaited, first_off, row_held, full_at, on_run_playing, on_run_in, on_run, on_quit, on_quit_in}
-use Rattle.dn_machine.specs.Game.{Game, fresh, opening_game, with_node, posted, refused_at, refused, delivered, on_event, applied_if, applied}
+use Rattle.dn_machine.specs.Flight.{Flight}
+use Rattle.dn_machine.specs.Node.{Node, put, is_ended}
+use Rattle.dn_machine.specs.Sending.{on_send, set_up_flight}
+use Rattle.dn_machine.specs.Game.{Game, fresh, opening_game, with_node, posted, refused, delivered, on_event, applied_if, applied}
 use Rattle.dn_machine.proofs.Invariant.{IsKept}
-use Rattle.dn_machine.specs.Runs.{Next, Leads, Runs}
+use Rattle.dn_machine.specs.Runs.{Runs}
 use Rattle.dn_machine.proofs.Put.{put_at, put_off, slice_get_push}
-use Rattle.dn_machine.proofs.Games.{opens, next_keeps, passes}
+use Rattle.dn_machine.proofs.Games.{opens, applied_keeps, passes}
+use Rattle.dn_machine.proofs.EachEvent.{leads_keep}
+use Rattle.dn_machine.proofs.Calls.{IsWord, send_cases}
 use Rattle.dn_machine.proofs.Growth.{Grows, build_grows, send_grows, run_grows, quit_grows, hear_grows, placed_grows}
-
--- all are noted: each from 1 on
-list_passes : (test : ℕ → Bool) (low count k : ℕ) → list_all test (range_with_len low count) ≡ true → low ≤ k
-    → k < low + count → test k ≡ true
-list_passes test low zero k e a b = absurd (omega arith)
-list_passes test low (suc count) k e a b =
-    let both = and_parts (test low) (list_all test (range_with_len (low + 1) count)) e in
-    elim (cases_eq k low) [
-      | inl same ↦ ap test same ∙ both.0
-      | inr n ↦ list_passes test (low + 1) count k both.1 (omega arith) (omega arith)
-    ]
-
-passes_list : (test : ℕ → Bool) (low count : ℕ) → ((k : ℕ) → low ≤ k → k < low + count → test k ≡ true)
-    → list_all test (range_with_len low count) ≡ true
-passes_list test low zero h = refl
-passes_list test low (suc count) h = and_from (test low) (list_all test (range_with_len (low + 1) count))
-    (h low (omega arith) (omega arith))
-    (passes_list test (low + 1) count (λ k a b. h k (omega arith) (omega arith)))
-
-pub each_noted : (players : ℕ) (noted : ℕ → Bool) (k : ℕ) → all_noted players noted ≡ true → 0 < k
-    → k < players → noted k ≡ true
-each_noted players noted k e a b = list_passes noted 1 (players - 1) k e (omega arith) (omega arith)
-
-pub noted_all : (players : ℕ) (noted : ℕ → Bool) → ((k : ℕ) → 0 < k → k < players → noted k ≡ true)
-    → all_noted players noted ≡ true
-noted_all players noted h = passes_list noted 1 (players - 1) (λ k a b. h k (omega arith) (omega arith))
-
--- What a call on a node does to its phase and to whom it has noted, where a packet from this player came.
-pub data Change (players : ℕ) (from : ℕ) (spoke ends : Type 0) (old new : Node) : Type 0 where
-  Same : new.phase ≡ old.phase → new.played ≡ old.played → new.noted ≡ old.noted
-      → (old.phase ≡ Gathering → length new.rows ≡ length old.rows) → Change players from spoke ends old new
-  Starts : old.phase ≡ Listening → new.phase ≡ Playing → new.played ≡ true → new.noted ≡ old.noted
-      → Change players from spoke ends old new
-  Notes : spoke → old.phase ≡ Gathering → new.phase ≡ Gathering → new.played ≡ old.played
-      → new.noted ≡ put old.noted from true → all_noted players new.noted ≡ false
-      → length new.rows ≡ length old.rows → Change players from spoke ends old new
-  Completes : spoke → old.phase ≡ Gathering → new.phase ≡ Playing → new.played ≡ true
-      → new.noted ≡ put old.noted from true → all_noted players new.noted ≡ true
-      → Change players from spoke ends old new
-  Gone : ends → is_ended new.phase ≡ true → new.played ≡ old.played → new.noted ≡ old.noted
-      → Change players from spoke ends old new
-
--- the packet is not set-up
-abbrev pub IsWord : Kind → Type 0
-IsWord kind = (s : Settings) → kind ≢ SetUp s
-
-module _ {S : Type 0} (rules : Rules S) (i : ℕ) (node : Node) where
-  pub build_change : (state : ℕ) → Change rules.players 0 ⊥ ⊥ node (on_build rules i node state).0
-  unfolding on_build
-  build_change state = go node.phase
-    where
-      go : (phase : Phase) → Change rules.players 0 ⊥ ⊥ node (on_build_in rules i node state phase).0
-      go Listening = Same refl refl refl (λ e. refl)
-      go Gathering = Same refl refl refl (λ e. refl)
-      go (Ended cause) = Same refl refl refl (λ e. refl)
-      go Playing = cond_both (leb 5 (made i node - ran node)) _ _
-          (λ (r : Node × Made). Change rules.players 0 ⊥ ⊥ node r.0) (λ full. Same refl refl refl (λ e. refl))
-          (λ free. Same refl refl refl (λ e. refl))
-
-  pub send_change : (to : ℕ) → Change rules.players 0 ⊥ ⊥ node (on_send rules i node to).0
-  unfolding on_send
-  send_change to =
-      cond_both (eqb i to) _ _ (λ (r : Node × Option Flight). Change rules.players 0 ⊥ ⊥ node r.0)
-      (λ own. Same refl refl refl (λ e. refl)) (λ other. go node.phase)
-    where
-      go : (phase : Phase) → Change rules.players 0 ⊥ ⊥ node (on_send_in rules i node to phase).0
-      go Listening = Same refl refl refl (λ e. refl)
-      go Gathering = Same refl refl refl (λ e. refl)
-      go Playing = Same refl refl refl (λ e. refl)
-      go (Ended cause) = cond_both node.played _ _
-          (λ (r : Node × Option Flight). Change rules.players 0 ⊥ ⊥ node r.0)
-          (λ gives. Same refl refl refl (λ e. refl)) (λ never. Same refl refl refl (λ e. refl))
-
-  pub run_change : Change rules.players 0 ⊥ (Unit {0}) node (on_run rules node).0
-  unfolding on_run
-  run_change = go node.phase refl
-    where
-      run : node.phase ≡ Playing → (a b : Option ℕ)
-          → Change rules.players 0 ⊥ (Unit {0}) node (on_run_playing rules node a b).0
-      run plays (Some awaited) b = Same refl refl refl (λ h. refl)
-      run plays None (Some off) = Gone tt refl refl refl
-      run plays None None = cond_both (eqb (ran node) (full_at rules (row_held rules node))) _ _
-          (λ (r : Node × Ran). Change rules.players 0 ⊥ (Unit {0}) node r.0) (λ full. Gone tt refl refl refl)
-          (λ free. Same refl refl refl (λ g. absurd (cc)))
-
-      go : (phase : Phase) → node.phase ≡ phase
-          → Change rules.players 0 ⊥ (Unit {0}) node (on_run_in rules node phase).0
-      go Listening e = Same refl refl refl (λ h. refl)
-      go Gathering e = Same refl refl refl (λ h. refl)
-      go (Ended cause) e = Same refl refl refl (λ h. refl)
-      go Playing e = run e (lowest rules.players (is_awaited node)) (first_off rules node)
-
-  pub quit_change : Change rules.players 0 ⊥ (Unit {0}) node (on_quit node).0
-  unfolding on_quit
-  quit_change = go node.phase
-    where
-      go : (phase : Phase) → Change rules.players 0 ⊥ (Unit {0}) node (on_quit_in node phase).0
-      go (Ended cause) = Same refl refl refl (λ e. refl)
-      go Listening = Gone tt refl refl refl
-      go Gathering = Gone tt refl refl refl
-      go Playing = Gone tt refl refl refl
-
-  -- a node that differs in no phase and no note
-  IsAlike : Node → Type 0
-  IsAlike new = (new.phase ≡ node.phase) × (new.played ≡ node.played) × (new.noted ≡ node.noted)
-      × (new.rows ≡ node.rows)
-
-  commands_alike : (flight : Flight) → IsAlike (on_commands i node flight).0
-  unfolding IsAlike
-  commands_alike flight =
-      cond_both (ltb (ran node + 12) (end_of flight)) _ _ (λ (r : Node × Heard). IsAlike r.0)
-      (λ a. (refl, refl, refl, refl))
-      (λ a. cond_both (is_strange_end (is_exit flight.kind) (got node flight.from) (ends_of node flight.from)
-      (end_of flight)) _ _ (λ (r : Node × Heard). IsAlike r.0)
-      (λ b. (refl, refl, refl, refl))
-      (λ b. cond_both (leb (end_of flight) (got node flight.from)) _ _ (λ (r : Node × Heard). IsAlike r.0)
-      (λ c. (refl, refl, refl, refl))
-      (λ c. cond_both (ltb (got node flight.from) flight.start) _ _ (λ (r : Node × Heard). IsAlike r.0)
-      (λ d. (refl, refl, refl, refl))
-      (λ d. (refl, refl, refl, refl)))))
-
-  pub hear_change : (flight : Flight) → Change rules.players flight.from (IsWord flight.kind) ⊥ node
-      (on_packet rules i node flight).0
-  unfolding on_packet IsAlike
-  hear_change flight = go node.phase flight.kind refl refl
-    where
-      same : (new : Node) → IsAlike new → Change rules.players flight.from (IsWord flight.kind) ⊥ node new
-      same new like = Same like.0 like.1 like.2 (λ e. ap (length {A = List (Option Move)}) like.3)
-
-      gathers : IsWord flight.kind → node.phase ≡ Gathering
-          → Change rules.players flight.from (IsWord flight.kind) ⊥ node
-          (on_gathering rules node flight.from).0
-      gathers word e = cond_both (all_noted rules.players (put node.noted flight.from true)) _ _
-          (λ (r : Node × Heard). Change rules.players flight.from (IsWord flight.kind) ⊥ node r.0)
-          (λ all. Completes word e refl refl refl all)
-          (λ some. Notes word e e refl refl some refl)
-
-      ended : (played : Bool) (kind : Kind) → Change rules.players flight.from (IsWord flight.kind) ⊥ node
-          (on_ended played i node flight kind).0
-      ended false kind = Same refl refl refl (λ e. refl)
-      ended true (SetUp s) = Same refl refl refl (λ e. refl)
-      ended true Exit = Same refl refl refl (λ e. refl)
-      ended true Play = Same refl refl refl (λ e. refl)
-
-      go : (phase : Phase) (kind : Kind) → node.phase ≡ phase → flight.kind ≡ kind
-          → Change rules.players flight.from (IsWord flight.kind) ⊥ node
-          (on_packet_in rules i node flight phase kind).0
-      go (Ended cause) kind e k = ended node.played kind
-      go Listening (SetUp s) e k = Starts e refl refl refl
-      go Gathering (SetUp s) e k = Same refl refl refl (λ e. refl)
-      go Playing (SetUp s) e k = Same refl refl refl (λ e. refl)
-      go Listening Play e k = Same refl refl refl (λ e. refl)
-      go Listening Exit e k = Same refl refl refl (λ e. refl)
-      go Gathering Play e k = gathers (λ s h. absurd (cc)) e
-      go Gathering Exit e k = gathers (λ s h. absurd (cc)) e
-      go Playing Exit e k = same _ (commands_alike flight)
-      go Playing Play e k = same _ (commands_alike flight)
+use Rattle.dn_machine.proofs.Changes.{each_noted, Change, Same, Starts, Notes, Completes, Gone, build_change, send_change, run_change, quit_change, hear_change, noted_of}
 
 -- Where a node stands: the key player gathers, any other listens, until it plays; and then it may end.
 pub data Stands (i : ℕ) (node : Node) : Type 0 where
@@ -240,16 +77,12 @@ module _ {S : Type 0} (rules : Rules S) (game : Game) (is_open : IsOpen rules ga
     key_noted : (old : Node) (here : Node) → Change rules.players from spoke ends old here
         → ((p : ℕ) → old.noted p ≡ true → (game.nodes p).played ≡ true) → (p : ℕ) → here.noted p ≡ true
         → (game.nodes p).played ≡ true
-    key_noted old here (Same a b c r) was p h = was p (ap (λ (f : ℕ → Bool). f p) (sym c) ∙ h)
-    key_noted old here (Starts l a b c) was p h = was p (ap (λ (f : ℕ → Bool). f p) (sym c) ∙ h)
-    key_noted old here (Gone x a b c) was p h = was p (ap (λ (f : ℕ → Bool). f p) (sym c) ∙ h)
-    key_noted old here (Notes w g a b c d r) was p h = elim (cases_eq p from) [
-      | inl e ↦ ap (λ (k : ℕ). (game.nodes k).played) e ∙ spoken w
-      | inr n ↦ was p (sym (ap (λ (f : ℕ → Bool). f p) c ∙ put_off old.noted from p true n) ∙ h)
-    ]
-    key_noted old here (Completes w g a b c d) was p h = elim (cases_eq p from) [
-      | inl e ↦ ap (λ (k : ℕ). (game.nodes k).played) e ∙ spoken w
-      | inr n ↦ was p (sym (ap (λ (f : ℕ → Bool). f p) c ∙ put_off old.noted from p true n) ∙ h)
+    key_noted old here changed was p h = elim (noted_of rules.players from spoke ends old here changed) [
+      | inl c ↦ was p (ap (λ (f : ℕ → Bool). f p) (sym c) ∙ h)
+      | inr c ↦ elim (cases_eq p from) [
+        | inl e ↦ ap (λ (k : ℕ). (game.nodes k).played) e ∙ spoken c.0
+        | inr n ↦ was p (sym (ap (λ (f : ℕ → Bool). f p) c.1 ∙ put_off old.noted from p true n) ∙ h)
+      ]
     ]
 
     key_all : (old : Node) (here : Node) → Change rules.players from spoke ends old here
@@ -322,33 +155,23 @@ module _ {S : Type 0} (rules : Rules S) (settings : Settings) (game : Game)
   send_played : (i : ℕ) → i < rules.players → (to : ℕ) (flight : Flight)
       → (on_send rules i (game.nodes i) to).1 ≡ Some flight → IsWord flight.kind
       → (game.nodes flight.from).played ≡ true
-  unfolding on_send
   send_played i l to flight e w =
-      cond_both (eqb i to) _ _ (λ (r : Node × Option Flight). r.1 ≡ Some flight
-      → (game.nodes flight.from).played ≡ true) (λ own h. absurd (none-some flight h))
-      (λ other h. go (game.nodes i).phase refl h) e
+      send_cases rules i (game.nodes i)
+      (λ (r : Node × Option Flight). r.1 ≡ Some flight → (game.nodes flight.from).played ≡ true) to
+      (λ h. absurd (none-some flight h))
+      (λ other g h. set_up (game.nodes i).settings h)
+      (λ other plays h. ap (λ (k : ℕ). (game.nodes k).played) (from_i _ refl h)
+      ∙ (kept.sound i l).playing plays)
+      (λ other left h. ap (λ (k : ℕ). (game.nodes k).played) (from_i _ refl h)
+      ∙ (and_parts (game.nodes i).played (is_ended (game.nodes i).phase) left).0) e
     where
       from_i : (f : Flight) → f.from ≡ i → Some f ≡ Some flight → flight.from ≡ i
-      from_i f a h = let same : f ≡ flight = cc in sym (ap (λ (x : Flight). x.from) same) ∙ a
+      from_i f a h = sym (ap (λ (x : Flight). x.from) (same_Some f flight h)) ∙ a
 
       set_up : (o : Option Settings) → set_up_flight i to o ≡ Some flight
           → (game.nodes flight.from).played ≡ true
       set_up None h = absurd (none-some flight h)
-      set_up (Some s) h =
-          absurd (w s
-          (let same : record { from = i; to = to; kind = SetUp s; start = 0; request = None; commands = [] }
-          ≡ flight = cc in sym (ap (λ (x : Flight). x.kind) same)))
-
-      go : (phase : Phase) → (game.nodes i).phase ≡ phase
-          → (on_send_in rules i (game.nodes i) to phase).1 ≡ Some flight
-          → (game.nodes flight.from).played ≡ true
-      go Listening p h = absurd (none-some flight h)
-      go Gathering p h = set_up (game.nodes i).settings h
-      go Playing p h = ap (λ (k : ℕ). (game.nodes k).played) (from_i _ refl h) ∙ (kept.sound i l).playing p
-      go (Ended cause) p h = cond_both (game.nodes i).played _ _
-          (λ (r : Node × Option Flight). r.1 ≡ Some flight → (game.nodes flight.from).played ≡ true)
-          (λ has x. ap (λ (k : ℕ). (game.nodes k).played) (from_i _ refl x) ∙ has)
-          (λ never x. absurd (none-some flight x)) h
+      set_up (Some s) h = absurd (w s (sym (ap (λ (x : Flight). x.kind) (same_Some _ flight h))))
 
   delivers_open : (o : Option Flight) (which : ℕ) → slice_get game.flights which ≡ o
       → IsOpen rules (delivered rules game o).0
@@ -359,9 +182,6 @@ module _ {S : Type 0} (rules : Rules S) (settings : Settings) (game : Game)
       (λ q. placed_grows rules game q flight.to _ (hear_grows rules flight.to (game.nodes flight.to) flight))
 
   -- an event that is not refused
-  named : (node : ℕ) → refused_at rules.players game node ≡ None → node < rules.players
-  named node h = ltb-true node rules.players (passes (ltb node rules.players) _ _ h)
-
   happens_open : (event : Event) → refused rules.players game event ≡ None
       → IsOpen rules (on_event rules game event).0
   happens_open (Build node keys) h = placed_open rules game is_open node 0 ⊥ ⊥ _
@@ -386,14 +206,13 @@ module _ {S : Type 0} (rules : Rules S) (settings : Settings) (game : Game)
   happens_open (Quit node) h = placed_open rules game is_open node 0 ⊥ (Unit {0}) _
       (quit_change rules node (game.nodes node)) (λ x. absurd x)
       (λ q. placed_grows rules game q node _ (quit_grows rules node (game.nodes node)))
-  happens_open (Stop node) h =
-      record {
-        stands = is_open.stands;
-        noted = is_open.noted;
-        all = is_open.all;
-        missing = is_open.missing;
-        sent = is_open.sent;
-      }
+  happens_open (Stop node) h = record {
+    stands = is_open.stands;
+    noted = is_open.noted;
+    all = is_open.all;
+    missing = is_open.missing;
+    sent = is_open.sent;
+  }
 
   pub applied_open : (event : Event) → IsOpen rules (applied rules game event).0
   unfolding applied
@@ -424,18 +243,10 @@ module _ {S : Type 0} (rules : Rules S) (settings : Settings) (several : 2 ≤ r
     sent = λ which flight h w. absurd (none-some flight h);
   }
 
-  leads_open : (events : List Event) (game last : Game) → IsKept rules settings game → IsOpen rules game
-      → Leads rules game events last → IsOpen rules last
-  leads_open [] game last kept is_open same = subst (λ (g : Game). IsOpen rules g) (sym same) is_open
-  leads_open (event ∷ events) game last kept is_open way =
-      leads_open events way.0 last (next_keeps rules settings game way.0 event kept way.1) (next way.0 way.1)
-      way.2
-    where
-      next : (mid : Game) → Next rules game event mid → IsOpen rules mid
-      next mid (inl same) = subst (λ (g : Game). IsOpen rules g) (sym same)
-          (applied_open rules settings game kept is_open event)
-      next mid (inr left) = subst (λ (g : Game). IsOpen rules g) (sym left.1) is_open
-
   pub always_open : (events : List Event) (game : Game) → Runs rules settings events game → IsOpen rules game
-  always_open events game run = leads_open events (opening_game settings) game (opens rules settings)
-      opening_open run
+  always_open events game run =
+      (leads_keep rules (λ (now : Game). IsKept rules settings now × IsOpen rules now)
+      (λ now event both. (
+        applied_keeps rules settings now both.0 event,
+        applied_open rules settings now both.0 both.1 event,
+      )) events (opening_game settings) game (opens rules settings, opening_open) run).1

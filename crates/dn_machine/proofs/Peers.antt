@@ -1,10 +1,10 @@
--- What is kept of a peer after a packet, and a node that keeps it.
-use Rattle.std.proofs.Common.{◌≡◌, ◌≤◌, ◌&&◌, ℕ, ◌-◌, Bool, true, false, cond, Option, Some, None, refl, ap, ◌∙◌, inl, inr, arith, leb, eqb}
-use Rattle.std.proofs.lemmas.Bool.{cases_eq, cond_both, leb-true, and_parts}
+-- What is kept of a peer after a packet, a node that keeps it, and ends that are not strange.
+use Rattle.std.proofs.Common.{◌≡◌, ◌≤◌, ◌&&◌, not, sym, true≢false, ltb, ℕ, ◌-◌, Bool, true, false, cond, Option, Some, None, refl, ap, ◌∙◌, inl, inr, arith, leb, eqb}
+use Rattle.std.proofs.lemmas.Bool.{cases_eq, cond_both, leb-true, ltb-true, eqb-false, and_parts, or_cases, not-true}
 use Rattle.dn_machine.specs.declared.peer.Peer.{Peer}
 use Rattle.dn_machine.specs.Flight.{Flight, is_exit, end_of}
 use Rattle.dn_machine.specs.Node.{Node, put, with_peer, ends_of}
-use Rattle.dn_machine.specs.Hearing.{is_within, requested_tic, after_request, after_exit, after_flight}
+use Rattle.dn_machine.specs.Hearing.{is_past_end, is_strange_end, is_within, requested_tic, after_request, after_exit, after_flight}
 use Rattle.dn_machine.proofs.Put.{put_at, put_off, view_kept}
 
 -- a request that can be met is of no tic past what was made
@@ -69,3 +69,29 @@ resends_put peers player peer most low at p = elim (cases_eq p player) [
 pub same_ends : (node : Node) (player : ℕ) (peer : Peer) → peer.end ≡ ends_of node player
     → ends_of (with_peer node player peer) ≡ ends_of node
 same_ends node player peer same = view_kept (λ (p : Peer). p.end) node.peers player peer same
+
+-- An end is not strange that is not before what the node has, nor past a known end, and which of an EXIT
+-- packet is the known one.
+pub no_strange_end : (exit : Bool) (got : ℕ) (known : Option ℕ) (end : ℕ) → (exit ≡ true → got ≤ end)
+    → ((k : ℕ) → known ≡ Some k → (end ≤ k) × (exit ≡ true → end ≡ k))
+    → is_strange_end exit got known end ≡ true → ⊥
+no_strange_end exit got known end low is h = elim (or_cases _ _ h) [
+  | inl before ↦
+      let both = and_parts exit (ltb end got) before in
+      let less = ltb-true end got both.1 in
+      let most = low both.0 in
+      omega arith
+  | inr past ↦ go known refl past
+]
+  where
+    go : (o : Option ℕ) → known ≡ o → is_past_end exit o end ≡ true → ⊥
+    go None e p = true≢false (sym p)
+    go (Some k) e p = elim (or_cases (ltb k end) (exit && not (eqb end k)) p) [
+      | inl less ↦
+          let past = ltb-true k end less in
+          let most = (is k e).0 in
+          omega arith
+      | inr other ↦
+          let both = and_parts exit (not (eqb end k)) other in
+          eqb-false end k (not-true (eqb end k) both.1) ((is k e).1 both.0)
+    ]

@@ -1,7 +1,7 @@
 -- A game goes on as soon as the network delivers: one good round for the start, and thirteen for each tic.
 use Rattle.std.proofs.Common.{◌≡◌, ℕ, zero, suc, ◌+◌, ◌-◌, ◌*◌, ◌<◌, ◌≤◌, ◌≢◌, Bool, true, not, List, refl, sym, ◌∙◌, ap, subst, arith, inl, inr}
 use Rattle.std.specs.Prelude.{◌⊎◌}
-use Rattle.std.proofs.lemmas.Bool.{cases_eq, and_from, not-true, not-false}
+use Rattle.std.proofs.lemmas.Bool.{and_from, not-true, not-false}
 use Rattle.dn_setup.specs.Settings.{Settings}
 use Rattle.dn_machine.specs.declared.answers.Phase.{Phase}
 use Rattle.dn_machine.specs.declared.events.Event.{Event}
@@ -13,13 +13,16 @@ use Rattle.dn_machine.specs.Runs.{Runs}
 use Rattle.dn_machine.specs.Progress.{in_order, turn, good_round, good_rounds, NoneLost, AllRan, HasRoom}
 use Rattle.dn_machine.proofs.Games.{always}
 use Rattle.dn_machine.proofs.Growth.{always_patient}
-use Rattle.dn_machine.proofs.Pairs.{Unknown}
-use Rattle.dn_machine.proofs.Exchanges.{IsFar, IsOn}
-use Rattle.dn_machine.proofs.Turns.{each_of}
-use Rattle.dn_machine.proofs.Rounds.{rounds_ran, At, AtFar, AtOn, turn_keeps, round_nearer, has_after, thirteen}
+use Rattle.dn_machine.proofs.Stages.{Unknown}
+use Rattle.dn_machine.proofs.GoingOn.{IsFar, IsOn}
+use Rattle.dn_machine.proofs.InOrder.{each_of}
+use Rattle.dn_machine.proofs.RowsStay.{rounds_ran}
+use Rattle.dn_machine.proofs.Rounds.{At, AtFar, AtOn, turn_keeps, round_nearer, has_after}
+use Rattle.dn_machine.proofs.LastRound.{other_player, thirteen}
 use Rattle.dn_machine.proofs.Roomy.{IsRoomy, InDemos, Without, roomy_on}
 use Rattle.dn_machine.proofs.Openings.{Stands, Gathers, Listens, Plays, HasGone, always_open}
-use Rattle.dn_machine.proofs.StartUp.{IsBegun, all_play, round_starts}
+use Rattle.dn_machine.proofs.Begun.{IsBegun, all_play}
+use Rattle.dn_machine.proofs.StartUp.{round_starts}
 
 module _ {S : Type 0} (rules : Rules S) where
   -- some rounds and then more
@@ -48,10 +51,7 @@ module _ {S : Type 0} (rules : Rules S) (settings : Settings) (cap : ℕ) (sever
     Settled tic game = IsFar rules cap stay game ⊎ IsOn rules settings cap stay tic game
 
     another : (p : ℕ) × (p < rules.players) × (p ≢ one)
-    another = elim (cases_eq one 0) [
-      | inl e ↦ (1, omega arith, λ f. omega arith)
-      | inr n ↦ (0, omega arith, λ f. omega arith)
-    ]
+    another = other_player rules.players one several
 
     -- how far another player is from giving the one a command
     abbrev AtPair : ℕ → ℕ → Game → Type 0

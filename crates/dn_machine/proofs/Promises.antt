@@ -1,18 +1,17 @@
 -- What every event keeps says what the headline says.
-use Rattle.std.proofs.Common.{◌≡◌, ℕ, ◌+◌, ◌<◌, ◌≤◌, Bool, true, false, true≢false, cond, ◌&&◌, not, List, [], length, get_or, drop, refl, sym, ◌∙◌, ap, arith, Option, Some, None, inl, inr, ltb, leb, eqb}
+use Rattle.std.proofs.Common.{◌≡◌, ℕ, ◌+◌, ◌<◌, ◌≤◌, Bool, true, false, true≢false, cond, ◌&&◌, List, [], length, get_or, drop, sym, ◌∙◌, ap, arith, Option, Some, None, inl, inr, eqb}
 use Rattle.std.specs.Prelude.{slice_get, ◌⊎◌, nat_le}
-use Rattle.std.proofs.lemmas.Bool.{cases_lt, cases_eq, cases_Bool, lt-leb, cond_both, cond-true, cond-false, eq-eqb, ne_eqb, le-ltb, ltb-true, or_cases, and_parts, and_right, eqb-false, not-true}
+use Rattle.std.proofs.lemmas.Bool.{cases_lt, cases_eq, cases_Bool, lt-leb, cond_both, cond-true, cond-false, eq-eqb, ne_eqb, le-ltb, and_right}
 use Rattle.std.specs.Option.{is_none}
 use Rattle.std.proofs.lemmas.Option.{slice_get-get_or, cond_some}
 use Rattle.std.proofs.lemmas.List.Prefix.{front_from_reads}
 use Rattle.dn_tic.specs.declared.command.Move.{Move}
 use Rattle.dn_setup.specs.Settings.{Settings}
-use Rattle.dn_machine.specs.declared.answers.Phase.{Phase}
-use Rattle.dn_machine.specs.declared.answers.Phase.TheVariants.{Listening, Gathering, Playing, Ended}
+use Rattle.dn_machine.specs.declared.answers.Phase.TheVariants.{Playing}
 use Rattle.dn_machine.specs.declared.answers.Heard.{Heard}
 use Rattle.dn_machine.specs.Worlds.{Rules, row, if_made, command}
-use Rattle.dn_machine.specs.Flight.{Kind, SetUp, Play, Exit, Flight, is_exit, end_of}
-use Rattle.dn_machine.specs.Node.{Node, ends_of, blank, got, made, ran, put, is_ended, has_left, known_end, lacks, is_whole, demo_rows}
+use Rattle.dn_machine.specs.Flight.{Flight, is_exit, end_of}
+use Rattle.dn_machine.specs.Node.{Node, ends_of, blank, got, made, ran, is_ended, has_left, known_end, lacks, is_whole, demo_rows}
 use Rattle.dn_machine.specs.Game.{Game}
 use Rattle.dn_machine.proofs.Invariant.{IsKept, history_of}
 use Rattle.dn_machine.specs.Promise.{IsPrefixOf, keys_of, Agree, Fits, Steady, end_or}
@@ -20,9 +19,10 @@ use Rattle.dn_machine.proofs.Truth.{world_after_true, length-commands_to, get_or
 use Rattle.dn_machine.proofs.Lists
 use Rattle.dn_machine.proofs.Demos.{front_prefix, front_passes, front_each, front_short, none_is, seat_is, if_made_is, whole_has}
 use Rattle.dn_machine.proofs.Marks.{lowest_none_each}
-use Rattle.dn_machine.proofs.Steps.{exit_is}
-use Rattle.dn_machine.specs.Hearing.{on_gathering, is_past_end, is_strange_end, on_commands, on_ended, on_packet, on_packet_in}
-use Rattle.dn_setup.specs.Gathered.{all_noted}
+use Rattle.dn_machine.proofs.HearKeeps.{exit_is}
+use Rattle.dn_machine.proofs.Peers.{no_strange_end}
+use Rattle.dn_machine.proofs.Calls.{packet_cases}
+use Rattle.dn_machine.specs.Hearing.{left_or, is_strange_end, on_packet}
 
 -- of two lists that agree as far as both go, the one that is no longer is a prefix
 prefix_from_reads : {A : Type 0} (d : A) (xs ys : List A) → length xs ≤ length ys
@@ -112,7 +112,7 @@ module _ {S : Type 0} (rules : Rules S) (settings : Settings) (game : Game)
   }
 
   -- a node that has not ended has not left
-  stays_in : (q : ℕ) → is_ended (game.nodes q).phase ≡ false → has_left (game.nodes q) ≡ false
+  pub stays_in : (q : ℕ) → is_ended (game.nodes q).phase ≡ false → has_left (game.nodes q) ≡ false
   stays_in q goes_on = and_right (game.nodes q).played (is_ended (game.nodes q).phase) goes_on
 
   -- no row of a demo is past any player's last command
@@ -185,11 +185,6 @@ module _ {S : Type 0} (rules : Rules S) (settings : Settings) (game : Game)
       abbrev Fine : Heard → Type 0
       Fine answer = answer ≡ Heard.Dropped number → (number ≡ 6) ⊎ (number ≡ 13)
 
-      -- a playing node has not left
-      plays_on : (game.nodes flight.to).phase ≡ Playing → has_left (game.nodes flight.to) ≡ false
-      plays_on e = ap (λ (p : Phase). (game.nodes flight.to).played && is_ended p) e
-          ∙ and_right (game.nodes flight.to).played false refl
-
       -- no packet reaches further than ten past what a playing receiver ran
       within : (game.nodes flight.to).phase ≡ Playing → end_of flight ≤ ran (game.nodes flight.to) + 10
       within e =
@@ -197,94 +192,44 @@ module _ {S : Type 0} (rules : Rules S) (settings : Settings) (game : Game)
           let a = piece.reached in
           let b = Lists.close rules settings (history_of game) game.flights kept.from_keys flight.from
           flight.to
-          piece.sender piece.receiver (plays_on e) in
+          piece.sender piece.receiver (stays_in flight.to (ap is_ended e)) in
           let c = kept.from_keys.ahead flight.to piece.receiver in
           omega arith
 
       -- no end is strange
-      no_strange_of : (exit : Bool) → (exit ≡ true → flight.kind ≡ Exit)
-          → is_strange_end exit (got (game.nodes flight.to) flight.from)
-          (ends_of (game.nodes flight.to) flight.from) (end_of flight) ≡ true → ⊥
-      no_strange_of exit leaving h =
-          elim (or_cases _ _ h) [
-            | inl before ↦
-                let both = and_parts exit (ltb (end_of flight) (got (game.nodes flight.to) flight.from))
-                before in
-                let low = ltb-true (end_of flight) (got (game.nodes flight.to) flight.from) both.1 in
-                let tip = ((kept.from_keys.pieces which flight posted).exit (leaving both.0)).1 in
-                let bound = kept.from_keys.got flight.to flight.from
-                (kept.from_keys.pieces which flight posted).receiver
-                (kept.from_keys.pieces which flight posted).sender in
-                omega arith
-            | inr past ↦ past_known (ends_of (game.nodes flight.to) flight.from) refl past
-          ]
-        where
-          past_known : (o : Option ℕ) → ends_of (game.nodes flight.to) flight.from ≡ o
-              → is_past_end exit o (end_of flight) ≡ true → ⊥
-          past_known None e p = true≢false (sym p)
-          past_known (Some end) e p =
-              let piece = kept.from_keys.pieces which flight posted in
-              let tip = (kept.from_keys.ended flight.to flight.from end piece.receiver piece.sender e).1 in
-              let reached = piece.reached in
-              elim (or_cases (ltb end (end_of flight)) (exit && not (eqb (end_of flight) end)) p) [
-                | inl less ↦ let low = ltb-true end (end_of flight) less in omega arith
-                | inr other ↦
-                    let both = and_parts exit (not (eqb (end_of flight) end)) other in
-                    let same = (piece.exit (leaving both.0)).1 in
-                    eqb-false (end_of flight) end (not-true (eqb (end_of flight) end) both.1) (omega arith)
-              ]
-
       no_strange : is_strange_end (is_exit flight.kind) (got (game.nodes flight.to) flight.from)
           (ends_of (game.nodes flight.to) flight.from) (end_of flight) ≡ true → ⊥
-      no_strange h = no_strange_of (is_exit flight.kind) (exit_is flight.kind) h
+      no_strange =
+          let piece = kept.from_keys.pieces which flight posted in
+          let reached = piece.reached in
+          let bound = kept.from_keys.got flight.to flight.from piece.receiver piece.sender in
+          no_strange_end (is_exit flight.kind) _ _ (end_of flight)
+          (λ e. let tip = (piece.exit (exit_is flight.kind e)).1 in omega arith)
+          (λ k e.
+          let end = (kept.from_keys.ended flight.to flight.from k piece.receiver piece.sender e).1 in
+          (omega arith, λ x. (piece.exit (exit_is flight.kind x)).1 ∙ sym end))
 
-      takes : (game.nodes flight.to).phase ≡ Playing
-          → Fine (on_commands flight.to (game.nodes flight.to) flight).1
-      takes plays =
-          cond_both (ltb (ran (game.nodes flight.to) + 12) (end_of flight)) _ _
-          (λ (r : Node × Heard). Fine r.1)
-          (λ over e.
-          let far = ltb-true (ran (game.nodes flight.to) + 12) (end_of flight) over in
-          let near = within plays in
-          absurd (omega arith))
-          (λ a. cond_both (is_strange_end (is_exit flight.kind) (got (game.nodes flight.to) flight.from)
-          (ends_of (game.nodes flight.to) flight.from) (end_of flight)) _ _ (λ (r : Node × Heard). Fine r.1)
-          (λ strange e. absurd (no_strange strange))
-          (λ b. cond_both (leb (end_of flight) (got (game.nodes flight.to) flight.from)) _ _
-          (λ (r : Node × Heard). Fine r.1)
-          (λ c. cond_both (is_exit flight.kind) _ _ Fine (λ d e. absurd (cc)) (λ d e. absurd (cc)))
-          (λ c. cond_both (ltb (got (game.nodes flight.to) flight.from) flight.start) _ _
-          (λ (r : Node × Heard). Fine r.1)
-          (λ d e. absurd (cc))
-          (λ d. cond_both (is_exit flight.kind) _ _ Fine (λ f e. absurd (cc)) (λ f e. absurd (cc))))))
-
-      ended : (played : Bool) (kind : Kind)
-          → Fine (on_ended played flight.to (game.nodes flight.to) flight kind).1
-      ended false kind e = inr (cc)
-      ended true (SetUp s) e = inl (cc)
-      ended true Exit e = inr (cc)
-      ended true Play e = absurd (cc)
-
-      gathers : (player : ℕ) → Fine (on_gathering rules (game.nodes flight.to) player).1
-      gathers player = cond_both (all_noted rules.players (put (game.nodes flight.to).noted player true)) _ _
-          (λ (r : Node × Heard). Fine r.1) (λ a e. absurd (cc)) (λ a e. absurd (cc))
+      -- an answer for an EXIT packet or another
+      left_fine : (answer : Heard) → Fine answer → Fine (left_or (is_exit flight.kind) answer)
+      left_fine answer fine = cond_both (is_exit flight.kind) _ _ Fine (λ exit e. absurd (cc)) (λ other. fine)
 
       pub drops : Fine (on_packet rules flight.to (game.nodes flight.to) flight).1
-      unfolding on_packet
-      drops = go (game.nodes flight.to).phase flight.kind refl refl
-        where
-          go : (phase : Phase) (kind : Kind) → (game.nodes flight.to).phase ≡ phase → flight.kind ≡ kind
-              → Fine (on_packet_in rules flight.to (game.nodes flight.to) flight phase kind).1
-          go (Ended cause) kind h k e = ended (game.nodes flight.to).played kind e
-          go Listening (SetUp s) h k e = absurd (cc)
-          go Gathering (SetUp s) h k e = inl (cc)
-          go Playing (SetUp s) h k e = inl (cc)
-          go Listening Play h k e = inr (cc)
-          go Listening Exit h k e = inr (cc)
-          go Gathering Play h k e = gathers flight.from e
-          go Gathering Exit h k e = gathers flight.from e
-          go Playing Exit h k e = takes h e
-          go Playing Play h k e = takes h e
+      drops = packet_cases rules flight.to (game.nodes flight.to) flight (λ (r : Node × Heard). Fine r.1)
+          (record {
+            dropped = λ reason why e. let same : reason ≡ number = cc in
+                elim why [ inl x ↦ inl (cc) | inr x ↦ inr (cc) ];
+            starts = λ s p k e. absurd (cc);
+            completes = λ word p all e. absurd (cc);
+            notes = λ word p some e. absurd (cc);
+            commands = λ plays. record {
+              overrun = λ over e. let near = within plays in absurd (omega arith);
+              strange = λ strange e. absurd (no_strange strange);
+              stale = λ l. left_fine Heard.Stale (λ e. absurd (cc));
+              gap = λ l e. absurd (cc);
+              takes = λ l m. left_fine (Heard.Taken _) (λ e. absurd (cc));
+            };
+            requests = λ ended e. absurd (cc);
+          })
 
   pub steady : Steady rules game
   steady = record {

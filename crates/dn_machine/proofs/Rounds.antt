@@ -1,57 +1,19 @@
--- In twelve good rounds each player gives each other the command of a tic that all have reached, and in one
--- more all run it.
-use Rattle.std.proofs.Common.{◌≡◌, ℕ, zero, suc, ◌+◌, ◌<◌, ◌≤◌, ◌≢◌, Bool, true, length, refl, sym, ◌∙◌, ap, subst, arith, Option, inl, inr}
-use Rattle.std.specs.Prelude.{◌⊎◌}
-use Rattle.std.proofs.lemmas.Bool.{cases_eq, cases_lt, le-leb}
+-- In twelve good rounds each player gives each other the command of a tic that all have reached.
+use Rattle.std.proofs.Common.{◌≡◌, ℕ, zero, suc, min, ◌+◌, ◌<◌, ◌≤◌, ◌≢◌, Bool, true, refl, sym, ap, subst, arith, inl, inr}
+use Rattle.std.proofs.lemmas.Bool.{cases_eq, cases_lt}
 use Rattle.dn_setup.specs.Settings.{Settings}
-use Rattle.dn_machine.specs.declared.events.Event.TheVariants.{Build, Send, Deliver, Run}
+use Rattle.dn_machine.specs.declared.events.Event.TheVariants.{Build, Run}
 use Rattle.dn_machine.specs.Worlds.{Rules}
-use Rattle.dn_machine.specs.Node.{got, made, ran}
-use Rattle.dn_machine.specs.Running.{is_over, is_absent}
+use Rattle.dn_machine.specs.Node.{made, ran}
 use Rattle.dn_machine.specs.Game.{Game}
 use Rattle.dn_machine.specs.Progress.{after, in_order, exchange, turn, good_round, good_rounds}
-use Rattle.dn_machine.proofs.Growth.{applied_grows}
-use Rattle.dn_machine.proofs.Pairs.{Side, side, Stage, Has, Meets, Asks, Unknown, sent_stage, asked_stage}
+use Rattle.dn_machine.proofs.Stages.{AfterSent, AfterHeard, Side, side, Stage, Unknown, sent_stage, asked_stage}
 use Rattle.dn_machine.proofs.Pairs
-use Rattle.dn_machine.proofs.Exchanges.{IsFar, IsOn, IsExchanged, far_after, ran_after}
+use Rattle.dn_machine.proofs.Exchanges.{IsExchanged}
+use Rattle.dn_machine.proofs.GoingOn.{IsFar, IsOn, far_after, exchange_far}
 use Rattle.dn_machine.proofs.Exchanges
-use Rattle.dn_machine.proofs.Turns.{each_of, two_of, one_of}
+use Rattle.dn_machine.proofs.InOrder.{each_of, two_of, one_of}
 use Rattle.dn_machine.proofs.Turns
-
-module _ {S : Type 0} (rules : Rules S) where
-  -- rows stay, over an exchange, a turn and rounds
-  pub exchange_ran : (q n i : ℕ) (g : Game) (j : ℕ) → n ≤ ran (g.nodes q)
-      → n ≤ ran ((exchange rules i g j).nodes q)
-  unfolding exchange
-  exchange_ran q n i g j l =
-      let mid : Game = after rules (Send i j) g in
-      let a = (applied_grows rules g q (Send i j)).rows in
-      let b = (applied_grows rules mid q (Deliver (length g.flights))).rows in
-      omega arith
-
-  pub turn_ran : (keys : ℕ → ℕ) (q n : ℕ) (g : Game) (i : ℕ) → n ≤ ran (g.nodes q)
-      → n ≤ ran ((turn rules keys g i).nodes q)
-  unfolding turn
-  turn_ran keys q n g i l =
-      let built : Game = after rules (Build i (keys i)) g in
-      let a = (applied_grows rules g q (Build i (keys i))).rows in
-      let sent : Game = in_order (exchange rules i) rules.players built in
-      let b : n ≤ ran (sent.nodes q) = each_of (λ (h : Game). n ≤ ran (h.nodes q)) (exchange rules i)
-      rules.players built (λ j h m x. exchange_ran q n i h j x) (omega arith) in
-      let c = (applied_grows rules sent q (Run i)).rows in
-      omega arith
-
-  pub round_ran : (keys : ℕ → ℕ) (q n : ℕ) (g : Game) → n ≤ ran (g.nodes q)
-      → n ≤ ran ((good_round rules keys g).nodes q)
-  unfolding good_round
-  round_ran keys q n g l = each_of (λ (h : Game). n ≤ ran (h.nodes q)) (turn rules keys) rules.players g
-      (λ i h m x. turn_ran keys q n h i x) l
-
-  pub rounds_ran : (keys : ℕ → ℕ → ℕ) (count q n : ℕ) (g : Game) → n ≤ ran (g.nodes q)
-      → n ≤ ran ((good_rounds rules keys count g).nodes q)
-  unfolding good_rounds
-  rounds_ran keys count q n g l = each_of (λ (h : Game). n ≤ ran (h.nodes q))
-      (λ before round. good_round rules (keys round) before) count g (λ i h m x. round_ran (keys i) q n h x) l
 
 module _ {S : Type 0} (rules : Rules S) (settings : Settings) (cap : ℕ) (stay : ℕ → Bool) (tic : ℕ) where
   module _ (p q : ℕ) (l : p < rules.players) (m : q < rules.players) (stays : stay q ≡ true) (apart : p ≢ q)
@@ -74,13 +36,6 @@ module _ {S : Type 0} (rules : Rules S) (settings : Settings) (cap : ℕ) (stay 
           → side (h.nodes q) p ≡ side (g.nodes q) p → StageOf rounds g → StageOf rounds h
       stage_kept rounds g h a b stage = subst (λ (x : Side). Stage tic rounds x (side (h.nodes q) p)) (sym a)
           (subst (λ (y : Side). Stage tic rounds (side (g.nodes p) q) y) (sym b) stage)
-
-      far_exchange : (r j : ℕ) (g : Game) → IsFar rules cap stay g
-          → IsFar rules cap stay (exchange rules r g j)
-      unfolding exchange
-      far_exchange r j g far = far_after rules cap stay (Deliver (length g.flights))
-          (after rules (Send r j) g)
-          (far_after rules cap stay (Send r j) g far)
 
       built_in : (r : ℕ) → r < rules.players → (state rounds : ℕ) (g : Game) → At rounds g
           → In r rounds (after rules (Build r state) g)
@@ -115,7 +70,7 @@ module _ {S : Type 0} (rules : Rules S) (settings : Settings) (cap : ℕ) (stay 
       -- an exchange of others
       passes : (r j rounds : ℕ) → r < rules.players → j < rules.players → (g : Game) → (r ≡ p → j ≢ q)
           → (r ≡ q → j ≢ p) → In r rounds g → In r rounds (exchange rules r g j)
-      passes r j rounds o k g a b (InFar far) = InFar (far_exchange r j g far)
+      passes r j rounds o k g a b (InFar far) = InFar (exchange_far rules cap stay r j g far)
       passes r j rounds o k g a b (InOn on built stage) = elim (cases_eq r j) [
         | inl e ↦
             let own : exchange rules r g j ≡ g =
@@ -132,29 +87,29 @@ module _ {S : Type 0} (rules : Rules S) (settings : Settings) (cap : ℕ) (stay 
       ]
 
       -- the player gives the other a packet
-      gives : (rounds later : ℕ) → (2 ≤ rounds → rounds ≤ 12 → rounds ≤ later) → (13 ≤ rounds → 12 ≤ later)
-          → (g : Game) → In p rounds g → In p later (exchange rules p g q)
-      gives rounds later c d g (InFar far) = InFar (far_exchange p q g far)
-      gives rounds later c d g (InOn on built stage) =
+      gives : (rounds later : ℕ) → AfterSent rounds later → (g : Game) → In p rounds g
+          → In p later (exchange rules p g q)
+      gives rounds later fit g (InFar far) = InFar (exchange_far rules cap stay p q g far)
+      gives rounds later fit g (InOn on built stage) =
           let x = (Exchanges.exchanges rules settings cap stay tic g on p q l m apart built).1 in
           InOn (Exchanges.exchange_on rules settings cap stay tic g on p q l m apart built)
           (still_made p q g _ apart x built)
-          (sent_stage tic rounds later _ (side (g.nodes p) q) (side ((exchange rules p g q).nodes p) q)
-          (side (g.nodes q) p) (side ((exchange rules p g q).nodes q) p) stage x.mine_pause
-          (on.live.patient p q) (x.begins stays) (x.taken stays) c d)
+          (sent_stage tic rounds later (side (g.nodes p) q) (side ((exchange rules p g q).nodes p) q)
+          (side (g.nodes q) p) (side ((exchange rules p g q).nodes q) p) _ stage x.mine_pause
+          (on.live.patient p q) (x.begins stays) (x.taken stays) fit)
 
       -- and hears one of it
-      hears : (rounds later : ℕ) → (1 ≤ rounds → 1 ≤ later) → rounds ≤ later + 1 → (13 ≤ rounds → 13 ≤ later)
-          → (g : Game) → In q rounds g → In q later (exchange rules q g p)
-      hears rounds later a b c g (InFar far) = InFar (far_exchange q p g far)
-      hears rounds later a b c g (InOn on built stage) =
+      hears : (rounds later : ℕ) → AfterHeard rounds later → (g : Game) → In q rounds g
+          → In q later (exchange rules q g p)
+      hears rounds later fit g (InFar far) = InFar (exchange_far rules cap stay q p g far)
+      hears rounds later fit g (InOn on built stage) =
           let back : q ≢ p = λ e. apart (sym e) in
           let x = (Exchanges.exchanges rules settings cap stay tic g on q p m l back built).1 in
           InOn (Exchanges.exchange_on rules settings cap stay tic g on q p m l back built)
           (still_made q p g _ back x built)
           (asked_stage tic rounds later (side (g.nodes p) q) (side ((exchange rules q g p).nodes p) q)
           (side (g.nodes q) p) (side ((exchange rules q g p).nodes q) p) stage x.mine_got x.mine_want
-          x.mine_end (x.asked stays) a b c)
+          x.mine_end (x.asked stays) fit)
 
       module _ (keys : ℕ → ℕ) where
         -- the turn of another
@@ -168,76 +123,71 @@ module _ {S : Type 0} (rules : Rules S) (settings : Settings) (cap : ℕ) (stay 
             (built_in r o (keys r) rounds g at))
 
         -- the turn of the player, up to the run
-        turn_gives : (rounds later : ℕ) → (2 ≤ rounds → rounds ≤ 12 → rounds ≤ later)
-            → (13 ≤ rounds → 12 ≤ later) → (g : Game) → At rounds g
+        turn_gives : (rounds later : ℕ) → AfterSent rounds later → (g : Game) → At rounds g
             → In p later (in_order (exchange rules p) rules.players (after rules (Build p (keys p)) g))
-        turn_gives rounds later c d g at =
+        turn_gives rounds later fit g at =
             one_of (In p rounds) (In p later) (exchange rules p) rules.players q
             (λ j h k n x. passes p j rounds l k h (λ e. n) (λ e. absurd (apart e)) x)
             (λ j h k n x. passes p j later l k h (λ e. n) (λ e. absurd (apart e)) x)
-            (λ h x. gives rounds later c d h x)
+            (λ h x. gives rounds later fit h x)
             (after rules (Build p (keys p)) g) m (built_in p l (keys p) rounds g at)
 
-        turn_sender : (rounds later : ℕ) → (2 ≤ rounds → rounds ≤ 12 → rounds ≤ later)
-            → (13 ≤ rounds → 12 ≤ later) → (g : Game) → At rounds g → At later (turn rules keys g p)
+        turn_sender : (rounds later : ℕ) → AfterSent rounds later → (g : Game) → At rounds g
+            → At later (turn rules keys g p)
         unfolding turn
-        turn_sender rounds later c d g at = run_at p l later _ (turn_gives rounds later c d g at)
+        turn_sender rounds later fit g at = run_at p l later _ (turn_gives rounds later fit g at)
 
         -- the turn of the other, up to the run
-        pub turn_hears : (rounds later : ℕ) → (1 ≤ rounds → 1 ≤ later) → rounds ≤ later + 1
-            → (13 ≤ rounds → 13 ≤ later) → (g : Game) → At rounds g
+        pub turn_hears : (rounds later : ℕ) → AfterHeard rounds later → (g : Game) → At rounds g
             → In q later (in_order (exchange rules q) rules.players (after rules (Build q (keys q)) g))
-        turn_hears rounds later a b c g at =
+        turn_hears rounds later fit g at =
             one_of (In q rounds) (In q later) (exchange rules q) rules.players p
             (λ j h k n x. passes q j rounds m k h (λ e. absurd (apart (sym e))) (λ e. n) x)
             (λ j h k n x. passes q j later m k h (λ e. absurd (apart (sym e))) (λ e. n) x)
-            (λ h x. hears rounds later a b c h x)
+            (λ h x. hears rounds later fit h x)
             (after rules (Build q (keys q)) g) l (built_in q m (keys q) rounds g at)
 
-        turn_receiver : (rounds later : ℕ) → (1 ≤ rounds → 1 ≤ later) → rounds ≤ later + 1
-            → (13 ≤ rounds → 13 ≤ later) → (g : Game) → At rounds g → At later (turn rules keys g q)
+        turn_receiver : (rounds later : ℕ) → AfterHeard rounds later → (g : Game) → At rounds g
+            → At later (turn rules keys g q)
         unfolding turn
-        turn_receiver rounds later a b c g at = run_at q m later _ (turn_hears rounds later a b c g at)
+        turn_receiver rounds later fit g at = run_at q m later _ (turn_hears rounds later fit g at)
 
         -- once the other has the command, it stays so
         pub turn_keeps : (r : ℕ) → r < rules.players → (g : Game) → At 0 g → At 0 (turn rules keys g r)
         turn_keeps r o g at = elim (cases_eq r p) [
           | inl e ↦ subst (λ (s : ℕ). At 0 (turn rules keys g s)) (sym e)
-              (turn_sender 0 0 (λ h i. omega arith) (λ h. absurd (omega arith)) g at)
+              (turn_sender 0 0 (omega arith) g at)
           | inr a ↦ elim (cases_eq r q) [
             | inl e ↦ subst (λ (s : ℕ). At 0 (turn rules keys g s)) (sym e)
-                (turn_receiver 0 0 (λ h. absurd (omega arith)) (omega arith) (λ h. absurd (omega arith)) g at)
+                (turn_receiver 0 0 (omega arith) g at)
             | inr b ↦ turn_other r 0 o a b g at
           ]
         ]
 
         -- a good round in which the player has its turn first
-        round_up : (rounds mid later : ℕ) → (2 ≤ rounds → rounds ≤ 12 → rounds ≤ mid)
-            → (13 ≤ rounds → 12 ≤ mid)
-            → (1 ≤ mid → 1 ≤ later) → mid ≤ later + 1 → mid ≤ 12 → p < q → (g : Game) → At rounds g
-            → At later (good_round rules keys g)
+        round_up : (rounds mid later : ℕ) → AfterSent rounds mid → AfterHeard mid later → p < q → (g : Game)
+            → At rounds g → At later (good_round rules keys g)
         unfolding good_round
-        round_up rounds mid later a b c d top less g at =
+        round_up rounds mid later first next less g at =
             two_of (At rounds) (At mid) (At later) (turn rules keys) rules.players p q less
             (λ i h o s at. turn_other i rounds o (λ e. omega arith) (λ e. omega arith) h at)
             (λ i h o x y at. turn_other i mid o x y h at)
             (λ i h o x y at. turn_other i later o x y h at)
-            (λ h at. turn_sender rounds mid a b h at)
-            (λ h at. turn_receiver mid later c d (λ big. absurd (omega arith)) h at)
+            (λ h at. turn_sender rounds mid first h at)
+            (λ h at. turn_receiver mid later next h at)
             g m at
 
         -- and one in which the other has
-        round_down : (rounds mid later : ℕ) → 1 ≤ mid → rounds ≤ mid + 1 → (13 ≤ rounds → 13 ≤ mid)
-            → (2 ≤ mid → mid ≤ 12 → mid ≤ later) → (13 ≤ mid → 12 ≤ later) → q < p → (g : Game) → At rounds g
-            → At later (good_round rules keys g)
+        round_down : (rounds mid later : ℕ) → AfterHeard rounds mid → AfterSent mid later → q < p
+            → (g : Game) → At rounds g → At later (good_round rules keys g)
         unfolding good_round
-        round_down rounds mid later some a b c d less g at =
+        round_down rounds mid later first next less g at =
             two_of (At rounds) (At mid) (At later) (turn rules keys) rules.players q p less
             (λ i h o s at. turn_other i rounds o (λ e. omega arith) (λ e. omega arith) h at)
             (λ i h o x y at. turn_other i mid o y x h at)
             (λ i h o x y at. turn_other i later o y x h at)
-            (λ h at. turn_receiver rounds mid (λ one. some) a b h at)
-            (λ h at. turn_sender mid later c d h at)
+            (λ h at. turn_receiver rounds mid first h at)
+            (λ h at. turn_sender mid later next h at)
             g l at
 
         -- each good round brings it nearer
@@ -249,24 +199,15 @@ module _ {S : Type 0} (rules : Rules S) (settings : Settings) (cap : ℕ) (stay 
         ]
           where
             up : (k : ℕ) → k ≤ 12 → p < q → (h : Game) → At (suc k) h → At k (good_round rules keys h)
-            up zero b less h at = round_up 1 0 0 (λ x y. omega arith) (λ x. omega arith)
-                (λ x. absurd (omega arith)) (omega arith) (omega arith) less h at
-            up (suc k) b less h at = elim (cases_lt k 11) [
-              | inl s ↦ round_up (suc (suc k)) (suc (suc k)) (suc k) (λ x y. omega arith) (λ x. omega arith)
-                  (λ x. omega arith) (omega arith) (omega arith) less h at
-              | inr t ↦ round_up (suc (suc k)) 12 (suc k) (λ x y. omega arith) (λ x. omega arith)
-                  (λ x. omega arith) (omega arith) (omega arith) less h at
-            ]
+            up zero b less h at = round_up 1 0 0 (omega arith) (omega arith) less h at
+            up (suc k) b less h at = round_up (suc (suc k)) (min (suc (suc k)) 12) (suc k) (omega arith)
+                (omega arith) less h at
 
             down : (k : ℕ) → k ≤ 12 → q < p → (h : Game) → At (suc k) h → At k (good_round rules keys h)
-            down zero b less h at = round_down 1 1 0 (omega arith) (omega arith) (λ x. omega arith)
-                (λ x y. omega arith) (λ x. omega arith) less h at
+            down zero b less h at = round_down 1 1 0 (omega arith) (omega arith) less h at
             down (suc k) b less h at = elim (cases_lt k 11) [
-              | inl s ↦ round_down (suc (suc k)) (suc k) (suc k) (omega arith) (omega arith)
-                  (λ x. omega arith)
-                  (λ x y. omega arith) (λ x. omega arith) less h at
-              | inr t ↦ round_down (suc (suc k)) 13 (suc k) (omega arith) (omega arith) (λ x. omega arith)
-                  (λ x y. omega arith) (λ x. omega arith) less h at
+              | inl s ↦ round_down (suc (suc k)) (suc k) (suc k) (omega arith) (omega arith) less h at
+              | inr t ↦ round_down (suc (suc k)) 13 (suc k) (omega arith) (omega arith) less h at
             ]
 
       rounds_nearer : (keys : ℕ → ℕ → ℕ) (count left : ℕ) → count + left ≡ 13 → (g : Game) → At 13 g
@@ -283,8 +224,7 @@ module _ {S : Type 0} (rules : Rules S) (settings : Settings) (cap : ℕ) (stay 
       unfolding in_order
       rounds_up keys less zero left sum g at =
           subst (λ (n : ℕ). At n (good_round rules (keys 0) g)) (omega arith)
-          (round_up (keys 0) 13 12 11 (λ x y. omega arith) (λ x. omega arith) (λ x. omega arith) (omega arith)
-          (omega arith) less g at)
+          (round_up (keys 0) 13 12 11 (omega arith) (omega arith) less g at)
       rounds_up keys less (suc count) left sum g at =
           round_nearer (keys (suc count)) left (omega arith) _
           (rounds_up keys less count (suc left) (omega arith) g at)
@@ -295,86 +235,6 @@ module _ {S : Type 0} (rules : Rules S) (settings : Settings) (cap : ℕ) (stay 
       unfolding good_rounds in_order
       has_after keys g on = elim (cases_lt p q) [
         | inl less ↦ rounds_up keys less 11 0 refl g (AtOn on (Unknown (omega arith)))
-        | inr more ↦ round_down (keys 11) 2 1 0 (omega arith) (omega arith) (λ x. omega arith)
-            (λ x y. omega arith) (λ x. omega arith) (omega arith) _
+        | inr more ↦ round_down (keys 11) 2 1 0 (omega arith) (omega arith) (omega arith) _
             (rounds_nearer keys 11 2 refl g (AtOn on (Unknown (omega arith))))
       ]
-
-  -- in the next round each runs it
-  module _ (room : tic + 6 ≤ cap) (several : 2 ≤ rules.players) (q : ℕ) (m : q < rules.players)
-      (stays : stay q ≡ true) where
-    -- all others' commands have come to this player
-    abbrev HasAll : Game → Type 0
-    HasAll g = (p : ℕ) (l : p < rules.players) (apart : p ≢ q) → At p q l m stays apart 0 g
-
-    -- another player
-    other : (p : ℕ) × (p < rules.players) × (p ≢ q)
-    other = elim (cases_eq q 0) [
-      | inl e ↦ (1, omega arith, λ f. omega arith)
-      | inr n ↦ (0, omega arith, λ f. omega arith)
-    ]
-
-    -- within the turn, before the run
-    abbrev HasAllIn : Game → Type 0
-    HasAllIn g = (p : ℕ) (l : p < rules.players) (apart : p ≢ q) → In p q l m stays apart q 0 g
-
-    runs_it : (g : Game) → HasAllIn g → tic < ran ((after rules (Run q) g).nodes q)
-    runs_it g all =
-        let more = (applied_grows rules g q (Run q)).rows in
-        elim (cases_lt tic (ran (g.nodes q))) [
-          | inl done ↦ omega arith
-          | inr low ↦ go low (all other.0 other.1 other.2)
-        ]
-      where
-        far_off : ran (g.nodes q) ≤ tic → IsFar rules cap stay g → ⊥
-        far_off low far = let x = far q m stays in omega arith
-
-        has_of : ran (g.nodes q) ≤ tic → tic ≤ ran (g.nodes q)
-            → (p : ℕ) (l : p < rules.players) (apart : p ≢ q) → In p q l m stays apart q 0 g
-            → (ran (g.nodes q) < got (g.nodes q) p) ⊎ (is_absent (g.nodes q) p ≡ true)
-        has_of low high p l apart (InFar far) = absurd (far_off low far)
-        has_of low high p l apart (InOn on built (Has (inl h))) = inl (omega arith)
-        has_of low high p l apart (InOn on built (Has (inr h))) = let at = h.2 in
-            inr (ap (λ (o : Option ℕ). is_over o (ran (g.nodes q))) h.1
-            ∙ le-leb h.0 (ran (g.nodes q)) (omega arith))
-        has_of low high p l apart (InOn on built (Meets h e)) = absurd (omega arith)
-        has_of low high p l apart (InOn on built (Asks w h)) = absurd (omega arith)
-        has_of low high p l apart (InOn on built (Unknown h)) = absurd (omega arith)
-
-        has : ran (g.nodes q) ≤ tic → tic ≤ ran (g.nodes q) → tic < made q (g.nodes q) → (p : ℕ)
-            → p < rules.players → (ran (g.nodes q) < got (g.nodes q) p) ⊎ (is_absent (g.nodes q) p ≡ true)
-        has low high built p l = elim (cases_eq p q) [
-          | inl e ↦ let same = ap (λ (r : ℕ). got (g.nodes q) r) e in inl (omega arith)
-          | inr n ↦ has_of low high p l n (all p l n)
-        ]
-
-        go : ran (g.nodes q) ≤ tic → In other.0 q other.1 m stays other.2 q 0 g
-            → tic < ran ((after rules (Run q) g).nodes q)
-        go low (InFar far) = absurd (far_off low far)
-        go low (InOn on built stage) =
-            let least = on.ran q m stays in
-            elim (Turns.run_on rules settings cap stay tic g on q m) [
-              | inl far ↦ absurd (far_off low far)
-              | inr done ↦ let more = done.more stays (has low least (built stays)) in omega arith
-            ]
-
-    turn_runs : (keys : ℕ → ℕ) (g : Game) → HasAll g → tic < ran ((turn rules keys g q).nodes q)
-    unfolding turn
-    turn_runs keys g all =
-        runs_it _ (λ p l apart. turn_hears p q l m stays apart keys 0 0 (λ h. absurd (omega arith))
-        (omega arith) (λ h. absurd (omega arith)) g (all p l apart))
-
-    pub round_runs : (keys : ℕ → ℕ) (g : Game) → HasAll g → tic < ran ((good_round rules keys g).nodes q)
-    unfolding good_round
-    round_runs keys g all =
-        one_of HasAll (λ (h : Game). tic < ran (h.nodes q)) (turn rules keys) rules.players q
-        (λ i h o n x p l apart. turn_keeps p q l m stays apart keys i o h (x p l apart))
-        (λ i h o n x. let more = turn_ran rules keys q (suc tic) h i (omega arith) in omega arith)
-        (λ h x. turn_runs keys h x)
-        g m all
-
-    pub thirteen : (keys : ℕ → ℕ → ℕ) (g : Game) → IsOn rules settings cap stay tic g
-        → tic < ran ((good_rounds rules keys 13 g).nodes q)
-    unfolding good_rounds in_order
-    thirteen keys g on = round_runs (keys 12) (good_rounds rules keys 12 g)
-        (λ p l apart. has_after p q l m stays apart keys g on)

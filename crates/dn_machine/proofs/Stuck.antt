@@ -32,7 +32,8 @@ lost =
 
 -- the first four rounds from a stage of the start, past this many of its events
 first_rounds : ℕ → List (List ℕ)
-first_rounds count = map (rans (answers (opening_game settings) (take count lost)).1) (1 ∷ 2 ∷ 3 ∷ 4 ∷ [])
+first_rounds count = map (rans (answers counting (opening_game settings) (take count lost)).1)
+    (1 ∷ 2 ∷ 3 ∷ 4 ∷ [])
 
 -- nothing was sent; the set-up packet was sent, and lost; it has come, and node 1 plays; node 1's first
 -- packet is lost: each time both play after the first round, and node 0 has what it missed in the fourth
@@ -63,14 +64,15 @@ unfolding rans_by three noted answers good_rounds good_round turn exchange in_or
 three_so = refl
 
 -- node 0 hears no more request for ten packets: node 1 waits for eleven rounds, and runs in the twelfth
-lost_so : map (rans (answers (opening_game settings) lost).1) (11 ∷ 12 ∷ [])
+lost_so : map (rans (answers counting (opening_game settings) lost).1) (11 ∷ 12 ∷ [])
     ≡ (5 ∷ 0 ∷ []) ∷ (5 ∷ 1 ∷ []) ∷ []
 unfolding rans rans_by lost answers good_rounds good_round turn exchange in_order opening_game applied
     on_build on_send on_packet on_run on_quit pressed row_of lowest world_after used
 lost_so = refl
 
 -- and if node 0 quits there: node 1 has its two commands in the twelfth round too, and goes on without it
-quit_so : map (rans (answers (opening_game settings) (lost ++ Quit 0 ∷ [])).1) (11 ∷ 12 ∷ 13 ∷ 14 ∷ [])
+quit_so : map (rans (answers counting (opening_game settings) (lost ++ Quit 0 ∷ [])).1)
+    (11 ∷ 12 ∷ 13 ∷ 14 ∷ [])
     ≡ (0 ∷ 0 ∷ []) ∷ (0 ∷ 1 ∷ []) ∷ (0 ∷ 2 ∷ []) ∷ (0 ∷ 3 ∷ []) ∷ []
 unfolding rans rans_by lost answers good_rounds good_round turn exchange in_order opening_game applied
     on_build on_send on_packet on_run on_quit pressed row_of lowest world_after used

@@ -1,0 +1,214 @@
+-- The cases of each call on a node: what is so of each node that a call may leave, with its answer where that
+-- tells, is so of the one that it leaves.
+use Rattle.std.proofs.Common.{◌≡◌, ℕ, ◌+◌, ◌-◌, ◌<◌, ◌≤◌, ◌≢◌, Bool, true, false, [], ◌∷◌, ◌++◌, drop, refl, ap, arith, Option, Some, None, inl, inr, ltb, leb, eqb}
+use Rattle.std.specs.Prelude.{◌⊎◌}
+use Rattle.std.proofs.lemmas.Bool.{cond_both, leb-true, leb-false, ltb-true, ltb-false, eqb-true, eqb-false, and_from}
+use Rattle.dn_setup.specs.Settings.{Settings}
+use Rattle.dn_setup.specs.Gathered.{all_noted}
+use Rattle.dn_tic.specs.Pressed.{pressed}
+use Rattle.dn_machine.specs.declared.answers.Cause.{Cause}
+use Rattle.dn_machine.specs.declared.answers.Phase.{Phase}
+use Rattle.dn_machine.specs.declared.answers.Phase.TheVariants.{Listening, Gathering, Playing, Ended}
+use Rattle.dn_machine.specs.declared.answers.Made.{Made}
+use Rattle.dn_machine.specs.declared.answers.Heard.{Heard}
+use Rattle.dn_machine.specs.declared.answers.Ran.{Ran}
+use Rattle.dn_machine.specs.declared.peer.Peer.{Peer}
+use Rattle.dn_machine.specs.Drops as drops
+use Rattle.dn_machine.specs.Worlds.{Rules}
+use Rattle.dn_machine.specs.Flight.{Kind, SetUp, Play, Exit, Flight, is_exit, end_of}
+use Rattle.dn_machine.specs.Node.{Node, put, with_peer, ends_of, got, made, ran, held_at, own_mark, lowest, is_ended, has_left}
+use Rattle.dn_machine.specs.Building.{on_build, on_build_in}
+use Rattle.dn_machine.specs.Sending.{set_up_flight, commands_flight, request_to, after_sent, on_send, on_send_in}
+use Rattle.dn_machine.specs.Hearing.{started, on_gathering, after_request, after_flight, is_strange_end, left_or, on_commands, on_ended, on_packet, on_packet_in}
+use Rattle.dn_machine.specs.Running.{full_at, is_awaited, first_off, row_held, on_run_playing, on_run_in, on_run, on_quit, on_quit_in}
+
+-- the packet is not set-up
+abbrev pub IsWord : Kind → Type 0
+IsWord kind = (s : Settings) → kind ≢ SetUp s
+
+module _ {S : Type 0} (rules : Rules S) (me : ℕ) (node : Node) where
+  abbrev pub ended_by : Cause → Node
+  ended_by cause = record node { phase = Ended cause }
+
+  -- build
+  abbrev pub built : ℕ → Node
+  built state = record node {
+    keys = node.keys ++ state ∷ [];
+    held = put node.held me
+        (node.held me ++ pressed (node.keys ++ state ∷ []) (own_mark rules node me (made me node)) ∷ []);
+  }
+
+  pub build_cases : (P : Node → Type 0) (state : ℕ)
+      → ((node.phase ≡ Playing → ran node + 5 ≤ made me node) → P node)
+      → (node.phase ≡ Playing → made me node < ran node + 5 → P (built state))
+      → P (on_build rules me node state).0
+  unfolding on_build
+  build_cases P state same builds = go node.phase refl
+    where
+      go : (phase : Phase) → node.phase ≡ phase → P (on_build_in rules me node state phase).0
+      go Listening e = same (λ plays. absurd (cc))
+      go Gathering e = same (λ plays. absurd (cc))
+      go (Ended cause) e = same (λ plays. absurd (cc))
+      go Playing e = cond_both (leb 5 (made me node - ran node)) _ _ (λ (r : Node × Made). P r.0)
+          (λ full. let l = leb-true 5 (made me node - ran node) full in same (λ plays. omega arith))
+          (λ free. let l = leb-false 5 (made me node - ran node) free in builds e (omega arith))
+
+  -- send
+  pub send_cases : (P : Node × Option Flight → Type 0) (to : ℕ) → P (node, None)
+      → (me ≢ to → node.phase ≡ Gathering → P (node, set_up_flight me to node.settings))
+      → (me ≢ to → node.phase ≡ Playing
+      → P (after_sent rules me node to, Some (commands_flight rules me node to Play (request_to node to))))
+      → (me ≢ to → has_left node ≡ true
+      → P (after_sent rules me node to, Some (commands_flight rules me node to Exit None)))
+      → P (on_send rules me node to)
+  unfolding on_send
+  send_cases P to none sets_up plays left =
+      cond_both (eqb me to) _ _ P (λ own. none) (λ other. go (eqb-false me to other) node.phase refl)
+    where
+      go : me ≢ to → (phase : Phase) → node.phase ≡ phase → P (on_send_in rules me node to phase)
+      go other Listening e = none
+      go other Gathering e = sets_up other e
+      go other Playing e = plays other e
+      go other (Ended cause) e = cond_both node.played _ _ P
+          (λ played. left other (and_from node.played (is_ended node.phase) played (ap is_ended e)))
+          (λ never. none)
+
+  -- run
+  pub run_cases : (P : Node → Type 0)
+      → ((node.phase ≡ Playing → lowest rules.players (is_awaited node) ≢ None) → P node)
+      → ((player : ℕ) → node.phase ≡ Playing → lowest rules.players (is_awaited node) ≡ None
+      → first_off rules node ≡ Some player
+      → P (ended_by (Cause.Inconsistent player (held_at node player (ran node)).mark
+      (own_mark rules node player (ran node)))))
+      → (node.phase ≡ Playing → lowest rules.players (is_awaited node) ≡ None
+      → ran node ≡ full_at rules (row_held rules node) → P (ended_by Cause.Full))
+      → (node.phase ≡ Playing → lowest rules.players (is_awaited node) ≡ None
+      → ran node ≢ full_at rules (row_held rules node)
+      → P (record node { rows = node.rows ++ row_held rules node ∷ [] }))
+      → P (on_run rules node).0
+  unfolding on_run
+  run_cases P same off full runs = go node.phase refl
+    where
+      by : node.phase ≡ Playing → (awaited off_mark : Option ℕ)
+          → lowest rules.players (is_awaited node) ≡ awaited → first_off rules node ≡ off_mark
+          → P (on_run_playing rules node awaited off_mark).0
+      by plays (Some player) o a f = same (λ e none. absurd (cc))
+      by plays None (Some player) a f = off player plays a f
+      by plays None None a f = cond_both (eqb (ran node) (full_at rules (row_held rules node))) _ _
+          (λ (r : Node × Ran). P r.0)
+          (λ at. full plays a (eqb-true (ran node) (full_at rules (row_held rules node)) at))
+          (λ free. runs plays a (eqb-false (ran node) (full_at rules (row_held rules node)) free))
+
+      go : (phase : Phase) → node.phase ≡ phase → P (on_run_in rules node phase).0
+      go Listening e = same (λ plays. absurd (cc))
+      go Gathering e = same (λ plays. absurd (cc))
+      go (Ended cause) e = same (λ plays. absurd (cc))
+      go Playing e = by e (lowest rules.players (is_awaited node)) (first_off rules node) refl refl
+
+  -- quit
+  pub quit_cases : (P : Node → Type 0) → P node → (is_ended node.phase ≡ false → P (ended_by Cause.Quit))
+      → P (on_quit node).0
+  unfolding on_quit
+  quit_cases P same quits = go node.phase refl
+    where
+      go : (phase : Phase) → node.phase ≡ phase → P (on_quit_in node phase).0
+      go (Ended cause) e = same
+      go Listening e = quits (ap is_ended e)
+      go Gathering e = quits (ap is_ended e)
+      go Playing e = quits (ap is_ended e)
+
+  module _ (flight : Flight) where
+    -- what a packet that is not dropped leaves of what is kept of its sender
+    abbrev pub sender_after : Peer
+    sender_after = after_flight (made me node) (node.peers flight.from) flight
+
+    -- the commands of a packet
+    pub record Commands (P : Node × Heard → Type 0) : Type 0 where
+      pub overrun : ran node + 12 < end_of flight → P (node, Heard.Dropped drops.overrun)
+      pub strange : is_strange_end (is_exit flight.kind) (got node flight.from) (ends_of node flight.from)
+          (end_of flight) ≡ true
+          → P (node, Heard.Dropped drops.strange_end)
+      pub stale : end_of flight ≤ got node flight.from
+          → P (with_peer node flight.from sender_after, left_or (is_exit flight.kind) Heard.Stale)
+      pub gap : got node flight.from < flight.start
+          → P (with_peer node flight.from (record sender_after { want = true }), Heard.Gap)
+      pub takes : flight.start ≤ got node flight.from → got node flight.from < end_of flight
+          → P (
+            record (with_peer node flight.from (record sender_after { want = false })) {
+              held = put node.held flight.from
+                  (node.held flight.from ++ drop (got node flight.from - flight.start) flight.commands);
+            },
+            left_or (is_exit flight.kind) (Heard.Taken (end_of flight - got node flight.from)),
+          )
+
+    pub commands_cases : (P : Node × Heard → Type 0) → Commands P → P (on_commands me node flight)
+    commands_cases P cases =
+        cond_both (ltb (ran node + 12) (end_of flight)) _ _ P
+        (λ over. cases.overrun (ltb-true (ran node + 12) (end_of flight) over))
+        (λ fits. cond_both
+        (is_strange_end (is_exit flight.kind) (got node flight.from) (ends_of node flight.from)
+        (end_of flight)) _ _ P
+        cases.strange
+        (λ known. cond_both (leb (end_of flight) (got node flight.from)) _ _ P
+        (λ old. cases.stale (leb-true (end_of flight) (got node flight.from) old))
+        (λ later. cond_both (ltb (got node flight.from) flight.start) _ _ P
+        (λ past. cases.gap (ltb-true (got node flight.from) flight.start past))
+        (λ joins. cases.takes (ltb-false (got node flight.from) flight.start joins)
+        (leb-false (end_of flight) (got node flight.from) later)))))
+
+    -- hear
+    pub record Packet (P : Node × Heard → Type 0) : Type 0 where
+      pub dropped : (number : ℕ) → (number ≡ drops.out_of_place) ⊎ (number ≡ drops.not_playing)
+          → P (node, Heard.Dropped number)
+      pub starts : (settings : Settings) → node.phase ≡ Listening → flight.kind ≡ SetUp settings
+          → P (started node settings, Heard.Started)
+      pub completes : IsWord flight.kind → node.phase ≡ Gathering
+          → all_noted rules.players (put node.noted flight.from true) ≡ true
+          → P (
+            record node { phase = Playing; played = true; noted = put node.noted flight.from true },
+            Heard.Started,
+          )
+      pub notes : IsWord flight.kind → node.phase ≡ Gathering
+          → all_noted rules.players (put node.noted flight.from true) ≡ false
+          → P (record node { noted = put node.noted flight.from true }, Heard.Noted)
+      pub commands : node.phase ≡ Playing → Commands P
+      pub requests : is_ended node.phase ≡ true
+          → P (
+            with_peer node flight.from
+                (after_request (made me node) (node.peers flight.from) flight.request),
+            Heard.Noted,
+          )
+
+    pub packet_cases : (P : Node × Heard → Type 0) → Packet P → P (on_packet rules me node flight)
+    unfolding on_packet
+    packet_cases P cases = go node.phase flight.kind refl refl
+      where
+        misplaced : P (node, Heard.Dropped drops.out_of_place)
+        misplaced = cases.dropped drops.out_of_place (inl refl)
+
+        early : P (node, Heard.Dropped drops.not_playing)
+        early = cases.dropped drops.not_playing (inr refl)
+
+        gathers : IsWord flight.kind → node.phase ≡ Gathering → P (on_gathering rules node flight.from)
+        gathers word e = cond_both (all_noted rules.players (put node.noted flight.from true)) _ _ P
+            (cases.completes word e) (cases.notes word e)
+
+        ended : (played : Bool) (kind : Kind) → is_ended node.phase ≡ true
+            → P (on_ended played me node flight kind)
+        ended false kind e = early
+        ended true (SetUp s) e = misplaced
+        ended true Exit e = early
+        ended true Play e = cases.requests e
+
+        go : (phase : Phase) (kind : Kind) → node.phase ≡ phase → flight.kind ≡ kind
+            → P (on_packet_in rules me node flight phase kind)
+        go (Ended cause) kind e k = ended node.played kind (ap is_ended e)
+        go Listening (SetUp s) e k = cases.starts s e k
+        go Gathering (SetUp s) e k = misplaced
+        go Playing (SetUp s) e k = misplaced
+        go Listening Play e k = early
+        go Listening Exit e k = early
+        go Gathering Play e k = gathers (λ s h. absurd (cc)) e
+        go Gathering Exit e k = gathers (λ s h. absurd (cc)) e
+        go Playing Exit e k = commands_cases P (cases.commands e)
+        go Playing Play e k = commands_cases P (cases.commands e)

@@ -1,0 +1,105 @@
+-- What each call on a node does to its phase and to whom it has noted.
+use Rattle.std.proofs.Common.{◌≡◌, ℕ, zero, suc, ◌+◌, ◌-◌, ◌<◌, ◌≤◌, Bool, true, false, true≢false, length, get_or, refl, sym, ◌∙◌, ap, arith, Option, inl, inr}
+use Rattle.std.specs.Prelude.{◌⊎◌}
+use Rattle.std.specs.List.{list_all, range_with_len}
+use Rattle.std.proofs.lemmas.Bool.{cases_Bool, and_from}
+use Rattle.std.proofs.lemmas.List.Folds.{list_all_at}
+use Rattle.std.proofs.lemmas.List.FromFn.{length-range_with_len, get_or-range_with_len}
+use Rattle.dn_setup.specs.Gathered.{all_noted}
+use Rattle.dn_machine.specs.declared.answers.Phase.TheVariants.{Listening, Gathering, Playing}
+use Rattle.dn_machine.specs.declared.answers.Heard.{Heard}
+use Rattle.dn_machine.specs.Worlds.{Rules}
+use Rattle.dn_machine.specs.Flight.{Flight}
+use Rattle.dn_machine.specs.Node.{Node, put, is_ended}
+use Rattle.dn_machine.specs.Building.{on_build}
+use Rattle.dn_machine.specs.Sending.{on_send}
+use Rattle.dn_machine.specs.Hearing.{on_packet}
+use Rattle.dn_machine.specs.Running.{on_run, on_quit}
+use Rattle.dn_machine.proofs.Calls.{IsWord, build_cases, send_cases, run_cases, quit_cases, packet_cases}
+
+-- all are noted: each from 1 on
+passes_list : (test : ℕ → Bool) (low count : ℕ) → ((k : ℕ) → low ≤ k → k < low + count → test k ≡ true)
+    → list_all test (range_with_len low count) ≡ true
+passes_list test low zero h = refl
+passes_list test low (suc count) h = and_from (test low) (list_all test (range_with_len (low + 1) count))
+    (h low (omega arith) (omega arith))
+    (passes_list test (low + 1) count (λ k a b. h k (omega arith) (omega arith)))
+
+pub each_noted : (players : ℕ) (noted : ℕ → Bool) (k : ℕ) → all_noted players noted ≡ true → 0 < k
+    → k < players → noted k ≡ true
+each_noted players noted k e a b = elim (cases_Bool (noted k)) [
+  | inl is ↦ is
+  | inr not ↦
+      let long = length-range_with_len 1 (players - 1) in
+      let at : get_or (range_with_len 1 (players - 1)) (k - 1) 0 ≡ k =
+      get_or-range_with_len 1 (players - 1) (k - 1) 0 (omega arith) ∙ omega arith in
+      absurd (true≢false (sym e ∙ list_all_at noted (range_with_len 1 (players - 1)) (k - 1) 0 (omega arith)
+      (ap noted at ∙ not)))
+]
+
+pub noted_all : (players : ℕ) (noted : ℕ → Bool) → ((k : ℕ) → 0 < k → k < players → noted k ≡ true)
+    → all_noted players noted ≡ true
+noted_all players noted h = passes_list noted 1 (players - 1) (λ k a b. h k (omega arith) (omega arith))
+
+-- What a call on a node does to its phase and to whom it has noted, where a packet from this player came.
+pub data Change (players : ℕ) (from : ℕ) (spoke ends : Type 0) (old new : Node) : Type 0 where
+  Same : new.phase ≡ old.phase → new.played ≡ old.played → new.noted ≡ old.noted
+      → (old.phase ≡ Gathering → length new.rows ≡ length old.rows) → Change players from spoke ends old new
+  Starts : old.phase ≡ Listening → new.phase ≡ Playing → new.played ≡ true → new.noted ≡ old.noted
+      → Change players from spoke ends old new
+  Notes : spoke → old.phase ≡ Gathering → new.phase ≡ Gathering → new.played ≡ old.played
+      → new.noted ≡ put old.noted from true → all_noted players new.noted ≡ false
+      → length new.rows ≡ length old.rows → Change players from spoke ends old new
+  Completes : spoke → old.phase ≡ Gathering → new.phase ≡ Playing → new.played ≡ true
+      → new.noted ≡ put old.noted from true → all_noted players new.noted ≡ true
+      → Change players from spoke ends old new
+  Gone : ends → is_ended new.phase ≡ true → new.played ≡ old.played → new.noted ≡ old.noted
+      → Change players from spoke ends old new
+
+module _ {S : Type 0} (rules : Rules S) (i : ℕ) (node : Node) where
+  pub build_change : (state : ℕ) → Change rules.players 0 ⊥ ⊥ node (on_build rules i node state).0
+  build_change state = build_cases rules i node (λ (new : Node). Change rules.players 0 ⊥ ⊥ node new) state
+      (λ full. Same refl refl refl (λ e. refl)) (λ plays free. Same refl refl refl (λ e. refl))
+
+  pub send_change : (to : ℕ) → Change rules.players 0 ⊥ ⊥ node (on_send rules i node to).0
+  send_change to =
+      send_cases rules i node (λ (r : Node × Option Flight). Change rules.players 0 ⊥ ⊥ node r.0) to
+      (Same refl refl refl (λ e. refl)) (λ other g. Same refl refl refl (λ e. refl))
+      (λ other plays. Same refl refl refl (λ e. refl)) (λ other left. Same refl refl refl (λ e. refl))
+
+  pub run_change : Change rules.players 0 ⊥ (Unit {0}) node (on_run rules node).0
+  run_change = run_cases rules i node (λ (new : Node). Change rules.players 0 ⊥ (Unit {0}) node new)
+      (λ waits. Same refl refl refl (λ e. refl)) (λ player plays none off. Gone tt refl refl refl)
+      (λ plays none full. Gone tt refl refl refl) (λ plays none free. Same refl refl refl (λ g. absurd (cc)))
+
+  pub quit_change : Change rules.players 0 ⊥ (Unit {0}) node (on_quit node).0
+  quit_change = quit_cases rules i node (λ (new : Node). Change rules.players 0 ⊥ (Unit {0}) node new)
+      (Same refl refl refl (λ e. refl)) (λ goes_on. Gone tt refl refl refl)
+
+  pub hear_change : (flight : Flight) → Change rules.players flight.from (IsWord flight.kind) ⊥ node
+      (on_packet rules i node flight).0
+  hear_change flight = packet_cases rules i node flight
+      (λ (r : Node × Heard). Change rules.players flight.from (IsWord flight.kind) ⊥ node r.0) (record {
+        dropped = λ number why. Same refl refl refl (λ e. refl);
+        starts = λ s e k. Starts e refl refl refl;
+        completes = λ word e all. Completes word e refl refl refl all;
+        notes = λ word e some. Notes word e e refl refl some refl;
+        commands = λ plays. record {
+          overrun = λ l. Same refl refl refl (λ e. refl);
+          strange = λ h. Same refl refl refl (λ e. refl);
+          stale = λ l. Same refl refl refl (λ e. refl);
+          gap = λ l. Same refl refl refl (λ e. refl);
+          takes = λ l m. Same refl refl refl (λ e. refl);
+        };
+        requests = λ ended. Same refl refl refl (λ e. refl);
+      })
+
+-- whom a node has noted after it
+pub noted_of : (players from : ℕ) (spoke ends : Type 0) (old new : Node)
+    → Change players from spoke ends old new
+    → (new.noted ≡ old.noted) ⊎ (spoke × (new.noted ≡ put old.noted from true))
+noted_of players from spoke ends old new (Same a b c r) = inl c
+noted_of players from spoke ends old new (Starts l a b c) = inl c
+noted_of players from spoke ends old new (Notes w g a b c d r) = inr (w, c)
+noted_of players from spoke ends old new (Completes w g a b c d) = inr (w, c)
+noted_of players from spoke ends old new (Gone x a b c) = inl c

@@ -1,0 +1,283 @@
+-- A packet that comes to a node keeps what every event keeps.
+use Rattle.std.proofs.Common.{◌≡◌, ℕ, ◌+◌, ◌-◌, ◌<◌, ◌≤◌, ◌≢◌, false, List, ◌++◌, length, get_or, drop, refl, sym, ◌∙◌, ap, subst, arith, inl, inr, Bool, true, true≢false, cond, Option, Some}
+use Rattle.std.specs.Prelude.{◌⊎◌}
+use Rattle.std.proofs.lemmas.Bool.{cases_lt, le-leb, and_parts}
+use Rattle.std.proofs.lemmas.List.{length-append, length-drop, get_or_append_left, get_or-append_right, get_or-drop}
+use Rattle.dn_tic.specs.declared.command.TicCmd.{TicCmd}
+use Rattle.dn_setup.specs.Settings.{Settings}
+use Rattle.dn_machine.specs.Worlds.{Rules, command}
+use Rattle.dn_machine.specs.Flight.{Flight, end_of, Kind, SetUp, Play, Exit, is_exit}
+use Rattle.dn_machine.specs.Node.{put, blank, Node, with_peer, ends_of, got, made, is_ended, has_left}
+use Rattle.dn_machine.proofs.Invariant.{History, IsPiece, ComesFromKeys, IsKept, history_of}
+use Rattle.dn_machine.proofs.Put.{put_two_at, put_two_off, both_or_not, put_off, view_put, view_kept}
+use Rattle.dn_machine.proofs.Lists
+use Rattle.dn_machine.specs.declared.answers.Phase.{Phase}
+use Rattle.dn_machine.specs.declared.answers.Phase.TheVariants.{Listening, Gathering, Playing}
+use Rattle.dn_machine.specs.declared.answers.Heard.{Heard}
+use Rattle.dn_machine.specs.declared.peer.Peer.{Peer}
+use Rattle.dn_machine.specs.Game.{Game, with_node}
+use Rattle.dn_machine.proofs.Peers.{asked_low, asked_end, flight_low, flight_end, same_ends}
+use Rattle.dn_machine.proofs.Calls.{packet_cases, sender_after}
+use Rattle.dn_machine.proofs.Placing
+use Rattle.dn_machine.proofs.RunKeeps.{over}
+use Rattle.dn_machine.specs.Hearing.{on_packet}
+use Rattle.dn_machine.specs.Running.{is_over}
+
+module _ {S : Type 0} (rules : Rules S) (settings : Settings) (history : History) (flights : List Flight)
+    (from_keys : ComesFromKeys rules settings history flights) where
+  -- commands of a peer that are taken from a packet, by a player who has not left
+  module _ (me : ℕ) (mine : me < rules.players) (stays : history.left me ≡ false) (flight : Flight)
+      (piece : IsPiece rules settings history.keys history.left flight) (other : me ≢ flight.from)
+      (low : flight.start ≤ length (history.held me flight.from))
+      (high : length (history.held me flight.from) ≤ end_of flight) where
+    length_new : length (history.held me flight.from
+        ++ drop (length (history.held me flight.from) - flight.start) flight.commands) ≡ end_of flight
+    length_new =
+        let a = length-append (history.held me flight.from)
+        (drop (length (history.held me flight.from) - flight.start) flight.commands) in
+        let b = length-drop (length (history.held me flight.from) - flight.start) flight.commands in
+        omega arith
+
+    true_new : (t : ℕ) → t < end_of flight
+        → get_or (history.held me flight.from ++ drop (length (history.held me flight.from) - flight.start)
+        flight.commands) t blank ≡ command rules settings history.keys flight.from t
+    true_new t l =
+        elim (cases_lt t (length (history.held me flight.from))) [
+          | inl before ↦ get_or_append_left (history.held me flight.from)
+              (drop (length (history.held me flight.from) - flight.start) flight.commands) blank t before
+              ∙ from_keys.commands me flight.from t mine piece.sender before
+          | inr after ↦
+              let skip = length (history.held me flight.from) - flight.start in
+              let at : skip + (t - length (history.held me flight.from)) ≡ t - flight.start = omega arith in
+              let whole : flight.start + (t - flight.start) ≡ t = omega arith in
+              get_or-append_right (history.held me flight.from) (drop skip flight.commands)
+              (length (history.held me flight.from)) t blank refl after
+              ∙ (get_or-drop skip flight.commands (t - length (history.held me flight.from)) blank
+              ∙ (ap (λ (k : ℕ). get_or flight.commands k blank) at
+              ∙ (piece.commands (t - flight.start) (omega arith)
+              ∙ ap (command rules settings history.keys flight.from) whole)))
+        ]
+
+    abbrev held_after : ℕ → ℕ → List TicCmd
+    held_after = put history.held me
+        (put (history.held me) flight.from
+        (history.held me flight.from ++ drop (length (history.held me flight.from) - flight.start)
+        flight.commands))
+
+    -- how many commands of whom each node has then
+    counts : (q p : ℕ)
+        → ((length (held_after q p) ≡ end_of flight)
+        × (length (history.held q p) ≡ length (history.held me flight.from))
+        × (length (history.keys p) ≡ length (history.keys flight.from))
+        × (length (history.rows q) ≡ length (history.rows me)))
+        ⊎ (length (held_after q p) ≡ length (history.held q p))
+    counts q p = elim (both_or_not q me p flight.from) [
+      | inl h ↦ inl (
+        ap (length {A = TicCmd}) (put_two_at history.held me flight.from q p _ h.0 h.1) ∙ length_new,
+        ap (λ (r : ℕ). length (history.held r p)) h.0 ∙ ap (λ (r : ℕ). length (history.held me r)) h.1,
+        ap (λ (r : ℕ). length (history.keys r)) h.1,
+        ap (λ (r : ℕ). length (history.rows r)) h.0,
+      )
+      | inr n ↦ inr (ap (length {A = TicCmd}) (put_two_off history.held me flight.from q p _ n))
+    ]
+
+    pub lists_taken : ComesFromKeys rules settings (record history { held = held_after }) flights
+    lists_taken = record {
+      counted = λ p l. ap (length {A = TicCmd})
+          (put_two_off history.held me flight.from p p _ (λ e d. other (sym e ∙ d))) ∙ from_keys.counted p l;
+      run = λ q p l m.
+          let now = counts q p in
+          elim (from_keys.run q p l m) [
+            | inl le ↦ inl (omega arith)
+            | inr all ↦ let low = all.2 in inr (all.0, all.1, omega arith)
+          ];
+      got = λ q p l m.
+          let now = counts q p in
+          let old = from_keys.got q p l m in
+          let reached = piece.reached in
+          omega arith;
+      ahead = from_keys.ahead;
+      unread = λ q p l m.
+          let now = counts q p in
+          let old = from_keys.unread q p l m in
+          let reached = piece.reached in
+          let near = Lists.close rules settings history flights from_keys flight.from me piece.sender mine
+          stays in
+          let own = from_keys.ahead me mine in
+          omega arith;
+      commands = λ q p tic l m t. elim (both_or_not q me p flight.from) [
+        | inl h ↦
+            let same = put_two_at history.held me flight.from q p _ h.0 h.1 in
+            let count = ap (length {A = TicCmd}) same ∙ length_new in
+            ap (λ (cs : List TicCmd). get_or cs tic blank) same
+            ∙ (true_new tic (omega arith) ∙ ap (λ (r : ℕ). command rules settings history.keys r tic)
+            (sym h.1))
+        | inr n ↦
+            let same = put_two_off history.held me flight.from q p _ n in
+            ap (λ (cs : List TicCmd). get_or cs tic blank) same
+            ∙ from_keys.commands q p tic l m (subst (λ (cs : List TicCmd). tic < length cs) same t)
+      ];
+      moves = from_keys.moves;
+      ended = from_keys.ended;
+      pieces = from_keys.pieces;
+    }
+
+-- a packet that tells an end is an EXIT packet
+pub exit_is : (kind : Kind) → is_exit kind ≡ true → kind ≡ Exit
+exit_is (SetUp s) e = absurd (true≢false (sym e))
+exit_is Play e = absurd (true≢false (sym e))
+exit_is Exit e = refl
+
+module _ {S : Type 0} (rules : Rules S) (settings : Settings) (game : Game)
+    (kept : IsKept rules settings game) (i : ℕ) (mine : i < rules.players) where
+  abbrev keys_now : ℕ → List ℕ
+  keys_now q = (game.nodes q).keys
+
+  -- whoever had left still has, where the phase is not one of an end
+  in_play_left : {A : Type 0} (phase : Phase) → (game.nodes i).phase ≡ phase → is_ended phase ≡ false
+      → has_left (game.nodes i) ≡ true → A
+  in_play_left phase e f h =
+      absurd (true≢false (sym (and_parts (game.nodes i).played (is_ended (game.nodes i).phase) h).1
+      ∙ (ap is_ended e ∙ f)))
+
+  -- a packet of commands: its sender's end is told or not, and its commands are taken or not
+  module _ (flight : Flight) (piece : IsPiece rules settings keys_now (λ q. has_left (game.nodes q)) flight)
+      (here : i ≡ flight.to) where
+    -- the node that keeps this of the sender, and these commands
+    abbrev after_peer : Peer → (ℕ → List TicCmd) → Node
+    after_peer peer held = record (with_peer (game.nodes i) flight.from peer) { held = held }
+
+    abbrev end_after : Bool → Option ℕ
+    end_after exit = cond exit (Some (end_of flight)) (ends_of (game.nodes i) flight.from)
+
+    -- the history after the end was told
+    abbrev history_with_end : Bool → History
+    history_with_end exit =
+        record (history_of game) {
+          ends = cond exit
+              (put (λ q. ends_of (game.nodes q)) i
+              (put (ends_of (game.nodes i)) flight.from (Some (end_of flight))))
+              (λ q. ends_of (game.nodes q));
+        }
+
+    end_from_keys : (exit : Bool) → (exit ≡ true → flight.kind ≡ Exit)
+        → ComesFromKeys rules settings (history_with_end exit) game.flights
+    end_from_keys true leaving = Lists.learns rules settings (history_of game) game.flights kept.from_keys i
+        mine flight piece (leaving refl)
+    end_from_keys false leaving = kept.from_keys
+
+    end_over : (exit : Bool) → (exit ≡ true → flight.kind ≡ Exit) → (tic : ℕ)
+        → is_over (ends_of (game.nodes i) flight.from) tic ≡ true → is_over (end_after exit) tic ≡ true
+    end_over false leaving tic h = h
+    end_over true leaving tic h =
+        let old = over (ends_of (game.nodes i) flight.from) tic h in
+        let low = old.2 in
+        let tip = (kept.from_keys.ended i flight.from old.0 mine piece.sender old.1).1 in
+        let end = (piece.exit (leaving refl)).1 in
+        le-leb (end_of flight) tic (omega arith)
+
+    module _ (exit : Bool) (leaving : exit ≡ true → flight.kind ≡ Exit) (peer : Peer)
+        (told : peer.end ≡ end_after exit) (low : peer.resend ≤ made i (game.nodes i)) where
+      still : (tic : ℕ) → is_over (ends_of (game.nodes i) flight.from) tic ≡ true
+          → is_over peer.end tic ≡ true
+      still tic h = ap (λ (o : Option ℕ). is_over o tic) told ∙ end_over exit leaving tic h
+
+      ends_view : (held : ℕ → List TicCmd)
+          → ◌≡◌ {A = ℕ → ℕ → Option ℕ}
+          (λ q. ends_of (put game.nodes i (after_peer peer held) q))
+          (history_with_end exit).ends
+      ends_view held = go exit told
+        where
+          node : Node
+          node = after_peer peer held
+
+          go : (exit : Bool) → peer.end ≡ end_after exit
+              → ◌≡◌ {A = ℕ → ℕ → Option ℕ} (λ q. ends_of (put game.nodes i node q))
+              (history_with_end exit).ends
+          go true e =
+              view_put ends_of game.nodes i node
+              ∙ ap (put (λ (q : ℕ). ends_of (game.nodes q)) i)
+              (view_put (λ (p : Peer). p.end) (game.nodes i).peers flight.from peer
+              ∙ ap (put (ends_of (game.nodes i)) flight.from) e)
+          go false e = view_kept ends_of game.nodes i node (same_ends (game.nodes i) flight.from peer e)
+
+      -- no commands are taken
+      hears_only : IsKept rules settings (with_node game i (with_peer (game.nodes i) flight.from peer))
+      hears_only =
+          Placing.placed rules settings game kept i mine
+          (with_peer (game.nodes i) flight.from peer) game.stopped game.flights (history_with_end exit)
+          (view_kept (λ (n : Node). n.keys) game.nodes i _ refl)
+          (view_kept (λ (n : Node). n.held) game.nodes i _ refl)
+          (view_kept (λ (n : Node). n.rows) game.nodes i _ refl)
+          (ends_view (game.nodes i).held)
+          (Placing.left_placed rules settings game kept i mine (with_peer (game.nodes i) flight.from peer)
+          (λ h. h))
+          (end_from_keys exit leaving)
+          (Placing.peer_sound rules settings game kept i mine flight.from peer
+          (game.nodes i).held low still refl)
+
+      abbrev taken : ℕ → List TicCmd
+      taken = put (game.nodes i).held flight.from
+          ((game.nodes i).held flight.from ++ drop (got (game.nodes i) flight.from - flight.start)
+          flight.commands)
+
+      -- commands are taken
+      takes_too : (game.nodes i).phase ≡ Playing → flight.start ≤ got (game.nodes i) flight.from
+          → got (game.nodes i) flight.from < end_of flight
+          → IsKept rules settings (with_node game i (after_peer peer taken))
+      takes_too plays first high =
+          let apart : i ≢ flight.from = λ e. piece.apart (sym e ∙ here) in
+          let next : Node = after_peer peer taken in
+          Placing.placed rules settings game kept i mine next game.stopped game.flights _
+          (view_kept (λ (n : Node). n.keys) game.nodes i next refl)
+          (view_put (λ (n : Node). n.held) game.nodes i next)
+          (view_kept (λ (n : Node). n.rows) game.nodes i next refl)
+          (ends_view taken)
+          (Placing.left_placed rules settings game kept i mine next (λ h. h))
+          (lists_taken rules settings (history_with_end exit) game.flights (end_from_keys exit leaving) i mine
+          (Placing.playing_stays rules settings game kept i mine plays) flight piece apart first
+          (omega arith))
+          (Placing.peer_sound rules settings game kept i mine flight.from peer taken low still
+          (put_off (game.nodes i).held flight.from i _ apart))
+
+    -- hear
+    pub hears : IsKept rules settings (with_node game i (on_packet rules i (game.nodes i) flight).0)
+    hears =
+        let node : Node = game.nodes i in
+        let sound = kept.sound i mine in
+        let same = Placing.same_node rules settings game kept i mine in
+        let leaving : is_exit flight.kind ≡ true → flight.kind ≡ Exit = exit_is flight.kind in
+        let peer : Peer = sender_after rules i (game.nodes i) flight in
+        let told : peer.end ≡ end_after (is_exit flight.kind) =
+        flight_end (made i (game.nodes i)) ((game.nodes i).peers flight.from) flight in
+        let low : peer.resend ≤ made i (game.nodes i) =
+        flight_low (made i (game.nodes i)) ((game.nodes i).peers flight.from) flight
+        (sound.resend flight.from) in
+        packet_cases rules i (game.nodes i) flight
+        (λ (r : Node × Heard). IsKept rules settings (with_node game i r.0)) (record {
+          dropped = λ number why. same;
+          starts = λ s e k. Placing.quiet rules settings game kept i mine _ refl refl refl refl
+              (in_play_left Listening e refl)
+              (Placing.restated rules settings game kept i mine Playing true (Some s) node.noted
+              (λ h. ap (λ (z : Settings). Some z) (piece.set_up s k)) (λ h. refl)
+              (λ h. ap (λ (z : Settings). Some z) (piece.set_up s k)) (λ p w z h. cc));
+          completes = λ word e all. Placing.quiet rules settings game kept i mine _ refl refl refl refl
+              (in_play_left Gathering e refl)
+              (Placing.restated rules settings game kept i mine Playing true node.settings _
+              (λ h. sound.gathering e) (λ h. refl) (λ h. sound.gathering e) (λ p w s h. cc));
+          notes = λ word e some. Placing.quiet rules settings game kept i mine _ refl refl refl refl (λ h. h)
+              (Placing.restated rules settings game kept i mine node.phase node.played node.settings _
+              sound.played sound.playing sound.gathering sound.consistent);
+          commands = λ plays. record {
+            overrun = λ l. same;
+            strange = λ h. same;
+            stale = λ l. hears_only (is_exit flight.kind) leaving peer told low;
+            gap = λ l. hears_only (is_exit flight.kind) leaving (record peer { want = true }) told low;
+            takes = λ first high. takes_too (is_exit flight.kind) leaving (record peer { want = false }) told
+                low plays first high;
+          };
+          requests = λ ended. hears_only false (λ e. absurd (cc)) _
+              (asked_end (made i (game.nodes i)) ((game.nodes i).peers flight.from) flight.request)
+              (asked_low (made i (game.nodes i)) ((game.nodes i).peers flight.from) flight.request
+              (sound.resend flight.from));
+        })

@@ -1,0 +1,159 @@
+-- The key player's packet starts a listener, and a player's packet is noted by the key player.
+use Rattle.std.proofs.Common.{◌≡◌, ℕ, ◌<◌, ◌≢◌, Bool, true, false, true≢false, cond, [], length, refl, sym, ◌∙◌, ap, arith, Option, Some, None, inl, inr, eqb}
+use Rattle.std.specs.Prelude.{◌⊎◌}
+use Rattle.std.proofs.lemmas.Bool.{cases_Bool, cond_both, cond-false, ne_eqb}
+use Rattle.dn_setup.specs.Settings.{Settings}
+use Rattle.dn_setup.specs.Gathered.{all_noted}
+use Rattle.dn_machine.specs.declared.answers.Phase.{Phase}
+use Rattle.dn_machine.specs.declared.answers.Phase.TheVariants.{Gathering, Playing}
+use Rattle.dn_machine.specs.declared.answers.Heard.{Heard}
+use Rattle.dn_machine.specs.Worlds.{Rules}
+use Rattle.dn_machine.specs.Flight.{SetUp, Flight, is_near}
+use Rattle.dn_machine.specs.Node.{Node, put, got, made, is_ended, has_left}
+use Rattle.dn_machine.specs.Sending.{set_up_flight, commands_flight, after_sent, on_send, on_send_in}
+use Rattle.dn_machine.specs.Hearing.{on_gathering, on_packet, on_packet_in}
+use Rattle.dn_machine.specs.Game.{Game, with_node}
+use Rattle.dn_machine.specs.Progress.{exchange}
+use Rattle.dn_machine.proofs.Put.{put_at, put_off}
+use Rattle.dn_machine.proofs.Pairs.{accepted}
+use Rattle.dn_machine.proofs.Pairs
+use Rattle.dn_machine.proofs.Openings.{Stands, Gathers, Listens, Plays, HasGone}
+use Rattle.dn_machine.proofs.Gentle.{AllGentle, exchange_gentle}
+use Rattle.dn_machine.proofs.Begun.{IsBegun}
+
+-- the key player still gathers
+abbrev pub KeyGathers : Game → Type 0
+KeyGathers g = (g.nodes 0).phase ≡ Gathering
+
+-- a player plays or has left
+abbrev pub IsIn : ℕ → Game → Type 0
+IsIn j g = ((g.nodes j).phase ≡ Playing) ⊎ (has_left (g.nodes j) ≡ true)
+
+-- the key player has heard of a player
+abbrev pub KnowsOf : ℕ → Game → Type 0
+KnowsOf j g = ((g.nodes 0).phase ≡ Playing) ⊎ ((g.nodes 0).noted j ≡ true)
+
+pub in_stable : (j : ℕ) (old new : Game) → AllGentle old new → IsIn j old → IsIn j new
+in_stable j old new gentle (inl y) = inl ((gentle j).plays y)
+in_stable j old new gentle (inr y) = inr ((gentle j).left y)
+
+pub knows_stable : (j : ℕ) (old new : Game) → AllGentle old new → KnowsOf j old → KnowsOf j new
+knows_stable j old new gentle (inl y) = inl ((gentle 0).plays y)
+knows_stable j old new gentle (inr y) = inr ((gentle 0).noted j y)
+
+module _ {S : Type 0} (rules : Rules S) (settings : Settings) (cap : ℕ) (stay : ℕ → Bool) (tic : ℕ) where
+  module _ (some : 0 < rules.players) (key_stays : stay 0 ≡ true) where
+    -- the key player's packet starts a listener
+    module _ (j : ℕ) (its : j < rules.players) (other : j ≢ 0) (game : Game)
+        (begun : IsBegun rules settings cap stay tic game)
+        (key : KeyGathers game) where
+      abbrev set_up : Flight
+      set_up = record { from = 0; to = j; kind = SetUp settings; start = 0; request = None; commands = [] }
+
+      back : 0 ≢ j
+      back e = other (sym e)
+
+      gives : on_send rules 0 (game.nodes 0) j ≡ (game.nodes 0, Some set_up)
+      unfolding on_send
+      gives =
+          cond-false (eqb 0 j) _ _ (ne_eqb 0 j back)
+          ∙ (ap (on_send_in rules 0 (game.nodes 0) j) key
+          ∙ ap (λ (o : Option Settings). (game.nodes 0, set_up_flight 0 j o))
+          ((begun.live.kept.sound 0 some).gathering key))
+
+      abbrev started_one : Node
+      started_one = (on_packet rules j (game.nodes j) set_up).0
+
+      exchange_is : exchange rules 0 game j
+          ≡ with_node (Pairs.under_way rules settings game begun.live 0 j some its back (game.nodes 0)
+          (SetUp settings) 0 None [] gives) j started_one
+      exchange_is = Pairs.arrives rules settings game begun.live 0 j some its back (game.nodes 0)
+          (SetUp settings) 0 None [] gives refl
+
+      started_plays : is_ended (game.nodes j).phase ≡ false → started_one.phase ≡ Playing
+      unfolding on_packet
+      started_plays in_play = go (begun.is_open.stands j)
+        where
+          go : Stands j (game.nodes j)
+              → (on_packet_in rules j (game.nodes j) set_up (game.nodes j).phase (SetUp settings)).0.phase
+              ≡ Playing
+          go (Gathers z e f k) = absurd (other z)
+          go (Listens z e f) = ap (λ (ph : Phase).
+              (on_packet_in rules j (game.nodes j) set_up ph (SetUp settings)).0.phase) e
+          go (Plays e) = ap (λ (ph : Phase).
+              (on_packet_in rules j (game.nodes j) set_up ph (SetUp settings)).0.phase) e ∙ e
+          go (HasGone e) = absurd (true≢false (sym e ∙ in_play))
+
+      pub starts : IsIn j (exchange rules 0 game j)
+      starts = elim (cases_Bool (stay j)) [
+        | inl s ↦ inl (ap (λ (g : Game). (g.nodes j).phase) exchange_is
+            ∙ (ap (λ (n : Node). n.phase) (put_at (put game.nodes 0 (game.nodes 0)) j j started_one refl)
+            ∙ started_plays (begun.there j its s)))
+        | inr s ↦ inr ((exchange_gentle rules game 0 j j).left (begun.left j its s))
+      ]
+
+      pub still_gathers : KeyGathers (exchange rules 0 game j)
+      still_gathers = ap (λ (g : Game). (g.nodes 0).phase) exchange_is
+          ∙ (ap (λ (n : Node). n.phase) (put_off (put game.nodes 0 (game.nodes 0)) j 0 started_one back
+          ∙ put_at game.nodes 0 0 (game.nodes 0) refl) ∙ key)
+
+    -- and a player's packet is noted
+    module _ (j : ℕ) (its : j < rules.players) (other : j ≢ 0) (game : Game)
+        (begun : IsBegun rules settings cap stay tic game)
+        (gone asks_it : Bool) (sends : on_send rules j (game.nodes j) 0
+        ≡ (
+          after_sent rules j (game.nodes j) 0,
+          Some (commands_flight rules j (game.nodes j) 0 (Pairs.kind_of rules settings game begun.live gone)
+              (cond asks_it (Some (got (game.nodes j) 0)) None)),
+        ))
+        (asker : asks_it ≡ true → is_ended (game.nodes j).phase ≡ false) where
+      abbrev F : Flight
+      F = Pairs.packet rules settings game begun.live j 0 its some other gone asks_it sends
+
+      near : length (game.nodes 0).rows ≡ 0 → is_near (made 0 (game.nodes 0)) F ≡ true
+      near none =
+          let f = Pairs.fits rules settings game begun.live in
+          let few = f.ahead 0 some in
+          Pairs.near rules settings game begun.live j 0 its some other gone asks_it sends
+          (f.close j 0 its some (begun.there 0 some key_stays)) (omega arith)
+          (λ w. (f.held j 0 its some, f.unheard j 0 its some (asker w)))
+
+      noted_so : (on_gathering rules (game.nodes 0) j).0.noted j ≡ true
+      noted_so = cond_both (all_noted rules.players (put (game.nodes 0).noted j true)) _ _
+          (λ (r : Node × Heard). r.0.noted j ≡ true) (λ all. put_at (game.nodes 0).noted j j true refl)
+          (λ not_all. put_at (game.nodes 0).noted j j true refl)
+
+      noted_in : (b : Bool)
+          → (on_packet_in rules 0 (game.nodes 0) F Gathering
+          (Pairs.kind_of rules settings game begun.live b)).0.noted j ≡ true
+      noted_in true = noted_so
+      noted_in false = noted_so
+
+      knows_by : KnowsOf j (exchange rules j game 0)
+      unfolding on_packet
+      knows_by = go (begun.is_open.stands 0)
+        where
+          go : Stands 0 (game.nodes 0) → KnowsOf j (exchange rules j game 0)
+          go (Listens z e f) = absurd (z refl)
+          go (HasGone e) = absurd (true≢false (sym e ∙ begun.there 0 some key_stays))
+          go (Plays e) = inl ((exchange_gentle rules game j 0 0).plays e)
+          go (Gathers z e f k) =
+              inr (ap (λ (g : Game). (g.nodes 0).noted j)
+              (Pairs.exchanged rules settings game begun.live j 0 its some other gone asks_it sends
+              (near k))
+              ∙ (ap (λ (n : Node). n.noted j)
+              (put_at (Pairs.sent rules settings game begun.live j 0 its some other gone asks_it
+              sends).nodes 0 0
+              (Pairs.receiver rules settings game begun.live j 0 its some other gone asks_it sends) refl)
+              ∙ (ap (λ (ph : Phase). (on_packet_in rules 0 (game.nodes 0) F ph F.kind).0.noted j) e
+              ∙ noted_in gone)))
+
+    pub knows : (j : ℕ) → j < rules.players → j ≢ 0 → (game : Game)
+        → IsBegun rules settings cap stay tic game → IsIn j game
+        → KnowsOf j (exchange rules j game 0)
+    knows j its other game begun (inl plays) =
+        knows_by j its other game begun false ((game.nodes j).peers 0).want
+        (Pairs.sends_playing rules settings game begun.live j 0 other plays) (λ w. ap is_ended plays)
+    knows j its other game begun (inr left) =
+        knows_by j its other game begun true false
+        (Pairs.sends_left rules settings game begun.live j 0 other left) (λ w. absurd (true≢false (sym w)))

@@ -1,0 +1,105 @@
+-- In the round after those twelve each player runs the tic.
+use Rattle.std.proofs.Common.{◌≡◌, ℕ, suc, ◌+◌, ◌<◌, ◌≤◌, ◌≢◌, Bool, true, ◌∙◌, ap, arith, Option, inl, inr}
+use Rattle.std.specs.Prelude.{◌⊎◌}
+use Rattle.std.proofs.lemmas.Bool.{cases_eq, cases_lt, le-leb}
+use Rattle.dn_setup.specs.Settings.{Settings}
+use Rattle.dn_machine.specs.declared.events.Event.TheVariants.{Run}
+use Rattle.dn_machine.specs.Worlds.{Rules}
+use Rattle.dn_machine.specs.Node.{got, made, ran}
+use Rattle.dn_machine.specs.Running.{is_over, is_absent}
+use Rattle.dn_machine.specs.Game.{Game}
+use Rattle.dn_machine.specs.Progress.{after, in_order, turn, good_round, good_rounds}
+use Rattle.dn_machine.proofs.Growth.{applied_grows}
+use Rattle.dn_machine.proofs.Stages.{Has, Meets, Asks, Unknown}
+use Rattle.dn_machine.proofs.GoingOn.{IsFar, IsOn}
+use Rattle.dn_machine.proofs.InOrder.{one_of}
+use Rattle.dn_machine.proofs.Turns
+use Rattle.dn_machine.proofs.RowsStay.{turn_ran}
+use Rattle.dn_machine.proofs.Rounds.{At, In, InFar, InOn, turn_hears, turn_keeps, has_after}
+
+-- of several players another than this one
+pub other_player : (players q : ℕ) → 2 ≤ players → (p : ℕ) × (p < players) × (p ≢ q)
+other_player players q several = elim (cases_eq q 0) [
+  | inl e ↦ (1, several, λ f. omega arith)
+  | inr n ↦ (0, omega arith, λ f. omega arith)
+]
+
+module _ {S : Type 0} (rules : Rules S) (settings : Settings) (cap : ℕ) (stay : ℕ → Bool) (tic : ℕ) where
+  -- in the next round each runs it
+  module _ (room : tic + 6 ≤ cap) (several : 2 ≤ rules.players) (q : ℕ) (m : q < rules.players)
+      (stays : stay q ≡ true) where
+    -- all others' commands have come to this player
+    abbrev HasAll : Game → Type 0
+    HasAll g = (p : ℕ) (l : p < rules.players) (apart : p ≢ q)
+        → At rules settings cap stay tic p q l m stays apart 0 g
+
+    other : (p : ℕ) × (p < rules.players) × (p ≢ q)
+    other = other_player rules.players q several
+
+    -- within the turn, before the run
+    abbrev HasAllIn : Game → Type 0
+    HasAllIn g = (p : ℕ) (l : p < rules.players) (apart : p ≢ q)
+        → In rules settings cap stay tic p q l m stays apart q 0 g
+
+    runs_it : (g : Game) → HasAllIn g → tic < ran ((after rules (Run q) g).nodes q)
+    runs_it g all =
+        let more = (applied_grows rules g q (Run q)).rows in
+        elim (cases_lt tic (ran (g.nodes q))) [
+          | inl done ↦ omega arith
+          | inr low ↦ go low (all other.0 other.1 other.2)
+        ]
+      where
+        far_off : ran (g.nodes q) ≤ tic → IsFar rules cap stay g → ⊥
+        far_off low far = let x = far q m stays in omega arith
+
+        has_of : ran (g.nodes q) ≤ tic → tic ≤ ran (g.nodes q)
+            → (p : ℕ) (l : p < rules.players) (apart : p ≢ q)
+            → In rules settings cap stay tic p q l m stays apart q 0 g
+            → (ran (g.nodes q) < got (g.nodes q) p) ⊎ (is_absent (g.nodes q) p ≡ true)
+        has_of low high p l apart (InFar far) = absurd (far_off low far)
+        has_of low high p l apart (InOn on built (Has (inl h))) = inl (omega arith)
+        has_of low high p l apart (InOn on built (Has (inr h))) = let at = h.2 in
+            inr (ap (λ (o : Option ℕ). is_over o (ran (g.nodes q))) h.1
+            ∙ le-leb h.0 (ran (g.nodes q)) (omega arith))
+        has_of low high p l apart (InOn on built (Meets h e)) = absurd (omega arith)
+        has_of low high p l apart (InOn on built (Asks w h)) = absurd (omega arith)
+        has_of low high p l apart (InOn on built (Unknown h)) = absurd (omega arith)
+
+        has : ran (g.nodes q) ≤ tic → tic ≤ ran (g.nodes q) → tic < made q (g.nodes q) → (p : ℕ)
+            → p < rules.players → (ran (g.nodes q) < got (g.nodes q) p) ⊎ (is_absent (g.nodes q) p ≡ true)
+        has low high built p l = elim (cases_eq p q) [
+          | inl e ↦ let same = ap (λ (r : ℕ). got (g.nodes q) r) e in inl (omega arith)
+          | inr n ↦ has_of low high p l n (all p l n)
+        ]
+
+        go : ran (g.nodes q) ≤ tic → In rules settings cap stay tic other.0 q other.1 m stays other.2 q 0 g
+            → tic < ran ((after rules (Run q) g).nodes q)
+        go low (InFar far) = absurd (far_off low far)
+        go low (InOn on built stage) =
+            let least = on.ran q m stays in
+            elim (Turns.run_on rules settings cap stay tic g on q m) [
+              | inl far ↦ absurd (far_off low far)
+              | inr done ↦ let more = done.more stays (has low least (built stays)) in omega arith
+            ]
+
+    turn_runs : (keys : ℕ → ℕ) (g : Game) → HasAll g → tic < ran ((turn rules keys g q).nodes q)
+    unfolding turn
+    turn_runs keys g all =
+        runs_it _ (λ p l apart. turn_hears rules settings cap stay tic p q l m stays apart keys 0 0
+        (omega arith) g (all p l apart))
+
+    pub round_runs : (keys : ℕ → ℕ) (g : Game) → HasAll g → tic < ran ((good_round rules keys g).nodes q)
+    unfolding good_round
+    round_runs keys g all =
+        one_of HasAll (λ (h : Game). tic < ran (h.nodes q)) (turn rules keys) rules.players q
+        (λ i h o n x p l apart. turn_keeps rules settings cap stay tic p q l m stays apart keys i o h
+        (x p l apart))
+        (λ i h o n x. let more = turn_ran rules keys q (suc tic) h i (omega arith) in omega arith)
+        (λ h x. turn_runs keys h x)
+        g m all
+
+    pub thirteen : (keys : ℕ → ℕ → ℕ) (g : Game) → IsOn rules settings cap stay tic g
+        → tic < ran ((good_rounds rules keys 13 g).nodes q)
+    unfolding good_rounds in_order
+    thirteen keys g on = round_runs (keys 12) (good_rounds rules keys 12 g)
+        (λ p l apart. has_after rules settings cap stay tic p q l m stays apart keys g on)
