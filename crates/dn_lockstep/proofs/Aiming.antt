@@ -1,16 +1,20 @@
 -- The numbers of what the machine's node sends.
-use Rattle.std.proofs.Common.{◌≡◌, ◌≢◌, ◌+◌, ◌-◌, ℕ, Option, Some, None, true, false, length, drop, refl, ap, sym, ◌∙◌, arith}
+use Rattle.std.proofs.Common.{◌≡◌, ◌≢◌, ◌<◌, ◌+◌, ◌-◌, ℕ, Option, Some, None, true, false, length, drop, refl, ap, sym, ◌∙◌, arith}
 use Rattle.std.specs.Option.{option_map}
 use Rattle.dn_setup.specs.Settings.{Settings}
 use Rattle.std.proofs.lemmas.List.{length-drop}
 use Rattle.dn_machine.specs.Worlds.{Rules}
 use Rattle.dn_machine.specs.Node as machine
 use Rattle.dn_machine.specs.declared.answers.Cause.{Cause}
+use Rattle.dn_machine.specs.declared.answers.Phase.{Phase}
 use Rattle.dn_machine.specs.declared.answers.Phase.TheVariants.{Ended}
 use Rattle.dn_machine.specs.Flight.{Play, Exit, Flight, request_flag}
 use Rattle.dn_machine.specs.Sending.{on_send_in, commands_flight, first_sent, request_to, set_up_flight}
 use Rattle.dn_lockstep.specs.declared.lockstep.aiming.Aim.{Aim}
+use Rattle.dn_lockstep.specs.Contents.{Contents}
+use Rattle.dn_lockstep.specs.Represents.{Represents}
 use Rattle.dn_lockstep.specs.Sent.{aim_of, sent_to}
+use Rattle.dn_lockstep.proofs.Sending.{sends_in}
 
 pub aim_is : {S : Type 0} (rules : Rules S) (me : ℕ) (m : machine.Node) (to flags : ℕ) (ask : Option ℕ)
     (start count made : ℕ)
@@ -59,3 +63,11 @@ pub aimed : {S : Type 0} (rules : Rules S) (me : ℕ) (m : machine.Node) (to : �
     → aim ≡ option_map aim_of (sent_to to rules me m).1
 aimed rules me m to next aim e is = is ∙ ap (λ (x : machine.Node × Option Flight). option_map aim_of x.1)
     (sym e)
+
+-- and where it is sent to a peer, by the phase
+pub aimed_in : {S : Type 0} {rules : Rules S} {me : ℕ} {n : Contents} {m : machine.Node}
+    (r : Represents rules me n m) {to : ℕ} {phase : Phase} {aim : Option Aim}
+    → to < n.players → to ≢ n.me → n.phase ≡ phase → aim ≡ option_map aim_of (on_send_in rules me m to phase).1
+    → aim ≡ option_map aim_of (sent_to to rules me m).1
+aimed_in {rules = rules} {me = me} {n = n} {m = m} r {to} {phase} {aim} below other at is =
+    aimed rules me m to _ aim (sends_in rules me n m to phase r below other at) is
