@@ -67,7 +67,8 @@ aimed rules me m to next aim e is = is ∙ ap (λ (x : machine.Node × Option Fl
 -- and where it is sent to a peer, by the phase
 pub aimed_in : {S : Type 0} {rules : Rules S} {me : ℕ} {n : Contents} {m : machine.Node}
     (r : Represents rules me n m) {to : ℕ} {phase : Phase} {aim : Option Aim}
-    → to < n.players → to ≢ n.me → n.phase ≡ phase → aim ≡ option_map aim_of (on_send_in rules me m to phase).1
+    → to < n.players → to ≢ n.me → n.phase ≡ phase
+    → aim ≡ option_map aim_of (on_send_in rules me m to phase).1
     → aim ≡ option_map aim_of (sent_to to rules me m).1
 aimed_in {rules = rules} {me = me} {n = n} {m = m} r {to} {phase} {aim} below other at is =
     aimed rules me m to _ aim (sends_in rules me n m to phase r below other at) is

@@ -95,50 +95,50 @@ module _ {S : Type 0} {rules : Rules S} {me : ℕ} {n : Contents} {m : machine.N
 
     -- where no command is missing
     module _ (none : lowest n.players (is_missing n.rings n.peers n.ran) ≡ None) where
-        there : (p : ℕ) → p < n.players → is_gone n.peers n.ran p ≡ false → n.ran < count_of n.rings p
-        there = here_all n.rings n.peers n.players n.ran none
+      there : (p : ℕ) → p < n.players → is_gone n.peers n.ran p ≡ false → n.ran < count_of n.rings p
+      there = here_all n.rings n.peers n.players n.ran none
 
-        move_is : (p : ℕ) → move_held n.rings n.peers n.players n.ran p
-            ≡ (if nat_lt p rules.players then option_map used
-            (if is_absent m p then None else Some (held_at m p (machine.ran m))) else None)
-        move_is p = elim (cases_lt p n.players) [
-          | inl h ↦ elim (cases_Bool (is_absent m p)) [
-            | inl gone ↦
-                let here = gone_is p h ∙ gone in
-                let first = lt-ltb p n.players h in
-                let second = lt-ltb p rules.players (below rules me n m r p h) in
-                rw (first, second, here, gone) refl
-            | inr present ↦
-                let here = gone_is p h ∙ present in
-                let first = lt-ltb p n.players h in
-                let second = lt-ltb p rules.players (below rules me n m r p h) in
-                rw (first, second, here, present)
-                (ap (option_map used)
-                (get_some (m.held p) (n.rings p) n.ran (there p h here) (window p h)
-                (r.commands.rings p (below rules me n m r p h)))
-                ∙ ap (λ (tic : ℕ). option_map used (Some (held_at m p tic))) r.table.ran)
-          ]
-          | inr past ↦
-              let first = le-ltb p n.players past in
-              let second : nat_lt p rules.players ≡ false = ap (nat_lt p) (sym r.whose.players) ∙ first in
-              rw (first, second) refl
+      move_is : (p : ℕ) → move_held n.rings n.peers n.players n.ran p
+          ≡ (if nat_lt p rules.players then option_map used
+          (if is_absent m p then None else Some (held_at m p (machine.ran m))) else None)
+      move_is p = elim (cases_lt p n.players) [
+        | inl h ↦ elim (cases_Bool (is_absent m p)) [
+          | inl gone ↦
+              let here = gone_is p h ∙ gone in
+              let first = lt-ltb p n.players h in
+              let second = lt-ltb p rules.players (below rules me n m r p h) in
+              rw (first, second, here, gone) refl
+          | inr present ↦
+              let here = gone_is p h ∙ present in
+              let first = lt-ltb p n.players h in
+              let second = lt-ltb p rules.players (below rules me n m r p h) in
+              rw (first, second, here, present)
+              (ap (option_map used)
+              (get_some (m.held p) (n.rings p) n.ran (there p h here) (window p h)
+              (r.commands.rings p (below rules me n m r p h)))
+              ∙ ap (λ (tic : ℕ). option_map used (Some (held_at m p tic))) r.table.ran)
         ]
+        | inr past ↦
+            let first = le-ltb p n.players past in
+            let second : nat_lt p rules.players ≡ false = ap (nat_lt p) (sym r.whose.players) ∙ first in
+            rw (first, second) refl
+      ]
 
-        pub row_is : four (move_held n.rings n.peers n.players n.ran) ≡ row_held rules m
-        unfolding row_of
-        row_is = λ i. move_is 0 i ∷ move_is 1 i ∷ move_is 2 i ∷ move_is 3 i ∷ []
+      pub row_is : four (move_held n.rings n.peers n.players n.ran) ≡ row_held rules m
+      unfolding row_of
+      row_is = λ i. move_is 0 i ∷ move_is 1 i ∷ move_is 2 i ∷ move_is 3 i ∷ []
 
-        -- a player who is not absent has a move in the row
-        pub seat_held : (p : ℕ) → p < n.players → p < 4 → is_absent m p ≡ false
-            → machine.lacks (row_held rules m) p ≡ false
-        seat_held p h seat present =
-            seat_is rules.players (λ q. if is_absent m q then None else Some (held_at m q (machine.ran m))) p
-            (below rules me n m r p h) seat ∙ rw present refl
+      -- a player who is not absent has a move in the row
+      pub seat_held : (p : ℕ) → p < n.players → p < 4 → is_absent m p ≡ false
+          → machine.lacks (row_held rules m) p ≡ false
+      seat_held p h seat present =
+          seat_is rules.players (λ q. if is_absent m q then None else Some (held_at m q (machine.ran m))) p
+          (below rules me n m r p h) seat ∙ rw present refl
 
-        -- the tic at which it ends is that of the row by its rings
-        pub full_is : {row : List (Option Move)} {full : ℕ} {whole : Bool}
-            → full ≡ (if whole then n.capacity else tic_limit) → whole ≡ machine.is_whole n.players row
-            → row ≡ row_held rules m → full ≡ full_at rules (row_held rules m)
-        full_is e each is =
-            e ∙ ap (λ (b : Bool). if b then n.capacity else tic_limit) each
-            ∙ (λ i. if machine.is_whole (r.whose.players i) (is i) then r.whose.capacity i else tic_limit)
+      -- the tic at which it ends is that of the row by its rings
+      pub full_is : {row : List (Option Move)} {full : ℕ} {whole : Bool}
+          → full ≡ (if whole then n.capacity else tic_limit) → whole ≡ machine.is_whole n.players row
+          → row ≡ row_held rules m → full ≡ full_at rules (row_held rules m)
+      full_is e each is =
+          e ∙ ap (λ (b : Bool). if b then n.capacity else tic_limit) each
+          ∙ (λ i. if machine.is_whole (r.whose.players i) (is i) then r.whose.capacity i else tic_limit)

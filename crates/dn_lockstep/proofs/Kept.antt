@@ -1,7 +1,7 @@
 -- Peers of which one is kept otherwise, and what stays true of them all.
-use Rattle.std.proofs.Common.{◌≡◌, ◌≢◌, ◌<◌, ◌≤◌, ℕ, Bool, true, false, ◌||◌, Option, Some, None, refl, ap, sym, ◌∙◌, arith, inl, inr}
+use Rattle.std.proofs.Common.{◌≡◌, ◌≢◌, ◌<◌, ◌≤◌, ℕ, Bool, true, false, Option, Some, None, refl, ap, sym, ◌∙◌, arith, inl, inr}
 use Rattle.std.specs.Prelude.{nat_lt, ◌==◌}
-use Rattle.std.proofs.lemmas.Bool.{cases_eq, eqb-true, not-false}
+use Rattle.std.proofs.lemmas.Bool.{cases_eq, eqb-true, not-false, or_parts}
 use Rattle.dn_machine.specs.declared.peer.Peer.{Peer}
 use Rattle.dn_machine.specs.Hearing.{after_request, after_exit, is_strange_end}
 use Rattle.dn_machine.specs.Running.{is_over}
@@ -51,10 +51,6 @@ module _ {old new : ℕ → Peer} {player made : ℕ} (kept : AreKept old new pl
         others = λ p other. others p other ∙ kept.others p other;
       }
 
-or_false_parts : (a b : Bool) → (a || b) ≡ false → (a ≡ false) × (b ≡ false)
-or_false_parts true b e = absurd (cc)
-or_false_parts false b e = (refl, e)
-
 -- an end that is told where one was known is the same
 pub told_later : (exit : Bool) (known : Option ℕ) (got end : ℕ) (peer : Peer)
     → ((tic : ℕ) → is_over peer.end tic ≡ false → is_over known tic ≡ false)
@@ -63,8 +59,8 @@ pub told_later : (exit : Bool) (known : Option ℕ) (got end : ℕ) (peer : Peer
 told_later false known got end peer later fine tic h = later tic h
 told_later true None got end peer later fine tic h = refl
 told_later true (Some e) got end peer later fine tic h =
-    let past = (or_false_parts (nat_lt end got) _ fine).1 in
-    let other = (or_false_parts (nat_lt e end) _ past).1 in
+    let past = (or_parts (nat_lt end got) _ fine).1 in
+    let other = (or_parts (nat_lt e end) _ past).1 in
     let same = eqb-true end e (not-false (end == e) other) in
     ap (λ (k : ℕ). is_over (Some k) tic) (sym same) ∙ h
 

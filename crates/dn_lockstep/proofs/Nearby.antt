@@ -57,7 +57,8 @@ flag_is : (flight : Flight) (flags flag : ℕ) (set : Bool) → not (bit_and (fl
     → has_flag (commands_packet flags flight) flag ≡ set
 flag_is flight flags flag set plain asks = go flight.request
   where
-    go : (request : Option ℕ) → has_flag (commands_packet flags (record flight { request = request })) flag ≡ set
+    go : (request : Option ℕ) → has_flag (commands_packet flags (record flight { request = request })) flag
+        ≡ set
     go None = plain
     go (Some tic) = asks
 

@@ -35,7 +35,8 @@ invariant_of-self-clause-gone c plays closed =
 
 pub invariant_of-self-clause-ahead : goal.invariant_of-self-clause-ahead
 invariant_of-self-clause-ahead c p below h =
-    c.args.self.now.ahead p below (stays_gone (kept (goal.at.invariant_of-self-clause-ahead c).After-ask) _ p h)
+    c.args.self.now.ahead p below
+    (stays_gone (kept (goal.at.invariant_of-self-clause-ahead c).After-ask) _ p h)
 
 pub invariant_of-self-clause-resends : goal.invariant_of-self-clause-resends
 invariant_of-self-clause-resends c =
