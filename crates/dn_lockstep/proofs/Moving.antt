@@ -2,7 +2,7 @@
 use Rattle.std.proofs.Common.{◌≡◌, ◌≢◌, ◌<◌, ◌≤◌, ◌+◌, ◌-◌, ◌%◌, ℕ, ℤ, Bool, true, false, not, cond, ◌||◌, List, [], ◌∷◌, ◌++◌, length, refl, ap, sym, ◌∙◌, subst, arith, inl, inr, Option, Some, None, fold}
 use Rattle.std.specs.Prelude.{nat_lt, ◌⊎◌, All, IfSome}
 use Rattle.std.proofs.lemmas.Bool.{cases_lt, cases_eq, cases_Bool, le-ltb, lt-ltb, ltb-false, cond-false}
-use Rattle.std.proofs.lemmas.List.{length_push, take-append-le, take_all}
+use Rattle.std.proofs.lemmas.List.{length_push, take-append-le}
 use Rattle.dn_tic.specs.declared.command.Move.{Move}
 use Rattle.dn_setup.specs.Settings.{Settings}
 use Rattle.dn_setup.specs.Starts.{start_of}
@@ -15,9 +15,7 @@ use Rattle.dn_demo.specs.declared.recorder.Stage.TheVariants.{Blank, Open, Close
 use Rattle.dn_machine.specs.declared.answers.Phase.{Phase}
 use Rattle.dn_machine.specs.Running.{is_over}
 use Rattle.dn_machine.proofs.Demos.{front_stops, front_goes_on, front_short}
-use Rattle.std.specs.List.{prefix_len}
 use Rattle.std.proofs.lemmas.List.Elements.{All-push}
-use Rattle.std.proofs.lemmas.List.Folds.{length-prefix_len}
 use Rattle.dn_machine.specs.declared.answers.Phase.TheVariants.{Playing}
 use Rattle.dn_machine.specs.Worlds.{Rules, mark_in, opening}
 use Rattle.dn_machine.specs.Node as machine
@@ -25,7 +23,7 @@ use Rattle.dn_machine.specs.Node.{ends_of, own_mark, own_world, world_after, is_
 use Rattle.dn_lockstep.specs.Contents.{Contents}
 use Rattle.dn_lockstep.specs.Represents.{Represents, CanBeWritten, is_demo_closed}
 use Rattle.dn_lockstep.specs.Rows.{seats_of}
-use Rattle.dn_lockstep.proofs.Replaying.{own_world_is, demo_is}
+use Rattle.dn_lockstep.proofs.Replaying.{own_world_is, all_recorded, demo_is}
 use Rattle.dn_lockstep.proofs.Starting.{early_mark}
 
 -- the machine's node after one row more
@@ -95,10 +93,8 @@ module _ {S : Type 0} {rules : Rules S} (m : machine.Node) {row : List (Option M
 
   all_rows : old.stage ≡ Open → demo_rows rules m ≡ m.rows
   all_rows at =
-      let none = ltb-false (length (demo_rows rules m)) (machine.ran m)
-      (sym (closed_so m playing) ∙ sym told ∙ ap is_closed at) in
-      let long = length-prefix_len (is_whole rules.players) m.rows in
-      take_all (prefix_len (is_whole rules.players) m.rows) m.rows (omega arith)
+      all_recorded rules m (ltb-false (length (demo_rows rules m)) (machine.ran m)
+      (sym (closed_so m playing) ∙ sym told ∙ ap is_closed at))
 
   more_rows : is_whole rules.players row ≡ true → demo_rows rules (moved m row) ≡ m.rows ++ row ∷ []
   more_rows each = front_goes_on (is_whole rules.players) m.rows row (all_rows (written.open_while each)) each

@@ -15,7 +15,7 @@ use Rattle.dn_machine.specs.Node as machine
 use Rattle.dn_machine.specs.Flight.{Kind, SetUp, Play, Exit, Flight, request_byte, packet_of, packet_of_kind}
 use Rattle.dn_machine.specs.Sending.{on_send_in, commands_flight, set_up_flight}
 use Rattle.dn_lockstep.specs.declared.lockstep.aiming.Aim.{Aim}
-use Rattle.dn_lockstep.specs.Rings.{is_stop}
+use Rattle.dn_lockstep.specs.Rings.{count_of, is_stop}
 use Rattle.dn_lockstep.specs.Contents.{Contents}
 use Rattle.dn_lockstep.specs.Represents.{Represents}
 use Rattle.dn_lockstep.specs.Sent.{sent_to, aim_of}
@@ -23,7 +23,6 @@ use Rattle.dn_lockstep.specs.Giving.{Gives, Reaches, packet_of_aim}
 use Rattle.dn_lockstep.specs.Near.{IsFair, IsFairKind}
 use Rattle.dn_ring.specs.Ring.{Ring, ring_of, since}
 use Rattle.dn_ring.proofs.Keeping.{since-ring_of}
-use Rattle.dn_lockstep.specs.Rings.{count_of}
 use Rattle.dn_lockstep.proofs.Counting.{below}
 use Rattle.dn_lockstep.proofs.Sending.{sends_in}
 

@@ -1,6 +1,6 @@
 -- What a playing node makes of a packet of commands.
 use Rattle.std.proofs.Common.{◌≡◌, ◌≢◌, ◌<◌, ◌≤◌, ◌+◌, ◌-◌, ℕ, Bool, true, false, cond, List, ◌++◌, length, take, drop, refl, ap, sym, ◌∙◌, arith}
-use Rattle.std.specs.Prelude.{if◌then◌else◌, Ok}
+use Rattle.std.specs.Prelude.{nat_lt, if◌then◌else◌, Ok}
 use Rattle.std.proofs.lemmas.Bool.{le-ltb, lt-ltb, le-leb, lt-leb}
 use Rattle.std.proofs.lemmas.List.{take_rest}
 use Rattle.dn_tic.specs.declared.command.TicCmd.{TicCmd}
@@ -55,25 +55,22 @@ module _ (me : ℕ) (m : machine.Node) (f : Flight) where
       (m, Heard.Dropped drops.overrun)
   over past = let much = lt-ltb (machine.ran m + 12) (end_of f) past in rw much refl
 
-  module _ (room : end_of f ≤ machine.ran m + 12) where
+  module _ (fits : nat_lt (machine.ran m + 12) (end_of f) ≡ false) where
     odd : is_strange_end (is_exit f.kind) (machine.got m f.from) (ends_of m f.from) (end_of f) ≡ true
         → ◌≡◌ {A = machine.Node × Heard} (on_commands me m f) (m, Heard.Dropped drops.strange_end)
-    odd strange = let fits = le-ltb (machine.ran m + 12) (end_of f) room in rw (fits, strange) refl
+    odd strange = rw (fits, strange) refl
 
     module _ (fine : is_strange_end (is_exit f.kind) (machine.got m f.from) (ends_of m f.from) (end_of f)
         ≡ false) where
       stale : end_of f ≤ machine.got m f.from → ◌≡◌ {A = machine.Node × Heard} (on_commands me m f)
           (with_peer m f.from (asked me m f), cond (is_exit f.kind) Heard.Left Heard.Stale)
       stale old =
-          let fits = le-ltb (machine.ran m + 12) (end_of f) room in
-          let known = le-leb (end_of f) (machine.got m f.from) old in
-          rw (fits, fine, known) refl
+          let known = le-leb (end_of f) (machine.got m f.from) old in rw (fits, fine, known) refl
 
       gap : machine.got m f.from < end_of f → machine.got m f.from < f.start
           → ◌≡◌ {A = machine.Node × Heard} (on_commands me m f)
           (with_peer m f.from (record (asked me m f) { want = true }), Heard.Gap)
       gap new far =
-          let fits = le-ltb (machine.ran m + 12) (end_of f) room in
           let more = lt-leb (end_of f) (machine.got m f.from) new in
           let past = lt-ltb (machine.got m f.from) f.start far in
           rw (fits, fine, more, past) refl
@@ -85,7 +82,6 @@ module _ (me : ℕ) (m : machine.Node) (f : Flight) where
                 (Heard.Taken (end_of f - machine.got m f.from)),
           )
       taken new near =
-          let fits = le-ltb (machine.ran m + 12) (end_of f) room in
           let more = lt-leb (end_of f) (machine.got m f.from) new in
           let meets = le-ltb (machine.got m f.from) f.start near in
           rw (fits, fine, more, meets) refl
@@ -153,8 +149,8 @@ module _ {S : Type 0} {rules : Rules S} {me : ℕ} {n : Contents} {m : machine.N
         exits_is : exit ≡ is_exit f.kind
         exits_is = flagged ∙ sym (kind_is (has_flag packet flag.exit))
 
-        fits : start + length packet.cmds.items ≤ machine.ran m + 12
-        fits = omega (arith, room, r.table.ran, same_length)
+        fits : nat_lt (machine.ran m + 12) (end_of f) ≡ false
+        fits = le-ltb (machine.ran m + 12) (end_of f) (omega (arith, room, r.table.ran, same_length))
 
         had : got ≡ machine.got m from
         had = counted ∙ got_is rules me n m r from read.peer

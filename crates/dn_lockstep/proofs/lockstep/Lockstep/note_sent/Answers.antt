@@ -1,4 +1,4 @@
-use Rattle.std.proofs.Common.{◌≡◌, ◌-◌, ℕ, false, ap, sym, ◌∙◌, inl, inr, arith}
+use Rattle.std.proofs.Common.{◌≡◌, ◌-◌, ℕ, ap, sym, ◌∙◌, inl, inr, arith}
 use Rattle.dn_setup.specs.Starts.{bit}
 use Rattle.dn_machine.specs.Node as machine
 use Rattle.dn_machine.specs.Worlds.{Rules, rules_of}
