@@ -102,22 +102,21 @@ module _ {S : Type 0} {rules : Rules S} {me : ℕ} {n : Contents} {m : machine.N
           ≡ (if nat_lt p rules.players then option_map used
           (if is_absent m p then None else Some (held_at m p (machine.ran m))) else None)
       move_is p = elim (cases_lt p n.players) [
-        | inl h ↦ elim (cases_Bool (is_absent m p)) [
-          | inl gone ↦
-              let here = gone_is p h ∙ gone in
-              let first = lt-ltb p n.players h in
-              let second = lt-ltb p rules.players (below rules me n m r p h) in
-              rw (first, second, here, gone) refl
-          | inr present ↦
-              let here = gone_is p h ∙ present in
-              let first = lt-ltb p n.players h in
-              let second = lt-ltb p rules.players (below rules me n m r p h) in
-              rw (first, second, here, present)
-              (ap (option_map used)
-              (get_some (m.held p) (n.rings p) n.ran (there p h here) (window p h)
-              (r.commands.rings p (below rules me n m r p h)))
-              ∙ ap (λ (tic : ℕ). option_map used (Some (held_at m p tic))) r.table.ran)
-        ]
+        | inl h ↦
+            let first = lt-ltb p n.players h in
+            let second = lt-ltb p rules.players (below rules me n m r p h) in
+            elim (cases_Bool (is_absent m p)) [
+              | inl gone ↦
+                  let here = gone_is p h ∙ gone in
+                  rw (first, second, here, gone) refl
+              | inr present ↦
+                  let here = gone_is p h ∙ present in
+                  rw (first, second, here, present)
+                  (ap (option_map used)
+                  (get_some (m.held p) (n.rings p) n.ran (there p h here) (window p h)
+                  (r.commands.rings p (below rules me n m r p h)))
+                  ∙ ap (λ (tic : ℕ). option_map used (Some (held_at m p tic))) r.table.ran)
+            ]
         | inr past ↦
             let first = le-ltb p n.players past in
             let second : nat_lt p rules.players ≡ false = ap (nat_lt p) (sym r.whose.players) ∙ first in

@@ -7,7 +7,7 @@ use Rattle.dn_machine.proofs.Marks.{lowest_none, lowest_none_each}
 use Rattle.dn_lockstep.specs.Rows.{is_gone, has_gone}
 use Rattle.dn_machine.specs.declared.peer.Peer.{Peer}
 
-nobody : (o : Option ℕ) → is_some o ≡ false → o ≡ None
+pub nobody : {A : Type 0} (o : Option A) → is_some o ≡ false → o ≡ None
 nobody None e = refl
 nobody (Some p) e = absurd (cc)
 

@@ -1,8 +1,9 @@
 -- The packets of a node's own commands.
-use Rattle.std.proofs.Common.{◌≡◌, ◌≢◌, ◌⊎◌, ◌<◌, ◌%◌, ℕ, length, drop, arith, Bool, true, false, cond, Option, Some, None, refl, ap, sym, ◌∙◌, subst, inl, inr}
+use Rattle.std.proofs.Common.{◌≡◌, ◌≢◌, ◌⊎◌, ◌<◌, ◌%◌, ℕ, length, drop, arith, false, Option, Some, None, refl, ap, sym, ◌∙◌, subst, inl, inr}
 use Rattle.std.specs.Prelude.{IfSome}
 use Rattle.std.specs.List.{list_any}
 use Rattle.std.specs.Option.{option_map}
+use Rattle.std.proofs.lemmas.Bool.{cond_both}
 use Rattle.std.proofs.lemmas.Option.{same_Some}
 use Rattle.dn_packet.specs.declared.packet.Packet.{Packet}
 use Rattle.dn_packet.specs.Text.{IsPacket}
@@ -13,7 +14,7 @@ use Rattle.dn_machine.specs.declared.answers.Phase.TheVariants.{Listening, Gathe
 use Rattle.dn_machine.specs.Worlds.{Rules}
 use Rattle.dn_machine.specs.Node as machine
 use Rattle.dn_machine.specs.Flight.{Kind, SetUp, Play, Exit, Flight, request_byte, packet_of, packet_of_kind}
-use Rattle.dn_machine.specs.Sending.{on_send_in, commands_flight, set_up_flight}
+use Rattle.dn_machine.specs.Sending.{on_send_in, set_up_flight}
 use Rattle.dn_lockstep.specs.declared.lockstep.aiming.Aim.{Aim}
 use Rattle.dn_lockstep.specs.Rings.{count_of, is_stop}
 use Rattle.dn_lockstep.specs.Contents.{Contents}
@@ -34,17 +35,13 @@ pub record IsOwn (m : machine.Node) (me : ℕ) (flight : Flight) : Type 0 where
 
 -- only a gathering node sends anything but its own commands
 module _ {S : Type 0} (rules : Rules S) (me : ℕ) (m : machine.Node) (to : ℕ) where
-  exits : (test : Bool) (next : machine.Node)
-      → IfSome (cond {A = machine.Node × Option Flight} test
-      (next, Some (commands_flight rules me m to Exit None)) (m, None)).1 (IsOwn m me)
-  exits true next = record { from = refl; kind = inr refl; commands = refl }
-  exits false next = tt
-
   sends_own : (phase : Phase) → phase ≢ Gathering → IfSome (on_send_in rules me m to phase).1 (IsOwn m me)
   sends_own Listening n = tt
   sends_own Gathering n = absurd (n refl)
   sends_own Playing n = record { from = refl; kind = inl refl; commands = refl }
-  sends_own (Ended cause) n = exits _ _
+  sends_own (Ended cause) n = cond_both m.played _ _
+      (λ (x : machine.Node × Option Flight). IfSome x.1 (IsOwn m me))
+      (λ has. record { from = refl; kind = inr refl; commands = refl }) (λ never. tt)
 
 -- so does a node that represents it
 own_sent : {S : Type 0} (rules : Rules S) (me : ℕ) (n : Contents) (m : machine.Node) (to : ℕ)

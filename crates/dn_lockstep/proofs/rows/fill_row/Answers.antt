@@ -11,7 +11,7 @@ use Rattle.dn_lockstep.proofs.Lowest.{lowest_zero, some_found, some_past}
 use Rattle.dn_lockstep.proofs.Rowing.{seats_below, seat_more, seat_none, seat_free, own_here, own_gone, seats_whole, seats_more, seats_set}
 use Rattle.dn_lockstep.proofs.Seats.{whole_gone, here_all}
 use Rattle.dn_lockstep.proofs.Telling.{used_recordable}
-use Rattle.dn_lockstep.proofs.rows.fill_row.Goals.{After-loop-player, then-gone, else-gone}
+use Rattle.dn_lockstep.proofs.rows.fill_row.Goals.{then-gone, else-gone}
 use Rattle.dn_lockstep.proofs.rows.fill_row.Goals as goal
 
 pub at-requires-clause-there : goal.at-requires-clause-there
@@ -74,15 +74,11 @@ loop-player-preserved c =
           }
     ]
 
-all_in : (c : After-loop-player) → c.loop-player.row ≡ seats_below (ring_at c.args.rings.now)
-    (peer_at c.args.peers.now) c.args.tic c.args.players
-all_in c =
+pub returns-clause-row : goal.returns-clause-row
+returns-clause-row c =
     let all : c.loop-player.player ≡ c.args.players = omega arith in
     c.loop-player.invariant.row
     ∙ ap (seats_below (ring_at c.args.rings.now) (peer_at c.args.peers.now) c.args.tic) all
-
-pub returns-clause-row : goal.returns-clause-row
-returns-clause-row c = all_in c
 
 pub returns-clause-nobody : goal.returns-clause-nobody
 returns-clause-nobody c =
@@ -91,16 +87,15 @@ returns-clause-nobody c =
 
 pub returns-clause-whole : goal.returns-clause-whole
 returns-clause-whole c =
-    let all : c.loop-player.player ≡ c.args.players = omega arith in
-    c.loop-player.invariant.whole ∙ ap (λ (k : ℕ). not (has_gone (peer_at c.args.peers.now) k c.args.tic)) all
+    returns-clause-nobody c
     ∙ sym (whole_gone c.loop-player.row c.args.players (is_gone (peer_at c.args.peers.now) c.args.tic)
     (λ p l. c.loop-player.invariant.seats p (omega arith)))
 
 pub returns-clause-recordable : goal.returns-clause-recordable
 returns-clause-recordable c whole = record {
-  seats = ap (map is_some) (all_in c) ∙ seats_whole (ring_at c.args.rings.now) (peer_at c.args.peers.now)
-      c.args.tic c.args.players
-      (ap (is_whole c.args.players) (sym (all_in c)) ∙ whole);
+  seats = ap (map is_some) (returns-clause-row c)
+      ∙ seats_whole (ring_at c.args.rings.now) (peer_at c.args.peers.now) c.args.tic c.args.players
+      (ap (is_whole c.args.players) (sym (returns-clause-row c)) ∙ whole);
   moves = c.loop-player.invariant.able;
 }
 

@@ -12,5 +12,5 @@ returns-clause-told c marking players extra capacity me m r =
     let start = c.first_sent-start.ensures.told marking players extra capacity me m r in
     let ask = c.request_to-ask.ensures marking players extra capacity me m r in
     let flags = c.request_flag.ensures ∙ ap request_flag ask in
-    aim_is (rules_of (free marking) players extra capacity) me m c.args.to Play (omega (arith, flags)) ask start
-    made
+    aim_is (rules_of (free marking) players extra capacity) me m c.args.to Play (omega (arith, flags)) ask
+    start made

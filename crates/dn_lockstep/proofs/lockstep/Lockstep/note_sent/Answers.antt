@@ -20,11 +20,11 @@ use Rattle.dn_lockstep.proofs.lockstep.Lockstep.note_sent.Goals.{After-resend_fr
 use Rattle.dn_lockstep.proofs.lockstep.Lockstep.note_sent.Goals as goal
 
 -- a node that plays or has ended keeps from where on it sends next
-gives : {S : Type 0} (rules : Rules S) (me : ℕ) (m : machine.Node) (to : ℕ) (old phase : Phase) → old ≡ phase
-    → (old ≡ Playing) ⊎ ((cause : Cause) × (old ≡ Ended cause))
+gives : {S : Type 0} (rules : Rules S) (me : ℕ) (m : machine.Node) (to : ℕ) (phase : Phase)
+    → (phase ≡ Playing) ⊎ ((cause : Cause) × (phase ≡ Ended cause))
     → after_giving rules me m to phase ≡ after_sent rules me m to
-gives rules me m to old phase e (inl is) = ap (after_giving rules me m to) (sym e ∙ is)
-gives rules me m to old phase e (inr is) = ap (after_giving rules me m to) (sym e ∙ is.1)
+gives rules me m to phase (inl is) = ap (after_giving rules me m to) is
+gives rules me m to phase (inr is) = ap (after_giving rules me m to) is.1
 
 pub returns-in-Playing-clause-step : goal.returns-in-Playing-clause-step
 returns-in-Playing-clause-step c marking players extra capacity me m r =
@@ -41,7 +41,8 @@ returns-in-Playing-clause-step c marking players extra capacity me m r =
           c.saturating_sub-resend.result;
     })
     kept in
-    let step = gives rules me m c.args.to c.args.self.now.phase m.phase r.stands.phase c.in-Playing.is
+    let step = ap (after_giving rules me m c.args.to) (sym r.stands.phase)
+    ∙ gives rules me m c.args.to n.phase c.in-Playing.is
     ∙ ap (λ (k : ℕ). machine.with_peer m c.args.to (record (m.peers c.args.to) { resend = k })) (sym tic) in
     along step (shows_peer r c.args.to _ (λ tic h. h) peer c.resend_from.ensures.others)
 

@@ -14,7 +14,8 @@ pub invariant_of-self-clause-size : goal.invariant_of-self-clause-size
 invariant_of-self-clause-size c plays =
     let zero : c.args.self.now.ran ≡ 0 = c.args.self.now.unrun (c.args.self.now.waits c.requires) in
     let none : 13 + 4 * (c.args.self.now.players * c.args.self.now.ran) ≡ 13 = rw zero (omega arith) in
-    let long : length c.head.new.self.bytes ≡ 13 = ap (λ (d : Recorded). length d.bytes) c.head.ensures.written
+    let long : length c.head.new.self.bytes ≡ 13 =
+    ap (λ (d : Recorded). length d.bytes) c.head.ensures.written
     ∙ length-none c.start-start.result c.args.self.now.me c.seats-present.result
     (ap (length {A = Bool}) c.seats-present.ensures) in
     omega arith
