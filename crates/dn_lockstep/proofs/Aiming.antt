@@ -1,39 +1,32 @@
 -- The numbers of what the machine's node sends.
-use Rattle.std.proofs.Common.{◌≡◌, ◌≢◌, ◌+◌, ◌-◌, ℕ, Option, Some, None, true, false, length, drop, refl, ap, sym, ◌∙◌, arith}
+use Rattle.std.proofs.Common.{◌≡◌, ◌≢◌, ◌<◌, ◌-◌, ℕ, Option, Some, None, true, false, length, drop, refl, ap, sym, ◌∙◌}
 use Rattle.std.specs.Option.{option_map}
 use Rattle.dn_setup.specs.Settings.{Settings}
 use Rattle.std.proofs.lemmas.List.{length-drop}
 use Rattle.dn_machine.specs.Worlds.{Rules}
 use Rattle.dn_machine.specs.Node as machine
 use Rattle.dn_machine.specs.declared.answers.Cause.{Cause}
+use Rattle.dn_machine.specs.declared.answers.Phase.{Phase}
 use Rattle.dn_machine.specs.declared.answers.Phase.TheVariants.{Ended}
-use Rattle.dn_machine.specs.Flight.{Play, Exit, Flight, request_flag}
-use Rattle.dn_machine.specs.Sending.{on_send_in, commands_flight, first_sent, request_to, set_up_flight}
+use Rattle.dn_machine.specs.Flight.{Kind, Exit, Flight, packet_of_kind}
+use Rattle.dn_machine.specs.Sending.{on_send_in, commands_flight, first_sent, set_up_flight}
 use Rattle.dn_lockstep.specs.declared.lockstep.aiming.Aim.{Aim}
+use Rattle.dn_lockstep.specs.Contents.{Contents}
+use Rattle.dn_lockstep.specs.Represents.{Represents}
 use Rattle.dn_lockstep.specs.Sent.{aim_of, sent_to}
+use Rattle.dn_lockstep.proofs.Sending.{sends_in}
 
-pub aim_is : {S : Type 0} (rules : Rules S) (me : ℕ) (m : machine.Node) (to flags : ℕ) (ask : Option ℕ)
-    (start count made : ℕ)
-    → flags ≡ request_flag ask → ask ≡ request_to m to → start ≡ first_sent rules me m to
-    → made ≡ machine.made me m → count ≡ made - start
-    → ◌≡◌ {A = Aim} (record { flags = flags; ask = ask; start = start; count = count })
-    (aim_of (commands_flight rules me m to Play (request_to m to)))
-aim_is rules me m to flags ask start count made f a s e c =
-    let flag : flags ≡ 0 + request_flag (request_to m to) = f ∙ ap request_flag a ∙ (omega arith) in
-    let long : count ≡ length (drop (first_sent rules me m to) (m.held me)) =
-    c ∙ ap (λ (k : ℕ). k - start) e ∙ ap (λ (k : ℕ). machine.made me m - k) s
-    ∙ sym (length-drop (first_sent rules me m to) (m.held me)) in
-    λ i. record { flags = flag i; ask = a i; start = s i; count = long i }
-
-pub exit_is : {S : Type 0} (rules : Rules S) (me : ℕ) (m : machine.Node) (to start count made : ℕ)
-    → start ≡ first_sent rules me m to → made ≡ machine.made me m → count ≡ made - start
-    → ◌≡◌ {A = Aim} (record { flags = 8; ask = None; start = start; count = count })
-    (aim_of (commands_flight rules me m to Exit None))
-exit_is rules me m to start count made s e c =
-    let long : count ≡ length (drop (first_sent rules me m to) (m.held me)) =
-    c ∙ ap (λ (k : ℕ). k - start) e ∙ ap (λ (k : ℕ). machine.made me m - k) s
-    ∙ sym (length-drop (first_sent rules me m to) (m.held me)) in
-    λ i. record { flags = 8; ask = None; start = s i; count = long i }
+-- the numbers of the own commands from where the next packet starts
+pub aim_is : {S : Type 0} (rules : Rules S) (me : ℕ) (m : machine.Node) (to : ℕ) (kind : Kind)
+    {flags : ℕ} {ask request : Option ℕ} {start made : ℕ}
+    → flags ≡ (packet_of_kind (commands_flight rules me m to kind request) kind).flags → ask ≡ request
+    → start ≡ first_sent rules me m to → made ≡ machine.made me m
+    → ◌≡◌ {A = Aim} (record { flags = flags; ask = ask; start = start; count = made - start })
+    (aim_of (commands_flight rules me m to kind request))
+aim_is rules me m to kind {start = start} {made} flagged asks starts count =
+    let long : made - start ≡ length (drop (first_sent rules me m to) (m.held me)) =
+    (λ i. count i - starts i) ∙ sym (length-drop (first_sent rules me m to) (m.held me)) in
+    λ i. record { flags = flagged i; ask = asks i; start = starts i; count = long i }
 
 pub exit_given : {S : Type 0} (rules : Rules S) (me : ℕ) (m : machine.Node) (to : ℕ) (cause : Cause)
     (aim : Aim) → m.played ≡ true
@@ -59,3 +52,12 @@ pub aimed : {S : Type 0} (rules : Rules S) (me : ℕ) (m : machine.Node) (to : �
     → aim ≡ option_map aim_of (sent_to to rules me m).1
 aimed rules me m to next aim e is = is ∙ ap (λ (x : machine.Node × Option Flight). option_map aim_of x.1)
     (sym e)
+
+-- and where it is sent to a peer, by the phase
+pub aimed_in : {S : Type 0} {rules : Rules S} {me : ℕ} {n : Contents} {m : machine.Node}
+    (r : Represents rules me n m) {to : ℕ} {phase : Phase} {aim : Option Aim}
+    → to < n.players → to ≢ n.me → n.phase ≡ phase
+    → aim ≡ option_map aim_of (on_send_in rules me m to phase).1
+    → aim ≡ option_map aim_of (sent_to to rules me m).1
+aimed_in {rules = rules} {me = me} {n = n} {m = m} r {to} {phase} {aim} below other at is =
+    aimed rules me m to _ aim (sends_in rules me n m to phase r below other at) is

@@ -1,7 +1,7 @@
 -- What a build makes of the machine's node, and of one that represents it.
-use Rattle.std.proofs.Common.{◌≡◌, ◌≢◌, ◌<◌, ◌≤◌, ◌+◌, ◌-◌, ◌%◌, ℕ, ℤ, [], ◌∷◌, ◌++◌, refl, ap, sym, ◌∙◌, inl, inr, Option, None}
-use Rattle.std.proofs.lemmas.Bool.{le-leb, lt-leb, cases_eq}
-use Rattle.dn_tic.specs.Pressed.{pressed, turn_hold}
+use Rattle.std.proofs.Common.{◌≡◌, ◌≢◌, ◌<◌, ◌≤◌, ◌+◌, ◌-◌, ◌%◌, ℕ, ℤ, [], ◌∷◌, ◌++◌, refl, ap, ◌∙◌, Option, None}
+use Rattle.std.proofs.lemmas.Bool.{le-leb, lt-leb}
+use Rattle.dn_tic.specs.Pressed.{pressed}
 use Rattle.dn_tic.specs.declared.command.TicCmd.{TicCmd}
 use Rattle.dn_ring.specs.Ring.{Ring, ring_of}
 use Rattle.dn_ring.specs.Ring as last
@@ -14,7 +14,6 @@ use Rattle.dn_machine.specs.Worlds.{Rules}
 use Rattle.dn_machine.specs.Node as machine
 use Rattle.dn_machine.specs.Node.{put, ends_of, own_mark}
 use Rattle.dn_machine.specs.Building.{on_build, on_build_in}
-use Rattle.dn_machine.proofs.Put.{put_at, put_off}
 use Rattle.dn_lockstep.specs.Contents.{Contents}
 use Rattle.dn_lockstep.specs.Represents.{Represents}
 use Rattle.dn_lockstep.proofs.Counting.{mine}
@@ -58,30 +57,6 @@ module _ {S : Type 0} (rules : Rules S) (me : ℕ) (m : machine.Node) (state : �
   build_makes on near =
       let few = lt-leb 5 (machine.made me m - machine.ran m) near in
       ap (on_build_in rules me m state) on ∙ rw few refl
-
--- one more command in the own ring
-pub shows_built : {S : Type 0} (rules : Rules S) (me : ℕ) (n : Contents) (m : machine.Node) (keys : ℕ)
-    (hold : ℕ) (rings : ℕ → Ring)
-    → Represents rules me n m → hold ≡ turn_hold (m.keys ++ keys ∷ [])
-    → rings me ≡ ring_of (m.held me ++ next_command rules me m keys ∷ [])
-    → ((p : ℕ) → p ≢ me → rings p ≡ n.rings p)
-    → Represents rules me (record n { hold = hold; rings = rings }) (built rules me m keys)
-shows_built rules me n m keys hold rings r holds own others =
-    record {
-      whose = r.whose;
-      stands = r.stands;
-      commands = record {
-        hold = holds;
-        rings = λ p below. elim (cases_eq p me) [
-          | inl same ↦ ap rings same ∙ own ∙ ap ring_of (sym (put_at m.held me p _ same))
-          | inr other ↦ others p other ∙ r.commands.rings p below
-              ∙ ap ring_of (sym (put_off m.held me p _ other))
-        ];
-      };
-      peers = r.peers;
-      table = r.table;
-      demo = r.demo;
-    }
 
 -- the own ring with the command that was built
 pub own_ring : {S : Type 0} (rules : Rules S) (me : ℕ) (n : Contents) (m : machine.Node) (keys tic : ℕ)

@@ -3,7 +3,7 @@ use Rattle.std.proofs.Common.{Option, Bool, true, ◌≡◌, ◌<◌, ◌≤◌,
 use Rattle.std.specs.Prelude.{slice_get, nat_lt, if◌then◌else◌}
 use Rattle.std.specs.Option.{option_map}
 use Rattle.std.specs.Ordering.{int_eq}
-use Rattle.std.proofs.lemmas.Bool.{cases_lt, cases_Bool, not-true, and_parts, lt-ltb, le-ltb, leb-false, lt-leb}
+use Rattle.std.proofs.lemmas.Bool.{cases_lt, cases_Bool, not-true, and_parts, lt-ltb, le-ltb}
 use Rattle.dn_tic.specs.declared.command.TicCmd.{TicCmd}
 use Rattle.dn_tic.specs.Command.{used}
 use Rattle.dn_machine.specs.Worlds.{Rules, four, row_of}
@@ -20,6 +20,8 @@ use Rattle.dn_lockstep.proofs.Counting.{below, got_is}
 use Rattle.dn_lockstep.proofs.Keeping.{get_kept, get_some}
 use Rattle.std.proofs.lemmas.Option.{none-some}
 use Rattle.dn_lockstep.proofs.Lowest.{lowest_same, lowest_passes}
+use Rattle.dn_lockstep.proofs.Gone.{over_later}
+use Rattle.dn_lockstep.proofs.Seats.{here_all}
 
 -- the mark of a command that may be missing
 mark_or_blank : (commands : List TicCmd) (tic : ℕ) → mark_in_command (slice_get commands tic)
@@ -28,13 +30,7 @@ mark_or_blank [] tic = refl
 mark_or_blank (c ∷ commands) zero = refl
 mark_or_blank (c ∷ commands) (suc tic) = mark_or_blank commands tic
 
--- what is not over at a tic was not before
-over_before : (o : Option ℕ) (before tic : ℕ) → before ≤ tic → is_over o tic ≡ false
-    → is_over o before ≡ false
-over_before None before tic l h = refl
-over_before (Some end) before tic l h = let low = leb-false end tic h in lt-leb end before (omega arith)
-
-module _ {S : Type 0} (rules : Rules S) (me : ℕ) (n : Contents) (m : machine.Node)
+module _ {S : Type 0} {rules : Rules S} {me : ℕ} {n : Contents} {m : machine.Node}
     (r : Represents rules me n m) where
   inside : (p : ℕ) → p < rules.players → p < n.players
   inside p h = let P : ℕ → Type 0 = λ k. p < k in subst P (sym r.whose.players) h
@@ -67,7 +63,7 @@ module _ {S : Type 0} (rules : Rules S) (me : ℕ) (n : Contents) (m : machine.N
     should_is p h present =
         ap (λ (tic : ℕ). n.marks p (tic % 12)) r.table.ran
         ∙ r.table.marks p (machine.ran m) (below rules me n m r p h) (omega arith) (omega arith)
-        (over_before (ends_of m p) (machine.ran m - 12) (machine.ran m) (omega arith) present)
+        (over_later (ends_of m p) (machine.ran m - 12) (machine.ran m) (omega arith) present)
 
     differs_is : (p : ℕ) → p < rules.players → differs n.rings n.peers n.marks n.ran p ≡ is_off rules m p
     differs_is p h = elim (cases_Bool (is_absent m p)) [
@@ -97,50 +93,51 @@ module _ {S : Type 0} (rules : Rules S) (me : ℕ) (n : Contents) (m : machine.N
             (and_parts (not (is_absent m p)) _ (lowest_passes rules.players p (is_off rules m) e)).0
         go false e = absurd (none-some p e)
 
-    -- where the command of every player who is not gone is there
-    module _ (there : (p : ℕ) → p < n.players → is_gone n.peers n.ran p ≡ false → n.ran < count_of n.rings p)
-      where
-        move_is : (p : ℕ) → move_held n.rings n.peers n.players n.ran p
-            ≡ (if nat_lt p rules.players then option_map used
-            (if is_absent m p then None else Some (held_at m p (machine.ran m))) else None)
-        move_is p = elim (cases_lt p n.players) [
-          | inl h ↦ elim (cases_Bool (is_absent m p)) [
-            | inl gone ↦
-                let here = gone_is p h ∙ gone in
-                let first = lt-ltb p n.players h in
-                let second = lt-ltb p rules.players (below rules me n m r p h) in
-                rw (first, second, here, gone) refl
-            | inr present ↦
-                let here = gone_is p h ∙ present in
-                let first = lt-ltb p n.players h in
-                let second = lt-ltb p rules.players (below rules me n m r p h) in
-                rw (first, second, here, present)
-                (ap (option_map used)
-                (get_some (m.held p) (n.rings p) n.ran (there p h here) (window p h)
-                (r.commands.rings p (below rules me n m r p h)))
-                ∙ ap (λ (tic : ℕ). option_map used (Some (held_at m p tic))) r.table.ran)
-          ]
-          | inr past ↦
-              let first = le-ltb p n.players past in
-              let second : nat_lt p rules.players ≡ false = ap (nat_lt p) (sym r.whose.players) ∙ first in
-              rw (first, second) refl
-        ]
+    -- where no command is missing
+    module _ (none : lowest n.players (is_missing n.rings n.peers n.ran) ≡ None) where
+      there : (p : ℕ) → p < n.players → is_gone n.peers n.ran p ≡ false → n.ran < count_of n.rings p
+      there = here_all n.rings n.peers n.players n.ran none
 
-        pub row_is : four (move_held n.rings n.peers n.players n.ran) ≡ row_held rules m
-        unfolding row_of
-        row_is = λ i. move_is 0 i ∷ move_is 1 i ∷ move_is 2 i ∷ move_is 3 i ∷ []
+      move_is : (p : ℕ) → move_held n.rings n.peers n.players n.ran p
+          ≡ (if nat_lt p rules.players then option_map used
+          (if is_absent m p then None else Some (held_at m p (machine.ran m))) else None)
+      move_is p = elim (cases_lt p n.players) [
+        | inl h ↦
+            let first = lt-ltb p n.players h in
+            let second = lt-ltb p rules.players (below rules me n m r p h) in
+            elim (cases_Bool (is_absent m p)) [
+              | inl gone ↦
+                  let here = gone_is p h ∙ gone in
+                  rw (first, second, here, gone) refl
+              | inr present ↦
+                  let here = gone_is p h ∙ present in
+                  rw (first, second, here, present)
+                  (ap (option_map used)
+                  (get_some (m.held p) (n.rings p) n.ran (there p h here) (window p h)
+                  (r.commands.rings p (below rules me n m r p h)))
+                  ∙ ap (λ (tic : ℕ). option_map used (Some (held_at m p tic))) r.table.ran)
+            ]
+        | inr past ↦
+            let first = le-ltb p n.players past in
+            let second : nat_lt p rules.players ≡ false = ap (nat_lt p) (sym r.whose.players) ∙ first in
+            rw (first, second) refl
+      ]
 
-        -- a player who is not absent has a move in the row
-        pub seat_held : (p : ℕ) → p < n.players → p < 4 → is_absent m p ≡ false
-            → machine.lacks (row_held rules m) p ≡ false
-        seat_held p h seat present =
-            seat_is rules.players (λ q. if is_absent m q then None else Some (held_at m q (machine.ran m))) p
-            (below rules me n m r p h) seat ∙ rw present refl
+      pub row_is : four (move_held n.rings n.peers n.players n.ran) ≡ row_held rules m
+      unfolding row_of
+      row_is = λ i. move_is 0 i ∷ move_is 1 i ∷ move_is 2 i ∷ move_is 3 i ∷ []
 
-        -- the tic at which it ends is that of the row by its rings
-        pub full_is : (row : List (Option Move)) (capacity full : ℕ) → row ≡ row_held rules m
-            → capacity ≡ rules.capacity
-            → full ≡ (if machine.is_whole n.players row then capacity else tic_limit)
-            → full ≡ full_at rules (row_held rules m)
-        full_is row capacity full is held e =
-            e ∙ (λ i. if machine.is_whole (r.whose.players i) (is i) then held i else tic_limit)
+      -- a player who is not absent has a move in the row
+      pub seat_held : (p : ℕ) → p < n.players → p < 4 → is_absent m p ≡ false
+          → machine.lacks (row_held rules m) p ≡ false
+      seat_held p h seat present =
+          seat_is rules.players (λ q. if is_absent m q then None else Some (held_at m q (machine.ran m))) p
+          (below rules me n m r p h) seat ∙ rw present refl
+
+      -- the tic at which it ends is that of the row by its rings
+      pub full_is : {row : List (Option Move)} {full : ℕ} {whole : Bool}
+          → full ≡ (if whole then n.capacity else tic_limit) → whole ≡ machine.is_whole n.players row
+          → row ≡ row_held rules m → full ≡ full_at rules (row_held rules m)
+      full_is e each is =
+          e ∙ ap (λ (b : Bool). if b then n.capacity else tic_limit) each
+          ∙ (λ i. if machine.is_whole (r.whose.players i) (is i) then r.whose.capacity i else tic_limit)

@@ -1,6 +1,6 @@
 -- What a node makes of a packet, by its flags and the node's phase.
 use Rattle.std.proofs.Common.{◌≡◌, ◌≢◌, ℕ, Bool, true, false, refl, ap, ◌∙◌}
-use Rattle.std.specs.Prelude.{Result, Ok, Err, if◌then◌else◌}
+use Rattle.std.specs.Prelude.{Result, Ok, if◌then◌else◌}
 use Rattle.std.proofs.lemmas.Bool.{eq-eqb, ne_eqb}
 use Rattle.dn_packet.specs.declared.packet.Packet.{Packet}
 use Rattle.dn_packet.specs.Flags as flag
@@ -82,57 +82,39 @@ module _ {S : Type 0} (rules : Rules S) (me : ℕ) (m : machine.Node) (from : �
   abbrev pub on_start : Phase → Result ℕ ℕ → machine.Node × Heard
   on_start phase start = heard_as rules me m phase (flight_at from me (made me m) packet start)
 
-  -- a packet of this kind, where the machine hears it whatever its numbers are
-  uncounted : (phase : Phase) (kind : Kind) → kind_in packet ≡ kind → is_counted phase kind ≡ false
-      → ◌≡◌ {A = machine.Node × Heard} (on_player rules me m from packet phase)
-      (on_packet_in rules me m (flight_in from me (made me m) packet 0) phase kind)
-  uncounted phase kind is none =
-      let test = ap (is_counted phase) is ∙ none in
-      rw test (ap (on_packet_in rules me m (flight_in from me (made me m) packet 0) phase) is)
-
-  -- and where it looks at them
+  -- where the machine looks at its numbers
   pub counted : (phase : Phase) (kind : Kind) → kind_in packet ≡ kind → is_counted phase kind ≡ true
       → ◌≡◌ {A = machine.Node × Heard} (on_player rules me m from packet phase)
       (on_start phase (start_in (made me m) packet))
   counted phase kind is some = let test = ap (is_counted phase) is ∙ some in rw test refl
 
-  flagged : (set : Bool) → has_flag packet flag.exit ≡ set → kind_in packet ≡ (if set then Exit else Play)
-  flagged set e = kind_flagged packet set e
-
-  unheard_by : (set : Bool) → has_flag packet flag.exit ≡ set
-      → ◌≡◌ {A = machine.Node × Heard} (on_player rules me m from packet Listening)
-      (m, Heard.Dropped drops.not_playing)
-  unheard_by true e = uncounted Listening Exit (flagged true e) refl
-  unheard_by false e = uncounted Listening Play (flagged false e) refl
+  -- what is done alike to either kind
+  either : (hear : Kind → machine.Node × Heard) (heard : machine.Node × Heard) → hear Exit ≡ heard
+      → hear Play ≡ heard
+      → hear (kind_in packet) ≡ heard
+  either hear heard leaves plays = go (has_flag packet flag.exit)
+    where
+      go : (set : Bool) → hear (if set then Exit else Play) ≡ heard
+      go true = leaves
+      go false = plays
 
   pub player_unheard : ◌≡◌ {A = machine.Node × Heard} (on_player rules me m from packet Listening)
       (m, Heard.Dropped drops.not_playing)
-  player_unheard = unheard_by (has_flag packet flag.exit) refl
-
-  gathers_by : (set : Bool) → has_flag packet flag.exit ≡ set
-      → ◌≡◌ {A = machine.Node × Heard} (on_player rules me m from packet Gathering)
-      (on_gathering rules m from)
-  gathers_by true e = uncounted Gathering Exit (flagged true e) refl
-  gathers_by false e = uncounted Gathering Play (flagged false e) refl
+  player_unheard = either (on_packet_in rules me m (flight_in from me (made me m) packet 0) Listening) _ refl
+      refl
 
   pub player_gathers : ◌≡◌ {A = machine.Node × Heard} (on_player rules me m from packet Gathering)
       (on_gathering rules m from)
-  player_gathers = gathers_by (has_flag packet flag.exit) refl
+  player_gathers = either (on_packet_in rules me m (flight_in from me (made me m) packet 0) Gathering) _ refl
+      refl
 
   -- a node that plays takes the commands of either kind
-  takes_by : (start : ℕ) (set : Bool) → has_flag packet flag.exit ≡ set
-      → ◌≡◌ {A = machine.Node × Heard}
-      (on_packet_in rules me m (flight_in from me (made me m) packet start) Playing (kind_in packet))
-      (on_commands me m (flight_in from me (made me m) packet start))
-  takes_by start true e = ap (on_packet_in rules me m (flight_in from me (made me m) packet start) Playing)
-      (flagged true e)
-  takes_by start false e = ap (on_packet_in rules me m (flight_in from me (made me m) packet start) Playing)
-      (flagged false e)
-
   pub player_takes : (start : ℕ) → start_in (made me m) packet ≡ Ok start
       → ◌≡◌ {A = machine.Node × Heard} (on_player rules me m from packet Playing)
       (on_commands me m (flight_in from me (made me m) packet start))
-  player_takes start is = ap (on_start Playing) is ∙ takes_by start (has_flag packet flag.exit) refl
+  player_takes start is =
+      ap (on_start Playing) is
+      ∙ either (on_packet_in rules me m (flight_in from me (made me m) packet start) Playing) _ refl refl
 
   -- a node that has played and ended hears the requests of those who play on
   module _ (cause : Cause) (has : m.played ≡ true) where
@@ -140,17 +122,19 @@ module _ {S : Type 0} (rules : Rules S) (me : ℕ) (m : machine.Node) (from : �
         → ◌≡◌ {A = machine.Node × Heard} (on_player rules me m from packet (Ended cause))
         (m, Heard.Dropped drops.not_playing)
     left_leaves e =
-        uncounted (Ended cause) Exit (flagged true e) refl
-        ∙ ap (λ (b : Bool). on_ended b me m (flight_in from me (made me m) packet 0) Exit) has
+        let kind = kind_flagged packet true e in
+        let test = ap (is_counted (Ended cause)) kind in
+        rw test
+        (ap (on_packet_in rules me m (flight_in from me (made me m) packet 0) (Ended cause)) kind
+        ∙ ap (λ (b : Bool). on_ended b me m (flight_in from me (made me m) packet 0) Exit) has)
 
-    module _ (e : has_flag packet flag.exit ≡ false) where
-      pub left_asked : (start : ℕ) → start_in (made me m) packet ≡ Ok start
-          → ◌≡◌ {A = machine.Node × Heard} (on_player rules me m from packet (Ended cause)) (
-            with_peer m from (after_request (made me m) (m.peers from) (request_in (made me m) packet)),
-            Heard.Noted,
-          )
-      left_asked start is =
-          counted (Ended cause) Play (flagged false e) refl ∙ ap (on_start (Ended cause)) is
-          ∙ ap (on_packet_in rules me m (flight_in from me (made me m) packet start) (Ended cause))
-          (flagged false e)
-          ∙ ap (λ (b : Bool). on_ended b me m (flight_in from me (made me m) packet start) Play) has
+    pub left_asked : (start : ℕ) → has_flag packet flag.exit ≡ false → start_in (made me m) packet ≡ Ok start
+        → ◌≡◌ {A = machine.Node × Heard} (on_player rules me m from packet (Ended cause)) (
+          with_peer m from (after_request (made me m) (m.peers from) (request_in (made me m) packet)),
+          Heard.Noted,
+        )
+    left_asked start e is =
+        let kind = kind_flagged packet false e in
+        counted (Ended cause) Play kind refl ∙ ap (on_start (Ended cause)) is
+        ∙ ap (on_packet_in rules me m (flight_in from me (made me m) packet start) (Ended cause)) kind
+        ∙ ap (λ (b : Bool). on_ended b me m (flight_in from me (made me m) packet start) Play) has

@@ -3,6 +3,7 @@ use Rattle.std.proofs.Common.{◌≡◌, ◌<◌, ◌≤◌, ◌+◌, ◌-◌, �
 use Rattle.std.specs.Prelude.{◌||◌, ◌&&◌, ◌==◌}
 use Rattle.std.specs.List.{list_all, range_with_len}
 use Rattle.std.proofs.lemmas.Bool.{cases_eq, eq-eqb, ne_eqb, lt-ltb, and_from, and_left, or_right}
+use Rattle.std.proofs.Math.Bool.{or-false}
 use Rattle.dn_setup.specs.Settings.{Settings}
 use Rattle.dn_setup.specs.Gathered.{Gathered, is_noted, is_peer, all_noted}
 use Rattle.dn_machine.specs.declared.answers.Heard.{Heard}
@@ -16,10 +17,6 @@ use Rattle.dn_lockstep.specs.Contents.{Contents}
 use Rattle.dn_lockstep.specs.Represents.{Represents}
 use Rattle.dn_lockstep.specs.Steps.{IsAfter}
 use Rattle.dn_lockstep.proofs.After.{after}
-
-or-false : (x y : Bool) → y ≡ false → (x || y) ≡ x
-or-false true y e = refl
-or-false false y e = e
 
 -- two tests that agree on each number of a range
 all_same : (one other : ℕ → Bool) (low count : ℕ) → ((p : ℕ) → low ≤ p → p < low + count → one p ≡ other p)
@@ -55,7 +52,8 @@ module _ {S : Type 0} (rules : Rules S) (me : ℕ) (n : Contents) (m : machine.N
               heard p ∙ or_right _ _ (and_from _ _ one counted) ∙ sym (put_at m.noted from p true same)
           | inr other ↦
               let off = ne_eqb p from other in
-              heard p ∙ or-false _ _ (and_left _ _ off) ∙ r.peers.noted p peer
+              heard p ∙ ap (λ (b : Bool). is_noted n.gather p || b) (and_left _ _ off)
+              ∙ or-false (is_noted n.gather p) ∙ r.peers.noted p peer
               ∙ sym (put_off m.noted from p true other)
         ]
 

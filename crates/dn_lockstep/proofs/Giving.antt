@@ -1,13 +1,13 @@
 -- A node that was asked for a packet.
-use Rattle.std.proofs.Common.{◌≡◌, ◌≢◌, ℕ, List, length, take, drop, subst, arith, Bool, true, false, cond, Option, Some, None, refl, ap, sym, ◌∙◌, inl, inr}
+use Rattle.std.proofs.Common.{◌≡◌, ◌≢◌, ℕ, List, length, take, drop, subst, arith, Option, Some, None, refl, ap, sym, ◌∙◌, inl, inr}
 use Rattle.std.specs.Option.{option_map}
-use Rattle.std.proofs.lemmas.Bool.{cases_lt, cases_eq}
+use Rattle.std.proofs.lemmas.Bool.{cases_lt, cases_eq, cond_both}
 use Rattle.std.proofs.lemmas.Option.{same_Some}
 use Rattle.dn_machine.specs.declared.answers.Phase.{Phase}
 use Rattle.dn_machine.specs.declared.answers.Phase.TheVariants.{Listening, Gathering, Playing, Ended}
 use Rattle.dn_machine.specs.Worlds.{Rules}
 use Rattle.dn_machine.specs.Flight.{Flight, packet_of}
-use Rattle.dn_machine.specs.Sending.{on_send_in}
+use Rattle.dn_machine.specs.Sending.{on_send_in, after_sent}
 use Rattle.dn_machine.specs.Node as machine
 use Rattle.std.proofs.Math.Seq.{take-append_seam}
 use Rattle.dn_packet.specs.declared.packet.Packet.{Packet}
@@ -22,31 +22,24 @@ use Rattle.dn_lockstep.proofs.Sending.{to_itself, to_nobody, to_peer, sends_in}
 
 -- the machine's node once it was asked for a packet: as it was where it gave none, and else as noted
 module _ {S : Type 0} (rules : Rules S) (me : ℕ) (m : machine.Node) (to : ℕ) where
-  ended_none : (test : Bool) (next : machine.Node) (flight : Flight)
-      → (cond {A = machine.Node × Option Flight} test (next, Some flight) (m, None)).1 ≡ None
-      → (cond {A = machine.Node × Option Flight} test (next, Some flight) (m, None)).0 ≡ m
-  ended_none true next flight e = absurd (cc)
-  ended_none false next flight e = refl
-
-  ended_some : (test : Bool) (next : machine.Node) (flight given : Flight)
-      → (cond {A = machine.Node × Option Flight} test (next, Some flight) (m, None)).1 ≡ Some given
-      → (cond {A = machine.Node × Option Flight} test (next, Some flight) (m, None)).0 ≡ next
-  ended_some true next flight given e = refl
-  ended_some false next flight given e = absurd (cc)
-
   none_in : (phase : Phase) → (on_send_in rules me m to phase).1 ≡ None
       → (on_send_in rules me m to phase).0 ≡ m
   none_in Listening e = refl
   none_in Gathering e = refl
   none_in Playing e = absurd (cc)
-  none_in (Ended cause) e = ended_none _ _ _ e
+  none_in (Ended cause) e =
+      cond_both m.played _ _ (λ (x : machine.Node × Option Flight). x.1 ≡ None → x.0 ≡ m)
+      (λ has e. absurd (cc)) (λ never e. refl) e
 
   some_in : (phase : Phase) (given : Flight) → (on_send_in rules me m to phase).1 ≡ Some given
       → (on_send_in rules me m to phase).0 ≡ after_giving rules me m to phase
   some_in Listening given e = refl
   some_in Gathering given e = refl
   some_in Playing given e = refl
-  some_in (Ended cause) given e = ended_some _ _ _ given e
+  some_in (Ended cause) given e =
+      cond_both m.played _ _
+      (λ (x : machine.Node × Option Flight). x.1 ≡ Some given → x.0 ≡ after_sent rules me m to)
+      (λ has e. refl) (λ never e. absurd (cc)) e
 
   through : (next : machine.Node × Option Flight) → sent_to to rules me m ≡ next
       → (next.1 ≡ None → next.0 ≡ m)

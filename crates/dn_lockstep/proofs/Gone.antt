@@ -1,18 +1,18 @@
 -- Who is gone.
-use Rattle.std.proofs.Common.{◌≡◌, ◌≢◌, ◌<◌, ◌≤◌, ℕ, Bool, true, false, true≢false, Option, Some, None, is_some, refl, ap, sym, ◌∙◌, arith, inl, inr}
-use Rattle.std.proofs.lemmas.Bool.{cases_Bool, cases_eq, leb-true, le-leb}
+use Rattle.std.proofs.Common.{◌≡◌, ◌<◌, ◌≤◌, ℕ, Bool, true, false, true≢false, Option, Some, None, is_some, refl, ap, sym, ◌∙◌, arith, inl, inr}
+use Rattle.std.proofs.lemmas.Bool.{cases_Bool, leb-false, lt-leb}
 use Rattle.dn_machine.specs.Node.{lowest}
 use Rattle.dn_machine.specs.Running.{is_over}
 use Rattle.dn_machine.proofs.Marks.{lowest_none, lowest_none_each}
 use Rattle.dn_lockstep.specs.Rows.{is_gone, has_gone}
 use Rattle.dn_machine.specs.declared.peer.Peer.{Peer}
 
-nobody : (o : Option ℕ) → is_some o ≡ false → o ≡ None
+pub nobody : {A : Type 0} (o : Option A) → is_some o ≡ false → o ≡ None
 nobody None e = refl
 nobody (Some p) e = absurd (cc)
 
 -- where one test is passed by somebody, so is one that fails nobody who passes it
-found_too : (bound : ℕ) (f g : ℕ → Bool) → ((p : ℕ) → p < bound → g p ≡ false → f p ≡ false)
+pub found_too : (bound : ℕ) (f g : ℕ → Bool) → ((p : ℕ) → p < bound → g p ≡ false → f p ≡ false)
     → is_some (lowest bound f) ≡ true → is_some (lowest bound g) ≡ true
 found_too bound f g less e = elim (cases_Bool (is_some (lowest bound g))) [
   | inl here ↦ here
@@ -27,33 +27,9 @@ found_too bound f g less e = elim (cases_Bool (is_some (lowest bound g))) [
 pub over_later : (end : Option ℕ) (tic later : ℕ) → tic ≤ later → is_over end later ≡ false
     → is_over end tic ≡ false
 over_later None tic later l e = refl
-over_later (Some end) tic later l e = elim (cases_Bool (is_over (Some end) tic)) [
-  | inl gone ↦ let low = leb-true end tic gone in
-      absurd (true≢false (sym (le-leb end later (omega arith)) ∙ e))
-  | inr stays ↦ stays
-]
+over_later (Some end) tic later l e = let low = leb-false end later e in lt-leb end tic (omega arith)
 
 pub gone_later : (peers : ℕ → Peer) (players tic later : ℕ) → tic ≤ later → has_gone peers players tic ≡ true
     → has_gone peers players later ≡ true
 gone_later peers players tic later l e = found_too players (is_gone peers tic) (is_gone peers later)
     (λ p h. over_later (peers p).end tic later l) e
-
--- whoever was gone is gone where no end was put off
-pub gone_kept : (old new : ℕ → Peer) (players tic : ℕ)
-    → ((p : ℕ) → p < players → is_gone new tic p ≡ false → is_gone old tic p ≡ false)
-    → has_gone old players tic ≡ true → has_gone new players tic ≡ true
-gone_kept old new players tic later e = found_too players (is_gone old tic) (is_gone new tic) later e
-
--- where one peer is kept otherwise, whose end is not put off
-module _ (old new : ℕ → Peer) (player : ℕ) (later : (tic : ℕ) → is_over (new player).end tic ≡ false
-    → is_over (old player).end tic ≡ false)
-    (others : (p : ℕ) → p ≢ player → new p ≡ old p) where
-  pub stays_gone : (tic p : ℕ) → is_gone new tic p ≡ false → is_gone old tic p ≡ false
-  stays_gone tic p h = elim (cases_eq p player) [
-    | inl same ↦ ap (λ (k : ℕ). is_gone old tic k) same
-        ∙ later tic (ap (λ (k : ℕ). is_gone new tic k) (sym same) ∙ h)
-    | inr other ↦ ap (λ (q : Peer). is_over q.end tic) (sym (others p other)) ∙ h
-  ]
-
-  pub gone_still : (players tic : ℕ) → has_gone old players tic ≡ true → has_gone new players tic ≡ true
-  gone_still players tic = gone_kept old new players tic (λ p l. stays_gone tic p)

@@ -5,6 +5,7 @@ pub mod Building
 pub mod Nearby
 pub mod Receiving
 pub mod Peering
+pub mod Kept
 pub mod Giving
 pub mod Aiming
 pub mod Sending

@@ -2,7 +2,7 @@
 use Rattle.std.proofs.Common.{◌≡◌, ◌≢◌, ◌<◌, ◌≤◌, ◌+◌, ◌-◌, ◌%◌, ℕ, ℤ, Bool, true, false, not, cond, ◌||◌, List, [], ◌∷◌, ◌++◌, length, refl, ap, sym, ◌∙◌, subst, arith, inl, inr, Option, Some, None, fold}
 use Rattle.std.specs.Prelude.{nat_lt, ◌⊎◌, All, IfSome}
 use Rattle.std.proofs.lemmas.Bool.{cases_lt, cases_eq, cases_Bool, le-ltb, lt-ltb, ltb-false, cond-false}
-use Rattle.std.proofs.lemmas.List.{length_push, take-append-le, take_all}
+use Rattle.std.proofs.lemmas.List.{length_push, take-append-le}
 use Rattle.dn_tic.specs.declared.command.Move.{Move}
 use Rattle.dn_setup.specs.Settings.{Settings}
 use Rattle.dn_setup.specs.Starts.{start_of}
@@ -15,9 +15,7 @@ use Rattle.dn_demo.specs.declared.recorder.Stage.TheVariants.{Blank, Open, Close
 use Rattle.dn_machine.specs.declared.answers.Phase.{Phase}
 use Rattle.dn_machine.specs.Running.{is_over}
 use Rattle.dn_machine.proofs.Demos.{front_stops, front_goes_on, front_short}
-use Rattle.std.specs.List.{prefix_len}
 use Rattle.std.proofs.lemmas.List.Elements.{All-push}
-use Rattle.std.proofs.lemmas.List.Folds.{length-prefix_len}
 use Rattle.dn_machine.specs.declared.answers.Phase.TheVariants.{Playing}
 use Rattle.dn_machine.specs.Worlds.{Rules, mark_in, opening}
 use Rattle.dn_machine.specs.Node as machine
@@ -25,7 +23,7 @@ use Rattle.dn_machine.specs.Node.{ends_of, own_mark, own_world, world_after, is_
 use Rattle.dn_lockstep.specs.Contents.{Contents}
 use Rattle.dn_lockstep.specs.Represents.{Represents, CanBeWritten, is_demo_closed}
 use Rattle.dn_lockstep.specs.Rows.{seats_of}
-use Rattle.dn_lockstep.proofs.Replaying.{own_world_is, demo_is}
+use Rattle.dn_lockstep.proofs.Replaying.{own_world_is, all_recorded, demo_is}
 use Rattle.dn_lockstep.proofs.Starting.{early_mark}
 
 -- the machine's node after one row more
@@ -85,34 +83,29 @@ pub record IsWritten {S : Type 0} (rules : Rules S) (old new : Recorded) (row : 
     pub fits : is_whole rules.players row ≡ true → IsRow (seats_of rules.players) row
     pub ranged : All (λ step. IfSome step IsMove) row
 
-module _ {S : Type 0} (rules : Rules S) (me : ℕ) (m : machine.Node) (settings : Settings)
-    (row : List (Option Move)) (playing : m.phase ≡ Playing) (old new : Recorded)
-    (written : IsWritten rules old new row) where
+module _ {S : Type 0} {rules : Rules S} (m : machine.Node) {row : List (Option Move)}
+    (playing : m.phase ≡ Playing) {old new : Recorded} (written : IsWritten rules old new row)
+    (told : is_closed old.stage ≡ is_demo_closed rules m) where
   -- while a node plays its demo is closed where not all rows are whole
   closed_so : (x : machine.Node) → x.phase ≡ Playing
       → is_demo_closed rules x ≡ nat_lt (length (demo_rows rules x)) (machine.ran x)
   closed_so x on = ap (λ (p : Phase). is_ended p || nat_lt (length (demo_rows rules x)) (machine.ran x)) on
 
-  all_rows : is_closed old.stage ≡ is_demo_closed rules m → old.stage ≡ Open → demo_rows rules m ≡ m.rows
-  all_rows told at =
-      let none = ltb-false (length (demo_rows rules m)) (machine.ran m)
-      (sym (closed_so m playing) ∙ sym told ∙ ap is_closed at) in
-      let long = length-prefix_len (is_whole rules.players) m.rows in
-      take_all (prefix_len (is_whole rules.players) m.rows) m.rows (omega arith)
+  all_rows : old.stage ≡ Open → demo_rows rules m ≡ m.rows
+  all_rows at =
+      all_recorded rules m (ltb-false (length (demo_rows rules m)) (machine.ran m)
+      (sym (closed_so m playing) ∙ sym told ∙ ap is_closed at))
 
-  more_rows : is_whole rules.players row ≡ true → is_closed old.stage ≡ is_demo_closed rules m
-      → demo_rows rules (moved m row) ≡ m.rows ++ row ∷ []
-  more_rows each told = front_goes_on (is_whole rules.players) m.rows row
-      (all_rows told (written.open_while each)) each
+  more_rows : is_whole rules.players row ≡ true → demo_rows rules (moved m row) ≡ m.rows ++ row ∷ []
+  more_rows each = front_goes_on (is_whole rules.players) m.rows row (all_rows (written.open_while each)) each
 
   same_rows : is_whole rules.players row ≡ false → demo_rows rules (moved m row) ≡ demo_rows rules m
   same_rows lacks = front_stops (is_whole rules.players) m.rows row lacks
 
-  closed_now : is_closed old.stage ≡ is_demo_closed rules m
-      → is_demo_closed rules (moved m row) ≡ not (is_whole rules.players row)
-  closed_now told = elim (cases_Bool (is_whole rules.players row)) [
+  closed_now : is_demo_closed rules (moved m row) ≡ not (is_whole rules.players row)
+  closed_now = elim (cases_Bool (is_whole rules.players row)) [
     | inl each ↦
-        let long = ap (length {A = List (Option Move)}) (more_rows each told) in
+        let long = ap (length {A = List (Option Move)}) (more_rows each) in
         closed_so (moved m row) playing ∙ le-ltb (length (demo_rows rules (moved m row)))
         (machine.ran (moved m row)) (omega arith) ∙ sym (ap not each)
     | inr lacks ↦
@@ -127,21 +120,18 @@ module _ {S : Type 0} (rules : Rules S) (me : ℕ) (m : machine.Node) (settings 
   stage_now true = refl
   stage_now false = refl
 
-  pub closed_moved : is_closed old.stage ≡ is_demo_closed rules m
-      → is_closed new.stage ≡ is_demo_closed rules (moved m row)
-  closed_moved told = ap is_closed written.stage ∙ stage_now (is_whole rules.players row)
-      ∙ sym (closed_now told)
+  pub closed_moved : is_closed new.stage ≡ is_demo_closed rules (moved m row)
+  closed_moved = ap is_closed written.stage ∙ stage_now (is_whole rules.players row) ∙ sym closed_now
 
-  pub writable_moved : is_closed old.stage ≡ is_demo_closed rules m
-      → CanBeWritten rules.players (demo_rows rules m)
+  pub writable_moved : CanBeWritten rules.players (demo_rows rules m)
       → CanBeWritten rules.players (demo_rows rules (moved m row))
   unfolding CanBeWritten
-  writable_moved told before =
+  writable_moved before =
       let Fits : List (List (Option Move)) → Type 0 = AreWritable (seats_of rules.players) in
       elim (cases_Bool (is_whole rules.players row)) [
         | inl each ↦
-            let kept = subst Fits (all_rows told (written.open_while each)) before in
-            subst Fits (sym (more_rows each told)) (record {
+            let kept = subst Fits (all_rows (written.open_while each)) before in
+            subst Fits (sym (more_rows each)) (record {
               four = kept.four;
               somebody = kept.somebody;
               recordable = All-push (IsRow (seats_of rules.players)) m.rows row kept.recordable
@@ -156,36 +146,35 @@ module _ {S : Type 0} (rules : Rules S) (me : ℕ) (m : machine.Node) (settings 
   stages Open n = inl refl
   stages Closed n = inr refl
 
-  pub demo_moved : old.bytes ≡ demo_text long_tics (start_of settings) me (seats_of rules.players)
-      (demo_rows rules m) (is_demo_closed rules m)
-      → is_closed old.stage ≡ is_demo_closed rules m
-      → new.bytes ≡ demo_text long_tics (start_of settings) me (seats_of rules.players)
-      (demo_rows rules (moved m row)) (is_demo_closed rules (moved m row))
-  demo_moved text told =
-      let Text : List (List (Option Move)) → Bool → List ℕ =
-      λ rows closed. demo_text long_tics (start_of settings) me (seats_of rules.players) rows closed in
-      elim (cases_Bool (is_whole rules.players row)) [
-        | inl each ↦
-            let at = written.open_while each in
-            let before : old.bytes ≡ Text m.rows false =
-            text ∙ ap (λ (rs : List (List (Option Move))). Text rs (is_demo_closed rules m))
-            (all_rows told at) ∙ ap (Text m.rows) (sym told ∙ ap is_closed at) in
-            written.added each (start_of settings) me (seats_of rules.players) m.rows before
-            ∙ ap (λ (rs : List (List (Option Move))). Text rs false) (sym (more_rows each told))
-            ∙ ap (Text (demo_rows rules (moved m row))) (sym (closed_now told ∙ ap not each))
-        | inr lacks ↦
-            let after : Text (demo_rows rules m) true ≡ Text (demo_rows rules (moved m row))
-            (is_demo_closed rules (moved m row)) =
-            ap (λ (rs : List (List (Option Move))). Text rs true) (sym (same_rows lacks))
-            ∙ ap (Text (demo_rows rules (moved m row))) (sym (closed_now told ∙ ap not lacks)) in
-            elim (stages old.stage written.begun) [
-              | inl at ↦ written.closes lacks at (start_of settings) me (seats_of rules.players)
-                  (demo_rows rules m) (text ∙ ap (Text (demo_rows rules m)) (sym told ∙ ap is_closed at))
-                  ∙ after
-              | inr at ↦ written.stays lacks at ∙ text
-                  ∙ ap (Text (demo_rows rules m)) (sym told ∙ ap is_closed at) ∙ after
-            ]
-      ]
+  module _ (me : ℕ) (settings : Settings) where
+    abbrev text_with : List (List (Option Move)) → Bool → List ℕ
+    text_with rows closed = demo_text long_tics (start_of settings) me (seats_of rules.players) rows closed
+
+    pub demo_moved : old.bytes ≡ text_with (demo_rows rules m) (is_demo_closed rules m)
+        → new.bytes ≡ text_with (demo_rows rules (moved m row)) (is_demo_closed rules (moved m row))
+    demo_moved text =
+        elim (cases_Bool (is_whole rules.players row)) [
+          | inl each ↦
+              let at = written.open_while each in
+              let before : old.bytes ≡ text_with m.rows false =
+              text ∙ ap (λ (rs : List (List (Option Move))). text_with rs (is_demo_closed rules m))
+              (all_rows at) ∙ ap (text_with m.rows) (sym told ∙ ap is_closed at) in
+              written.added each (start_of settings) me (seats_of rules.players) m.rows before
+              ∙ ap (λ (rs : List (List (Option Move))). text_with rs false) (sym (more_rows each))
+              ∙ ap (text_with (demo_rows rules (moved m row))) (sym (closed_now ∙ ap not each))
+          | inr lacks ↦
+              let after : text_with (demo_rows rules m) true
+              ≡ text_with (demo_rows rules (moved m row)) (is_demo_closed rules (moved m row)) =
+              ap (λ (rs : List (List (Option Move))). text_with rs true) (sym (same_rows lacks))
+              ∙ ap (text_with (demo_rows rules (moved m row))) (sym (closed_now ∙ ap not lacks)) in
+              elim (stages old.stage written.begun) [
+                | inl at ↦ written.closes lacks at (start_of settings) me (seats_of rules.players)
+                    (demo_rows rules m)
+                    (text ∙ ap (text_with (demo_rows rules m)) (sym told ∙ ap is_closed at)) ∙ after
+                | inr at ↦ written.stays lacks at ∙ text
+                    ∙ ap (text_with (demo_rows rules m)) (sym told ∙ ap is_closed at) ∙ after
+              ]
+        ]
 
 pub known_by : (settings : Option Settings) → settings ≢ None → (s : Settings) × (settings ≡ Some s)
 known_by None n = absurd (n refl)
@@ -230,11 +219,10 @@ shows_moved {S} rules me n m row marks demo r on has_played has_settings new oth
         ];
       };
       demo = record {
-        bytes = demo_moved rules me m settings row playing n.demo demo written
-            (r.demo.bytes ∙ demo_is rules m settings known me played) (r.demo.closed played)
+        bytes = demo_moved m playing written (r.demo.closed played) me settings
+            (r.demo.bytes ∙ demo_is rules m settings known me played)
             ∙ sym (demo_is rules (moved m row) settings known me played);
-        closed = λ e. closed_moved rules me m settings row playing n.demo demo written (r.demo.closed played);
-        writable = writable_moved rules me m settings row playing n.demo demo written (r.demo.closed played)
-            r.demo.writable;
+        closed = λ e. closed_moved m playing written (r.demo.closed played);
+        writable = writable_moved m playing written (r.demo.closed played) r.demo.writable;
       };
     }

@@ -1,6 +1,6 @@
 -- A fair flight that is near is read as it was sent.
 use Rattle.std.proofs.Common.{◌≡◌, ◌≢◌, ◌<◌, ◌≤◌, ◌+◌, ◌-◌, ◌%◌, ℕ, Bool, true, false, List, refl, ap, sym, ◌∙◌, arith, Option, Some, None, inl, inr}
-use Rattle.std.specs.Prelude.{bit_and, Result, Ok, Err, if◌then◌else◌}
+use Rattle.std.specs.Prelude.{bit_and, not, ◌==◌, Result, Ok, Err, if◌then◌else◌}
 use Rattle.std.specs.List.{list_any}
 use Rattle.std.proofs.lemmas.Bool.{ltb-false, eqb-true, not-true, not-false, and_parts, eq-eqb, ne_eqb, lt-ltb, cases_Bool}
 use Rattle.dn_tic.specs.Tics.{exact_tic}
@@ -41,41 +41,26 @@ read_close made tic close =
     exact-near made tic (omega arith) (omega arith)
 
 -- and so is a close request
-read_request : (made : ℕ) (flight : Flight) → is_request_close made flight.request ≡ true
-    → request_in made (commands_packet 0 flight) ≡ flight.request
-read_request made flight close = go flight.request close
+read_request : (made flags : ℕ) (flight : Flight) → bit_and (flags + 0) 4 ≡ 0 → bit_and (flags + 4) 4 ≡ 4
+    → is_request_close made flight.request ≡ true
+    → request_in made (commands_packet flags flight) ≡ flight.request
+read_request made flags flight plain asks close = go flight.request close
   where
     go : (request : Option ℕ) → is_request_close made request ≡ true
-        → request_in made (commands_packet 0 (record flight { request = request })) ≡ request
-    go None close = refl
-    go (Some tic) close = read_close made tic close
+        → request_in made (commands_packet flags (record flight { request = request })) ≡ request
+    go None close = rw plain refl
+    go (Some tic) close = rw asks (read_close made tic close)
 
-read_request_exit : (made : ℕ) (flight : Flight) → is_request_close made flight.request ≡ true
-    → request_in made (commands_packet 8 flight) ≡ flight.request
-read_request_exit made flight close = go flight.request close
+-- a flag that a packet of commands has, or has not, whether it asks or not
+flag_is : (flight : Flight) (flags flag : ℕ) (set : Bool) → not (bit_and (flags + 0) flag == 0) ≡ set
+    → not (bit_and (flags + 4) flag == 0) ≡ set
+    → has_flag (commands_packet flags flight) flag ≡ set
+flag_is flight flags flag set plain asks = go flight.request
   where
-    go : (request : Option ℕ) → is_request_close made request ≡ true
-        → request_in made (commands_packet 8 (record flight { request = request })) ≡ request
-    go None close = refl
-    go (Some tic) close = read_close made tic close
-
--- flags that a packet of commands has not, whether it asks or not
-module _ (flight : Flight) where
-  unset : (flags flag : ℕ) → bit_and (flags + 0) flag ≡ 0 → bit_and (flags + 4) flag ≡ 0
-      → has_flag (commands_packet flags flight) flag ≡ false
-  unset flags flag plain asks = go flight.request
-    where
-      go : (request : Option ℕ) → has_flag (commands_packet flags (record flight { request = request })) flag
-          ≡ false
-      go None = rw plain refl
-      go (Some tic) = rw asks refl
-
-  set_exit : has_flag (commands_packet 8 flight) 8 ≡ true
-  set_exit = go flight.request
-    where
-      go : (request : Option ℕ) → has_flag (commands_packet 8 (record flight { request = request })) 8 ≡ true
-      go None = refl
-      go (Some tic) = refl
+    go : (request : Option ℕ) → has_flag (commands_packet flags (record flight { request = request })) flag
+        ≡ set
+    go None = plain
+    go (Some tic) = asks
 
 -- a packet whose kind is that of one who leaves has the flag
 flag_of : (packet : Packet) → kind_in packet ≡ Exit → has_flag packet flag.exit ≡ true
@@ -99,10 +84,14 @@ told_is : (flight : Flight) (kind : Kind) → IsFairKind flight kind
     → IsSetupReadAs (packet_of (record flight { kind = kind })) (told_by kind)
 told_is flight (SetUp settings) fair =
     (λ e. absurd (omega arith), refl, record { in_range = fair.1; ask = refl; start = refl })
-told_is flight Play fair = no_bit (commands_packet 0 flight) (unset flight 0 2 refl refl)
-told_is flight Exit fair = no_bit (commands_packet 8 flight) (unset flight 8 2 refl refl)
+told_is flight Play fair = no_bit (commands_packet 0 flight) (flag_is flight 0 2 false refl refl)
+told_is flight Exit fair = no_bit (commands_packet 8 flight) (flag_is flight 8 2 false refl refl)
 
 module _ {S : Type 0} (rules : Rules S) (me : ℕ) (m : machine.Node) (flight : Flight) where
+  -- what has ended and hears has played
+  has_played : (cause : Cause) → m.phase ≡ Ended cause → hears_none m.phase m.played ≡ false → m.played ≡ true
+  has_played cause at on = not-false m.played (sym (ap (λ (p : Phase). hears_none p m.played) at) ∙ on)
+
   -- a set-up packet
   set_up_heard : (settings : Settings) (phase : Phase) → m.phase ≡ phase → flight.from ≡ 0
       → hears_none m.phase m.played ≡ false
@@ -112,12 +101,7 @@ module _ {S : Type 0} (rules : Rules S) (me : ℕ) (m : machine.Node) (flight : 
   set_up_heard settings Gathering at key on = refl
   set_up_heard settings Playing at key on = refl
   set_up_heard settings (Ended cause) at key on =
-      let has = not-false m.played (sym (ap (λ (p : Phase). hears_none p m.played) at) ∙ on) in
-      ap (λ (b : Bool). on_ended b me m flight (SetUp settings)) (sym has)
-
-  -- what has ended and hears has played
-  has_played : (cause : Cause) → m.phase ≡ Ended cause → hears_none m.phase m.played ≡ false → m.played ≡ true
-  has_played cause at on = not-false m.played (sym (ap (λ (p : Phase). hears_none p m.played) at) ∙ on)
+      ap (λ (b : Bool). on_ended b me m flight (SetUp settings)) (sym (has_played cause at on))
 
   -- a packet of the flight's commands: of a player who leaves, or who plays on
   record IsSpelt (packet : Packet) (kind : Kind) : Type 0 where
@@ -130,7 +114,7 @@ module _ {S : Type 0} (rules : Rules S) (me : ℕ) (m : machine.Node) (flight : 
     asks : request_in (made me m) packet ≡ flight.request
     items : packet.cmds.items ≡ flight.commands
 
-  module _ (packet : Packet) (kind : Kind) (spelt : IsSpelt packet kind) where
+  module _ {packet : Packet} {kind : Kind} (spelt : IsSpelt packet kind) where
     -- where its numbers are looked at they are the flight's
     numbers_heard : (phase : Phase) → is_counted phase kind ≡ true
         → ◌≡◌ {A = machine.Node × Heard} (on_player rules me m flight.from packet phase)
@@ -156,51 +140,48 @@ module _ {S : Type 0} (rules : Rules S) (me : ℕ) (m : machine.Node) (flight : 
         spelt.player spelt.alive
         ∙ ap (on_player rules me m flight.from packet) at
 
-  play_heard : (packet : Packet) → IsSpelt packet Play → (phase : Phase) → m.phase ≡ phase
+  play_heard : {packet : Packet} → IsSpelt packet Play → (phase : Phase) → m.phase ≡ phase
       → hears_none m.phase m.played ≡ false
       → ◌≡◌ {A = machine.Node × Heard} (on_read rules me m flight.from (Err NotSetup) (Ok packet))
       (on_packet_in rules me m flight phase Play)
-  play_heard packet spelt Listening at on = read_unheard rules me m flight.from (Err NotSetup) packet
+  play_heard {packet} spelt Listening at on = read_unheard rules me m flight.from (Err NotSetup) packet
       spelt.plain at
-  play_heard packet spelt Gathering at on = read_heard packet Play spelt Gathering at (λ e. cc)
+  play_heard {packet} spelt Gathering at on = read_heard spelt Gathering at (λ e. cc)
       ∙ player_gathers rules me m flight.from packet
-  play_heard packet spelt Playing at on = read_heard packet Play spelt Playing at (λ e. cc)
-      ∙ numbers_heard packet Play spelt Playing refl
-  play_heard packet spelt (Ended cause) at on =
+  play_heard spelt Playing at on = read_heard spelt Playing at (λ e. cc) ∙ numbers_heard spelt Playing refl
+  play_heard spelt (Ended cause) at on =
       let has = has_played cause at on in
-      read_heard packet Play spelt (Ended cause) at (λ e. cc)
-      ∙ numbers_heard packet Play spelt (Ended cause) refl
+      read_heard spelt (Ended cause) at (λ e. cc) ∙ numbers_heard spelt (Ended cause) refl
       ∙ ap (λ (b : Bool). on_ended b me m (record flight { to = me }) Play) has
       ∙ sym (ap (λ (b : Bool). on_ended b me m flight Play) has)
 
-  exit_heard : (packet : Packet) → IsSpelt packet Exit → (phase : Phase) → m.phase ≡ phase
+  exit_heard : {packet : Packet} → IsSpelt packet Exit → (phase : Phase) → m.phase ≡ phase
       → hears_none m.phase m.played ≡ false
       → ◌≡◌ {A = machine.Node × Heard} (on_read rules me m flight.from (Err NotSetup) (Ok packet))
       (on_packet_in rules me m flight phase Exit)
-  exit_heard packet spelt Listening at on = read_unheard rules me m flight.from (Err NotSetup) packet
+  exit_heard {packet} spelt Listening at on = read_unheard rules me m flight.from (Err NotSetup) packet
       spelt.plain at
-  exit_heard packet spelt Gathering at on = read_heard packet Exit spelt Gathering at (λ e. cc)
+  exit_heard {packet} spelt Gathering at on = read_heard spelt Gathering at (λ e. cc)
       ∙ player_gathers rules me m flight.from packet
-  exit_heard packet spelt Playing at on = read_heard packet Exit spelt Playing at (λ e. cc)
-      ∙ numbers_heard packet Exit spelt Playing refl
-  exit_heard packet spelt (Ended cause) at on =
+  exit_heard spelt Playing at on = read_heard spelt Playing at (λ e. cc) ∙ numbers_heard spelt Playing refl
+  exit_heard {packet} spelt (Ended cause) at on =
       let has = has_played cause at on in
-      read_heard packet Exit spelt (Ended cause) at (λ e. cc)
+      read_heard spelt (Ended cause) at (λ e. cc)
       ∙ left_leaves rules me m flight.from packet cause has (flag_of packet spelt.kinded)
       ∙ sym (ap (λ (b : Bool). on_ended b me m flight Exit) has)
 
   -- a close flight's packet is spelt so
   spelt_as : (flags : ℕ) (kind : Kind) → kind_in (commands_packet flags flight) ≡ kind → flight.kind ≡ kind
-      → bit_and (flags + 0) 2 ≡ 0 → bit_and (flags + 4) 2 ≡ 0 → bit_and (flags + 0) 1 ≡ 0
-      → bit_and (flags + 4) 1 ≡ 0
+      → has_flag (commands_packet flags flight) flag.set_up ≡ false
+      → has_flag (commands_packet flags flight) flag.kill ≡ false
       → request_in (made me m) (commands_packet flags flight) ≡ flight.request
       → is_close (made me m) flight.start ≡ true → list_any is_stop flight.commands ≡ false
       → IsSpelt (commands_packet flags flight) kind
-  spelt_as flags kind kinded same a b c d asks close fine =
+  spelt_as flags kind kinded same plain alive asks close fine =
       record {
         player = refl;
-        plain = unset flight flags 2 a b;
-        alive = unset flight flags 1 c d;
+        plain = plain;
+        alive = alive;
         kinded = kinded;
         same = same;
         begins = ap (start_at (commands_packet flags flight)) (read_close (made me m) flight.start close)
@@ -217,16 +198,16 @@ module _ {S : Type 0} (rules : Rules S) (me : ℕ) (m : machine.Node) (flight : 
   near_read (SetUp settings) is fair near on = set_up_heard settings m.phase refl fair.0 on
   near_read Play is fair near on =
       let close = and_parts _ _ near in
-      let plays = kind_flagged (commands_packet 0 flight) false (unset flight 0 8 refl refl) in
-      play_heard (commands_packet 0 flight)
-      (spelt_as 0 Play plays is refl refl refl refl (read_request (made me m) flight close.1) close.0
+      play_heard (spelt_as 0 Play (kind_flagged (commands_packet 0 flight) false
+      (flag_is flight 0 8 false refl refl)) is (flag_is flight 0 2 false refl refl)
+      (flag_is flight 0 1 false refl refl) (read_request (made me m) 0 flight refl refl close.1) close.0
       fair) m.phase refl on
   near_read Exit is fair near on =
       let close = and_parts _ _ near in
-      let leaves = kind_flagged (commands_packet 8 flight) true (set_exit flight) in
-      exit_heard (commands_packet 8 flight)
-      (spelt_as 8 Exit leaves is refl refl refl refl (read_request_exit (made me m) flight close.1)
-      close.0 fair) m.phase refl on
+      exit_heard (spelt_as 8 Exit (kind_flagged (commands_packet 8 flight) true
+      (flag_is flight 8 8 true refl refl)) is (flag_is flight 8 2 false refl refl)
+      (flag_is flight 8 1 false refl refl) (read_request (made me m) 8 flight refl refl close.1) close.0
+      fair) m.phase refl on
 
   ended_heard : (phase : Phase) (played : Bool) (kind : Kind) → m.played ≡ played
       → hears_none phase played ≡ true

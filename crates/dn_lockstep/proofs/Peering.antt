@@ -1,5 +1,5 @@
 -- A node that keeps something else of a peer.
-use Rattle.std.proofs.Common.{◌≡◌, ◌≢◌, ◌<◌, ◌≤◌, ℕ, ◌-◌, false, ap, sym, ◌∙◌, subst, inl, inr}
+use Rattle.std.proofs.Common.{◌≡◌, ◌≢◌, ℕ, ◌-◌, false, ap, sym, ◌∙◌, inl, inr}
 use Rattle.std.proofs.lemmas.Bool.{cases_eq}
 use Rattle.dn_machine.specs.Worlds.{Rules}
 use Rattle.dn_machine.specs.Node as machine
@@ -10,13 +10,12 @@ use Rattle.dn_machine.specs.declared.peer.Peer.{Peer}
 use Rattle.dn_lockstep.specs.Contents.{Contents}
 use Rattle.dn_lockstep.specs.Represents.{Represents}
 
-pub shows_peer : {S : Type 0} (rules : Rules S) (me : ℕ) (n : Contents) (m : machine.Node) (player : ℕ)
-    (peer : Peer) (peers : ℕ → Peer)
-    → Represents rules me n m
+pub shows_peer : {S : Type 0} {rules : Rules S} {me : ℕ} {n : Contents} {m : machine.Node}
+    (r : Represents rules me n m) (player : ℕ) {peer : Peer} (peers : ℕ → Peer)
     → ((tic : ℕ) → is_over peer.end tic ≡ false → is_over (ends_of m player) tic ≡ false)
     → peers player ≡ peer → ((p : ℕ) → p ≢ player → peers p ≡ n.peers p)
     → Represents rules me (record n { peers = peers }) (with_peer m player peer)
-shows_peer rules me n m player peer peers r later new others =
+shows_peer {m = m} r player {peer} peers later new others =
     record {
       whose = r.whose;
       stands = r.stands;
@@ -42,14 +41,3 @@ shows_peer rules me n m player peer peers r later new others =
       };
       demo = r.demo;
     }
-
--- resends after one peer's was put low enough
-pub resends_put : (old new : ℕ → Peer) (player players count : ℕ)
-    → ((p : ℕ) → p < players → (old p).resend ≤ count) → ((p : ℕ) → p ≢ player → new p ≡ old p)
-    → (new player).resend ≤ count → (p : ℕ) → p < players → (new p).resend ≤ count
-resends_put old new player players count low others is p h =
-    let P : Peer → Type 0 = λ x. x.resend ≤ count in
-    elim (cases_eq p player) [
-      | inl same ↦ subst (λ (k : ℕ). (new k).resend ≤ count) (sym same) is
-      | inr other ↦ subst P (sym (others p other)) (low p h)
-    ]

@@ -1,5 +1,5 @@
 -- How a node hears a datagram, by what it tests first.
-use Rattle.std.proofs.Common.{◌≡◌, ◌≢◌, ◌<◌, ◌≤◌, ◌⊎◌, ℕ, Bool, true, false, List, refl, sym, ◌∙◌, ap, subst, arith, inl, inr}
+use Rattle.std.proofs.Common.{◌≡◌, ◌≢◌, ◌<◌, ◌≤◌, ◌⊎◌, ℕ, true, false, List, refl, sym, ◌∙◌, ap, subst, arith, inl, inr}
 use Rattle.std.specs.Prelude.{Result, Err}
 use Rattle.std.proofs.lemmas.Bool.{eq-eqb, ne_eqb, lt-ltb, le-ltb, cases_lt}
 use Rattle.dn_packet.specs.declared.packet.Packet.{Packet}
@@ -8,11 +8,11 @@ use Rattle.dn_packet.specs.Read.{IsReadAs}
 use Rattle.dn_setup.specs.Settings.{Settings}
 use Rattle.dn_setup.specs.declared.setup.SetupFault.{SetupFault}
 use Rattle.dn_machine.specs.declared.answers.Heard.{Heard}
-use Rattle.dn_machine.specs.declared.answers.Phase.{Phase}
 use Rattle.dn_machine.specs.Drops as drops
 use Rattle.dn_machine.specs.Worlds.{Rules, rules_of}
 use Rattle.dn_machine.specs.Node as machine
 use Rattle.dn_lockstep.specs.Contents.{Contents}
+use Rattle.dn_lockstep.specs.Hearing.{HearsAny}
 use Rattle.dn_lockstep.specs.Marking.{free}
 use Rattle.dn_lockstep.specs.Phases.{hears_none}
 use Rattle.dn_lockstep.specs.Received.{received, on_read, packet_drop, IsTold}
@@ -46,41 +46,33 @@ module _ {S : Type 0} (rules : Rules S) (me : ℕ) (m : machine.Node) (from : �
       let apart = ne_eqb from me other in
       rw (on, there, apart) refl
 
+-- whether it hears anything, and who is no peer, by a node that represents it
+module _ {S : Type 0} {rules : Rules S} {me : ℕ} {old : Contents} {m : machine.Node}
+    (r : Represents rules me old m) where
+  same_none : hears_none m.phase m.played ≡ hears_none old.phase old.played
+  same_none = sym (λ i. hears_none (r.stands.phase i) (r.stands.played i))
+
+  strange : {from : ℕ} → (old.players ≤ from) ⊎ (from ≡ old.me) → (rules.players ≤ from) ⊎ (from ≡ me)
+  strange (inl past) = inl (omega (arith, past, r.whose.players))
+  strange (inr own) = inr (own ∙ r.whose.number)
+
 module _ (old : Contents) (from : ℕ) (bytes : List ℕ) where
   -- a node that has ended without having played drops it
   pub any_ended : hears_none old.phase old.played ≡ true
-      → (read : Result Packet PacketFault) (told : Result Settings SetupFault) → IsReadAs bytes read
-      → IsTold read told
-      → Steps old old (λ rules me m. received rules me m from told read)
-      (λ heard. Heard.Dropped drops.not_playing ≡ heard)
+      → HearsAny from bytes old old (Heard.Dropped drops.not_playing)
   any_ended done read told is tells marking players extra capacity me m r =
       after m (Heard.Dropped drops.not_playing)
       (received_ended (rules_of (free marking) players extra capacity) me m from told read
-      (ap (λ (p : Phase). hears_none p m.played) (sym r.stands.phase)
-      ∙ ap (λ (b : Bool). hears_none old.phase b) (sym r.stands.played) ∙ done)) r refl
+      (same_none r ∙ done)) r refl
 
   module _ (on : hears_none old.phase old.played ≡ false) where
-    goes_on : {S : Type 0} (rules : Rules S) (me : ℕ) (m : machine.Node) → Represents rules me old m
-        → hears_none m.phase m.played ≡ false
-    goes_on rules me m r = ap (λ (p : Phase). hears_none p m.played) (sym r.stands.phase)
-        ∙ ap (λ (b : Bool). hears_none old.phase b) (sym r.stands.played) ∙ on
-
     -- who is no peer is not heard
     pub any_strange : (old.players ≤ from) ⊎ (from ≡ old.me)
-        → (read : Result Packet PacketFault) (told : Result Settings SetupFault) → IsReadAs bytes read
-        → IsTold read told
-        → Steps old old (λ rules me m. received rules me m from told read)
-        (λ heard. Heard.Dropped drops.stranger ≡ heard)
-    any_strange (inl past) read told is tells marking players extra capacity me m r =
+        → HearsAny from bytes old old (Heard.Dropped drops.stranger)
+    any_strange who read told is tells marking players extra capacity me m r =
         after m (Heard.Dropped drops.stranger)
         (received_strange (rules_of (free marking) players extra capacity) me m from told read
-        (goes_on (rules_of (free marking) players extra capacity) me m r)
-        (inl (omega (arith, past, r.whose.players)))) r refl
-    any_strange (inr own) read told is tells marking players extra capacity me m r =
-        after m (Heard.Dropped drops.stranger)
-        (received_strange (rules_of (free marking) players extra capacity) me m from told read
-        (goes_on (rules_of (free marking) players extra capacity) me m r)
-        (inr (own ∙ r.whose.number))) r refl
+        (same_none r ∙ on) (strange r who)) r refl
 
     -- a peer's bytes are heard as what they are read as
     pub any_read : (new : Contents) (answer : Heard) (found : Result Packet PacketFault) → from < old.players
@@ -88,15 +80,13 @@ module _ (old : Contents) (from : ℕ) (bytes : List ℕ) where
         → ((read : Result Packet PacketFault) → IsReadAs bytes read → found ≡ read)
         → ((told : Result Settings SetupFault) → IsTold found told
         → Steps old new (λ rules me m. on_read rules me m from told found) (λ heard. answer ≡ heard))
-        → (read : Result Packet PacketFault) (told : Result Settings SetupFault) → IsReadAs bytes read
-        → IsTold read told
-        → Steps old new (λ rules me m. received rules me m from told read) (λ heard. answer ≡ heard)
+        → HearsAny from bytes old new answer
     any_read new answer found below other only hears read told is tells marking players extra capacity me m
         r =
         let P : Result Packet PacketFault → Type 0 = λ x. IsTold x told in
         let heard = hears told (subst P (sym (only read is)) tells) marking players extra capacity me m r in
         let rules = rules_of (free marking) players extra capacity in
-        let step = received_read rules me m from told read (goes_on rules me m r)
+        let step = received_read rules me m from told read (same_none r ∙ on)
         (omega (arith, below, r.whose.players)) (λ e. other (e ∙ sym r.whose.number))
         ∙ ap (on_read rules me m from told) (sym (only read is)) in
         after _ _ step heard.node heard.answer
@@ -106,10 +96,7 @@ module _ (old : Contents) (from : ℕ) (bytes : List ℕ) where
         → from ≢ old.me
         → ((read : Result Packet PacketFault) → IsReadAs bytes read
         → ◌≡◌ {A = Result Packet PacketFault} (Err fault) read)
-        → (read : Result Packet PacketFault) (told : Result Settings SetupFault) → IsReadAs bytes read
-        → IsTold read told
-        → Steps old old (λ rules me m. received rules me m from told read)
-        (λ heard. Heard.Dropped number ≡ heard)
+        → HearsAny from bytes old old (Heard.Dropped number)
     any_fault fault number drop below other only =
         any_read old (Heard.Dropped number) (Err fault) below other only
         (λ told is marking players extra capacity me m r. after m (Heard.Dropped number)

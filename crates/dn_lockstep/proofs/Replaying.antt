@@ -1,5 +1,5 @@
 -- The demo of a lockstep that has played, and the world beside it.
-use Rattle.std.proofs.Common.{◌≡◌, ℕ, Bool, true, ◌||◌, List, [], length, Some, ap, sym, ◌∙◌, subst, arith}
+use Rattle.std.proofs.Common.{◌≡◌, ◌≤◌, ℕ, Bool, true, ◌||◌, List, [], length, Some, ap, sym, ◌∙◌, subst, arith}
 use Rattle.std.specs.Prelude.{if◌then◌else◌, nat_lt, Ok}
 use Rattle.std.specs.Option.{option_map}
 use Rattle.std.specs.List.{prefix_len}
@@ -16,21 +16,21 @@ use Rattle.dn_machine.specs.declared.answers.Phase.{Phase}
 use Rattle.dn_machine.specs.declared.answers.Phase.TheVariants.{Ended}
 use Rattle.dn_machine.specs.Worlds.{Rules}
 use Rattle.dn_machine.specs.Node as machine
-use Rattle.dn_machine.specs.Node.{own_world, world_after}
+use Rattle.dn_machine.specs.Node.{own_world, world_after, is_ended, is_whole, demo_rows}
 use Rattle.dn_lockstep.specs.Contents.{Contents}
-use Rattle.dn_machine.specs.Node.{is_ended, is_whole, demo_rows}
 use Rattle.dn_lockstep.specs.Represents.{Represents, CanBeWritten, demo_of, demo_with, is_demo_closed}
 use Rattle.dn_lockstep.specs.Rows.{seats_of}
+
+-- where the demo has as many rows as were run, it has all
+pub all_recorded : {S : Type 0} (rules : Rules S) (m : machine.Node)
+    → machine.ran m ≤ length (demo_rows rules m) → demo_rows rules m ≡ m.rows
+all_recorded rules m all = let long = length-prefix_len (is_whole rules.players) m.rows in
+    take_all (prefix_len (is_whole rules.players) m.rows) m.rows (omega arith)
 
 module _ {S : Type 0} (rules : Rules S) (m : machine.Node) (settings : Settings)
     (known : m.settings ≡ Some settings) where
   pub own_world_is : (tic : ℕ) → own_world rules m tic ≡ Some (world_after rules settings m.rows tic)
   own_world_is tic = ap (option_map (λ (s : Settings). world_after rules s m.rows tic)) known
-
-  -- where the demo has as many rows as were run, it has all
-  pub all_recorded : machine.ran m ≡ length (demo_rows rules m) → demo_rows rules m ≡ m.rows
-  all_recorded e = let long = length-prefix_len (is_whole rules.players) m.rows in
-      take_all (prefix_len (is_whole rules.players) m.rows) m.rows (omega arith)
 
   pub demo_is : (me : ℕ) → m.played ≡ true
       → demo_of rules me m ≡ demo_text long_tics (start_of settings) me (seats_of rules.players)

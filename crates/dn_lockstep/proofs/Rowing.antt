@@ -1,16 +1,16 @@
 -- The row of a tic, filled in seat by seat.
-use Rattle.std.proofs.Common.{◌≡◌, ◌<◌, ◌+◌, ℕ, zero, suc, Bool, true, false, List, [], ◌∷◌, length, map, set, ltb, Option, Some, None, is_some, refl, ap, sym, ◌∙◌, arith, inl, inr}
+use Rattle.std.proofs.Common.{◌≡◌, ◌<◌, ◌+◌, ℕ, zero, suc, Bool, true, false, List, [], ◌∷◌, length, get_or, map, set, ltb, Option, Some, None, is_some, refl, ap, sym, ◌∙◌, arith, inl, inr}
 use Rattle.std.specs.Prelude.{if◌then◌else◌}
-use Rattle.std.specs.Option.{is_none}
 use Rattle.std.proofs.lemmas.Bool.{cases_eq}
-use Rattle.std.proofs.lemmas.List.{get_or-set_same, get_or-set_other}
-use Rattle.std.specs.Option.{option_map}
+use Rattle.std.proofs.lemmas.List.{get_or-set_same, get_or-set_other, set-get_or}
+use Rattle.std.specs.Option.{is_none, option_map}
 use Rattle.dn_tic.specs.declared.command.TicCmd.{TicCmd}
 use Rattle.dn_tic.specs.declared.command.Move.{Move}
 use Rattle.dn_tic.specs.Command.{used}
 use Rattle.dn_ring.specs.Ring.{Ring, get}
 use Rattle.dn_machine.specs.Worlds.{four}
 use Rattle.dn_machine.specs.Node.{lacks, is_whole}
+use Rattle.dn_machine.proofs.Demos.{none_is}
 use Rattle.dn_lockstep.specs.Rows.{is_gone, move_held, seats_of}
 use Rattle.dn_lockstep.proofs.Seats.{whole_seat, whole_each}
 use Rattle.dn_machine.specs.declared.peer.Peer.{Peer}
@@ -33,15 +33,6 @@ module _ (rings : ℕ → Ring) (peers : ℕ → Peer) (tic : ℕ) where
   seat_more (suc (suc (suc zero))) step l e = λ i. own 0 ∷ own 1 ∷ own 2 ∷ sym e i ∷ []
   seat_more (suc (suc (suc (suc player)))) step l e = absurd (omega arith)
 
-  -- and of a player who is gone none
-  pub seat_none : (player : ℕ) → player < 4 → own player ≡ None
-      → seats_below player ≡ seats_below (player + 1)
-  seat_none zero l e = λ i. sym e i ∷ None ∷ None ∷ None ∷ []
-  seat_none (suc zero) l e = λ i. own 0 ∷ sym e i ∷ None ∷ None ∷ []
-  seat_none (suc (suc zero)) l e = λ i. own 0 ∷ own 1 ∷ sym e i ∷ None ∷ []
-  seat_none (suc (suc (suc zero))) l e = λ i. own 0 ∷ own 1 ∷ own 2 ∷ sym e i ∷ []
-  seat_none (suc (suc (suc (suc player)))) l e = absurd (omega arith)
-
   -- a seat that is still to be filled in is empty
   pub seat_free : (player : ℕ) → player < 4 → lacks (seats_below player) player ≡ true
   seat_free zero l = refl
@@ -49,6 +40,14 @@ module _ (rings : ℕ → Ring) (peers : ℕ → Peer) (tic : ℕ) where
   seat_free (suc (suc zero)) l = refl
   seat_free (suc (suc (suc zero))) l = refl
   seat_free (suc (suc (suc (suc player)))) l = absurd (omega arith)
+
+  -- and none, of a player who is gone
+  pub seat_none : (player : ℕ) → player < 4 → own player ≡ None
+      → seats_below player ≡ seats_below (player + 1)
+  seat_none player l e =
+      sym (set-get_or (seats_below player) player None)
+      ∙ ap (set (seats_below player) player) (none_is (get_or (seats_below player) player None)
+      (seat_free player l)) ∙ seat_more player None l e
 
   -- the move of a player who is not gone, and of one who is
   pub own_here : (player : ℕ) (command : TicCmd) (step : Move) → is_gone peers tic player ≡ false

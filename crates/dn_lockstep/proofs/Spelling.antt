@@ -1,8 +1,9 @@
 -- The packets of a node's own commands.
-use Rattle.std.proofs.Common.{◌≡◌, ◌≢◌, ◌⊎◌, ◌<◌, ◌%◌, ℕ, length, drop, arith, Bool, true, false, cond, Option, Some, None, refl, ap, sym, ◌∙◌, subst, inl, inr}
+use Rattle.std.proofs.Common.{◌≡◌, ◌≢◌, ◌⊎◌, ◌<◌, ◌%◌, ℕ, length, drop, arith, false, Option, Some, None, refl, ap, sym, ◌∙◌, subst, inl, inr}
 use Rattle.std.specs.Prelude.{IfSome}
 use Rattle.std.specs.List.{list_any}
 use Rattle.std.specs.Option.{option_map}
+use Rattle.std.proofs.lemmas.Bool.{cond_both}
 use Rattle.std.proofs.lemmas.Option.{same_Some}
 use Rattle.dn_packet.specs.declared.packet.Packet.{Packet}
 use Rattle.dn_packet.specs.Text.{IsPacket}
@@ -13,9 +14,9 @@ use Rattle.dn_machine.specs.declared.answers.Phase.TheVariants.{Listening, Gathe
 use Rattle.dn_machine.specs.Worlds.{Rules}
 use Rattle.dn_machine.specs.Node as machine
 use Rattle.dn_machine.specs.Flight.{Kind, SetUp, Play, Exit, Flight, request_byte, packet_of, packet_of_kind}
-use Rattle.dn_machine.specs.Sending.{on_send_in, commands_flight, set_up_flight}
+use Rattle.dn_machine.specs.Sending.{on_send_in, set_up_flight}
 use Rattle.dn_lockstep.specs.declared.lockstep.aiming.Aim.{Aim}
-use Rattle.dn_lockstep.specs.Rings.{is_stop}
+use Rattle.dn_lockstep.specs.Rings.{count_of, is_stop}
 use Rattle.dn_lockstep.specs.Contents.{Contents}
 use Rattle.dn_lockstep.specs.Represents.{Represents}
 use Rattle.dn_lockstep.specs.Sent.{sent_to, aim_of}
@@ -23,7 +24,6 @@ use Rattle.dn_lockstep.specs.Giving.{Gives, Reaches, packet_of_aim}
 use Rattle.dn_lockstep.specs.Near.{IsFair, IsFairKind}
 use Rattle.dn_ring.specs.Ring.{Ring, ring_of, since}
 use Rattle.dn_ring.proofs.Keeping.{since-ring_of}
-use Rattle.dn_lockstep.specs.Rings.{count_of}
 use Rattle.dn_lockstep.proofs.Counting.{below}
 use Rattle.dn_lockstep.proofs.Sending.{sends_in}
 
@@ -35,20 +35,16 @@ pub record IsOwn (m : machine.Node) (me : ℕ) (flight : Flight) : Type 0 where
 
 -- only a gathering node sends anything but its own commands
 module _ {S : Type 0} (rules : Rules S) (me : ℕ) (m : machine.Node) (to : ℕ) where
-  exits : (test : Bool) (next : machine.Node)
-      → IfSome (cond {A = machine.Node × Option Flight} test
-      (next, Some (commands_flight rules me m to Exit None)) (m, None)).1 (IsOwn m me)
-  exits true next = record { from = refl; kind = inr refl; commands = refl }
-  exits false next = tt
-
   sends_own : (phase : Phase) → phase ≢ Gathering → IfSome (on_send_in rules me m to phase).1 (IsOwn m me)
   sends_own Listening n = tt
   sends_own Gathering n = absurd (n refl)
   sends_own Playing n = record { from = refl; kind = inl refl; commands = refl }
-  sends_own (Ended cause) n = exits _ _
+  sends_own (Ended cause) n = cond_both m.played _ _
+      (λ (x : machine.Node × Option Flight). IfSome x.1 (IsOwn m me))
+      (λ has. record { from = refl; kind = inr refl; commands = refl }) (λ never. tt)
 
 -- so does a node that represents it
-pub own_sent : {S : Type 0} (rules : Rules S) (me : ℕ) (n : Contents) (m : machine.Node) (to : ℕ)
+own_sent : {S : Type 0} (rules : Rules S) (me : ℕ) (n : Contents) (m : machine.Node) (to : ℕ)
     → Represents rules me n m → Gives n to → n.phase ≢ Gathering
     → IfSome (sent_to to rules me m).1 (IsOwn m me)
 own_sent rules me n m to r given on =
@@ -70,71 +66,78 @@ whole_packet flight (SetUp settings) (inr e) = absurd (cc)
 whole_packet flight Play e = refl
 whole_packet flight Exit e = refl
 
--- the packet of a flight's numbers is the flight's
-pub own_spelled : {S : Type 0} (rules : Rules S) (me : ℕ) (n : Contents) (m : machine.Node) (aim : Aim)
-    → Represents rules me n m → n.me < n.players → Reaches n aim → (flight : Flight) → IsOwn m me flight
-    → aim ≡ aim_of flight → packet_of_aim n aim ≡ packet_of flight
-own_spelled rules me n m aim r inside reach flight own e =
-    let ring : n.rings n.me ≡ ring_of (m.held n.me) =
-    r.commands.rings n.me (below rules me n m r n.me inside) in
-    let count : count_of n.rings n.me ≡ length (m.held n.me) = ap (λ (x : Ring). x.count) ring in
-    let near = reach.high in
-    let start : aim.start ≡ flight.start = ap (λ (x : Aim). x.start) e in
-    let items : since (n.rings n.me) aim.start ≡ flight.commands =
-    ap (λ (x : Ring). since x aim.start) ring ∙ since-ring_of (m.held n.me) aim.start (omega arith)
-    ∙ (λ i. drop (start i) (m.held (r.whose.number i))) ∙ sym own.commands in
-    let player : n.me ≡ flight.from = r.whose.number ∙ sym own.from in
-    ◌∙◌ {A = Packet}
-    (λ i. record {
-      flags = (e i).flags;
-      ask = request_byte (e i).ask;
-      start = (e i).start % 256;
-      player = player i;
-      cmds = record { items = items i };
-    }) (whole_packet flight flight.kind own.kind)
+-- and a flight of commands that do not stop is fair by its kind
+kind_fair : (flight : Flight) (kind : Kind) → (kind ≡ Play) ⊎ (kind ≡ Exit)
+    → list_any is_stop flight.commands ≡ false → IsFairKind flight kind
+kind_fair flight (SetUp settings) (inl e) fine = absurd (cc)
+kind_fair flight (SetUp settings) (inr e) fine = absurd (cc)
+kind_fair flight Play e fine = fine
+kind_fair flight Exit e fine = fine
 
-module _ (m : machine.Node) (me : ℕ) (aim : Aim) (packet : Packet)
-    (spelled : (flight : Flight) → IsOwn m me flight → aim ≡ aim_of flight → packet ≡ packet_of flight) where
-  -- the packet of its numbers is the flight's
-  pub own_packet : (sent : Option Flight) → IfSome sent (IsOwn m me)
-      → ◌≡◌ {A = Option Aim} (Some aim) (option_map aim_of sent)
-      → ◌≡◌ {A = Option Packet} (Some packet) (option_map packet_of sent)
-  own_packet None own e = absurd (cc)
-  own_packet (Some flight) own e = ap Some (spelled flight own (same_Some _ _ e))
+-- what is sent has this packet, and is fair
+pub record IsGivenAs (packet : Packet) (sent : Option Flight) : Type 0 where
+  pub same : Some packet ≡ option_map packet_of sent
+  pub fair : IfSome sent IsFair
 
-  no_stop_in : (flight : Flight) (kind : Kind) → flight.kind ≡ kind → packet ≡ packet_of flight
-      → list_any is_stop packet.cmds.items ≡ false
-      → list_any is_stop (packet_of_kind flight kind).cmds.items ≡ false
-  no_stop_in flight kind is e fine =
-      ap (λ (k : Kind). list_any is_stop (packet_of_kind flight k).cmds.items) (sym is)
-      ∙ ap (λ (p : Packet). list_any is_stop p.cmds.items) (sym e) ∙ fine
+module _ {S : Type 0} {rules : Rules S} {me : ℕ} {n : Contents} {m : machine.Node}
+    (r : Represents rules me n m) (inside : n.me < n.players) where
+  -- the packet of a flight's numbers is the flight's
+  own_spelled : (aim : Aim) → Reaches n aim → (flight : Flight) → IsOwn m me flight → aim ≡ aim_of flight
+      → packet_of_aim n aim ≡ packet_of flight
+  own_spelled aim reach flight own e =
+      let ring : n.rings n.me ≡ ring_of (m.held n.me) =
+      r.commands.rings n.me (below rules me n m r n.me inside) in
+      let count : count_of n.rings n.me ≡ length (m.held n.me) = ap (λ (x : Ring). x.count) ring in
+      let near = reach.high in
+      let start : aim.start ≡ flight.start = ap (λ (x : Aim). x.start) e in
+      let items : since (n.rings n.me) aim.start ≡ flight.commands =
+      ap (λ (x : Ring). since x aim.start) ring ∙ since-ring_of (m.held n.me) aim.start (omega arith)
+      ∙ (λ i. drop (start i) (m.held (r.whose.number i))) ∙ sym own.commands in
+      let player : n.me ≡ flight.from = r.whose.number ∙ sym own.from in
+      ◌∙◌ {A = Packet}
+      (λ i. record {
+        flags = (e i).flags;
+        ask = request_byte (e i).ask;
+        start = (e i).start % 256;
+        player = player i;
+        cmds = record { items = items i };
+      }) (whole_packet flight flight.kind own.kind)
 
-  kind_fair : (flight : Flight) → packet ≡ packet_of flight → list_any is_stop packet.cmds.items ≡ false
-      → (flight.kind ≡ Play) ⊎ (flight.kind ≡ Exit) → IsFairKind flight flight.kind
-  kind_fair flight e fine (inl is) = let P : Kind → Type 0 = IsFairKind flight in
-      subst P (sym is) (no_stop_in flight Play is e fine)
-  kind_fair flight e fine (inr is) = let P : Kind → Type 0 = IsFairKind flight in
-      subst P (sym is) (no_stop_in flight Exit is e fine)
+  module _ {packet : Packet} (aim : Aim) (reach : Reaches n aim) (is : packet ≡ packet_of_aim n aim)
+      (valid : IsPacket packet) (fine : list_any is_stop packet.cmds.items ≡ false) where
+    own_as : (sent : Option Flight) → IfSome sent (IsOwn m me)
+        → ◌≡◌ {A = Option Aim} (Some aim) (option_map aim_of sent)
+        → IsGivenAs packet sent
+    own_as None own e = absurd (cc)
+    own_as (Some flight) own e =
+        let same = is ∙ own_spelled aim reach flight own (same_Some _ _ e) in
+        record {
+          same = ap Some same;
+          fair = record {
+            packet = subst IsPacket same valid;
+            kind = kind_fair flight flight.kind own.kind
+                (ap (λ (p : Packet). list_any is_stop p.cmds.items)
+                (whole_packet flight flight.kind own.kind ∙ sym same) ∙ fine);
+          };
+        }
 
-  -- and a fair one
-  pub own_fair : (sent : Option Flight) → IfSome sent (IsOwn m me)
-      → ◌≡◌ {A = Option Aim} (Some aim) (option_map aim_of sent)
-      → IsPacket packet → list_any is_stop packet.cmds.items ≡ false → IfSome sent IsFair
-  own_fair None own e valid fine = tt
-  own_fair (Some flight) own e valid fine =
-      let same = spelled flight own (same_Some _ _ e) in
-      record { packet = subst IsPacket same valid; kind = kind_fair flight same fine own.kind }
+    -- a node that gives its own commands
+    pub own_given : {to : ℕ} → Gives n to → n.phase ≢ Gathering
+        → ◌≡◌ {A = Option Aim} (Some aim) (option_map aim_of (sent_to to rules me m).1)
+        → IsGivenAs packet (sent_to to rules me m).1
+    own_given {to} given on = own_as _ (own_sent rules me n m to r given on)
 
--- the packet of settings, from player 0
-pub set_up_packet : (me to : ℕ) (settings : Settings) (own : Option Settings) (packet : Packet)
-    → own ≡ Some settings → packet ≡ setup_packet settings
-    → ◌≡◌ {A = Option Packet} (Some packet) (option_map packet_of (set_up_flight me to own))
-set_up_packet me to settings own packet e is = ap Some is
-    ∙ ap (λ (o : Option Settings). option_map packet_of (set_up_flight me to o)) (sym e)
-
-pub set_up_fair : (me to : ℕ) (settings : Settings) (own : Option Settings) (packet : Packet)
-    → own ≡ Some settings → packet ≡ setup_packet settings → me ≡ 0 → IsPacket packet → IsSettings settings
-    → IfSome (set_up_flight me to own) IsFair
-set_up_fair me to settings own packet e is key valid range =
-    let P : Option Settings → Type 0 = λ o. IfSome (set_up_flight me to o) IsFair in
-    subst P (sym e) (record { packet = subst IsPacket is valid; kind = (key, range) })
+  -- and one that gives its settings, as player 0 does
+  pub set_up_given : {to : ℕ} {settings : Settings} {packet : Packet} → Gives n to → n.phase ≡ Gathering
+      → n.me ≡ 0 → n.settings ≡ Some settings
+      → packet ≡ setup_packet settings → IsPacket packet → IsSettings settings
+      → IsGivenAs packet (sent_to to rules me m).1
+  set_up_given {to} {settings} {packet} given on key known is valid range =
+      let P : Option Flight → Type 0 = IsGivenAs packet in
+      let sends = sends_in rules me n m to _ r given.below given.other on in
+      subst P (sym (ap (λ (x : machine.Node × Option Flight). x.1) sends
+      ∙ ap (set_up_flight me to) (sym r.stands.settings ∙ known)))
+      (record {
+        same = ap Some is;
+        fair = record { packet = subst IsPacket is valid; kind = (sym r.whose.number ∙ key, range) };
+      })

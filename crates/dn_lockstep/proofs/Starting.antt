@@ -1,12 +1,12 @@
 -- What a node represents once it has started.
-use Rattle.std.proofs.Common.{◌≡◌, ◌<◌, ℕ, true, false, List, [], ◌∷◌, length, refl, ap, sym, ◌∙◌, arith, Option, Some}
+use Rattle.std.proofs.Common.{◌≡◌, ◌<◌, ℕ, true, false, List, [], length, refl, ap, sym, ◌∙◌, arith, Option, Some}
 use Rattle.dn_tic.specs.declared.command.Move.{Move}
 use Rattle.dn_setup.specs.Settings.{Settings}
 use Rattle.dn_setup.specs.Starts.{start_of}
-use Rattle.dn_setup.specs.declared.start.Start.{Start}
 use Rattle.dn_demo.specs.Recorded.{Recorded, is_closed}
 use Rattle.dn_demo.specs.declared.recorder.Stage.TheVariants.{Open}
 use Rattle.std.specs.List.{take_while}
+use Rattle.std.proofs.lemmas.List.{nil_from_length}
 use Rattle.std.specs.Prelude.{nat_lt}
 use Rattle.dn_demo.specs.Layout.{long_tics}
 use Rattle.dn_demo.specs.Text.{demo_text}
@@ -19,17 +19,6 @@ use Rattle.dn_lockstep.specs.Contents.{Contents}
 use Rattle.dn_lockstep.specs.Represents.{Represents}
 use Rattle.dn_lockstep.specs.Rows.{seats_of}
 use Rattle.dn_lockstep.proofs.Opening.{first_marks}
-
--- a list of no length
-pub none_there : {A : Type 0} (xs : List A) → length xs ≡ 0 → xs ≡ []
-none_there [] e = refl
-none_there (x ∷ xs) e = absurd (omega arith)
-
--- how long a demo without rows is
-pub head_length : (start : Start) (view players : ℕ)
-    → length (demo_text long_tics start view (seats_of players) [] false) ≡ 13
-unfolding demo_text
-head_length start view players = refl
 
 -- the mark of an early tic is 0 by any node
 pub early_mark : {S : Type 0} (rules : Rules S) (m other : machine.Node) (p tic : ℕ) → tic < 12
@@ -44,7 +33,7 @@ pub shows_start : {S : Type 0} (rules : Rules S) (me : ℕ) (n : Contents) (m : 
     → Represents rules me (record n { phase = Playing; played = true; settings = Some settings; demo = demo })
     (started m settings)
 shows_start {S} rules me n m settings demo r unrun is_open written =
-    let none : m.rows ≡ [] = none_there m.rows (sym r.table.ran ∙ unrun) in
+    let none : m.rows ≡ [] = nil_from_length m.rows (sym r.table.ran ∙ unrun) in
     let zero : length m.rows ≡ 0 = sym r.table.ran ∙ unrun in
     record {
       whose = r.whose;

@@ -1,7 +1,7 @@
 -- What a playing node makes of a packet of commands.
-use Rattle.std.proofs.Common.{◌≡◌, ◌≢◌, ◌<◌, ◌≤◌, ◌+◌, ◌-◌, ℕ, Bool, true, false, cond, List, ◌++◌, length, take, drop, refl, ap, sym, ◌∙◌, arith, Option, Some, None, ◌||◌}
-use Rattle.std.specs.Prelude.{nat_lt, ◌==◌, if◌then◌else◌, Ok, Err}
-use Rattle.std.proofs.lemmas.Bool.{le-ltb, lt-ltb, le-leb, lt-leb, eqb-true, not-false}
+use Rattle.std.proofs.Common.{◌≡◌, ◌≢◌, ◌<◌, ◌≤◌, ◌+◌, ◌-◌, ℕ, Bool, true, false, cond, List, ◌++◌, length, take, drop, refl, ap, sym, ◌∙◌, arith}
+use Rattle.std.specs.Prelude.{nat_lt, if◌then◌else◌, Ok}
+use Rattle.std.proofs.lemmas.Bool.{le-ltb, lt-ltb, le-leb, lt-leb}
 use Rattle.std.proofs.lemmas.List.{take_rest}
 use Rattle.dn_tic.specs.declared.command.TicCmd.{TicCmd}
 use Rattle.dn_packet.specs.declared.packet.Packet.{Packet}
@@ -15,7 +15,6 @@ use Rattle.dn_machine.specs.Node as machine
 use Rattle.dn_machine.specs.Node.{put, with_peer, ends_of}
 use Rattle.dn_machine.specs.Hearing.{on_commands, after_request, after_exit, after_flight, left_or, is_strange_end}
 use Rattle.dn_machine.specs.Running.{is_over}
-use Rattle.dn_machine.proofs.Peers.{asked_end}
 use Rattle.dn_lockstep.specs.Contents.{Contents}
 use Rattle.dn_lockstep.specs.Reading.{has_flag, start_in, request_in, flight_in}
 use Rattle.dn_lockstep.specs.Received.{on_player}
@@ -28,35 +27,20 @@ use Rattle.dn_lockstep.specs.Steps.{IsAfter}
 use Rattle.dn_machine.specs.declared.peer.Peer.{Peer}
 use Rattle.dn_lockstep.proofs.After.{after}
 use Rattle.dn_lockstep.proofs.Counting.{below, got_is, made_is}
-use Rattle.dn_lockstep.proofs.Holding.{shows_ring}
+use Rattle.dn_lockstep.proofs.Holding.{shows_commands}
+use Rattle.dn_lockstep.proofs.Kept.{asked_later, told_later}
 use Rattle.dn_lockstep.proofs.Peering.{shows_peer}
 
 -- what is kept of the sender after a flight
 abbrev asked : ℕ → machine.Node → Flight → Peer
 asked me m f = after_flight (machine.made me m) (m.peers f.from) f
 
-or_false_parts : (a b : Bool) → (a || b) ≡ false → (a ≡ false) × (b ≡ false)
-or_false_parts true b e = absurd (cc)
-or_false_parts false b e = (refl, e)
-
--- an end that is told where one was known is the same
-pub same_end : (exit : Bool) (known : Option ℕ) (got end : ℕ) (peer : Peer) → peer.end ≡ known
-    → is_strange_end exit got known end ≡ false
-    → (tic : ℕ) → is_over (after_exit peer exit end).end tic ≡ false → is_over known tic ≡ false
-same_end false known got end peer is fine tic h = ap (λ (o : Option ℕ). is_over o tic) (sym is) ∙ h
-same_end true None got end peer is fine tic h = refl
-same_end true (Some e) got end peer is fine tic h =
-    let past = (or_false_parts (nat_lt end got) _ fine).1 in
-    let other = (or_false_parts (nat_lt e end) _ past).1 in
-    let same = eqb-true end e (not-false (end == e) other) in
-    ap (λ (k : ℕ). is_over (Some k) tic) (sym same) ∙ h
-
-pub told_later : (me : ℕ) (m : machine.Node) (f : Flight)
+flight_later : (me : ℕ) (m : machine.Node) (f : Flight)
     → is_strange_end (is_exit f.kind) (machine.got m f.from) (ends_of m f.from) (end_of f) ≡ false
     → (tic : ℕ) → is_over (asked me m f).end tic ≡ false → is_over (ends_of m f.from) tic ≡ false
-told_later me m f fine = same_end (is_exit f.kind) (ends_of m f.from) (machine.got m f.from) (end_of f)
+flight_later me m f = told_later (is_exit f.kind) (ends_of m f.from) (machine.got m f.from) (end_of f)
     (after_request (machine.made me m) (m.peers f.from) f.request)
-    (asked_end (machine.made me m) (m.peers f.from) f.request) fine
+    (asked_later (machine.made me m) (m.peers f.from) f.request)
 
 -- the node that has taken its commands
 abbrev node_taken : ℕ → machine.Node → Flight → machine.Node
@@ -71,25 +55,22 @@ module _ (me : ℕ) (m : machine.Node) (f : Flight) where
       (m, Heard.Dropped drops.overrun)
   over past = let much = lt-ltb (machine.ran m + 12) (end_of f) past in rw much refl
 
-  module _ (room : end_of f ≤ machine.ran m + 12) where
+  module _ (fits : nat_lt (machine.ran m + 12) (end_of f) ≡ false) where
     odd : is_strange_end (is_exit f.kind) (machine.got m f.from) (ends_of m f.from) (end_of f) ≡ true
         → ◌≡◌ {A = machine.Node × Heard} (on_commands me m f) (m, Heard.Dropped drops.strange_end)
-    odd strange = let fits = le-ltb (machine.ran m + 12) (end_of f) room in rw (fits, strange) refl
+    odd strange = rw (fits, strange) refl
 
     module _ (fine : is_strange_end (is_exit f.kind) (machine.got m f.from) (ends_of m f.from) (end_of f)
         ≡ false) where
       stale : end_of f ≤ machine.got m f.from → ◌≡◌ {A = machine.Node × Heard} (on_commands me m f)
           (with_peer m f.from (asked me m f), cond (is_exit f.kind) Heard.Left Heard.Stale)
       stale old =
-          let fits = le-ltb (machine.ran m + 12) (end_of f) room in
-          let known = le-leb (end_of f) (machine.got m f.from) old in
-          rw (fits, fine, known) refl
+          let known = le-leb (end_of f) (machine.got m f.from) old in rw (fits, fine, known) refl
 
       gap : machine.got m f.from < end_of f → machine.got m f.from < f.start
           → ◌≡◌ {A = machine.Node × Heard} (on_commands me m f)
           (with_peer m f.from (record (asked me m f) { want = true }), Heard.Gap)
       gap new far =
-          let fits = le-ltb (machine.ran m + 12) (end_of f) room in
           let more = lt-leb (end_of f) (machine.got m f.from) new in
           let past = lt-ltb (machine.got m f.from) f.start far in
           rw (fits, fine, more, past) refl
@@ -101,7 +82,6 @@ module _ (me : ℕ) (m : machine.Node) (f : Flight) where
                 (Heard.Taken (end_of f - machine.got m f.from)),
           )
       taken new near =
-          let fits = le-ltb (machine.ran m + 12) (end_of f) room in
           let more = lt-leb (end_of f) (machine.got m f.from) new in
           let meets = le-ltb (machine.got m f.from) f.start near in
           rw (fits, fine, more, meets) refl
@@ -118,143 +98,132 @@ kind_is : (set : Bool) → is_exit (if set then Exit else Play) ≡ set
 kind_is true = refl
 kind_is false = refl
 
-module _ {S : Type 0} (rules : Rules S) (me : ℕ) (n : Contents) (m : machine.Node)
+module _ {S : Type 0} {rules : Rules S} {me : ℕ} {n : Contents} {m : machine.Node}
     (r : Represents rules me n m)
-    (from : ℕ) (packet : Packet) (made : ℕ) (own : n.me < n.players) (count : made ≡ count_of n.rings n.me)
+    {from : ℕ} {packet : Packet} {made start : ℕ} (read : IsRead n from packet made start)
   where
     same_made : made ≡ machine.made me m
-    same_made = count ∙ made_is rules me n m r own
+    same_made = read.count ∙ made_is rules me n m r read.own
 
-    -- at a node that has played and ended
-    module _ (cause : Cause) (played : n.played ≡ true) where
-      has : m.played ≡ true
-      has = sym r.stands.played ∙ played
-
-      pub leaver_asked : (start : ℕ) (peers : ℕ → Peer) → has_flag packet flag.exit ≡ false
-          → start_in made packet ≡ Ok start → from < n.players
-          → peers from ≡ after_request made (n.peers from) (request_in made packet)
-          → ((p : ℕ) → p ≢ from → peers p ≡ n.peers p)
-          → IsAfter rules me (record n { peers = peers }) (on_player rules me m from packet (Ended cause))
-          (λ heard. Heard.Noted ≡ heard)
-      leaver_asked start peers e is below_from kept_so others =
-          let asks = request_in (machine.made me m) packet in
-          let kept = r.peers.known from (below rules me n m r from below_from) in
-          let same : after_request made (n.peers from) (request_in made packet)
-          ≡ after_request (machine.made me m) (m.peers from) asks =
-          λ i. after_request (same_made i) (kept i) (request_in (same_made i) packet) in
-          after (with_peer m from (after_request (machine.made me m) (m.peers from) asks)) Heard.Noted
-          (left_asked rules me m from packet cause has e start
-          (ap (λ (k : ℕ). start_in k packet) (sym same_made) ∙ is))
-          (shows_peer rules me n m from _ peers r
-          (λ tic h. ap (λ (o : Option ℕ). is_over o tic)
-          (sym (asked_end (machine.made me m) (m.peers from) asks)) ∙ h) (kept_so ∙ same) others) refl
-
-module _ {S : Type 0} (rules : Rules S) (me : ℕ) (n : Contents) (m : machine.Node)
-    (r : Represents rules me n m)
-    (from : ℕ) (packet : Packet) (made start : ℕ) (read : IsRead n from packet made start)
-    (commands : List TicCmd) (items : commands ≡ packet.cmds.items) where
-  abbrev f : Flight
-  f = flight_in from me (machine.made me m) packet start
-
-  made_same : made ≡ machine.made me m
-  made_same = same_made rules me n m r from packet made read.own read.count
-
-  same_length : length commands ≡ length packet.cmds.items
-  same_length = ap (length {A = TicCmd}) items
-
-  step : ◌≡◌ {A = machine.Node × Heard} (on_player rules me m from packet Playing) (on_commands me m f)
-  step = player_takes rules me m from packet start
-      (ap (λ (k : ℕ). start_in k packet) (sym made_same) ∙ read.told)
-
-  pub over_shows : n.ran + 12 < start + length commands
-      → IsAfter rules me n (on_player rules me m from packet Playing)
-      (λ heard. Heard.Dropped drops.overrun ≡ heard)
-  over_shows past = after m (Heard.Dropped drops.overrun)
-      (step ∙ over me m f (omega (arith, past, r.table.ran, same_length))) r refl
-
-  module _ (room : start + length commands ≤ n.ran + 12) (exit : Bool)
-      (flagged : exit ≡ has_flag packet flag.exit) (got : ℕ) (counted : got ≡ count_of n.rings from) where
-    exits_is : exit ≡ is_exit f.kind
-    exits_is = flagged ∙ sym (kind_is (has_flag packet flag.exit))
-
-    fits : start + length packet.cmds.items ≤ machine.ran m + 12
-    fits = omega (arith, room, r.table.ran, same_length)
-
-    had : got ≡ machine.got m from
-    had = counted ∙ got_is rules me n m r from read.peer
-
-    same_end_of : start + length commands ≡ end_of f
-    same_end_of = ap (λ (k : ℕ). start + k) same_length
+    same_start : start_in (machine.made me m) packet ≡ Ok start
+    same_start = ap (λ (k : ℕ). start_in k packet) (sym same_made) ∙ read.told
 
     same_peer : n.peers from ≡ m.peers from
     same_peer = r.peers.known from (below rules me n m r from read.peer)
 
-    odd_is : is_strange_end exit got (n.peers from).end (start + length commands)
-        ≡ is_strange_end (is_exit f.kind) (machine.got m from) (ends_of m from) (end_of f)
-    odd_is = λ i. is_strange_end (exits_is i) (had i) (same_peer i).end (same_end_of i)
+    -- at a node that has played and ended
+    pub leaver_asked : (cause : Cause) (peers : ℕ → Peer) → n.played ≡ true
+        → has_flag packet flag.exit ≡ false
+        → peers from ≡ after_request made (n.peers from) (request_in made packet)
+        → ((p : ℕ) → p ≢ from → peers p ≡ n.peers p)
+        → IsAfter rules me (record n { peers = peers }) (on_player rules me m from packet (Ended cause))
+        (λ heard. Heard.Noted ≡ heard)
+    leaver_asked cause peers played stays is others =
+        let asks = request_in (machine.made me m) packet in
+        let same : after_request made (n.peers from) (request_in made packet)
+        ≡ after_request (machine.made me m) (m.peers from) asks =
+        λ i. after_request (same_made i) (same_peer i) (request_in (same_made i) packet) in
+        after (with_peer m from (after_request (machine.made me m) (m.peers from) asks)) Heard.Noted
+        (left_asked rules me m from packet cause (sym r.stands.played ∙ played) start stays same_start)
+        (shows_peer r from peers (asked_later (machine.made me m) (m.peers from) asks) (is ∙ same) others)
+        refl
 
-    pub odd_shows : is_strange_end exit got (n.peers from).end (start + length commands) ≡ true
-        → IsAfter rules me n (on_player rules me m from packet Playing)
-        (λ heard. Heard.Dropped drops.strange_end ≡ heard)
-    odd_shows strange = after m (Heard.Dropped drops.strange_end)
-        (step ∙ odd me m f fits (sym odd_is ∙ strange)) r refl
+    module _ {commands : List TicCmd} (items : commands ≡ packet.cmds.items) where
+      abbrev f : Flight
+      f = flight_in from me (machine.made me m) packet start
 
-    module _ (usual : is_strange_end exit got (n.peers from).end (start + length commands) ≡ false) (q : Peer)
-        (asks : q ≡ after_exit (after_request made (n.peers from) (request_in made packet)) exit
-        (start + length commands))
-        (peers : ℕ → Peer) (others : (p : ℕ) → p ≢ from → peers p ≡ n.peers p) where
-      fine : is_strange_end (is_exit f.kind) (machine.got m from) (ends_of m from) (end_of f) ≡ false
-      fine = sym odd_is ∙ usual
+      same_length : length commands ≡ length packet.cmds.items
+      same_length = ap (length {A = TicCmd}) items
 
-      same_asked : q ≡ asked me m f
-      same_asked =
-          asks ∙ (λ i. after_exit (after_request (made_same i) (same_peer i)
-          (request_in (made_same i) packet)) (exits_is i) (same_end_of i))
+      step : ◌≡◌ {A = machine.Node × Heard} (on_player rules me m from packet Playing) (on_commands me m f)
+      step = player_takes rules me m from packet start same_start
 
-      pub stale_shows : start + length commands ≤ got → peers from ≡ q
-          → IsAfter rules me (record n { peers = peers }) (on_player rules me m from packet Playing)
-          (λ heard. left_or exit Heard.Stale ≡ heard)
-      stale_shows old is =
-          after (with_peer m from (asked me m f)) (left_or (is_exit f.kind) Heard.Stale)
-          (step ∙ stale me m f fits fine (omega (arith, old, had, same_length)))
-          (shows_peer rules me n m from _ peers r (told_later me m f fine) (is ∙ same_asked) others)
-          (ap (λ (b : Bool). left_or b Heard.Stale) exits_is)
+      pub over_shows : n.ran + 12 < start + length commands
+          → IsAfter rules me n (on_player rules me m from packet Playing)
+          (λ heard. Heard.Dropped drops.overrun ≡ heard)
+      over_shows past = after m (Heard.Dropped drops.overrun)
+          (step ∙ over me m f (omega (arith, past, r.table.ran, same_length))) r refl
 
-      pub gap_shows : got < start + length commands → got < start → peers from ≡ record q { want = true }
-          → IsAfter rules me (record n { peers = peers }) (on_player rules me m from packet Playing)
-          (λ heard. Heard.Gap ≡ heard)
-      gap_shows new far is =
-          after (with_peer m from (record (asked me m f) { want = true })) Heard.Gap
-          (step ∙ gap me m f fits fine (omega (arith, new, had, same_length)) (omega (arith, far, had)))
-          (shows_peer rules me n m from _ peers r (told_later me m f fine)
-          (is ∙ ap (λ (x : Peer). record x { want = true }) same_asked) others) refl
+      module _ (room : start + length commands ≤ n.ran + 12) {exit : Bool}
+          (flagged : exit ≡ has_flag packet flag.exit) {got : ℕ} (counted : got ≡ count_of n.rings from) where
+        exits_is : exit ≡ is_exit f.kind
+        exits_is = flagged ∙ sym (kind_is (has_flag packet flag.exit))
 
-      pub taken_shows : (rings : ℕ → Ring) → got < start + length commands → start ≤ got
-          → peers from ≡ record q { want = false }
-          → ((held : List TicCmd) → n.rings from ≡ ring_of held
-          → rings from ≡ ring_of
-          (held ++ take (length commands - (got - start)) (drop (got - start) commands)))
-          → ((p : ℕ) → p ≢ from → rings p ≡ n.rings p)
-          → IsAfter rules me (record n { peers = peers; rings = rings })
-          (on_player rules me m from packet Playing)
-          (λ heard. left_or exit (Heard.Taken (start + length commands - got)) ≡ heard)
-      taken_shows rings new near is kept apart =
-          let held = m.held from in
-          let skip : ℕ = machine.got m from - start in
-          let rest : rings from ≡ ring_of (held ++ drop skip packet.cmds.items) =
-          kept held (r.commands.rings from (below rules me n m r from read.peer))
-          ∙ ap (λ (xs : List TicCmd). ring_of (held ++ xs)) (take_rest commands (got - start))
-          ∙ ap (λ (k : ℕ). ring_of (held ++ drop (k - start) commands)) had
-          ∙ ap (λ (xs : List TicCmd). ring_of (held ++ drop skip xs)) items in
-          let first = shows_peer rules me n m from _ peers r (told_later me m f fine)
-          (is ∙ ap (λ (x : Peer). record x { want = false }) same_asked) others in
-          let counts : start + length commands - got ≡ start + length packet.cmds.items - machine.got m from =
-          omega (arith, had, same_length) in
-          after (node_taken me m f)
-          (left_or (is_exit f.kind) (Heard.Taken (start + length packet.cmds.items - machine.got m from)))
-          (step ∙ taken me m f fits fine (omega (arith, new, had, same_length))
-          (omega (arith, near, had)))
-          (shows_ring rules me (record n { peers = peers })
-          (with_peer m from (record (asked me m f) { want = false })) from
-          (held ++ drop skip packet.cmds.items) rings first rest apart)
-          (λ i. left_or (exits_is i) (Heard.Taken (counts i)))
+        fits : nat_lt (machine.ran m + 12) (end_of f) ≡ false
+        fits = le-ltb (machine.ran m + 12) (end_of f) (omega (arith, room, r.table.ran, same_length))
+
+        had : got ≡ machine.got m from
+        had = counted ∙ got_is rules me n m r from read.peer
+
+        same_end_of : start + length commands ≡ end_of f
+        same_end_of = ap (λ (k : ℕ). start + k) same_length
+
+        odd_is : is_strange_end exit got (n.peers from).end (start + length commands)
+            ≡ is_strange_end (is_exit f.kind) (machine.got m from) (ends_of m from) (end_of f)
+        odd_is = λ i. is_strange_end (exits_is i) (had i) (same_peer i).end (same_end_of i)
+
+        pub odd_shows : is_strange_end exit got (n.peers from).end (start + length commands) ≡ true
+            → IsAfter rules me n (on_player rules me m from packet Playing)
+            (λ heard. Heard.Dropped drops.strange_end ≡ heard)
+        odd_shows strange = after m (Heard.Dropped drops.strange_end)
+            (step ∙ odd me m f fits (sym odd_is ∙ strange)) r refl
+
+        module _ (usual : is_strange_end exit got (n.peers from).end (start + length commands) ≡ false)
+            {q : Peer}
+            (asks : q ≡ after_exit (after_request made (n.peers from) (request_in made packet)) exit
+            (start + length commands))
+            (peers : ℕ → Peer) (others : (p : ℕ) → p ≢ from → peers p ≡ n.peers p) where
+          fine : is_strange_end (is_exit f.kind) (machine.got m from) (ends_of m from) (end_of f) ≡ false
+          fine = sym odd_is ∙ usual
+
+          same_asked : q ≡ asked me m f
+          same_asked =
+              asks ∙ (λ i. after_exit (after_request (same_made i) (same_peer i)
+              (request_in (same_made i) packet)) (exits_is i) (same_end_of i))
+
+          pub stale_shows : start + length commands ≤ got → peers from ≡ q
+              → IsAfter rules me (record n { peers = peers }) (on_player rules me m from packet Playing)
+              (λ heard. left_or exit Heard.Stale ≡ heard)
+          stale_shows old is =
+              after (with_peer m from (asked me m f)) (left_or (is_exit f.kind) Heard.Stale)
+              (step ∙ stale me m f fits fine (omega (arith, old, had, same_length)))
+              (shows_peer r from peers (flight_later me m f fine) (is ∙ same_asked) others)
+              (ap (λ (b : Bool). left_or b Heard.Stale) exits_is)
+
+          pub gap_shows : got < start + length commands → got < start → peers from ≡ record q { want = true }
+              → IsAfter rules me (record n { peers = peers }) (on_player rules me m from packet Playing)
+              (λ heard. Heard.Gap ≡ heard)
+          gap_shows new far is =
+              after (with_peer m from (record (asked me m f) { want = true })) Heard.Gap
+              (step ∙ gap me m f fits fine (omega (arith, new, had, same_length)) (omega (arith, far, had)))
+              (shows_peer r from peers (flight_later me m f fine)
+              (is ∙ ap (λ (x : Peer). record x { want = true }) same_asked) others) refl
+
+          pub taken_shows : (rings : ℕ → Ring) → got < start + length commands → start ≤ got
+              → peers from ≡ record q { want = false }
+              → ((held : List TicCmd) → n.rings from ≡ ring_of held
+              → rings from ≡ ring_of
+              (held ++ take (length commands - (got - start)) (drop (got - start) commands)))
+              → ((p : ℕ) → p ≢ from → rings p ≡ n.rings p)
+              → IsAfter rules me (record n { peers = peers; rings = rings })
+              (on_player rules me m from packet Playing)
+              (λ heard. left_or exit (Heard.Taken (start + length commands - got)) ≡ heard)
+          taken_shows rings new near is kept apart =
+              let held = m.held from in
+              let skip : ℕ = machine.got m from - start in
+              let rest : rings from ≡ ring_of (held ++ drop skip packet.cmds.items) =
+              kept held (r.commands.rings from (below rules me n m r from read.peer))
+              ∙ ap (λ (xs : List TicCmd). ring_of (held ++ xs)) (take_rest commands (got - start))
+              ∙ (λ i. ring_of (held ++ drop (had i - start) (items i))) in
+              let counts : start + length commands - got
+              ≡ start + length packet.cmds.items - machine.got m from =
+              omega (arith, had, same_length) in
+              after (node_taken me m f)
+              (left_or (is_exit f.kind)
+              (Heard.Taken (start + length packet.cmds.items - machine.got m from)))
+              (step ∙ taken me m f fits fine (omega (arith, new, had, same_length))
+              (omega (arith, near, had)))
+              (shows_commands (shows_peer r from peers (flight_later me m f fine)
+              (is ∙ ap (λ (x : Peer). record x { want = false }) same_asked) others) from n.hold m.keys _
+              rings r.commands.hold rest apart)
+              (λ i. left_or (exits_is i) (Heard.Taken (counts i)))

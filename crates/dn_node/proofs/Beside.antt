@@ -1,29 +1,25 @@
 -- What a step of the machine's node leaves of what its world depends on.
-use Rattle.std.proofs.Common.{◌≡◌, ℕ, ◌-◌, Bool, true, false, cond, drop, [], ◌∷◌, ◌++◌, Option, Some, None, refl}
-use Rattle.std.specs.Prelude.{Result, Ok, Err}
-use Rattle.dn_tic.specs.Pressed.{pressed}
-use Rattle.dn_packet.specs.declared.packet.Packet.{Packet}
-use Rattle.dn_packet.specs.declared.packet.PacketFault.{PacketFault}
-use Rattle.dn_setup.specs.Settings.{Settings}
-use Rattle.dn_setup.specs.declared.setup.SetupFault.{SetupFault}
+use Rattle.std.proofs.Common.{◌≡◌, ℕ, ◌+◌, ◌-◌, Bool, true, false, [], ◌∷◌, ◌++◌, Option, Some, None, refl}
+use Rattle.std.specs.Prelude.{nat_lt, nat_le, ◌==◌, Result, Ok, Err}
+use Rattle.std.proofs.lemmas.Bool.{cond_both}
+use Rattle.dn_setup.specs.Gathered.{all_noted}
 use Rattle.dn_machine.specs.declared.answers.Phase.{Phase}
 use Rattle.dn_machine.specs.declared.answers.Phase.TheVariants.{Listening, Gathering, Playing, Ended}
 use Rattle.dn_machine.specs.declared.answers.Cause.{Cause}
 use Rattle.dn_machine.specs.declared.answers.Heard.{Heard}
 use Rattle.dn_machine.specs.declared.answers.Made.{Made}
 use Rattle.dn_machine.specs.declared.answers.Ran.{Ran}
-use Rattle.dn_machine.specs.declared.peer.Peer.{Peer}
 use Rattle.dn_machine.specs.Drops as drops
 use Rattle.dn_machine.specs.Building.{on_build, on_build_in}
-use Rattle.dn_machine.specs.Running.{is_awaited, first_off, row_held, on_run, on_run_in, on_run_playing, on_quit, on_quit_in}
-use Rattle.dn_machine.specs.Sending.{on_send_in, on_send, after_sent, commands_flight}
+use Rattle.dn_machine.specs.Running.{is_awaited, first_off, full_at, row_held, on_run, on_run_in, on_run_playing, on_quit, on_quit_in}
+use Rattle.dn_machine.specs.Sending.{on_send_in, on_send}
 use Rattle.dn_machine.specs.Flight.{Flight, Kind, SetUp, Play, Exit, is_exit, end_of}
-use Rattle.dn_machine.specs.Hearing.{on_packet, on_packet_in, on_commands, on_ended, on_gathering, after_flight, left_or}
+use Rattle.dn_machine.specs.Hearing.{on_packet_in, on_commands, on_ended, on_gathering, is_strange_end, left_or}
 use Rattle.dn_machine.specs.Node as machine
-use Rattle.dn_machine.specs.Node.{put, with_peer, own_mark, lowest}
+use Rattle.dn_machine.specs.Node.{put, lowest}
 use Rattle.dn_machine.specs.Worlds.{Rules}
 use Rattle.dn_lockstep.specs.Phases.{is_waiting}
-use Rattle.dn_lockstep.specs.Received.{heard_as, flight_from, received}
+use Rattle.dn_lockstep.specs.Received.{heard_as}
 use Rattle.dn_lockstep.specs.Runs.{row_told}
 use Rattle.dn_lockstep.specs.Sent.{sent_to}
 
@@ -60,43 +56,25 @@ module _ {S : Type 0} (rules : Rules S) (me : ℕ) (m : machine.Node) where
 
   -- the commands of a playing node's peer
   commands_beside : (flight : Flight) → Hears m Playing (on_commands me m flight)
-  commands_beside flight = go _ _ _ _
-    where
-      exit : Bool
-      exit = is_exit flight.kind
-
-      peer : Peer
-      peer = after_flight (machine.made me m) (m.peers flight.from) flight
-
-      go : (over strange old gap : Bool)
-          → Hears m Playing (cond {A = machine.Node × Heard} over (m, Heard.Dropped drops.overrun)
-          (cond strange (m, Heard.Dropped drops.strange_end)
-          (cond old (with_peer m flight.from peer, left_or exit Heard.Stale)
-          (cond gap (with_peer m flight.from (record peer { want = true }), Heard.Gap) (
-            record (with_peer m flight.from (record peer { want = false })) {
-              held = put m.held flight.from
-                  (m.held flight.from ++ drop (machine.got m flight.from - flight.start) flight.commands);
-            },
-            left_or exit (Heard.Taken (end_of flight - machine.got m flight.from)),
-          )))))
-      go true strange old gap = dropped Playing drops.overrun
-      go false true old gap = dropped Playing drops.strange_end
-      go false false true gap = GoesOn (record { played = refl; settings = refl; rows = refl })
-          (left_starts exit Heard.Stale refl)
-      go false false false true = GoesOn (record { played = refl; settings = refl; rows = refl }) refl
-      go false false false false = GoesOn (record { played = refl; settings = refl; rows = refl })
-          (left_starts exit (Heard.Taken (end_of flight - machine.got m flight.from)) refl)
+  commands_beside flight =
+      let exit : Bool = is_exit flight.kind in
+      let got : ℕ = machine.got m flight.from in
+      let P : machine.Node × Heard → Type 0 = Hears m Playing in
+      cond_both (nat_lt (machine.ran m + 12) (end_of flight)) _ _ P (λ over. dropped Playing drops.overrun)
+      (λ fits. cond_both (is_strange_end exit got (machine.ends_of m flight.from) (end_of flight)) _ _ P
+      (λ strange. dropped Playing drops.strange_end)
+      (λ usual. cond_both (nat_le (end_of flight) got) _ _ P
+      (λ old. GoesOn (record { played = refl; settings = refl; rows = refl })
+      (left_starts exit Heard.Stale refl))
+      (λ new. cond_both (nat_lt got flight.start) _ _ P
+      (λ gap. GoesOn (record { played = refl; settings = refl; rows = refl }) refl)
+      (λ near. GoesOn (record { played = refl; settings = refl; rows = refl })
+      (left_starts exit (Heard.Taken (end_of flight - got)) refl)))))
 
   gathering_beside : (from : ℕ) → Hears m Gathering (on_gathering rules m from)
-  gathering_beside from = go _
-    where
-      go : (all : Bool)
-          → Hears m Gathering
-          (cond {A = machine.Node × Heard} all
-          (record m { phase = Playing; played = true; noted = put m.noted from true }, Heard.Started)
-          (record m { noted = put m.noted from true }, Heard.Noted))
-      go true = Starts refl refl refl
-      go false = GoesOn (record { played = refl; settings = refl; rows = refl }) refl
+  gathering_beside from =
+      cond_both (all_noted rules.players (put m.noted from true)) _ _ (Hears m Gathering) (λ all. Starts refl refl refl)
+      (λ some. GoesOn (record { played = refl; settings = refl; rows = refl }) refl)
 
   ended_beside : (cause : Cause) (played : Bool) (flight : Flight) (kind : Kind)
       → Hears m (Ended cause) (on_ended played me m flight kind)
@@ -118,38 +96,21 @@ module _ {S : Type 0} (rules : Rules S) (me : ℕ) (m : machine.Node) where
   packet_in flight Playing Play = commands_beside flight
   packet_in flight Playing Exit = commands_beside flight
 
-  pub packet_beside : (flight : Flight) → Hears m m.phase (on_packet rules me m flight)
-  unfolding on_packet
-  packet_beside flight = packet_in flight m.phase flight.kind
-
-  heard_beside : (phase : Phase) (flight : Result Flight ℕ) → Hears m phase (heard_as rules me m phase flight)
+  -- whatever passed the tests
+  pub heard_beside : (phase : Phase) (flight : Result Flight ℕ)
+      → Hears m phase (heard_as rules me m phase flight)
   heard_beside phase (Err number) = dropped phase number
   heard_beside phase (Ok flight) = packet_in flight phase flight.kind
-
-  pub received_beside : (from : ℕ) (told : Result Settings SetupFault) (read : Result Packet PacketFault)
-      → Hears m m.phase (received rules me m from told read)
-  received_beside from told read =
-      heard_beside m.phase (flight_from rules.players from me (machine.made me m) m.played told read m.phase)
 
   -- a build, a send and a quit
   build_in : (keys : ℕ) (phase : Phase) → IsBeside m (on_build_in rules me m keys phase).0
   build_in keys Listening = stays m
   build_in keys Gathering = stays m
   build_in keys (Ended cause) = stays m
-  build_in keys Playing = go _
-    where
-      go : (test : Bool)
-          → IsBeside m (cond {A = machine.Node × Made} test (m, Made.Full) (
-            record m {
-              keys = m.keys ++ keys ∷ [];
-              held =
-                  put m.held me (m.held me ++ pressed (m.keys ++ keys ∷ [])
-                  (own_mark rules m me (machine.made me m)) ∷ []);
-            },
-            Made.Made (machine.made me m),
-          )).0
-      go true = stays m
-      go false = record { played = refl; settings = refl; rows = refl }
+  build_in keys Playing =
+      cond_both (nat_le 5 (machine.made me m - machine.ran m)) _ _ (λ (x : machine.Node × Made). IsBeside m x.0)
+      (λ full. stays m)
+      (λ more. record { played = refl; settings = refl; rows = refl })
 
   pub build_beside : (keys : ℕ) → IsBeside m (on_build rules me m keys).0
   unfolding on_build
@@ -159,24 +120,15 @@ module _ {S : Type 0} (rules : Rules S) (me : ℕ) (m : machine.Node) where
   send_in to Listening = stays m
   send_in to Gathering = stays m
   send_in to Playing = record { played = refl; settings = refl; rows = refl }
-  send_in to (Ended cause) = go m.played
-    where
-      go : (played : Bool)
-          → IsBeside m (cond {A = machine.Node × Option Flight} played
-          (after_sent rules me m to, Some (commands_flight rules me m to Exit None)) (m, None)).0
-      go true = record { played = refl; settings = refl; rows = refl }
-      go false = stays m
+  send_in to (Ended cause) = cond_both m.played _ _ (λ (x : machine.Node × Option Flight). IsBeside m x.0)
+      (λ has. record { played = refl; settings = refl; rows = refl }) (λ never. stays m)
 
   pub send_beside : (to : ℕ) → IsBeside m (sent_to to rules me m).0
   unfolding on_send
-  send_beside to = go _ _
-    where
-      go : (below own : Bool)
-          → IsBeside m (cond {A = machine.Node × Option Flight} below
-          (cond own (m, None) (on_send_in rules me m to m.phase)) (m, None)).0
-      go true true = stays m
-      go true false = send_in to m.phase
-      go false own = stays m
+  send_beside to =
+      let P : machine.Node × Option Flight → Type 0 = λ x. IsBeside m x.0 in
+      cond_both (nat_lt to rules.players) _ _ P (λ below. cond_both (me == to) _ _ P (λ own. stays m) (λ other. send_in to m.phase))
+      (λ past. stays m)
 
   quit_in : (phase : Phase) → IsBeside m (on_quit_in m phase).0
   quit_in Listening = record { played = refl; settings = refl; rows = refl }
@@ -198,14 +150,8 @@ module _ {S : Type 0} (rules : Rules S) (m : machine.Node) where
   run_playing : (awaited off : Option ℕ) → Runs rules m (on_run_playing rules m awaited off)
   run_playing (Some player) off = Stays (stays m) refl
   run_playing None (Some player) = Stays (record { played = refl; settings = refl; rows = refl }) refl
-  run_playing None None = go _
-    where
-      go : (full : Bool)
-          → Runs rules m
-          (cond {A = machine.Node × Ran} full (record m { phase = Ended Cause.Full }, Ran.DemoFull)
-          (record m { rows = m.rows ++ row_held rules m ∷ [] }, Ran.Ran (machine.ran m)))
-      go true = Stays (record { played = refl; settings = refl; rows = refl }) refl
-      go false = Moves refl refl
+  run_playing None None = cond_both (machine.ran m == full_at rules (row_held rules m)) _ _ (Runs rules m)
+      (λ full. Stays (record { played = refl; settings = refl; rows = refl }) refl) (λ room. Moves refl refl)
 
   run_in : (phase : Phase) → Runs rules m (on_run_in rules m phase)
   run_in Playing = run_playing (lowest rules.players (is_awaited m)) (first_off rules m)

@@ -1,5 +1,5 @@
 -- The world of a node that has played.
-use Rattle.std.proofs.Common.{◌≡◌, true, List, length, Option, fold, ap, sym, ◌∙◌}
+use Rattle.std.proofs.Common.{◌≡◌, true, List, length, Option, fold, ap, sym, ◌∙◌, arith}
 use Rattle.std.proofs.lemmas.Option.{same_Some}
 use Rattle.std.proofs.Math.Seq.{take-length}
 use Rattle.dn_tic.specs.declared.command.Move.{Move}
@@ -28,4 +28,4 @@ module _ {W S : Type 0} (state : W → S) (rules : Rules S) (me : ℕ) (n : Cont
   pub world_recorded : n.ran ≡ length (demo_rows rules m)
       → state n.world ≡ fold rules.physics.step (opening rules settings) (demo_rows rules m)
   world_recorded e = world_played ∙ ap (fold rules.physics.step (opening rules settings))
-      (sym (all_recorded rules m settings known (sym r.lockstep.table.ran ∙ e)))
+      (sym (all_recorded rules m (omega (arith, e, r.lockstep.table.ran))))

@@ -64,15 +64,19 @@ module _ {W S A : Type 0} (state : W → S) (physics : Physics S) (old new : Con
       }
 
   -- a step beside the same world leaves it
-  pub beside : new.world ≡ old.world
+  pub steps_beside : lockstep.Steps (locked old) (locked new) by_mark IsAnswer
       → ((players : ℕ) (extra : Bool) (capacity me : ℕ) (m : machine.Node)
-      → IsAnswer (step (rules_of physics players extra capacity) me m).1
+      → by_mark (by_marks physics players extra capacity) me m
+      ≡ step (by_worlds physics players extra capacity) me m)
+      → new.world ≡ old.world
+      → ((players : ℕ) (extra : Bool) (capacity me : ℕ) (m : machine.Node)
       → IsBeside m (step (rules_of physics players extra capacity) me m).0)
-      → IsWorldAfter
-  beside same leaves players extra capacity me m r shows answer played =
+      → Steps state physics old new step IsAnswer
+  steps_beside locks equal same leaves =
+      steps locks equal (λ players extra capacity me m r shows answer played.
       let rules = rules_of physics players extra capacity in
       beside_world state rules me old m r new.world same (step rules me m).0
-      (leaves players extra capacity me m answer) played
+      (leaves players extra capacity me m) played)
 
 -- what a node's lockstep tells of the machine's node, the node tells
 pub tells : {W S : Type 0} (state : W → S) (physics : Physics S) (n : Contents W)

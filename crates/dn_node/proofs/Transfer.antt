@@ -6,10 +6,7 @@ use Rattle.std.specs.Ordering.{int_eq}
 use Rattle.std.proofs.lemmas.List.Sums.{fold-append}
 use Rattle.dn_tic.specs.declared.command.Move.{Move}
 use Rattle.dn_tic.specs.Pressed.{pressed}
-use Rattle.dn_packet.specs.declared.packet.Packet.{Packet}
-use Rattle.dn_packet.specs.declared.packet.PacketFault.{PacketFault}
 use Rattle.dn_setup.specs.Settings.{Settings}
-use Rattle.dn_setup.specs.declared.setup.SetupFault.{SetupFault}
 use Rattle.dn_world.specs.Physics.{Physics}
 use Rattle.dn_machine.specs.declared.answers.Phase.{Phase}
 use Rattle.dn_machine.specs.declared.answers.Phase.TheVariants.{Listening, Gathering, Playing, Ended}
@@ -19,7 +16,7 @@ use Rattle.dn_machine.specs.declared.answers.Made.{Made}
 use Rattle.dn_machine.specs.declared.answers.Ran.{Ran}
 use Rattle.dn_machine.specs.Building.{on_build, on_build_in}
 use Rattle.dn_machine.specs.Flight.{Flight, Kind, SetUp, Play, Exit}
-use Rattle.dn_machine.specs.Hearing.{on_packet, on_packet_in}
+use Rattle.dn_machine.specs.Hearing.{on_packet_in}
 use Rattle.dn_machine.specs.Node as machine
 use Rattle.dn_machine.specs.Node.{put, own_mark, own_world, world_after, held_at, lowest}
 use Rattle.dn_machine.specs.Running.{is_absent, is_awaited, first_off, on_run, on_run_in, on_run_playing}
@@ -27,7 +24,7 @@ use Rattle.dn_machine.specs.Sending.{on_send, on_send_in}
 use Rattle.dn_machine.specs.Worlds.{Rules, rules_of, mark_in, opening}
 use Rattle.dn_lockstep.specs.Marking.{History, Marking, free}
 use Rattle.dn_lockstep.specs.Contents.{Contents}
-use Rattle.dn_lockstep.specs.Received.{heard_as, flight_from, received}
+use Rattle.dn_lockstep.specs.Received.{heard_as}
 use Rattle.dn_lockstep.specs.Represents.{Represents}
 use Rattle.dn_lockstep.specs.Sent.{sent_to}
 
@@ -140,7 +137,7 @@ module _ {S : Type 0} (physics : Physics S) where
           ap (λ (x : machine.Node × Option Flight). if nat_lt to players
           then (if me == to then (m, None) else x) else (m, None)) (send_in me to m.phase)
 
-      pub packets_same : (me : ℕ) (flight : Flight) (phase : Phase) (kind : Kind)
+      packets_same : (me : ℕ) (flight : Flight) (phase : Phase) (kind : Kind)
           → ◌≡◌ {A = machine.Node × Heard} (on_packet_in by_marks me m flight phase kind)
           (on_packet_in by_worlds me m flight phase kind)
       packets_same me flight (Ended cause) kind = refl
@@ -154,22 +151,11 @@ module _ {S : Type 0} (physics : Physics S) where
       packets_same me flight Playing Play = refl
       packets_same me flight Playing Exit = refl
 
-      pub hears_same : (me : ℕ) (flight : Flight)
-          → ◌≡◌ {A = machine.Node × Heard} (on_packet by_marks me m flight) (on_packet by_worlds me m flight)
-      unfolding on_packet
-      hears_same me flight = packets_same me flight m.phase flight.kind
-
-      heard_same : (me : ℕ) (phase : Phase) (flight : Result Flight ℕ)
+      pub heard_same : (me : ℕ) (phase : Phase) (flight : Result Flight ℕ)
           → ◌≡◌ {A = machine.Node × Heard} (heard_as by_marks me m phase flight)
           (heard_as by_worlds me m phase flight)
       heard_same me phase (Err number) = refl
       heard_same me phase (Ok flight) = packets_same me flight phase flight.kind
-
-      pub received_same : (me from : ℕ) (told : Result Settings SetupFault) (read : Result Packet PacketFault)
-          → ◌≡◌ {A = machine.Node × Heard} (received by_marks me m from told read)
-          (received by_worlds me m from told read)
-      received_same me from told read =
-          heard_same me m.phase (flight_from players from me (machine.made me m) m.played told read m.phase)
 
       off_same : first_off by_marks m ≡ first_off by_worlds m
       off_same = ap (λ (test : ℕ → Bool). if nat_lt 12 (machine.ran m) then lowest players test else None)

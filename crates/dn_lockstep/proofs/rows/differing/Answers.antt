@@ -7,9 +7,8 @@ use Rattle.dn_lockstep.specs.Peers.{peer_at}
 use Rattle.dn_lockstep.specs.Marks.{slot}
 use Rattle.dn_lockstep.specs.Rows.{differs, is_gone}
 use Rattle.dn_lockstep.proofs.Lowest.{lowest_zero, lowest_past, lowest_found, differ, same_words}
-use Rattle.dn_lockstep.proofs.rows.differing.Goals.{else-not-gone-via-then-not-gone+else-mark_of-get, else-not-gone-via-else-not-gone}
+use Rattle.dn_lockstep.proofs.rows.differing.Goals.{After-gone, else-not-gone-via-then-not-gone+else-mark_of-get, else-not-gone-via-else-not-gone}
 use Rattle.dn_lockstep.proofs.Seats.{here_all}
-use Rattle.dn_lockstep.proofs.rows.differing.Goals.{After-gone}
 use Rattle.dn_lockstep.proofs.rows.differing.Goals as goal
 
 -- the command is there of a player who is not gone

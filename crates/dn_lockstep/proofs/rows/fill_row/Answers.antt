@@ -1,6 +1,6 @@
-use Rattle.std.proofs.Common.{rules, ◌≡◌, ◌<◌, ℕ, List, length, map, is_some, not, set, Option, Some, None, ap, sym, ◌∙◌, subst, arith}
-use Rattle.std.specs.Prelude.{All, IfSome}
-use Rattle.std.proofs.lemmas.List.Elements.{All-set}
+use Rattle.std.proofs.Common.{rules, ◌≡◌, ◌<◌, ℕ, List, length, map, is_some, not, set, Option, Some, None, ap, sym, ◌∙◌, arith}
+use Rattle.std.specs.Prelude.{IfSome}
+use Rattle.std.proofs.lemmas.List.Elements.{All-set, All-replicate}
 use Rattle.dn_tic.specs.declared.command.Move.{Move}
 use Rattle.dn_demo.specs.Rows.{IsMove, IsRecordable}
 use Rattle.dn_machine.specs.Node.{is_whole, lacks}
@@ -10,8 +10,8 @@ use Rattle.dn_lockstep.specs.Rows.{is_gone, has_gone}
 use Rattle.dn_lockstep.proofs.Lowest.{lowest_zero, some_found, some_past}
 use Rattle.dn_lockstep.proofs.Rowing.{seats_below, seat_more, seat_none, seat_free, own_here, own_gone, seats_whole, seats_more, seats_set}
 use Rattle.dn_lockstep.proofs.Seats.{whole_gone, here_all}
-use Rattle.dn_lockstep.proofs.Telling.{four_all, used_recordable}
-use Rattle.dn_lockstep.proofs.rows.fill_row.Goals.{After-loop-player, then-gone, else-gone}
+use Rattle.dn_lockstep.proofs.Telling.{used_recordable}
+use Rattle.dn_lockstep.proofs.rows.fill_row.Goals.{then-gone, else-gone}
 use Rattle.dn_lockstep.proofs.rows.fill_row.Goals as goal
 
 pub at-requires-clause-there : goal.at-requires-clause-there
@@ -26,10 +26,8 @@ loop-player-init c = record {
   seats = λ p l. absurd (omega arith);
   whole = sym (ap (λ (o : Option ℕ). not (is_some o))
       (lowest_zero (is_gone (peer_at c.args.peers.now) c.args.tic)));
-  able = subst (All (λ step. IfSome step IsRecordable)) (sym c.requires.empty)
-      (four_all (λ step. IfSome step IsRecordable) None None None None tt tt tt tt);
-  ranged = subst (All (λ step. IfSome step IsMove)) (sym c.requires.empty)
-      (four_all (λ step. IfSome step IsMove) None None None None tt tt tt tt);
+  able = rw c.requires.empty (All-replicate (λ step. IfSome step IsRecordable) 4 None tt);
+  ranged = rw c.requires.empty (All-replicate (λ step. IfSome step IsMove) 4 None tt);
 }
 
 pub loop-player-preserved : goal.loop-player-preserved
@@ -76,15 +74,11 @@ loop-player-preserved c =
           }
     ]
 
-all_in : (c : After-loop-player) → c.loop-player.row ≡ seats_below (ring_at c.args.rings.now)
-    (peer_at c.args.peers.now) c.args.tic c.args.players
-all_in c =
+pub returns-clause-row : goal.returns-clause-row
+returns-clause-row c =
     let all : c.loop-player.player ≡ c.args.players = omega arith in
     c.loop-player.invariant.row
     ∙ ap (seats_below (ring_at c.args.rings.now) (peer_at c.args.peers.now) c.args.tic) all
-
-pub returns-clause-row : goal.returns-clause-row
-returns-clause-row c = all_in c
 
 pub returns-clause-nobody : goal.returns-clause-nobody
 returns-clause-nobody c =
@@ -93,16 +87,15 @@ returns-clause-nobody c =
 
 pub returns-clause-whole : goal.returns-clause-whole
 returns-clause-whole c =
-    let all : c.loop-player.player ≡ c.args.players = omega arith in
-    c.loop-player.invariant.whole ∙ ap (λ (k : ℕ). not (has_gone (peer_at c.args.peers.now) k c.args.tic)) all
+    returns-clause-nobody c
     ∙ sym (whole_gone c.loop-player.row c.args.players (is_gone (peer_at c.args.peers.now) c.args.tic)
     (λ p l. c.loop-player.invariant.seats p (omega arith)))
 
 pub returns-clause-recordable : goal.returns-clause-recordable
 returns-clause-recordable c whole = record {
-  seats = ap (map is_some) (all_in c) ∙ seats_whole (ring_at c.args.rings.now) (peer_at c.args.peers.now)
-      c.args.tic c.args.players
-      (ap (is_whole c.args.players) (sym (all_in c)) ∙ whole);
+  seats = ap (map is_some) (returns-clause-row c)
+      ∙ seats_whole (ring_at c.args.rings.now) (peer_at c.args.peers.now) c.args.tic c.args.players
+      (ap (is_whole c.args.players) (sym (returns-clause-row c)) ∙ whole);
   moves = c.loop-player.invariant.able;
 }
 

@@ -1,8 +1,8 @@
 use Rattle.std.proofs.Common.{◌∙◌, refl, ap, arith, Some}
 use Rattle.dn_machine.specs.Worlds.{rules_of}
 use Rattle.dn_lockstep.specs.Marking.{free}
-use Rattle.dn_lockstep.proofs.Sending.{to_itself, to_nobody, sends_in}
-use Rattle.dn_lockstep.proofs.Aiming.{aimed, aim_of_set_up}
+use Rattle.dn_lockstep.proofs.Sending.{to_itself, to_nobody}
+use Rattle.dn_lockstep.proofs.Aiming.{aimed, aimed_in, aim_of_set_up}
 use Rattle.dn_lockstep.proofs.lockstep.Lockstep.aim.Goals as goal
 use Rattle.dn_lockstep.proofs.lockstep.Lockstep.aim.Goals.{then-to-self-via-then-to-self, then-to-self-via-else-to-self+then-to-self-2}
 
@@ -21,32 +21,20 @@ returns-then-to-self-clause-told c marking players extra capacity me m r =
 
 pub returns-in-Listening-clause-told : goal.returns-in-Listening-clause-told
 returns-in-Listening-clause-told c marking players extra capacity me m r =
-    let rules = rules_of (free marking) players extra capacity in
-    let sends = sends_in rules me _ m c.args.to _ r (omega (arith, c.if-to-self-2.false)) c.if-to-self.false
-    c.in-Listening.is in
-    aimed rules me m c.args.to _ _ sends refl
+    aimed_in r (omega (arith, c.if-to-self-2.false)) c.if-to-self.false c.in-Listening.is refl
 
 pub returns-in-Gathering-clause-told : goal.returns-in-Gathering-clause-told
 returns-in-Gathering-clause-told c marking players extra capacity me m r =
-    let rules = rules_of (free marking) players extra capacity in
-    let sends = sends_in rules me _ m c.args.to _ r (omega (arith, c.if-to-self-2.false)) c.if-to-self.false
-    c.in-Gathering.is in
-    let known = aim_of_set_up me c.args.to m.settings
-    (λ e. c.args.self.now.keyed c.in-Gathering.is (r.stands.settings ∙ e)) in
-    aimed rules me m c.args.to _ _ sends known
+    aimed_in r (omega (arith, c.if-to-self-2.false)) c.if-to-self.false c.in-Gathering.is
+    (aim_of_set_up me c.args.to m.settings
+    (λ e. c.args.self.now.keyed c.in-Gathering.is (r.stands.settings ∙ e)))
 
 pub returns-in-Playing-clause-told : goal.returns-in-Playing-clause-told
 returns-in-Playing-clause-told c marking players extra capacity me m r =
-    let rules = rules_of (free marking) players extra capacity in
-    let sends = sends_in rules me _ m c.args.to _ r (omega (arith, c.if-to-self-2.false)) c.if-to-self.false
-    c.in-Playing.is in
-    let given = c.aim_of_commands.ensures.told marking players extra capacity me m r in
-    aimed rules me m c.args.to _ _ sends (ap Some given)
+    aimed_in r (omega (arith, c.if-to-self-2.false)) c.if-to-self.false c.in-Playing.is
+    (ap Some (c.aim_of_commands.ensures.told marking players extra capacity me m r))
 
 pub returns-in-Ended-clause-told : goal.returns-in-Ended-clause-told
 returns-in-Ended-clause-told c marking players extra capacity me m r =
-    let rules = rules_of (free marking) players extra capacity in
-    let sends = sends_in rules me _ m c.args.to _ r (omega (arith, c.if-to-self-2.false)) c.if-to-self.false
-    c.in-Ended.is in
-    let given = c.aim_of_exit.ensures.told c.in-Ended.field-0 marking players extra capacity me m r in
-    aimed rules me m c.args.to _ _ sends given
+    aimed_in r (omega (arith, c.if-to-self-2.false)) c.if-to-self.false c.in-Ended.is
+    (c.aim_of_exit.ensures.told c.in-Ended.field-0 marking players extra capacity me m r)

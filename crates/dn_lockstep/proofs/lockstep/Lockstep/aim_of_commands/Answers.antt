@@ -1,4 +1,5 @@
-use Rattle.std.proofs.Common.{refl, ◌∙◌}
+use Rattle.std.proofs.Common.{◌∙◌, ap, arith}
+use Rattle.dn_machine.specs.Flight.{Play, request_flag}
 use Rattle.dn_machine.specs.Worlds.{rules_of}
 use Rattle.dn_lockstep.specs.Marking.{free}
 use Rattle.dn_lockstep.proofs.Aiming.{aim_is}
@@ -10,5 +11,6 @@ returns-clause-told c marking players extra capacity me m r =
     let made = c.made.ensures ∙ made_is _ me _ m r c.args.self.now.me_below in
     let start = c.first_sent-start.ensures.told marking players extra capacity me m r in
     let ask = c.request_to-ask.ensures marking players extra capacity me m r in
-    aim_is (rules_of (free marking) players extra capacity) me m c.args.to _ _ _ _ _ c.request_flag.ensures
-    ask start made refl
+    let flags = c.request_flag.ensures ∙ ap request_flag ask in
+    aim_is (rules_of (free marking) players extra capacity) me m c.args.to Play (omega (arith, flags)) ask
+    start made

@@ -1,7 +1,8 @@
 use Rattle.std.proofs.Common.{refl, sym, ◌∙◌}
+use Rattle.dn_machine.specs.Flight.{Exit}
 use Rattle.dn_machine.specs.Worlds.{rules_of}
 use Rattle.dn_lockstep.specs.Marking.{free}
-use Rattle.dn_lockstep.proofs.Aiming.{exit_is, exit_given, none_given}
+use Rattle.dn_lockstep.proofs.Aiming.{aim_is, exit_given, none_given}
 use Rattle.dn_lockstep.proofs.Counting.{made_is}
 use Rattle.dn_lockstep.proofs.lockstep.Lockstep.aim_of_exit.Goals as goal
 
@@ -16,4 +17,4 @@ returns-clause-told c cause marking players extra capacity me m r =
     let made = c.made.ensures ∙ made_is _ me _ m r c.args.self.now.me_below in
     let start = c.first_sent-start.ensures.told marking players extra capacity me m r in
     exit_given rules me m c.args.to cause _ (sym r.stands.played ∙ c.if-not-self.false)
-    (exit_is rules me m c.args.to _ _ _ start made refl)
+    (aim_is rules me m c.args.to Exit refl refl start made)

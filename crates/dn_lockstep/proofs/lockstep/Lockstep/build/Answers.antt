@@ -10,7 +10,8 @@ use Rattle.dn_machine.specs.declared.answers.Made.{Made}
 use Rattle.dn_lockstep.specs.Rings.{ring_at}
 use Rattle.dn_lockstep.proofs.After.{after}
 use Rattle.dn_lockstep.proofs.Counting.{mine, made_is, changed}
-use Rattle.dn_lockstep.proofs.Building.{build_not, build_full, build_makes, shows_built, own_ring}
+use Rattle.dn_lockstep.proofs.Building.{build_not, build_full, build_makes, own_ring}
+use Rattle.dn_lockstep.proofs.Holding.{shows_commands}
 use Rattle.dn_lockstep.proofs.lockstep.Lockstep.build.Goals as goal
 
 pub returns-in_default-clause-step : goal.returns-in_default-clause-step
@@ -73,6 +74,6 @@ returns-clause-step c marking players extra capacity me m r =
     (c.build-command.ensures.command m.keys r.commands.hold) c.put.ensures.put in
     after _ _ (build_makes _ me m _ (sym r.stands.phase ∙ c.in-Playing.is)
     (omega (arith, made, r.table.ran, c.if-tic-self-ge-AHEAD.false)))
-    (shows_built _ me _ m _ _ _ r (c.build-command.ensures.hold m.keys r.commands.hold)
+    (shows_commands r me _ _ _ _ (c.build-command.ensures.hold m.keys r.commands.hold)
     (ap (ring_at c.put.new.self) (sym r.whose.number) ∙ ring)
     (λ p apart. c.put.ensures.others p (λ e. apart (e ∙ r.whose.number)))) (ap Made.Made made)

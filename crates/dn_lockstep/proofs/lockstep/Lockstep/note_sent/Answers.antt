@@ -1,4 +1,4 @@
-use Rattle.std.proofs.Common.{◌≡◌, ◌-◌, ℕ, false, ap, sym, ◌∙◌, inl, inr, arith}
+use Rattle.std.proofs.Common.{◌≡◌, ◌-◌, ℕ, ap, sym, ◌∙◌, inl, inr, arith}
 use Rattle.dn_setup.specs.Starts.{bit}
 use Rattle.dn_machine.specs.Node as machine
 use Rattle.dn_machine.specs.Worlds.{Rules, rules_of}
@@ -12,19 +12,19 @@ use Rattle.dn_machine.specs.declared.peer.Peer.{Peer}
 use Rattle.dn_lockstep.specs.Sent.{after_giving}
 use Rattle.dn_lockstep.proofs.After.{along}
 use Rattle.dn_lockstep.proofs.Counting.{made_is, below}
-use Rattle.dn_lockstep.proofs.Peering.{shows_peer, resends_put}
+use Rattle.dn_lockstep.proofs.Kept.{AreKept, same_end, gone_still, stays_gone, resends_low}
+use Rattle.dn_lockstep.proofs.Peering.{shows_peer}
 use Rattle.dn_machine.specs.Running.{is_over}
 use Rattle.dn_lockstep.specs.Peers.{peer_at}
-use Rattle.dn_lockstep.proofs.Gone.{stays_gone, gone_still}
 use Rattle.dn_lockstep.proofs.lockstep.Lockstep.note_sent.Goals.{After-resend_from}
 use Rattle.dn_lockstep.proofs.lockstep.Lockstep.note_sent.Goals as goal
 
 -- a node that plays or has ended keeps from where on it sends next
-gives : {S : Type 0} (rules : Rules S) (me : ℕ) (m : machine.Node) (to : ℕ) (old phase : Phase) → old ≡ phase
-    → (old ≡ Playing) ⊎ ((cause : Cause) × (old ≡ Ended cause))
+gives : {S : Type 0} (rules : Rules S) (me : ℕ) (m : machine.Node) (to : ℕ) (phase : Phase)
+    → (phase ≡ Playing) ⊎ ((cause : Cause) × (phase ≡ Ended cause))
     → after_giving rules me m to phase ≡ after_sent rules me m to
-gives rules me m to old phase e (inl is) = ap (after_giving rules me m to) (sym e ∙ is)
-gives rules me m to old phase e (inr is) = ap (after_giving rules me m to) (sym e ∙ is.1)
+gives rules me m to phase (inl is) = ap (after_giving rules me m to) is
+gives rules me m to phase (inr is) = ap (after_giving rules me m to) is.1
 
 pub returns-in-Playing-clause-step : goal.returns-in-Playing-clause-step
 returns-in-Playing-clause-step c marking players extra capacity me m r =
@@ -41,39 +41,39 @@ returns-in-Playing-clause-step c marking players extra capacity me m r =
           c.saturating_sub-resend.result;
     })
     kept in
-    let step = gives rules me m c.args.to c.args.self.now.phase m.phase r.stands.phase c.in-Playing.is
+    let step = ap (after_giving rules me m c.args.to) (sym r.stands.phase)
+    ∙ gives rules me m c.args.to n.phase c.in-Playing.is
     ∙ ap (λ (k : ℕ). machine.with_peer m c.args.to (record (m.peers c.args.to) { resend = k })) (sym tic) in
-    along step (shows_peer _ me _ m c.args.to _ _ r (λ tic h. h) peer c.resend_from.ensures.others)
+    along step (shows_peer r c.args.to _ (λ tic h. h) peer c.resend_from.ensures.others)
 
--- the peer's end is as it was
-later : (c : After-resend_from) (tic : ℕ) → is_over (peer_at c.resend_from.new.self c.args.to).end tic ≡ false
-    → is_over (peer_at c.args.self.now.peers c.args.to).end tic ≡ false
-later c tic h = ap (λ (q : Peer). is_over q.end tic) (sym c.resend_from.ensures.put) ∙ h
+-- nothing but where its resends start is kept otherwise
+kept : (c : After-resend_from)
+    → AreKept (peer_at c.args.self.now.peers) (peer_at c.resend_from.new.self) c.args.to c.made.result
+kept c =
+    let at = ap (λ (q : Peer). q.resend) c.resend_from.ensures.put in
+    let less = c.saturating_sub-resend.ensures in
+    record {
+      later = λ tic h. ap (λ (q : Peer). is_over q.end tic) (sym c.resend_from.ensures.put) ∙ h;
+      low = omega arith;
+      others = c.resend_from.ensures.others;
+    }
 
 pub invariant_of-self-clause-endless : goal.invariant_of-self-clause-endless
 invariant_of-self-clause-endless c =
-    ap (λ (q : Peer). q.end) (c.resend_from.ensures.others c.args.self.now.me (λ e. c.requires.other (sym e)))
-    ∙ c.args.self.now.endless
+    same_end (kept (goal.at.invariant_of-self-clause-endless c).After-resend_from) c.args.self.now.me
+    (λ e. c.requires.other (sym e)) ∙ c.args.self.now.endless
 
 pub invariant_of-self-clause-gone : goal.invariant_of-self-clause-gone
 invariant_of-self-clause-gone c plays closed =
-    gone_still (peer_at c.args.self.now.peers) (peer_at c.resend_from.new.self) c.args.to
-    (later (goal.at.invariant_of-self-clause-gone c).After-resend_from) c.resend_from.ensures.others
-    c.args.self.now.players c.args.self.now.ran (c.args.self.now.gone plays closed)
+    gone_still (kept (goal.at.invariant_of-self-clause-gone c).After-resend_from) _ _
+    (c.args.self.now.gone plays closed)
 
 pub invariant_of-self-clause-ahead : goal.invariant_of-self-clause-ahead
 invariant_of-self-clause-ahead c p below h =
     c.args.self.now.ahead p below
-    (stays_gone (peer_at c.args.self.now.peers) (peer_at c.resend_from.new.self) c.args.to
-    (later (goal.at.invariant_of-self-clause-ahead c).After-resend_from) c.resend_from.ensures.others
-    c.args.self.now.ran
-    p h)
+    (stays_gone (kept (goal.at.invariant_of-self-clause-ahead c).After-resend_from) _ p h)
 
 pub invariant_of-self-clause-resends : goal.invariant_of-self-clause-resends
 invariant_of-self-clause-resends c =
-    let at = ap (λ (q : Peer). q.resend) c.resend_from.ensures.put in
-    let made = c.made.ensures in
-    let less = c.saturating_sub-resend.ensures in
-    resends_put (peer_at c.args.self.now.peers) (peer_at c.resend_from.new.self) c.args.to
-    c.args.self.now.players _
-    c.args.self.now.resends c.resend_from.ensures.others (omega arith)
+    resends_low (kept (goal.at.invariant_of-self-clause-resends c).After-resend_from) c.made.ensures _
+    c.args.self.now.resends

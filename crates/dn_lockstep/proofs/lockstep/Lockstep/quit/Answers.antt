@@ -1,4 +1,4 @@
-use Rattle.std.proofs.Common.{◌≡◌, ◌⊎◌, true, inl, inr, refl, ap, sym, ◌∙◌}
+use Rattle.std.proofs.Common.{◌≡◌, ◌⊎◌, true, inl, inr, refl, ap, sym, ◌∙◌, subst}
 use Rattle.dn_machine.specs.declared.answers.Phase.TheVariants.{Listening, Gathering}
 use Rattle.dn_machine.specs.declared.answers.Phase.{Phase}
 use Rattle.dn_lockstep.specs.Contents.{contents}
@@ -16,10 +16,6 @@ returns-in-Playing-clause-step c marking players extra capacity me m r =
     after _ _ (quit_playing m (sym r.stands.phase ∙ c.in-Playing.is))
     (c.finish.ensures.step marking players extra capacity me m r) refl
 
-either : (p q : Phase) → p ≡ q → (p ≡ Listening) ⊎ (p ≡ Gathering) → (q ≡ Listening) ⊎ (q ≡ Gathering)
-either p q e (inl is) = inl (sym e ∙ is)
-either p q e (inr is) = inr (sym e ∙ is)
-
 waits : (p : Phase) → (p ≡ Listening) ⊎ (p ≡ Gathering) → is_waiting p ≡ true
 waits p (inl e) = ap is_waiting e
 waits p (inr e) = ap is_waiting e
@@ -27,5 +23,6 @@ waits p (inr e) = ap is_waiting e
 pub returns-in-Listening-clause-step : goal.returns-in-Listening-clause-step
 returns-in-Listening-clause-step c marking players extra capacity me m r =
     let n = c.args.self.now in
-    after _ _ (quit_waiting m (either n.phase m.phase r.stands.phase c.in-Listening.is))
+    let P : Phase → Type 0 = λ p. (p ≡ Listening) ⊎ (p ≡ Gathering) in
+    after _ _ (quit_waiting m (subst P r.stands.phase c.in-Listening.is))
     (shows_unplayed _ me (contents n) m _ r (n.waits (waits n.phase c.in-Listening.is))) refl

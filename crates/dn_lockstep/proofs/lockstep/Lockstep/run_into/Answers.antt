@@ -17,29 +17,29 @@ returns-in_default-clause-step c marking players extra capacity me m r own =
 pub returns-in-Some-clause-step : goal.returns-in-Some-clause-step
 returns-in-Some-clause-step c marking players extra capacity me m r own =
     after _ _ (run_waits _ m _ (sym r.stands.phase ∙ c.in-Playing.is)
-    (finds_awaited _ me _ m r _ c.in-Some.ensures)) r (refl, refl)
+    (finds_awaited r _ c.in-Some.ensures)) r (refl, refl)
 
 pub returns-in-Some-first_off-clause-step : goal.returns-in-Some-first_off-clause-step
 returns-in-Some-first_off-clause-step c marking players extra capacity me m r own =
     let n = c.args.self.now in
     let p = c.in-Some-first_off.player in
     let inside = c.in-Some-first_off.ensures.below in
-    let found = finds_off _ me _ m r n.window _ c.in-Some-first_off.ensures.lowest in
-    let present = off_present _ me _ m r n.window p found in
+    let found = finds_off r n.window _ c.in-Some-first_off.ensures.lowest in
+    let present = off_present r n.window p found in
     let was = to_z-of_z w16 c.mark_of-was.result (search rules) ∙ c.mark_of-was.ensures
-    ∙ mark_is _ me _ m r n.window p inside in
+    ∙ mark_is r n.window p inside in
     let should = to_z-of_z w16 c.get-should.result (search rules) ∙ c.get-should.ensures
-    ∙ should_is _ me _ m r n.window p inside present in
+    ∙ should_is r n.window p inside present in
     after _ _ (run_off _ m p _ _ (sym r.stands.phase ∙ c.in-Playing.is)
-    (finds_awaited _ me _ m r _ c.in_default-awaited.ensures) found was should)
+    (finds_awaited r _ c.in_default-awaited.ensures) found was should)
     (c.finish.ensures.step marking players extra capacity me m r) (refl, refl)
 
 pub returns-clause-step : goal.returns-clause-step
 returns-clause-step c marking players extra capacity me m r own =
     let n = c.args.self.now in
     let on = run_on (rules_of (free marking) players extra capacity) m (sym r.stands.phase ∙ c.in-Playing.is)
-    (finds_awaited _ me _ m r _ c.in_default-awaited.ensures)
-    (finds_off _ me _ m r n.window _ c.in_default-first_off.ensures.lowest) in
+    (finds_awaited r _ c.in_default-awaited.ensures)
+    (finds_off r n.window _ c.in_default-first_off.ensures.lowest) in
     let ran = c.run_row.ensures.step marking players extra capacity me m r
     (λ tic e. own tic (ap (λ (x : machine.Node × Ran). x.1) on ∙ e)) in
     after _ _ on ran.node ran.answer

@@ -61,11 +61,8 @@ pub returns-then-tic-full_at-clause-step : goal.returns-then-tic-full_at-clause-
 returns-then-tic-full_at-clause-step c marking players extra capacity me m r own =
     let n = c.args.self.now in
     let rules = rules_of (free marking) players extra capacity in
-    let there = here_all (ring_at n.rings) (peer_at n.peers) n.players n.ran c.requires.there in
-    let row = c.fill_row-whole.ensures.row ∙ row_is rules me _ m r n.window there in
-    let full = full_is rules me _ m r n.window there _ n.capacity c.full_at.result row r.whose.capacity
-    (c.full_at.ensures ∙ ap (λ (b : Bool). if b then n.capacity else tic_limit)
-    c.fill_row-whole.ensures.whole) in
+    let row = c.fill_row-whole.ensures.row ∙ row_is r n.window c.requires.there in
+    let full = full_is r n.window c.requires.there c.full_at.ensures c.fill_row-whole.ensures.whole row in
     after _ _ (row_full rules m (sym r.table.ran ∙ c.if-tic-full_at.true ∙ full))
     (c.finish.ensures.step marking players extra capacity me m r) (refl, refl)
 
@@ -156,11 +153,8 @@ returns-clause-step c marking players extra capacity me m r own =
     let n = c.args.self.now in
     let rules = rules_of (free marking) players extra capacity in
     let on = c.requires.plays in
-    let there = here_all (ring_at n.rings) (peer_at n.peers) n.players n.ran c.requires.there in
-    let row = c.fill_row-whole.ensures.row ∙ row_is rules me _ m r n.window there in
-    let full = full_is rules me _ m r n.window there _ n.capacity c.full_at.result row r.whose.capacity
-    (c.full_at.ensures ∙ ap (λ (b : Bool). if b then n.capacity else tic_limit)
-    c.fill_row-whole.ensures.whole) in
+    let row = c.fill_row-whole.ensures.row ∙ row_is r n.window c.requires.there in
+    let full = full_is r n.window c.requires.there c.full_at.ensures c.fill_row-whole.ensures.whole row in
     let whole : c.fill_row-whole.result ≡ is_whole players (row_held rules m) =
     c.fill_row-whole.ensures.whole ∙ (λ i. is_whole (r.whose.players i) (row i)) in
     let opens = opened (goal.at.returns-clause-step c).After-stamp in
@@ -180,7 +174,7 @@ returns-clause-step c marking players extra capacity me m r own =
     (shows_moved rules me _ m (row_held rules m) _ _ r on (n.plays on) (n.known (n.plays on))
     (λ p inside present. c.stamp.ensures.marks p (omega (arith, inside, n.few))
     (ap (λ (x : List (Option Move)). lacks x p) row
-    ∙ seat_held rules me _ m r n.window there p inside (omega (arith, inside, n.few)) present)
+    ∙ seat_held r n.window c.requires.there p inside (omega (arith, inside, n.few)) present)
     ∙ own _ (ap (λ (x : machine.Node × Ran). x.1) moves) (sym r.stands.phase ∙ on) p
     (omega (arith, inside, r.whose.players)) present)
     c.stamp.ensures.others written)

@@ -1,41 +1,21 @@
-use Rattle.std.proofs.Common.{◌≡◌, Option, refl, subst, rules}
-use Rattle.std.specs.Prelude.{IfSome}
+use Rattle.std.proofs.Common.{◌≡◌, refl, rules}
 use Rattle.std.specs.Option.{option_map}
-use Rattle.dn_machine.specs.Flight.{Flight}
-use Rattle.dn_machine.specs.Node as machine
-use Rattle.dn_machine.specs.Worlds.{rules_of}
 use Rattle.dn_lockstep.specs.Contents as lockstep
-use Rattle.dn_lockstep.specs.Near.{IsFair}
-use Rattle.dn_lockstep.specs.Sent.{sent_to, bytes_of}
+use Rattle.dn_lockstep.specs.Sent.{bytes_of}
 use Rattle.dn_node.specs.Contents.{contents, with_world}
-use Rattle.dn_node.proofs.Beside.{send_beside}
-use Rattle.dn_node.proofs.Stepping.{steps, beside, tells}
-use Rattle.dn_node.proofs.Transfer.{sends_same}
-use Rattle.dn_node.proofs.node.Node.packet.Goals.{After-packet}
+use Rattle.dn_node.proofs.Sending.{sends, sends_fair}
 use Rattle.dn_node.proofs.node.Node.packet.Goals as goal
 
 pub returns-clause-step : goal.returns-clause-step
 returns-clause-step g c =
-    let old = contents c.args.self.now in
-    let new = with_world (lockstep.contents c.packet.new.self) c.args.self.now.world in
-    steps g.W.World.state g.W.World.physics old new (λ rules me m. sent_to c.args.to rules me m)
-    (λ rules me m. sent_to c.args.to rules me m)
+    sends g.W.World.state g.W.World.physics c.args.to (contents c.args.self.now)
+    (with_world (lockstep.contents c.packet.new.self) c.args.self.now.world)
     (λ flight. option_map (λ bytes. bytes.items) c.packet.result ≡ option_map bytes_of flight)
-    c.packet.ensures.step
-    (λ players extra capacity me m. sends_same g.W.World.physics players extra capacity m me c.args.to)
-    (beside g.W.World.state g.W.World.physics old new (λ rules me m. sent_to c.args.to rules me m)
-    (λ rules me m. sent_to c.args.to rules me m)
-    (λ flight. option_map (λ bytes. bytes.items) c.packet.result ≡ option_map bytes_of flight) refl
-    (λ players extra capacity me m answer. send_beside (rules_of g.W.World.physics players extra capacity) me
-    m c.args.to))
+    c.packet.ensures.step refl
 
 pub returns-clause-fair : goal.returns-clause-fair
-returns-clause-fair g c =
-    tells g.W.World.state g.W.World.physics (contents c.args.self.now)
-    (λ rules me m. IfSome (sent_to c.args.to rules me m).1 IsFair)
-    (λ rules me m. IfSome (sent_to c.args.to rules me m).1 IsFair) c.packet.ensures.fair
-    (λ players extra capacity me m. subst (λ (x : machine.Node × Option Flight). IfSome x.1 IsFair)
-    (sends_same g.W.World.physics players extra capacity m me c.args.to))
+returns-clause-fair g c = sends_fair g.W.World.state g.W.World.physics c.args.to (contents c.args.self.now)
+    c.packet.ensures.fair
 
 pub returns-clause-idle : goal.returns-clause-idle
 returns-clause-idle g c = search rules
