@@ -1,5 +1,5 @@
 -- A packet that is delivered as soon as it is sent, and a round of such packets.
-use Rattle.std.proofs.Common.{◌≡◌, ◌≢◌, ℕ, suc, ◌+◌, true, true≢false, ◌++◌, length, Result, Ok, Err, refl, ap, sym, subst, inl, inr, arith}
+use Rattle.std.proofs.Common.{◌≡◌, ◌≢◌, ℕ, suc, ◌+◌, true, true≢false, ◌++◌, length, Result, Ok, Err, refl, ap, sym, inl, inr, arith}
 use Rattle.dn_machine.specs.declared.events.Done.{Done}
 use Rattle.dn_machine.specs.declared.events.Event.{Event}
 use Rattle.dn_machine.specs.declared.events.Event.TheVariants.{Build, Send, Deliver, Run}
@@ -45,25 +45,22 @@ module _ {W S : Type 0} (state : W → S) (rules : Rules S) where
       let half = after_applied old mid m (Send node to) sent (λ e. some) first in
       let whole = after_applied mid new (after rules (Send node to) m) (Deliver which) heard
       (λ e. absurd (true≢false (sym e))) (then half) in
-      subst (λ (k : ℕ). Represents state rules new (after rules (Deliver k) (after rules (Send node to) m)))
-      counted whole
+      rw counted at whole
 
   -- what is carried out, and what it ends with
   carried : {A : Type 0} (m good : Game) (g : Contents W) (answer : Result A Refusal) (done : A)
       → answer ≡ Ok done
       → IsCarriedOut state rules m good g answer → Represents state rules g good
-  carried m good g answer done is all = subst (λ (r : Result _ Refusal). IsCarriedOut state rules m good g r)
-      is all
+  carried m good g answer done is all = rw is at all
 
   ended : {A B : Type 0} (first good mid good_mid : Game) (g : Contents W) (answer : Result A Refusal)
       (whole : Result B Refusal) (refusal : Refusal)
       → answer ≡ Err refusal → whole ≡ Err refusal → machine.IsLed rules first mid
       → IsCarriedOut state rules mid good_mid g answer → IsCarriedOut state rules first good g whole
   ended first good mid good_mid g answer whole refusal is same before some =
-      let at : IsUnsent g refusal × IsLed state rules mid g =
-      subst (λ (r : Result _ Refusal). IsCarriedOut state rules mid good_mid g r) is some in
+      let at : IsUnsent g refusal × IsLed state rules mid g = rw is at some in
       let led = at.1 in
-      subst (λ (r : Result _ Refusal). IsCarriedOut state rules first good g r) (sym same) (
+      rw same (
         at.0,
         record {
           events = before.0 ++ led.events;
@@ -89,23 +86,19 @@ module _ {W S : Type 0} (state : W → S) (rules : Rules S) where
       → IsCarriedOut state rules m (turn rules keys m node) g answer
       → IsCarriedOut state rules m (turn rules all m node) g answer
   unfolding turn
-  by_own_keys keys all m node g answer same =
-      subst (λ (k : ℕ). IsCarriedOut state rules m
-      (after rules (Run node)
-      (in_order (exchange rules node) rules.players (after rules (Build node k) m))) g answer) same
+  by_own_keys keys all m node g answer same is = rw same at is
 
   -- steps in order that each may end the whole
   module _ (step : Game → ℕ → Game) (each : (game : Game) (i : ℕ) → machine.IsLed rules game (step game i))
       (game : Game) (g : Contents W) where
     pub begins : Represents state rules g game → Represents state rules g (in_order step 0 game)
-    begins r = subst (λ (m : Game). Represents state rules g m) (sym (no_step step game)) r
+    begins r = rw (no_step step game) r
 
     module _ {A : Type 0} (count : ℕ) (answer : Result A Refusal)
         (one : IsCarriedOut state rules (in_order step count game) (step (in_order step count game) count) g
         answer) where
       pub goes_on : (done : A) → answer ≡ Ok done → Represents state rules g (in_order step (count + 1) game)
-      goes_on done is = subst (λ (m : Game). Represents state rules g m) (sym (step_more step count game))
-          (carried _ _ g answer done is one)
+      goes_on done is = rw (step_more step count game) (carried _ _ g answer done is one)
 
       pub ends : {B : Type 0} (first good : Game) (whole : Result B Refusal) (refusal : Refusal)
           → answer ≡ Err refusal → whole ≡ Err refusal
@@ -118,7 +111,7 @@ module _ {W S : Type 0} (state : W → S) (rules : Rules S) where
     -- all of them are there
     pub all_steps : (count all : ℕ) → count ≡ all → Represents state rules g (in_order step count game)
         → Represents state rules g (in_order step all game)
-    all_steps count all same r = subst (λ (k : ℕ). Represents state rules g (in_order step k game)) same r
+    all_steps count all same r = rw same at r
 
   pub has_round : (keys : ℕ → ℕ) (m : Game) (g : Contents W)
       → Represents state rules g (in_order (turn rules keys) rules.players m)

@@ -1,5 +1,5 @@
 -- A packet comes to its receiver.
-use Rattle.std.proofs.Common.{◌≡◌, ◌≢◌, ◌<◌, ℕ, Bool, true, None, List, length, set, Some, Option, refl, ap, sym, ◌∙◌, subst, arith}
+use Rattle.std.proofs.Common.{◌≡◌, ◌≢◌, ◌<◌, ℕ, Bool, true, None, List, length, set, Some, refl, ap, sym, ◌∙◌, subst, arith}
 use Rattle.std.specs.Prelude.{slice_get, slice_index_or}
 use Rattle.dn_packet.specs.Text.{text}
 use Rattle.dn_world.specs.Physics.{Physics}
@@ -36,14 +36,12 @@ delivers_to : {W S : Type 0} (state : W → S) (rules : Rules S) (g : Contents W
     → IsAfter state rules (record g { nodes = set g.nodes to n })
     (delivered rules m (slice_get m.flights which)) (Done.Heard heard)
 delivers_to {W} {S} state rules g m which flight to n heard r there is below after =
-    let P : Option exact.Flight → Type 0 = λ x. IsAfter state rules (record g { nodes = set g.nodes to n })
-    (delivered rules m x) (Done.Heard heard) in
-    let Q : ℕ → Type 0 = λ k. IsAfter state rules (record g { nodes = set g.nodes to n }) (
+    let P : ℕ → Type 0 = λ k. IsAfter state rules (record g { nodes = set g.nodes to n }) (
       machine.with_node m k (on_packet rules k (m.nodes k) flight).0,
       Done.Heard (on_packet rules k (m.nodes k) flight).1,
     ) (Done.Heard heard) in
-    subst P (sym there)
-    (subst Q is
+    rw there
+    (subst P is
     (record {
       game = places state rules g m to n _ r below after.node;
       answered = ap Done.Heard after.answer;
