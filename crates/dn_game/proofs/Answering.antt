@@ -1,5 +1,5 @@
 -- One event more in a list that was played.
-use Rattle.std.proofs.Common.{◌≡◌, ◌+◌, ℕ, Bool, cond, List, [], ◌∷◌, ◌++◌, Option, Some, None, Result, Err, refl, ap, sym, ◌∙◌, inl, inr, arith}
+use Rattle.std.proofs.Common.{◌≡◌, ◌+◌, ℕ, Bool, cond, List, [], ◌∷◌, ◌++◌, Option, Some, None, Result, Err, refl, inl, inr, arith}
 use Rattle.std.specs.Prelude.{IsTrue, count_by, is_ok, is_err}
 use Rattle.std.proofs.lemmas.List.Sums.{sum_by-append}
 use Rattle.dn_setup.specs.Settings.{Settings}
@@ -16,7 +16,6 @@ use Rattle.dn_game.specs.Contents.{Contents, contents}
 use Rattle.dn_game.specs.Played.{Answers, Plays, IsPlayed}
 use Rattle.dn_game.specs.Promised.{IsCarriedOn}
 use Rattle.dn_game.specs.Represents.{Represents}
-use Rattle.dn_game.proofs.Applying.{applied_so}
 use Rattle.dn_game.specs.declared.played.Played.{Played}
 
 -- what is counted by a test, with one more
@@ -24,6 +23,11 @@ pub counts_more : {A : Type 0} (p : A → Bool) (xs : List A) (x : A) (old new :
     → new ≡ old + count_by p (x ∷ []) → new ≡ count_by p (xs ++ x ∷ [])
 counts_more p xs x old new before more =
     omega (arith, before, more, sum_by-append (λ a. cond (p a) 1 0) xs (x ∷ []))
+
+-- how a send that is left out is answered
+abbrev answer_of : Option Refusal → Result Done Refusal
+answer_of None = Err Refusal.Memory
+answer_of (Some refusal) = Err refusal
 
 module _ {S : Type 0} (rules : Rules S) where
   pub plays_more : (events : List Event) (answers : List (Result Done Refusal)) (event : Event)
@@ -50,19 +54,8 @@ module _ {S : Type 0} (rules : Rules S) where
   -- a send that is left out has its answer
   left_out : (event : Event) (game next : Game) → IsTrue (is_send event) → next ≡ game
       → (answer : Result Done Refusal) × Answers rules game event answer next
-  left_out event game next send same = go (refused rules.players game event) refl
-    where
-      go : (o : Option Refusal) → o ≡ refused rules.players game event
-          → (answer : Result Done Refusal) × Answers rules game event answer next
-      go None free = (Err Refusal.Memory, inr (sym free, send, same, refl))
-      go (Some refusal) is =
-          let so = applied_so rules game event (Some refusal) is in (
-            Err refusal,
-            inl (
-              same ∙ ap (λ (x : Game × Result Done Refusal). x.0) (sym so),
-              ap (λ (x : Game × Result Done Refusal). x.1) (sym so),
-            ),
-          )
+  unfolding applied
+  left_out event game next send same = (answer_of (refused rules.players game event), grind arith)
 
   -- so each run has its answers
   pub leads_plays : (events : List Event) (game last : Game)

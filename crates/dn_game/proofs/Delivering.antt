@@ -78,9 +78,7 @@ delivers state physics players extra capacity g m r which entry below told free 
     let comes : entry.from ≡ flight.from = of.from in
     let inside : to < length g.nodes = let a = at.1.carried.to in omega (arith, a, goes, r.players) in
     let shown = node_at state rules g m r to old inside is_old in
-    let same : count_of (node.contents old).rings (node.contents old).me
-    ≡ count_of (node.contents old).rings (node.contents old).me = refl in
-    let count = made_at state rules g m r to _ old inside is_old same
+    let count = made_at state rules g m r to _ old inside is_old refl
     ∙ ap (λ (k : ℕ). made k (m.nodes k)) goes in
     delivers_to state rules g m which flight to new heard r at.1.there goes inside
     (hears flight at.1.carried.fair (is_bytes (flight_of flight) at.1.sent) (sym comes)

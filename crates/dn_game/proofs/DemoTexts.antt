@@ -84,9 +84,7 @@ module _ (players : ℕ) (few : players ≤ 4) where
     text_size : length text ≡ 13 + length (commands_of long_tics rows ++ tail)
     unfolding demo_text
     text_size =
-        let head : length (header long_tics start view (seats_of players)) ≡ 13 = refl in
         length-append (header long_tics start view (seats_of players)) (commands_of long_tics rows ++ tail)
-        ∙ ap (λ (n : ℕ). n + length (commands_of long_tics rows ++ tail)) head
 
     tail_short : length tail ≤ 1
     tail_short = grind arith
@@ -108,9 +106,7 @@ module _ (players : ℕ) (few : players ≤ 4) where
     recorded_in_text =
         let count : 5 * commands_in long_tics text ≡ length (commands_of long_tics rows) =
         ap (λ (n : ℕ). 5 * n) commands_of_text ∙ sym (rows_size rows full) in
-        ap (λ (t : List ℕ). take (5 * commands_in long_tics text) t) behind_header
-        ∙ ap (λ (n : ℕ). take n (commands_of long_tics rows ++ tail)) count
-        ∙ take-append_seam (commands_of long_tics rows) tail
+        rw (count, behind_header) (take-append_seam (commands_of long_tics rows) tail)
 
     -- and that of a player in a tic
     pub command_in_text : (tic player : ℕ) (m : Move) → tic < length rows

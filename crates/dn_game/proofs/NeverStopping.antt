@@ -25,9 +25,9 @@ stops _ = false
 event_moves : (players : ℕ) (game : Game) (a c node : ℕ) → stops (event_of players game a c node) ≡ false
 event_moves players game a c node = grind arith
 
-given_moves : (players : ℕ) (game : Game) (a c : ℕ) (node : Option ℕ) (event : Event)
-    → option_map (event_of players game a c) node ≡ Some event → stops event ≡ false
-given_moves players game a c node event e = grind (arith, event_moves)
+given_moves : (players : ℕ) (game : Game) (a c : ℕ) (found : Option ℕ) (event : Event)
+    → option_map (event_of players game a c) found ≡ Some event → stops event ≡ false
+given_moves players game a c found event e = grind (arith, event_moves)
 
 module _ {S : Type 0} (rules : Rules S) where
   answered : (game next : Game) (event : Event) (answer : Result Done Refusal) → stops event ≡ false

@@ -4,7 +4,7 @@ use Rattle.std.specs.Prelude.{All, slice_get}
 use Rattle.std.proofs.Math.Seq.{drop-append_seam, take-length}
 use Rattle.std.proofs.lemmas.Grind.{flat_map-append}
 use Rattle.std.proofs.lemmas.List.{drop-append-le, take-append-le, append-nil, map_push}
-use Rattle.std.proofs.lemmas.List.Elements.{All-cons, All-nil, All-head, All-tail, All-push}
+use Rattle.std.proofs.lemmas.List.Elements.{All-head, All-tail, All-push}
 use Rattle.arrayvec.specs.ArrayVec.{ArrayVec}
 use Rattle.dn_lockstep.specs.declared.lockstep.aiming.Aim.{Aim}
 use Rattle.dn_game.specs.declared.flight.Flight.{Flight}
@@ -34,13 +34,9 @@ module _ (bytes more : List ℕ) where
       λ i. first i ∷ rest i
 
   pieces_stay : (records : List Record) → All (IsPiece bytes) records → All (IsPiece (bytes ++ more)) records
-  pieces_stay [] all = All-nil (IsPiece (bytes ++ more))
-  pieces_stay (entry ∷ records) all =
-      let piece = All-head (IsPiece bytes) entry records all in
-      let inside = piece.inside in
-      let long = length-append bytes more in
-      All-cons (IsPiece (bytes ++ more)) entry records (record { inside = omega arith; short = piece.short })
-      (pieces_stay records (All-tail (IsPiece bytes) entry records all))
+  pieces_stay records all = λ i d within.
+      let piece = all i d within in
+      record { inside = omega (arith, piece.inside, length-append bytes more); short = piece.short }
 
 -- the record of a packet whose datagram is appended
 abbrev pub newest : List ℕ → ℕ → ℕ → Aim → ArrayVec ℕ → Record

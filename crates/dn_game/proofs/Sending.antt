@@ -71,21 +71,14 @@ module _ {W S : Type 0} (state : W → S) (rules : Rules S) (g : Contents W) (m 
   asked : sent_to to rules me (m.nodes me) ≡ on_send rules me (m.nodes me) to
   asked = cond-true (nat_lt to rules.players) _ _ (lt-ltb to rules.players (omega (arith, there, r.players)))
 
-  sends_if : (done : Done)
-      → IsAfter state rules (record g { nodes = set g.nodes me new; flights = flights })
-      (posted (with_node m me (sent_to to rules me (m.nodes me)).0) (sent_to to rules me (m.nodes me)).1) done
-      → IsAfter state rules (record g { nodes = set g.nodes me new; flights = flights })
-      (on_event rules m (Send me to)) done
-  sends_if done is = rw asked at is
-
   pub sends_none : node_to.Represents state rules me (node.contents new) (sent_to to rules me (m.nodes me)).0
       → (sent_to to rules me (m.nodes me)).1 ≡ None → flights ≡ g.flights
       → IsAfter state rules (record g { nodes = set g.nodes me new; flights = flights })
       (on_event rules m (Send me to)) Done.Silent
   sends_none is none same =
       let sent = sent_to to rules me (m.nodes me) in
-      sends_if Done.Silent (posts_none state rules (record g { nodes = set g.nodes me new })
-      (with_node m me sent.0)
+      rw asked
+      at (posts_none state rules (record g { nodes = set g.nodes me new }) (with_node m me sent.0)
       (places state rules g m me new sent.0 r below is) sent.1 flights none same)
 
   -- the packet has the numbers that were aimed at
@@ -114,8 +107,8 @@ module _ {W S : Type 0} (state : W → S) (rules : Rules S) (g : Contents W) (m 
         aim = numbers k;
         bytes = record { items = some.2 k };
       } in
-      sends_if (Done.Sent which)
-      (posts_some state rules (record g { nodes = set g.nodes me new }) (with_node m me sent.0)
+      rw asked
+      at (posts_some state rules (record g { nodes = set g.nodes me new }) (with_node m me sent.0)
       (places state rules g m me new sent.0 r below after.node) sent.1 flights flight some.1 _ is carried more
       which last)
 
