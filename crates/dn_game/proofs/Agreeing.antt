@@ -23,7 +23,7 @@ use Rattle.dn_machine.proofs.Games.{always}
 use Rattle.dn_machine.proofs.Promises
 use Rattle.dn_machine.specs.Promise.{Agree, Fits, Steady, keys_of, end_or}
 use Rattle.dn_machine.specs.Running.{tic_limit}
-use Rattle.std.proofs.lemmas.Bool.{eq-eqb}
+use Rattle.std.proofs.lemmas.Bool.{eq-eqb, cond-true, cases_Bool, true_from_ne_false}
 use Rattle.dn_node.specs.Contents as node
 use Rattle.dn_node.specs.Contents.{end_in}
 use Rattle.dn_node.specs.Represents as node_to
@@ -46,257 +46,209 @@ use Rattle.dn_game.specs.KeysMade.{keys_made}
 use Rattle.dn_game.specs.Played.{Plays}
 use Rattle.dn_game.specs.Represents.{Represents}
 
--- one node
-module _ {W S : Type 0} (state : W → S) (rules : Rules S) (settings : Settings) (me : ℕ) (n : node.Contents W)
-    (m : machine.Node)
-    (r : node_to.Represents state rules me n m) where
-  pub unplayed : m.played ≡ false → n.demo.bytes ≡ []
-  unplayed not = r.lockstep.demo.bytes ∙ ap (λ (b : Bool). if b then demo_with rules me m m.settings else [])
-      not
-
-  pub started : HasStarted n → m.played ≡ true
-  started has = go m.played refl
-    where
-      go : (b : Bool) → m.played ≡ b → b ≡ true
-      go true e = refl
-      go false e = absurd (has (unplayed e))
-
-  played_bytes : m.played ≡ true → m.settings ≡ Some settings
-      → n.demo.bytes ≡ demo_text long_tics (start_of settings) me (seats_of rules.players) (demo_rows rules m)
-      (is_demo_closed rules m)
-  played_bytes played known =
-      r.lockstep.demo.bytes ∙ ap (λ (b : Bool). if b then demo_with rules me m m.settings else []) played
-      ∙ ap (demo_with rules me m) known
-
-  starts : m.played ≡ true → m.settings ≡ Some settings → HasStarted n
-  unfolding demo_text
-  starts played known none =
-      let text : demo_text long_tics (start_of settings) me (seats_of rules.players) (demo_rows rules m)
-      (is_demo_closed rules m) ≡ [] = sym (played_bytes played known) ∙ none in
-      absurd (cc)
-
-  world_is : m.played ≡ true → m.settings ≡ Some settings
-      → state n.world ≡ world_after rules settings m.rows (machine.ran m)
-  world_is played known =
-      same_Some _ _
-      (r.world played ∙ ap (option_map (λ (s : Settings). world_after rules s m.rows (machine.ran m)))
-      known)
-
--- all nodes
+-- a game that represents one of the machine
 module _ {W S : Type 0} (state : W → S) (rules : Rules S) (settings : Settings) (g : Contents W)
     (m : game.Game)
     (r : Represents state rules g m) where
-  pub inside : (i : ℕ) (n : node.Contents W) → HasNode g i n → i < rules.players
-  inside i n (one, there, is) = let within = slice_get_within g.nodes i one there in
-      omega (arith, within, r.players)
+  -- one node
+  module _ (i : ℕ) (n : node.Contents W) (at : HasNode g i n) where
+    pub inside : i < rules.players
+    inside = omega (arith, slice_get_within g.nodes i at.0 at.1, r.players)
 
-  shown : (i : ℕ) (n : node.Contents W) → HasNode g i n → node_to.Represents state rules i n (m.nodes i)
-  shown i n (one, there, is) =
-      let P : node.Contents W → Type 0 = λ x. node_to.Represents state rules i x (m.nodes i) in
-      subst P (sym is) (r.nodes i one there)
+    shown : node_to.Represents state rules i n (m.nodes i)
+    shown = rw at.2 (r.nodes i at.0 at.1)
 
-  has : (i player : ℕ) (n : node.Contents W) → HasNode g i n → player < rules.players
-      → got n player ≡ machine.got (m.nodes i) player
-  has i player n at below =
-      let s = shown i n at in
-      counting.got_is rules i (node.locked n) (m.nodes i) s.lockstep player
-      (omega (arith, below, s.lockstep.whose.players))
+    ran : n.ran ≡ machine.ran (m.nodes i)
+    ran = shown.lockstep.table.ran
 
-  makes : (i : ℕ) (n : node.Contents W) → HasNode g i n → made n ≡ machine.made i (m.nodes i)
-  makes i n at = let s = shown i n at in ap (got n) s.lockstep.whose.number ∙ has i i n at (inside i n at)
+    has : (player : ℕ) → player < rules.players → got n player ≡ machine.got (m.nodes i) player
+    has player below =
+        counting.got_is rules i (node.locked n) (m.nodes i) shown.lockstep player
+        (omega (arith, below, shown.lockstep.whose.players))
 
-  plays : (i : ℕ) (n : node.Contents W) → HasNode g i n → n.phase ≡ Playing → n.played ≡ true
-  plays i n (one, there, is) phase =
-      let P : node.Contents W → Type 0 = λ x. x.phase ≡ Playing → x.played ≡ true in
-      subst P (sym is) one.lockstep.plays phase
+    makes : made n ≡ machine.made i (m.nodes i)
+    makes = ap (got n) shown.lockstep.whose.number ∙ has i inside
 
-  most_run : (i : ℕ) (n : node.Contents W) → HasNode g i n → n.ran ≤ tic_limit
-  most_run i n (one, there, is) =
-      let P : node.Contents W → Type 0 = λ x. x.ran ≤ tic_limit in
-      subst P (sym is) one.lockstep.ran_fits
+    plays : n.phase ≡ Playing → n.played ≡ true
+    plays = rw at.2 at.0.lockstep.plays
 
-  -- who has not ended
-  playing_on : (i : ℕ) (n : node.Contents W) → HasNode g i n → is_ended n.phase ≡ false
-      → is_ended (m.nodes i).phase ≡ false
-  playing_on i n at on = ap is_ended (sym (shown i n at).lockstep.stands.phase) ∙ on
+    most_run : n.ran ≤ tic_limit
+    most_run = rw at.2 at.0.lockstep.ran_fits
 
-  -- a player's end as a node knows it
-  pub end_is : (i player : ℕ) (n : node.Contents W) → HasNode g i n → player < rules.players
-      → end_in n player ≡ known_end i (m.nodes i) player
-  end_is i player n at below =
-      let s = shown i n at in
-      let made_is = makes i n at in
-      let peer = s.lockstep.peers.known player below in
-      λ k. if player == s.lockstep.whose.number k
-      then (if s.lockstep.stands.played k && is_ended (s.lockstep.stands.phase k) then Some (made_is k)
-      else None) else (peer k).end
+    -- who has not ended
+    playing_on : is_ended n.phase ≡ false → is_ended (m.nodes i).phase ≡ false
+    playing_on on = ap is_ended (sym shown.lockstep.stands.phase) ∙ on
 
-  -- and as the player's own node does
-  own : (j : ℕ) (left : Bool) → has_left (m.nodes j) ≡ left
-      → known_end j (m.nodes j) j ≡ (if left then Some (machine.made j (m.nodes j)) else None)
-  own j left e =
-      ap (λ (b : Bool). if b then (if has_left (m.nodes j) then Some (machine.made j (m.nodes j)) else None)
-      else machine.ends_of (m.nodes j) j) (eq-eqb j j refl)
-      ∙ ap (λ (b : Bool). if b then Some (machine.made j (m.nodes j)) else None) e
+    -- a player's end as a node knows it
+    pub end_is : (player : ℕ) → player < rules.players → end_in n player ≡ known_end i (m.nodes i) player
+    end_is player below =
+        let s = shown.lockstep in
+        let made_is = makes in
+        let peer = s.peers.known player below in
+        λ k. if player == s.whose.number k
+        then (if s.stands.played k && is_ended (s.stands.phase k) then Some (made_is k) else None)
+        else (peer k).end
 
-  own_end : (j : ℕ) (k : node.Contents W) → HasNode g j k → has_left (m.nodes j) ≡ true
-      → end_in k j ≡ Some (machine.made j (m.nodes j))
-  own_end j k at left = end_is j j k at (inside j k at) ∙ own j true left
+    -- and as the player's own node does
+    own_end_is : end_in n i ≡ (if has_left (m.nodes i) then Some (machine.made i (m.nodes i)) else None)
+    own_end_is = end_is i inside ∙ cond-true (i == i) _ _ (eq-eqb i i refl)
 
-  end_until : (j : ℕ) (k : node.Contents W) → HasNode g j k → (tic : ℕ)
-      → unwrap_or (end_in k j) tic ≡ end_or m j tic
-  end_until j k at tic = ap (λ (o : Option ℕ). unwrap_or o tic) (end_is j j k at (inside j k at))
-      ∙ go (has_left (m.nodes j)) refl
-    where
-      go : (left : Bool) → has_left (m.nodes j) ≡ left
-          → unwrap_or (known_end j (m.nodes j) j) tic ≡ end_or m j tic
-      go true e = ap (λ (o : Option ℕ). unwrap_or o tic) (own j true e)
-          ∙ sym (ap (λ (b : Bool). if b then machine.made j (m.nodes j) else tic) e)
-      go false e = ap (λ (o : Option ℕ). unwrap_or o tic) (own j false e)
-          ∙ sym (ap (λ (b : Bool). if b then machine.made j (m.nodes j) else tic) e)
+    own_end : has_left (m.nodes i) ≡ true → end_in n i ≡ Some (machine.made i (m.nodes i))
+    own_end left = own_end_is ∙ cond-true (has_left (m.nodes i)) _ _ left
 
-  -- the rows of a started node's demo are those that the keys make
-  rows_are : Agree rules settings m → (i : ℕ) (n : node.Contents W) → HasNode g i n
-      → demo_rows rules (m.nodes i) ≡ rows_made rules settings (keys_of m) n.ran
-  rows_are agree i n at =
-      let s = shown i n at in
-      let all : (m.nodes i).rows ≡ map (row rules settings (keys_of m)) (range_with_len 0 n.ran) =
-      fill_by_all (row rules settings (keys_of m)) (m.nodes i).rows n.ran [] (sym s.lockstep.table.ran)
-      (λ tic early. get_or_from_slice_get (m.nodes i).rows tic _ []
-      (agree.rows i tic (inside i n at) (let e = s.lockstep.table.ran in omega (arith, e, early)))) in
-      ap (take_while (is_whole rules.players)) all
+    end_until : (tic : ℕ) → unwrap_or (end_in n i) tic ≡ end_or m i tic
+    end_until tic = grind (arith, own_end_is)
 
-  -- and its demo is their text
-  text_is : Agree rules settings m → (i : ℕ) (n : node.Contents W) → HasNode g i n → HasStarted n
-      → n.demo.bytes ≡ demo_text long_tics (start_of settings) i (seats_of rules.players)
-      (rows_made rules settings (keys_of m) n.ran) (is_closed rules settings (keys_of m) n)
-  text_is agree i n at has_started =
-      let s = shown i n at in
-      let below = inside i n at in
-      let played = started state rules settings i n (m.nodes i) s has_started in
-      let rows = rows_are agree i n at in
-      let phase = sym s.lockstep.stands.phase in
-      let ran = sym s.lockstep.table.ran in
-      played_bytes state rules settings i n (m.nodes i) s played (agree.settings_same i below played)
-      ∙ (λ k. demo_text long_tics (start_of settings) i (seats_of rules.players) (rows k)
-      (is_ended (phase k) || nat_lt (length (rows k)) (ran k)))
+    unplayed : (m.nodes i).played ≡ false → n.demo.bytes ≡ []
+    unplayed not = shown.lockstep.demo.bytes
+        ∙ ap (λ (b : Bool). if b then demo_with rules i (m.nodes i) (m.nodes i).settings else []) not
 
-  -- which is read back once the node has ended
-  reads_back : Agree rules settings m → (i : ℕ) (n : node.Contents W) → HasNode g i n → HasStarted n
-      → is_ended n.phase ≡ true
-      → IsReadAs n.demo.bytes (Ok (demo_made rules settings (keys_of m) i n.ran))
-  unfolding CanBeWritten
-  reads_back agree i n at has_started over =
-      let s = shown i n at in
-      let Made : List (List (Option Move)) = rows_made rules settings (keys_of m) n.ran in
-      let closed : n.demo.bytes ≡ demo_text long_tics (start_of settings) i (seats_of rules.players) Made
-      true =
-      text_is agree i n at has_started
-      ∙ ap (λ (b : Bool). demo_text long_tics (start_of settings) i (seats_of rules.players) Made
-      (b || nat_lt (length Made) n.ran)) over in
-      let P : List ℕ → Type 0 = λ bytes. IsReadAs bytes (Ok (demo_made rules settings (keys_of m) i n.ran)) in
-      subst P (sym closed)
-      (long_read_back (start_of settings) i (seats_of rules.players) Made
-      (subst (AreWritable (seats_of rules.players)) (rows_are agree i n at) s.lockstep.demo.writable))
+    pub started : HasStarted n → (m.nodes i).played ≡ true
+    started is = true_from_ne_false _ (λ e. is (unplayed e))
 
-  -- and leads to the node's world
-  replays : Agree rules settings m → (i : ℕ) (n : node.Contents W) → HasNode g i n → HasStarted n
-      → n.ran ≡ length (rows_made rules settings (keys_of m) n.ran)
-      → state n.world ≡ state_after rules.physics (demo_made rules settings (keys_of m) i n.ran)
-  replays agree i n at has_started whole =
-      let s = shown i n at in
-      let rows = rows_are agree i n at in
-      let played = started state rules settings i n (m.nodes i) s has_started in
-      world_recorded state rules i n (m.nodes i) settings s played
-      (agree.settings_same i (inside i n at) played)
-      (whole ∙ ap (length {A = List (Option Move)}) (sym rows))
-      ∙ ap (fold rules.physics.step (opening rules settings)) rows
+    -- a node that has played, by these settings
+    module _ (played : (m.nodes i).played ≡ true) (known : (m.nodes i).settings ≡ Some settings) where
+      played_bytes : n.demo.bytes
+          ≡ demo_text long_tics (start_of settings) i (seats_of rules.players) (demo_rows rules (m.nodes i))
+          (is_demo_closed rules (m.nodes i))
+      played_bytes = shown.lockstep.demo.bytes
+          ∙ ap (λ (b : Bool). if b then demo_with rules i (m.nodes i) (m.nodes i).settings else []) played
+          ∙ ap (demo_with rules i (m.nodes i)) known
 
-  demos_agree : Agree rules settings m → DemosAgree rules settings (keys_of m) g
-  demos_agree agree = demos_of rules settings (keys_of m) g (text_is agree) several begun
-    where
-      several : (i : ℕ) (n : node.Contents W) → HasNode g i n
-          → (n.players ≡ rules.players) × (i < rules.players) × (rules.players ≤ 4)
-      several i n (one, there, is) =
-          let s = shown i n (one, there, is) in
-          let P : node.Contents W → Type 0 = λ x. x.players ≤ 4 in
-          let few = subst P (sym is) one.lockstep.few in (
-            s.lockstep.whose.players,
-            inside i n (one, there, is),
-            let same = s.lockstep.whose.players in
-                omega arith,
-          )
+      starts : HasStarted n
+      unfolding demo_text
+      starts none =
+          let text : demo_text long_tics (start_of settings) i (seats_of rules.players)
+          (demo_rows rules (m.nodes i)) (is_demo_closed rules (m.nodes i)) ≡ [] = sym played_bytes ∙ none in
+          absurd (cc)
 
-      begun : (i : ℕ) (n : node.Contents W) → HasNode g i n → HasStarted n ⊎ (n.demo.bytes ≡ [])
-      begun i n at = go (m.nodes i).played refl
-        where
-          go : (b : Bool) → (m.nodes i).played ≡ b → HasStarted n ⊎ (n.demo.bytes ≡ [])
-          go true e =
-              inl (starts state rules settings i n (m.nodes i) (shown i n at) e
-              (agree.settings_same i (inside i n at) e))
-          go false e = inr (unplayed state rules settings i n (m.nodes i) (shown i n at) e)
+      world_is : state n.world ≡ world_after rules settings (m.nodes i).rows (machine.ran (m.nodes i))
+      world_is = same_Some _ _
+          (shown.world played
+          ∙ ap (option_map (λ (s : Settings). world_after rules s (m.nodes i).rows (machine.ran (m.nodes i))))
+          known)
 
-  pub agreed_by : Agree rules settings m → Fits rules m → Steady rules m
-      → ((p : ℕ) → p < rules.players → machine.made p (m.nodes p) ≡ length (keys_of m p))
-      → AreAgreed state rules settings (keys_of m) g
-  agreed_by agree fits steady counted =
-      record {
-        playing = λ i n at phase.
-            let s = shown i n at in
-            let played = sym s.lockstep.stands.played ∙ plays i n at phase in
-            starts state rules settings i n (m.nodes i) s played
-            (agree.settings_same i (inside i n at) played);
-        worlds = λ i n at has_started.
-            let s = shown i n at in
-            let played = started state rules settings i n (m.nodes i) s has_started in
-            let below = inside i n at in
-            world_is state rules settings i n (m.nodes i) s played (agree.settings_same i below played)
-            ∙ agree.worlds i below ∙ ap (world rules settings (keys_of m)) (sym s.lockstep.table.ran);
-        settings_same = λ i n at has_started.
-            let s = shown i n at in
-            s.lockstep.stands.settings ∙ agree.settings_same i (inside i n at)
-            (started state rules settings i n (m.nodes i) s has_started);
-        demos = demos_agree agree;
-        read_back = reads_back agree;
-        replayed = replays agree;
-        counted = λ i n at. makes i n at ∙ counted i (inside i n at);
-        consistent = λ i player was should n at e.
-            steady.consistent i player was should (inside i n at)
-            (sym (shown i n at).lockstep.stands.phase ∙ e);
-        ends = λ i j end n k at to e.
-            let told = agree.ends i j end (inside i n at) (inside j k to)
-            (sym (end_is i j n at (inside j k to)) ∙ e) in
-            (own_end j k to told.0 ∙ ap (λ x. Some x) (sym told.1), told.1 ∙ sym (makes j k to));
-        ends_same = λ i j player a b n k p at to of e f.
-            agree.ends_same i j player a b (inside i n at) (inside j k to) (inside player p of)
-            (sym (end_is i player n at (inside player p of)) ∙ e)
-            (sym (end_is j player k to (inside player p of)) ∙ f);
-        run = λ i j n k at to.
-            let s = (shown i n at).lockstep.table.ran in
-            let h = has i j n at (inside j k to) in
-            let f = fits.run i j (inside i n at) (inside j k to) in
-            let until : unwrap_or (end_in k j) n.ran ≡ end_or m j (machine.ran (m.nodes i)) =
-            end_until j k to n.ran ∙ ap (end_or m j) s in
-            omega (arith, s, h, f, until);
-        unread = λ i player n at below.
-            let s = (shown i n at).lockstep.table.ran in let h = has i player n at below in
-            let f = fits.unread i player (inside i n at) below in omega (arith, s, h, f);
-        held = λ i j n k at to.
-            let h = has i j n at (inside j k to) in let b = makes j k to in
-            let f = fits.held i j (inside i n at) (inside j k to) in omega (arith, h, b, f);
-        unheard = λ i j n k at to on.
-            let h = has i j n at (inside j k to) in let b = makes j k to in
-            let f = fits.unheard i j (inside i n at) (inside j k to) (playing_on i n at on) in
-            omega (arith, h, b, f);
-        ahead = λ i n at.
-            let s = (shown i n at).lockstep.table.ran in let b = makes i n at in
-            let f = fits.ahead i (inside i n at) in omega (arith, s, b, f);
-        close = λ i j n k at to on.
-            let a = makes i n at in let b = makes j k to in
-            let f = fits.close i j (inside i n at) (inside j k to) (playing_on j k to on) in
-            omega (arith, a, b, f);
-        most = λ i n at. most_run i n at;
-      }
+  -- a game whose nodes agree
+  module _ (agree : Agree rules settings m) where
+    module _ (i : ℕ) (n : node.Contents W) (at : HasNode g i n) where
+      -- the rows of a started node's demo are those that the keys make
+      rows_are : demo_rows rules (m.nodes i) ≡ rows_made rules settings (keys_of m) n.ran
+      rows_are =
+          let count = ran i n at in
+          let all : (m.nodes i).rows ≡ map (row rules settings (keys_of m)) (range_with_len 0 n.ran) =
+          fill_by_all (row rules settings (keys_of m)) (m.nodes i).rows n.ran [] (sym count)
+          (λ tic early. get_or_from_slice_get (m.nodes i).rows tic _ []
+          (agree.rows i tic (inside i n at) (omega (arith, count, early)))) in
+          ap (take_while (is_whole rules.players)) all
+
+      settings_are : (m.nodes i).played ≡ true → (m.nodes i).settings ≡ Some settings
+      settings_are = agree.settings_same i (inside i n at)
+
+      module _ (begun : HasStarted n) where
+        played : (m.nodes i).played ≡ true
+        played = started i n at begun
+
+        -- and its demo is their text
+        text_is : n.demo.bytes ≡ demo_text long_tics (start_of settings) i (seats_of rules.players)
+            (rows_made rules settings (keys_of m) n.ran) (is_closed rules settings (keys_of m) n)
+        text_is =
+            let rows = rows_are in
+            let phase = sym (shown i n at).lockstep.stands.phase in
+            let count = sym (ran i n at) in
+            played_bytes i n at played (settings_are played)
+            ∙ (λ k. demo_text long_tics (start_of settings) i (seats_of rules.players) (rows k)
+            (is_ended (phase k) || nat_lt (length (rows k)) (count k)))
+
+        -- which is read back once the node has ended
+        reads_back : is_ended n.phase ≡ true
+            → IsReadAs n.demo.bytes (Ok (demo_made rules settings (keys_of m) i n.ran))
+        unfolding CanBeWritten
+        reads_back over =
+            let Made : List (List (Option Move)) = rows_made rules settings (keys_of m) n.ran in
+            let closed : n.demo.bytes
+            ≡ demo_text long_tics (start_of settings) i (seats_of rules.players) Made true =
+            text_is
+            ∙ ap (λ (b : Bool). demo_text long_tics (start_of settings) i (seats_of rules.players) Made
+            (b || nat_lt (length Made) n.ran)) over in
+            rw closed
+            (long_read_back (start_of settings) i (seats_of rules.players) Made
+            (subst (AreWritable (seats_of rules.players)) rows_are (shown i n at).lockstep.demo.writable))
+
+        -- and leads to the node's world
+        replays : n.ran ≡ length (rows_made rules settings (keys_of m) n.ran)
+            → state n.world ≡ state_after rules.physics (demo_made rules settings (keys_of m) i n.ran)
+        replays whole =
+            world_recorded state rules i n (m.nodes i) settings (shown i n at) played (settings_are played)
+            (whole ∙ ap (length {A = List (Option Move)}) (sym rows_are))
+            ∙ ap (fold rules.physics.step (opening rules settings)) rows_are
+
+    demos_agree : DemosAgree rules settings (keys_of m) g
+    demos_agree = demos_of rules settings (keys_of m) g text_is several begun
+      where
+        several : (i : ℕ) (n : node.Contents W) → HasNode g i n
+            → (n.players ≡ rules.players) × (i < rules.players) × (rules.players ≤ 4)
+        several i n at =
+            let few : n.players ≤ 4 = rw at.2 at.0.lockstep.few in
+            let same = (shown i n at).lockstep.whose.players in
+            (same, inside i n at, omega arith)
+
+        begun : (i : ℕ) (n : node.Contents W) → HasNode g i n → HasStarted n ⊎ (n.demo.bytes ≡ [])
+        begun i n at = elim (cases_Bool (m.nodes i).played) [
+          | inl is ↦ inl (starts i n at is (settings_are i n at is))
+          | inr not ↦ inr (unplayed i n at not)
+        ]
+
+    pub agreed_by : Fits rules m → Steady rules m
+        → ((p : ℕ) → p < rules.players → machine.made p (m.nodes p) ≡ length (keys_of m p))
+        → AreAgreed state rules settings (keys_of m) g
+    agreed_by fits steady counted =
+        record {
+          playing = λ i n at phase.
+              let is = sym (shown i n at).lockstep.stands.played ∙ plays i n at phase in
+              starts i n at is (settings_are i n at is);
+          worlds = λ i n at begun.
+              let is = played i n at begun in
+              world_is i n at is (settings_are i n at is)
+              ∙ agree.worlds i (inside i n at) ∙ ap (world rules settings (keys_of m)) (sym (ran i n at));
+          settings_same = λ i n at begun.
+              (shown i n at).lockstep.stands.settings ∙ settings_are i n at (played i n at begun);
+          demos = demos_agree;
+          read_back = reads_back;
+          replayed = replays;
+          counted = λ i n at. makes i n at ∙ counted i (inside i n at);
+          consistent = λ i player was should n at e.
+              steady.consistent i player was should (inside i n at)
+              (sym (shown i n at).lockstep.stands.phase ∙ e);
+          ends = λ i j end n k at to e.
+              let told = agree.ends i j end (inside i n at) (inside j k to)
+              (sym (end_is i n at j (inside j k to)) ∙ e) in
+              (own_end j k to told.0 ∙ ap (λ x. Some x) (sym told.1), told.1 ∙ sym (makes j k to));
+          ends_same = λ i j player a b n k p at to of e f.
+              let its = inside player p of in
+              agree.ends_same i j player a b (inside i n at) (inside j k to) its
+              (sym (end_is i n at player its) ∙ e) (sym (end_is j k to player its) ∙ f);
+          run = λ i j n k at to.
+              let s = ran i n at in
+              let h = has i n at j (inside j k to) in
+              let f = fits.run i j (inside i n at) (inside j k to) in
+              let until : unwrap_or (end_in k j) n.ran ≡ end_or m j (machine.ran (m.nodes i)) =
+              end_until j k to n.ran ∙ ap (end_or m j) s in
+              omega (arith, s, h, f, until);
+          unread = λ i player n at below.
+              let f = fits.unread i player (inside i n at) below in
+              omega (arith, ran i n at, has i n at player below, f);
+          held = λ i j n k at to.
+              let f = fits.held i j (inside i n at) (inside j k to) in
+              omega (arith, has i n at j (inside j k to), makes j k to, f);
+          unheard = λ i j n k at to on.
+              let f = fits.unheard i j (inside i n at) (inside j k to) (playing_on i n at on) in
+              omega (arith, has i n at j (inside j k to), makes j k to, f);
+          ahead = λ i n at. omega (arith, ran i n at, makes i n at, fits.ahead i (inside i n at));
+          close = λ i j n k at to on.
+              let f = fits.close i j (inside i n at) (inside j k to) (playing_on j k to on) in
+              omega (arith, makes i n at, makes j k to, f);
+          most = most_run;
+        }
 
 pub agreed : {W S : Type 0} (state : W → S) (rules : Rules S) (settings : Settings) (events : List Event)
     (g : Contents W)
@@ -313,7 +265,6 @@ pub agreed_on_keys : {W S : Type 0} (state : W → S) (rules : Rules S) (setting
     → Plays rules (opening_game settings) events answers last → Represents state rules g last
     → AreAgreed state rules settings (keys_made events answers) g
 agreed_on_keys state rules settings events answers last g plays shows =
-    let P : (ℕ → List ℕ) → Type 0 = λ keys. AreAgreed state rules settings keys g in
     let run = plays_leads rules events answers (opening_game settings) last plays in
-    subst P (keys_played rules settings events answers last plays)
-    (agreed state rules settings events g (record { last = last; run = run; game = shows }))
+    rw (keys_played rules settings events answers last plays)
+    at (agreed state rules settings events g (record { last = last; run = run; game = shows }))

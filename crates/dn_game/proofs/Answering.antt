@@ -1,5 +1,5 @@
 -- One event more in a list that was played.
-use Rattle.std.proofs.Common.{◌≡◌, ◌+◌, ℕ, cond, List, [], ◌∷◌, ◌++◌, Option, Some, None, Result, Err, refl, ap, sym, ◌∙◌, subst, inl, inr}
+use Rattle.std.proofs.Common.{◌≡◌, ◌+◌, ℕ, Bool, cond, List, [], ◌∷◌, ◌++◌, Option, Some, None, Result, Err, refl, inl, inr, arith}
 use Rattle.std.specs.Prelude.{IsTrue, count_by, is_ok, is_err}
 use Rattle.std.proofs.lemmas.List.Sums.{sum_by-append}
 use Rattle.dn_setup.specs.Settings.{Settings}
@@ -16,16 +16,25 @@ use Rattle.dn_game.specs.Contents.{Contents, contents}
 use Rattle.dn_game.specs.Played.{Answers, Plays, IsPlayed}
 use Rattle.dn_game.specs.Promised.{IsCarriedOn}
 use Rattle.dn_game.specs.Represents.{Represents}
-use Rattle.dn_game.proofs.Applying.{applied_so}
 use Rattle.dn_game.specs.declared.played.Played.{Played}
+
+-- what is counted by a test, with one more
+pub counts_more : {A : Type 0} (p : A → Bool) (xs : List A) (x : A) (old new : ℕ) → old ≡ count_by p xs
+    → new ≡ old + count_by p (x ∷ []) → new ≡ count_by p (xs ++ x ∷ [])
+counts_more p xs x old new before more =
+    omega (arith, before, more, sum_by-append (λ a. cond (p a) 1 0) xs (x ∷ []))
+
+-- how a send that is left out is answered
+abbrev answer_of : Option Refusal → Result Done Refusal
+answer_of None = Err Refusal.Memory
+answer_of (Some refusal) = Err refusal
 
 module _ {S : Type 0} (rules : Rules S) where
   pub plays_more : (events : List Event) (answers : List (Result Done Refusal)) (event : Event)
       (answer : Result Done Refusal) (game mid last : Game)
       → Plays rules game events answers mid → Answers rules mid event answer last
       → Plays rules game (events ++ event ∷ []) (answers ++ answer ∷ []) last
-  plays_more [] [] event answer game mid last same next =
-      let P : Game → Type 0 = λ g. Answers rules g event answer last in (last, subst P same next, refl)
+  plays_more [] [] event answer game mid last same next = (last, rw same at next, refl)
   plays_more [] (a ∷ answers) event answer game mid last way next = absurd way
   plays_more (e ∷ events) [] event answer game mid last way next = absurd way
   plays_more (e ∷ events) (a ∷ answers) event answer game mid last way next =
@@ -45,19 +54,8 @@ module _ {S : Type 0} (rules : Rules S) where
   -- a send that is left out has its answer
   left_out : (event : Event) (game next : Game) → IsTrue (is_send event) → next ≡ game
       → (answer : Result Done Refusal) × Answers rules game event answer next
-  left_out event game next send same = go (refused rules.players game event) refl
-    where
-      go : (o : Option Refusal) → o ≡ refused rules.players game event
-          → (answer : Result Done Refusal) × Answers rules game event answer next
-      go None free = (Err Refusal.Memory, inr (sym free, send, same, refl))
-      go (Some refusal) is =
-          let so = applied_so rules game event (Some refusal) is in (
-            Err refusal,
-            inl (
-              same ∙ ap (λ (x : Game × Result Done Refusal). x.0) (sym so),
-              ap (λ (x : Game × Result Done Refusal). x.1) (sym so),
-            ),
-          )
+  unfolding applied
+  left_out event game next send same = (answer_of (refused rules.players game event), grind arith)
 
   -- so each run has its answers
   pub leads_plays : (events : List Event) (game last : Game)
@@ -75,8 +73,7 @@ module _ {S : Type 0} (rules : Rules S) where
   -- an answered event is one of a run
   pub answers_next : (event : Event) (answer : Result Done Refusal) (game next : Game)
       → Answers rules game event answer next → Next rules game event next
-  answers_next event answer game next (inl (same, answered)) = inl same
-  answers_next event answer game next (inr (free, send, same, answered)) = inr (send, same)
+  answers_next event answer game next is = grind arith
 
 -- an event that was applied has its answer
 pub answers_one : {W S : Type 0} (state : W → S) (rules : Rules S) (old new : Contents W) (m : Game)
@@ -86,32 +83,28 @@ pub answers_one : {W S : Type 0} (state : W → S) (rules : Rules S) (old new : 
 answers_one {W} {S} state rules old new m event answer r (inl after) =
     ((applied rules m event).0, inl (refl, after.answered), after.game)
 answers_one {W} {S} state rules old new m event answer r (inr (free, left)) =
-    let P : Contents W → Type 0 = λ g. Represents state rules g m in
-    (m, inr (free, left.send, refl, left.answered), subst P (sym left.same) r)
+    (m, inr (free, left.send, refl, left.answered), rw left.same r)
 
-pub played_more : {W S : Type 0} (state : W → S) (rules : Rules S) (settings : Settings) (events : List Event)
-    (event : Event) (answer : Result Done Refusal) (played next : Played W)
+-- what was played with it, whose lists are seen where it is cited
+abbrev pub played_more : {W S : Type 0} (state : W → S) (rules : Rules S) (settings : Settings)
+    (events : List Event) (event : Event) (answer : Result Done Refusal) (played next : Played W)
     → (r : IsPlayed state rules settings events played)
     → IsApplied state rules (contents played.game) (contents next.game) r.last event answer
     → next.done ≡ played.done + count_by is_ok (answer ∷ [])
     → next.refused ≡ played.refused + count_by is_err (answer ∷ [])
-    → (p : IsPlayed state rules settings (events ++ event ∷ []) next) × (p.answers ≡ r.answers ++ answer ∷ [])
+    → IsPlayed state rules settings (events ++ event ∷ []) next
 played_more state rules settings events event answer played next r is done refused =
     let one = answers_one state rules (contents played.game) (contents next.game) r.last event answer r.game
-    is in (
-      record {
-        last = one.0;
-        answers = r.answers ++ answer ∷ [];
-        plays = plays_more rules events r.answers event answer (opening_game settings) r.last one.0 r.plays
-            one.1;
-        game = one.2;
-        done = done ∙ ap (λ (k : ℕ). k + count_by is_ok (answer ∷ [])) r.done
-            ∙ sym (sum_by-append (λ a. cond (is_ok a) 1 0) r.answers (answer ∷ []));
-        refused = refused ∙ ap (λ (k : ℕ). k + count_by is_err (answer ∷ [])) r.refused
-            ∙ sym (sum_by-append (λ a. cond (is_err a) 1 0) r.answers (answer ∷ []));
-      },
-      refl,
-    )
+    is in
+    record {
+      last = one.0;
+      answers = r.answers ++ answer ∷ [];
+      plays = plays_more rules events r.answers event answer (opening_game settings) r.last one.0 r.plays
+          one.1;
+      game = one.2;
+      done = counts_more is_ok r.answers answer _ _ r.done done;
+      refused = counts_more is_err r.answers answer _ _ r.refused refused;
+    }
 
 -- whatever events led to a game, they and one that was applied lead to the next
 pub carries : {W S : Type 0} (state : W → S) (physics : Physics S) (old new : Contents W) (event : Event)

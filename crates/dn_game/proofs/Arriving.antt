@@ -1,11 +1,11 @@
 -- A packet that is delivered as soon as it is sent, and a round of such packets.
-use Rattle.std.proofs.Common.{◌≡◌, ◌≢◌, ℕ, suc, ◌+◌, true, true≢false, ◌++◌, length, Result, Ok, Err, refl, ap, sym, subst, inl, inr, arith}
+use Rattle.std.proofs.Common.{◌≡◌, ◌≢◌, ℕ, suc, ◌+◌, true, false, true≢false, ◌∙◌, ◌++◌, length, Result, Ok, Err, refl, ap, sym, inl, inr, arith}
 use Rattle.dn_machine.specs.declared.events.Done.{Done}
 use Rattle.dn_machine.specs.declared.events.Event.{Event}
-use Rattle.dn_machine.specs.declared.events.Event.TheVariants.{Build, Send, Deliver, Run}
+use Rattle.dn_machine.specs.declared.events.Event.TheVariants.{Send, Deliver}
 use Rattle.dn_machine.specs.declared.events.Refusal.{Refusal}
 use Rattle.dn_machine.specs.Game.{Game}
-use Rattle.dn_machine.specs.Progress.{after, in_order, is_of_round, exchange, turn, good_round, good_rounds}
+use Rattle.dn_machine.specs.Progress.{after, in_order, is_of_round, exchange, turn}
 use Rattle.dn_machine.specs.Runs.{is_send}
 use Rattle.dn_machine.specs.Worlds.{Rules}
 use Rattle.dn_machine.proofs.Leading as machine
@@ -15,11 +15,7 @@ use Rattle.dn_game.specs.Contents.{Contents}
 use Rattle.dn_game.specs.Represents.{Represents}
 use Rattle.dn_game.specs.Rounds.{IsUnsent, IsLed, IsCarriedOut}
 
--- no step, one step more, and all of them
-no_step : (step : Game → ℕ → Game) (game : Game) → in_order step 0 game ≡ game
-unfolding in_order
-no_step step game = refl
-
+-- one step more
 step_more : (step : Game → ℕ → Game) (count : ℕ) (game : Game)
     → in_order step (count + 1) game ≡ step (in_order step count game) count
 unfolding in_order
@@ -28,11 +24,18 @@ step_more step count game = let more : count + 1 ≡ suc count = omega arith in
 
 module _ {W S : Type 0} (state : W → S) (rules : Rules S) where
   -- an event that is not left out is applied
-  pub after_applied : (old new : Contents W) (m : Game) (event : Event) (answer : Result Done Refusal)
+  after_applied : (old new : Contents W) (m : Game) (event : Event) (answer : Result Done Refusal)
       → (is_send event ≡ true → answer ≢ Err Refusal.Memory) → IsApplied state rules old new m event answer
       → Represents state rules new (after rules event m)
   after_applied old new m event answer sent (inl done) = done.game
   after_applied old new m event answer sent (inr (free, left)) = absurd (sent left.send left.answered)
+
+  -- as is every event but a send
+  pub after_other : (old new : Contents W) (m : Game) (event : Event) (answer : Result Done Refusal)
+      → is_send event ≡ false → IsApplied state rules old new m event answer
+      → Represents state rules new (after rules event m)
+  after_other old new m event answer other =
+      after_applied old new m event answer (λ send. absurd (true≢false (sym send ∙ other)))
 
   pub exchanges : (old mid new : Contents W) (m : Game) (node to which : ℕ) (sent heard : Result Done Refusal)
       → which ≡ length m.flights → sent ≢ Err Refusal.Memory
@@ -43,27 +46,18 @@ module _ {W S : Type 0} (state : W → S) (rules : Rules S) where
   unfolding exchange
   exchanges old mid new m node to which sent heard counted some first then =
       let half = after_applied old mid m (Send node to) sent (λ e. some) first in
-      let whole = after_applied mid new (after rules (Send node to) m) (Deliver which) heard
-      (λ e. absurd (true≢false (sym e))) (then half) in
-      subst (λ (k : ℕ). Represents state rules new (after rules (Deliver k) (after rules (Send node to) m)))
-      counted whole
+      let whole = after_other mid new (after rules (Send node to) m) (Deliver which) heard refl (then half) in
+      rw counted at whole
 
-  -- what is carried out, and what it ends with
-  carried : {A : Type 0} (m good : Game) (g : Contents W) (answer : Result A Refusal) (done : A)
-      → answer ≡ Ok done
-      → IsCarriedOut state rules m good g answer → Represents state rules g good
-  carried m good g answer done is all = subst (λ (r : Result _ Refusal). IsCarriedOut state rules m good g r)
-      is all
-
+  -- what is carried out, by what it ends with
   ended : {A B : Type 0} (first good mid good_mid : Game) (g : Contents W) (answer : Result A Refusal)
       (whole : Result B Refusal) (refusal : Refusal)
       → answer ≡ Err refusal → whole ≡ Err refusal → machine.IsLed rules first mid
       → IsCarriedOut state rules mid good_mid g answer → IsCarriedOut state rules first good g whole
   ended first good mid good_mid g answer whole refusal is same before some =
-      let at : IsUnsent g refusal × IsLed state rules mid g =
-      subst (λ (r : Result _ Refusal). IsCarriedOut state rules mid good_mid g r) is some in
+      let at : IsUnsent g refusal × IsLed state rules mid g = rw is at some in
       let led = at.1 in
-      subst (λ (r : Result _ Refusal). IsCarriedOut state rules first good g r) (sym same) (
+      rw same (
         at.0,
         record {
           events = before.0 ++ led.events;
@@ -74,60 +68,26 @@ module _ {W S : Type 0} (state : W → S) (rules : Rules S) where
         },
       )
 
-  -- a turn, by its exchanges, whatever keys the others press
-  pub has_turn : (before g : Contents W) (keys : ℕ → ℕ) (m : Game) (node : ℕ) (answer : Result Done Refusal)
-      → IsApplied state rules before g
-      (in_order (exchange rules node) rules.players (after rules (Build node (keys node)) m)) (Run node)
-      answer
-      → Represents state rules g (turn rules keys m node)
-  unfolding turn
-  has_turn before g keys m node answer run =
-      after_applied before g _ (Run node) answer (λ e. absurd (true≢false (sym e))) run
-
+  -- a turn, whatever keys the others press
   pub by_own_keys : {A : Type 0} (keys all : ℕ → ℕ) (m : Game) (node : ℕ) (g : Contents W)
       (answer : Result A Refusal) → keys node ≡ all node
       → IsCarriedOut state rules m (turn rules keys m node) g answer
       → IsCarriedOut state rules m (turn rules all m node) g answer
   unfolding turn
-  by_own_keys keys all m node g answer same =
-      subst (λ (k : ℕ). IsCarriedOut state rules m
-      (after rules (Run node)
-      (in_order (exchange rules node) rules.players (after rules (Build node k) m))) g answer) same
+  by_own_keys keys all m node g answer same is = rw same at is
 
   -- steps in order that each may end the whole
   module _ (step : Game → ℕ → Game) (each : (game : Game) (i : ℕ) → machine.IsLed rules game (step game i))
-      (game : Game) (g : Contents W) where
-    pub begins : Represents state rules g game → Represents state rules g (in_order step 0 game)
-    begins r = subst (λ (m : Game). Represents state rules g m) (sym (no_step step game)) r
+      (game : Game) (g : Contents W) {A : Type 0} (count : ℕ) (answer : Result A Refusal)
+      (one : IsCarriedOut state rules (in_order step count game) (step (in_order step count game) count) g
+      answer) where
+    pub goes_on : (done : A) → answer ≡ Ok done → Represents state rules g (in_order step (count + 1) game)
+    goes_on done is = rw (step_more step count game) (rw is at one)
 
-    module _ {A : Type 0} (count : ℕ) (answer : Result A Refusal)
-        (one : IsCarriedOut state rules (in_order step count game) (step (in_order step count game) count) g
-        answer) where
-      pub goes_on : (done : A) → answer ≡ Ok done → Represents state rules g (in_order step (count + 1) game)
-      goes_on done is = subst (λ (m : Game). Represents state rules g m) (sym (step_more step count game))
-          (carried _ _ g answer done is one)
-
-      pub ends : {B : Type 0} (first good : Game) (whole : Result B Refusal) (refusal : Refusal)
-          → answer ≡ Err refusal → whole ≡ Err refusal
-          → machine.IsLed rules first game → IsCarriedOut state rules first good g whole
-      ends first good whole refusal is same before =
-          ended first good (in_order step count game) _ g answer whole refusal is same
-          (led_on rules first game (in_order step count game) before
-          (led_in_order rules step each count game)) one
-
-    -- all of them are there
-    pub all_steps : (count all : ℕ) → count ≡ all → Represents state rules g (in_order step count game)
-        → Represents state rules g (in_order step all game)
-    all_steps count all same r = subst (λ (k : ℕ). Represents state rules g (in_order step k game)) same r
-
-  pub has_round : (keys : ℕ → ℕ) (m : Game) (g : Contents W)
-      → Represents state rules g (in_order (turn rules keys) rules.players m)
-      → Represents state rules g (good_round rules keys m)
-  unfolding good_round
-  has_round keys m g r = r
-
-  pub has_rounds : (keys : ℕ → ℕ → ℕ) (count : ℕ) (m : Game) (g : Contents W)
-      → Represents state rules g (in_order (λ before round. good_round rules (keys round) before) count m)
-      → Represents state rules g (good_rounds rules keys count m)
-  unfolding good_rounds
-  has_rounds keys count m g r = r
+    pub ends : {B : Type 0} (first good : Game) (whole : Result B Refusal) (refusal : Refusal)
+        → answer ≡ Err refusal → whole ≡ Err refusal
+        → machine.IsLed rules first game → IsCarriedOut state rules first good g whole
+    ends first good whole refusal is same before =
+        ended first good (in_order step count game) _ g answer whole refusal is same
+        (led_on rules first game (in_order step count game) before
+        (led_in_order rules step each count game)) one

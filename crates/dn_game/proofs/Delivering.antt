@@ -1,5 +1,5 @@
 -- A packet comes to its receiver.
-use Rattle.std.proofs.Common.{◌≡◌, ◌≢◌, ◌<◌, ℕ, Bool, true, None, List, length, set, Some, Option, refl, ap, sym, ◌∙◌, subst, arith}
+use Rattle.std.proofs.Common.{◌≡◌, ◌≢◌, ◌<◌, ℕ, Bool, true, None, List, length, set, Some, refl, ap, sym, ◌∙◌, subst, arith}
 use Rattle.std.specs.Prelude.{slice_get, slice_index_or}
 use Rattle.dn_packet.specs.Text.{text}
 use Rattle.dn_world.specs.Physics.{Physics}
@@ -36,14 +36,12 @@ delivers_to : {W S : Type 0} (state : W → S) (rules : Rules S) (g : Contents W
     → IsAfter state rules (record g { nodes = set g.nodes to n })
     (delivered rules m (slice_get m.flights which)) (Done.Heard heard)
 delivers_to {W} {S} state rules g m which flight to n heard r there is below after =
-    let P : Option exact.Flight → Type 0 = λ x. IsAfter state rules (record g { nodes = set g.nodes to n })
-    (delivered rules m x) (Done.Heard heard) in
-    let Q : ℕ → Type 0 = λ k. IsAfter state rules (record g { nodes = set g.nodes to n }) (
+    let P : ℕ → Type 0 = λ k. IsAfter state rules (record g { nodes = set g.nodes to n }) (
       machine.with_node m k (on_packet rules k (m.nodes k) flight).0,
       Done.Heard (on_packet rules k (m.nodes k) flight).1,
     ) (Done.Heard heard) in
-    subst P (sym there)
-    (subst Q is
+    rw there
+    (subst P is
     (record {
       game = places state rules g m to n _ r below after.node;
       answered = ap Done.Heard after.answer;
@@ -80,9 +78,7 @@ delivers state physics players extra capacity g m r which entry below told free 
     let comes : entry.from ≡ flight.from = of.from in
     let inside : to < length g.nodes = let a = at.1.carried.to in omega (arith, a, goes, r.players) in
     let shown = node_at state rules g m r to old inside is_old in
-    let same : count_of (node.contents old).rings (node.contents old).me
-    ≡ count_of (node.contents old).rings (node.contents old).me = refl in
-    let count = made_at state rules g m r to _ old inside is_old same
+    let count = made_at state rules g m r to _ old inside is_old refl
     ∙ ap (λ (k : ℕ). made k (m.nodes k)) goes in
     delivers_to state rules g m which flight to new heard r at.1.there goes inside
     (hears flight at.1.carried.fair (is_bytes (flight_of flight) at.1.sent) (sym comes)

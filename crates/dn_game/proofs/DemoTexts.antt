@@ -1,5 +1,5 @@
 -- The commands in the text of a demo whose rows lack nobody.
-use Rattle.std.proofs.Common.{◌≡◌, ◌<◌, ◌≤◌, ℕ, zero, suc, ◌+◌, ◌*◌, ◌/◌, Bool, true, false, true≢false, List, [], ◌∷◌, ◌++◌, length, map, take, drop, get_or, Option, Some, None, is_some, refl, ap, sym, ◌∙◌, arith, length-append, append_assoc}
+use Rattle.std.proofs.Common.{◌≡◌, ◌<◌, ◌≤◌, ℕ, zero, suc, ◌+◌, ◌*◌, ◌/◌, Bool, true, true≢false, List, [], ◌∷◌, ◌++◌, length, map, take, drop, get_or, Option, Some, None, is_some, refl, ap, sym, ◌∙◌, arith, length-append, append_assoc}
 use Rattle.std.specs.Prelude.{if◌then◌else◌, slice_get}
 use Rattle.std.proofs.lemmas.List.{drop-drop}
 use Rattle.std.proofs.Math.Nat.{mul-div_cancel_left}
@@ -33,13 +33,10 @@ command_at (step ∷ row) zero m rest before e =
     ∙ take-append_seam (spell long_tics m) (bytes ++ rest)
 command_at (None ∷ row) (suc player) m rest before e = absurd (true≢false (sym (before 0 (omega arith))))
 command_at (Some x ∷ row) (suc player) m rest before e =
-    let bytes = row_bytes long_tics row in
     let size = length-spell long_tics x long_tics_sound in
     let on : 5 * suc player ≡ length (spell long_tics x) + 5 * player = omega arith in
-    ap (λ (t : List ℕ). take 5 (drop (5 * suc player) t)) (append_assoc (spell long_tics x) bytes rest)
-    ∙ ap (λ (n : ℕ). take 5 (drop n (spell long_tics x ++ (bytes ++ rest)))) on
-    ∙ ap (take 5) (drop-append-add (spell long_tics x) (bytes ++ rest) (5 * player))
-    ∙ command_at row player m rest (λ i l. before (suc i) (omega arith)) e
+    rw (append_assoc, on, drop-append-add)
+    (command_at row player m rest (λ i l. before (suc i) (omega arith)) e)
 
 module _ (players : ℕ) (few : players ≤ 4) where
   row_size : (row : List (Option Move)) → map is_some row ≡ seats_of players
@@ -63,23 +60,14 @@ module _ (players : ℕ) (few : players ≤ 4) where
       ≡ drop (5 * k) (row_bytes long_tics (get_or rows tic []) ++ rest))
   behind_rows [] tic k tail full l = absurd (omega arith)
   behind_rows (row ∷ rows) zero k tail full l =
-      let none : 5 * (players * zero + k) ≡ 5 * k = omega arith in (
-        commands_of long_tics rows ++ tail,
-        ap (λ (n : ℕ). drop n ((row_bytes long_tics row ++ commands_of long_tics rows) ++ tail)) none
-            ∙ ap (drop (5 * k)) (append_assoc (row_bytes long_tics row) (commands_of long_tics rows) tail),
-      )
+      let none : 5 * (players * zero + k) ≡ 5 * k = omega arith in
+      (commands_of long_tics rows ++ tail, rw (append_assoc, none))
   behind_rows (row ∷ rows) (suc tic) k tail full l =
       let next = behind_rows rows tic k tail (λ i m. full (suc i) (omega arith)) (omega arith) in
       let one = row_size row (full 0 (omega arith)) in
       let on : 5 * (players * suc tic + k) ≡ length (row_bytes long_tics row) + 5 * (players * tic + k) =
-      omega arith in (
-        next.0,
-        ap (drop (5 * (players * suc tic + k)))
-            (append_assoc (row_bytes long_tics row) (commands_of long_tics rows) tail)
-            ∙ ap (λ (n : ℕ). drop n (row_bytes long_tics row ++ (commands_of long_tics rows ++ tail))) on
-            ∙ drop-append-add (row_bytes long_tics row) (commands_of long_tics rows ++ tail)
-            (5 * (players * tic + k)) ∙ next.1,
-      )
+      omega arith in
+      (next.0, rw (append_assoc, on, drop-append-add) next.1)
 
   module _ (start : Start) (view : ℕ) (rows : List (List (Option Move))) (closed : Bool)
       (full : AreFull players rows) where
@@ -96,16 +84,10 @@ module _ (players : ℕ) (few : players ≤ 4) where
     text_size : length text ≡ 13 + length (commands_of long_tics rows ++ tail)
     unfolding demo_text
     text_size =
-        let head : length (header long_tics start view (seats_of players)) ≡ 13 = refl in
         length-append (header long_tics start view (seats_of players)) (commands_of long_tics rows ++ tail)
-        ∙ ap (λ (n : ℕ). n + length (commands_of long_tics rows ++ tail)) head
 
     tail_short : length tail ≤ 1
-    tail_short = go closed
-      where
-        go : (b : Bool) → length (if b then marker ∷ [] else []) ≤ 1
-        go true = omega arith
-        go false = omega arith
+    tail_short = grind arith
 
     -- how many commands there are
     pub commands_of_text : commands_in long_tics text ≡ players * length rows
@@ -124,9 +106,7 @@ module _ (players : ℕ) (few : players ≤ 4) where
     recorded_in_text =
         let count : 5 * commands_in long_tics text ≡ length (commands_of long_tics rows) =
         ap (λ (n : ℕ). 5 * n) commands_of_text ∙ sym (rows_size rows full) in
-        ap (λ (t : List ℕ). take (5 * commands_in long_tics text) t) behind_header
-        ∙ ap (λ (n : ℕ). take n (commands_of long_tics rows ++ tail)) count
-        ∙ take-append_seam (commands_of long_tics rows) tail
+        rw (count, behind_header) (take-append_seam (commands_of long_tics rows) tail)
 
     -- and that of a player in a tic
     pub command_in_text : (tic player : ℕ) (m : Move) → tic < length rows

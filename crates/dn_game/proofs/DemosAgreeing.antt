@@ -1,5 +1,5 @@
 -- Demos that are the texts of the rows which one list of key states makes agree.
-use Rattle.std.proofs.Common.{◌≡◌, ◌<◌, ◌≤◌, ◌⊎◌, ℕ, ◌+◌, ◌*◌, ◌/◌, List, [], ◌++◌, length, map, take, drop, Option, ap, sym, ◌∙◌, subst, inl, inr, arith}
+use Rattle.std.proofs.Common.{◌≡◌, ◌<◌, ◌≤◌, ◌⊎◌, ℕ, ◌+◌, ◌*◌, ◌/◌, List, [], ◌++◌, length, map, take, drop, Option, ap, sym, ◌∙◌, inl, inr, arith}
 use Rattle.std.specs.Prelude.{slice_get}
 use Rattle.std.specs.List.{range_with_len}
 use Rattle.std.proofs.lemmas.Bool.{cases_lt}
@@ -36,10 +36,7 @@ commands_prefix rows more (rest, whole) = (
 
 -- lists that are equal to two of which one is a prefix of the other
 prefix_same : (xs ys one other : List ℕ) → xs ≡ one → ys ≡ other → IsPrefixOf one other → IsPrefixOf xs ys
-prefix_same xs ys one other e f is =
-    let P : List ℕ → Type 0 = λ z. IsPrefixOf z ys in
-    let Q : List ℕ → Type 0 = λ z. IsPrefixOf one z in
-    subst P (sym e) (subst Q (sym f) is)
+prefix_same xs ys one other e f is = rw (e, f) is
 
 module _ {W S : Type 0} (rules : Rules S) (settings : Settings) (keys : ℕ → List ℕ) (g : Contents W)
     (texts : (i : ℕ) (n : node.Contents W) → HasNode g i n → HasStarted n
@@ -65,18 +62,14 @@ module _ {W S : Type 0} (rules : Rules S) (settings : Settings) (keys : ℕ → 
   tics_are i n at started =
       let s = several i n at in
       (λ k. commands_in long_tics (texts i n at started k) / s.0 k)
-      ∙ tics_of_text rules.players s.2 (start_of settings) i (rows_made rules settings keys n.ran)
-      (is_closed rules settings keys n)
-      (rows_full rules settings keys n.ran) (let low = s.1 in omega arith)
+      ∙ tics_of_text rules.players s.2 _ _ _ _ (rows_full rules settings keys n.ran) (omega (arith, s.1))
 
   recorded_are : (i : ℕ) (n : node.Contents W) → HasNode g i n → HasStarted n
       → recorded n ≡ commands_of long_tics (rows_made rules settings keys n.ran)
   recorded_are i n at started =
       ap (λ (bytes : List ℕ). take (command_size long_tics * commands_in long_tics bytes)
       (drop header_size bytes)) (texts i n at started)
-      ∙ recorded_in_text rules.players (several i n at).2 (start_of settings) i
-      (rows_made rules settings keys n.ran) (is_closed rules settings keys n)
-      (rows_full rules settings keys n.ran)
+      ∙ recorded_in_text rules.players (several i n at).2 _ _ _ _ (rows_full rules settings keys n.ran)
 
   -- nothing is recorded before the start
   no_tics : (n : node.Contents W) (tic : ℕ) → n.demo.bytes ≡ [] → tic < tics_in n → ⊥
@@ -98,13 +91,10 @@ module _ {W S : Type 0} (rules : Rules S) (settings : Settings) (keys : ℕ → 
     | inr none ↦ absurd (no_tics n tic none there)
     | inl started ↦
         let s = several i n at in
-        let few = s.2 in
         let count = tics_are i n at started in
         let inside : tic < length (rows_made rules settings keys n.ran) = omega arith in
         (λ k. command_in long_tics (texts i n at started k) (s.0 k * tic + player))
-        ∙ command_in_text rules.players few (start_of settings) i (rows_made rules settings keys n.ran)
-        (is_closed rules settings keys n)
-        (rows_full rules settings keys n.ran) tic player _ inside
+        ∙ command_in_text rules.players s.2 _ _ _ _ (rows_full rules settings keys n.ran) tic player _ inside
         (moves_before rules settings keys n.ran tic player inside (omega arith))
         (move_made rules settings keys n.ran tic player inside below (omega arith))
   ]
@@ -145,12 +135,9 @@ module _ {W S : Type 0} (rules : Rules S) (settings : Settings) (keys : ℕ → 
         prefixes = two_prefixes;
         headers = λ i j n k at to started other.
             (λ x. take 8 (texts i n at started x) ++ take 4 (drop 9 (texts i n at started x)))
-            ∙ headers_same (start_of settings) i j rules.players (rows_made rules settings keys n.ran)
-            (rows_made rules settings keys k.ran)
-            (is_closed rules settings keys n) (is_closed rules settings keys k)
+            ∙ headers_same (start_of settings) i j rules.players _ _ _ _
             ∙ sym (λ x. take 8 (texts j k to other x) ++ take 4 (drop 9 (texts j k to other x)));
         views = λ i n at started.
             ap (λ (bytes : List ℕ). slice_get bytes 8) (texts i n at started)
-            ∙ view_of_text (start_of settings) i rules.players (rows_made rules settings keys n.ran)
-            (is_closed rules settings keys n);
+            ∙ view_of_text (start_of settings) i rules.players _ _;
       }

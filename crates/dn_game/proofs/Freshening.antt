@@ -1,7 +1,7 @@
 -- One node more in a game that opens.
-use Rattle.std.proofs.Common.{◌≡◌, ℕ, zero, suc, ◌⊎◌, false, List, [], ◌∷◌, ◌++◌, length, map, append-nil, Some, ap, sym, ◌∙◌, refl, subst, inl, inr, arith}
+use Rattle.std.proofs.Common.{◌≡◌, ℕ, zero, suc, ◌⊎◌, false, List, [], ◌∷◌, ◌++◌, length, map, append-nil, Some, ap, sym, ◌∙◌, refl, inl, inr, arith}
 use Rattle.std.specs.Prelude.{slice_get, slice_index_or}
-use Rattle.std.proofs.lemmas.List.{append_assoc}
+use Rattle.std.proofs.lemmas.List.{append_assoc, map_push, nil_from_length}
 use Rattle.std.proofs.lemmas.List.Elements.{All-push}
 use Rattle.std.proofs.lemmas.Option.{same_Some}
 use Rattle.dn_setup.specs.Settings.{Settings}
@@ -11,7 +11,6 @@ use Rattle.dn_node.specs.declared.node.Node.{Node}
 use Rattle.dn_node.specs.Contents.{contents}
 use Rattle.dn_node.specs.Represents.{Represents}
 use Rattle.dn_game.specs.Fresh.{AreFresh, AreLimited}
-use Rattle.dn_game.proofs.Places.{map_more}
 use Rattle.dn_game.specs.Represents as represents
 use Rattle.dn_game.specs.declared.flight.Flight.{Flight}
 
@@ -35,9 +34,7 @@ fresh_more {W} {S} state rules settings nodes node before one i n there =
     elim (slice_get-more nodes node i n there) [
       | inl old ↦ before i n old
       | inr (at, last) ↦
-          let P : Node W → Type 0 = λ x. Represents state rules i (contents x) (fresh settings i) in
-          let Q : ℕ → Type 0 = λ k. Represents state rules k (contents node) (fresh settings k) in
-          subst P (sym last) (subst Q (sym at) one)
+          rw (last, at) one
     ]
 
 pub limited_more : {W : Type 0} (limit : ℕ) (nodes : List (Node W)) (node : Node W) → AreLimited limit nodes
@@ -46,11 +43,7 @@ limited_more {W} limit nodes node before one =
     All-push (λ (n : Node W). (contents n).demo.limit ≡ limit) nodes node before one
 
 nobody : (i : ℕ) → slice_index_or (false ∷ false ∷ false ∷ false ∷ []) i false ≡ false
-nobody zero = refl
-nobody (suc zero) = refl
-nobody (suc (suc zero)) = refl
-nobody (suc (suc (suc zero))) = refl
-nobody (suc (suc (suc (suc i)))) = refl
+nobody i = grind arith
 
 pub opens : {W S : Type 0} (state : W → S) (rules : Rules S) (settings : Settings) (nodes : List (Node W))
     (flights : List Flight)
@@ -74,14 +67,12 @@ module _ {X W : Type 0} (view : X → W) (xs : List X) (rest whole : List W)
   pub given_more : (more : List X) (x : X) (w : W) (left : List W) → more ≡ xs ++ x ∷ [] → view x ≡ w
       → rest ≡ w ∷ left → map view more ++ left ≡ whole
   given_more more x w left pushed is first =
-      ap (λ (ys : List X). map view ys ++ left) pushed ∙ ap (λ (ws : List W). ws ++ left) (map_more view xs x)
+      ap (λ (ys : List X). map view ys ++ left) pushed ∙ ap (λ (ws : List W). ws ++ left) (map_push view xs x)
       ∙ append_assoc (map view xs) (view x ∷ []) left
       ∙ ap (λ (v : W). map view xs ++ v ∷ left) is ∙ ap (λ (ws : List W). map view xs ++ ws) (sym first)
       ∙ so_far
 
   pub given_all : length rest ≡ 0 → map view xs ≡ whole
-  given_all none = go rest so_far none
-    where
-      go : (ws : List W) → map view xs ++ ws ≡ whole → length ws ≡ 0 → map view xs ≡ whole
-      go [] all zero_is = sym (append-nil (map view xs)) ∙ all
-      go (w ∷ ws) all zero_is = absurd (cc)
+  given_all none =
+      sym (append-nil (map view xs))
+      ∙ ap (λ (ws : List W). map view xs ++ ws) (sym (nil_from_length rest none)) ∙ so_far

@@ -1,7 +1,7 @@
 -- The first player who has not stopped.
-use Rattle.std.proofs.Common.{◌≡◌, ◌<◌, ◌+◌, ◌-◌, ◌%◌, ℕ, Bool, true, false, not, length, Some, None, ap, sym, ◌∙◌, inl, inr, arith}
+use Rattle.std.proofs.Common.{◌≡◌, ◌<◌, ◌+◌, ◌-◌, ◌%◌, ℕ, Bool, true, false, not, length, Some, None, ap, sym, ◌∙◌, subst, inl, inr, arith}
 use Rattle.std.specs.Prelude.{slice_index_or}
-use Rattle.std.proofs.lemmas.Bool.{cases_lt}
+use Rattle.std.proofs.lemmas.Bool.{cases_lt, not-false}
 use Rattle.std.proofs.Math.Nat.{mod-eq_of_lt, add-mod_right}
 use Rattle.dn_machine.specs.Game.{Game}
 use Rattle.dn_machine.specs.Worlds.{Rules}
@@ -54,14 +54,8 @@ pub all_stopped : (players from : ℕ) (stopped : ℕ → Bool) → from < playe
     → (node : ℕ) → node < players → stopped node ≡ true
 all_stopped players from stopped f none node n =
     let there = reached players from node f n in
-    go _ (lowest_none_each players (moves players from stopped) none there.0 there.1) there.2
-  where
-    go : (k : ℕ) → not (stopped k) ≡ false → k ≡ node → stopped node ≡ true
-    go k e at = flip (stopped k) e (ap stopped at)
-      where
-        flip : (b : Bool) → not b ≡ false → b ≡ stopped node → stopped node ≡ true
-        flip true e same = sym same
-        flip false e same = absurd (cc)
+    subst (λ k. stopped k ≡ true) there.2
+    (not-false _ (lowest_none_each players (moves players from stopped) none there.0 there.1))
 
 -- the machine's first player who moves is that of a game that represents it
 pub same_moving : {W S : Type 0} (state : W → S) (rules : Rules S) (g : Contents W) (m : Game)

@@ -9,6 +9,7 @@ pub mod DemosAgreeing
 pub mod Agreeing
 pub mod ScriptNumbers
 pub mod ScriptKeys
+pub mod Lacking
 pub mod ScriptLines
 pub mod ScriptOneEvent
 pub mod ScriptEvents

@@ -1,5 +1,5 @@
 -- A step of one node, in its place.
-use Rattle.std.proofs.Common.{◌≡◌, ◌<◌, ℕ, length, set, Some, ap, sym, ◌∙◌, subst, inl, inr}
+use Rattle.std.proofs.Common.{◌≡◌, ◌<◌, ℕ, length, set, Some, ap, sym, ◌∙◌, inl, inr}
 use Rattle.std.specs.Prelude.{slice_get}
 use Rattle.std.proofs.lemmas.Bool.{cases_eq}
 use Rattle.std.proofs.lemmas.List.{length-set}
@@ -28,13 +28,9 @@ module _ {W S : Type 0} (state : W → S) (rules : Rules S) (g : Contents W) (m 
         let same : n ≡ x =
         same_Some n x (sym (set_here g.nodes place n below) ∙ ap (slice_get (set g.nodes place n)) (sym e)
         ∙ there) in
-        let P : ℕ → Type 0 = λ k. node_to.Represents state rules k (node.contents n) after in
-        let Q : Node W → Type 0 = λ y. node_to.Represents state rules i (node.contents y) after in
-        let R : exact.Node → Type 0 = λ y. node_to.Represents state rules i (node.contents x) y in
-        subst R (sym (put_at m.nodes place i after e)) (subst Q same (subst P (sym e) is))
+        rw (put_at m.nodes place i after e, ← same, e) is
     | inr apart ↦
-        let R : exact.Node → Type 0 = λ y. node_to.Represents state rules i (node.contents x) y in
-        subst R (sym (put_off m.nodes place i after apart))
+        rw (put_off m.nodes place i after apart)
         (r.nodes i x (sym (set_elsewhere g.nodes place i n apart) ∙ there))
   ]
 

@@ -1,5 +1,5 @@
 -- One event more that an observer is told.
-use Rattle.std.proofs.Common.{◌≡◌, ◌+◌, ℕ, List, [], ◌∷◌, ◌++◌, length, Result, refl, sym, subst, arith}
+use Rattle.std.proofs.Common.{◌≡◌, ◌+◌, ℕ, List, [], ◌∷◌, ◌++◌, length, Result, refl, arith}
 use Rattle.dn_machine.specs.declared.events.Done.{Done}
 use Rattle.dn_machine.specs.declared.events.Event.{Event}
 use Rattle.dn_machine.specs.declared.events.Refusal.{Refusal}
@@ -24,8 +24,7 @@ module _ {L : Type 0} (observes : Observing L) where
   observes_more [] [] event answer number last old mid new same counted told =
       let here : last ≡ number = omega (arith, counted) in (
         new,
-        subst (λ (k : ℕ). observes old k event answer new) here
-            (subst (λ (l : L). observes l last event answer new) same told),
+        rw (same, here) at told,
         refl,
       )
   observes_more [] (a ∷ answers) event answer number last old mid new way counted told = absurd way
@@ -37,20 +36,6 @@ module _ {L : Type 0} (observes : Observing L) where
         observes_more events answers event answer (number + 1) last then mid new way
             (omega (arith, counted)) told,
       )
-
-  -- by other words for the lists
-  pub observes_next : (events : List Event) (answers : List (Result Done Refusal)) (event : Event)
-      (answer : Result Done Refusal) (last : ℕ) (old mid new : L)
-      (all : List Event) (every : List (Result Done Refusal)) → all ≡ events ++ event ∷ []
-      → every ≡ answers ++ answer ∷ []
-      → ObservesAll observes old 0 events answers mid → last ≡ length events
-      → observes mid last event answer new
-      → ObservesAll observes old 0 all every new
-  observes_next events answers event answer last old mid new all every longer more way counted told =
-      subst (λ (es : List Event). ObservesAll observes old 0 es every new) (sym longer)
-      (subst (λ (rs : List (Result Done Refusal)). ObservesAll observes old 0 (events ++ event ∷ []) rs new)
-      (sym more)
-      (observes_more events answers event answer 0 last old mid new way (omega (arith, counted)) told))
 
 -- what was played and told is promised
 module _ {W S L : Type 0} (state : W → S) (rules : Rules S) (observes : Observing L) (settings : Settings)

@@ -3,14 +3,14 @@ use Rattle.std.proofs.Common.{◌≡◌, ◌≤◌, ◌<◌, ◌++◌, ◌∷◌
 use Rattle.std.specs.Prelude.{All, slice_get}
 use Rattle.std.proofs.Math.Seq.{drop-append_seam, take-length}
 use Rattle.std.proofs.lemmas.Grind.{flat_map-append}
-use Rattle.std.proofs.lemmas.List.{drop-append-le, take-append-le, append-nil}
-use Rattle.std.proofs.lemmas.List.Elements.{All-cons, All-nil, All-head, All-tail}
+use Rattle.std.proofs.lemmas.List.{drop-append-le, take-append-le, append-nil, map_push}
+use Rattle.std.proofs.lemmas.List.Elements.{All-head, All-tail, All-push}
 use Rattle.arrayvec.specs.ArrayVec.{ArrayVec}
 use Rattle.dn_lockstep.specs.declared.lockstep.aiming.Aim.{Aim}
 use Rattle.dn_game.specs.declared.flight.Flight.{Flight}
 use Rattle.dn_game.specs.declared.pool.Record.{Record}
 use Rattle.dn_game.specs.Pool.{joined, flight_in, flights_in, IsPiece, ArePacked, IsRecordOf}
-use Rattle.dn_game.proofs.Places.{there_is, all_at, all_more, map_more}
+use Rattle.dn_game.proofs.Places.{there_is, all_at}
 
 module _ (bytes more : List ℕ) where
   -- a piece is the same where bytes are appended
@@ -34,13 +34,9 @@ module _ (bytes more : List ℕ) where
       λ i. first i ∷ rest i
 
   pieces_stay : (records : List Record) → All (IsPiece bytes) records → All (IsPiece (bytes ++ more)) records
-  pieces_stay [] all = All-nil (IsPiece (bytes ++ more))
-  pieces_stay (entry ∷ records) all =
-      let piece = All-head (IsPiece bytes) entry records all in
-      let inside = piece.inside in
-      let long = length-append bytes more in
-      All-cons (IsPiece (bytes ++ more)) entry records (record { inside = omega arith; short = piece.short })
-      (pieces_stay records (All-tail (IsPiece bytes) entry records all))
+  pieces_stay records all = λ i d within.
+      let piece = all i d within in
+      record { inside = omega (arith, piece.inside, length-append bytes more); short = piece.short }
 
 -- the record of a packet whose datagram is appended
 abbrev pub newest : List ℕ → ℕ → ℕ → Aim → ArrayVec ℕ → Record
@@ -62,14 +58,14 @@ module _ (bytes : List ℕ) (records : List Record) (packed : ArePacked bytes re
       ≡ flights_in bytes records ++ record { from = from; to = to; aim = aim; bytes = datagram } ∷ []
   packs_flight =
       let stay = flights_stay bytes datagram.items records packed.pieces in
-      map_more (flight_in (bytes ++ datagram.items)) records (newest bytes from to aim datagram)
+      map_push (flight_in (bytes ++ datagram.items)) records (newest bytes from to aim datagram)
       ∙ (λ i. stay i ++ is_flight i ∷ [])
 
   pub packs : ArePacked (bytes ++ datagram.items) (records ++ newest bytes from to aim datagram ∷ [])
   packs =
       let long = length-append bytes datagram.items in
       record {
-        pieces = all_more (IsPiece (bytes ++ datagram.items)) records (newest bytes from to aim datagram)
+        pieces = All-push (IsPiece (bytes ++ datagram.items)) records (newest bytes from to aim datagram)
             (pieces_stay bytes datagram.items records packed.pieces)
             (record { inside = omega arith; short = short });
         whole = ap joined packs_flight ∙ flat_map-append (λ (f : Flight). f.bytes.items)

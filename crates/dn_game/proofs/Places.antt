@@ -1,7 +1,6 @@
 -- Places of lists.
-use Rattle.std.proofs.Common.{◌≡◌, ◌≢◌, ◌<◌, ℕ, zero, suc, List, [], ◌∷◌, ◌++◌, length, set, map, Some, refl, ap, subst, arith}
+use Rattle.std.proofs.Common.{◌≡◌, ◌≢◌, ◌<◌, ℕ, zero, suc, List, [], ◌∷◌, length, set, Some, refl, ap, subst, arith}
 use Rattle.std.specs.Prelude.{All, slice_get}
-use Rattle.std.proofs.lemmas.List.Elements.{All-append, All-cons, All-nil}
 use Rattle.std.proofs.lemmas.Option.{slice_get_within, slice_get-get_or, get_or_from_slice_get}
 
 pub set_here : {X : Type 0} (xs : List X) (i : ℕ) (x : X) → i < length xs → slice_get (set xs i x) i ≡ Some x
@@ -26,12 +25,3 @@ there_is (x ∷ xs) i h = (_, slice_get-get_or (x ∷ xs) i x h)
 pub all_at : {X : Type 0} (P : X → Type 0) (xs : List X) (i : ℕ) (x : X) → All P xs → slice_get xs i ≡ Some x
     → P x
 all_at P xs i x all is = subst P (get_or_from_slice_get xs i x x is) (all i x (slice_get_within xs i x is))
-
--- and of one more at the end
-pub all_more : {X : Type 0} (P : X → Type 0) (xs : List X) (x : X) → All P xs → P x → All P (xs ++ x ∷ [])
-all_more P xs x all one = All-append P xs (x ∷ []) all (All-cons P x [] one (All-nil P))
-
-pub map_more : {X Y : Type 0} (view : X → Y) (xs : List X) (x : X)
-    → map view (xs ++ x ∷ []) ≡ map view xs ++ view x ∷ []
-map_more view [] x = refl
-map_more view (y ∷ xs) x = ap (λ (zs : List _). view y ∷ zs) (map_more view xs x)

@@ -1,6 +1,7 @@
 -- A packet joins those that were sent.
-use Rattle.std.proofs.Common.{◌≡◌, ◌++◌, ◌∷◌, [], ℕ, List, length, map, Some, None, Option, refl, ap, sym, ◌∙◌, subst}
-use Rattle.std.proofs.lemmas.List.{length-map}
+use Rattle.std.proofs.Common.{◌≡◌, ◌++◌, ◌∷◌, [], ℕ, List, length, map, Some, None, Option, refl, ap, sym, ◌∙◌}
+use Rattle.std.proofs.lemmas.List.{length-map, map_push}
+use Rattle.std.proofs.lemmas.List.Elements.{All-push}
 use Rattle.dn_machine.specs.declared.events.Done.{Done}
 use Rattle.dn_machine.specs.Flight as exact
 use Rattle.dn_machine.specs.Game as machine
@@ -10,7 +11,6 @@ use Rattle.dn_game.specs.declared.flight.Flight.{Flight}
 use Rattle.dn_game.specs.Applied.{IsAfter}
 use Rattle.dn_game.specs.Contents.{Contents}
 use Rattle.dn_game.specs.Represents.{Represents, IsCarried, flight_of}
-use Rattle.dn_game.proofs.Places.{all_more, map_more}
 
 module _ {W S : Type 0} (state : W → S) (rules : Rules S) (g : Contents W) (m : machine.Game)
     (r : Represents state rules g m)
@@ -19,9 +19,7 @@ module _ {W S : Type 0} (state : W → S) (rules : Rules S) (g : Contents W) (m 
   pub posts_none : given ≡ None → flights ≡ g.flights
       → IsAfter state rules (record g { flights = flights }) (posted m given) Done.Silent
   posts_none none same =
-      let P : Option exact.Flight → Type 0 =
-      λ x. IsAfter state rules (record g { flights = flights }) (posted m x) Done.Silent in
-      subst P (sym none) (record {
+      rw none (record {
         game = record {
           players = r.players;
           nodes = r.nodes;
@@ -37,17 +35,15 @@ module _ {W S : Type 0} (state : W → S) (rules : Rules S) (g : Contents W) (m 
       → flights ≡ g.flights ++ f ∷ [] → (which : ℕ) → which ≡ length g.flights
       → IsAfter state rules (record g { flights = flights }) (posted m given) (Done.Sent which)
   posts_some flight some f is carried more which last =
-      let P : Option exact.Flight → Type 0 =
-      λ x. IsAfter state rules (record g { flights = flights }) (posted m x) (Done.Sent which) in
-      subst P (sym some) (record {
+      rw some (record {
         game = record {
           players = r.players;
           nodes = r.nodes;
           stopped = r.stopped;
           flights = more ∙ ap (λ (fs : List Flight). fs ++ f ∷ []) r.flights
               ∙ ap (λ (x : Flight). map flight_of m.flights ++ x ∷ []) is
-              ∙ sym (map_more flight_of m.flights flight);
-          carried = all_more (IsCarried rules.players) m.flights flight r.carried carried;
+              ∙ sym (map_push flight_of m.flights flight);
+          carried = All-push (IsCarried rules.players) m.flights flight r.carried carried;
         };
         answered = ap Done.Sent (last ∙ ap length r.flights ∙ length-map m.flights flight_of);
       })

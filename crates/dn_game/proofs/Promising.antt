@@ -8,11 +8,10 @@ use Rattle.dn_machine.specs.Game.{Game, opening_game}
 use Rattle.dn_machine.specs.Worlds.{Rules}
 use Rattle.dn_machine.proofs.Games.{always}
 use Rattle.dn_machine.proofs.Promises
-use Rattle.dn_game.specs.Contents.{Contents, contents}
-use Rattle.dn_game.specs.Played.{IsPlayed, Plays}
-use Rattle.dn_game.specs.Promised.{IsReached, IsPromised, HasPlayed}
+use Rattle.dn_game.specs.Contents.{Contents}
+use Rattle.dn_game.specs.Played.{Plays}
+use Rattle.dn_game.specs.Promised.{IsReached, IsPromised}
 use Rattle.dn_game.specs.Represents.{Represents}
-use Rattle.dn_game.specs.declared.played.Played.{Played}
 use Rattle.dn_game.proofs.Agreeing.{agreed_on_keys}
 use Rattle.dn_game.proofs.Answering.{plays_leads, leads_plays}
 use Rattle.dn_game.proofs.SteadyAnswers.{steady_answers}
@@ -39,17 +38,3 @@ module _ {W S : Type 0} (state : W → S) (rules : Rules S) (settings : Settings
   reached_promised g r =
       let way = leads_plays rules events (opening_game settings) r.last r.run in
       (way.0, promised way.0 r.last g way.1 r.game)
-
-  pub played_promised : (played : Played W) → IsPlayed state rules settings events played
-      → HasPlayed state rules settings events played
-  played_promised played p =
-      record { events_played = p; promised = promised p.answers p.last (contents played.game) p.plays p.game }
-
-  pub played_reached : (played : Played W) → IsPlayed state rules settings events played
-      → IsReached state rules settings events (contents played.game)
-  played_reached played p =
-      record {
-        last = p.last;
-        run = plays_leads rules events p.answers (opening_game settings) p.last p.plays;
-        game = p.game;
-      }

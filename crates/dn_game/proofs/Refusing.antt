@@ -1,6 +1,7 @@
 -- Why the machine refuses an event, by what was looked at.
-use Rattle.std.proofs.Common.{◌≡◌, ◌<◌, ◌⊎◌, inl, inr, ℕ, Bool, true, false, length, Option, Some, None, refl, ap, sym, ◌∙◌, arith}
-use Rattle.std.specs.Prelude.{not, ◌&&◌, if◌then◌else◌, nat_lt, slice_get, slice_index_or}
+use Rattle.std.proofs.Common.{◌≡◌, ◌<◌, ◌⊎◌, ℕ, Bool, true, false, length, Option, Some, None, ap, sym, ◌∙◌, arith}
+use Rattle.std.specs.Prelude.{not, if◌then◌else◌, nat_lt, slice_get, slice_index_or}
+use Rattle.std.proofs.lemmas.Bool.{cond-true, cond-false}
 use Rattle.dn_machine.specs.Flight as exact
 use Rattle.dn_machine.specs.Flight.{is_near}
 use Rattle.dn_machine.specs.Node.{made}
@@ -23,37 +24,18 @@ use Rattle.dn_game.specs.Represents.{Represents, flight_of}
 use Rattle.dn_game.proofs.Standing.{IsFlight, made_at, flight_at}
 
 -- a send to a player is refused as any event of its node is
-both_there : (node to stopped : Bool) → to ≡ true
-    → ◌≡◌ {A = Option Refusal}
-    (if not node then Some Refusal.NoNode else (if stopped then Some Refusal.Stopped else None))
-    (if not (node && to) then Some Refusal.NoNode else (if stopped then Some Refusal.Stopped else None))
-both_there true to stopped is = rw is refl
-both_there false to stopped is = refl
-
 pub refused_send : (players : ℕ) (m : machine.Game) (node to : ℕ) → nat_lt to players ≡ true
     → refused_at players m node ≡ refused players m (Send node to)
-refused_send players m node to is = both_there (nat_lt node players) (nat_lt to players) (m.stopped node) is
+refused_send players m node to is = grind arith
 
 -- a delivery, by what was found of the flight
 module _ (m : machine.Game) (which : ℕ) (flight : exact.Flight)
     (there : slice_get m.flights which ≡ Some flight) (far : Bool)
     (is_far : far ≡ not (is_near (made flight.to (m.nodes flight.to)) flight)) where
-  is_refused : (refusal : Option Refusal)
-      → refusal
-      ≡ (if far then Some Refusal.Far else (if m.stopped flight.to then Some Refusal.Stopped else None))
-      → refusal ≡ refused_flight m (slice_get m.flights which)
-  is_refused refusal is =
-      is ∙ ap (λ (b : Bool). if b then Some Refusal.Far
-      else (if m.stopped flight.to then Some Refusal.Stopped else None)) is_far
-      ∙ ap (refused_flight m) (sym there)
-
-  is_refused_far : far ≡ true → Some Refusal.Far ≡ refused_flight m (slice_get m.flights which)
-  is_refused_far so = is_refused (Some Refusal.Far) (rw so refl)
-
-  is_refused_near : far ≡ false → (refusal : Option Refusal)
-      → refusal ≡ (if m.stopped flight.to then Some Refusal.Stopped else None)
-      → refusal ≡ refused_flight m (slice_get m.flights which)
-  is_refused_near so refusal is = is_refused refusal (rw so is)
+  is_refused : (if far then Some Refusal.Far
+      else (if m.stopped flight.to then Some Refusal.Stopped else None))
+      ≡ refused_flight m (slice_get m.flights which)
+  is_refused = grind arith
 
 -- the same of a game that represents it, whose receiver was asked how many commands it made
 module _ {W S : Type 0} (state : W → S) (rules : Rules S) (g : Contents W) (m : machine.Game)
@@ -82,18 +64,22 @@ module _ {W S : Type 0} (state : W → S) (rules : Rules S) (g : Contents W) (m 
       ∙ ap (λ (k : ℕ). made k (m.nodes k)) goes_to in
       tested sent.0 of.aim ∙ ap (λ (k : ℕ). not (is_near k sent.0)) known
 
+  refused_so : (if far then Some Refusal.Far
+      else (if m.stopped sent.0.to then Some Refusal.Stopped else None))
+      ≡ refused_flight m (slice_get m.flights which)
+  refused_so = is_refused m which sent.0 sent.1.there far tells_far
+
   pub told_far : far ≡ true → Some Refusal.Far ≡ refused_flight m (slice_get m.flights which)
-  told_far so = is_refused_far m which sent.0 sent.1.there far tells_far so
+  told_far so = sym (cond-true far _ _ so) ∙ refused_so
 
   pub told_near : far ≡ false → (place : ℕ) (stopped : Bool) → place ≡ entry.to
       → stopped ≡ slice_index_or g.stopped place false
       → (if stopped then Some Refusal.Stopped else None) ≡ refused_flight m (slice_get m.flights which)
   told_near so place stopped there is =
-      let same = ap (λ (k : ℕ). slice_index_or g.stopped k false) (there ∙ sym is_to) in
-      is_refused_near m which sent.0 sent.1.there far tells_far so
-      (if stopped then Some Refusal.Stopped else None)
-      (ap (λ (b : Bool). if b then Some Refusal.Stopped else None)
-      (is ∙ same ∙ r.stopped to ∙ ap m.stopped goes_to))
+      let same : stopped ≡ m.stopped sent.0.to = is
+      ∙ ap (λ (k : ℕ). slice_index_or g.stopped k false) (there ∙ sym is_to) ∙ r.stopped to
+      ∙ ap m.stopped goes_to in
+      ap (λ (b : Bool). if b then Some Refusal.Stopped else None) same ∙ sym (cond-false far _ _ so) ∙ refused_so
 
 -- an event of one node
 abbrev pub IsOfNode : ℕ → Event → Type 0
@@ -103,21 +89,13 @@ IsOfNode node event = ((keys : Keys) × (event ≡ Build node keys))
 pub refused_own : (players : ℕ) (m : machine.Game) (node place : ℕ) (event : Event) → place ≡ node
     → IsOfNode node event
     → refused_at players m place ≡ refused players m event
-refused_own players m node place event e (inl (keys, is)) =
-    ap (refused_at players m) e ∙ ap (refused players m) (sym is)
-refused_own players m node place event e (inr (inl is)) = ap (refused_at players m) e
-    ∙ ap (refused players m) (sym is)
-refused_own players m node place event e (inr (inr (inl is))) =
-    ap (refused_at players m) e ∙ ap (refused players m) (sym is)
-refused_own players m node place event e (inr (inr (inr is))) =
-    ap (refused_at players m) e ∙ ap (refused players m) (sym is)
+refused_own players m node place event e is = grind arith
 
 not_far : (near stopped : Bool)
     → ◌≡◌ {A = Option Refusal}
     (if not near then Some Refusal.Far else (if stopped then Some Refusal.Stopped else None)) None
     → near ≡ true
-not_far true stopped e = refl
-not_far false stopped e = absurd (cc)
+not_far near stopped e = grind arith
 
 -- what is not refused is near
 pub near_unless : (m : machine.Game) (which : ℕ) (flight : exact.Flight)

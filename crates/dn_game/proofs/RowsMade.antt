@@ -1,5 +1,5 @@
 -- The rows that key states make, up to the first that lacks a player.
-use Rattle.std.proofs.Common.{◌≡◌, ◌<◌, ◌≤◌, ℕ, zero, suc, true, true≢false, List, ◌∷◌, [], length, map, get_or, Option, Some, None, is_some, refl, ap, sym, ◌∙◌, arith, inl, inr, ltb}
+use Rattle.std.proofs.Common.{◌≡◌, ◌<◌, ◌≤◌, ℕ, zero, suc, true, true≢false, cond, List, ◌∷◌, [], length, map, get_or, Option, Some, None, is_some, refl, ap, sym, ◌∙◌, arith, inl, inr, ltb}
 use Rattle.std.specs.Prelude.{nat_lt}
 use Rattle.std.specs.List.{range_with_len, prefix_len}
 use Rattle.std.specs.Option.{is_none, option_map}
@@ -34,17 +34,19 @@ whole_seats players f e =
     λ i. a i ∷ b i ∷ c i ∷ d i ∷ []
 
 -- the move at a player's seat is that of the player's command
+seat_at : (players : ℕ) (f : ℕ → Option TicCmd) (p : ℕ) → p < 4
+    → get_or (row_of players f) p None ≡ cond (ltb p players) (option_map used (f p)) None
+unfolding row_of
+seat_at players f zero s = refl
+seat_at players f (suc zero) s = refl
+seat_at players f (suc (suc zero)) s = refl
+seat_at players f (suc (suc (suc zero))) s = refl
+seat_at players f (suc (suc (suc (suc p)))) s = absurd (omega arith)
+
 seat_move : (players : ℕ) (f : ℕ → Option TicCmd) (p : ℕ) (c : TicCmd) → p < players → p < 4 → f p ≡ Some c
     → get_or (row_of players f) p None ≡ Some (used c)
-unfolding row_of
-seat_move players f zero c l s e = cond-true (ltb 0 players) _ _ (lt-ltb 0 players l) ∙ ap (option_map used) e
-seat_move players f (suc zero) c l s e = cond-true (ltb 1 players) _ _ (lt-ltb 1 players l)
-    ∙ ap (option_map used) e
-seat_move players f (suc (suc zero)) c l s e = cond-true (ltb 2 players) _ _ (lt-ltb 2 players l)
-    ∙ ap (option_map used) e
-seat_move players f (suc (suc (suc zero))) c l s e = cond-true (ltb 3 players) _ _ (lt-ltb 3 players l)
-    ∙ ap (option_map used) e
-seat_move players f (suc (suc (suc (suc p)))) c l s e = absurd (omega arith)
+seat_move players f p c l s e =
+    seat_at players f p s ∙ cond-true (ltb p players) _ _ (lt-ltb p players l) ∙ ap (option_map used) e
 
 module _ {S : Type 0} (rules : Rules S) (settings : Settings) (keys : ℕ → List ℕ) where
   abbrev seats : ℕ → ℕ → Option TicCmd
@@ -78,19 +80,19 @@ module _ {S : Type 0} (rules : Rules S) (settings : Settings) (keys : ℕ → Li
     no_more = let short = front_short (is_whole rules.players) all in
         let long = length-map-range_with_len (row rules settings keys) 0 tics in omega arith
 
+    all_at : (tic : ℕ) → tic < tics → get_or all tic [] ≡ row rules settings keys tic
+    all_at tic early =
+        get_or-map-range_with_len (row rules settings keys) 0 tics tic tic [] early (omega arith)
+
     row_at : (tic : ℕ) → tic < length rows → get_or rows tic [] ≡ row rules settings keys tic
     row_at tic l =
         let long = length-prefix_len (is_whole rules.players) all in
-        let within = no_more in
         get_or-take (prefix_len (is_whole rules.players) all) all tic [] (omega arith)
-        ∙ get_or-map-range_with_len (row rules settings keys) 0 tics tic tic [] (omega arith) (omega arith)
+        ∙ all_at tic (omega (arith, no_more))
 
     whole_at : (tic : ℕ) → tic < length rows → is_whole rules.players (row rules settings keys tic) ≡ true
     whole_at tic l =
-        let within = no_more in
-        ap (is_whole rules.players)
-        (sym (get_or-map-range_with_len (row rules settings keys) 0 tics tic tic [] (omega arith)
-        (omega arith)))
+        ap (is_whole rules.players) (sym (all_at tic (omega (arith, no_more))))
         ∙ front_passes (is_whole rules.players) all tic [] l
 
     -- each of the rows has a move of every player
@@ -128,8 +130,7 @@ module _ {S : Type 0} (rules : Rules S) (settings : Settings) (keys : ℕ → Li
           let many = length-map-range_with_len (row rules settings keys) 0 tics in
           let first = prefix_len (is_whole rules.players) all in
           let stops = prefix_len_stops (is_whole rules.players) all [] (omega arith) in
-          let read = get_or-map-range_with_len (row rules settings keys) 0 tics first first [] (omega arith)
-          (omega arith) in
+          let read = all_at first (omega arith) in
           let whole = made_whole first few (λ p l. let m = made p l in omega arith) in
           absurd (true≢false (sym whole ∙ ap (is_whole rules.players) (sym read) ∙ stops))
     ]

@@ -1,5 +1,5 @@
 -- The event of three words.
-use Rattle.std.proofs.Common.{◌≡◌, ◌%◌, ℕ, false, length, Option, ap, ◌∙◌}
+use Rattle.std.proofs.Common.{◌≡◌, ◌%◌, ℕ, false, length, Option, ap, ◌∙◌, arith}
 use Rattle.std.specs.Prelude.{slice_index_or}
 use Rattle.std.specs.Option.{option_map}
 use Rattle.rand_pcg.specs.Lcg.{Lcg}
@@ -8,26 +8,14 @@ use Rattle.dn_machine.specs.Game.{Game}
 use Rattle.dn_machine.specs.Worlds.{Rules}
 use Rattle.dn_game.specs.Contents.{Contents}
 use Rattle.dn_game.specs.Represents.{Represents}
-use Rattle.dn_game.specs.Schedule.{word, behind, first_moving, event_of, next_event, scheduled}
+use Rattle.dn_game.specs.Schedule.{first_moving, event_of, next_event, scheduled}
 use Rattle.dn_game.proofs.GoingRound.{same_moving}
 
 module _ (players : ℕ) (m : Game) (g g1 g2 g3 : Lcg) (a b c : ℕ)
     (first : ◌≡◌ {A = ℕ × Lcg} (a, g1) (pcg32 g)) (second : ◌≡◌ {A = ℕ × Lcg} (b, g2) (pcg32 g1))
     (third : ◌≡◌ {A = ℕ × Lcg} (c, g3) (pcg32 g2)) where
-  a_is : a ≡ word g
-  a_is = ap (λ (p : ℕ × Lcg). p.0) first
-
-  b_is : b ≡ word (behind g)
-  b_is = ap (λ (p : ℕ × Lcg). p.0) second ∙ ap word (ap (λ (p : ℕ × Lcg). p.1) first)
-
-  c_is : c ≡ word (behind (behind g))
-  c_is = ap (λ (p : ℕ × Lcg). p.0) third
-      ∙ ap word (ap (λ (p : ℕ × Lcg). p.1) second ∙ ap behind (ap (λ (p : ℕ × Lcg). p.1) first))
-
   pub of_words : next_event players m a b c ≡ scheduled players m g
-  of_words =
-      ap (λ (k : ℕ). next_event players m k b c) a_is ∙ ap (λ (k : ℕ). next_event players m (word g) k c) b_is
-      ∙ ap (next_event players m (word g) (word (behind g))) c_is
+  of_words = grind arith
 
 -- by the player who moves
 module _ {W S : Type 0} (state : W → S) (rules : Rules S) (g : Contents W) (m : Game)

@@ -1,9 +1,7 @@
 -- The lines of a script are read one after another.
-use Rattle.std.proofs.Common.{◌≡◌, ◌<◌, ◌≤◌, ℕ, ◌+◌, List, [], ◌∷◌, ◌++◌, length, get_or, take, drop, ◌==◌, Ok, Err, refl, sym, ap, ◌∙◌, add-one, arith}
+use Rattle.std.proofs.Common.{◌≡◌, ◌<◌, ◌≤◌, ℕ, ◌+◌, List, [], ◌∷◌, ◌++◌, length, get_or, take, drop, Ok, Err, refl, sym, ap, ◌∙◌, add-one, arith}
 use Rattle.std.proofs.Math.Seq.{take-length, drop-cons}
 use Rattle.std.proofs.lemmas.List.{take_more, take-append-drop, length-take-le}
-use Rattle.std.proofs.lemmas.List.Splits.{length-slice_split}
-use Rattle.std.proofs.lemmas.List.Sums.{count_by-le-length}
 use Rattle.dn_machine.specs.declared.events.Event.{Event}
 use Rattle.dn_game.specs.ScriptLines.{lines, IsSkipped, IsLineOf, IsBad}
 use Rattle.dn_game.specs.Script.{size_limit, AreEventsOf, none, skipped, told, StandsBehind, IsReadAs}
@@ -35,63 +33,46 @@ pub record IsNext (text : List ℕ) (count : ℕ) (line : List ℕ) : Type 0 whe
   pub within : count < length (lines text)
   pub here : line ≡ get_or (lines text) count line
 
-pub number_fits : {text : List ℕ} {count number : ℕ} {events : List Event} {line : List ℕ}
-    → HaveRead text count number events → IsNext text count line
-    → number ≤ size_limit
-number_fits {text} h n =
-    let few = count_by-le-length (λ byte. byte == 10) text in
-    omega (arith, h.short, h.counted, n.within, length-slice_split (λ byte. byte == 10) text, few)
+module _ {text : List ℕ} {count number : ℕ} {events : List Event} {line : List ℕ}
+    (h : HaveRead text count number events) (n : IsNext text count line) where
+  taken : take (count + 1) (lines text) ≡ take count (lines text) ++ line ∷ []
+  taken = take_more (lines text) count line n.within
+      ∙ ap (λ l. take count (lines text) ++ l ∷ []) (sym n.here)
 
-take_next : (text : List ℕ) (count : ℕ) (line : List ℕ) → IsNext text count line
-    → take (count + 1) (lines text) ≡ take count (lines text) ++ line ∷ []
-take_next text count line n =
-    take_more (lines text) count line n.within ∙ ap (λ l. take count (lines text) ++ l ∷ []) (sym n.here)
+  pub more_skipped : IsSkipped line → HaveRead text (count + 1) (number + 1) events
+  more_skipped s = record {
+    short = h.short;
+    counted = omega (arith, h.counted);
+    good = rw taken (AreEventsOf-skipped line h.good s);
+  }
 
-pub more_skipped : {text : List ℕ} {count number : ℕ} {events : List Event} {line : List ℕ}
-    → HaveRead text count number events → IsNext text count line
-    → IsSkipped line → HaveRead text (count + 1) (number + 1) events
-more_skipped {text} {count} {number} {events} {line} h n s = record {
-  short = h.short;
-  counted = omega (arith, h.counted);
-  good = rw (take_next text count line n) (AreEventsOf-skipped line h.good s);
-}
+  pub more_told : (event : Event) → IsLineOf event line
+      → HaveRead text (count + 1) (number + 1) (events ++ event ∷ [])
+  more_told event s = record {
+    short = h.short;
+    counted = omega (arith, h.counted);
+    good = rw taken (AreEventsOf-told line event h.good s);
+  }
 
-pub more_told : {text : List ℕ} {count number : ℕ} {events : List Event} {line : List ℕ} (event : Event)
-    → HaveRead text count number events
-    → IsNext text count line → IsLineOf event line
-    → HaveRead text (count + 1) (number + 1) (events ++ event ∷ [])
-more_told {text} {count} {number} {events} {line} event h n s = record {
-  short = h.short;
-  counted = omega (arith, h.counted);
-  good = rw (take_next text count line n) (AreEventsOf-told line event h.good s);
-}
+  stands : StandsBehind (lines text) line count
+  stands =
+      let next : drop count (lines text) ≡ line ∷ drop (count + 1) (lines text) =
+      rw add-one (drop-cons (lines text) count line n.within)
+      ∙ ap (λ l. l ∷ drop (count + 1) (lines text)) (sym n.here) in
+      record {
+        before = take count (lines text);
+        after = drop (count + 1) (lines text);
+        whole = sym (take-append-drop count (lines text)) ∙ ap (λ l. take count (lines text) ++ l) next;
+        counted = length-take-le count (lines text) (omega (arith, n.within));
+        events = events;
+        good = h.good;
+      }
 
-pub stands : {text : List ℕ} {count number : ℕ} {events : List Event} {line : List ℕ}
-    → HaveRead text count number events → IsNext text count line
-    → StandsBehind (lines text) line count
-stands {text} {count} {number} {events} {line} h n =
-    let next : drop count (lines text) ≡ line ∷ drop (count + 1) (lines text) =
-    rw add-one (drop-cons (lines text) count line n.within)
-    ∙ ap (λ l. l ∷ drop (count + 1) (lines text)) (sym n.here) in
-    record {
-      before = take count (lines text);
-      after = drop (count + 1) (lines text);
-      whole = sym (take-append-drop count (lines text)) ∙ ap (λ l. take count (lines text) ++ l) next;
-      counted = length-take-le count (lines text) (omega (arith, n.within));
-      events = events;
-      good = h.good;
-    }
+  pub bad_line : IsBad line → IsReadAs text (Err (Line (number + 1)))
+  bad_line bad = (h.short, (line, count, stands, bad, ap (λ k. k + 1) h.counted))
 
-pub bad_line : {text : List ℕ} {count number : ℕ} {events : List Event} {line : List ℕ}
-    → HaveRead text count number events → IsNext text count line
-    → IsBad line → IsReadAs text (Err (Line (number + 1)))
-bad_line {text} {count} {number} {events} {line} h n bad =
-    (h.short, (line, count, stands h n, bad, ap (λ k. k + 1) h.counted))
-
-pub no_room : {text : List ℕ} {count number : ℕ} {events : List Event} {line : List ℕ} (event : Event)
-    → HaveRead text count number events
-    → IsNext text count line → IsLineOf event line → IsReadAs text (Err Memory)
-no_room {text} {count} {number} {events} {line} event h n s = (h.short, (line, count, event, stands h n, s))
+  pub no_room : (event : Event) → IsLineOf event line → IsReadAs text (Err Memory)
+  no_room event s = (h.short, (line, count, event, stands, s))
 
 pub all_read : {text : List ℕ} {count number : ℕ} {events : List Event} → HaveRead text count number events
     → count ≡ length (lines text)

@@ -1,10 +1,10 @@
 -- The keys of a script: each letter is that of one key, and letters are one set of keys.
-use Rattle.std.proofs.Common.{◌≡◌, ◌≢◌, ◌<◌, ◌≤◌, ℕ, zero, suc, ◌^◌, ◌*◌, ◌+◌, ◌%◌, Bool, true, eqb, List, [], ◌∷◌, ◌++◌, length, get_or, take, Option, Some, None, refl, sym, ap, ◌∙◌, subst, inl, inr, lit<, arith}
-use Rattle.std.specs.Prelude.{codes, bit_or, unwrap_or, ◌&&◌, ◌↔◌}
+use Rattle.std.proofs.Common.{◌≡◌, ◌≢◌, ◌<◌, ◌≤◌, ℕ, ◌^◌, ◌*◌, ◌+◌, ◌%◌, Bool, true, eqb, List, [], ◌∷◌, ◌++◌, length, get_or, take, Option, Some, None, refl, sym, ap, ◌∙◌, subst, inl, inr, lit<, arith}
+use Rattle.std.specs.Prelude.{codes, bit_or, unwrap_or, ◌↔◌}
 use Rattle.std.specs.List.{All, Contains}
 use Rattle.std.specs.Int.{bit_at, w32}
 use Rattle.std.proofs.Math.Seq.{take-length}
-use Rattle.std.proofs.lemmas.Bool.{eqb-true, eq-eqb, cases_lt, cases_eq, and_parts}
+use Rattle.std.proofs.lemmas.Bool.{eqb-true, eq-eqb, cases_eq, agree_below_at}
 use Rattle.std.proofs.lemmas.List.{get_or_default, take_more}
 use Rattle.std.proofs.lemmas.List.Elements.{All-nil, All-more, Contains-push, Contains-push_cases, Contains-append_left}
 use Rattle.std.proofs.lemmas.Option.{same_Some, none-some}
@@ -16,62 +16,26 @@ use Rattle.dn_tic.specs.declared.keys.Key.TheVariants.{Forward, Back, Left, Righ
 use Rattle.dn_tic.specs.Keys.{place_of}
 use Rattle.dn_game.specs.ScriptWords.{AreKeys, AreLetters, letters, place_in_letters}
 
--- a test of each number below n
-every : (ℕ → Bool) → ℕ → Bool
-every test zero = true
-every test (suc n) = test n && every test n
-
-every_at : (test : ℕ → Bool) (n i : ℕ) → every test n ≡ true → i < n → test i ≡ true
-unfolding every
-every_at test zero i h within = absurd (omega arith)
-every_at test (suc n) i h within =
-    let both = and_parts (test n) (every test n) h in
-    elim (cases_lt i n) [
-      | inl below ↦ every_at test n i both.1 below
-      | inr above ↦
-          subst (λ k. test k ≡ true) (omega arith) both.0
-    ]
-
 -- the keys in the order of their bits
 key_at : ℕ → Key
 key_at i = get_or (Forward ∷ Back ∷ Left ∷ Right ∷ StrafeLeft ∷ StrafeRight ∷ Strafe ∷ Speed ∷ Attack ∷ Use
     ∷ Weapon1 ∷ Weapon2 ∷ Weapon3 ∷ Weapon4 ∷ Weapon5 ∷ Weapon6 ∷ Weapon7 ∷ Weapon8 ∷ []) i Forward
 
 place_at : (i : ℕ) → i < 18 → place_of (key_at i) ≡ i
-unfolding every key_at
-place_at i h = eqb-true _ _ (every_at (λ k. eqb (place_of (key_at k)) k) 18 i refl h)
+unfolding key_at
+place_at i h = eqb-true _ _ (agree_below_at (λ k. eqb (place_of (key_at k)) k) (λ k. true) 18 i refl h)
 
 pub place_small : (key : Key) → place_of key < 18
-place_small Forward = lit< tt
-place_small Back = lit< tt
-place_small Left = lit< tt
-place_small Right = lit< tt
-place_small StrafeLeft = lit< tt
-place_small StrafeRight = lit< tt
-place_small Strafe = lit< tt
-place_small Speed = lit< tt
-place_small Attack = lit< tt
-place_small Use = lit< tt
-place_small Weapon1 = lit< tt
-place_small Weapon2 = lit< tt
-place_small Weapon3 = lit< tt
-place_small Weapon4 = lit< tt
-place_small Weapon5 = lit< tt
-place_small Weapon6 = lit< tt
-place_small Weapon7 = lit< tt
-place_small Weapon8 = lit< tt
+place_small key = grind arith
 
 some_from : (o : Option ℕ) (i : ℕ) → unwrap_or o 18 ≡ i → i < 18 → o ≡ Some i
-some_from None i e h = absurd (omega (arith, e))
-some_from (Some x) i e h = ap (λ k. Some k) e
+some_from o i e h = grind arith
 
 -- each letter stands at one place
 pub letter_found : (i : ℕ) → i < 18 → place_in_letters (get_or letters i 0) ≡ Some i
-unfolding every
 letter_found i h =
-    some_from _ i
-    (eqb-true _ _ (every_at (λ k. eqb (unwrap_or (place_in_letters (get_or letters k 0)) 18) k) 18 i refl
-    h)) h
+    let tests : ℕ → Bool = λ k. eqb (unwrap_or (place_in_letters (get_or letters k 0)) 18) k in
+    some_from _ i (eqb-true _ _ (agree_below_at tests (λ k. true) 18 i refl h)) h
 
 -- a byte that is found is the letter at its place
 found_letter : (byte i : ℕ) → place_in_letters byte ≡ Some i → (i < 18) × (get_or letters i 0 ≡ byte)
@@ -194,14 +158,7 @@ whole_keys word i keys h all =
 -- bits are the same where each is set with the other
 same_bit : (a b i : ℕ) → (bit_at a i ≡ 1 → bit_at b i ≡ 1) → (bit_at b i ≡ 1 → bit_at a i ≡ 1)
     → bit_at a i ≡ bit_at b i
-same_bit a b i p q =
-    elim (cases_eq (bit_at a i) 1) [
-      | inl one ↦ one ∙ sym (p one)
-      | inr none ↦ elim (cases_eq (bit_at b i) 1) [
-        | inl one ↦ q one ∙ sym one
-        | inr neither ↦ omega (arith, none, neither, bit_at-lt a i, bit_at-lt b i)
-      ]
-    ]
+same_bit a b i p q = grind (arith, bit_at-lt)
 
 same_keys : (word : List ℕ) (a b : ℕ) → AreLetters word a → AreLetters word b → (key : Key)
     → bit_at a (place_of key) ≡ 1 → bit_at b (place_of key) ≡ 1

@@ -1,15 +1,14 @@
 -- The lines of a script: where their words end, and that a line is that of one event.
-use Rattle.std.proofs.Common.{◌≡◌, ◌≢◌, ℕ, false, eqb, List, [], ◌∷◌, ◌++◌, get_or, append_assoc, refl, sym, ap, ◌∙◌, subst, arith}
+use Rattle.std.proofs.Common.{◌≡◌, ◌≢◌, ℕ, true, false, eqb, List, [], ◌∷◌, ◌++◌, get_or, append_assoc, refl, sym, ap, ◌∙◌, subst, arith}
 use Rattle.std.specs.Prelude.{codes}
-use Rattle.std.specs.List.{AllByRecursion}
-use Rattle.std.proofs.lemmas.Bool.{eqb-false, ne_eqb}
-use Rattle.std.proofs.lemmas.List.{append_cancel_left, get_or_default}
-use Rattle.std.proofs.lemmas.List.Elements.{All-head, All-tail, All-from_recursion}
-use Rattle.std.proofs.lemmas.Str.Parse.{digit_at}
+use Rattle.std.proofs.lemmas.Bool.{eqb-false}
+use Rattle.std.proofs.lemmas.List.{append_cancel_left}
+use Rattle.std.proofs.lemmas.List.Elements.{All-head, All-tail}
 use Rattle.dn_machine.specs.declared.events.Event.{Event}
 use Rattle.dn_machine.specs.declared.events.Event.TheVariants.{Build, Send, Deliver, Run, Quit, Stop}
 use Rattle.dn_game.specs.ScriptWords.{IsNumber, AreKeys}
 use Rattle.dn_game.specs.ScriptLines.{HasNoSpace, IsLineOf}
+use Rattle.dn_game.proofs.Lacking.{is_lacking, lacks, number_lacks}
 
 -- texts that begin with two bytes are two
 pub heads_differ : {x y : ℕ} {s t : List ℕ} → eqb x y ≡ false → x ∷ s ≡ y ∷ t → ⊥
@@ -42,13 +41,6 @@ one_rest a b c d p q e =
     let rest : 32 ∷ c ≡ 32 ∷ d = append_cancel_left a (32 ∷ c) (32 ∷ d) same in
     cc
 
--- a number has no space
-pub number_no_space : (word : List ℕ) (n : ℕ) → IsNumber word n → HasNoSpace word
-number_no_space word n h i d within =
-    let digit = digit_at word i h.digits within in
-    let other : get_or word i 0 ≢ 32 = omega (arith, digit) in
-    ap (λ byte. eqb byte 32) (get_or_default word i d 0 within) ∙ ne_eqb _ _ other
-
 -- a text is cut at its first space in one way
 pub one_way : (text a b n m : List ℕ) → HasNoSpace a → HasNoSpace n → text ≡ (a ++ codes " ") ++ b
     → text ≡ (n ++ codes " ") ++ m
@@ -58,82 +50,49 @@ one_way text a b n m p q e f =
     ∙ append_assoc n (codes " ") m in
     (sym (one_cut a n b m p q both), sym (one_rest a n b m p q both))
 
--- what a line that begins with send tells
-sent : (text : List ℕ) (e : Event) → IsLineOf e (codes "send " ++ text)
-    → (n : List ℕ) × (m : List ℕ) × (node : ℕ) × (to : ℕ) × IsNumber n node × IsNumber m to
-    × (text ≡ (n ++ codes " ") ++ m)
-sent text (Send node to) (n, m, sender, receiver, line) = (n, m, node, to, sender, receiver, cc)
-sent text (Build node keys) (n, k, _, _, line) = absurd (heads_differ refl line)
-sent text (Deliver flight) (n, _, line) = absurd (heads_differ refl line)
-sent text (Run node) (n, _, line) = absurd (heads_differ refl line)
-sent text (Quit node) (n, _, line) = absurd (heads_differ refl line)
-sent text (Stop node) (n, _, line) = absurd (seconds_differ refl line)
+-- a text whose first word ends at a space, behind send and behind build
+module _ (text a b : List ℕ) (cut : HasNoSpace a) (whole : text ≡ (a ++ codes " ") ++ b) where
+  pub sent : (e : Event) → IsLineOf e (codes "send " ++ text)
+      → (node : ℕ) × (to : ℕ) × IsNumber a node × IsNumber b to
+  sent (Send node to) (n, m, sender, receiver, line) =
+      let words = one_way text a b n m cut (number_lacks 32 n node (omega arith) sender) whole (cc) in
+      (node, to, subst (λ w. IsNumber w node) words.0 sender, subst (λ w. IsNumber w to) words.1 receiver)
+  sent (Build node keys) (_, _, _, _, line) = absurd (heads_differ refl line)
+  sent (Deliver flight) (_, _, line) = absurd (heads_differ refl line)
+  sent (Run node) (_, _, line) = absurd (heads_differ refl line)
+  sent (Quit node) (_, _, line) = absurd (heads_differ refl line)
+  sent (Stop node) (_, _, line) = absurd (seconds_differ refl line)
 
--- what a line that begins with build tells
-built : (text : List ℕ) (e : Event) → IsLineOf e (codes "build " ++ text)
-    → (n : List ℕ) × (k : List ℕ) × (node : ℕ) × (keys : ℕ) × IsNumber n node × AreKeys k keys
-    × (text ≡ (n ++ codes " ") ++ k)
-built text (Build node keys) (n, k, number, held, line) = (n, k, node, keys, number, held, cc)
-built text (Send node to) (n, m, _, _, line) = absurd (heads_differ refl line)
-built text (Deliver flight) (n, _, line) = absurd (heads_differ refl line)
-built text (Run node) (n, _, line) = absurd (heads_differ refl line)
-built text (Quit node) (n, _, line) = absurd (heads_differ refl line)
-built text (Stop node) (n, _, line) = absurd (heads_differ refl line)
-
--- the words of a send or a build, where one of them is none
-module _ (text a b : List ℕ) (cut : HasNoSpace a) (whole : text ≡ (a ++ codes " ") ++ b) (e : Event) where
-  pub no_sender : ((n : ℕ) → ¬ IsNumber a n) → ¬ IsLineOf e (codes "send " ++ text)
-  no_sender bad told =
-      let s = sent text e told in
-      let same = one_way text a b s.0 s.1 cut (number_no_space s.0 s.2 s.4) whole s.6 in
-      bad s.2 (subst (λ w. IsNumber w s.2) same.0 s.4)
-
-  pub no_receiver : ((n : ℕ) → ¬ IsNumber b n) → ¬ IsLineOf e (codes "send " ++ text)
-  no_receiver bad told =
-      let s = sent text e told in
-      let same = one_way text a b s.0 s.1 cut (number_no_space s.0 s.2 s.4) whole s.6 in
-      bad s.3 (subst (λ w. IsNumber w s.3) same.1 s.5)
-
-  pub no_builder : ((n : ℕ) → ¬ IsNumber a n) → ¬ IsLineOf e (codes "build " ++ text)
-  no_builder bad told =
-      let s = built text e told in
-      let same = one_way text a b s.0 s.1 cut (number_no_space s.0 s.2 s.4) whole s.6 in
-      bad s.2 (subst (λ w. IsNumber w s.2) same.0 s.4)
-
-  pub no_keys : ((k : ℕ) → ¬ AreKeys b k) → ¬ IsLineOf e (codes "build " ++ text)
-  no_keys bad told =
-      let s = built text e told in
-      let same = one_way text a b s.0 s.1 cut (number_no_space s.0 s.2 s.4) whole s.6 in
-      bad s.3 (subst (λ w. AreKeys w s.3) same.1 s.5)
-
--- a word without spaces that is given by its letters
-pub spelled : (word : List ℕ) → AllByRecursion (λ byte. eqb byte 32 ≡ false) word → HasNoSpace word
-spelled word h = All-from_recursion (λ byte. eqb byte 32 ≡ false) word h
+  pub built : (e : Event) → IsLineOf e (codes "build " ++ text)
+      → (node : ℕ) × (keys : ℕ) × IsNumber a node × AreKeys b keys
+  built (Build node keys) (n, k, number, held, line) =
+      let words = one_way text a b n k cut (number_lacks 32 n node (omega arith) number) whole (cc) in
+      (node, keys, subst (λ w. IsNumber w node) words.0 number, subst (λ w. AreKeys w keys) words.1 held)
+  built (Send node to) (_, _, _, _, line) = absurd (heads_differ refl line)
+  built (Deliver flight) (_, _, line) = absurd (heads_differ refl line)
+  built (Run node) (_, _, line) = absurd (heads_differ refl line)
+  built (Quit node) (_, _, line) = absurd (heads_differ refl line)
+  built (Stop node) (_, _, line) = absurd (heads_differ refl line)
 
 -- one word behind another that is neither build nor send: where it is no number, the line is that of no event
-pub no_number : (verb word line : List ℕ) → HasNoSpace verb → verb ≢ codes "build" → verb ≢ codes "send"
-    → line ≡ verb ++ 32 ∷ word
+pub no_number : (verb word line : List ℕ) → is_lacking 32 verb ≡ true → verb ≢ codes "build"
+    → verb ≢ codes "send" → line ≡ verb ++ 32 ∷ word
     → ((n : ℕ) → ¬ IsNumber word n) → (e : Event) → ¬ IsLineOf e line
-no_number verb word line p build send whole bad (Build node keys) (n, k, _, _, same) =
-    build (one_cut verb (codes "build") word _ p
-    (spelled (codes "build") (refl, (refl, (refl, (refl, (refl, tt)))))) (sym whole ∙ same))
-no_number verb word line p build send whole bad (Send node to) (n, m, _, _, same) =
-    send (one_cut verb (codes "send") word _ p (spelled (codes "send") (refl, (refl, (refl, (refl, tt)))))
-    (sym whole ∙ same))
-no_number verb word line p build send whole bad (Deliver flight) (n, number, same) =
-    let rest = one_rest verb (codes "deliver") word n p
-    (spelled (codes "deliver") (refl, (refl, (refl, (refl, (refl, (refl, (refl, tt))))))))
-    (sym whole ∙ same) in
-    bad flight (subst (λ w. IsNumber w flight) (sym rest) number)
-no_number verb word line p build send whole bad (Run node) (n, number, same) =
-    let rest = one_rest verb (codes "run") word n p (spelled (codes "run") (refl, (refl, (refl, tt))))
-    (sym whole ∙ same) in
-    bad node (subst (λ w. IsNumber w node) (sym rest) number)
-no_number verb word line p build send whole bad (Quit node) (n, number, same) =
-    let rest = one_rest verb (codes "quit") word n p
-    (spelled (codes "quit") (refl, (refl, (refl, (refl, tt))))) (sym whole ∙ same) in
-    bad node (subst (λ w. IsNumber w node) (sym rest) number)
-no_number verb word line p build send whole bad (Stop node) (n, number, same) =
-    let rest = one_rest verb (codes "stop") word n p
-    (spelled (codes "stop") (refl, (refl, (refl, (refl, tt))))) (sym whole ∙ same) in
-    bad node (subst (λ w. IsNumber w node) (sym rest) number)
+no_number verb word line p build send whole bad = go
+  where
+    cut : (other rest : List ℕ) → is_lacking 32 other ≡ true → line ≡ other ++ 32 ∷ rest → verb ≡ other
+    cut other rest q same =
+        one_cut verb other word rest (lacks 32 verb p) (lacks 32 other q) (sym whole ∙ same)
+
+    told : (other n : List ℕ) (k : ℕ) → is_lacking 32 other ≡ true → line ≡ other ++ 32 ∷ n → ¬ IsNumber n k
+    told other n k q same number =
+        let behind = one_rest verb other word n (lacks 32 verb p) (lacks 32 other q) (sym whole ∙ same) in
+        bad k (subst (λ w. IsNumber w k) (sym behind) number)
+
+    go : (e : Event) → ¬ IsLineOf e line
+    go (Build node keys) (n, k, _, _, same) = build (cut (codes "build") _ refl same)
+    go (Send node to) (n, m, _, _, same) = send (cut (codes "send") _ refl same)
+    go (Deliver flight) (n, number, same) = told (codes "deliver") n flight refl same number
+    go (Run node) (n, number, same) = told (codes "run") n node refl same number
+    go (Quit node) (n, number, same) = told (codes "quit") n node refl same number
+    go (Stop node) (n, number, same) = told (codes "stop") n node refl same number

@@ -1,23 +1,20 @@
 -- A line of a script is that of one event.
-use Rattle.std.proofs.Common.{◌≡◌, ℕ, cond, eqb, List, [], ◌∷◌, ◌++◌, append_assoc, refl, sym, ap, ap₂, ◌∙◌, subst, inl, inr}
+use Rattle.std.proofs.Common.{◌≡◌, ℕ, cond, eqb, List, [], ◌∷◌, ◌++◌, append_assoc, refl, sym, ap, ap₂, ◌∙◌, subst, arith}
 use Rattle.std.specs.Prelude.{codes}
 use Rattle.std.specs.List.{slice_split}
 use Rattle.std.specs.Str.{bytes_eq}
 use Rattle.std.specs.Str.Parse.{digits_value}
-use Rattle.std.proofs.lemmas.Bool.{ne_eqb}
 use Rattle.std.proofs.lemmas.List.Splits.{slice_split_at, slice_split_none}
 use Rattle.dn_machine.specs.declared.events.Event.{Event}
 use Rattle.dn_machine.specs.declared.events.Event.TheVariants.{Build, Send, Deliver, Run, Quit, Stop}
 use Rattle.dn_game.specs.ScriptWords.{IsNumber, AreKeys}
 use Rattle.dn_game.specs.ScriptLines.{HasNoSpace, IsLineOf}
-use Rattle.dn_game.proofs.ScriptKeys.{letter_is_not, one_keys}
-use Rattle.dn_game.proofs.ScriptLines.{number_no_space, spelled, one_way}
+use Rattle.dn_game.proofs.ScriptKeys.{one_keys}
+use Rattle.dn_game.proofs.Lacking.{number_lacks, keys_lack}
+use Rattle.dn_game.proofs.ScriptLines.{one_way}
 
--- keys have no space
-keys_no_space : (word : List ℕ) (keys : ℕ) → AreKeys word keys → HasNoSpace word
-keys_no_space word keys (inl none) = subst HasNoSpace (sym none.0) (spelled (codes "-") (refl, tt))
-keys_no_space word keys (inr some) =
-    λ i d within. ne_eqb _ _ (letter_is_not _ 32 (some.known i d within) refl)
+number_no_space : (word : List ℕ) (n : ℕ) → IsNumber word n → HasNoSpace word
+number_no_space word n h = number_lacks 32 word n (omega arith) h
 
 words : List ℕ → List (List ℕ)
 words line = slice_split (λ byte. eqb byte 32) line
@@ -47,11 +44,7 @@ event_of keys _ = Stop 0
 -- the keys of a build, and others elsewhere
 keys_or : Event → ℕ → ℕ
 keys_or (Build node keys) others = keys
-keys_or (Send node to) others = others
-keys_or (Deliver flight) others = others
-keys_or (Run node) others = others
-keys_or (Quit node) others = others
-keys_or (Stop node) others = others
+keys_or _ others = others
 
 -- a number behind a word
 told_number : (verb word line : List ℕ) (keys number : ℕ) (make : ℕ → Event) → IsNumber word number
@@ -81,7 +74,7 @@ told_event others line (Send node to) (n, m, number, other, same) =
 told_event others line (Build node keys) (n, k, number, held, same) =
     ap (λ l. event_of keys (words l)) same
     ∙ ap (λ w. event_of keys (codes "build" ∷ w))
-    (two_words n k (number_no_space n node number) (keys_no_space k keys held))
+    (two_words n k (number_no_space n node number) (keys_lack 32 k keys refl refl held))
     ∙ ap (λ x. Build x keys) (sym number.value)
 
 -- two events of a line have the same keys, where they have any

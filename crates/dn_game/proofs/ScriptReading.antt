@@ -1,31 +1,15 @@
 -- A text is read as a script in one way.
 use Rattle.std.proofs.Common.{◌≡◌, ℕ, ◌+◌, suc, List, [], ◌∷◌, ◌++◌, length, Result, Ok, Err, refl, sym, ap, ap₂, ◌∙◌, subst, inl, inr, arith}
 use Rattle.dn_machine.specs.declared.events.Event.{Event}
-use Rattle.dn_machine.specs.declared.events.Event.TheVariants.{Build, Send, Deliver, Run, Quit, Stop}
 use Rattle.dn_game.specs.ScriptLines.{IsSkipped, IsLineOf, IsBad}
 use Rattle.dn_game.specs.Script.{AreEventsOf, none, skipped, told, StandsBehind, IsReadAs, IsSameButMemory}
 use Rattle.dn_game.specs.declared.script.ScriptFault.{ScriptFault}
 use Rattle.dn_game.specs.declared.script.ScriptFault.TheVariants.{TooLong, Line, Memory}
-use Rattle.dn_game.proofs.ScriptLines.{heads_differ}
 use Rattle.dn_game.proofs.ScriptOneEvent.{one_event}
-
-nil_differs : {x : ℕ} {s : List ℕ} → [] ≡ x ∷ s → ⊥
-nil_differs e = cc
 
 -- the line of an event is not skipped
 told_not_skipped : (line : List ℕ) (e : Event) → IsLineOf e line → ¬ IsSkipped line
-told_not_skipped line (Build node keys) p (inl s) = nil_differs (sym s ∙ p.4)
-told_not_skipped line (Build node keys) p (inr s) = heads_differ refl (sym p.4 ∙ s.1)
-told_not_skipped line (Send node to) p (inl s) = nil_differs (sym s ∙ p.4)
-told_not_skipped line (Send node to) p (inr s) = heads_differ refl (sym p.4 ∙ s.1)
-told_not_skipped line (Deliver flight) p (inl s) = nil_differs (sym s ∙ p.2)
-told_not_skipped line (Deliver flight) p (inr s) = heads_differ refl (sym p.2 ∙ s.1)
-told_not_skipped line (Run node) p (inl s) = nil_differs (sym s ∙ p.2)
-told_not_skipped line (Run node) p (inr s) = heads_differ refl (sym p.2 ∙ s.1)
-told_not_skipped line (Quit node) p (inl s) = nil_differs (sym s ∙ p.2)
-told_not_skipped line (Quit node) p (inr s) = heads_differ refl (sym p.2 ∙ s.1)
-told_not_skipped line (Stop node) p (inl s) = nil_differs (sym s ∙ p.2)
-told_not_skipped line (Stop node) p (inr s) = heads_differ refl (sym p.2 ∙ s.1)
+told_not_skipped line e p s = grind arith
 
 -- lines have their events in one way
 same_events : {all : List (List ℕ)} {a b : List Event} → AreEventsOf all a → AreEventsOf all b → a ≡ b
@@ -35,14 +19,19 @@ same_events (skipped s p) (told t q) = absurd (told_not_skipped _ _ t s)
 same_events (told s p) (skipped t q) = absurd (told_not_skipped _ _ s t)
 same_events (told s p) (told t q) = ap₂ (λ e es. e ∷ es) (one_event _ _ _ s t) (same_events p q)
 
+-- whatever events a line has, the lines behind it have theirs
+events_behind : {line : List ℕ} {more : List (List ℕ)} {events : List Event}
+    → AreEventsOf (line ∷ more) events → (rest : List Event) × AreEventsOf more rest
+events_behind (skipped s p) = (_, p)
+events_behind (told s p) = (_, p)
+
 -- none of these lines is bad
 not_bad : (before : List (List ℕ)) (line : List ℕ) (after : List (List ℕ)) (events : List Event)
     → AreEventsOf (before ++ line ∷ after) events
     → ¬ IsBad line
 not_bad [] line after _ (skipped s p) bad = bad.0 s
 not_bad [] line after _ (told s p) bad = bad.1 _ s
-not_bad (x ∷ before) line after _ (skipped s p) bad = not_bad before line after _ p bad
-not_bad (x ∷ before) line after _ (told s p) bad = not_bad before line after _ p bad
+not_bad (x ∷ before) line after _ p bad = not_bad before line after _ (events_behind p).1 bad
 
 -- two first bad lines are one
 one_place : (b c : List (List ℕ)) (k l : List ℕ) (y z : List (List ℕ)) (es fs : List Event)
@@ -55,18 +44,9 @@ one_place [] (x ∷ c) k l y z es fs e p q bad worse =
 one_place (x ∷ b) [] k l y z es fs e p q bad worse =
     let same : l ≡ x = cc in
     absurd (not_bad [] x b es p (subst IsBad same worse))
-one_place (v ∷ b) (w ∷ c) k l y z _ _ e (skipped s p) (skipped t q) bad worse =
+one_place (v ∷ b) (w ∷ c) k l y z _ _ e p q bad worse =
     let rest : b ++ k ∷ y ≡ c ++ l ∷ z = cc in
-    ap suc (one_place b c k l y z _ _ rest p q bad worse)
-one_place (v ∷ b) (w ∷ c) k l y z _ _ e (skipped s p) (told t q) bad worse =
-    let rest : b ++ k ∷ y ≡ c ++ l ∷ z = cc in
-    ap suc (one_place b c k l y z _ _ rest p q bad worse)
-one_place (v ∷ b) (w ∷ c) k l y z _ _ e (told s p) (skipped t q) bad worse =
-    let rest : b ++ k ∷ y ≡ c ++ l ∷ z = cc in
-    ap suc (one_place b c k l y z _ _ rest p q bad worse)
-one_place (v ∷ b) (w ∷ c) k l y z _ _ e (told s p) (told t q) bad worse =
-    let rest : b ++ k ∷ y ≡ c ++ l ∷ z = cc in
-    ap suc (one_place b c k l y z _ _ rest p q bad worse)
+    ap suc (one_place b c k l y z _ _ rest (events_behind p).1 (events_behind q).1 bad worse)
 
 same_count : {all : List (List ℕ)} {k l : List ℕ} {m n : ℕ} → StandsBehind all k m → StandsBehind all l n
     → IsBad k → IsBad l → m ≡ n

@@ -3,14 +3,13 @@ use Rattle.std.proofs.Common.{◌≡◌, ◌≢◌, ◌<◌, ◌≤◌, ℕ, zer
 use Rattle.std.specs.Prelude.{codes, Ok}
 use Rattle.std.specs.Fmt.{decimal}
 use Rattle.std.specs.Int.{bit_at}
-use Rattle.std.specs.List.{All, Contains, AllByRecursion}
+use Rattle.std.specs.List.{All, Contains}
 use Rattle.std.proofs.lemmas.Bool.{eqb-true, eq-eqb, cases_eq, ne_eqb, cond-true, cond-false}
 use Rattle.std.proofs.lemmas.Fmt.{decimal_is_IsNumeral, length-decimal-le}
 use Rattle.std.proofs.lemmas.List.{get_or_default}
-use Rattle.std.proofs.lemmas.List.Elements.{Contains-append_right, All-append, All-filter, All-from_recursion, All-head, All-tail, filter_passes}
+use Rattle.std.proofs.lemmas.List.Elements.{Contains-append_right, All-append, All-filter, All-head, All-tail, filter_passes}
 use Rattle.std.proofs.lemmas.List.Splits.{slice_split_at, slice_split_none}
 use Rattle.std.proofs.lemmas.Nat.Bits.{bit_at-zero, bit_at-lt, same_from_bits_below}
-use Rattle.std.proofs.lemmas.Str.Parse.{digit_at}
 use Rattle.dn_tic.specs.Keys.{place_of}
 use Rattle.dn_machine.specs.declared.events.Event.{Event}
 use Rattle.dn_machine.specs.declared.events.Event.TheVariants.{Build, Send, Deliver, Run, Quit, Stop}
@@ -18,7 +17,8 @@ use Rattle.dn_game.specs.ScriptWords.{IsNumber, AreKeys, AreLetters, letters, pl
 use Rattle.dn_game.specs.ScriptLines.{lines, IsLineOf}
 use Rattle.dn_game.specs.Script.{size_limit, AreEventsOf, skipped, told, none, IsReadAs}
 use Rattle.dn_game.specs.Written.{is_down_at, letters_down, keys_word, event_words, script_text, IsShort, HasScriptLine}
-use Rattle.dn_game.proofs.ScriptKeys.{letter_found, letter_is_not, place_small}
+use Rattle.dn_game.proofs.Lacking.{Lacks, is_lacking, lacks, number_lacks, keys_lack}
+use Rattle.dn_game.proofs.ScriptKeys.{letter_found, place_small}
 
 -- a number of at most nine digits is read back
 number_written : (n : ℕ) → IsShort n → IsNumber (decimal n) n
@@ -94,26 +94,6 @@ module _ (keys : ℕ) where
         (inr (letters_written some small))
   ]
 
--- a text without a line feed
-abbrev HasNoFeed : List ℕ → Type 0
-HasNoFeed text = All (λ byte. eqb byte 10 ≡ false) text
-
-spelled : (word : List ℕ) → AllByRecursion (λ byte. eqb byte 10 ≡ false) word → HasNoFeed word
-spelled word h = All-from_recursion (λ byte. eqb byte 10 ≡ false) word h
-
-joined : (xs ys : List ℕ) → HasNoFeed xs → HasNoFeed ys → HasNoFeed (xs ++ ys)
-joined xs ys p q = All-append (λ byte. eqb byte 10 ≡ false) xs ys p q
-
-number_no_feed : (n : ℕ) → IsShort n → HasNoFeed (decimal n)
-number_no_feed n short i d within =
-    let digit = digit_at (decimal n) i (number_written n short).digits within in
-    let other : get_or (decimal n) i 0 ≢ 10 = omega (arith, digit) in
-    ap (λ byte. eqb byte 10) (get_or_default (decimal n) i d 0 within) ∙ ne_eqb _ _ other
-
-keys_no_feed : (word : List ℕ) (keys : ℕ) → AreKeys word keys → HasNoFeed word
-keys_no_feed word keys (inl nil) = subst HasNoFeed (sym nil.0) (spelled (codes "-") (refl, tt))
-keys_no_feed word keys (inr some) = λ i d within. ne_eqb _ _ (letter_is_not _ 10 (some.known i d within) refl)
-
 -- the words of an event are its line, and have no line feed
 words_read : (event : Event) → HasScriptLine event → IsLineOf event (event_words event)
 words_read (Build node keys) can =
@@ -130,40 +110,38 @@ words_read (Run node) can = (decimal node, number_written node can, refl)
 words_read (Quit node) can = (decimal node, number_written node can, refl)
 words_read (Stop node) can = (decimal node, number_written node can, refl)
 
-words_no_feed : (event : Event) → HasScriptLine event → HasNoFeed (event_words event)
+-- one word behind another, and two, without a line feed
+one_behind : (verb word : List ℕ) → is_lacking 10 verb ≡ true → Lacks 10 word → Lacks 10 (verb ++ word)
+one_behind verb word v p = All-append (λ byte. eqb byte 10 ≡ false) verb word (lacks 10 verb v) p
+
+two_behind : (verb a b : List ℕ) → is_lacking 10 verb ≡ true → Lacks 10 a → Lacks 10 b
+    → Lacks 10 (((verb ++ a) ++ codes " ") ++ b)
+two_behind verb a b v p q =
+    let P = λ (byte : ℕ). eqb byte 10 ≡ false in
+    All-append P ((verb ++ a) ++ codes " ") b
+    (All-append P (verb ++ a) (codes " ") (one_behind verb a v p) (lacks 10 (codes " ") refl)) q
+
+number_no_feed : (n : ℕ) → IsShort n → Lacks 10 (decimal n)
+number_no_feed n short = number_lacks 10 (decimal n) n (omega arith) (number_written n short)
+
+words_no_feed : (event : Event) → HasScriptLine event → Lacks 10 (event_words event)
 words_no_feed (Build node keys) can =
-    joined (codes "build " ++ decimal node ++ codes " ") (keys_word keys)
-    (joined (codes "build " ++ decimal node) (codes " ")
-    (joined (codes "build ") (decimal node)
-    (spelled (codes "build ") (refl, (refl, (refl, (refl, (refl, (refl, tt)))))))
-    (number_no_feed node can.0))
-    (spelled (codes " ") (refl, tt)))
-    (keys_no_feed (keys_word keys) keys (keys_written keys can.1))
+    two_behind (codes "build ") (decimal node) (keys_word keys) refl (number_no_feed node can.0)
+    (keys_lack 10 (keys_word keys) keys refl refl (keys_written keys can.1))
 words_no_feed (Send node to) can =
-    joined (codes "send " ++ decimal node ++ codes " ") (decimal to)
-    (joined (codes "send " ++ decimal node) (codes " ")
-    (joined (codes "send ") (decimal node)
-    (spelled (codes "send ") (refl, (refl, (refl, (refl, (refl, tt)))))) (number_no_feed node can.0))
-    (spelled (codes " ") (refl, tt)))
+    two_behind (codes "send ") (decimal node) (decimal to) refl (number_no_feed node can.0)
     (number_no_feed to can.1)
 words_no_feed (Deliver flight) can =
-    joined (codes "deliver ") (decimal flight)
-    (spelled (codes "deliver ") (refl, (refl, (refl, (refl, (refl, (refl, (refl, (refl, tt)))))))))
-    (number_no_feed flight can)
-words_no_feed (Run node) can =
-    joined (codes "run ") (decimal node) (spelled (codes "run ") (refl, (refl, (refl, (refl, tt)))))
-    (number_no_feed node can)
-words_no_feed (Quit node) can =
-    joined (codes "quit ") (decimal node) (spelled (codes "quit ") (refl, (refl, (refl, (refl, (refl, tt))))))
-    (number_no_feed node can)
-words_no_feed (Stop node) can =
-    joined (codes "stop ") (decimal node) (spelled (codes "stop ") (refl, (refl, (refl, (refl, (refl, tt))))))
-    (number_no_feed node can)
+    one_behind (codes "deliver ") (decimal flight) refl (number_no_feed flight can)
+words_no_feed (Run node) can = one_behind (codes "run ") (decimal node) refl (number_no_feed node can)
+words_no_feed (Quit node) can = one_behind (codes "quit ") (decimal node) refl (number_no_feed node can)
+words_no_feed (Stop node) can = one_behind (codes "stop ") (decimal node) refl (number_no_feed node can)
 
 -- the lines of a script are those of its events
-lines_read : (events : List Event) → All HasScriptLine events → AreEventsOf (lines (script_text events)) events
+lines_read : (events : List Event) → All HasScriptLine events
+    → AreEventsOf (lines (script_text events)) events
 lines_read [] can =
-    subst (λ ls. AreEventsOf ls []) (sym (slice_split_none (λ byte. eqb byte 10) [] (spelled [] tt)))
+    subst (λ ls. AreEventsOf ls []) (sym (slice_split_none (λ byte. eqb byte 10) [] (lacks 10 [] refl)))
     (skipped (inl refl) none)
 lines_read (event ∷ events) can =
     let here = All-head HasScriptLine event events can in

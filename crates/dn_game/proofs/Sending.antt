@@ -1,20 +1,19 @@
 -- What a node gives, and what joins the packets.
-use Rattle.std.proofs.Common.{◌≡◌, ◌<◌, ◌++◌, ◌∷◌, [], ℕ, Bool, true, false, cond, List, length, set, Option, Some, None, refl, ap, sym, ◌∙◌, subst, arith}
+use Rattle.std.proofs.Common.{◌≡◌, ◌<◌, ◌++◌, ◌∷◌, [], ℕ, List, length, set, Option, Some, None, ap, sym, ◌∙◌, arith}
 use Rattle.std.specs.Prelude.{All, IfSome, nat_lt}
 use Rattle.std.specs.Option.{option_map}
 use Rattle.std.proofs.lemmas.Bool.{lt-ltb, cond-true}
+use Rattle.std.proofs.lemmas.List.Elements.{All-push}
 use Rattle.std.proofs.lemmas.Option.{same_Some}
 use Rattle.arrayvec.specs.ArrayVec.{ArrayVec}
-use Rattle.dn_setup.specs.Settings.{Settings}
 use Rattle.dn_machine.specs.declared.answers.Phase.{Phase}
-use Rattle.dn_machine.specs.declared.answers.Phase.TheVariants.{Listening, Gathering, Playing, Ended}
 use Rattle.dn_machine.specs.declared.events.Done.{Done}
 use Rattle.dn_machine.specs.declared.events.Event.TheVariants.{Send}
 use Rattle.dn_machine.specs.Flight as exact
 use Rattle.dn_machine.specs.Game as machine
 use Rattle.dn_machine.specs.Game.{on_event, posted, with_node}
 use Rattle.dn_machine.specs.Node as machine_node
-use Rattle.dn_machine.specs.Sending.{on_send, on_send_in, set_up_flight}
+use Rattle.dn_machine.specs.Sending.{on_send, on_send_in}
 use Rattle.dn_machine.specs.Worlds.{Rules}
 use Rattle.dn_node.specs.declared.node.Node.{Node}
 use Rattle.dn_lockstep.specs.declared.lockstep.aiming.Aim.{Aim}
@@ -31,36 +30,16 @@ use Rattle.dn_game.specs.Applied.{IsAfter}
 use Rattle.dn_game.specs.Contents.{Contents}
 use Rattle.dn_game.specs.Represents.{Represents, IsCarried, flight_of}
 use Rattle.dn_game.proofs.Moving.{places}
-use Rattle.dn_game.proofs.Places.{all_more}
 use Rattle.dn_game.proofs.Posting.{posts_none, posts_some}
 
 -- from whom to whom
 abbrev IsBetween : ℕ → ℕ → exact.Flight → Type 0
 IsBetween me to flight = (flight.from ≡ me) × (flight.to ≡ to)
 
-between : (me to : ℕ) (flight given : exact.Flight) → Some flight ≡ Some given → IsBetween me to flight
-    → IsBetween me to given
-between me to flight given e is = let P : exact.Flight → Type 0 = λ x. IsBetween me to x in
-    subst P (same_Some flight given e) is
-
-module _ {S : Type 0} (rules : Rules S) (me to : ℕ) (m : machine_node.Node) where
-  set_up_between : (settings : Option Settings) (given : exact.Flight)
-      → set_up_flight me to settings ≡ Some given → IsBetween me to given
-  set_up_between None given e = absurd (cc)
-  set_up_between (Some settings) given e = between me to _ given e (refl, refl)
-
-  if_between : (test : Bool) (next : machine_node.Node) (flight given : exact.Flight) → IsBetween me to flight
-      → (cond {A = machine_node.Node × Option exact.Flight} test (next, Some flight) (m, None)).1 ≡ Some given
-      → IsBetween me to given
-  if_between true next flight given is e = between me to flight given e is
-  if_between false next flight given is e = absurd (cc)
-
-  between_in : (phase : Phase) (given : exact.Flight) → (on_send_in rules me m to phase).1 ≡ Some given
-      → IsBetween me to given
-  between_in Listening given e = absurd (cc)
-  between_in Gathering given e = set_up_between m.settings given e
-  between_in Playing given e = between me to _ given e (refl, refl)
-  between_in (Ended cause) given e = if_between _ _ _ given (refl, refl) e
+between_in : {S : Type 0} (rules : Rules S) (me to : ℕ) (m : machine_node.Node) (phase : Phase)
+    (given : exact.Flight)
+    → (on_send_in rules me m to phase).1 ≡ Some given → IsBetween me to given
+between_in rules me to m phase given e = grind arith
 
 -- a packet that a node gives is carried
 module _ {W S : Type 0} (state : W → S) (rules : Rules S) (me to : ℕ) (n : node.Contents W)
@@ -92,25 +71,14 @@ module _ {W S : Type 0} (state : W → S) (rules : Rules S) (g : Contents W) (m 
   asked : sent_to to rules me (m.nodes me) ≡ on_send rules me (m.nodes me) to
   asked = cond-true (nat_lt to rules.players) _ _ (lt-ltb to rules.players (omega (arith, there, r.players)))
 
-  sends_if : (done : Done)
-      → IsAfter state rules (record g { nodes = set g.nodes me new; flights = flights })
-      (posted (with_node m me (sent_to to rules me (m.nodes me)).0) (sent_to to rules me (m.nodes me)).1) done
-      → IsAfter state rules (record g { nodes = set g.nodes me new; flights = flights })
-      (on_event rules m (Send me to)) done
-  sends_if done is =
-      let P : machine_node.Node × Option exact.Flight → Type 0 =
-      λ x. IsAfter state rules (record g { nodes = set g.nodes me new; flights = flights })
-      (posted (with_node m me x.0) x.1) done in
-      subst P asked is
-
   pub sends_none : node_to.Represents state rules me (node.contents new) (sent_to to rules me (m.nodes me)).0
       → (sent_to to rules me (m.nodes me)).1 ≡ None → flights ≡ g.flights
       → IsAfter state rules (record g { nodes = set g.nodes me new; flights = flights })
       (on_event rules m (Send me to)) Done.Silent
   sends_none is none same =
       let sent = sent_to to rules me (m.nodes me) in
-      sends_if Done.Silent (posts_none state rules (record g { nodes = set g.nodes me new })
-      (with_node m me sent.0)
+      rw asked
+      at (posts_none state rules (record g { nodes = set g.nodes me new }) (with_node m me sent.0)
       (places state rules g m me new sent.0 r below is) sent.1 flights none same)
 
   -- the packet has the numbers that were aimed at
@@ -129,9 +97,8 @@ module _ {W S : Type 0} (state : W → S) (rules : Rules S) (g : Contents W) (m 
       let some = some_flight bytes_of bytes.items sent.1 after.answer in
       let flight = some.0 in
       let numbers = same_Some aim (aim_of flight) (aimed ∙ ap (option_map aim_of) some.1) in
-      let P : Option exact.Flight → Type 0 = λ x. IfSome x IsFair in
       let carried = carries state rules me to old (m.nodes me) shown gives flight some.1
-      (omega (arith, below, r.players)) (subst P some.1 fair) in
+      (omega (arith, below, r.players)) (rw some.1 at fair) in
       let ends = given_between state rules me to old (m.nodes me) shown gives flight some.1 in
       let is : ◌≡◌ {A = Flight} (record { from = me; to = to; aim = aim; bytes = bytes }) (flight_of flight) =
       λ k. record {
@@ -140,8 +107,8 @@ module _ {W S : Type 0} (state : W → S) (rules : Rules S) (g : Contents W) (m 
         aim = numbers k;
         bytes = record { items = some.2 k };
       } in
-      sends_if (Done.Sent which)
-      (posts_some state rules (record g { nodes = set g.nodes me new }) (with_node m me sent.0)
+      rw asked
+      at (posts_some state rules (record g { nodes = set g.nodes me new }) (with_node m me sent.0)
       (places state rules g m me new sent.0 r below after.node) sent.1 flights flight some.1 _ is carried more
       which last)
 
@@ -155,6 +122,4 @@ pub still_below : (count after : ℕ) (old new : List Flight) (f : Flight) → n
     → All (λ x. x.to < count) old → f.to < count → after ≡ count
     → All (λ x. x.to < after) new
 still_below count after old new f is all one same =
-    let P : Flight → Type 0 = λ x. x.to < count in
-    let Q : ℕ → Type 0 = λ k. All (λ (x : Flight). x.to < k) new in
-    subst Q (sym same) (subst (All P) (sym is) (all_more P old f all one))
+    rw (same, is) (All-push (λ (x : Flight). x.to < count) old f all one)

@@ -30,8 +30,7 @@ module _ {W S : Type 0} (state : W → S) (rules : Rules S) (g : Contents W) (m 
   -- the node at a place represents the machine's
   pub node_at : (i : ℕ) (n : Node W) → i < length g.nodes → n ≡ slice_index_or g.nodes i n
       → node_to.Represents state rules i (node.contents n) (m.nodes i)
-  node_at i n h is = let same : length g.nodes ≡ length g.nodes = refl in
-      r.nodes i n (slice_get_read g.nodes (length g.nodes) i n same h is)
+  node_at i n h is = r.nodes i n (slice_get_read g.nodes (length g.nodes) i n refl h is)
 
   -- and has made as many commands
   pub made_at : (i count : ℕ) (n : Node W) → i < length g.nodes → n ≡ slice_index_or g.nodes i n

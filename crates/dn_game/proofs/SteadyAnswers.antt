@@ -1,12 +1,11 @@
 -- No event of a game that a list of events may leave is answered by a failed check.
-use Rattle.std.proofs.Common.{◌≡◌, ℕ, ℤ, Bool, true, false, not, List, [], ◌∷◌, cond, Option, Some, None, Result, Ok, Err, eqb, ltb, refl, ap, sym, ◌∙◌, subst, inl, inr}
+use Rattle.std.proofs.Common.{◌≡◌, ℕ, ℤ, Bool, true, false, true≢false, not, List, [], ◌∷◌, cond, Option, Some, None, Result, Ok, Err, ltb, refl, ap, sym, ◌∙◌, inl, inr, arith}
 use Rattle.std.specs.Prelude.{All, slice_get}
 use Rattle.std.proofs.lemmas.List.Elements.{All-cons, All-nil}
-use Rattle.std.proofs.lemmas.Bool.{cond_both, ltb-true}
+use Rattle.std.proofs.lemmas.Bool.{ltb-true}
 use Rattle.dn_setup.specs.Settings.{Settings}
 use Rattle.dn_machine.specs.declared.answers.Cause.TheVariants as Cause
-use Rattle.dn_machine.specs.declared.answers.Phase.{Phase}
-use Rattle.dn_machine.specs.declared.answers.Phase.TheVariants.{Listening, Gathering, Playing, Ended}
+use Rattle.dn_machine.specs.declared.answers.Phase.TheVariants.{Ended}
 use Rattle.dn_machine.specs.declared.answers.Ran.{Ran}
 use Rattle.dn_machine.specs.declared.events.Done.{Done}
 use Rattle.dn_machine.specs.declared.events.Event.{Event}
@@ -14,8 +13,8 @@ use Rattle.dn_machine.specs.declared.events.Event.TheVariants.{Build, Send, Deli
 use Rattle.dn_machine.specs.declared.events.Refusal.{Refusal}
 use Rattle.dn_machine.specs.Worlds.{Rules}
 use Rattle.dn_machine.specs.Flight.{Flight}
-use Rattle.dn_machine.specs.Node.{Node, ran, lowest}
-use Rattle.dn_machine.specs.Running.{is_awaited, first_off, row_held, full_at, on_run, on_run_in, on_run_playing}
+use Rattle.dn_machine.specs.Node.{Node, ran}
+use Rattle.dn_machine.specs.Running.{on_run}
 use Rattle.dn_machine.specs.Game.{Game, opening_game, posted, delivered, refused_flight, refused, on_event, applied_if, applied}
 use Rattle.dn_machine.proofs.Invariant.{IsKept}
 use Rattle.dn_machine.proofs.Games.{opens, happens_keeps, applied_keeps}
@@ -25,46 +24,33 @@ use Rattle.dn_game.specs.Played.{Plays}
 use Rattle.dn_game.specs.Promised.{IsSteady}
 
 -- a run that is answered by a mark that is off ends the node for it
-module _ {S : Type 0} (rules : Rules S) (node : Node) (player : ℕ) (was should : ℤ) where
-  abbrev EndsFor : Node × Ran → Type 0
-  EndsFor r = r.1 ≡ Ran.Inconsistent player was should
-      → r.0.phase ≡ Ended (Cause.Inconsistent player was should)
+off_ends : {S : Type 0} (rules : Rules S) (node : Node) (player : ℕ) (was should : ℤ)
+    → (on_run rules node).1 ≡ Ran.Inconsistent player was should
+    → (on_run rules node).0.phase ≡ Ended (Cause.Inconsistent player was should)
+unfolding on_run
+off_ends rules node player was should e = grind arith
 
-  off_ends : EndsFor (on_run rules node)
-  unfolding on_run
-  off_ends = go node.phase
-    where
-      playing : (awaited off : Option ℕ) → EndsFor (on_run_playing rules node awaited off)
-      playing (Some other) off = λ e. absurd (cc)
-      playing None (Some other) = λ e. cc
-      playing None None = cond_both (eqb (ran node) (full_at rules (row_held rules node))) _ _ EndsFor
-          (λ full e. absurd (cc)) (λ runs e. absurd (cc))
+-- an answer that is of no run and of no delivery
+abbrev is_other : Result Done Refusal → Bool
+is_other (Ok (Done.Ran ran)) = false
+is_other (Ok (Done.Heard heard)) = false
+is_other _ = true
 
-      go : (phase : Phase) → EndsFor (on_run_in rules node phase)
-      go Listening = λ e. absurd (cc)
-      go Gathering = λ e. absurd (cc)
-      go (Ended cause) = λ e. absurd (cc)
-      go Playing = playing (lowest rules.players (is_awaited node)) (first_off rules node)
-
-refused_steady : (refusal : Refusal) → IsSteady (Err refusal)
-refused_steady refusal = record {
-  consistent = λ player was should e. absurd (cc);
-  kept = λ number e. absurd (cc);
+other_steady : (answer : Result Done Refusal) → is_other answer ≡ true → IsSteady answer
+other_steady answer other = record {
+  consistent = λ player was should e. absurd (true≢false (sym other ∙ ap is_other e));
+  kept = λ number e. absurd (true≢false (sym other ∙ ap is_other e));
 }
 
 -- an event of a number that is not refused is one of a player
 passes : (b : Bool) (x : Refusal) (rest : Option Refusal) → cond (not b) (Some x) rest ≡ None → b ≡ true
-passes true x rest free = refl
-passes false x rest free = absurd (cc)
+passes b x rest free = grind arith
 
 module _ {S : Type 0} (rules : Rules S) (settings : Settings) (game : Game)
     (kept : IsKept rules settings game) where
   sends : (game : Game) (flight : Option Flight) → IsSteady (Ok (posted game flight).1)
-  sends game None = record { consistent = λ player was should e. absurd (cc); kept = λ number e. absurd (cc) }
-  sends game (Some flight) = record {
-    consistent = λ player was should e. absurd (cc);
-    kept = λ number e. absurd (cc);
-  }
+  sends game None = other_steady _ refl
+  sends game (Some flight) = other_steady _ refl
 
   delivers : (which : ℕ) (flight : Option Flight) → slice_get game.flights which ≡ flight
       → refused_flight game flight ≡ None
@@ -92,19 +78,12 @@ module _ {S : Type 0} (rules : Rules S) (settings : Settings) (game : Game)
 
   happens : (event : Event) → refused rules.players game event ≡ None
       → IsSteady (Ok (on_event rules game event).1)
-  happens (Build node keys) free =
-      record { consistent = λ player was should e. absurd (cc); kept = λ number e. absurd (cc) }
+  happens (Build node keys) free = other_steady _ refl
   happens (Send node to) free = sends _ _
   happens (Deliver which) free = delivers which (slice_get game.flights which) refl free
   happens (Run node) free = runs node free
-  happens (Quit node) free = record {
-    consistent = λ player was should e. absurd (cc);
-    kept = λ number e. absurd (cc);
-  }
-  happens (Stop node) free = record {
-    consistent = λ player was should e. absurd (cc);
-    kept = λ number e. absurd (cc);
-  }
+  happens (Quit node) free = other_steady _ refl
+  happens (Stop node) free = other_steady _ refl
 
   pub applied_steady : (event : Event) → IsSteady (applied rules game event).1
   unfolding applied
@@ -112,7 +91,7 @@ module _ {S : Type 0} (rules : Rules S) (settings : Settings) (game : Game)
     where
       go : (o : Option Refusal) → refused rules.players game event ≡ o
           → IsSteady (applied_if rules game event o).1
-      go (Some refusal) e = refused_steady refusal
+      go (Some refusal) e = other_steady (Err refusal) refl
       go None e = happens event e
 
 -- nor is one of a list
@@ -123,15 +102,13 @@ steady_from rules settings [] [] game last kept way = All-nil IsSteady
 steady_from rules settings [] (a ∷ answers) game last kept way = absurd way
 steady_from rules settings (e ∷ events) [] game last kept way = absurd way
 steady_from rules settings (e ∷ events) (a ∷ answers) game last kept (next, inl (same, answered), rest) =
-    let P : Game → Type 0 = λ g. IsKept rules settings g in
-    All-cons IsSteady a answers (subst IsSteady (sym answered) (applied_steady rules settings game kept e))
-    (steady_from rules settings events answers next last
-    (subst P (sym same) (applied_keeps rules settings game kept e)) rest)
+    All-cons IsSteady a answers (rw answered (applied_steady rules settings game kept e))
+    (steady_from rules settings events answers next last (rw same (applied_keeps rules settings game kept e))
+    rest)
 steady_from rules settings (e ∷ events) (a ∷ answers) game last kept
     (next, inr (free, send, same, answered), rest) =
-    let P : Game → Type 0 = λ g. IsKept rules settings g in
-    All-cons IsSteady a answers (subst IsSteady (sym answered) (refused_steady Refusal.Memory))
-    (steady_from rules settings events answers next last (subst P (sym same) kept) rest)
+    All-cons IsSteady a answers (rw answered (other_steady (Err Refusal.Memory) refl))
+    (steady_from rules settings events answers next last (rw same kept) rest)
 
 pub steady_answers : {S : Type 0} (rules : Rules S) (settings : Settings) (events : List Event)
     (answers : List (Result Done Refusal)) (last : Game)

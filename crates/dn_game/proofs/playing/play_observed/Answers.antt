@@ -1,11 +1,8 @@
-use Rattle.dn_game.specs.Opening.{rules_in}
-use Rattle.std.proofs.Common.{List, [], ◌∷◌, ◌++◌, take, length, ap, refl, sym, ◌∙◌, subst, arith}
+use Rattle.std.proofs.Common.{[], ◌∷◌, ◌++◌, take, ap, refl, sym, ◌∙◌, arith}
 use Rattle.std.proofs.lemmas.List.{take_all, take_more, length-take-le}
 use Rattle.dn_machine.specs.declared.events.Event.{Event}
-use Rattle.dn_game.specs.Observed.{ObservesAll}
-use Rattle.dn_game.specs.Played.{IsPlayed}
 use Rattle.dn_game.proofs.Answering.{played_more}
-use Rattle.dn_game.proofs.Observed.{observes_next, played_observed}
+use Rattle.dn_game.proofs.Observed.{observes_more, played_observed}
 use Rattle.dn_game.proofs.playing.play_observed.Goals as goal
 
 pub loop-event-init : goal.loop-event-init
@@ -37,28 +34,19 @@ loop-event-preserved g c =
     let longer = take_more events at c.event-item.result c.loop-event-test.true
     ∙ ap (λ (event : Event). take at events ++ event ∷ []) (sym c.event-item.is) in
     let more = played_more _ _ config.settings (take at events) _ _ c.loop-event.played next before.1.0
-    (one.applied _ _ _ before.1.0.last before.1.0.game) one.done one.refused in
-    let P : List Event → Type 0 =
-    λ es. (p : IsPlayed g.W.World.state (rules_in g.W.World.physics config (length c.args.worlds.items))
-    config.settings es next)
-    × ObservesAll g.L.Observer.observes c.args.observer.now 0 es p.answers c.apply_observed.new.observer in (
+    (one.applied _ _ _ before.1.0.last before.1.0.game) one.done one.refused in (
       omega (arith, counted, before.0),
-      subst P (sym longer) (
-        more.0,
-        observes_next g.L.Observer.observes (take at events) before.1.0.answers _ _ _ _ _ _ _ _ refl more.1
-            before.1.1
-            (before.0 ∙ sym (length-take-le at events (omega (arith, c.loop-event-test.true)))) told.observed,
+      rw longer (
+        more,
+        observes_more g.L.Observer.observes (take at events) before.1.0.answers _ _ 0 _ _ _ _ before.1.1
+            (omega (arith, before.0, length-take-le at events (omega (arith, c.loop-event-test.true))))
+            told.observed,
       ),
     )
 
 pub returns-clause-promised : goal.returns-clause-promised
 returns-clause-promised g c =
-    let P : List Event → Type 0 =
-    λ es. (p : IsPlayed g.W.World.state
-    (rules_in g.W.World.physics c.args.config (length c.args.worlds.items))
-    c.args.config.settings es c.loop-event.played) × ObservesAll g.L.Observer.observes c.args.observer.now 0
-    es p.answers c.loop-event.observer in
-    let all = subst P (take_all c.loop-event.event-index c.args.events.now c.loop-event-test.false)
-    c.loop-event.invariant.1 in
+    let all = rw (take_all c.loop-event.event-index c.args.events.now c.loop-event-test.false)
+    at c.loop-event.invariant.1 in
     played_observed _ _ g.L.Observer.observes c.args.config.settings _ _ c.loop-event.played c.args.events.now
     all.0 all.1

@@ -35,13 +35,13 @@ returns-in_default-clause-only c r = one_reading _ _ r (returns-in_default-claus
 pub returns-then-is_err-clause-reads : goal.returns-then-is_err-clause-reads
 returns-then-is_err-clause-reads c =
     let n = next_line (goal.at.returns-then-is_err-clause-reads c).In-Some in
-    no_room _ c.loop-line.invariant n c.in-Some-event.ensures
+    no_room c.loop-line.invariant n _ c.in-Some-event.ensures
 
 pub loop-line-preserved : goal.loop-line-preserved
 loop-line-preserved c =
     let n = next_line (goal.at.loop-line-preserved c).In-Some in
     let kept : is_ok c.push.result ≡ true = grind arith in
-    rw (length_push, c.push.ensures.items, kept) (more_told _ c.loop-line.invariant n c.in-Some-event.ensures)
+    rw (length_push, c.push.ensures.items, kept) (more_told c.loop-line.invariant n _ c.in-Some-event.ensures)
 
 pub returns-clause-reads : goal.returns-clause-reads
 returns-clause-reads c =

@@ -1,12 +1,9 @@
 use Rattle.dn_demo.specs.Recorded.{capacity}
 use Rattle.dn_game.specs.Opening.{rules_in}
-use Rattle.std.proofs.Common.{◌≡◌, ◌+◌, ℕ, [], length, refl, ap, sym, ◌∙◌, subst, arith}
-use Rattle.dn_game.specs.Observed.{ObservesAll}
+use Rattle.std.proofs.Common.{◌≡◌, [], length, refl, ap, sym, ◌∙◌, arith}
 use Rattle.dn_game.specs.Schedule.{behind_three, scheduled}
-use Rattle.dn_game.specs.Stormed.{IsStormed}
-use Rattle.dn_game.specs.declared.played.Played.{Played}
 use Rattle.dn_game.proofs.Following.{stormed_more}
-use Rattle.dn_game.proofs.Observed.{observes_next, stormed_observed}
+use Rattle.dn_game.proofs.Observed.{observes_more, stormed_observed}
 use Rattle.dn_game.proofs.NeverStopping.{storm_goes_on}
 use Rattle.dn_game.proofs.storming.storm_observed.Goals as goal
 use Rattle.dn_game.proofs.storming.storm_observed.Goals.{in-Some+in_ok-apply_observed, in_default}
@@ -40,10 +37,6 @@ loop-preserved g c =
     let left = c.loop.invariant.1.1 in
     let given = c.next.ensures.given players config.extra (capacity config.limit players) s.last s.game in
     let observes = g.L.Observer.observes in
-    let P : Played _ → g.row.L.Denot → Type 0 = λ p l. (p.done + p.refused ≡ c.loop.counter + 1)
-    × ((t : IsStormed g.W.World.state game config.settings c.args.seed (c.loop.counter + 1) p)
-    × (t.rest ≡ c.next.new.self)
-    × ObservesAll observes c.args.observer.now 0 t.events t.answers l) in
     elim c.match-next.branch [
       | in-Some+in_ok-apply_observed w ↦
           let next = w.apply_observed.new.self in
@@ -55,14 +48,12 @@ loop-preserved g c =
           c.loop.played next s event
           (one.applied players config.extra (capacity config.limit players) s.last s.game) one.done
           one.refused in
-          let heard = observes_next observes s.events s.answers _ _ _ _ _ _ _ _ more.2 more.3
-          c.loop.invariant.1.2
-          (c.loop.invariant.0 ∙ sym s.counted) told.observed in
-          subst (λ (l : g.row.L.Denot). P c.match-next.played l) (sym w.observer-is)
-          (subst (λ (p : Played _). P p w.apply_observed.new.observer) (sym w.played-is) (
+          let heard = observes_more observes s.events s.answers _ _ 0 _ _ _ _ c.loop.invariant.1.2
+          (omega (arith, c.loop.invariant.0, s.counted)) told.observed in
+          rw (w.observer-is, w.played-is) (
             omega (arith, counted, c.loop.invariant.0),
-            (more.0, more.1 ∙ ap behind_three left ∙ sym c.next.ensures.drawn, heard),
-          ))
+            (more, ap behind_three left ∙ sym c.next.ensures.drawn, heard),
+          )
       | in_default w ↦
           absurd (storm_goes_on _ game config.settings c.args.seed c.loop.counter c.loop.played s
           c.loop.played.game.two
@@ -71,12 +62,7 @@ loop-preserved g c =
 
 pub returns-clause-promised : goal.returns-clause-promised
 returns-clause-promised g c =
-    let P : ℕ → Type 0 =
-    λ k. (s : IsStormed g.W.World.state
-    (rules_in g.W.World.physics c.args.config (length c.args.worlds.items))
-    c.args.config.settings c.args.seed k c.loop.played)
-    × ObservesAll g.L.Observer.observes c.args.observer.now 0 s.events s.answers c.loop.observer in
-    let all = subst P (omega (arith, c.loop-test.false, c.loop.auto.counter-end))
-    (c.loop.invariant.1.0, c.loop.invariant.1.2) in
-    stormed_observed _ _ g.L.Observer.observes c.args.config.settings _ _ c.loop.played c.args.seed
-    c.args.count all.0 all.1
+    let all : c.args.count ≡ c.loop.counter = omega (arith, c.loop-test.false, c.loop.auto.counter-end) in
+    rw all
+    (stormed_observed _ _ g.L.Observer.observes c.args.config.settings _ _ c.loop.played c.args.seed _
+    c.loop.invariant.1.0 c.loop.invariant.1.2)

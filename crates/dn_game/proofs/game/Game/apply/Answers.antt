@@ -7,7 +7,6 @@ use Rattle.dn_game.specs.Applied.{IsAddressed}
 use Rattle.dn_game.proofs.Answering.{carries}
 use Rattle.dn_game.proofs.Applying.{after_refused, after_event, after_send, after_step, stops}
 use Rattle.dn_game.proofs.Limits.{limits_step}
-use Rattle.dn_game.proofs.Standing.{node_at}
 use Rattle.dn_game.proofs.game.Game.apply.Goals as goal
 
 pub returns-in-Some-clause-applied : goal.returns-in-Some-clause-applied
@@ -23,13 +22,9 @@ returns-in-Send-clause-applied g c players extra capacity m r =
 
 pub returns-in-Build-clause-applied : goal.returns-in-Build-clause-applied
 returns-in-Build-clause-applied g c players extra capacity m r =
-    let rules = rules_of g.W.World.physics players extra capacity in
-    let below = subst (IsAddressed (contents c.args.self.now)) c.in-Build.is
-    (c.in_default.ensures.there refl) in
-    let shown = node_at _ rules _ m r _ _ below c.index_mut.ensures.value in
-    inl (after_event _ rules _ m _ _ c.in-Build.is _ (c.in_default.ensures.told players extra capacity m r)
-    (after_step _ rules _ m _ _ _ _ Done.Built r below
-    (c.build.ensures.step players extra capacity _ _ shown)))
+    inl (after_step _ (rules_of g.W.World.physics players extra capacity) _ m _ _ _ _ _ _ _ Done.Built r
+    (c.in_default.ensures.told players extra capacity m r) (c.in_default.ensures.there refl) c.in-Build.is
+    (λ h. h) c.index_mut.ensures.value (c.build.ensures.step players extra capacity _ _) refl)
 
 pub returns-in-Deliver-clause-applied : goal.returns-in-Deliver-clause-applied
 returns-in-Deliver-clause-applied g c players extra capacity m r =
@@ -41,21 +36,15 @@ returns-in-Deliver-clause-applied g c players extra capacity m r =
 
 pub returns-in-Run-clause-applied : goal.returns-in-Run-clause-applied
 returns-in-Run-clause-applied g c players extra capacity m r =
-    let rules = rules_of g.W.World.physics players extra capacity in
-    let below = subst (IsAddressed (contents c.args.self.now)) c.in-Run.is
-    (c.in_default.ensures.there refl) in
-    let shown = node_at _ rules _ m r _ _ below c.index_mut-in-Run.ensures.value in
-    inl (after_event _ rules _ m _ _ c.in-Run.is _ (c.in_default.ensures.told players extra capacity m r)
-    (after_step _ rules _ m _ _ _ _ Done.Ran r below (c.run.ensures.step players extra capacity _ _ shown)))
+    inl (after_step _ (rules_of g.W.World.physics players extra capacity) _ m _ _ _ _ _ _ _ Done.Ran r
+    (c.in_default.ensures.told players extra capacity m r) (c.in_default.ensures.there refl) c.in-Run.is
+    (λ h. h) c.index_mut-in-Run.ensures.value (c.run.ensures.step players extra capacity _ _) refl)
 
 pub returns-in-Quit-clause-applied : goal.returns-in-Quit-clause-applied
 returns-in-Quit-clause-applied g c players extra capacity m r =
-    let rules = rules_of g.W.World.physics players extra capacity in
-    let below = subst (IsAddressed (contents c.args.self.now)) c.in-Quit.is
-    (c.in_default.ensures.there refl) in
-    let shown = node_at _ rules _ m r _ _ below c.index_mut-in-Quit.ensures.value in
-    inl (after_event _ rules _ m _ _ c.in-Quit.is _ (c.in_default.ensures.told players extra capacity m r)
-    (after_step _ rules _ m _ _ _ _ Done.Quit r below (c.quit.ensures.step players extra capacity _ _ shown)))
+    inl (after_step _ (rules_of g.W.World.physics players extra capacity) _ m _ _ _ _ _ _ _ Done.Quit r
+    (c.in_default.ensures.told players extra capacity m r) (c.in_default.ensures.there refl) c.in-Quit.is
+    (λ h. h) c.index_mut-in-Quit.ensures.value (c.quit.ensures.step players extra capacity _ _) refl)
 
 pub returns-in-Stop-clause-applied : goal.returns-in-Stop-clause-applied
 returns-in-Stop-clause-applied g c players extra capacity m r =
@@ -96,24 +85,18 @@ returns-in-Send-clause-limits g c = c.send.ensures.limits
 
 pub returns-in-Build-clause-limits : goal.returns-in-Build-clause-limits
 returns-in-Build-clause-limits g c =
-    let below = subst (IsAddressed (contents c.args.self.now)) c.in-Build.is
-    (c.in_default.ensures.there refl) in
-    limits_step _ _ _ _ _ refl below c.index_mut.ensures.value c.build.ensures.room
+    limits_step _ _ _ _ c.index_mut.ensures.value c.build.ensures.room
 
 pub returns-in-Deliver-clause-limits : goal.returns-in-Deliver-clause-limits
 returns-in-Deliver-clause-limits g c = c.deliver.ensures.limits
 
 pub returns-in-Run-clause-limits : goal.returns-in-Run-clause-limits
 returns-in-Run-clause-limits g c =
-    let below = subst (IsAddressed (contents c.args.self.now)) c.in-Run.is
-    (c.in_default.ensures.there refl) in
-    limits_step _ _ _ _ _ refl below c.index_mut-in-Run.ensures.value c.run.ensures.room
+    limits_step _ _ _ _ c.index_mut-in-Run.ensures.value c.run.ensures.room
 
 pub returns-in-Quit-clause-limits : goal.returns-in-Quit-clause-limits
 returns-in-Quit-clause-limits g c =
-    let below = subst (IsAddressed (contents c.args.self.now)) c.in-Quit.is
-    (c.in_default.ensures.there refl) in
-    limits_step _ _ _ _ _ refl below c.index_mut-in-Quit.ensures.value c.quit.ensures.room
+    limits_step _ _ _ _ c.index_mut-in-Quit.ensures.value c.quit.ensures.room
 
 pub returns-in-Stop-clause-limits : goal.returns-in-Stop-clause-limits
 returns-in-Stop-clause-limits g c = refl

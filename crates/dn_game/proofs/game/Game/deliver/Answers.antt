@@ -1,4 +1,4 @@
-use Rattle.std.proofs.Common.{length, refl, arith}
+use Rattle.std.proofs.Common.{length, arith}
 use Rattle.dn_game.proofs.Delivering.{delivers}
 use Rattle.dn_game.proofs.Limits.{limits_step}
 use Rattle.dn_game.proofs.Packing.{receiver_below}
@@ -18,9 +18,4 @@ returns-clause-heard g c players extra capacity m r free =
     c.datagram.ensures.bytes c.receive.ensures.near
 
 pub returns-clause-limits : goal.returns-clause-limits
-returns-clause-limits g c =
-    let n = c.args.self.now in
-    let small = receiver_below n.pool.flights c.args.which (length n.nodes.items) c.record-flight.result.now
-    c.requires n.receivers c.record-flight.ensures in
-    limits_step _ _ _ _ _ refl (omega (arith, small, c.from.ensures)) c.index_mut.ensures.value
-    c.receive.ensures.room
+returns-clause-limits g c = limits_step _ _ _ _ c.index_mut.ensures.value c.receive.ensures.room

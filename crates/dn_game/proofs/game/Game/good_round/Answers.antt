@@ -1,20 +1,15 @@
 use Rattle.std.proofs.Common.{refl, ◌∙◌, rules, ◌≡◌, Err, arith}
-use Rattle.dn_machine.specs.Progress.{turn}
+use Rattle.dn_machine.specs.Progress.{in_order, turn, good_round}
 use Rattle.dn_machine.specs.Worlds.{rules_of}
 use Rattle.dn_machine.proofs.Leading.{led_none, led_turn}
 use Rattle.dn_game.specs.Contents.{contents}
 use Rattle.dn_game.specs.Rounds.{keys_of}
-use Rattle.dn_game.proofs.Arriving.{by_own_keys, begins, goes_on, ends, all_steps, has_round}
+use Rattle.dn_game.proofs.Arriving.{by_own_keys, goes_on, ends}
 use Rattle.dn_game.proofs.game.Game.good_round.Goals as goal
 
 pub loop-node-init : goal.loop-node-init
-loop-node-init g c = (
-  λ players extra capacity m r.
-      let rules = rules_of g.W.World.physics players extra capacity in
-      begins _ rules (turn rules (keys_of c.args.keys)) (led_turn rules (keys_of c.args.keys)) m
-      (contents c.args.self.now) r,
-  refl,
-)
+unfolding in_order
+loop-node-init g c = (λ players extra capacity m r. r, refl)
 
 pub loop-node-preserved : goal.loop-node-preserved
 loop-node-preserved g c = (
@@ -43,20 +38,16 @@ returns-in_err-turn-clause-good g c players extra capacity m r =
     (led_none rules m)
 
 pub returns-clause-good : goal.returns-clause-good
+unfolding good_round
 returns-clause-good g c players extra capacity m r =
-    let rules = rules_of g.W.World.physics players extra capacity in
-    let keys = keys_of c.args.keys in
-    has_round _ rules keys m (contents c.loop-node.self)
-    (all_steps _ rules (turn rules keys) (led_turn rules keys) m (contents c.loop-node.self) c.loop-node.node
-    players
-    (omega (
+    let all : c.loop-node.node ≡ players = omega (
       arith,
       c.loop-node-test.false,
       c.loop-node.auto.node-end,
       c.players-node-end.ensures.value,
       r.players,
-    ))
-    (c.loop-node.invariant.0 players extra capacity m r))
+    ) in
+    rw all at (c.loop-node.invariant.0 players extra capacity m r)
 
 pub returns-in_err-turn-clause-limits : goal.returns-in_err-turn-clause-limits
 returns-in_err-turn-clause-limits g c = c.turn.ensures.limits ∙ c.loop-node.invariant.1

@@ -1,21 +1,15 @@
 use Rattle.std.proofs.Common.{refl, ◌∙◌, rules, ◌≡◌, Err, arith}
-use Rattle.dn_machine.specs.Progress.{good_round}
+use Rattle.dn_machine.specs.Progress.{in_order, good_round, good_rounds}
 use Rattle.dn_machine.specs.Worlds.{rules_of}
 use Rattle.dn_machine.proofs.Leading.{led_none, led_round}
 use Rattle.dn_game.specs.Contents.{contents}
 use Rattle.dn_game.specs.Rounds.{keys_of}
-use Rattle.dn_game.proofs.Arriving.{begins, goes_on, ends, all_steps, has_rounds}
+use Rattle.dn_game.proofs.Arriving.{goes_on, ends}
 use Rattle.dn_game.proofs.game.Game.good_rounds.Goals as goal
 
 pub loop-init : goal.loop-init
-loop-init g c = (
-  λ players extra capacity m r.
-      let rules = rules_of g.W.World.physics players extra capacity in
-      let keys = keys_of c.args.keys in
-      begins _ rules (λ before round. good_round rules keys before)
-      (λ before round. led_round rules keys before) m (contents c.args.self.now) r,
-  refl,
-)
+unfolding in_order
+loop-init g c = (λ players extra capacity m r. r, refl)
 
 pub loop-preserved : goal.loop-preserved
 loop-preserved g c = (
@@ -43,14 +37,10 @@ returns-in_err-good_round-clause-good g c players extra capacity m r =
     (led_none rules m)
 
 pub returns-clause-good : goal.returns-clause-good
+unfolding good_rounds
 returns-clause-good g c players extra capacity m r =
-    let rules = rules_of g.W.World.physics players extra capacity in
-    let keys = keys_of c.args.keys in
-    has_rounds _ rules (λ round. keys) c.args.count m (contents c.loop.self)
-    (all_steps _ rules (λ before round. good_round rules keys before)
-    (λ before round. led_round rules keys before) m (contents c.loop.self) c.loop.counter c.args.count
-    (omega (arith, c.loop-test.false, c.loop.auto.counter-end))
-    (c.loop.invariant.0 players extra capacity m r))
+    let all : c.loop.counter ≡ c.args.count = omega (arith, c.loop-test.false, c.loop.auto.counter-end) in
+    rw all at (c.loop.invariant.0 players extra capacity m r)
 
 pub returns-in_err-good_round-clause-limits : goal.returns-in_err-good_round-clause-limits
 returns-in_err-good_round-clause-limits g c = c.good_round.ensures.limits ∙ c.loop.invariant.1

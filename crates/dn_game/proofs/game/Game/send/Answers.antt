@@ -70,12 +70,12 @@ returns-then-packet_into-clause-sent g c players extra capacity m r =
 
 pub returns-in_default-aim-clause-limits : goal.returns-in_default-aim-clause-limits
 returns-in_default-aim-clause-limits g c =
-    limits_step _ _ _ _ _ refl c.requires.node c.index_mut-sender.ensures.value refl
+    limits_step _ _ _ _ c.index_mut-sender.ensures.value refl
 
 pub returns-else-packet_into-clause-limits : goal.returns-else-packet_into-clause-limits
 returns-else-packet_into-clause-limits g c =
-    limits_step _ _ _ _ _ refl c.requires.node c.index_mut-sender.ensures.value c.packet_into.ensures.room
+    limits_step _ _ _ _ c.index_mut-sender.ensures.value c.packet_into.ensures.room
 
 pub returns-then-packet_into-clause-limits : goal.returns-then-packet_into-clause-limits
 returns-then-packet_into-clause-limits g c =
-    limits_step _ _ _ _ _ refl c.requires.node c.index_mut-sender.ensures.value c.packet_into.ensures.room
+    limits_step _ _ _ _ c.index_mut-sender.ensures.value c.packet_into.ensures.room

@@ -1,19 +1,18 @@
-use Rattle.std.proofs.Common.{◌∙◌, rules, ◌≡◌, Err, refl, true≢false, sym, arith}
+use Rattle.std.proofs.Common.{◌∙◌, rules, ◌≡◌, Err, refl, arith}
 use Rattle.dn_machine.specs.declared.events.Event.TheVariants.{Build}
-use Rattle.dn_machine.specs.Progress.{exchange}
+use Rattle.dn_machine.specs.Progress.{in_order, exchange, turn}
 use Rattle.dn_machine.specs.Worlds.{rules_of}
 use Rattle.dn_machine.proofs.Leading.{led_event, led_exchange}
 use Rattle.dn_game.specs.Contents.{contents}
-use Rattle.dn_game.proofs.Arriving.{after_applied, has_turn, begins, goes_on, ends, all_steps}
+use Rattle.dn_game.proofs.Arriving.{after_other, goes_on, ends}
 use Rattle.dn_game.proofs.game.Game.turn.Goals as goal
 
 pub loop-to-init : goal.loop-to-init
+unfolding in_order
 loop-to-init g c = (
   λ players extra capacity m r.
-      let rules = rules_of g.W.World.physics players extra capacity in
-      begins _ rules (exchange rules c.args.node) (led_exchange rules c.args.node) _ _
-      (after_applied _ rules _ _ m _ _ (λ e. absurd (true≢false (sym e)))
-      (c.apply.ensures.applied players extra capacity m r)),
+      after_other _ (rules_of g.W.World.physics players extra capacity) _ _ m _ _ refl
+      (c.apply.ensures.applied players extra capacity m r),
   c.apply.ensures.limits,
 )
 
@@ -39,21 +38,20 @@ returns-in_err-exchange-clause-good g c players extra capacity m r =
     (led_event rules (Build c.args.node c.args.keys) m refl)
 
 pub returns-clause-good : goal.returns-clause-good
+unfolding turn
 returns-clause-good g c players extra capacity m r =
     let rules = rules_of g.W.World.physics players extra capacity in
-    let built = after_applied _ rules _ _ m _ _ (λ e. absurd (true≢false (sym e)))
-    (c.apply.ensures.applied players extra capacity m r) in
-    has_turn _ rules _ _ (λ me. c.args.keys) m c.args.node _
-    (c.apply-2.ensures.applied players extra capacity _
-    (all_steps _ rules (exchange rules c.args.node) (led_exchange rules c.args.node) _ _ c.loop-to.to players
-    (omega (
+    let built = after_other _ rules _ _ m _ _ refl (c.apply.ensures.applied players extra capacity m r) in
+    let all : c.loop-to.to ≡ players = omega (
       arith,
       c.loop-to-test.false,
       c.loop-to.auto.to-end,
       c.players-to-end.ensures.value,
       built.players,
-    ))
-    (c.loop-to.invariant.0 players extra capacity m r)))
+    ) in
+    after_other _ rules _ _ _ _ _ refl
+    (c.apply-2.ensures.applied players extra capacity _
+    (rw all at (c.loop-to.invariant.0 players extra capacity m r)))
 
 pub returns-in_err-exchange-clause-limits : goal.returns-in_err-exchange-clause-limits
 returns-in_err-exchange-clause-limits g c = c.exchange.ensures.limits ∙ c.loop-to.invariant.1
