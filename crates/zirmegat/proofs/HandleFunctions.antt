@@ -1,10 +1,10 @@
 -- What the functions of a handle do, whatever it holds.
-use Rattle.std.proofs.Common.{◌≡◌, ℕ, List, map, [], ◌∷◌, ◌++◌, refl, sym, ◌∙◌, subst, lit<}
+use Rattle.std.proofs.Common.{◌≡◌, ℕ, List, map, [], ◌∷◌, ◌++◌, refl, sym, ◌∙◌, lit<}
 use mathlib.Core.Bool.{true, false}
 use Rattle.std.specs.Prelude.{Some, None}
 use base.Fraction.{full_share}
 use base.Fml.{ftrue, flft}
-use base.Logic.{SProp, ent, emp, id⊢, never, fst∗}
+use base.Logic.{SProp, emp, never, fst∗}
 use seplogic.Ra.Ura.{Ura}
 use mir.Raw.{raw as bare}
 use mir.Syntax.{Fn, Body, Ty, Callee, named, mut, local, value_local, seq, assign, place, field, deref, aggregate, rv_opd, copy, opd_true, opd_false, int, w64, return, ty_ptr, ty_bool, ty_ref, ty_named, tnil}
@@ -38,7 +38,7 @@ use Rattle.std.proofs.Handle.{heap_val, heap_Tells}
 use Rattle.std.specs.declared.alloc.Global.{Global}
 use Rattle.zirmegat.specs.Held.{held, owned}
 use Rattle.zirmegat.specs.contracts.loose.Loose as loose
-use Rattle.zirmegat.proofs.Values.{both, loose_in, loose_out, loose_good}
+use Rattle.zirmegat.proofs.Values.{runs_at, both, loose_in, loose_out, loose_good}
 use Rattle.zirmegat.proofs.Node.{Z, LZ, g}
 use Rattle.zirmegat.proofs.Handles.{Handle, word, handle_type, row, handle_out, handle_in, shown_in, live_out}
 
@@ -54,15 +54,19 @@ module _ {M : Type 1} (𝓤 : Ura M) (𝓛 : Logic 𝓤) (𝓜 : Model 𝓤 𝓛
   abbrev L : RattleType
   L = loose.the_row N Z g
 
-  -- a signature, with what is kept of each parameter; what is asked and said; and a function as Rattle lowers it
+  -- a signature, with what is kept of each parameter
   abbrev signed : (n : ℕ) (params : List (Slot n)) → Kepts params → Slot n → Ended
-  signed n params kept result =
-      record { signature = record { lifetimes = n; outlives = []; params = params; result = result }; kept = kept }
+  signed n params kept result = record {
+    signature = record { lifetimes = n; outlives = []; params = params; result = result };
+    kept = kept;
+  }
 
+  -- what a call asks, and what it says of its result and of its parameters at the end
   abbrev stated : {T : Ended} {κs : Lfts T.signature.lifetimes} → SProp 𝓤
       → (Res T.signature κs → AtExit T κs → Type 0) → ClausesAt 𝓤 T κs
   stated asked said = record { ghost = Unit {0}; requires = λ _. asked; ensures = λ _ r e. fact 𝓤 (said r e) }
 
+  -- a function as Rattle lowers it: its lifetimes and parameters, its locals' types, and its body
   abbrev lowered : ℕ → ℕ → List Ty → Body → Fn
   lowered lifetimes params types body = record {
     lifetimes = lifetimes;
@@ -82,7 +86,8 @@ module _ {M : Type 1} (𝓤 : Ura M) (𝓛 : Logic 𝓤) (𝓜 : Model 𝓤 𝓛
   none_clauses κs a = stated (emp 𝓤) (λ r e. K.live r ≡ false)
 
   abbrev none_code : Fn
-  none_code = lowered 0 0 (handle_type K ∷ []) (seq (assign (place 0 []) (aggregate (opd_false ∷ int w64 0 ∷ []))) return)
+  none_code = lowered 0 0 (handle_type K ∷ [])
+      (seq (assign (place 0 []) (aggregate (opd_false ∷ int w64 0 ∷ []))) return)
 
   pub makes_none : (k : Callee) → Closed 𝓤 𝓛.H 𝓣.C 𝓣.Λ k none_code
       → Meets 𝓛 none_ended.signature (𝓣.C k) (closing 𝓛 none_ended none_clauses)
@@ -118,24 +123,23 @@ module _ {M : Type 1} (𝓤 : Ura M) (𝓛 : Logic 𝓤) (𝓜 : Model 𝓤 𝓛
       → Meets 𝓛 of_ended.signature (𝓣.C k) (closing 𝓛 of_ended of_clauses)
   makes_of_loose k closed =
       let c = of_clauses in
-      proved_at 𝓛 of_ended of_stays c 𝓜 𝓡 (Goes-dropped 𝓛 0 (plain (λ _. L)) yes (λ κs x f. refl), tt) k of_code
-      closed (λ z are.
+      proved_at 𝓛 of_ended of_stays c 𝓜 𝓡 (Goes-dropped 𝓛 0 (plain (λ _. L)) yes (λ κs x f. refl), tt)
+      k of_code closed (λ z are.
       let v = z.0.3.0 in let Post : Val → SProp 𝓤 = (walk_of 𝓛 of_ended of_stays c).post z in
       let Run : List Val → SProp 𝓤 = λ ws. WpFn 𝓤 𝓛.H 𝓣.C 𝓣.Λ of_code ws Post in
-      qed 𝓛 ((‵ ftrue ⊛ ‵ (owns (L ∷ []) z.0.3 z.0.4)) ∷ ‵ ftrue ∷ []) ∵ split ! $ drop ! $ fsplit ! $ loose_out
-      N Z LZ g ! v z.0.4.0 (λ b o h e ws fits.
+      qed 𝓛 ((‵ ftrue ⊛ ‵ (owns (L ∷ []) z.0.3 z.0.4)) ∷ ‵ ftrue ∷ []) ∵ split ! $ drop ! $ fsplit ! $
+      loose_out N Z LZ g ! v z.0.4.0 (λ b o h e ws fits.
       let typed = loose_good N Z LZ g b o h fits in let made = K.made true (block_ptr b o) (Some v.value) in
-      suffices ! (Run (both (vptr b o) h ∷ []))
-      (subst (λ (us : List Val). ent 𝓤 (Run (both (vptr b o) h ∷ [])) (Run us)) (sym (λ i. ws i ++ []))
-      (id⊢ 𝓤 _)) $
+      suffices ! (Run (both (vptr b o) h ∷ [])) (runs_at 𝓤 Run (both (vptr b o) h ∷ []) _ (λ i. ws i ++ [])) $
       keep ! (0 ∷ []) $
       enter ! _ _ _ _ _ $ alloc_all ! (λ l. pass_all ! refl (typed, tt) $
       sets ! (of_opd ! (get_in ! (fld ! refl (stop !)) (sub ! 0 refl (whole !)))) refl (tt, tt) $ sets !
       (of_opd ! (get ! refl)) refl (tt, tt) $
       sets ! (agg ! (and_then ! (true_lit !) (and_then ! (get ! refl) (no_more !)))) refl
       (tt, (tt, (tt, tt))) $
-      returns ! (look_at ! 0 refl) $ free_all ! refl $ fpack ! Global (owned N (block_ptr b o) v.value) v.alloc
-      $ handle_in K ! true (block_ptr b o) (Some v.value) $
+      returns ! (look_at ! 0 refl) $ free_all ! refl $
+      fpack ! Global (owned N (block_ptr b o) v.value) v.alloc $
+      handle_in K ! true (block_ptr b o) (Some v.value) $
       suffices ! _ (ends_at 𝓛 of_ended of_stays c z (word true (block_ptr b o))
       (K.make true (block_ptr b o) (Some v.value)) (tt, tt) (tt, tt)) $ says ! (made.0, made.2) $
       nothing ! $ nothing ! $ join ! $ nothing ! $ group ! 3 $ done !)))
@@ -178,9 +182,9 @@ module _ {M : Type 1} (𝓤 : Ura M) (𝓛 : Logic 𝓤) (𝓜 : Model 𝓤 𝓛
       (fst∗ 𝓤 (never 𝓤) (sem 𝓛 (g.dealloc_token a' (bare (lone N.mir)) null_ptr))) (λ b o e.
       let us : List Val = word true (block_ptr b o) ∷ heap_val ∷ [] in
       let ws : z.0.4.0 ≡ word true (block_ptr b o) ∷ [] = ew ∙ (λ i. word (live i) (e i) ∷ []) in
-      suffices ! (Run us) (subst (λ (xs : List Val). ent 𝓤 (Run us) (Run xs)) (sym (λ i. ws i ++ (eh i ++ [])))
-      (id⊢ 𝓤 (Run us))) $
-      enter ! _ _ _ _ _ $ alloc_all ! (λ l. pass_all ! refl ((tt, (tt, (tt, tt))), ((tt, ((tt, tt), tt)), tt)) $
+      suffices ! (Run us) (runs_at 𝓤 Run us _ (λ i. ws i ++ (eh i ++ []))) $
+      enter ! _ _ _ _ _ $ alloc_all ! (λ l.
+      pass_all ! refl ((tt, (tt, (tt, tt))), ((tt, ((tt, tt), tt)), tt)) $
       sets ! (of_opd ! (get_in ! (fld ! refl (stop !)) (sub ! 1 refl (whole !)))) refl (tt, tt) $ sets !
       (of_opd ! (get ! refl)) refl (tt, tt) $
       sets ! (agg ! (and_then ! (get ! refl) (and_then ! (get ! refl) (no_more !)))) refl
@@ -213,8 +217,8 @@ module _ {M : Type 1} (𝓤 : Ura M) (𝓛 : Logic 𝓤) (𝓜 : Model 𝓤 𝓛
       (λ κs. (mut_vals, tt)) (λ κs. (mut_Tells (named 0) κs.0 H, tt)) (λ κs qs bounds a _ are.
       let b = a.0.ref_ptr.0 in let o = a.0.ref_ptr.1 in let h = a.0.now in let vs = mut_vals a.0 in
       let y : W.Ghost = ((κs, qs, bounds, a, (vs, tt)), tt) in let w = word (K.live h) (K.at h) in
-      qed 𝓛 (((‵ (flft κs.0 qs.0) ⊛ ‵ ftrue) ⊛ ‵ ((MutRef (named 0) κs.0 H).own_val a.0 vs) ⊛ ‵ ftrue) ∷ ‵ ftrue
-      ∷ []) ∵
+      qed 𝓛 (((‵ (flft κs.0 qs.0) ⊛ ‵ ftrue) ⊛ ‵ ((MutRef (named 0) κs.0 H).own_val a.0 vs) ⊛ ‵ ftrue)
+      ∷ ‵ ftrue ∷ []) ∵
       split ! $ split ! $ move ! (2 ∷ []) $ split ! $ keep ! (0 ∷ 2 ∷ []) $
       enter ! _ _ _ _ _ $ alloc_all ! (λ l. pass_all ! refl ((tt, tt), tt) $
       fsplit3 ! $ move ! (1 ∷ 2 ∷ 3 ∷ []) $ opens ! tt H b o (λ us.
@@ -225,8 +229,7 @@ module _ {M : Type 1} (𝓤 : Ura M) (𝓛 : Logic 𝓤) (𝓜 : Model 𝓤 𝓛
       move ! (1 ∷ []) $ shown_in K ! (K.live h) (K.at h) (K.value h) $
       move ! (1 ∷ 0 ∷ []) $ closes ! tt H h (w ∷ []) b o $
       returns ! (look_at ! 0 refl) $ free_all ! refl $ move ! (3 ∷ []) $
-      suffices ! _ (ends_at 𝓛 live_ended live_stays c y (vbool (K.live h)) (K.live h) (h, tt) (tt, tt)) $ says !
-      (refl, refl) $
-      group ! 3 $ nothing ! $ move ! (1 ∷ 0 ∷ []) $ join ! $ nothing ! $ move ! (2 ∷ 0 ∷ []) $ join ! $ frame !
-      $ frame ! $
+      suffices ! _ (ends_at 𝓛 live_ended live_stays c y (vbool (K.live h)) (K.live h) (h, tt) (tt, tt)) $
+      says ! (refl, refl) $ group ! 3 $ nothing ! $ move ! (1 ∷ 0 ∷ []) $ join ! $ nothing ! $
+      move ! (2 ∷ 0 ∷ []) $ join ! $ frame ! $ frame ! $
       feq_i ! _ (vbool (K.live h) ∷ []) _ refl $ done !))))

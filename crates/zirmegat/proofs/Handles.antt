@@ -29,6 +29,7 @@ pub record Handle (N : RattleType) : Type 1 where
   pub made : (b : Bool) (p : Ptr) (n : Option N.Denot)
       → (live (make b p n) ≡ b) × (at (make b p n) ≡ p) × (value (make b p n) ≡ n)
 
+-- its machine value: a flag and a pointer
 abbrev pub word : Bool → Ptr → Val
 word b p = vstruct (of_list (vbool b ∷ ptr_val p ∷ []))
 
@@ -39,6 +40,7 @@ module _ {N : RattleType} (K : Handle N) where
   abbrev shape : Shape
   shape = record { name = K.name; args = []; types = []; fields = bool ∷ RawPtr ∷ [] }
 
+  -- a handle with these fields is this machine value, and owns what it holds
   abbrev pub shown : Bool → Ptr → Option N.Denot → List Val → Fml
   shown b p n vs = fsep (fex (Valss (bool ∷ RawPtr ∷ [])) (within shape (b, (p, tt)) vs)) (held N b p n)
 
@@ -51,6 +53,7 @@ module _ {N : RattleType} (K : Handle N) where
   }
 
   module _ {M : Type 1} {𝓤 : Ura M} {𝓛 : Logic 𝓤} {T : Type 0} {Γ : List (Item 𝓤)} {G : Goal 𝓤 𝓛.H} where
+    -- a handle taken apart, and put together
     pub handle_out : T → (h : K.struct.Denot) (vs : List Val)
         → (vs ≡ word (K.live h) (K.at h) ∷ [] → Seq T 𝓛 (‵ (held N (K.live h) (K.at h) (K.value h)) ∷ Γ) G)
         → Seq T 𝓛 (‵ (row.own_val h vs) ∷ Γ) G

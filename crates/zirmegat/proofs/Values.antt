@@ -1,12 +1,12 @@
--- The machine values of a `Loose` and of a `OnceBox`. Assumes `Logic`.
-use Rattle.std.proofs.Common.{◌≡◌, ℕ, List, [], ◌∷◌, ◌++◌, refl, subst}
+-- The machine value of a `Loose`, and what it owns. Assumes `Logic`.
+use Rattle.std.proofs.Common.{◌≡◌, ℕ, List, [], ◌∷◌, ◌++◌, refl, sym, subst}
 use mathlib.Core.Bool.{true, ◌&&◌}
 use lib.Dec.{T}
 use seplogic.Ra.Ura.{Ura}
 use mir.Syntax.{Ty, impl, tnil, dnil}
 use mir.Raw.{raw as bare}
 use mir.Val.{Val, vptr, vstruct, vcons, vnil, of_list, has_ty, WT}
-use base.Logic.{never, fst∗}
+use base.Logic.{SProp, ent, id⊢, never, fst∗}
 use types.Logic.{Logic, sem}
 use types.Kit.{Item, Goal, Seq, Step, step, ‵, ◌$◌, move, drop, fsplit, fjoin, fpick, fpack, feq_i, feq_l}
 use denote.RattleType.{RattleType, Valss}
@@ -23,6 +23,11 @@ use Rattle.std.proofs.alloc.Calls.{Al, handle_tells}
 use Rattle.std.specs.Box.Ownership.{box_owns}
 use Rattle.std.proofs.ResultValues.{and_tt}
 use Rattle.zirmegat.specs.contracts.loose.Loose as loose
+
+-- a run at the same values
+pub runs_at : {M : Type 1} (𝓤 : Ura M) (Run : List Val → SProp 𝓤) (us ws : List Val) → ws ≡ us
+    → ent 𝓤 (Run us) (Run ws)
+runs_at 𝓤 Run us ws e = subst (λ (xs : List Val). ent 𝓤 (Run us) (Run xs)) (sym e) (id⊢ 𝓤 (Run us))
 
 abbrev pub Good : Ty → Val → Type 0
 Good τ v = T (has_ty τ v) × WT v

@@ -62,7 +62,8 @@ module _ {M : Type 1} {𝓤 : Ura M} (𝓛 : Logic 𝓤) (h : NodeHandle) (rb ro
       λ i. record { live = sym live i; at = sym at i; node = Some w } in
       qed 𝓛 (‵ (part_at N full_share w b o) ∷ ‵ Rest ∷ []) ∵ move ! (1 ∷ []) $ fsplit ! $
       move ! (2 ∷ 0 ∷ []) $
-      fjoin ! $ fpack ! Global (owned N (block_ptr b o) w) a $ handle_in node_handle ! true (block_ptr b o) (Some w) $
+      fjoin ! $ fpack ! Global (owned N (block_ptr b o) w) a $
+      handle_in node_handle ! true (block_ptr b o) (Some w) $
       rewrite ! 0 (λ (d : NodeHandle). ‵ (H.own_val d (word true (block_ptr b o) ∷ []))) made refl $
       move ! (1 ∷ 0 ∷ []) $ fjoin ! $
       fpack ! (List Val) (λ us. fsep (cell_at full_share H.mir us rb ro) (H.own_val (with_node h w) us))
