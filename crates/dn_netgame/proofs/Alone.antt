@@ -1,5 +1,5 @@
 -- One node alone.
-use Rattle.std.proofs.Common.{◌≡◌, inl, inr, ℕ, zero, suc, Bool, true, false, List, [], ◌∷◌, Option, Some, codes, if◌then◌else◌, refl, ap, sym, ◌∙◌, subst}
+use Rattle.std.proofs.Common.{◌≡◌, inl, inr, ℕ, zero, suc, Bool, false, List, [], ◌∷◌, Option, Some, codes, if◌then◌else◌, refl, ap, sym, ◌∙◌, subst}
 use Rattle.std.specs.Prelude.{slice_get, IfSome}
 use Rattle.std.proofs.lemmas.Option.{same_Some}
 use Rattle.dn_world.specs.Physics.{Physics}
@@ -28,24 +28,12 @@ pub unbound : (config : Config) (base seed count : ℕ) (raw : Bool)
     → IsPlay config base seed count raw (codes "socket fault\n") 3
 unbound config base seed count raw = inl (refl, refl)
 
-pub played_raw : (config : Config) (base seed count : ℕ) (raw : Bool) (found : Option (Node Spots))
-    (node : Node Spots)
-    → found ≡ Some node → IfSome found (λ n. HasEverPlayed config base seed count (contents n)) → raw ≡ true
-    → IsPlay config base seed count raw (contents node).demo.bytes 0
-played_raw config base seed count raw found node is played on =
+pub played : (config : Config) (base seed count : ℕ) (raw : Bool) (found : Option (Node Spots))
+    (node : Node Spots) (lines : List ℕ)
+    → found ≡ Some node → IfSome found (λ n. HasEverPlayed config base seed count (contents n))
+    → lines ≡ (if raw then (contents node).demo.bytes else node_line (contents node) false)
+    → IsPlay config base seed count raw lines 0
+played config base seed count raw found node lines is ever same =
     let P : Option (Node Spots) → Type 0 =
     λ o. IfSome o (λ n. HasEverPlayed config base seed count (contents n)) in
-    let Q : Bool → Type 0 = λ b. (contents node).demo.bytes
-    ≡ (if b then (contents node).demo.bytes else node_line (contents node) false) in
-    inr (contents node, subst P is played, subst Q (sym on) refl, refl)
-
-pub played_line : (config : Config) (base seed count : ℕ) (raw : Bool) (found : Option (Node Spots))
-    (node : Node Spots)
-    → found ≡ Some node → IfSome found (λ n. HasEverPlayed config base seed count (contents n)) → raw ≡ false
-    → IsPlay config base seed count raw (node_line (contents node) false) 0
-played_line config base seed count raw found node is played off =
-    let P : Option (Node Spots) → Type 0 =
-    λ o. IfSome o (λ n. HasEverPlayed config base seed count (contents n)) in
-    let Q : Bool → Type 0 = λ b. node_line (contents node) false
-    ≡ (if b then (contents node).demo.bytes else node_line (contents node) false) in
-    inr (contents node, subst P is played, subst Q (sym off) refl, refl)
+    inr (contents node, subst P is ever, same, refl)

@@ -1,9 +1,9 @@
 -- An input that is fed as it comes.
-use Rattle.std.proofs.Common.{◌≡◌, ◌≤◌, ◌<◌, ◌+◌, ℕ, zero, suc, List, [], ◌∷◌, ◌++◌, length, take, ap, sym, ◌∙◌, subst, arith, Option, Some, None, IfSome, length-append}
+use Rattle.std.proofs.Common.{◌≡◌, ◌≤◌, ◌<◌, ◌+◌, ℕ, List, ◌++◌, length, take, ap, sym, ◌∙◌, subst, arith, Option, Some, None, IfSome, length-append}
 use Rattle.std.specs.Io.KnownBytes.{Consumes}
 use Rattle.std.proofs.KnownBytes.{Consumes-trans}
-use Rattle.std.proofs.Math.Seq.{take-append_seam, take-nil}
-use Rattle.std.proofs.lemmas.List.{take-append-le, length-take}
+use Rattle.std.proofs.Math.Seq.{take-append_seam}
+use Rattle.std.proofs.lemmas.List.{take-append-le, length-take, take_all}
 use Rattle.dn_world.specs.Physics.{Physics}
 use Rattle.dn_demo.specs.Feeding.{Feeding, Shows, Takes}
 use Rattle.dn_netgame.specs.Transfer.{TakesUpTo}
@@ -17,14 +17,9 @@ fed_more state physics f g xs buffer tail n fits shown takes =
     subst (λ (ys : List ℕ). Shows state physics (xs ++ ys) g) (take-append-le n buffer tail fits)
     (takes xs shown)
 
--- all of a list is its front
-take_long : (n : ℕ) (xs : List ℕ) → length xs ≤ n → take n xs ≡ xs
-take_long n [] h = take-nil n
-take_long zero (x ∷ xs) h = absurd (omega (arith, h))
-take_long (suc n) (x ∷ xs) h = ap (λ (t : List ℕ). x ∷ t) (take_long n xs (omega (arith, h)))
-
+-- where fewer came than could, all came
 all_taken : (n : ℕ) (xs : List ℕ) → length (take n xs) < n → take n xs ≡ xs
-all_taken n xs short = take_long n xs (omega (arith, length-take n xs, short))
+all_taken n xs short = take_all n xs (omega (arith, length-take n xs, short))
 
 -- an input that ended
 whole_of : (old mid new : Option (List ℕ)) (xs ys : List ℕ) (n limit : ℕ) → length xs + n ≤ limit
@@ -35,7 +30,7 @@ whole_of (Some all) None new xs ys n limit room p q short = absurd p
 whole_of (Some all) (Some rest) new xs ys n limit room p q short =
     let part : take n rest ≡ rest = all_taken n rest (omega (arith, ap length q.whole, short)) in
     let same : xs ++ ys ≡ all = ap (λ (t : List ℕ). xs ++ t) (q.whole ∙ part) ∙ sym p in
-    same ∙ sym (take_long limit all (omega (arith, ap length same, length-append xs ys, room, short)))
+    same ∙ sym (take_all limit all (omega (arith, ap length same, length-append xs ys, room, short)))
 
 pub up_to_more : (old mid new : Option (List ℕ)) (xs ys : List ℕ) (n limit : ℕ) → length xs + n ≤ limit
     → Consumes old mid xs → TakesUpTo n mid new ys

@@ -1,15 +1,17 @@
 -- Rows that are listed as they come.
-use Rattle.std.proofs.Common.{◌≡◌, ◌≤◌, ◌+◌, ℕ, suc, List, [], ◌∷◌, ◌++◌, length, take, ap, sym, ◌∙◌, subst, arith, Option, refl, length-append, append_assoc}
+use Rattle.std.proofs.Common.{◌≡◌, ◌≤◌, ◌<◌, ◌+◌, ℕ, suc, List, [], ◌∷◌, ◌++◌, length, take, ap, sym, ◌∙◌, subst, arith, Option, refl, inl, length-append, append_assoc}
 use Rattle.std.specs.Io.KnownBytes.{Appends, Consumes}
 use Rattle.std.proofs.KnownBytes.{Appends-trans, Consumes-trans}
 use Rattle.std.proofs.Math.Seq.{take-append-add}
+use Rattle.std.proofs.lemmas.List.{length-take, take-append-le}
 use Rattle.dn_tic.specs.declared.command.Move.{Move}
 use Rattle.dn_world.specs.Plane.{Spots, walking}
-use Rattle.dn_demo.specs.Feeding.{Feeding, Shows}
-use Rattle.dn_demo.specs.Listed.{AreListed, TellsFront}
+use Rattle.dn_demo.specs.Feeding.{Feeding, Shows, Takes}
+use Rattle.dn_demo.specs.Listed.{AreListed, Lists, TellsFront}
 use Rattle.dn_demo.proofs.Listing.{tells_more, tells_all, rows_of_listed}
-use Rattle.dn_netgame.specs.RowLines.{row_lines, lines_of_rows, AreRows, ListsWhole}
-use Rattle.dn_netgame.specs.Transfer.{AppendsFront}
+use Rattle.dn_netgame.specs.RowLines.{row_lines, lines_of_rows, AreRows, ListsWhole, ListsFront}
+use Rattle.dn_netgame.specs.Transfer.{TakesUpTo, AppendsFront}
+use Rattle.dn_netgame.proofs.FeedPieces.{up_to_more}
 
 -- the lines of some rows, and of those behind them
 pub lines_more : (tic : ℕ) (xs ys : List (List (Option Move)))
@@ -42,30 +44,6 @@ told_more f g h piece mid rest xs ys text text' one same other more = (
       ∙ sym (lines_at f.tics g.tics xs ys one.listed.tics),
 )
 
--- a piece was fed and its lines were written
-pub rows_more : (f g : Feeding Spots) (bytes piece : List ℕ) (old mid new : Option (List ℕ))
-    (before rows : List (List (Option Move))) (text : List ℕ)
-    → Shows (λ w. w) walking bytes f → AreListed bytes f.tics before → f.tics ≡ length before
-    → Appends old mid (lines_of_rows 0 before)
-    → TellsFront (λ w. w) walking f piece [] g rows → text ≡ lines_of_rows f.tics rows → Appends mid new text
-    → Shows (λ w. w) walking (bytes ++ piece) g
-    × ((all : List (List (Option Move))) × AreListed (bytes ++ piece) g.tics all × (g.tics ≡ length all)
-    × Appends old new (lines_of_rows 0 all))
-rows_more f g bytes piece old mid new before rows text shown listed count written tells same put =
-    let all = tells_all (λ w. w) walking f g piece rows tells in
-    let joined : lines_of_rows 0 before ++ text ≡ lines_of_rows 0 (before ++ rows) =
-    ap (λ (t : List ℕ). lines_of_rows 0 before ++ t) same
-    ∙ sym (lines_at 0 f.tics before rows (omega (arith, count))) in (
-      all.0 bytes shown,
-      (
-        before ++ rows,
-        all.1.each bytes before shown listed,
-        omega (arith, all.1.tics, count, length-append before rows),
-        subst (λ (t : List ℕ). Appends old new t) joined
-            (Appends-trans old mid new (lines_of_rows 0 before) text written put),
-      ),
-    )
-
 -- a front of a text that is written behind another
 pub front_behind : (old mid new : Option (List ℕ)) (first text : List ℕ) → Appends old mid first
     → AppendsFront mid new text → AppendsFront old new (first ++ text)
@@ -77,45 +55,115 @@ front_behind old mid new first text before front =
           (Appends-trans old mid new first (take front.count text) before front.front);
     }
 
--- a piece was fed, and a front of its lines was written
-pub rows_cut : (f g : Feeding Spots) (bytes piece : List ℕ) (old mid new : Option (List ℕ))
-    (before rows : List (List (Option Move))) (text : List ℕ)
-    → Shows (λ w. w) walking bytes f → AreListed bytes f.tics before → f.tics ≡ length before
-    → Appends old mid (lines_of_rows 0 before)
-    → TellsFront (λ w. w) walking f piece [] g rows → text ≡ lines_of_rows f.tics rows
-    → AppendsFront mid new text
-    → AreRows (bytes ++ piece) (lines_of_rows 0 (before ++ rows))
-    × AppendsFront old new (lines_of_rows 0 (before ++ rows))
-rows_cut f g bytes piece old mid new before rows text shown listed count written tells same put =
-    let all = tells_all (λ w. w) walking f g piece rows tells in
-    let joined : lines_of_rows 0 before ++ text ≡ lines_of_rows 0 (before ++ rows) =
-    ap (λ (t : List ℕ). lines_of_rows 0 before ++ t) same
-    ∙ sym (lines_at 0 f.tics before rows (omega (arith, count))) in (
+-- the lines are those of the rows of the bytes shown
+pub are_rows : (bytes : List ℕ) (f : Feeding Spots) (rows : List (List (Option Move)))
+    → Shows (λ w. w) walking bytes f → AreListed bytes f.tics rows → AreRows bytes (lines_of_rows 0 rows)
+are_rows bytes f rows shown listed = (rows, rows_of_listed (λ w. w) walking bytes f rows shown listed, refl)
+
+-- bytes were taken from the input and fed, and the lines of their rows were written
+abbrev pub ListsSoFar : (input input' output output' : Option (List ℕ)) → Feeding Spots → Type 0
+ListsSoFar input input' output output' f =
+    (bytes : List ℕ) × (length bytes ≤ 33554433) × Consumes input input' bytes
+    × Shows (λ w. w) walking bytes f
+    × ((rows : List (List (Option Move))) × AreListed bytes f.tics rows × (f.tics ≡ length rows)
+    × Appends output output' (lines_of_rows 0 rows))
+
+module _ (input mid output output' : Option (List ℕ)) (f : Feeding Spots)
+    (so_far : ListsSoFar input mid output output' f) (n : ℕ) (room : f.taken + n ≤ 33554433) where
+  -- more bytes were taken, whose rows are not listed
+  pub lists_whole : (input' : Option (List ℕ)) (last : List ℕ) → n ≤ 4096 → Consumes mid input' last
+      → length last ≤ n
+      → ListsWhole 33554433 input input' output output'
+  lists_whole input' last small more few =
+      record {
+        bytes = so_far.0;
+        last = last;
+        lines = lines_of_rows 0 so_far.4.0;
+        taken = Consumes-trans input mid input' so_far.0 last so_far.2 more;
+        within = omega (arith, few, room, so_far.3.taken);
+        few = omega (arith, few, small);
+        shown = are_rows so_far.0 f so_far.4.0 so_far.3 so_far.4.1;
+        written = so_far.4.3;
+      }
+
+  -- a piece was read, of which `count` bytes came, and it was fed
+  module _ {input' : Option (List ℕ)} {g : Feeding Spots} {rows : List (List (Option Move))}
+      (buffer tail : List ℕ) (count : ℕ) (text : List ℕ) (fits : count ≤ length buffer)
+      (up : TakesUpTo n mid input' (take count buffer))
+      (tells : TellsFront (λ w. w) walking f (take count (buffer ++ tail)) [] g rows)
+      (told : text ≡ lines_of_rows f.tics rows) where
+    abbrev bytes : List ℕ
+    bytes = so_far.0 ++ take count buffer
+
+    abbrev all_rows : List (List (Option Move))
+    all_rows = so_far.4.0 ++ rows
+
+    within : length bytes ≤ 33554433
+    within = omega (arith, length-append so_far.0 (take count buffer), up.within, room, so_far.3.taken)
+
+    taken : Consumes input input' bytes
+    taken = Consumes-trans input mid input' so_far.0 (take count buffer) so_far.2 up.taken
+
+    takes : Takes (λ w. w) walking f (take count buffer) g
+        × Lists (λ w. w) walking f (take count buffer) g rows
+    takes = tells_all (λ w. w) walking f g (take count buffer) rows
+        (subst (λ (p : List ℕ). TellsFront (λ w. w) walking f p [] g rows)
+        (take-append-le count buffer tail fits) tells)
+
+    shown : Shows (λ w. w) walking bytes g
+    shown = takes.0 so_far.0 so_far.3
+
+    listed : AreListed bytes g.tics all_rows
+    listed = takes.1.each so_far.0 so_far.4.0 so_far.3 so_far.4.1
+
+    lines : lines_of_rows 0 so_far.4.0 ++ text ≡ lines_of_rows 0 all_rows
+    lines = ap (λ (t : List ℕ). lines_of_rows 0 so_far.4.0 ++ t) told
+        ∙ sym (lines_at 0 f.tics so_far.4.0 rows (omega (arith, so_far.4.2)))
+
+    written : (later : Option (List ℕ)) → Appends output' later text
+        → Appends output later (lines_of_rows 0 all_rows)
+    written later put = subst (λ (t : List ℕ). Appends output later t) lines
+        (Appends-trans output output' later (lines_of_rows 0 so_far.4.0) text so_far.4.3 put)
+
+    -- its lines were written
+    pub lists_more : (later : Option (List ℕ)) → Appends output' later text
+        → ListsSoFar input input' output later g
+    lists_more later put = (
+      bytes,
+      within,
+      taken,
+      shown,
       (
-        before ++ rows,
-        rows_of_listed (λ w. w) walking (bytes ++ piece) g (before ++ rows) (all.0 bytes shown)
-            (all.1.each bytes before shown listed),
-        refl,
+        all_rows,
+        listed,
+        omega (arith, takes.1.tics, so_far.4.2, length-append so_far.4.0 rows),
+        written later put,
       ),
-      subst (λ (t : List ℕ). AppendsFront old new t) joined
-          (front_behind old mid new (lines_of_rows 0 before) text written put),
     )
 
--- the rows so far were listed, and more bytes were taken
-pub rows_kept : (f : Feeding Spots) (limit : ℕ) (input mid input' output output' : Option (List ℕ))
-    (bytes last : List ℕ) (rows : List (List (Option Move)))
-    → length bytes + length last ≤ limit → length last ≤ 4096 → Shows (λ w. w) walking bytes f
-    → AreListed bytes f.tics rows
-    → Consumes input mid bytes → Consumes mid input' last → Appends output output' (lines_of_rows 0 rows)
-    → ListsWhole limit input input' output output'
-rows_kept f limit input mid input' output output' bytes last rows within few shown listed taken more written =
-    record {
-      bytes = bytes;
-      last = last;
-      lines = lines_of_rows 0 rows;
-      taken = Consumes-trans input mid input' bytes last taken more;
-      within = within;
-      few = few;
-      shown = (rows, rows_of_listed (λ w. w) walking bytes f rows shown listed, refl);
-      written = written;
-    }
+    -- and the input ended
+    pub lists_all : (later : Option (List ℕ)) → Appends output' later text → count < n
+        → (all : List ℕ) × TakesUpTo 33554433 input input' all × Shows (λ w. w) walking all g
+        × ((every : List (List (Option Move))) × AreListed all g.tics every
+        × Appends output later (lines_of_rows 0 every))
+    lists_all later put short = (
+      bytes,
+      up_to_more input mid input' so_far.0 (take count buffer) n 33554433
+          (omega (arith, room, so_far.3.taken)) so_far.2 up (omega (arith, length-take count buffer, short)),
+      shown,
+      (all_rows, listed, written later put),
+    )
+
+    -- a front of its lines was written
+    pub lists_front : (later : Option (List ℕ)) → AppendsFront output' later text
+        → ListsFront 33554433 input input' output later
+    lists_front later front =
+        record {
+          bytes = bytes;
+          lines = lines_of_rows 0 all_rows;
+          taken = taken;
+          within = within;
+          shown = inl (are_rows bytes g all_rows shown listed);
+          written = subst (λ (t : List ℕ). AppendsFront output later t) lines
+              (front_behind output output' later (lines_of_rows 0 so_far.4.0) text so_far.4.3 front);
+        }

@@ -1,6 +1,6 @@
-use Rattle.std.proofs.Common.{◌∙◌}
+use Rattle.std.proofs.Common.{◌∙◌, refl}
 use Rattle.dn_netgame.proofs.Printing.{prints_such}
-use Rattle.dn_netgame.proofs.Alone.{unbound, played_raw, played_line}
+use Rattle.dn_netgame.proofs.Alone.{unbound, played}
 use Rattle.dn_netgame.proofs.netplay.run_play.Goals as goal
 
 pub returns-in_default : goal.returns-in_default
@@ -12,12 +12,12 @@ pub returns-then-raw : goal.returns-then-raw
 returns-then-raw g c =
     prints_such g.W.Write.contents _ c.args.output.now c.print-then-raw.new.output _ _ 0
     c.print-then-raw.result c.print-then-raw.ensures c.demo.ensures
-    (played_raw c.args.config c.args.base c.args.seed c.args.count c.args.raw c.in_ok-node.field-0
-    c.in-Some.node c.in-Some.is c.in_ok-node.ensures.played c.if-raw.true)
+    (played c.args.config c.args.base c.args.seed c.args.count c.args.raw c.in_ok-node.field-0
+    c.in-Some.node _ c.in-Some.is c.in_ok-node.ensures.played (rw c.if-raw.true refl))
 
 pub returns : goal.returns
 returns g c =
     prints_such g.W.Write.contents _ c.args.output.now c.print-2.new.output _ _ 0 c.print-2.result
     c.print-2.ensures (c.as_bytes-2.ensures.value ∙ c.in_ok-text.ensures)
-    (played_line c.args.config c.args.base c.args.seed c.args.count c.args.raw c.in_ok-node.field-0
-    c.in-Some.node c.in-Some.is c.in_ok-node.ensures.played c.if-raw.false)
+    (played c.args.config c.args.base c.args.seed c.args.count c.args.raw c.in_ok-node.field-0
+    c.in-Some.node _ c.in-Some.is c.in_ok-node.ensures.played (rw c.if-raw.false refl))

@@ -2,11 +2,9 @@ use Rattle.std.proofs.Common.{rules, ◌++◌, ℕ, List, [], refl, sym, subst, 
 use Rattle.std.specs.String.{string_bytes}
 use Rattle.std.specs.Io.KnownBytes.{Appends, Consumes}
 use Rattle.std.proofs.KnownBytes.{Appends-trans}
-use Rattle.dn_world.specs.Plane.{walking}
-use Rattle.dn_demo.proofs.Listing.{rows_of_listed}
 use Rattle.dn_netgame.specs.RowLines.{lines_of_rows}
 use Rattle.dn_netgame.specs.Transfer.{AppendsFront}
-use Rattle.dn_netgame.proofs.RowPieces.{front_behind}
+use Rattle.dn_netgame.proofs.RowPieces.{are_rows, front_behind}
 use Rattle.dn_netgame.proofs.rows.run_rows.Goals as goal
 
 pub returns-in_err-text-clause-memory : goal.returns-in_err-text-clause-memory
@@ -20,7 +18,7 @@ returns-in_err-text-clause-memory g c = λ _.
           (g.R.Read.remaining c.list_rows.new.input) t) (sym (append-nil fed.0)) fed.1.taken;
       within = omega (arith, fed.1.within);
       few = omega arith;
-      shown = (fed.3.0, rows_of_listed (λ w. w) walking fed.0 c.in_ok-feed.feed fed.3.0 fed.2 fed.3.1, refl);
+      shown = are_rows fed.0 c.in_ok-feed.feed fed.3.0 fed.2 fed.3.1;
       written = fed.3.2;
     }
 
@@ -43,7 +41,7 @@ returns-in_err-put-clause-write g c = λ _.
           (
             first,
             last,
-            (fed.3.0, rows_of_listed (λ w. w) walking fed.0 c.in_ok-feed.feed fed.3.0 fed.2 fed.3.1, refl),
+            are_rows fed.0 c.in_ok-feed.feed fed.3.0 fed.2 fed.3.1,
             c.in_ok-text.ensures.shown fed.0 fed.2,
             refl,
           ),
@@ -66,7 +64,7 @@ returns-clause-shown g c =
       shown = (
         first,
         last,
-        (fed.3.0, rows_of_listed (λ w. w) walking fed.0 c.in_ok-feed.feed fed.3.0 fed.2 fed.3.1, refl),
+        are_rows fed.0 c.in_ok-feed.feed fed.3.0 fed.2 fed.3.1,
         c.in_ok-text.ensures.shown fed.0 fed.2,
         refl,
       );
