@@ -1,5 +1,5 @@
 -- What an exchange leaves in a game that goes on, where each node plays or has left.
-use Rattle.std.proofs.Common.{◌≡◌, ℕ, ◌-◌, ◌<◌, ◌≢◌, Bool, true, false, true≢false, cond, length, refl, sym, ◌∙◌, ap, subst, arith, Some, None, inl, inr, ltb}
+use Rattle.std.proofs.Common.{◌≡◌, ℕ, ◌+◌, ◌≤◌, ◌-◌, ◌<◌, ◌≢◌, Bool, true, false, true≢false, length, refl, sym, ◌∙◌, ap, subst, arith, inl, inr, ltb}
 use Rattle.std.specs.Prelude.{◌⊎◌}
 use Rattle.std.proofs.lemmas.Bool.{cases_eq, cases_lt, cases_Bool, cond-false, le-ltb}
 use Rattle.dn_setup.specs.Settings.{Settings}
@@ -7,8 +7,7 @@ use Rattle.dn_machine.specs.declared.peer.Peer.{Peer}
 use Rattle.dn_machine.specs.declared.events.Event.TheVariants.{Send, Deliver}
 use Rattle.dn_machine.specs.Worlds.{Rules}
 use Rattle.dn_machine.specs.Flight.{Flight, is_near}
-use Rattle.dn_machine.specs.Node.{Node, put, ends_of, got, made, has_left}
-use Rattle.dn_machine.specs.Sending.{commands_flight, after_sent, on_send}
+use Rattle.dn_machine.specs.Node.{Node, put, ends_of, got, made, is_ended, has_left}
 use Rattle.dn_machine.specs.Hearing.{on_packet}
 use Rattle.dn_machine.specs.Game.{Game, with_node}
 use Rattle.dn_machine.proofs.Invariant.{HoldsAll, history_of}
@@ -16,6 +15,7 @@ use Rattle.dn_machine.specs.Progress.{after, exchange}
 use Rattle.dn_machine.proofs.Put.{put_at, put_off, view_kept}
 use Rattle.dn_machine.proofs.GoingOn.{IsOn, ran_after, live_after, on_alike}
 use Rattle.dn_machine.proofs.Stages.{side, same_side, Holds, Taken, Asked}
+use Rattle.dn_machine.proofs.Pairs.{Gives, kind_of}
 use Rattle.dn_machine.proofs.Pairs
 use Rattle.dn_machine.proofs.Roomy.{roomy_after}
 use Rattle.dn_machine.proofs.Receivers.{in_play, request_within, hears}
@@ -42,6 +42,9 @@ pub record IsExchanged (stay : ℕ → Bool) (tic start : ℕ) (i j : ℕ) (old 
 
 module _ {S : Type 0} (rules : Rules S) (settings : Settings) (cap : ℕ) (stay : ℕ → Bool) (tic : ℕ)
     (game : Game) (on : IsOn rules settings cap stay tic game) where
+  there : (q : ℕ) → q < rules.players → stay q ≡ true → is_ended (game.nodes q).phase ≡ false
+  there = in_play rules settings cap stay tic game on
+
   holds_all : (q p : ℕ) → HoldsAll (history_of game) q p → Holds tic (side (game.nodes q) p)
   holds_all q p h =
       let low = h.2 in
@@ -52,12 +55,7 @@ module _ {S : Type 0} (rules : Rules S) (settings : Settings) (cap : ℕ) (stay 
 
   module _ (i : ℕ) (j : ℕ) (mine : i < rules.players) (its : j < rules.players) (apart : i ≢ j)
       (built : stay i ≡ true → tic < made i (game.nodes i)) (gone asks_it : Bool)
-      (sends : on_send rules i (game.nodes i) j
-      ≡ (
-        after_sent rules i (game.nodes i) j,
-        Some (commands_flight rules i (game.nodes i) j (Pairs.kind_of rules settings game on.live gone)
-            (cond asks_it (Some (got (game.nodes i) j)) None)),
-      ))
+      (sends : Gives rules game i j gone asks_it)
       (goes : gone ≡ true → (stay i ≡ false) × (has_left (game.nodes i) ≡ true))
       (here : gone ≡ false → stay i ≡ true) (asker : asks_it ≡ true → stay i ≡ true)
       (same_want : stay i ≡ true → ((game.nodes i).peers j).want ≡ asks_it) where
@@ -70,23 +68,27 @@ module _ {S : Type 0} (rules : Rules S) (settings : Settings) (cap : ℕ) (stay 
     abbrev flight : Flight
     flight = Pairs.packet rules settings game on.live i j mine its apart gone asks_it sends
 
+    asked_within : asks_it ≡ true → (got I j ≤ made j J) × (made j J ≤ got I j + 10)
+    asked_within = request_within rules settings cap stay tic game on i j mine its apart built gone asks_it
+        sends goes here asker
+
     -- a packet to one that stays is near, or that one needs no more
     near_j : stay j ≡ true → (is_near (made j J) flight ≡ true) ⊎ Holds tic (side J i)
     near_j s = elim (cases_Bool gone) [
       | inr stays ↦
           let f = Pairs.fits rules settings game on.live in
           inl (Pairs.near rules settings game on.live i j mine its apart gone asks_it sends
-          (f.close i j mine its (in_play rules settings cap stay tic game on j its s)) (f.close j i its mine (in_play rules settings cap stay tic game on i mine (here stays)))
-          (request_within rules settings cap stay tic game on i j mine its apart built gone asks_it sends goes here asker))
+          (f.close i j mine its (there j its s)) (f.close j i its mine (there i mine (here stays)))
+          asked_within)
       | inl left ↦
           let f = Pairs.fits rules settings game on.live in
-          let a = f.close i j mine its (in_play rules settings cap stay tic game on j its s) in
+          let a = f.close i j mine its (there j its s) in
           let b = f.ahead j its in
           let c = f.held j i its mine in
           elim (on.live.kept.from_keys.run j i its mine) [
             | inl le ↦
                 inl (Pairs.near rules settings game on.live i j mine its apart gone asks_it sends a
-                (omega arith) (request_within rules settings cap stay tic game on i j mine its apart built gone asks_it sends goes here asker))
+                (omega arith) asked_within)
             | inr h ↦ inr (holds_all j i h)
           ]
     ]
@@ -95,13 +97,13 @@ module _ {S : Type 0} (rules : Rules S) (settings : Settings) (cap : ℕ) (stay 
     near_i : stay i ≡ true → (is_near (made j J) flight ≡ true) ⊎ Holds tic (side I j)
     near_i s =
         let f = Pairs.fits rules settings game on.live in
-        let a = f.close j i its mine (in_play rules settings cap stay tic game on i mine s) in
+        let a = f.close j i its mine (there i mine s) in
         let b = f.ahead i mine in
         let c = f.held i j mine its in
         elim (on.live.kept.from_keys.run i j mine its) [
           | inl le ↦
               inl (Pairs.near rules settings game on.live i j mine its apart gone asks_it sends (omega arith)
-              a (request_within rules settings cap stay tic game on i j mine its apart built gone asks_it sends goes here asker))
+              a asked_within)
           | inr h ↦ inr (holds_all i j h)
         ]
 
@@ -153,7 +155,7 @@ module _ {S : Type 0} (rules : Rules S) (settings : Settings) (cap : ℕ) (stay 
               ∙ ap (λ (x : Peer). x.end) (put_at I.peers j j _ refl);
           begins = λ u e.
               let f = Pairs.fits rules settings game on.live in
-              let low = f.unheard j i its mine (in_play rules settings cap stay tic game on j its u) in
+              let low = f.unheard j i its mine (there j its u) in
               cond-false (ltb (I.peers j).resend (made i I - 12)) _ _
               (le-ltb (I.peers j).resend (made i I - 12) (omega arith)) ∙ e;
           taken = λ u. subst (λ (x : Node). Taken tic flight.start (side J i) (side x i)) (sym (at_j j refl))
@@ -174,7 +176,8 @@ module _ {S : Type 0} (rules : Rules S) (settings : Settings) (cap : ℕ) (stay 
     pub exchanges_by : IsExchanged stay tic flight.start i j game (exchange rules i game j)
     exchanges_by = elim (cases_Bool (is_near (made j J) flight)) [
       | inl near ↦
-          let h = hears rules settings cap stay tic game on i j mine its apart built gone asks_it sends goes here asker in
+          let h = hears rules settings cap stay tic game on i j mine its apart built gone asks_it sends goes
+          here asker in
           subst (λ (g : Game). IsExchanged stay tic flight.start i j game g)
           (sym (Pairs.exchanged rules settings game on.live i j mine its apart gone asks_it sends near))
           (placed _ h.phase h.played h.other h.taken

@@ -1,5 +1,5 @@
 -- What a packet leaves its receiver as, in a game that goes on, where each node plays or has left.
-use Rattle.std.proofs.Common.{◌≡◌, ℕ, ◌+◌, ◌-◌, ◌<◌, ◌≤◌, ◌≢◌, Bool, true, false, true≢false, cond, List, ◌++◌, length, drop, refl, sym, ◌∙◌, ap, subst, arith, Some, None, inl, inr, leb}
+use Rattle.std.proofs.Common.{◌≡◌, ℕ, ◌+◌, ◌-◌, ◌<◌, ◌≤◌, ◌≢◌, Bool, true, false, true≢false, List, ◌++◌, length, drop, refl, sym, ◌∙◌, ap, subst, arith, Some, inl, inr, leb}
 use Rattle.std.specs.Prelude.{◌⊎◌}
 use Rattle.std.proofs.lemmas.Bool.{cases_lt, cases_Bool, le-leb, and_parts, and_from}
 use Rattle.std.proofs.lemmas.List.{length-append, length-drop}
@@ -12,7 +12,6 @@ use Rattle.dn_machine.specs.declared.peer.Peer.{Peer}
 use Rattle.dn_machine.specs.Worlds.{Rules}
 use Rattle.dn_machine.specs.Flight.{Flight, end_of, is_exit}
 use Rattle.dn_machine.specs.Node.{Node, put, with_peer, ends_of, got, made, is_ended, has_left}
-use Rattle.dn_machine.specs.Sending.{commands_flight, after_sent, on_send}
 use Rattle.dn_machine.specs.Hearing.{is_strange_end, is_within, after_request, after_exit, on_commands, on_ended, on_packet, on_packet_in}
 use Rattle.dn_machine.specs.Game.{Game}
 use Rattle.dn_machine.proofs.Put.{put_at, put_off}
@@ -20,6 +19,7 @@ use Rattle.dn_machine.proofs.Peers.{no_strange_end}
 use Rattle.dn_machine.proofs.Calls.{commands_cases, sender_after}
 use Rattle.dn_machine.proofs.GoingOn.{IsOn}
 use Rattle.dn_machine.proofs.Stages.{side, same_side, Holds, Taken, Asked, asks}
+use Rattle.dn_machine.proofs.Pairs.{Gives, kind_of}
 use Rattle.dn_machine.proofs.Pairs
 use Rattle.dn_machine.proofs.Roomy.{ended_cause}
 
@@ -46,12 +46,7 @@ module _ {S : Type 0} (rules : Rules S) (settings : Settings) (cap : ℕ) (stay 
 
   module _ (i : ℕ) (j : ℕ) (mine : i < rules.players) (its : j < rules.players) (apart : i ≢ j)
       (built : stay i ≡ true → tic < made i (game.nodes i)) (gone asks_it : Bool)
-      (sends : on_send rules i (game.nodes i) j
-      ≡ (
-        after_sent rules i (game.nodes i) j,
-        Some (commands_flight rules i (game.nodes i) j (Pairs.kind_of rules settings game on.live gone)
-            (cond asks_it (Some (got (game.nodes i) j)) None)),
-      ))
+      (sends : Gives rules game i j gone asks_it)
       (goes : gone ≡ true → (stay i ≡ false) × (has_left (game.nodes i) ≡ true))
       (here : gone ≡ false → stay i ≡ true) (asker : asks_it ≡ true → stay i ≡ true) where
     abbrev I : Node
@@ -111,7 +106,7 @@ module _ {S : Type 0} (rules : Rules S) (settings : Settings) (cap : ℕ) (stay 
           asked = λ u. subst (λ (x : Peer). Asked (got I j) asks_it (J.peers i) x) (sym at) asked;
         }
 
-    exit_gone : (b : Bool) → is_exit (Pairs.kind_of rules settings game on.live b) ≡ b
+    exit_gone : (b : Bool) → is_exit (kind_of b) ≡ b
     exit_gone true = refl
     exit_gone false = refl
 
@@ -173,13 +168,13 @@ module _ {S : Type 0} (rules : Rules S) (settings : Settings) (cap : ℕ) (stay 
         })
 
     receives : (b : Bool) → (on_packet_in rules j J flight Playing
-        (Pairs.kind_of rules settings game on.live b)).0 ≡ (on_commands j J flight).0
+        (kind_of b)).0 ≡ (on_commands j J flight).0
     receives true = refl
     receives false = refl
 
     -- one that has left hears the request
     left_hears : (b : Bool) → b ≡ gone → stay j ≡ false
-        → Heard_so (on_ended true j J flight (Pairs.kind_of rules settings game on.live b)).0
+        → Heard_so (on_ended true j J flight (kind_of b)).0
     left_hears true e s = record {
       phase = refl;
       played = refl;
