@@ -1,30 +1,24 @@
 -- What an exchange leaves in a game that goes on, where each node plays or has left.
-use Rattle.std.proofs.Common.{◌≡◌, ℕ, ◌+◌, ◌-◌, ◌<◌, ◌≤◌, ◌≢◌, Bool, true, false, true≢false, cond, List, ◌++◌, length, drop, refl, sym, ◌∙◌, ap, subst, arith, Some, None, inl, inr, ltb, leb}
+use Rattle.std.proofs.Common.{◌≡◌, ℕ, ◌+◌, ◌≤◌, ◌-◌, ◌<◌, ◌≢◌, Bool, true, false, true≢false, length, refl, sym, ◌∙◌, ap, subst, arith, inl, inr, ltb}
 use Rattle.std.specs.Prelude.{◌⊎◌}
-use Rattle.std.proofs.lemmas.Bool.{cases_eq, cases_lt, cases_Bool, cond-false, le-leb, le-ltb, and_parts, and_from}
-use Rattle.std.proofs.lemmas.List.{length-append, length-drop}
-use Rattle.dn_tic.specs.declared.command.TicCmd.{TicCmd}
+use Rattle.std.proofs.lemmas.Bool.{cases_eq, cases_lt, cases_Bool, cond-false, le-ltb}
 use Rattle.dn_setup.specs.Settings.{Settings}
-use Rattle.dn_machine.specs.declared.answers.Phase.{Phase}
-use Rattle.dn_machine.specs.declared.answers.Phase.TheVariants.{Playing}
-use Rattle.dn_machine.specs.declared.answers.Heard.{Heard}
 use Rattle.dn_machine.specs.declared.peer.Peer.{Peer}
 use Rattle.dn_machine.specs.declared.events.Event.TheVariants.{Send, Deliver}
 use Rattle.dn_machine.specs.Worlds.{Rules}
-use Rattle.dn_machine.specs.Flight.{Flight, end_of, is_exit, is_near}
-use Rattle.dn_machine.specs.Node.{Node, put, with_peer, ends_of, got, made, is_ended, has_left}
-use Rattle.dn_machine.specs.Sending.{commands_flight, after_sent, on_send}
-use Rattle.dn_machine.specs.Hearing.{is_strange_end, is_within, after_request, after_exit, on_commands, on_ended, on_packet, on_packet_in}
+use Rattle.dn_machine.specs.Flight.{Flight, is_near}
+use Rattle.dn_machine.specs.Node.{Node, put, ends_of, got, made, is_ended, has_left}
+use Rattle.dn_machine.specs.Hearing.{on_packet}
 use Rattle.dn_machine.specs.Game.{Game, with_node}
 use Rattle.dn_machine.proofs.Invariant.{HoldsAll, history_of}
 use Rattle.dn_machine.specs.Progress.{after, exchange}
 use Rattle.dn_machine.proofs.Put.{put_at, put_off, view_kept}
-use Rattle.dn_machine.proofs.Peers.{no_strange_end}
-use Rattle.dn_machine.proofs.Calls.{commands_cases, sender_after}
 use Rattle.dn_machine.proofs.GoingOn.{IsOn, ran_after, live_after, on_alike}
-use Rattle.dn_machine.proofs.Stages.{side, same_side, Holds, Taken, Asked, asks}
+use Rattle.dn_machine.proofs.Stages.{side, same_side, Holds, Taken, Asked}
+use Rattle.dn_machine.proofs.Pairs.{Gives, kind_of}
 use Rattle.dn_machine.proofs.Pairs
-use Rattle.dn_machine.proofs.Roomy.{ended_cause, roomy_after}
+use Rattle.dn_machine.proofs.Roomy.{roomy_after}
+use Rattle.dn_machine.proofs.Receivers.{in_play, request_within, hears}
 
 -- what a node keeps of the others is as it was
 abbrev pub IsQuiet : Game → Game → Type 0
@@ -46,26 +40,10 @@ pub record IsExchanged (stay : ℕ → Bool) (tic start : ℕ) (i j : ℕ) (old 
   pub phase : (r : ℕ) → (new.nodes r).phase ≡ (old.nodes r).phase
   pub played : (r : ℕ) → (new.nodes r).played ≡ (old.nodes r).played
 
--- an end that is told changes nothing that was asked
-still_asked : (exit want : Bool) (request end : ℕ) (old mid : Peer) → Asked request want old mid
-    → Asked request want old (after_exit mid exit end)
-still_asked true want request end old mid asked = asked
-still_asked false want request end old mid asked = asked
-
--- what a receiver is left as
-record IsHeard (tic start request : ℕ) (want : Bool) (stays asks_too : Type 0) (i : ℕ)
-    (old new : Node) : Type 0 where
-  phase : new.phase ≡ old.phase
-  played : new.played ≡ old.played
-  other : (s : ℕ) → s ≢ i → side new s ≡ side old s
-  taken : stays → Taken tic start (side old i) (side new i)
-  asked : asks_too → Asked request want (old.peers i) (new.peers i)
-
 module _ {S : Type 0} (rules : Rules S) (settings : Settings) (cap : ℕ) (stay : ℕ → Bool) (tic : ℕ)
     (game : Game) (on : IsOn rules settings cap stay tic game) where
-  -- who stays has not ended
-  pub in_play : (q : ℕ) → q < rules.players → stay q ≡ true → is_ended (game.nodes q).phase ≡ false
-  in_play q l s = ap is_ended (on.plays q l s)
+  there : (q : ℕ) → q < rules.players → stay q ≡ true → is_ended (game.nodes q).phase ≡ false
+  there = in_play rules settings cap stay tic game on
 
   holds_all : (q p : ℕ) → HoldsAll (history_of game) q p → Holds tic (side (game.nodes q) p)
   holds_all q p h =
@@ -77,12 +55,7 @@ module _ {S : Type 0} (rules : Rules S) (settings : Settings) (cap : ℕ) (stay 
 
   module _ (i : ℕ) (j : ℕ) (mine : i < rules.players) (its : j < rules.players) (apart : i ≢ j)
       (built : stay i ≡ true → tic < made i (game.nodes i)) (gone asks_it : Bool)
-      (sends : on_send rules i (game.nodes i) j
-      ≡ (
-        after_sent rules i (game.nodes i) j,
-        Some (commands_flight rules i (game.nodes i) j (Pairs.kind_of rules settings game on.live gone)
-            (cond asks_it (Some (got (game.nodes i) j)) None)),
-      ))
+      (sends : Gives rules game i j gone asks_it)
       (goes : gone ≡ true → (stay i ≡ false) × (has_left (game.nodes i) ≡ true))
       (here : gone ≡ false → stay i ≡ true) (asker : asks_it ≡ true → stay i ≡ true)
       (same_want : stay i ≡ true → ((game.nodes i).peers j).want ≡ asks_it) where
@@ -95,13 +68,9 @@ module _ {S : Type 0} (rules : Rules S) (settings : Settings) (cap : ℕ) (stay 
     abbrev flight : Flight
     flight = Pairs.packet rules settings game on.live i j mine its apart gone asks_it sends
 
-    end : end_of flight ≡ made i I
-    end = Pairs.end_is rules settings game on.live i j mine its apart gone asks_it sends
-
-    request_within : asks_it ≡ true → (got I j ≤ made j J) × (made j J ≤ got I j + 10)
-    request_within w =
-        let f = Pairs.fits rules settings game on.live in
-        (f.held i j mine its, f.unheard i j mine its (in_play i mine (asker w)))
+    asked_within : asks_it ≡ true → (got I j ≤ made j J) × (made j J ≤ got I j + 10)
+    asked_within = request_within rules settings cap stay tic game on i j mine its apart built gone asks_it
+        sends goes here asker
 
     -- a packet to one that stays is near, or that one needs no more
     near_j : stay j ≡ true → (is_near (made j J) flight ≡ true) ⊎ Holds tic (side J i)
@@ -109,17 +78,17 @@ module _ {S : Type 0} (rules : Rules S) (settings : Settings) (cap : ℕ) (stay 
       | inr stays ↦
           let f = Pairs.fits rules settings game on.live in
           inl (Pairs.near rules settings game on.live i j mine its apart gone asks_it sends
-          (f.close i j mine its (in_play j its s)) (f.close j i its mine (in_play i mine (here stays)))
-          request_within)
+          (f.close i j mine its (there j its s)) (f.close j i its mine (there i mine (here stays)))
+          asked_within)
       | inl left ↦
           let f = Pairs.fits rules settings game on.live in
-          let a = f.close i j mine its (in_play j its s) in
+          let a = f.close i j mine its (there j its s) in
           let b = f.ahead j its in
           let c = f.held j i its mine in
           elim (on.live.kept.from_keys.run j i its mine) [
             | inl le ↦
                 inl (Pairs.near rules settings game on.live i j mine its apart gone asks_it sends a
-                (omega arith) request_within)
+                (omega arith) asked_within)
             | inr h ↦ inr (holds_all j i h)
           ]
     ]
@@ -128,149 +97,15 @@ module _ {S : Type 0} (rules : Rules S) (settings : Settings) (cap : ℕ) (stay 
     near_i : stay i ≡ true → (is_near (made j J) flight ≡ true) ⊎ Holds tic (side I j)
     near_i s =
         let f = Pairs.fits rules settings game on.live in
-        let a = f.close j i its mine (in_play i mine s) in
+        let a = f.close j i its mine (there i mine s) in
         let b = f.ahead i mine in
         let c = f.held i j mine its in
         elim (on.live.kept.from_keys.run i j mine its) [
           | inl le ↦
               inl (Pairs.near rules settings game on.live i j mine its apart gone asks_it sends (omega arith)
-              a request_within)
+              a asked_within)
           | inr h ↦ inr (holds_all i j h)
         ]
-
-    -- an end that is known is that of all that were made
-    known : (e : ℕ) → ends_of J i ≡ Some e → e ≡ made i I
-    known e h = (on.live.kept.from_keys.ended j i e its mine h).1
-        ∙ sym (on.live.kept.from_keys.counted i mine)
-
-    no_strange : (exit : Bool) → is_strange_end exit (got J i) (ends_of J i) (end_of flight) ≡ true → ⊥
-    no_strange exit h =
-        let f = Pairs.fits rules settings game on.live in
-        let bound = f.held j i its mine in
-        let tip = end in
-        no_strange_end exit (got J i) (ends_of J i) (end_of flight) (λ e. omega arith)
-        (λ k e. let same = known k e in (omega arith, λ x. omega arith)) h
-
-    within : asks_it ≡ true → is_within (made j J) (Some (got I j)) ≡ true
-    within w =
-        let f = request_within w in
-        let a = f.0 in
-        let b = f.1 in
-        and_from (leb (got I j) (made j J)) (leb (made j J - 12) (got I j)) (le-leb (got I j) (made j J) a)
-        (le-leb (made j J - 12) (got I j) (omega arith))
-
-    abbrev Heard_so : Node → Type 0
-    Heard_so new = IsHeard tic flight.start (got I j) asks_it (stay j ≡ true) (stay i ≡ true) i J new
-
-    -- a node that keeps this of the sender, and these commands
-    heard_as : (peer : Peer) (held : ℕ → List TicCmd) → ((s : ℕ) → s ≢ i → length (held s) ≡ got J s)
-        → Asked (got I j) asks_it (J.peers i) peer
-        → (stay j ≡ true → Taken tic flight.start (side J i) (record { kept = peer; got = length (held i) }))
-        → Heard_so (record (with_peer J i peer) { held = held })
-    heard_as peer held same asked taken =
-        let at = put_at J.peers i i peer refl in
-        record {
-          phase = refl;
-          played = refl;
-          other = λ s n. same_side (put_off J.peers i s peer n) (same s n);
-          taken = λ u. subst (λ (x : Peer). Taken tic flight.start (side J i)
-              (record { kept = x; got = length (held i) })) (sym at) (taken u);
-          asked = λ u. subst (λ (x : Peer). Asked (got I j) asks_it (J.peers i) x) (sym at) asked;
-        }
-
-    exit_gone : (b : Bool) → is_exit (Pairs.kind_of rules settings game on.live b) ≡ b
-    exit_gone true = refl
-    exit_gone false = refl
-
-    -- the packet reaches past the tic, or tells that the sender has no command for it
-    reach : (tic < end_of flight) ⊎ ((is_exit flight.kind ≡ true) × (end_of flight ≤ tic))
-    reach =
-        let tip = end in
-        elim (cases_lt tic (end_of flight)) [
-          | inl l ↦ inl l
-          | inr m ↦ elim (cases_Bool gone) [
-            | inl left ↦ inr (exit_gone gone ∙ left, m)
-            | inr stays ↦ let b = built (here stays) in absurd (omega arith)
-          ]
-        ]
-
-    still_has : {n : ℕ} → tic < end_of flight → Holds tic (side J i) → n ≡ got J i → tic < n
-    still_has more (inl has) e = omega arith
-    still_has more (inr over) e =
-        let same = known over.0 over.1 in
-        let tip = end in
-        let low = over.2 in
-        absurd (omega arith)
-
-    -- a playing node hears commands, and maybe an end
-    heard : stay j ≡ true → Heard_so (on_commands j J flight).0
-    heard s =
-        let f = Pairs.fits rules settings game on.live in
-        let tip = end in
-        let a = f.close i j mine its (in_play j its s) in
-        let b = f.ahead j its in
-        let mid : Peer = after_request (made j J) (J.peers i) flight.request in
-        let base : Peer = sender_after rules j J flight in
-        let asked : Asked (got I j) asks_it (J.peers i) base =
-        still_asked (is_exit flight.kind) asks_it (got I j) (end_of flight) (J.peers i) mid
-        (asks (made j J) (J.peers i) asks_it (got I j) within) in
-        let told : is_exit flight.kind ≡ true → base.end ≡ Some (end_of flight) =
-        λ e. ap (λ (x : Bool). (after_exit mid x (end_of flight)).end) e in
-        commands_cases rules j J flight (λ (r : Node × Heard). Heard_so r.0) (record {
-          overrun = λ x. absurd (omega arith);
-          strange = λ strange. absurd (no_strange (is_exit flight.kind) strange);
-          stale = λ x. heard_as base J.held (λ s n. refl) asked (λ u. elim reach [
-            | inl more ↦ inl (inl (omega arith))
-            | inr done ↦ inl (inr (end_of flight, told done.0, done.1))
-          ]);
-          gap = λ x. heard_as (record base { want = true }) J.held (λ s n. refl) asked (λ u. elim reach [
-            | inl more ↦ inr (refl, x, refl, λ holds. inl (still_has more holds refl))
-            | inr done ↦ inl (inr (end_of flight, told done.0, done.1))
-          ]);
-          takes = λ x y.
-              let new : List TicCmd = J.held i ++ drop (got J i - flight.start) flight.commands in
-              let c = length-append (J.held i) (drop (got J i - flight.start) flight.commands) in
-              let d = length-drop (got J i - flight.start) flight.commands in
-              let at = ap (length {A = TicCmd}) (put_at J.held i i new refl) in
-              heard_as (record base { want = false }) (put J.held i new)
-              (λ s n. ap (length {A = TicCmd}) (put_off J.held i s new n)) asked (λ u. elim reach [
-                | inl more ↦ inl (inl (omega arith))
-                | inr done ↦ inl (inr (end_of flight, told done.0, done.1))
-              ]);
-        })
-
-    receives : (b : Bool) → (on_packet_in rules j J flight Playing
-        (Pairs.kind_of rules settings game on.live b)).0 ≡ (on_commands j J flight).0
-    receives true = refl
-    receives false = refl
-
-    -- one that has left hears the request
-    left_hears : (b : Bool) → b ≡ gone → stay j ≡ false
-        → Heard_so (on_ended true j J flight (Pairs.kind_of rules settings game on.live b)).0
-    left_hears true e s = record {
-      phase = refl;
-      played = refl;
-      other = λ k n. refl;
-      taken = λ u. absurd (true≢false (sym u ∙ s));
-      asked = λ u. absurd (true≢false (sym u ∙ (goes (sym e)).0));
-    }
-    left_hears false e s =
-        heard_as (after_request (made j J) (J.peers i) flight.request) J.held (λ k n. refl)
-        (asks (made j J) (J.peers i) asks_it (got I j) within) (λ u. absurd (true≢false (sym u ∙ s)))
-
-    hears : Heard_so (on_packet rules j J flight).0
-    unfolding on_packet
-    hears = elim (cases_Bool (stay j)) [
-      | inl s ↦ subst (λ (ph : Phase). Heard_so (on_packet_in rules j J flight ph flight.kind).0)
-          (sym (on.plays j its s))
-          (subst (λ (n : Node). Heard_so n) (sym (receives gone)) (heard s))
-      | inr s ↦
-          let both = and_parts J.played (is_ended J.phase) (on.left j its s) in
-          let cause = ended_cause J.phase both.1 in
-          subst (λ (ph : Phase). Heard_so (on_packet_in rules j J flight ph flight.kind).0) (sym cause.1)
-          (subst (λ (b : Bool). Heard_so (on_ended b j J flight flight.kind).0) (sym both.0)
-          (left_hears gone refl s))
-    ]
 
     abbrev new_i : Node
     new_i = Pairs.sender rules settings game on.live i j mine its apart gone asks_it sends
@@ -320,7 +155,7 @@ module _ {S : Type 0} (rules : Rules S) (settings : Settings) (cap : ℕ) (stay 
               ∙ ap (λ (x : Peer). x.end) (put_at I.peers j j _ refl);
           begins = λ u e.
               let f = Pairs.fits rules settings game on.live in
-              let low = f.unheard j i its mine (in_play j its u) in
+              let low = f.unheard j i its mine (there j its u) in
               cond-false (ltb (I.peers j).resend (made i I - 12)) _ _
               (le-ltb (I.peers j).resend (made i I - 12) (omega arith)) ∙ e;
           taken = λ u. subst (λ (x : Node). Taken tic flight.start (side J i) (side x i)) (sym (at_j j refl))
@@ -341,7 +176,8 @@ module _ {S : Type 0} (rules : Rules S) (settings : Settings) (cap : ℕ) (stay 
     pub exchanges_by : IsExchanged stay tic flight.start i j game (exchange rules i game j)
     exchanges_by = elim (cases_Bool (is_near (made j J) flight)) [
       | inl near ↦
-          let h = hears in
+          let h = hears rules settings cap stay tic game on i j mine its apart built gone asks_it sends goes
+          here asker in
           subst (λ (g : Game). IsExchanged stay tic flight.start i j game g)
           (sym (Pairs.exchanged rules settings game on.live i j mine its apart gone asks_it sends near))
           (placed _ h.phase h.played h.other h.taken

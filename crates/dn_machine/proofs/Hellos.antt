@@ -1,5 +1,5 @@
 -- The key player's packet starts a listener, and a player's packet is noted by the key player.
-use Rattle.std.proofs.Common.{◌≡◌, ℕ, ◌<◌, ◌≢◌, Bool, true, false, true≢false, cond, [], length, refl, sym, ◌∙◌, ap, arith, Option, Some, None, inl, inr, eqb}
+use Rattle.std.proofs.Common.{◌≡◌, ℕ, ◌<◌, ◌≢◌, Bool, true, false, true≢false, [], length, refl, sym, ◌∙◌, ap, arith, Option, Some, None, inl, inr, eqb}
 use Rattle.std.specs.Prelude.{◌⊎◌}
 use Rattle.std.proofs.lemmas.Bool.{cases_Bool, cond_both, cond-false, ne_eqb}
 use Rattle.dn_setup.specs.Settings.{Settings}
@@ -9,13 +9,13 @@ use Rattle.dn_machine.specs.declared.answers.Phase.TheVariants.{Gathering, Playi
 use Rattle.dn_machine.specs.declared.answers.Heard.{Heard}
 use Rattle.dn_machine.specs.Worlds.{Rules}
 use Rattle.dn_machine.specs.Flight.{SetUp, Flight, is_near}
-use Rattle.dn_machine.specs.Node.{Node, put, got, made, is_ended, has_left}
-use Rattle.dn_machine.specs.Sending.{set_up_flight, commands_flight, after_sent, on_send, on_send_in}
+use Rattle.dn_machine.specs.Node.{Node, put, made, is_ended, has_left}
+use Rattle.dn_machine.specs.Sending.{set_up_flight, on_send, on_send_in}
 use Rattle.dn_machine.specs.Hearing.{on_gathering, on_packet, on_packet_in}
 use Rattle.dn_machine.specs.Game.{Game, with_node}
 use Rattle.dn_machine.specs.Progress.{exchange}
 use Rattle.dn_machine.proofs.Put.{put_at, put_off}
-use Rattle.dn_machine.proofs.Pairs.{accepted}
+use Rattle.dn_machine.proofs.Pairs.{Gives, kind_of}
 use Rattle.dn_machine.proofs.Pairs
 use Rattle.dn_machine.proofs.Openings.{Stands, Gathers, Listens, Plays, HasGone}
 use Rattle.dn_machine.proofs.Gentle.{AllGentle, exchange_gentle}
@@ -100,12 +100,7 @@ module _ {S : Type 0} (rules : Rules S) (settings : Settings) (cap : ℕ) (stay 
     -- and a player's packet is noted
     module _ (j : ℕ) (its : j < rules.players) (other : j ≢ 0) (game : Game)
         (begun : IsBegun rules settings cap stay tic game)
-        (gone asks_it : Bool) (sends : on_send rules j (game.nodes j) 0
-        ≡ (
-          after_sent rules j (game.nodes j) 0,
-          Some (commands_flight rules j (game.nodes j) 0 (Pairs.kind_of rules settings game begun.live gone)
-              (cond asks_it (Some (got (game.nodes j) 0)) None)),
-        ))
+        (gone asks_it : Bool) (sends : Gives rules game j 0 gone asks_it)
         (asker : asks_it ≡ true → is_ended (game.nodes j).phase ≡ false) where
       abbrev F : Flight
       F = Pairs.packet rules settings game begun.live j 0 its some other gone asks_it sends
@@ -125,7 +120,7 @@ module _ {S : Type 0} (rules : Rules S) (settings : Settings) (cap : ℕ) (stay 
 
       noted_in : (b : Bool)
           → (on_packet_in rules 0 (game.nodes 0) F Gathering
-          (Pairs.kind_of rules settings game begun.live b)).0.noted j ≡ true
+          (kind_of b)).0.noted j ≡ true
       noted_in true = noted_so
       noted_in false = noted_so
 

@@ -9,12 +9,11 @@ use Rattle.dn_machine.specs.Node.{got, made, ran}
 use Rattle.dn_machine.specs.Running.{is_over, is_absent}
 use Rattle.dn_machine.specs.Game.{Game}
 use Rattle.dn_machine.specs.Progress.{after, in_order, turn, good_round, good_rounds}
-use Rattle.dn_machine.proofs.Growth.{applied_grows}
 use Rattle.dn_machine.proofs.Stages.{Has, Meets, Asks, Unknown}
 use Rattle.dn_machine.proofs.GoingOn.{IsFar, IsOn}
 use Rattle.dn_machine.proofs.InOrder.{one_of}
 use Rattle.dn_machine.proofs.Turns
-use Rattle.dn_machine.proofs.RowsStay.{turn_ran}
+use Rattle.dn_machine.proofs.Growth.{applied_grows, turn_ran}
 use Rattle.dn_machine.proofs.Rounds.{At, In, InFar, InOn, turn_hears, turn_keeps, has_after}
 
 -- of several players another than this one

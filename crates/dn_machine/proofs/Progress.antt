@@ -12,11 +12,10 @@ use Rattle.dn_machine.specs.Game.{Game}
 use Rattle.dn_machine.specs.Runs.{Runs}
 use Rattle.dn_machine.specs.Progress.{in_order, turn, good_round, good_rounds, NoneLost, AllRan, HasRoom}
 use Rattle.dn_machine.proofs.Games.{always}
-use Rattle.dn_machine.proofs.Growth.{always_patient}
 use Rattle.dn_machine.proofs.Stages.{Unknown}
 use Rattle.dn_machine.proofs.GoingOn.{IsFar, IsOn}
 use Rattle.dn_machine.proofs.InOrder.{each_of}
-use Rattle.dn_machine.proofs.RowsStay.{rounds_ran}
+use Rattle.dn_machine.proofs.Growth.{always_patient, rounds_ran}
 use Rattle.dn_machine.proofs.Rounds.{At, AtFar, AtOn, turn_keeps, round_nearer, has_after}
 use Rattle.dn_machine.proofs.LastRound.{other_player, thirteen}
 use Rattle.dn_machine.proofs.Roomy.{IsRoomy, InDemos, Without, roomy_on}

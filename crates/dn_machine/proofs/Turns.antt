@@ -25,7 +25,7 @@ use Rattle.dn_machine.proofs.Pairs.{accepted}
 use Rattle.dn_machine.proofs.Pairs
 use Rattle.dn_machine.proofs.Exchanges.{IsQuiet}
 use Rattle.dn_machine.proofs.GoingOn.{IsFar, IsOn, full_far, ran_after, live_after, on_alike, stays_in}
-use Rattle.dn_machine.proofs.Exchanges
+use Rattle.dn_machine.proofs.Receivers.{in_play}
 use Rattle.dn_machine.proofs.Roomy.{roomy_after, row_fits}
 
 module _ {S : Type 0} (rules : Rules S) (settings : Settings) (cap : ℕ) (stay : ℕ → Bool) (tic : ℕ) where
@@ -63,7 +63,7 @@ module _ {S : Type 0} (rules : Rules S) (settings : Settings) (cap : ℕ) (stay 
     ran_made q p l m s =
         let a = Lists.ran_below rules settings (history_of game) game.flights on.live.kept.from_keys q p l m
         (Pairs.stays rules settings game on.live p
-        (Exchanges.in_play rules settings cap stay tic game on p m s)) in
+        (in_play rules settings cap stay tic game on p m s)) in
         let b = on.live.kept.from_keys.counted p m in
         omega arith
 
@@ -156,7 +156,7 @@ module _ {S : Type 0} (rules : Rules S) (settings : Settings) (cap : ℕ) (stay 
       -- where one demo is full, every demo is as good as full
       far_of : cap ≤ ran (game.nodes r) → IsFar rules cap stay game
       far_of = full_far rules settings cap stay game on.live
-          (Exchanges.in_play rules settings cap stay tic game on) r mine
+          (in_play rules settings cap stay tic game on) r mine
 
       -- what a run leaves, unless every demo is as good as full
       pub record HasRun (new : Game) : Type 0 where

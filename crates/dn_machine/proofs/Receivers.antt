@@ -1,0 +1,201 @@
+-- What a packet leaves its receiver as, in a game that goes on, where each node plays or has left.
+use Rattle.std.proofs.Common.{◌≡◌, ℕ, ◌+◌, ◌-◌, ◌<◌, ◌≤◌, ◌≢◌, Bool, true, false, true≢false, List, ◌++◌, length, drop, refl, sym, ◌∙◌, ap, subst, arith, Some, inl, inr, leb}
+use Rattle.std.specs.Prelude.{◌⊎◌}
+use Rattle.std.proofs.lemmas.Bool.{cases_lt, cases_Bool, le-leb, and_parts, and_from}
+use Rattle.std.proofs.lemmas.List.{length-append, length-drop}
+use Rattle.dn_tic.specs.declared.command.TicCmd.{TicCmd}
+use Rattle.dn_setup.specs.Settings.{Settings}
+use Rattle.dn_machine.specs.declared.answers.Phase.{Phase}
+use Rattle.dn_machine.specs.declared.answers.Phase.TheVariants.{Playing}
+use Rattle.dn_machine.specs.declared.answers.Heard.{Heard}
+use Rattle.dn_machine.specs.declared.peer.Peer.{Peer}
+use Rattle.dn_machine.specs.Worlds.{Rules}
+use Rattle.dn_machine.specs.Flight.{Flight, end_of, is_exit}
+use Rattle.dn_machine.specs.Node.{Node, put, with_peer, ends_of, got, made, is_ended, has_left}
+use Rattle.dn_machine.specs.Hearing.{is_strange_end, is_within, after_request, after_exit, on_commands, on_ended, on_packet, on_packet_in}
+use Rattle.dn_machine.specs.Game.{Game}
+use Rattle.dn_machine.proofs.Put.{put_at, put_off}
+use Rattle.dn_machine.proofs.Peers.{no_strange_end}
+use Rattle.dn_machine.proofs.Calls.{commands_cases, sender_after}
+use Rattle.dn_machine.proofs.GoingOn.{IsOn}
+use Rattle.dn_machine.proofs.Stages.{side, same_side, Holds, Taken, Asked, asks}
+use Rattle.dn_machine.proofs.Pairs.{Gives, kind_of}
+use Rattle.dn_machine.proofs.Pairs
+use Rattle.dn_machine.proofs.Roomy.{ended_cause}
+
+-- an end that is told changes nothing that was asked
+still_asked : (exit want : Bool) (request end : ℕ) (old mid : Peer) → Asked request want old mid
+    → Asked request want old (after_exit mid exit end)
+still_asked true want request end old mid asked = asked
+still_asked false want request end old mid asked = asked
+
+-- what a receiver is left as
+pub record IsHeard (tic start request : ℕ) (want : Bool) (stays asks_too : Type 0) (i : ℕ)
+    (old new : Node) : Type 0 where
+  pub phase : new.phase ≡ old.phase
+  pub played : new.played ≡ old.played
+  pub other : (s : ℕ) → s ≢ i → side new s ≡ side old s
+  pub taken : stays → Taken tic start (side old i) (side new i)
+  pub asked : asks_too → Asked request want (old.peers i) (new.peers i)
+
+module _ {S : Type 0} (rules : Rules S) (settings : Settings) (cap : ℕ) (stay : ℕ → Bool) (tic : ℕ)
+    (game : Game) (on : IsOn rules settings cap stay tic game) where
+  -- who stays has not ended
+  pub in_play : (q : ℕ) → q < rules.players → stay q ≡ true → is_ended (game.nodes q).phase ≡ false
+  in_play q l s = ap is_ended (on.plays q l s)
+
+  module _ (i : ℕ) (j : ℕ) (mine : i < rules.players) (its : j < rules.players) (apart : i ≢ j)
+      (built : stay i ≡ true → tic < made i (game.nodes i)) (gone asks_it : Bool)
+      (sends : Gives rules game i j gone asks_it)
+      (goes : gone ≡ true → (stay i ≡ false) × (has_left (game.nodes i) ≡ true))
+      (here : gone ≡ false → stay i ≡ true) (asker : asks_it ≡ true → stay i ≡ true) where
+    abbrev I : Node
+    I = game.nodes i
+
+    abbrev J : Node
+    J = game.nodes j
+
+    abbrev flight : Flight
+    flight = Pairs.packet rules settings game on.live i j mine its apart gone asks_it sends
+
+    end : end_of flight ≡ made i I
+    end = Pairs.end_is rules settings game on.live i j mine its apart gone asks_it sends
+
+    pub request_within : asks_it ≡ true → (got I j ≤ made j J) × (made j J ≤ got I j + 10)
+    request_within w =
+        let f = Pairs.fits rules settings game on.live in
+        (f.held i j mine its, f.unheard i j mine its (in_play i mine (asker w)))
+
+    -- an end that is known is that of all that were made
+    known : (e : ℕ) → ends_of J i ≡ Some e → e ≡ made i I
+    known e h = (on.live.kept.from_keys.ended j i e its mine h).1
+        ∙ sym (on.live.kept.from_keys.counted i mine)
+
+    no_strange : (exit : Bool) → is_strange_end exit (got J i) (ends_of J i) (end_of flight) ≡ true → ⊥
+    no_strange exit h =
+        let f = Pairs.fits rules settings game on.live in
+        let bound = f.held j i its mine in
+        let tip = end in
+        no_strange_end exit (got J i) (ends_of J i) (end_of flight) (λ e. omega arith)
+        (λ k e. let same = known k e in (omega arith, λ x. omega arith)) h
+
+    within : asks_it ≡ true → is_within (made j J) (Some (got I j)) ≡ true
+    within w =
+        let f = request_within w in
+        let a = f.0 in
+        let b = f.1 in
+        and_from (leb (got I j) (made j J)) (leb (made j J - 12) (got I j)) (le-leb (got I j) (made j J) a)
+        (le-leb (made j J - 12) (got I j) (omega arith))
+
+    abbrev Heard_so : Node → Type 0
+    Heard_so new = IsHeard tic flight.start (got I j) asks_it (stay j ≡ true) (stay i ≡ true) i J new
+
+    -- a node that keeps this of the sender, and these commands
+    heard_as : (peer : Peer) (held : ℕ → List TicCmd) → ((s : ℕ) → s ≢ i → length (held s) ≡ got J s)
+        → Asked (got I j) asks_it (J.peers i) peer
+        → (stay j ≡ true → Taken tic flight.start (side J i) (record { kept = peer; got = length (held i) }))
+        → Heard_so (record (with_peer J i peer) { held = held })
+    heard_as peer held same asked taken =
+        let at = put_at J.peers i i peer refl in
+        record {
+          phase = refl;
+          played = refl;
+          other = λ s n. same_side (put_off J.peers i s peer n) (same s n);
+          taken = λ u. subst (λ (x : Peer). Taken tic flight.start (side J i)
+              (record { kept = x; got = length (held i) })) (sym at) (taken u);
+          asked = λ u. subst (λ (x : Peer). Asked (got I j) asks_it (J.peers i) x) (sym at) asked;
+        }
+
+    exit_gone : (b : Bool) → is_exit (kind_of b) ≡ b
+    exit_gone true = refl
+    exit_gone false = refl
+
+    -- the packet reaches past the tic, or tells that the sender has no command for it
+    reach : (tic < end_of flight) ⊎ ((is_exit flight.kind ≡ true) × (end_of flight ≤ tic))
+    reach =
+        let tip = end in
+        elim (cases_lt tic (end_of flight)) [
+          | inl l ↦ inl l
+          | inr m ↦ elim (cases_Bool gone) [
+            | inl left ↦ inr (exit_gone gone ∙ left, m)
+            | inr stays ↦ let b = built (here stays) in absurd (omega arith)
+          ]
+        ]
+
+    still_has : {n : ℕ} → tic < end_of flight → Holds tic (side J i) → n ≡ got J i → tic < n
+    still_has more (inl has) e = omega arith
+    still_has more (inr over) e =
+        let same = known over.0 over.1 in
+        let tip = end in
+        let low = over.2 in
+        absurd (omega arith)
+
+    -- a playing node hears commands, and maybe an end
+    heard : stay j ≡ true → Heard_so (on_commands j J flight).0
+    heard s =
+        let f = Pairs.fits rules settings game on.live in
+        let tip = end in
+        let a = f.close i j mine its (in_play j its s) in
+        let b = f.ahead j its in
+        let mid : Peer = after_request (made j J) (J.peers i) flight.request in
+        let base : Peer = sender_after rules j J flight in
+        let asked : Asked (got I j) asks_it (J.peers i) base =
+        still_asked (is_exit flight.kind) asks_it (got I j) (end_of flight) (J.peers i) mid
+        (asks (made j J) (J.peers i) asks_it (got I j) within) in
+        let told : is_exit flight.kind ≡ true → base.end ≡ Some (end_of flight) =
+        λ e. ap (λ (x : Bool). (after_exit mid x (end_of flight)).end) e in
+        commands_cases rules j J flight (λ (r : Node × Heard). Heard_so r.0) (record {
+          overrun = λ x. absurd (omega arith);
+          strange = λ strange. absurd (no_strange (is_exit flight.kind) strange);
+          stale = λ x. heard_as base J.held (λ s n. refl) asked (λ u. elim reach [
+            | inl more ↦ inl (inl (omega arith))
+            | inr done ↦ inl (inr (end_of flight, told done.0, done.1))
+          ]);
+          gap = λ x. heard_as (record base { want = true }) J.held (λ s n. refl) asked (λ u. elim reach [
+            | inl more ↦ inr (refl, x, refl, λ holds. inl (still_has more holds refl))
+            | inr done ↦ inl (inr (end_of flight, told done.0, done.1))
+          ]);
+          takes = λ x y.
+              let new : List TicCmd = J.held i ++ drop (got J i - flight.start) flight.commands in
+              let c = length-append (J.held i) (drop (got J i - flight.start) flight.commands) in
+              let d = length-drop (got J i - flight.start) flight.commands in
+              let at = ap (length {A = TicCmd}) (put_at J.held i i new refl) in
+              heard_as (record base { want = false }) (put J.held i new)
+              (λ s n. ap (length {A = TicCmd}) (put_off J.held i s new n)) asked (λ u. elim reach [
+                | inl more ↦ inl (inl (omega arith))
+                | inr done ↦ inl (inr (end_of flight, told done.0, done.1))
+              ]);
+        })
+
+    receives : (b : Bool) → (on_packet_in rules j J flight Playing
+        (kind_of b)).0 ≡ (on_commands j J flight).0
+    receives true = refl
+    receives false = refl
+
+    -- one that has left hears the request
+    left_hears : (b : Bool) → b ≡ gone → stay j ≡ false
+        → Heard_so (on_ended true j J flight (kind_of b)).0
+    left_hears true e s = record {
+      phase = refl;
+      played = refl;
+      other = λ k n. refl;
+      taken = λ u. absurd (true≢false (sym u ∙ s));
+      asked = λ u. absurd (true≢false (sym u ∙ (goes (sym e)).0));
+    }
+    left_hears false e s =
+        heard_as (after_request (made j J) (J.peers i) flight.request) J.held (λ k n. refl)
+        (asks (made j J) (J.peers i) asks_it (got I j) within) (λ u. absurd (true≢false (sym u ∙ s)))
+
+    pub hears : Heard_so (on_packet rules j J flight).0
+    unfolding on_packet
+    hears = elim (cases_Bool (stay j)) [
+      | inl s ↦ subst (λ (ph : Phase). Heard_so (on_packet_in rules j J flight ph flight.kind).0)
+          (sym (on.plays j its s))
+          (subst (λ (n : Node). Heard_so n) (sym (receives gone)) (heard s))
+      | inr s ↦
+          let both = and_parts J.played (is_ended J.phase) (on.left j its s) in
+          let cause = ended_cause J.phase both.1 in
+          subst (λ (ph : Phase). Heard_so (on_packet_in rules j J flight ph flight.kind).0) (sym cause.1)
+          (subst (λ (b : Bool). Heard_so (on_ended b j J flight flight.kind).0) (sym both.0)
+          (left_hears gone refl s))
+    ]
