@@ -73,7 +73,8 @@ module _ {S : Type 0} (rules : Rules S) (me : ℕ) (m : machine.Node) where
 
   gathering_beside : (from : ℕ) → Hears m Gathering (on_gathering rules m from)
   gathering_beside from =
-      cond_both (all_noted rules.players (put m.noted from true)) _ _ (Hears m Gathering) (λ all. Starts refl refl refl)
+      cond_both (all_noted rules.players (put m.noted from true)) _ _ (Hears m Gathering)
+      (λ all. Starts refl refl refl)
       (λ some. GoesOn (record { played = refl; settings = refl; rows = refl }) refl)
 
   ended_beside : (cause : Cause) (played : Bool) (flight : Flight) (kind : Kind)
@@ -108,8 +109,8 @@ module _ {S : Type 0} (rules : Rules S) (me : ℕ) (m : machine.Node) where
   build_in keys Gathering = stays m
   build_in keys (Ended cause) = stays m
   build_in keys Playing =
-      cond_both (nat_le 5 (machine.made me m - machine.ran m)) _ _ (λ (x : machine.Node × Made). IsBeside m x.0)
-      (λ full. stays m)
+      cond_both (nat_le 5 (machine.made me m - machine.ran m)) _ _
+      (λ (x : machine.Node × Made). IsBeside m x.0) (λ full. stays m)
       (λ more. record { played = refl; settings = refl; rows = refl })
 
   pub build_beside : (keys : ℕ) → IsBeside m (on_build rules me m keys).0
@@ -127,8 +128,8 @@ module _ {S : Type 0} (rules : Rules S) (me : ℕ) (m : machine.Node) where
   unfolding on_send
   send_beside to =
       let P : machine.Node × Option Flight → Type 0 = λ x. IsBeside m x.0 in
-      cond_both (nat_lt to rules.players) _ _ P (λ below. cond_both (me == to) _ _ P (λ own. stays m) (λ other. send_in to m.phase))
-      (λ past. stays m)
+      cond_both (nat_lt to rules.players) _ _ P
+      (λ below. cond_both (me == to) _ _ P (λ own. stays m) (λ other. send_in to m.phase)) (λ past. stays m)
 
   quit_in : (phase : Phase) → IsBeside m (on_quit_in m phase).0
   quit_in Listening = record { played = refl; settings = refl; rows = refl }

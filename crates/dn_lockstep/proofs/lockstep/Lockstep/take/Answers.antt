@@ -106,25 +106,25 @@ returns-then-end-got-clause-step c marking players extra capacity me m r =
 pub invariant_of-self-then-start-got-clause-endless : goal.invariant_of-self-then-start-got-clause-endless
 invariant_of-self-then-start-got-clause-endless c =
     let before = kept (goal.at.invariant_of-self-then-start-got-clause-endless c).After-tell in
-    same_end (kept_wanted before true c.want.ensures.put c.want.ensures.others) c.args.self.now.me
+    same_end (kept_wanted before _ c.want.ensures.put c.want.ensures.others) c.args.self.now.me
     (λ e. c.requires.other (sym e)) ∙ c.args.self.now.endless
 
 pub invariant_of-self-then-start-got-clause-gone : goal.invariant_of-self-then-start-got-clause-gone
 invariant_of-self-then-start-got-clause-gone c plays closed =
     let before = kept (goal.at.invariant_of-self-then-start-got-clause-gone c).After-tell in
-    gone_still (kept_wanted before true c.want.ensures.put c.want.ensures.others) _ _
+    gone_still (kept_wanted before _ c.want.ensures.put c.want.ensures.others) _ _
     (c.args.self.now.gone plays closed)
 
 pub invariant_of-self-then-start-got-clause-ahead : goal.invariant_of-self-then-start-got-clause-ahead
 invariant_of-self-then-start-got-clause-ahead c p below h =
     let before = kept (goal.at.invariant_of-self-then-start-got-clause-ahead c).After-tell in
     c.args.self.now.ahead p below
-    (stays_gone (kept_wanted before true c.want.ensures.put c.want.ensures.others) _ p h)
+    (stays_gone (kept_wanted before _ c.want.ensures.put c.want.ensures.others) _ p h)
 
 pub invariant_of-self-then-start-got-clause-resends : goal.invariant_of-self-then-start-got-clause-resends
 invariant_of-self-then-start-got-clause-resends c =
     let before = kept (goal.at.invariant_of-self-then-start-got-clause-resends c).After-tell in
-    resends_low (kept_wanted before true c.want.ensures.put c.want.ensures.others) c.made-made.ensures _
+    resends_low (kept_wanted before _ c.want.ensures.put c.want.ensures.others) c.made-made.ensures _
     c.args.self.now.resends
 
 pub returns-then-start-got-clause-step : goal.returns-then-start-got-clause-step
@@ -145,20 +145,20 @@ put_all-requires-clause-no_stop c =
 pub invariant_of-self-2-clause-endless : goal.invariant_of-self-2-clause-endless
 invariant_of-self-2-clause-endless c =
     let before = kept (goal.at.invariant_of-self-2-clause-endless c).After-tell in
-    same_end (kept_wanted before false c.want-2.ensures.put c.want-2.ensures.others) c.args.self.now.me
+    same_end (kept_wanted before _ c.want-2.ensures.put c.want-2.ensures.others) c.args.self.now.me
     (λ e. c.requires.other (sym e)) ∙ c.args.self.now.endless
 
 pub invariant_of-self-2-clause-gone : goal.invariant_of-self-2-clause-gone
 invariant_of-self-2-clause-gone c plays closed =
     let before = kept (goal.at.invariant_of-self-2-clause-gone c).After-tell in
-    gone_still (kept_wanted before false c.want-2.ensures.put c.want-2.ensures.others) _ _
+    gone_still (kept_wanted before _ c.want-2.ensures.put c.want-2.ensures.others) _ _
     (c.args.self.now.gone plays closed)
 
 pub invariant_of-self-2-clause-ahead : goal.invariant_of-self-2-clause-ahead
 invariant_of-self-2-clause-ahead c p below h =
     let before = kept (goal.at.invariant_of-self-2-clause-ahead c).After-tell in
     let old = c.args.self.now.ahead p below
-    (stays_gone (kept_wanted before false c.want-2.ensures.put c.want-2.ensures.others) _ p h) in
+    (stays_gone (kept_wanted before _ c.want-2.ensures.put c.want-2.ensures.others) _ p h) in
     elim (changed (ring_at c.args.self.now.rings) (ring_at c.put_all.new.self) c.args.from _
     c.put_all.ensures.count c.put_all.ensures.others p) [
       | inl more ↦
@@ -191,7 +191,7 @@ invariant_of-self-2-clause-window c p h =
 pub invariant_of-self-2-clause-resends : goal.invariant_of-self-2-clause-resends
 invariant_of-self-2-clause-resends c p below =
     let before = kept (goal.at.invariant_of-self-2-clause-resends c).After-tell in
-    let low = resends_low (kept_wanted before false c.want-2.ensures.put c.want-2.ensures.others)
+    let low = resends_low (kept_wanted before _ c.want-2.ensures.put c.want-2.ensures.others)
     c.made-made.ensures _ c.args.self.now.resends p below in
     let own = ap (λ (x : Ring). x.count)
     (c.put_all.ensures.others c.args.self.now.me (λ e. c.requires.other (sym e))) in
