@@ -85,7 +85,7 @@ answers_one {W} {S} state rules old new m event answer r (inl after) =
 answers_one {W} {S} state rules old new m event answer r (inr (free, left)) =
     (m, inr (free, left.send, refl, left.answered), rw left.same r)
 
--- what was played with it, whose lists are seen where it is cited
+-- one event more, played. An abbrev, so that its answers compute where it is cited.
 abbrev pub played_more : {W S : Type 0} (state : W → S) (rules : Rules S) (settings : Settings)
     (events : List Event) (event : Event) (answer : Result Done Refusal) (played next : Played W)
     → (r : IsPlayed state rules settings events played)

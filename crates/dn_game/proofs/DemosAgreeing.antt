@@ -73,11 +73,7 @@ module _ {W S : Type 0} (rules : Rules S) (settings : Settings) (keys : ℕ → 
 
   -- nothing is recorded before the start
   no_tics : (n : node.Contents W) (tic : ℕ) → n.demo.bytes ≡ [] → tic < tics_in n → ⊥
-  no_tics n tic none there =
-      let no : tics_in n ≡ 0 / n.players = ap (λ (bytes : List ℕ). commands_in long_tics bytes / n.players)
-      none in
-      let zero_of : 0 / n.players ≡ 0 = omega arith in
-      omega arith
+  no_tics n tic none there = grind arith
 
   none_recorded : (n : node.Contents W) → n.demo.bytes ≡ [] → recorded n ≡ []
   none_recorded n none =

@@ -46,7 +46,7 @@ module _ {S : Type 0} (rules : Rules S) where
   follows_plays generator (e ∷ events) (a ∷ answers) rest game last (first, (then, one, way)) =
       (then, one, follows_plays (behind_three generator) events answers rest then last way)
 
--- what was stormed with it, whose lists are seen where it is cited
+-- one event more of a storm. An abbrev, so that its events and answers compute where it is cited.
 abbrev pub stormed_more : {W S : Type 0} (state : W → S) (rules : Rules S) (settings : Settings)
     (seed count : ℕ) (event : Event) (answer : Result Done Refusal) (played next : Played W)
     → (s : IsStormed state rules settings seed count played)

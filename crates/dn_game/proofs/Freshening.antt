@@ -66,11 +66,7 @@ module _ {X W : Type 0} (view : X → W) (xs : List X) (rest whole : List W)
     (so_far : map view xs ++ rest ≡ whole) where
   pub given_more : (more : List X) (x : X) (w : W) (left : List W) → more ≡ xs ++ x ∷ [] → view x ≡ w
       → rest ≡ w ∷ left → map view more ++ left ≡ whole
-  given_more more x w left pushed is first =
-      ap (λ (ys : List X). map view ys ++ left) pushed ∙ ap (λ (ws : List W). ws ++ left) (map_push view xs x)
-      ∙ append_assoc (map view xs) (view x ∷ []) left
-      ∙ ap (λ (v : W). map view xs ++ v ∷ left) is ∙ ap (λ (ws : List W). map view xs ++ ws) (sym first)
-      ∙ so_far
+  given_more more x w left pushed is first = grind (arith, map_push {X = X} {Y = W}, append_assoc {A = W})
 
   pub given_all : length rest ≡ 0 → map view xs ≡ whole
   given_all none =

@@ -1,7 +1,7 @@
 -- Why the machine refuses an event, by what was looked at.
 use Rattle.std.proofs.Common.{◌≡◌, ◌<◌, ◌⊎◌, ℕ, Bool, true, false, length, Option, Some, None, ap, sym, ◌∙◌, arith}
 use Rattle.std.specs.Prelude.{not, if◌then◌else◌, nat_lt, slice_get, slice_index_or}
-use Rattle.std.proofs.lemmas.Bool.{cond-true, cond-false}
+use Rattle.std.proofs.lemmas.Bool.{cond-true}
 use Rattle.dn_machine.specs.Flight as exact
 use Rattle.dn_machine.specs.Flight.{is_near}
 use Rattle.dn_machine.specs.Node.{made}
@@ -75,11 +75,7 @@ module _ {W S : Type 0} (state : W → S) (rules : Rules S) (g : Contents W) (m 
   pub told_near : far ≡ false → (place : ℕ) (stopped : Bool) → place ≡ entry.to
       → stopped ≡ slice_index_or g.stopped place false
       → (if stopped then Some Refusal.Stopped else None) ≡ refused_flight m (slice_get m.flights which)
-  told_near so place stopped there is =
-      let same : stopped ≡ m.stopped sent.0.to = is
-      ∙ ap (λ (k : ℕ). slice_index_or g.stopped k false) (there ∙ sym is_to) ∙ r.stopped to
-      ∙ ap m.stopped goes_to in
-      ap (λ (b : Bool). if b then Some Refusal.Stopped else None) same ∙ sym (cond-false far _ _ so) ∙ refused_so
+  told_near so place stopped there is = grind (arith, refused_so, r.stopped, goes_to)
 
 -- an event of one node
 abbrev pub IsOfNode : ℕ → Event → Type 0
