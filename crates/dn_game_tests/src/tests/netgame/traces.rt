@@ -169,13 +169,13 @@ fn packets_that_are_dropped_are_told(rt: HostRuntime) -> Result<(), Fail> {
 
 #[test]
 fn storms_are_told_event_by_event(rt: HostRuntime) -> Result<(), Fail> {
-    let game = rules(DEFAULT_LIMIT)?;
     for rounds in [0, 4] {
-        let plain = calm(rt.alloc(), game, 2, (42, 6, rounds));
+        let plain = calm(rt.alloc(), rules(DEFAULT_LIMIT)?, 2, (42, 6, rounds));
         let mut text = Vec::new(rt.alloc());
         text.extend_from_slice(DRAWN_TOLD.as_bytes())?;
         text.extend_from_slice(plain.bytes.as_slice())?;
         let mut output = Vec::new(rt.alloc());
+        let game = rules(DEFAULT_LIMIT)?;
         let status = trace_storm(rt.alloc(), game, 2, 42, 6, rounds, &mut output);
         same!(rt; status, Ok(0), rounds);
         same!(rt; output.as_slice(), text.as_slice(), rounds);
@@ -196,10 +196,10 @@ fn a_storm_is_written_as_its_script(rt: HostRuntime) -> Result<(), Fail> {
 #[test]
 fn a_storm_is_played_again_by_its_script(rt: HostRuntime) -> Result<(), Fail> {
     for (players, seed, count) in [(2, 1, 1_000), (3, 7, 3_000), (4, 4_294_967_295, 5_000)] {
-        let game = rules(DEFAULT_LIMIT)?;
-        let storm = storm(rt.alloc(), game, players, seed, count);
+        let storm = storm(rt.alloc(), rules(DEFAULT_LIMIT)?, players, seed, count);
         same!(rt; storm.status, Ok(0), seed);
         let mut script = Vec::new(rt.alloc());
+        let game = rules(DEFAULT_LIMIT)?;
         let written = storm_script(rt.alloc(), game, players, seed, count, &mut script);
         same!(rt; written, Ok(0));
         let again = sim(rt.alloc(), DEFAULT_LIMIT, players, &mut script.as_slice())?;
