@@ -122,12 +122,16 @@ module _ {S : Type 0} (rules : Rules S) (me : ℕ) (node : Node) where
     abbrev pub sender_after : Peer
     sender_after = after_flight (made me node) (node.peers flight.from) flight
 
+    -- why commands are dropped, by the number that is told
+    abbrev pub Refused : ℕ → Type 0
+    Refused number = ((number ≡ drops.overrun) × (ran node + 12 < end_of flight))
+        ⊎ ((number ≡ drops.strange_end)
+        × (is_strange_end (is_exit flight.kind) (got node flight.from) (ends_of node flight.from)
+        (end_of flight) ≡ true))
+
     -- the commands of a packet
     pub record Commands (P : Node × Heard → Type 0) : Type 0 where
-      pub overrun : ran node + 12 < end_of flight → P (node, Heard.Dropped drops.overrun)
-      pub strange : is_strange_end (is_exit flight.kind) (got node flight.from) (ends_of node flight.from)
-          (end_of flight) ≡ true
-          → P (node, Heard.Dropped drops.strange_end)
+      pub dropped : (number : ℕ) → Refused number → P (node, Heard.Dropped number)
       pub stale : end_of flight ≤ got node flight.from
           → P (with_peer node flight.from sender_after, left_or (is_exit flight.kind) Heard.Stale)
       pub gap : got node flight.from < flight.start
@@ -144,11 +148,11 @@ module _ {S : Type 0} (rules : Rules S) (me : ℕ) (node : Node) where
     pub commands_cases : (P : Node × Heard → Type 0) → Commands P → P (on_commands me node flight)
     commands_cases P cases =
         cond_both (ltb (ran node + 12) (end_of flight)) _ _ P
-        (λ over. cases.overrun (ltb-true (ran node + 12) (end_of flight) over))
+        (λ over. cases.dropped drops.overrun (inl (refl, ltb-true (ran node + 12) (end_of flight) over)))
         (λ fits. cond_both
         (is_strange_end (is_exit flight.kind) (got node flight.from) (ends_of node flight.from)
         (end_of flight)) _ _ P
-        cases.strange
+        (λ strange. cases.dropped drops.strange_end (inr (refl, strange)))
         (λ known. cond_both (leb (end_of flight) (got node flight.from)) _ _ P
         (λ old. cases.stale (leb-true (end_of flight) (got node flight.from) old))
         (λ later. cond_both (ltb (got node flight.from) flight.start) _ _ P

@@ -85,8 +85,7 @@ module _ {S : Type 0} (rules : Rules S) (i : ℕ) (node : Node) where
         completes = λ word e all. Completes word e refl refl refl all;
         notes = λ word e some. Notes word e e refl refl some refl;
         commands = λ plays. record {
-          overrun = λ l. Same refl refl refl (λ e. refl);
-          strange = λ h. Same refl refl refl (λ e. refl);
+          dropped = λ number why. Same refl refl refl (λ e. refl);
           stale = λ l. Same refl refl refl (λ e. refl);
           gap = λ l. Same refl refl refl (λ e. refl);
           takes = λ l m. Same refl refl refl (λ e. refl);

@@ -93,8 +93,7 @@ module _ {S : Type 0} (rules : Rules S) (i : ℕ) (node : Node) where
         completes = λ word e all. record { rows = omega arith; pause = λ peer h. h; played = λ h. refl };
         notes = λ word e some. record { rows = omega arith; pause = λ peer h. h; played = λ h. h };
         commands = λ plays. record {
-          overrun = λ l. grows_same node;
-          strange = λ h. grows_same node;
+          dropped = λ number why. grows_same node;
           stale = λ l. peer_grows flight.from _ node.held low;
           gap = λ l. peer_grows flight.from _ node.held low;
           takes = λ l m. peer_grows flight.from _ _ low;

@@ -269,8 +269,7 @@ module _ {S : Type 0} (rules : Rules S) (settings : Settings) (game : Game)
               (Placing.restated rules settings game kept i mine node.phase node.played node.settings _
               sound.played sound.playing sound.gathering sound.consistent);
           commands = λ plays. record {
-            overrun = λ l. same;
-            strange = λ h. same;
+            dropped = λ number why. same;
             stale = λ l. hears_only (is_exit flight.kind) leaving peer told low;
             gap = λ l. hears_only (is_exit flight.kind) leaving (record peer { want = true }) told low;
             takes = λ first high. takes_too (is_exit flight.kind) leaving (record peer { want = false }) told

@@ -222,8 +222,10 @@ module _ {S : Type 0} (rules : Rules S) (settings : Settings) (game : Game)
             completes = λ word p all e. absurd (cc);
             notes = λ word p some e. absurd (cc);
             commands = λ plays. record {
-              overrun = λ over e. let near = within plays in absurd (omega arith);
-              strange = λ strange e. absurd (no_strange strange);
+              dropped = λ reason why e. elim why [
+                | inl over ↦ let far = over.1 in let near = within plays in absurd (omega arith)
+                | inr strange ↦ absurd (no_strange strange.1)
+              ];
               stale = λ l. left_fine Heard.Stale (λ e. absurd (cc));
               gap = λ l e. absurd (cc);
               takes = λ l m. left_fine (Heard.Taken _) (λ e. absurd (cc));

@@ -145,8 +145,10 @@ module _ {S : Type 0} (rules : Rules S) (settings : Settings) (cap : ℕ) (stay 
         let told : is_exit flight.kind ≡ true → base.end ≡ Some (end_of flight) =
         λ e. ap (λ (x : Bool). (after_exit mid x (end_of flight)).end) e in
         commands_cases rules j J flight (λ (r : Node × Heard). Heard_so r.0) (record {
-          overrun = λ x. absurd (omega arith);
-          strange = λ strange. absurd (no_strange (is_exit flight.kind) strange);
+          dropped = λ number why. elim why [
+            | inl over ↦ let far = over.1 in absurd (omega arith)
+            | inr strange ↦ absurd (no_strange (is_exit flight.kind) strange.1)
+          ];
           stale = λ x. heard_as base J.held (λ s n. refl) asked (λ u. elim reach [
             | inl more ↦ inl (inl (omega arith))
             | inr done ↦ inl (inr (end_of flight, told done.0, done.1))
