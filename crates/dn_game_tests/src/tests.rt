@@ -1,4 +1,6 @@
-//! Tests of all nodes of a game, and of the program's subcommands.
+//! Tests of lines, of turns, of all nodes of a game, and of the program's subcommands.
+
+ghost use Rattle.std.specs.Prelude.{◌≤◌, ◌<◌, IfOk};
 
 /// Compares two values, and names what was compared. An `assert_eq!` is proved anew at each place, which
 /// takes several times as long as this call.
@@ -22,9 +24,14 @@ macro_rules! holds {
 }
 
 mod game;
+mod line;
 mod netgame;
+mod turn;
 
+use dn_line::{LineFault, UdpLine};
+use std::alloc::Global;
 use std::fmt::Debug;
+use std::net::Net;
 use std::process::Abort;
 
 /// Compares what a test found with what it wants. Where they differ, what was asked and the row of its table
@@ -42,4 +49,23 @@ fn compare<T: PartialEq + Debug + Drop>(
 /// Confirms a fact.
 fn confirm(rt: &impl Abort, what: &str, row: &impl Debug, fact: bool) {
     assert!(rt; fact, "{what}, row {row:?}");
+}
+
+/// A line of two players at ports that are free, bound for those up to `last`, and where it is.
+fn free_line<R: Net>(
+    rt: &R,
+    alloc: Global,
+    area: u16,
+    last: u8,
+) -> Result<(UdpLine, u16), LineFault>
+    requires { (1024 < area) × (area ≤ 60000) × (last < 2) }
+    ensures { IfOk result (λ found. (1024 < found.1) × (found.1 ≤ 65532)) }
+{
+    for step in 0..200u16 {
+        let base = area + 8 * step;
+        if let Ok(line) = UdpLine::bind(rt, alloc, base, 0, last, 2) {
+            return Ok((line, base));
+        }
+    }
+    Err(LineFault::Bind)
 }

@@ -1,6 +1,6 @@
-//! Tests of demos, of nodes without a world, and of nodes that step one.
+//! Tests of commands, packets, settings, rings, worlds, demos, nodes without a world, and nodes that step one.
 
-ghost use Rattle.std.specs.Prelude.{◌<◌};
+ghost use Rattle.std.specs.Prelude.{◌≡◌, ◌<◌, Some};
 
 /// Compares two values, and names what was compared. An `assert_eq!` is proved anew at each place, which
 /// takes several times as long as this call.
@@ -26,11 +26,17 @@ macro_rules! holds {
 mod demo;
 mod lockstep;
 mod node;
+mod packet;
+mod ring;
+mod setup;
+mod tic;
+mod world;
 
 use arrayvec::ArrayVec;
 use dn_packet::{Packet, encode};
 use dn_setup::{Settings, SettingsFault};
-use dn_tic::TicCmd;
+use dn_tic::{Move, TicCmd};
+use dn_world::{Walk, World};
 use std::fmt::Debug;
 use std::process::Abort;
 
@@ -41,11 +47,35 @@ const NO_KEYS: u32 = 0;
 
 const FORWARD: u32 = 1;
 
+const BACK: u32 = 1 << 1;
+
 const LEFT: u32 = 1 << 2;
 
 const RIGHT: u32 = 1 << 3;
 
+const STRAFE_LEFT: u32 = 1 << 4;
+
+const STRAFE_RIGHT: u32 = 1 << 5;
+
+const STRAFE: u32 = 1 << 6;
+
 const SPEED: u32 = 1 << 7;
+
+const ATTACK: u32 = 1 << 8;
+
+const USE: u32 = 1 << 9;
+
+/// The key of weapon 1 to 8.
+const WEAPONS: [u32; 8] = [
+    1 << 10,
+    1 << 11,
+    1 << 12,
+    1 << 13,
+    1 << 14,
+    1 << 15,
+    1 << 16,
+    1 << 17,
+];
 
 /// No key, at every tic of both nodes.
 const IDLE: (u32, u32) = (NO_KEYS, NO_KEYS);
@@ -59,6 +89,9 @@ const STILL: TicCmd = TicCmd {
     chat: 0,
     buttons: 0,
 };
+
+/// Where a player stands: x, y, angle and consistency value.
+type Place = (i32, i32, u16, i16);
 
 /// Compares what a test found with what it wants. Where they differ, what was asked and the row of its table
 /// are told.
@@ -82,18 +115,56 @@ fn choice() -> Result<Settings, SettingsFault> {
     Settings::new(2, 0, false, false, 1, 1)
 }
 
-/// The datagram of a packet with these flags, these ask, start and player bytes, and these commands.
-fn datagram(flags: u8, numbers: (u8, u8, u8), commands: &[TicCmd]) -> ArrayVec<u8, 104>
-    requires { flags < 16 }
+/// The move of a player who is present.
+fn moved(forward: i8, side: i8, turn: i16, buttons: u8) -> Option<Move>
+    ensures { result ≡ Some (record { forward = forward; side = side; turn = turn; buttons = buttons }) }
+{
+    Some(Move {
+        forward,
+        side,
+        turn,
+        buttons,
+    })
+}
+
+/// What a world tells of a player.
+fn place(walk: &Walk, player: u8) -> (Option<i32>, Option<i32>, Option<u16>, i16) {
+    (
+        walk.x(player),
+        walk.y(player),
+        walk.angle(player),
+        walk.mark(player),
+    )
+}
+
+/// Players 0 and 1 stand at these places, and there is no third.
+fn stand(rt: &impl Abort, walk: &Walk, places: [Place; 2]) {
+    for (player, (x, y, angle, mark)) in [(0, places[0]), (1, places[1])] {
+        let wanted = (Some(x), Some(y), Some(angle), mark);
+        same!(rt; place(walk, player), wanted, player);
+    }
+    same!(rt; walk.x(2), None);
+}
+
+/// A packet with these flags, these ask, start and player bytes, and these commands.
+fn packet_of(flags: u8, numbers: (u8, u8, u8), commands: &[TicCmd]) -> Packet
+    ensures { result.flags ≡ flags }
 {
     let (ask, start, player) = numbers;
     let mut cmds = ArrayVec::new();
     let _ = cmds.try_extend_from_slice(commands);
-    encode(&Packet {
+    Packet {
         flags,
         ask,
         start,
         player,
         cmds,
-    })
+    }
+}
+
+/// The datagram of such a packet.
+fn datagram(flags: u8, numbers: (u8, u8, u8), commands: &[TicCmd]) -> ArrayVec<u8, 104>
+    requires { flags < 16 }
+{
+    encode(&packet_of(flags, numbers, commands))
 }

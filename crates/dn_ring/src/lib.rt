@@ -6,6 +6,3 @@ mod ring;
 
 pub use laws::rings_keep_the_last;
 pub use ring::Ring;
-
-#[cfg(test)]
-mod tests;

@@ -12,6 +12,3 @@ pub use laws::{every_packet_is_told, settings_found_again};
 pub use settings::{Settings, SettingsFault};
 pub use setup::{SetupFault, VERSION, from_packet, to_packet};
 pub use start::Start;
-
-#[cfg(test)]
-mod tests;

@@ -1,20 +1,13 @@
 //! Tests of recorders, of demos that are read, played and upgraded.
 
-ghost use Rattle.std.specs.Prelude.{◌≡◌, Some};
-
 mod feeding;
 mod reading;
 mod recording;
 mod telling;
 mod upgrading;
 
+use super::{Place, moved, place, stand};
 use dn_setup::Start;
-use dn_tic::Move;
-use dn_world::{Walk, World};
-use std::process::Abort;
-
-/// Where a player stands: x, y, angle and consistency value.
-type Place = (i32, i32, u16, i16);
 
 /// Two tics of players 0 and 1, closed, as the 1997 release records them.
 const PLAYED: [u8; 30] = [
@@ -43,33 +36,3 @@ const START: Start = Start {
     fast: 0,
     no_monsters: 1,
 };
-
-/// What a world tells of a player.
-fn place(walk: &Walk, player: u8) -> (Option<i32>, Option<i32>, Option<u16>, i16) {
-    (
-        walk.x(player),
-        walk.y(player),
-        walk.angle(player),
-        walk.mark(player),
-    )
-}
-
-/// Players 0 and 1 stand at these places, and there is no third.
-fn stand(rt: &impl Abort, walk: &Walk, places: [Place; 2]) {
-    for (player, (x, y, angle, mark)) in [(0, places[0]), (1, places[1])] {
-        let wanted = (Some(x), Some(y), Some(angle), mark);
-        same!(rt; place(walk, player), wanted, player);
-    }
-    same!(rt; walk.x(2), None);
-}
-
-fn moved(forward: i8, side: i8, turn: i16, buttons: u8) -> Option<Move>
-    ensures { result ≡ Some (record { forward = forward; side = side; turn = turn; buttons = buttons }) }
-{
-    Some(Move {
-        forward,
-        side,
-        turn,
-        buttons,
-    })
-}

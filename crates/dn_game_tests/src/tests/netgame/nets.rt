@@ -1,9 +1,10 @@
 //! Nodes over ports of this machine that are free.
 
-ghost use Rattle.std.specs.Prelude.{◌≡◌, ◌≤◌, IfOk};
+ghost use Rattle.std.specs.Prelude.{◌≡◌, ◌≤◌, ◌<◌, IfOk};
 
 use super::games::{DEFAULT_LIMIT, rules};
 use super::streams::Sink;
+use crate::tests::free_line;
 use dn_line::{LineFault, UdpLine};
 use dn_netgame::{RunFault, run_loop, run_play};
 use dn_node::Config;
@@ -40,16 +41,12 @@ fn play_alone<R: Net, W: Write>(
 
 /// Ports of two players that were free just now, from this one on.
 fn base<R: Net>(rt: &R, alloc: Global, area: u16) -> Result<u16, LineFault>
-    requires { (1024 ≤ area) × (area ≤ 60000) }
-    ensures { IfOk result (λ base. (1024 ≤ base) × (base ≤ 65532)) }
+    requires { (1024 < area) × (area ≤ 60000) }
+    ensures { IfOk result (λ base. (1024 < base) × (base ≤ 65532)) }
 {
-    for step in 0..200u16 {
-        let base = area + 8 * step;
-        if UdpLine::bind(rt, alloc, base, 0, 1, 2).is_ok() {
-            return Ok(base);
-        }
-    }
-    Err(LineFault::Bind)
+    let (line, base) = free_line(rt, alloc, area, 1)?;
+    drop(line);
+    Ok(base)
 }
 
 /// A player who finds nobody quits before the game starts.

@@ -1,34 +1,11 @@
 //! Tests of the commands that a node builds from keys.
 
 use super::{FORWARD, IDLE, LEFT, NO_KEYS, RIGHT, SPEED, STILL, hears, pair, pass, run, tic};
+use crate::tests::{ATTACK, BACK, STRAFE, STRAFE_LEFT, STRAFE_RIGHT, USE, WEAPONS};
 use dn_lockstep::{Heard, Lockstep, Made, Ran};
 use dn_tic::{Keys, Move};
 use std::process::Abort;
 use std::test::Fail;
-
-const BACK: u32 = 1 << 1;
-
-const STRAFE_LEFT: u32 = 1 << 4;
-
-const STRAFE_RIGHT: u32 = 1 << 5;
-
-const STRAFE: u32 = 1 << 6;
-
-const ATTACK: u32 = 1 << 8;
-
-const USE: u32 = 1 << 9;
-
-/// The key of weapon 1 to 8.
-const WEAPONS: [u32; 8] = [
-    1 << 10,
-    1 << 11,
-    1 << 12,
-    1 << 13,
-    1 << 14,
-    1 << 15,
-    1 << 16,
-    1 << 17,
-];
 
 fn build(node: &mut Lockstep, keys: u32) -> Made {
     node.build(Keys::from_bits(keys))

@@ -1,35 +1,12 @@
-use super::*;
+//! Tests of commands: their bytes, the keys that make them, the moves that are used of them, and the tics that
+//! low bytes stand for.
+
+use super::{
+    ATTACK, BACK, FORWARD, LEFT, NO_KEYS, RIGHT, SPEED, STRAFE, STRAFE_LEFT, STRAFE_RIGHT, USE,
+    WEAPONS,
+};
+use dn_tic::{Builder, Key, Keys, Move, TicCmd, expand, round};
 use std::process::Abort;
-
-const NO_KEYS: u32 = 0;
-
-const FORWARD: u32 = 1;
-
-const BACK: u32 = 1 << 1;
-
-const LEFT: u32 = 1 << 2;
-
-const RIGHT: u32 = 1 << 3;
-
-const STRAFE_LEFT: u32 = 1 << 4;
-
-const STRAFE_RIGHT: u32 = 1 << 5;
-
-const STRAFE: u32 = 1 << 6;
-
-const SPEED: u32 = 1 << 7;
-
-const ATTACK: u32 = 1 << 8;
-
-const USE: u32 = 1 << 9;
-
-const WEAPON_1: u32 = 1 << 10;
-
-const WEAPON_3: u32 = 1 << 12;
-
-const WEAPON_7: u32 = 1 << 16;
-
-const WEAPON_8: u32 = 1 << 17;
 
 #[test]
 fn a_command_is_found_again_in_its_bytes(rt: HostRuntime) {
@@ -42,17 +19,17 @@ fn a_command_is_found_again_in_its_bytes(rt: HostRuntime) {
         buttons: 5,
     };
     let bytes = [0xCE, 0x18, 0x80, 0xFD, 0x02, 0x01, 7, 5];
-    assert_eq!(rt; command.to_bytes().as_slice(), bytes.as_slice());
-    assert_eq!(rt; TicCmd::from_bytes(&bytes), command);
+    same!(rt; command.to_bytes(), bytes);
+    same!(rt; TicCmd::from_bytes(&bytes), command);
 }
 
 #[test]
 fn bits_from_eighteen_on_are_no_keys(rt: HostRuntime) {
-    assert_eq!(rt; Keys::from_bits(0xFFFF_FFFF).bits(), 0x3_FFFF);
-    assert_eq!(rt; Keys::from_bits(1 << 18).bits(), 0);
-    assert!(rt; Keys::from_bits(WEAPON_8).is_down(Key::Weapon8));
-    assert!(rt; !Keys::from_bits(WEAPON_8).is_down(Key::Weapon7));
-    assert_eq!(rt; Keys::default(), Keys::from_bits(0));
+    same!(rt; Keys::from_bits(0xFFFF_FFFF).bits(), 0x3_FFFF);
+    same!(rt; Keys::from_bits(1 << 18).bits(), 0);
+    holds!(rt; Keys::from_bits(WEAPONS[7]).is_down(Key::Weapon8));
+    holds!(rt; !Keys::from_bits(WEAPONS[7]).is_down(Key::Weapon7));
+    same!(rt; Keys::default(), Keys::from_bits(0));
 }
 
 #[test]
@@ -75,8 +52,8 @@ fn keys_make_commands(rt: HostRuntime) {
         (STRAFE | RIGHT | STRAFE_RIGHT | SPEED, 0, 50, 0, 0),
         (STRAFE | LEFT | STRAFE_LEFT | SPEED, 0, -50, 0, 0),
         (ATTACK | USE, 0, 0, 0, 3),
-        (WEAPON_3 | WEAPON_7, 0, 0, 0, 20),
-        (WEAPON_1 | WEAPON_8 | ATTACK, 0, 0, 0, 5),
+        (WEAPONS[2] | WEAPONS[6], 0, 0, 0, 20),
+        (WEAPONS[0] | WEAPONS[7] | ATTACK, 0, 0, 0, 5),
     ];
     for (keys, forward, side, turn, buttons) in rows {
         let command = Builder::new().build(Keys::from_bits(keys), -9);
@@ -88,10 +65,10 @@ fn keys_make_commands(rt: HostRuntime) {
             chat: 0,
             buttons,
         };
-        assert_eq!(rt; command, want, "keys {keys}");
+        same!(rt; command, want, keys);
     }
-    let last = Builder::new().build(Keys::from_bits(WEAPON_8), 0);
-    assert_eq!(rt; last.buttons, 60);
+    let last = Builder::new().build(Keys::from_bits(WEAPONS[7]), 0);
+    same!(rt; last.buttons, 60);
 }
 
 /// Builds eight times with these keys down, and compares each turn and each count.
@@ -99,8 +76,8 @@ fn turns_of(rt: &impl Abort, keys: u32, turns: [i16; 8]) {
     let mut builder = Builder::new();
     for (turn, count) in turns.iter().zip([1, 2, 3, 4, 5, 6, 6, 6]) {
         let command = builder.build(Keys::from_bits(keys), 0);
-        assert_eq!(rt; command.turn, *turn, "keys {keys}, build {count}");
-        assert_eq!(rt; builder.held(), count, "keys {keys}");
+        same!(rt; command.turn, *turn, (keys, count));
+        same!(rt; builder.held(), count, keys);
     }
 }
 
@@ -122,10 +99,10 @@ fn letting_go_forgets_the_count(rt: HostRuntime) {
     for _ in 0..6 {
         let _ = builder.build(Keys::from_bits(LEFT | RIGHT), 0);
     }
-    assert_eq!(rt; builder.held(), 6);
+    same!(rt; builder.held(), 6);
     let _ = builder.build(Keys::from_bits(STRAFE), 0);
-    assert_eq!(rt; builder.held(), 0);
-    assert_eq!(rt; builder.build(Keys::from_bits(LEFT), 0).turn, 320);
+    same!(rt; builder.held(), 0);
+    same!(rt; builder.build(Keys::from_bits(LEFT), 0).turn, 320);
 }
 
 #[test]
@@ -145,7 +122,7 @@ fn moves_are_the_commands_own(rt: HostRuntime) {
             turn,
             buttons: 5,
         };
-        assert_eq!(rt; round(&command), want, "turn {turn}");
+        same!(rt; round(&command), want, turn);
     }
 }
 
@@ -168,10 +145,6 @@ fn low_bytes_stand_for_tics(rt: HostRuntime) {
         (321, 0, Some(512)),
     ];
     for (made, low, want) in rows {
-        assert_eq!(rt;
-            expand(u32::from(made), low),
-            want,
-            "made {made}, low {low}"
-        );
+        same!(rt; expand(u32::from(made), low), want, (made, low));
     }
 }

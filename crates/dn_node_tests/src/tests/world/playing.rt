@@ -2,9 +2,9 @@
 
 ghost use Rattle.std.specs.Prelude.{◌≡◌, fold};
 
-use crate::World;
 use dn_setup::Start;
 use dn_tic::Move;
+use dn_world::World;
 
 /// Begins a world and steps it by each row.
 pub fn play<W: World>(world: &mut W, start: &Start, present: [bool; 4], rows: &[[Option<Move>; 4]])

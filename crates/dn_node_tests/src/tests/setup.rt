@@ -1,9 +1,8 @@
 //! Tests of settings, set-up packets and gathering.
 
-use super::*;
-use arrayvec::ArrayVec;
-use dn_packet::{Packet, encode};
-use dn_tic::TicCmd;
+use super::{STILL, packet_of};
+use dn_packet::encode;
+use dn_setup::{Gather, Settings, SettingsFault, SetupFault, Start, from_packet, to_packet};
 use std::test::Fail;
 
 #[test]
@@ -22,23 +21,19 @@ fn fields_are_checked_in_their_order(rt: HostRuntime) {
         (4, 2, 3, 32, None),
     ] {
         let made = Settings::new(skill, deathmatch, true, false, episode, map);
-        assert_eq!(rt;
-            made.err(),
-            fault,
-            "at {skill} {deathmatch} {episode} {map}"
-        );
+        same!(rt; made.err(), fault, (skill, deathmatch, episode, map));
     }
 }
 
 #[test]
 fn settings_are_read_back(rt: HostRuntime) -> Result<(), Fail> {
     let settings = Settings::new(3, 1, true, false, 1, 7)?;
-    assert_eq!(rt; settings.skill(), 3);
-    assert_eq!(rt; settings.deathmatch(), 1);
-    assert!(rt; settings.no_monsters());
-    assert!(rt; !settings.respawn());
-    assert_eq!(rt; settings.episode(), 1);
-    assert_eq!(rt; settings.map(), 7);
+    same!(rt; settings.skill(), 3);
+    same!(rt; settings.deathmatch(), 1);
+    holds!(rt; settings.no_monsters());
+    holds!(rt; !settings.respawn());
+    same!(rt; settings.episode(), 1);
+    same!(rt; settings.map(), 7);
     let start = Start {
         skill: 3,
         episode: 1,
@@ -48,7 +43,7 @@ fn settings_are_read_back(rt: HostRuntime) -> Result<(), Fail> {
         fast: 0,
         no_monsters: 1,
     };
-    assert_eq!(rt; settings.start(), start);
+    same!(rt; settings.start(), start);
     Ok(())
 }
 
@@ -57,8 +52,8 @@ fn a_packet_tells_settings(rt: HostRuntime) -> Result<(), Fail> {
     let settings = Settings::new(3, 1, true, false, 1, 7)?;
     let packet = to_packet(&settings);
     let bytes = [0xCA, 0x8C, 0x92, 0x21, 0x63, 0x47, 0x6F, 0];
-    assert_eq!(rt; encode(&packet).as_slice(), bytes.as_slice());
-    assert_eq!(rt; from_packet(&packet), Ok(settings));
+    same!(rt; encode(&packet).as_slice(), bytes.as_slice());
+    same!(rt; from_packet(&packet), Ok(settings));
     Ok(())
 }
 
@@ -79,18 +74,8 @@ fn packets_are_refused_in_order(rt: HostRuntime) {
         (2, 0, 64, 111, SetupFault::Range),
         (2, 0, 97, 111, SetupFault::Range),
     ] {
-        let packet = Packet {
-            flags,
-            ask,
-            start,
-            player,
-            cmds: ArrayVec::new(),
-        };
-        assert_eq!(rt;
-            from_packet(&packet),
-            Err(fault),
-            "at {flags} {ask} {start} {player}"
-        );
+        let packet = packet_of(flags, (ask, start, player), &[]);
+        same!(rt; from_packet(&packet), Err(fault), (flags, ask, start, player));
     }
 }
 
@@ -98,16 +83,8 @@ fn packets_are_refused_in_order(rt: HostRuntime) {
 fn other_flags_and_commands_are_not_looked_at(rt: HostRuntime) -> Result<(), Fail> {
     let settings = Settings::new(4, 2, true, true, 3, 32)?;
     for flags in [2, 3, 6, 10, 15] {
-        let mut cmds = ArrayVec::new();
-        cmds.push(TicCmd::default());
-        let packet = Packet {
-            flags,
-            ask: 180,
-            start: 224,
-            player: 111,
-            cmds,
-        };
-        assert_eq!(rt; from_packet(&packet), Ok(settings), "at {flags}");
+        let packet = packet_of(flags, (180, 224, 111), &[STILL]);
+        same!(rt; from_packet(&packet), Ok(settings), flags);
     }
     Ok(())
 }
@@ -116,6 +93,6 @@ fn other_flags_and_commands_are_not_looked_at(rt: HostRuntime) -> Result<(), Fai
 fn a_game_waits_for_every_peer(rt: HostRuntime) {
     let mut gather = Gather::new(3);
     for (player, complete) in [(2, false), (2, false), (0, false), (1, true), (7, true)] {
-        assert_eq!(rt; gather.hear(player), complete, "at {player}");
+        same!(rt; gather.hear(player), complete, player);
     }
 }

@@ -32,11 +32,9 @@ fn pair(alloc: Global) -> Result<[Node<Walk>; 2], Fail> {
 }
 
 /// One's commands, behind the thirteen bytes of the header, are a prefix of the other's.
-fn assert_one_game(rt: &impl Abort, nodes: &[Node<Walk>; 2]) {
+fn one_game(rt: &impl Abort, nodes: &[Node<Walk>; 2]) {
     let (zero, one) = (nodes[0].demo(), nodes[1].demo());
     let count = zero.len().min(one.len());
-    assert!(rt; count > 13);
-    if count > 13 {
-        assert_eq!(rt; &zero[13..count], &one[13..count]);
-    }
+    holds!(rt; count > 13);
+    same!(rt; zero.get(13..count), one.get(13..count));
 }

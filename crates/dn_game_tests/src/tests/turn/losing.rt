@@ -1,8 +1,8 @@
-//! A line that loses datagrams and says nothing of it.
+//! Tests of a line that loses datagrams and says nothing of it.
 
-use super::{assert_one_game, pair};
-use crate::rounds;
+use super::{one_game, pair};
 use dn_line::{Datagram, Line, LineFault, MemoryHub};
+use dn_turn::rounds;
 use std::test::Fail;
 
 /// A line in memory that loses one of every `lost_of` datagrams, and answers that it was sent.
@@ -48,10 +48,10 @@ fn line_loses_silently(rt: HostRuntime) -> Result<(), Fail> {
             kept: 0,
         };
         rounds(&mut nodes, &mut line, 1, 400);
-        assert!(rt; nodes[0].ran() >= 20);
-        assert!(rt; nodes[1].ran() >= 20);
-        assert_one_game(&rt, &nodes);
-        assert_eq!(rt; line.hub.failed(), 0);
+        holds!(rt; nodes[0].ran() >= 20, lost_of);
+        holds!(rt; nodes[1].ran() >= 20, lost_of);
+        one_game(&rt, &nodes);
+        same!(rt; line.hub.failed(), 0);
     }
     Ok(())
 }
@@ -67,7 +67,7 @@ fn nothing_comes_of_nothing(rt: HostRuntime) -> Result<(), Fail> {
         kept: 0,
     };
     rounds(&mut nodes, &mut line, 1, 50);
-    assert_eq!(rt; (nodes[0].made(), nodes[1].made()), (0, 0));
-    assert_eq!(rt; line.hub.failed(), 0);
+    same!(rt; (nodes[0].made(), nodes[1].made()), (0, 0));
+    same!(rt; line.hub.failed(), 0);
     Ok(())
 }

@@ -2,8 +2,12 @@
 
 ghost use Rattle.std.specs.Prelude.{◌<◌, ◌≡◌, []};
 
-use super::*;
+use super::packet_of;
 use arrayvec::ArrayVec;
+use dn_packet::{
+    EXIT, Head, KILL, Packet, PacketFault, RETRANSMIT, SETUP, decode, decode_into, encode,
+    encode_into, encode_parts, encode_to,
+};
 use dn_tic::TicCmd;
 use std::process::Abort;
 
@@ -40,18 +44,6 @@ fn changed(mut bytes: [u8; 16], place: usize, byte: u8) -> [u8; 16]
     bytes
 }
 
-fn packet(flags: u8, ask: u8, start: u8, player: u8, commands: &[TicCmd]) -> Packet {
-    let mut cmds = ArrayVec::new();
-    let _ = cmds.try_extend_from_slice(commands);
-    Packet {
-        flags,
-        ask,
-        start,
-        player,
-        cmds,
-    }
-}
-
 fn attack() -> TicCmd {
     TicCmd {
         forward: 50,
@@ -75,30 +67,25 @@ fn all_ones() -> TicCmd {
 }
 
 fn is_text_of(rt: &impl Abort, bytes: &[u8], packet: &Packet) {
-    let read = decode(bytes);
-    assert!(rt; read.is_ok(), "{bytes:?} is refused");
-    if let Ok(read) = read {
-        assert_eq!(rt; read, *packet);
+    match decode(bytes) {
+        Ok(read) => same!(rt; &read, packet, bytes),
+        Err(fault) => panic!(rt; "{bytes:?} is refused as {fault:?}"),
     }
     assert!(rt; packet.flags < 16);
     let written = encode(packet);
-    assert_eq!(rt; written.as_slice(), bytes);
+    same!(rt; written.as_slice(), bytes);
     let mut room = [7; 106];
     let size = encode_to(packet, &mut room);
-    assert_eq!(rt; room.get(..size), Some(bytes));
-    assert_eq!(rt;
-        room.get(size..)
-            .map(|rest| rest.iter().all(|byte| *byte == 7)),
-        Some(true)
-    );
+    same!(rt; room.get(..size), Some(bytes));
+    same!(rt; room.get(size..), [7; 106].get(size..), bytes);
 }
 
 #[test]
 fn packets_are_read_and_written(rt: HostRuntime) {
-    is_text_of(&rt, &CHOICE, &packet(SETUP, 99, 71, 109, &[]));
-    is_text_of(&rt, &EMPTY, &packet(0, 0, 5, 1, &[]));
-    is_text_of(&rt, &ONE, &packet(0, 0, 0, 0, &[attack()]));
-    is_text_of(&rt, &twelve(), &packet(0, 0, 0, 0, &[all_ones(); 12]));
+    is_text_of(&rt, &CHOICE, &packet_of(SETUP, (99, 71, 109), &[]));
+    is_text_of(&rt, &EMPTY, &packet_of(0, (0, 5, 1), &[]));
+    is_text_of(&rt, &ONE, &packet_of(0, (0, 0, 0), &[attack()]));
+    is_text_of(&rt, &twelve(), &packet_of(0, (0, 0, 0), &[all_ones(); 12]));
 }
 
 /// Two commands of player 1 from tic 5 on, who asks for tic 9: forward 50 and attack, and eight bytes 255.
@@ -116,12 +103,12 @@ fn commands_are_written_in_two_pieces(rt: HostRuntime) {
         player: 1,
     };
     let commands = [attack(), all_ones()];
-    is_text_of(&rt, &TWO, &packet(RETRANSMIT, 9, 5, 1, &commands));
+    is_text_of(&rt, &TWO, &packet_of(RETRANSMIT, (9, 5, 1), &commands));
     for middle in 0..3 {
         let mut room = [7; 25];
         let size = encode_parts(&head, &commands[..middle], &commands[middle..], &mut room);
-        assert_eq!(rt; room.get(..size), Some(TWO.as_slice()), "middle {middle}");
-        assert_eq!(rt; (size, room[24]), (24, 7));
+        same!(rt; room.get(..size), Some(TWO.as_slice()), middle);
+        same!(rt; (size, room[24]), (24, 7), middle);
     }
 }
 
@@ -136,7 +123,7 @@ fn flags_stand_above_the_sum(rt: HostRuntime) {
         is_text_of(
             &rt,
             &changed(ONE, 3, byte),
-            &packet(flags, 0, 0, 0, &[attack()]),
+            &packet_of(flags, (0, 0, 0), &[attack()]),
         );
     }
 }
@@ -159,8 +146,7 @@ fn the_first_fault_is_told(rt: HostRuntime) {
         (thirteen.as_slice(), PacketFault::Many),
     ];
     for (bytes, fault) in faults {
-        let read = decode(bytes);
-        assert!(rt; read == Err(fault), "{bytes:?} is {read:?}");
+        same!(rt; decode(bytes), Err(fault), bytes);
     }
 }
 
@@ -174,7 +160,7 @@ fn each_proper_prefix_is_short_or_of_wrong_length(rt: HostRuntime) {
             } else {
                 PacketFault::Length
             };
-            assert!(rt; decode(&bytes[..len]) == Err(fault), "{len} bytes");
+            same!(rt; decode(&bytes[..len]), Err(fault), len);
         }
     }
 }
@@ -194,11 +180,8 @@ fn marked() -> Packet
 
 fn leaves_the_packet(rt: &impl Abort, bytes: &[u8]) {
     let mut read = marked();
-    assert!(rt;
-        decode_into(bytes, &mut read).is_err(),
-        "{bytes:?} is taken"
-    );
-    assert_eq!(rt; read, marked());
+    holds!(rt; decode_into(bytes, &mut read).is_err(), bytes);
+    same!(rt; read, marked(), bytes);
 }
 
 #[test]
@@ -212,18 +195,18 @@ fn a_fault_leaves_the_packet(rt: HostRuntime) {
 #[test]
 fn a_packet_is_decoded_in_place(rt: HostRuntime) {
     let mut read = Packet::empty();
-    assert_eq!(rt; read, packet(0, 0, 0, 0, &[]));
-    assert!(rt; decode_into(&ONE, &mut read).is_ok());
-    assert_eq!(rt; read, packet(0, 0, 0, 0, &[attack()]));
+    same!(rt; &read, &packet_of(0, (0, 0, 0), &[]));
+    same!(rt; decode_into(&ONE, &mut read), Ok(()));
+    same!(rt; &read, &packet_of(0, (0, 0, 0), &[attack()]));
 }
 
 #[test]
 fn a_packet_is_encoded_in_place(rt: HostRuntime) {
-    let choice = packet(SETUP, 99, 71, 109, &[]);
+    let choice = packet_of(SETUP, (99, 71, 109), &[]);
     assert!(rt; choice.flags < 16);
     let mut bytes = ArrayVec::new();
     encode_into(&choice, &mut bytes);
-    assert_eq!(rt; bytes.as_slice(), CHOICE.as_slice());
+    same!(rt; bytes.as_slice(), CHOICE.as_slice());
 }
 
 /// Whether the sum leaves this bit out: the flags, and what its 28 bits have no room for.
@@ -246,11 +229,11 @@ fn one_changed_bit(rt: HostRuntime) {
                 Err(PacketFault::Many) => many = many.saturating_add(1),
                 Err(PacketFault::Short) => panic!(rt; "place {place} bit {bit}"),
                 Ok(_) => {
-                    assert!(rt; is_unseen(place, bit), "place {place} bit {bit}");
+                    holds!(rt; is_unseen(place, bit), (place, bit));
                     unseen = unseen.saturating_add(1);
                 }
             }
         }
     }
-    assert_eq!(rt; (sum, length, many, unseen), (107, 4, 4, 13));
+    same!(rt; (sum, length, many, unseen), (107, 4, 4, 13));
 }

@@ -1,29 +1,22 @@
-//! Turns over a line in memory, and rounds over ports of this machine.
+//! Tests of turns over a line in memory, and of rounds over ports of this machine.
 
 use super::pair;
-use crate::{Turned, rounds, turn};
-use dn_line::{LineFault, MemoryHub, UdpLine};
+use crate::tests::free_line;
+use dn_line::MemoryHub;
 use dn_machine::Made;
 use dn_node::Node;
 use dn_tic::Keys;
+use dn_turn::{Turned, rounds, turn};
 use dn_world::Walk;
-use std::alloc::Global;
-use std::net::Net;
 use std::process::Abort;
 use std::test::Fail;
 
 /// The counts of both nodes after seven rounds.
-fn assert_counts(rt: &impl Abort, nodes: &[Node<Walk>; 2]) {
+fn counts(rt: &impl Abort, nodes: &[Node<Walk>; 2]) {
     let [zero, one] = nodes;
-    assert_eq!(rt;
-        (zero.made(), zero.ran(), zero.got(0), zero.got(1)),
-        (4, 4, Some(4), Some(5))
-    );
-    assert_eq!(rt;
-        (one.made(), one.ran(), one.got(0), one.got(1)),
-        (6, 4, Some(4), Some(6))
-    );
-    assert_eq!(rt; (zero.demo().len(), one.demo().len()), (53, 53));
+    same!(rt; (zero.made(), zero.ran(), zero.got(0), zero.got(1)), (4, 4, Some(4), Some(5)));
+    same!(rt; (one.made(), one.ran(), one.got(0), one.got(1)), (6, 4, Some(4), Some(6)));
+    same!(rt; (zero.demo().len(), one.demo().len()), (53, 53));
 }
 
 /// Seven rounds without keys, and seven with keys of a seed, lead to the same counts.
@@ -36,10 +29,10 @@ fn seven_rounds(rt: HostRuntime) -> Result<(), Fail> {
         turn(&mut idle[0], &mut hub, Keys::from_bits(0));
         turn(&mut idle[1], &mut hub, Keys::from_bits(0));
     }
-    assert_counts(&rt, &idle);
+    counts(&rt, &idle);
     rounds(&mut busy, &mut other, 1, 7);
-    assert_counts(&rt, &busy);
-    assert_eq!(rt; hub.failed(), 0);
+    counts(&rt, &busy);
+    same!(rt; hub.failed(), 0);
     Ok(())
 }
 
@@ -70,7 +63,7 @@ fn turns_are_told(rt: HostRuntime) -> Result<(), Fail> {
             heard,
             ran,
         };
-        assert_eq!(rt; turned, told);
+        same!(rt; turned, told, place);
     }
     Ok(())
 }
@@ -82,27 +75,17 @@ fn no_turns_are_taken(rt: HostRuntime) -> Result<(), Fail> {
     let mut hub = MemoryHub::new(rt.alloc(), 2)?;
     rounds(&mut nodes[..0], &mut hub, 1, 7);
     rounds(&mut nodes, &mut hub, 1, 0);
-    assert_eq!(rt; (nodes[0].made(), nodes[1].made(), hub.failed()), (0, 0, 0));
+    same!(rt; (nodes[0].made(), nodes[1].made(), hub.failed()), (0, 0, 0));
     Ok(())
-}
-
-/// A line of two players at ports that are free.
-fn line<R: Net>(rt: &R, alloc: Global) -> Result<UdpLine, LineFault> {
-    for step in 0..200u16 {
-        if let Ok(line) = UdpLine::bind(rt, alloc, 35_000 + 8 * step, 0, 1, 2) {
-            return Ok(line);
-        }
-    }
-    Err(LineFault::Bind)
 }
 
 #[test]
 fn a_hundred_rounds_over_ports(rt: HostRuntime) -> Result<(), Fail> {
     let mut nodes = pair(rt.alloc())?;
-    let mut line = line(&rt, rt.alloc())?;
+    let (mut line, _) = free_line(&rt, rt.alloc(), 35_000, 1)?;
     rounds(&mut nodes, &mut line, 1, 100);
-    assert!(rt; nodes[0].ran() >= 50);
-    assert!(rt; nodes[1].ran() >= 50);
-    assert_eq!(rt; line.failed(), 0);
+    holds!(rt; nodes[0].ran() >= 50);
+    holds!(rt; nodes[1].ran() >= 50);
+    same!(rt; line.failed(), 0);
     Ok(())
 }

@@ -1,5 +1,5 @@
 use Rattle.std.proofs.Common.{◌≡◌, fold, take}
-use Rattle.dn_world.proofs.tests.playing.play.Given as goal
+use Rattle.dn_node_tests.proofs.tests.world.playing.play.Given as goal
 
 abbrev pub invariant-loop-row : goal.invariant-loop-row
 invariant-loop-row g l =

@@ -1,12 +1,12 @@
-//! A line of which one call fails.
+//! Tests of a line of which one call fails.
 
 ghost use Rattle.std.specs.Prelude.{◌≡◌};
 
-use super::{assert_one_game, pair};
-use crate::turn;
+use super::{one_game, pair};
 use dn_line::{Datagram, Line, LineFault, MemoryHub};
 use dn_node::Node;
 use dn_tic::Keys;
+use dn_turn::turn;
 use dn_world::Walk;
 use std::test::Fail;
 
@@ -95,18 +95,18 @@ fn each_call_may_fail(rt: HostRuntime) -> Result<(), Fail> {
                 failed: 0,
             };
             let (once, often) = forty_rounds(&mut nodes, &mut line);
-            assert_eq!(rt; often, 0);
-            assert!(rt; nodes[0].ran() > 0);
-            assert!(rt; nodes[1].ran() > 0);
-            assert_one_game(&rt, &nodes);
-            assert_eq!(rt; line.failed, if once > 0 { 1 } else { 0 });
+            same!(rt; often, 0, (player, fails_at));
+            holds!(rt; nodes[0].ran() > 0, (player, fails_at));
+            holds!(rt; nodes[1].ran() > 0, (player, fails_at));
+            one_game(&rt, &nodes);
+            same!(rt; line.failed, u64::from(once > 0), (player, fails_at));
             if once == 0 {
-                assert!(rt; line.calls < fails_at);
+                holds!(rt; line.calls < fails_at, player);
                 ended = true;
                 break;
             }
         }
-        assert!(rt; ended);
+        holds!(rt; ended, player);
     }
     Ok(())
 }

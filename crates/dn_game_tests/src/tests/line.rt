@@ -1,0 +1,15 @@
+//! Tests of lines.
+
+mod hubs;
+mod ports;
+
+use dn_line::Datagram;
+use std::process::Abort;
+
+/// A datagram came, from this player and with these bytes.
+fn came(rt: &impl Abort, polled: Option<Datagram>, from: u8, bytes: &[u8]) {
+    let Some(datagram) = polled else {
+        panic!(rt; "no datagram came");
+    };
+    same!(rt; (datagram.from, datagram.bytes.as_slice()), (from, bytes));
+}

@@ -1,4 +1,0 @@
-//! Tests of lines.
-
-mod hubs;
-mod ports;
