@@ -1,4 +1,4 @@
-//! Tests of all nodes of a game, and of the program's subcommands.
+//! Tests of all nodes of a game, of the program's subcommands, and of its command line.
 
 /// Compares two values, and names what was compared. An `assert_eq!` is proved anew at each place, which
 /// takes several times as long as this call.
@@ -23,6 +23,7 @@ macro_rules! holds {
 
 mod game;
 mod netgame;
+mod program;
 
 use std::fmt::Debug;
 use std::process::Abort;
