@@ -1,4 +1,4 @@
-//! Tests of lines, of turns, of all nodes of a game, and of the program's subcommands.
+//! Tests of lines, of turns, of all nodes of a game, of the program's subcommands, and of its command line.
 
 ghost use Rattle.std.specs.Prelude.{◌≤◌, ◌<◌, IfOk};
 
@@ -26,6 +26,7 @@ macro_rules! holds {
 mod game;
 mod line;
 mod netgame;
+mod program;
 mod turn;
 
 use dn_line::{LineFault, UdpLine};

@@ -20,20 +20,22 @@ const FLAGS: [(&str, &str); 3] = [
     ("extra", "Each packet repeats the last command"),
 ];
 
-/// An option with a number as its value.
-fn number<'a>(
+/// Adds an option with a number as its value.
+fn with_number<'a>(
     alloc: Global,
+    command: Command<'a>,
     name: &'a str,
     least: i64,
     greatest: i64,
     default: &'a str,
     about: &'a str,
-) -> Arg<'a> {
-    Arg::new(alloc, name)
+) -> Result<Command<'a>, AllocError> {
+    let number = Arg::new(alloc, name)
         .long(name)
         .value_parser(value_parser!(u32).range(least..=greatest))
         .default_value(default)
-        .help(about)
+        .help(about);
+    command.arg(number)
 }
 
 /// An option without a value.
@@ -44,21 +46,23 @@ fn switch<'a>(alloc: Global, name: &'a str, about: &'a str) -> Arg<'a> {
         .help(about)
 }
 
-/// The option that seeds a generator.
-fn seed<'a>(alloc: Global, about: &'a str) -> Arg<'a> {
-    number(alloc, "seed", 0, 4_294_967_295, "1", about)
+/// Adds the option that seeds a generator.
+fn with_seed<'a>(
+    alloc: Global,
+    command: Command<'a>,
+    about: &'a str,
+) -> Result<Command<'a>, AllocError> {
+    with_number(alloc, command, "seed", 0, 4_294_967_295, "1", about)
 }
 
-/// The option that limits a demo.
-fn demo_limit<'a>(alloc: Global, default: &'a str) -> Arg<'a> {
-    number(
-        alloc,
-        "limit",
-        1024,
-        16_777_216,
-        default,
-        "Most bytes of a demo",
-    )
+/// Adds the option that limits a demo.
+fn with_limit<'a>(
+    alloc: Global,
+    command: Command<'a>,
+    default: &'a str,
+) -> Result<Command<'a>, AllocError> {
+    let about = "Most bytes of a demo";
+    with_number(alloc, command, "limit", 1024, 16_777_216, default, about)
 }
 
 /// Adds the options of an upgrade.
@@ -66,7 +70,7 @@ pub(crate) fn with_upgrade<'a>(
     alloc: Global,
     command: Command<'a>,
 ) -> Result<Command<'a>, AllocError> {
-    command.arg(demo_limit(alloc, "16777216"))
+    with_limit(alloc, command, "16777216")
 }
 
 /// Adds the options of a game.
@@ -76,34 +80,33 @@ pub(crate) fn with_game<'a>(
 ) -> Result<Command<'a>, AllocError> {
     let mut command = command;
     for (name, least, greatest, default, about) in NUMBERS {
-        command = command.arg(number(alloc, name, least, greatest, default, about))?;
+        command = with_number(alloc, command, name, least, greatest, default, about)?;
     }
-    command = command.arg(demo_limit(alloc, "131072"))?;
+    command = with_limit(alloc, command, "131072")?;
     for (name, about) in FLAGS {
         command = command.arg(switch(alloc, name, about))?;
     }
     Ok(command)
 }
 
-/// The flag that tells each event.
-fn trace_flag<'a>(alloc: Global) -> Arg<'a> {
-    switch(alloc, "trace", "Prints a line for each event first")
+/// Adds the flag that tells each event.
+fn with_trace<'a>(alloc: Global, command: Command<'a>) -> Result<Command<'a>, AllocError> {
+    let about = "Prints a line for each event first";
+    command.arg(switch(alloc, "trace", about))
 }
 
-/// The flag that asks for the script of a storm. It has no lines of its own for a trace, and no events for a
-/// calm.
-fn script_flag<'a>(alloc: Global) -> Result<Arg<'a>, AllocError> {
-    let script = switch(
-        alloc,
-        "script",
-        "Prints the events as a script and nothing else",
-    );
-    script.conflicts_with("trace")?.conflicts_with("calm")
+/// Adds the flag that asks for the script of a storm. It has no lines of its own for a trace, and no events
+/// for a calm.
+fn with_script<'a>(alloc: Global, command: Command<'a>) -> Result<Command<'a>, AllocError> {
+    let about = "Prints the events as a script and nothing else";
+    let script = switch(alloc, "script", about);
+    command.arg(script.conflicts_with("trace")?.conflicts_with("calm")?)
 }
 
 /// Adds the options of a script's game.
 pub(crate) fn with_sim<'a>(alloc: Global, command: Command<'a>) -> Result<Command<'a>, AllocError> {
-    with_game(alloc, command)?.arg(trace_flag(alloc))
+    let command = with_game(alloc, command)?;
+    with_trace(alloc, command)
 }
 
 /// Adds the options of a storm, a game's among them.
@@ -112,24 +115,13 @@ pub(crate) fn with_storm<'a>(
     command: Command<'a>,
 ) -> Result<Command<'a>, AllocError> {
     let command = with_game(alloc, command)?;
-    let command = command.arg(seed(alloc, "What the events are drawn from"))?;
-    let command = command.arg(number(
-        alloc,
-        "count",
-        1,
-        1_000_000,
-        "1000",
-        "How many events there are",
-    ))?;
-    let command = command.arg(number(
-        alloc,
-        "calm",
-        0,
-        1_000,
-        "0",
-        "How many rounds without losses come after the events",
-    ))?;
-    command.arg(trace_flag(alloc))?.arg(script_flag(alloc)?)
+    let command = with_seed(alloc, command, "What the events are drawn from")?;
+    let about = "How many events there are";
+    let command = with_number(alloc, command, "count", 1, 1_000_000, "1000", about)?;
+    let about = "How many rounds without losses come after the events";
+    let command = with_number(alloc, command, "calm", 0, 1_000, "0", about)?;
+    let command = with_trace(alloc, command)?;
+    with_script(alloc, command)
 }
 
 /// Adds the options of rounds over sockets, a game's among them.
@@ -138,23 +130,11 @@ pub(crate) fn with_rounds<'a>(
     command: Command<'a>,
 ) -> Result<Command<'a>, AllocError> {
     let command = with_game(alloc, command)?;
-    let command = command.arg(seed(alloc, "What the keys are drawn from"))?;
-    let command = command.arg(number(
-        alloc,
-        "rounds",
-        1,
-        1_000_000,
-        "100",
-        "How many rounds there are",
-    ))?;
-    command.arg(number(
-        alloc,
-        "base",
-        1024,
-        65_532,
-        "5029",
-        "The port of player 0, before those of the others",
-    ))
+    let command = with_seed(alloc, command, "What the keys are drawn from")?;
+    let about = "How many rounds there are";
+    let command = with_number(alloc, command, "rounds", 1, 1_000_000, "100", about)?;
+    let about = "The port of player 0, before those of the others";
+    with_number(alloc, command, "base", 1024, 65_532, "5029", about)
 }
 
 /// Adds the options of one player's rounds.
@@ -163,7 +143,7 @@ pub(crate) fn with_player<'a>(
     command: Command<'a>,
 ) -> Result<Command<'a>, AllocError> {
     let command = with_rounds(alloc, command)?;
-    let command = command.arg(number(alloc, "me", 0, 3, "0", "Which player this is"))?;
-    let raw = "Prints the bytes of the demo and no line";
-    command.arg(switch(alloc, "raw", raw))
+    let command = with_number(alloc, command, "me", 0, 3, "0", "Which player this is")?;
+    let about = "Prints the bytes of the demo and no line";
+    command.arg(switch(alloc, "raw", about))
 }

@@ -1,10 +1,18 @@
-use Rattle.std.proofs.Common.{rules, ◌≡◌, ◌++◌, false, Some, None, []}
+use Rattle.std.proofs.Common.{arith, rules, ◌≡◌, ◌++◌, false, Some, None, []}
 use Rattle.std.specs.Prelude.{slice_get}
 use Rattle.std.specs.String.{string_bytes}
+use Rattle.std.proofs.lemmas.Option.{slice_get_within}
 use Rattle.dn_node.specs.Contents as node
 use Rattle.dn_netgame.specs.NodeLines.{node_line}
 use Rattle.dn_netgame.proofs.Listing.{lines_more, lines_done}
 use Rattle.dn_netgame.proofs.netloop.push_all.Goals as goal
+
+pub loop-node-smaller : goal.loop-node-smaller
+loop-node-smaller g c =
+    let nodes = c.args.nodes.now in
+    let there : slice_get nodes c.loop-node.number ≡ Some c.in-Some.node.now = search rules in
+    let below = slice_get_within nodes c.loop-node.number c.in-Some.node.now there in
+    omega (arith, below)
 
 pub loop-node-preserved : goal.loop-node-preserved
 loop-node-preserved g c =

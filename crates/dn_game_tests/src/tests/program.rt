@@ -1,4 +1,4 @@
-//! The command line, over a runtime whose words, input and sockets are chosen.
+//! Tests of the command line, over a runtime whose words, input and sockets are chosen.
 
 mod faults;
 mod host;

@@ -1,7 +1,7 @@
 //! The subcommands over UDP: which ports they ask for, what they print, and their exit statuses.
 
-use crate::finish;
-use crate::tests::host::Host;
+use super::host::Host;
+use dn_program::finish;
 use std::process::Abort;
 use std::test::Fail;
 
@@ -54,16 +54,16 @@ fn rounds_are_played(rt: HostRuntime) -> Result<(), Fail> {
     for (line, sockets, status, text, asked) in ROWS {
         let mut host = Host::new(&rt, line.as_bytes(), b"");
         host.sockets = sockets;
-        assert_eq!(rt; finish(&host), status, "{line}");
+        same!(rt; finish(&host), status, line);
         let Host {
             printed,
             complained,
             ports,
             ..
         } = host;
-        assert_eq!(rt; printed.into_inner().as_slice(), text.as_bytes(), "{line}");
-        assert!(rt; complained.into_inner().is_empty(), "{line}");
-        assert_eq!(rt; ports.into_inner().as_slice(), asked, "{line}");
+        same!(rt; printed.into_inner().as_slice(), text.as_bytes(), line);
+        holds!(rt; complained.into_inner().is_empty(), line);
+        same!(rt; ports.into_inner().as_slice(), asked, line);
     }
     Ok(())
 }

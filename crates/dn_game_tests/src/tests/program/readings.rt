@@ -1,7 +1,7 @@
 //! What is made of the options: each value and each flag is that of its own word.
 
-use crate::{matches_of, options};
 use dn_game::GameConfig;
+use dn_program::matches_of;
 use std::alloc::Global;
 use std::process::Abort;
 use std::test::Fail;
@@ -50,15 +50,15 @@ fn each_value_is_that_of_its_word(rt: HostRuntime) -> Result<(), Fail> {
         let words = split(rt.alloc(), line)?;
         let matches = matches_of(rt.alloc(), words.as_slice())?;
         let game = match matches.subcommand() {
-            Some((_, given)) => options::game(given),
+            Some((_, given)) => dn_options::game(given),
             None => None,
         };
         match game {
             Some((config, count)) => {
-                assert_eq!(rt; count, players, "{line}");
-                assert_eq!(rt; numbers(&config), read, "{line}");
+                same!(rt; count, players, line);
+                same!(rt; numbers(&config), read, line);
             }
-            None => assert!(rt; false, "{line}"),
+            None => holds!(rt; false, line),
         }
     }
     Ok(())
@@ -79,12 +79,12 @@ fn each_flag_is_that_of_its_word(rt: HostRuntime) -> Result<(), Fail> {
         let words = split(rt.alloc(), line)?;
         let matches = matches_of(rt.alloc(), words.as_slice())?;
         let game = match matches.subcommand() {
-            Some((_, given)) => options::game(given),
+            Some((_, given)) => dn_options::game(given),
             None => None,
         };
         match game {
-            Some((config, _)) => assert_eq!(rt; flags(&config), read, "{line}"),
-            None => assert!(rt; false, "{line}"),
+            Some((config, _)) => same!(rt; flags(&config), read, line),
+            None => holds!(rt; false, line),
         }
     }
     Ok(())
@@ -95,10 +95,10 @@ fn seeds_and_counts_are_those_of_their_words(rt: HostRuntime) -> Result<(), Fail
     let words = split(rt.alloc(), "netgame storm --seed 7 --count 8 --calm 9")?;
     let matches = matches_of(rt.alloc(), words.as_slice())?;
     let storm = match matches.subcommand() {
-        Some((_, given)) => options::storm(given),
+        Some((_, given)) => dn_options::storm(given),
         None => None,
     };
-    assert_eq!(rt; storm, Some((7, 8, 9)));
+    same!(rt; storm, Some((7, 8, 9)));
     let words = split(
         rt.alloc(),
         "netgame play --seed 7 --rounds 8 --base 2000 --me 3 --raw",
@@ -106,14 +106,14 @@ fn seeds_and_counts_are_those_of_their_words(rt: HostRuntime) -> Result<(), Fail
     let matches = matches_of(rt.alloc(), words.as_slice())?;
     let (rounds, me, raw) = match matches.subcommand() {
         Some((_, given)) => (
-            options::rounds(given),
-            options::me(given),
-            options::raw(given),
+            dn_options::rounds(given),
+            dn_options::me(given),
+            dn_options::raw(given),
         ),
         None => (None, None, false),
     };
-    assert_eq!(rt; rounds, Some((7, 8, 2000)));
-    assert_eq!(rt; me, Some(3));
-    assert!(rt; raw);
+    same!(rt; rounds, Some((7, 8, 2000)));
+    same!(rt; me, Some(3));
+    holds!(rt; raw);
     Ok(())
 }

@@ -1,6 +1,6 @@
 //! Each option that is a number: its default, both ends of its range, and one past them.
 
-use crate::matches_of;
+use dn_program::matches_of;
 use std::alloc::Global;
 use std::process::Abort;
 use std::test::Fail;
@@ -76,18 +76,15 @@ fn has_range(
     default: u32,
 ) -> Result<(), Fail> {
     let alloc = rt.alloc();
-    assert_eq!(rt;
-        read(alloc, subcommand, None, name)?,
-        Some(default),
-        "{subcommand} {name}"
-    );
+    let found = read(alloc, subcommand, None, name)?;
+    same!(rt; found, Some(default), (subcommand, name));
     for value in [least, greatest] {
         let found = read_value(alloc, subcommand, name, value)?;
-        assert_eq!(rt; found.map(i64::from), Some(value), "{subcommand} {name}");
+        same!(rt; found.map(i64::from), Some(value), (subcommand, name));
     }
     for value in [least.saturating_sub(1), greatest.saturating_add(1)] {
         let found = read_value(alloc, subcommand, name, value)?;
-        assert_eq!(rt; found, None, "{subcommand} {name} {value}");
+        same!(rt; found, None, (subcommand, name, value));
     }
     Ok(())
 }

@@ -1,8 +1,8 @@
 //! Runs that end early: the line of the fault, and the exit status.
 
 use super::ONE;
-use crate::finish;
-use crate::tests::host::Host;
+use super::host::Host;
+use dn_program::finish;
 use std::process::Abort;
 use std::test::Fail;
 
@@ -17,9 +17,9 @@ fn read_faults_are_told(rt: HostRuntime) -> Result<(), Fail> {
     ] {
         let mut host = Host::new(&rt, line.as_bytes(), &ONE);
         host.mute = true;
-        assert_eq!(rt; finish(&host), 3, "{line}");
+        same!(rt; finish(&host), 3, line);
         let printed = host.printed.into_inner();
-        assert_eq!(rt; printed.as_slice(), b"read fault\n".as_slice(), "{line}");
+        same!(rt; printed.as_slice(), b"read fault\n".as_slice(), line);
     }
     Ok(())
 }
@@ -42,9 +42,9 @@ fn write_faults_are_told(rt: HostRuntime) -> Result<(), Fail> {
         let mut host = Host::new(&rt, line.as_bytes(), &ONE);
         host.jams.set(1);
         host.sockets = 2;
-        assert_eq!(rt; finish(&host), 3, "{line}");
+        same!(rt; finish(&host), 3, line);
         let printed = host.printed.into_inner();
-        assert_eq!(rt; printed.as_slice(), b"write fault\n".as_slice(), "{line}");
+        same!(rt; printed.as_slice(), b"write fault\n".as_slice(), line);
     }
     Ok(())
 }
@@ -54,6 +54,6 @@ fn write_faults_are_told(rt: HostRuntime) -> Result<(), Fail> {
 fn a_full_output_is_told_by_the_status(rt: HostRuntime) {
     let host = Host::new(&rt, b"netgame show", &ONE);
     host.jams.set(1_000_000);
-    assert_eq!(rt; finish(&host), 3);
-    assert!(rt; host.printed.into_inner().is_empty());
+    same!(rt; finish(&host), 3);
+    holds!(rt; host.printed.into_inner().is_empty());
 }

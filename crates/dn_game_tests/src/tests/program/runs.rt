@@ -1,8 +1,8 @@
 //! What each subcommand prints, and its exit status.
 
+use super::host::Host;
 use super::{ONE, TWO};
-use crate::finish;
-use crate::tests::host::Host;
+use dn_program::finish;
 use std::net::Net;
 use std::process::Abort;
 use std::test::Fail;
@@ -16,14 +16,14 @@ fn runs(
     text: &[u8],
 ) -> Result<(), Fail> {
     let host = Host::new(rt, line.as_bytes(), input);
-    assert_eq!(rt; finish(&host), status, "{line}");
+    same!(rt; finish(&host), status, line);
     let Host {
         printed,
         complained,
         ..
     } = host;
-    assert_eq!(rt; printed.into_inner().as_slice(), text, "{line}");
-    assert!(rt; complained.into_inner().is_empty(), "{line}");
+    same!(rt; printed.into_inner().as_slice(), text, line);
+    holds!(rt; complained.into_inner().is_empty(), line);
     Ok(())
 }
 
@@ -177,15 +177,15 @@ fn help_is_printed(rt: HostRuntime) -> Result<(), Fail> {
         ("netgame help storm", "Usage: netgame storm"),
     ] {
         let host = Host::new(&rt, line.as_bytes(), b"");
-        assert_eq!(rt; finish(&host), 0, "{line}");
+        same!(rt; finish(&host), 0, line);
         let Host {
             printed,
             complained,
             ..
         } = host;
         let printed = String::from_utf8(printed.into_inner())?;
-        assert!(rt; printed.as_str().contains(usage), "{line}");
-        assert!(rt; complained.into_inner().is_empty(), "{line}");
+        holds!(rt; printed.as_str().contains(usage), line);
+        holds!(rt; complained.into_inner().is_empty(), line);
     }
     Ok(())
 }
