@@ -9,7 +9,7 @@ macro_rules! same {
         same!($rt; $found, $wanted, ())
     };
     ($rt:expr; $found:expr, $wanted:expr, $row:expr) => {
-        $crate::tests::compare(&$rt, stringify!($found), &$row, $found, $wanted)
+        $crate::tests::compare($rt, stringify!($found), &$row, $found, $wanted)
     };
 }
 
@@ -19,7 +19,7 @@ macro_rules! holds {
         holds!($rt; $fact, ())
     };
     ($rt:expr; $fact:expr, $row:expr) => {
-        $crate::tests::confirm(&$rt, stringify!($fact), &$row, $fact)
+        $crate::tests::confirm($rt, stringify!($fact), &$row, $fact)
     };
 }
 

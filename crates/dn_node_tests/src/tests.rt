@@ -9,7 +9,7 @@ macro_rules! same {
         same!($rt; $found, $wanted, ())
     };
     ($rt:expr; $found:expr, $wanted:expr, $row:expr) => {
-        $crate::tests::compare(&$rt, stringify!($found), &$row, $found, $wanted)
+        $crate::tests::compare($rt, stringify!($found), &$row, $found, $wanted)
     };
 }
 
@@ -19,7 +19,7 @@ macro_rules! holds {
         holds!($rt; $fact, ())
     };
     ($rt:expr; $fact:expr, $row:expr) => {
-        $crate::tests::confirm(&$rt, stringify!($fact), &$row, $fact)
+        $crate::tests::confirm($rt, stringify!($fact), &$row, $fact)
     };
 }
 
@@ -34,7 +34,7 @@ mod world;
 
 use arrayvec::ArrayVec;
 use dn_packet::{Packet, encode};
-use dn_setup::{Settings, SettingsFault};
+use dn_setup::{Settings, SettingsFault, Start};
 use dn_tic::{Move, TicCmd};
 use dn_world::{Walk, World};
 use std::fmt::Debug;
@@ -93,6 +93,20 @@ const STILL: TicCmd = TicCmd {
 /// Where a player stands: x, y, angle and consistency value.
 type Place = (i32, i32, u16, i16);
 
+/// Where players 0 and 1 stand after two tics of theirs.
+const PLACES: [Place; 2] = [(1, 0, 0, 1), (4_243_456, 51_200, 16_640, -16_384)];
+
+/// What the demos of the tests start from.
+const START: Start = Start {
+    skill: 3,
+    episode: 1,
+    map: 7,
+    deathmatch: 1,
+    respawn: 0,
+    fast: 0,
+    no_monsters: 1,
+};
+
 /// Compares what a test found with what it wants. Where they differ, what was asked and the row of its table
 /// are told.
 fn compare<T: PartialEq + Debug + Drop>(
@@ -125,6 +139,61 @@ fn moved(forward: i8, side: i8, turn: i16, buttons: u8) -> Option<Move>
         turn,
         buttons,
     })
+}
+
+/// The moves of two tics of players 0 and 1.
+fn two_tics() -> [[Option<Move>; 4]; 2] {
+    [
+        [moved(50, 0, 0, 0), moved(0, 0, 256, 0), None, None],
+        [moved(-50, 0, 0, 1), moved(25, 24, 16_384, 0), None, None],
+    ]
+}
+
+/// Keys, and the eight bytes of the first command that they make.
+fn built() -> [(u32, [u8; 8]); 35] {
+    [
+        (NO_KEYS, [0; 8]),
+        (FORWARD, [25, 0, 0, 0, 0, 0, 0, 0]),
+        (FORWARD | SPEED, [50, 0, 0, 0, 0, 0, 0, 0]),
+        (BACK, [231, 0, 0, 0, 0, 0, 0, 0]),
+        (BACK | SPEED, [206, 0, 0, 0, 0, 0, 0, 0]),
+        (FORWARD | BACK, [0; 8]),
+        (FORWARD | BACK | SPEED, [0; 8]),
+        (LEFT, [0, 0, 64, 1, 0, 0, 0, 0]),
+        (RIGHT, [0, 0, 192, 254, 0, 0, 0, 0]),
+        (RIGHT | SPEED, [0, 0, 192, 254, 0, 0, 0, 0]),
+        (LEFT | RIGHT, [0; 8]),
+        (STRAFE_LEFT, [0, 232, 0, 0, 0, 0, 0, 0]),
+        (STRAFE_LEFT | SPEED, [0, 216, 0, 0, 0, 0, 0, 0]),
+        (STRAFE_RIGHT, [0, 24, 0, 0, 0, 0, 0, 0]),
+        (STRAFE_RIGHT | SPEED, [0, 40, 0, 0, 0, 0, 0, 0]),
+        (STRAFE | RIGHT, [0, 24, 0, 0, 0, 0, 0, 0]),
+        (STRAFE | LEFT, [0, 232, 0, 0, 0, 0, 0, 0]),
+        (STRAFE | RIGHT | STRAFE_RIGHT, [0, 48, 0, 0, 0, 0, 0, 0]),
+        (
+            STRAFE | RIGHT | STRAFE_RIGHT | SPEED,
+            [0, 50, 0, 0, 0, 0, 0, 0],
+        ),
+        (
+            STRAFE | LEFT | STRAFE_LEFT | SPEED,
+            [0, 206, 0, 0, 0, 0, 0, 0],
+        ),
+        (STRAFE | LEFT | STRAFE_RIGHT, [0; 8]),
+        (ATTACK, [0, 0, 0, 0, 0, 0, 0, 1]),
+        (USE, [0, 0, 0, 0, 0, 0, 0, 2]),
+        (ATTACK | USE, [0, 0, 0, 0, 0, 0, 0, 3]),
+        (ATTACK | USE | FORWARD, [25, 0, 0, 0, 0, 0, 0, 3]),
+        (WEAPONS[0], [0, 0, 0, 0, 0, 0, 0, 4]),
+        (WEAPONS[1], [0, 0, 0, 0, 0, 0, 0, 12]),
+        (WEAPONS[2], [0, 0, 0, 0, 0, 0, 0, 20]),
+        (WEAPONS[3], [0, 0, 0, 0, 0, 0, 0, 28]),
+        (WEAPONS[4], [0, 0, 0, 0, 0, 0, 0, 36]),
+        (WEAPONS[5], [0, 0, 0, 0, 0, 0, 0, 44]),
+        (WEAPONS[6], [0, 0, 0, 0, 0, 0, 0, 52]),
+        (WEAPONS[7], [0, 0, 0, 0, 0, 0, 0, 60]),
+        (WEAPONS[2] | WEAPONS[6], [0, 0, 0, 0, 0, 0, 0, 20]),
+        (WEAPONS[0] | WEAPONS[7] | ATTACK, [0, 0, 0, 0, 0, 0, 0, 5]),
+    ]
 }
 
 /// What a world tells of a player.

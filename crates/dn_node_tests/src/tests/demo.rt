@@ -6,8 +6,7 @@ mod recording;
 mod telling;
 mod upgrading;
 
-use super::{Place, moved, place, stand};
-use dn_setup::Start;
+use super::{PLACES, Place, START, moved, place, stand, two_tics};
 
 /// Two tics of players 0 and 1, closed, as the 1997 release records them.
 const PLAYED: [u8; 30] = [
@@ -23,16 +22,3 @@ const RECORDED: [u8; 34] = [
 
 /// Where players 0 and 1 stand before any tic.
 const BEGUN: [Place; 2] = [(0, 0, 0, 0), (4_194_304, 0, 0, 0)];
-
-/// Where they stand after these tics.
-const PLACES: [Place; 2] = [(1, 0, 0, 1), (4_243_456, 51_200, 16_640, -16_384)];
-
-const START: Start = Start {
-    skill: 3,
-    episode: 1,
-    map: 7,
-    deathmatch: 1,
-    respawn: 0,
-    fast: 0,
-    no_monsters: 1,
-};

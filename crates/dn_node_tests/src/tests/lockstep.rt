@@ -15,11 +15,37 @@ mod starting;
 mod taking;
 
 use super::{FORWARD, IDLE, LEFT, LIMIT, NO_KEYS, RIGHT, SPEED, STILL, choice, datagram};
-use dn_lockstep::{Config, Heard, Lockstep, Ran};
+use arrayvec::ArrayVec;
+use dn_lockstep::{Config, Heard, Lockstep, Made, Ran};
 use dn_tic::{Keys, TicCmd};
 use std::alloc::Global;
 use std::process::Abort;
 use std::test::Fail;
+
+/// Builds with these keys. This call has no contract, nor have `run`, `received`, `quit` and `given`: a test that
+/// calls a node itself has all that the node promises in its own proof, which takes seconds.
+fn build(node: &mut Lockstep, keys: u32) -> Made {
+    node.build(Keys::from_bits(keys))
+}
+
+/// Runs with every mark 0.
+fn run(node: &mut Lockstep) -> Ran {
+    let (ran, _) = node.run(&[0; 4]);
+    ran
+}
+
+fn received(node: &mut Lockstep, from: u8, bytes: &[u8]) -> Heard {
+    node.receive(from, bytes)
+}
+
+fn quit(node: &mut Lockstep) -> bool {
+    node.quit()
+}
+
+/// The bytes of the next packet, which has to be there.
+fn given(node: &mut Lockstep, to: u8) -> Result<ArrayVec<u8, 104>, Fail> {
+    Ok(node.packet(to).ok_or("no packet")?)
+}
 
 /// Hands a node a packet, and compares its answer.
 fn hears(
@@ -31,7 +57,7 @@ fn hears(
 ) {
     assert!(rt; flags < 16);
     let bytes = datagram(flags, numbers, commands);
-    same!(rt; node.receive(from, bytes.as_slice()), answer, (from, flags, numbers, commands));
+    same!(rt; received(node, from, bytes.as_slice()), answer, (from, flags, numbers, commands));
 }
 
 /// A node of a game with these rules, which has the settings where it is player 0.
@@ -67,16 +93,10 @@ fn pair(alloc: Global, extra: bool) -> Result<(Lockstep, Lockstep), Fail> {
     Ok((key, other))
 }
 
-/// Runs with every mark 0.
-fn run(node: &mut Lockstep) -> Ran {
-    let (ran, _) = node.run(&[0; 4]);
-    ran
-}
-
 /// Builds on both nodes, passes both their packets, and runs both. The answers are those of the runs.
 fn tic(key: &mut Lockstep, other: &mut Lockstep, (first, second): (u32, u32)) -> (Ran, Ran) {
-    let _ = key.build(Keys::from_bits(first));
-    let _ = other.build(Keys::from_bits(second));
+    let _ = build(key, first);
+    let _ = build(other, second);
     let _ = pass(key, other);
     let _ = pass(other, key);
     (run(key), run(other))

@@ -8,12 +8,36 @@ mod opening;
 mod worlds;
 
 use super::{FORWARD, IDLE, LEFT, LIMIT, NO_KEYS, RIGHT, SPEED, STILL, choice, datagram};
-use dn_node::{Config, Heard, Node, Ran};
+use arrayvec::ArrayVec;
+use dn_node::{Config, Heard, Made, Node, Ran};
 use dn_tic::{Keys, TicCmd};
 use dn_world::{Walk, World};
 use std::alloc::Global;
 use std::process::Abort;
 use std::test::Fail;
+
+/// Builds with these keys. This call has no contract, nor have `run`, `received`, `quit` and `given`: a test that
+/// calls a node itself has all that the node promises in its own proof, which takes seconds.
+fn build<W: World>(node: &mut Node<W>, keys: u32) -> Made {
+    node.build(Keys::from_bits(keys))
+}
+
+fn run<W: World>(node: &mut Node<W>) -> Ran {
+    node.run()
+}
+
+fn received<W: World>(node: &mut Node<W>, from: u8, bytes: &[u8]) -> Heard {
+    node.receive(from, bytes)
+}
+
+fn quit<W: World>(node: &mut Node<W>) -> bool {
+    node.quit()
+}
+
+/// The bytes of the next packet, which has to be there.
+fn given<W: World>(node: &mut Node<W>, to: u8) -> Result<ArrayVec<u8, 104>, Fail> {
+    Ok(node.packet(to).ok_or("no packet")?)
+}
 
 /// Hands a node a packet, and compares its answer.
 fn hears<W: World>(
@@ -25,7 +49,7 @@ fn hears<W: World>(
 ) {
     assert!(rt; flags < 16);
     let bytes = datagram(flags, numbers, commands);
-    same!(rt; node.receive(from, bytes.as_slice()), answer, (from, flags, numbers, commands));
+    same!(rt; received(node, from, bytes.as_slice()), answer, (from, flags, numbers, commands));
 }
 
 /// A node of a game with these rules, which has the settings where it is player 0.
@@ -78,11 +102,11 @@ fn tic<W: World>(
     other: &mut Node<W>,
     (first, second): (u32, u32),
 ) -> (Ran, Ran) {
-    let _ = key.build(Keys::from_bits(first));
-    let _ = other.build(Keys::from_bits(second));
+    let _ = build(key, first);
+    let _ = build(other, second);
     let _ = pass(key, other);
     let _ = pass(other, key);
-    (key.run(), other.run())
+    (run(key), run(other))
 }
 
 /// Plays `count` such tics.

@@ -107,8 +107,8 @@ fn commands_are_written_in_two_pieces(rt: HostRuntime) {
     for middle in 0..3 {
         let mut room = [7; 25];
         let size = encode_parts(&head, &commands[..middle], &commands[middle..], &mut room);
-        same!(rt; room.get(..size), Some(TWO.as_slice()), middle);
-        same!(rt; (size, room[24]), (24, 7), middle);
+        same!(&rt; room.get(..size), Some(TWO.as_slice()), middle);
+        same!(&rt; (size, room[24]), (24, 7), middle);
     }
 }
 
@@ -146,7 +146,7 @@ fn the_first_fault_is_told(rt: HostRuntime) {
         (thirteen.as_slice(), PacketFault::Many),
     ];
     for (bytes, fault) in faults {
-        same!(rt; decode(bytes), Err(fault), bytes);
+        same!(&rt; decode(bytes), Err(fault), bytes);
     }
 }
 
@@ -160,7 +160,7 @@ fn each_proper_prefix_is_short_or_of_wrong_length(rt: HostRuntime) {
             } else {
                 PacketFault::Length
             };
-            same!(rt; decode(&bytes[..len]), Err(fault), len);
+            same!(&rt; decode(&bytes[..len]), Err(fault), len);
         }
     }
 }
@@ -195,9 +195,9 @@ fn a_fault_leaves_the_packet(rt: HostRuntime) {
 #[test]
 fn a_packet_is_decoded_in_place(rt: HostRuntime) {
     let mut read = Packet::empty();
-    same!(rt; &read, &packet_of(0, (0, 0, 0), &[]));
-    same!(rt; decode_into(&ONE, &mut read), Ok(()));
-    same!(rt; &read, &packet_of(0, (0, 0, 0), &[attack()]));
+    same!(&rt; &read, &packet_of(0, (0, 0, 0), &[]));
+    same!(&rt; decode_into(&ONE, &mut read), Ok(()));
+    same!(&rt; &read, &packet_of(0, (0, 0, 0), &[attack()]));
 }
 
 #[test]
@@ -206,7 +206,7 @@ fn a_packet_is_encoded_in_place(rt: HostRuntime) {
     assert!(rt; choice.flags < 16);
     let mut bytes = ArrayVec::new();
     encode_into(&choice, &mut bytes);
-    same!(rt; bytes.as_slice(), CHOICE.as_slice());
+    same!(&rt; bytes.as_slice(), CHOICE.as_slice());
 }
 
 /// Whether the sum leaves this bit out: the flags, and what its 28 bits have no room for.
@@ -229,11 +229,11 @@ fn one_changed_bit(rt: HostRuntime) {
                 Err(PacketFault::Many) => many = many.saturating_add(1),
                 Err(PacketFault::Short) => panic!(rt; "place {place} bit {bit}"),
                 Ok(_) => {
-                    holds!(rt; is_unseen(place, bit), (place, bit));
+                    holds!(&rt; is_unseen(place, bit), (place, bit));
                     unseen = unseen.saturating_add(1);
                 }
             }
         }
     }
-    same!(rt; (sum, length, many, unseen), (107, 4, 4, 13));
+    same!(&rt; (sum, length, many, unseen), (107, 4, 4, 13));
 }

@@ -1,8 +1,8 @@
 //! Tests of settings, set-up packets and gathering.
 
-use super::{STILL, packet_of};
+use super::{START, STILL, packet_of};
 use dn_packet::encode;
-use dn_setup::{Gather, Settings, SettingsFault, SetupFault, Start, from_packet, to_packet};
+use dn_setup::{Gather, Settings, SettingsFault, SetupFault, from_packet, to_packet};
 use std::test::Fail;
 
 #[test]
@@ -21,29 +21,20 @@ fn fields_are_checked_in_their_order(rt: HostRuntime) {
         (4, 2, 3, 32, None),
     ] {
         let made = Settings::new(skill, deathmatch, true, false, episode, map);
-        same!(rt; made.err(), fault, (skill, deathmatch, episode, map));
+        same!(&rt; made.err(), fault, (skill, deathmatch, episode, map));
     }
 }
 
 #[test]
 fn settings_are_read_back(rt: HostRuntime) -> Result<(), Fail> {
     let settings = Settings::new(3, 1, true, false, 1, 7)?;
-    same!(rt; settings.skill(), 3);
-    same!(rt; settings.deathmatch(), 1);
-    holds!(rt; settings.no_monsters());
-    holds!(rt; !settings.respawn());
-    same!(rt; settings.episode(), 1);
-    same!(rt; settings.map(), 7);
-    let start = Start {
-        skill: 3,
-        episode: 1,
-        map: 7,
-        deathmatch: 1,
-        respawn: 0,
-        fast: 0,
-        no_monsters: 1,
-    };
-    same!(rt; settings.start(), start);
+    same!(&rt; settings.skill(), 3);
+    same!(&rt; settings.deathmatch(), 1);
+    holds!(&rt; settings.no_monsters());
+    holds!(&rt; !settings.respawn());
+    same!(&rt; settings.episode(), 1);
+    same!(&rt; settings.map(), 7);
+    same!(&rt; settings.start(), START);
     Ok(())
 }
 
@@ -52,8 +43,8 @@ fn a_packet_tells_settings(rt: HostRuntime) -> Result<(), Fail> {
     let settings = Settings::new(3, 1, true, false, 1, 7)?;
     let packet = to_packet(&settings);
     let bytes = [0xCA, 0x8C, 0x92, 0x21, 0x63, 0x47, 0x6F, 0];
-    same!(rt; encode(&packet).as_slice(), bytes.as_slice());
-    same!(rt; from_packet(&packet), Ok(settings));
+    same!(&rt; encode(&packet).as_slice(), bytes.as_slice());
+    same!(&rt; from_packet(&packet), Ok(settings));
     Ok(())
 }
 
@@ -75,7 +66,7 @@ fn packets_are_refused_in_order(rt: HostRuntime) {
         (2, 0, 97, 111, SetupFault::Range),
     ] {
         let packet = packet_of(flags, (ask, start, player), &[]);
-        same!(rt; from_packet(&packet), Err(fault), (flags, ask, start, player));
+        same!(&rt; from_packet(&packet), Err(fault), (flags, ask, start, player));
     }
 }
 
@@ -84,7 +75,7 @@ fn other_flags_and_commands_are_not_looked_at(rt: HostRuntime) -> Result<(), Fai
     let settings = Settings::new(4, 2, true, true, 3, 32)?;
     for flags in [2, 3, 6, 10, 15] {
         let packet = packet_of(flags, (180, 224, 111), &[STILL]);
-        same!(rt; from_packet(&packet), Ok(settings), flags);
+        same!(&rt; from_packet(&packet), Ok(settings), flags);
     }
     Ok(())
 }
@@ -93,6 +84,6 @@ fn other_flags_and_commands_are_not_looked_at(rt: HostRuntime) -> Result<(), Fai
 fn a_game_waits_for_every_peer(rt: HostRuntime) {
     let mut gather = Gather::new(3);
     for (player, complete) in [(2, false), (2, false), (0, false), (1, true), (7, true)] {
-        same!(rt; gather.hear(player), complete, player);
+        same!(&rt; gather.hear(player), complete, player);
     }
 }

@@ -1,10 +1,7 @@
 //! Tests of commands: their bytes, the keys that make them, the moves that are used of them, and the tics that
 //! low bytes stand for.
 
-use super::{
-    ATTACK, BACK, FORWARD, LEFT, NO_KEYS, RIGHT, SPEED, STRAFE, STRAFE_LEFT, STRAFE_RIGHT, USE,
-    WEAPONS,
-};
+use super::{FORWARD, LEFT, RIGHT, SPEED, STILL, STRAFE, WEAPONS, built};
 use dn_tic::{Builder, Key, Keys, Move, TicCmd, expand, round};
 use std::process::Abort;
 
@@ -19,56 +16,36 @@ fn a_command_is_found_again_in_its_bytes(rt: HostRuntime) {
         buttons: 5,
     };
     let bytes = [0xCE, 0x18, 0x80, 0xFD, 0x02, 0x01, 7, 5];
-    same!(rt; command.to_bytes(), bytes);
-    same!(rt; TicCmd::from_bytes(&bytes), command);
+    same!(&rt; command.to_bytes(), bytes);
+    same!(&rt; TicCmd::from_bytes(&bytes), command);
 }
 
 #[test]
 fn bits_from_eighteen_on_are_no_keys(rt: HostRuntime) {
-    same!(rt; Keys::from_bits(0xFFFF_FFFF).bits(), 0x3_FFFF);
-    same!(rt; Keys::from_bits(1 << 18).bits(), 0);
-    holds!(rt; Keys::from_bits(WEAPONS[7]).is_down(Key::Weapon8));
-    holds!(rt; !Keys::from_bits(WEAPONS[7]).is_down(Key::Weapon7));
-    same!(rt; Keys::default(), Keys::from_bits(0));
+    same!(&rt; Keys::from_bits(0xFFFF_FFFF).bits(), 0x3_FFFF);
+    same!(&rt; Keys::from_bits(1 << 18).bits(), 0);
+    holds!(&rt; Keys::from_bits(WEAPONS[7]).is_down(Key::Weapon8));
+    holds!(&rt; !Keys::from_bits(WEAPONS[7]).is_down(Key::Weapon7));
+    same!(&rt; Keys::default(), Keys::from_bits(0));
 }
 
 #[test]
 fn keys_make_commands(rt: HostRuntime) {
-    // keys, forward, side, turn and buttons of the first build
-    let rows: [(u32, i8, i8, i16, u8); 18] = [
-        (NO_KEYS, 0, 0, 0, 0),
-        (FORWARD, 25, 0, 0, 0),
-        (FORWARD | SPEED, 50, 0, 0, 0),
-        (BACK, -25, 0, 0, 0),
-        (BACK | SPEED, -50, 0, 0, 0),
-        (FORWARD | BACK | SPEED, 0, 0, 0, 0),
-        (LEFT, 0, 0, 320, 0),
-        (RIGHT, 0, 0, -320, 0),
-        (RIGHT | SPEED, 0, 0, -320, 0),
-        (LEFT | RIGHT, 0, 0, 0, 0),
-        (STRAFE_RIGHT, 0, 24, 0, 0),
-        (STRAFE_LEFT | SPEED, 0, -40, 0, 0),
-        (STRAFE | RIGHT | STRAFE_RIGHT, 0, 48, 0, 0),
-        (STRAFE | RIGHT | STRAFE_RIGHT | SPEED, 0, 50, 0, 0),
-        (STRAFE | LEFT | STRAFE_LEFT | SPEED, 0, -50, 0, 0),
-        (ATTACK | USE, 0, 0, 0, 3),
-        (WEAPONS[2] | WEAPONS[6], 0, 0, 0, 20),
-        (WEAPONS[0] | WEAPONS[7] | ATTACK, 0, 0, 0, 5),
-    ];
-    for (keys, forward, side, turn, buttons) in rows {
-        let command = Builder::new().build(Keys::from_bits(keys), -9);
-        let want = TicCmd {
-            forward,
-            side,
-            turn,
-            mark: -9,
-            chat: 0,
-            buttons,
-        };
-        same!(rt; command, want, keys);
+    for (keys, bytes) in built() {
+        let command = Builder::new().build(Keys::from_bits(keys), 0);
+        same!(&rt; command.to_bytes(), bytes, keys);
     }
-    let last = Builder::new().build(Keys::from_bits(WEAPONS[7]), 0);
-    same!(rt; last.buttons, 60);
+}
+
+#[test]
+fn commands_have_their_mark(rt: HostRuntime) {
+    let command = Builder::new().build(Keys::from_bits(FORWARD), -9);
+    let wanted = TicCmd {
+        forward: 25,
+        mark: -9,
+        ..STILL
+    };
+    same!(&rt; command, wanted);
 }
 
 /// Builds eight times with these keys down, and compares each turn and each count.
@@ -99,10 +76,10 @@ fn letting_go_forgets_the_count(rt: HostRuntime) {
     for _ in 0..6 {
         let _ = builder.build(Keys::from_bits(LEFT | RIGHT), 0);
     }
-    same!(rt; builder.held(), 6);
+    same!(&rt; builder.held(), 6);
     let _ = builder.build(Keys::from_bits(STRAFE), 0);
-    same!(rt; builder.held(), 0);
-    same!(rt; builder.build(Keys::from_bits(LEFT), 0).turn, 320);
+    same!(&rt; builder.held(), 0);
+    same!(&rt; builder.build(Keys::from_bits(LEFT), 0).turn, 320);
 }
 
 #[test]
@@ -122,7 +99,7 @@ fn moves_are_the_commands_own(rt: HostRuntime) {
             turn,
             buttons: 5,
         };
-        same!(rt; round(&command), want, turn);
+        same!(&rt; round(&command), want, turn);
     }
 }
 
@@ -145,6 +122,6 @@ fn low_bytes_stand_for_tics(rt: HostRuntime) {
         (321, 0, Some(512)),
     ];
     for (made, low, want) in rows {
-        same!(rt; expand(u32::from(made), low), want, (made, low));
+        same!(&rt; expand(u32::from(made), low), want, (made, low));
     }
 }

@@ -2,7 +2,7 @@
 
 mod playing;
 
-use super::{moved, place, stand};
+use super::{PLACES, moved, place, stand, two_tics};
 use dn_setup::Start;
 use dn_world::{Belt, Walk, World};
 use playing::play;
@@ -15,7 +15,7 @@ fn nobody_is_there_before_the_begin(rt: HostRuntime) {
     for mut walk in [Walk::new(), Walk::default()] {
         walk.step(&[moved(50, 0, 0, 0); 4]);
         for player in 0..=5 {
-            same!(rt; place(&walk, player), (None, None, None, 0), player);
+            same!(&rt; place(&walk, player), (None, None, None, 0), player);
         }
     }
 }
@@ -34,7 +34,7 @@ fn players_begin_in_a_row(rt: HostRuntime) {
         (4, None),
         (255, None),
     ] {
-        same!(rt; place(&walk, player), (x, x.map(|_| 0), x.map(|_| 0), 0), player);
+        same!(&rt; place(&walk, player), (x, x.map(|_| 0), x.map(|_| 0), 0), player);
     }
 }
 
@@ -43,13 +43,13 @@ fn the_first_step_forward_is_marked(rt: HostRuntime) {
     let mut walk = Walk::new();
     walk.begin(&Start::default(), TWO);
     walk.step(&[moved(50, 0, 0, 0), None, moved(50, 0, 0, 0), None]);
-    same!(rt; walk.x(0), Some(102_400));
-    same!(rt; walk.y(0), Some(0));
-    same!(rt; walk.mark(0), -28672);
-    same!(rt; walk.x(1), Some(4_194_304));
-    same!(rt; walk.mark(1), 0);
-    same!(rt; walk.x(2), None);
-    same!(rt; walk.mark(2), 0);
+    same!(&rt; walk.x(0), Some(102_400));
+    same!(&rt; walk.y(0), Some(0));
+    same!(&rt; walk.mark(0), -28672);
+    same!(&rt; walk.x(1), Some(4_194_304));
+    same!(&rt; walk.mark(1), 0);
+    same!(&rt; walk.x(2), None);
+    same!(&rt; walk.mark(2), 0);
 }
 
 #[test]
@@ -74,7 +74,7 @@ fn each_quadrant_has_its_ways(rt: HostRuntime) {
         walk.begin(&Start::default(), [true, false, false, false]);
         walk.step(&[moved(forward, side, turn, 0), None, None, None]);
         let found = (walk.x(0), walk.y(0), walk.angle(0));
-        same!(rt; found, (Some(x), Some(y), Some(turn.cast_unsigned())), (turn, forward, side));
+        same!(&rt; found, (Some(x), Some(y), Some(turn.cast_unsigned())), (turn, forward, side));
     }
 }
 
@@ -85,34 +85,26 @@ fn places_and_angles_wrap(rt: HostRuntime) {
     for _ in 0..8192 {
         walk.step(&[moved(-128, 0, 0, 0), None, None, None]);
     }
-    same!(rt; walk.x(0), Some(-2_147_483_648));
+    same!(&rt; walk.x(0), Some(-2_147_483_648));
     walk.step(&[moved(-128, 0, 0, 255), None, None, None]);
-    same!(rt; walk.x(0), Some(2_147_221_759));
+    same!(&rt; walk.x(0), Some(2_147_221_759));
     for _ in 0..8191 {
         walk.step(&[moved(0, -128, 0, 0), None, None, None]);
     }
-    same!(rt; walk.y(0), Some(2_147_221_504));
+    same!(&rt; walk.y(0), Some(2_147_221_504));
     walk.step(&[moved(0, -128, 0, 0), None, None, None]);
-    same!(rt; walk.y(0), Some(-2_147_483_648));
+    same!(&rt; walk.y(0), Some(-2_147_483_648));
     for (turn, angle) in [(32767, 32767), (32767, 65534), (3, 1), (-2, 65535)] {
         walk.step(&[moved(0, 0, turn, 0), None, None, None]);
-        same!(rt; walk.angle(0), Some(angle), turn);
+        same!(&rt; walk.angle(0), Some(angle), turn);
     }
 }
 
 #[test]
 fn two_tics_of_two_players_are_walked(rt: HostRuntime) {
     let mut walk = Walk::new();
-    let rows = [
-        [moved(50, 0, 0, 0), moved(0, 0, 256, 0), None, None],
-        [moved(-50, 0, 0, 1), moved(25, 24, 16384, 0), None, None],
-    ];
-    play(&mut walk, &Start::default(), TWO, &rows);
-    stand(
-        &rt,
-        &walk,
-        [(1, 0, 0, 1), (4_243_456, 51_200, 16_640, -16_384)],
-    );
+    play(&mut walk, &Start::default(), TWO, &two_tics());
+    stand(&rt, &walk, PLACES);
 }
 
 #[test]
@@ -129,7 +121,7 @@ fn a_world_may_hold_a_vector(rt: HostRuntime) -> Result<(), Fail> {
     ];
     play(&mut belt, &start, TWO, &rows);
     for (player, mark) in [(0, 0), (1, 7), (2, 7), (3, 2)] {
-        same!(rt; belt.mark(player), mark, player);
+        same!(&rt; belt.mark(player), mark, player);
     }
     Ok(())
 }
@@ -137,13 +129,13 @@ fn a_world_may_hold_a_vector(rt: HostRuntime) -> Result<(), Fail> {
 #[test]
 fn a_belt_changes_ends(rt: HostRuntime) -> Result<(), Fail> {
     let mut belt = Belt::new(rt.alloc())?;
-    same!(rt; belt.places(), [0, 0, 0, 0].as_slice());
+    same!(&rt; belt.places(), [0, 0, 0, 0].as_slice());
     let start = Start {
         map: 32,
         ..Start::default()
     };
     belt.begin(&start, [false; 4]);
-    same!(rt; belt.places(), [32, 32, 32, 32].as_slice());
+    same!(&rt; belt.places(), [32, 32, 32, 32].as_slice());
     for (moves, places) in [
         (
             [moved(1, 1, 1, 5), moved(1, 1, 1, 6), None, None],
@@ -153,10 +145,10 @@ fn a_belt_changes_ends(rt: HostRuntime) -> Result<(), Fail> {
         ([moved(0, 0, 0, 255), None, None, None], [255, 32, 32, 0]),
     ] {
         belt.step(&moves);
-        same!(rt; belt.places(), places.as_slice());
+        same!(&rt; belt.places(), places.as_slice());
     }
-    same!(rt; belt.mark(0), 255);
-    same!(rt; belt.mark(7), 0);
+    same!(&rt; belt.mark(0), 255);
+    same!(&rt; belt.mark(7), 0);
     Ok(())
 }
 
@@ -164,6 +156,6 @@ fn a_belt_changes_ends(rt: HostRuntime) -> Result<(), Fail> {
 #[test]
 fn refused_memory_is_told(rt: HostRuntime) {
     if let Ok(belt) = Belt::new(rt.alloc()) {
-        same!(rt; belt.places(), [0; 4].as_slice());
+        same!(&rt; belt.places(), [0; 4].as_slice());
     }
 }

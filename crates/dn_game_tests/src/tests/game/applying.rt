@@ -43,11 +43,11 @@ fn events_are_refused_in_order(rt: HostRuntime) -> Result<(), Fail> {
         let before = all_told(&game);
         applies(&rt, &mut game, event, answer);
         if answer.is_err() {
-            same!(rt; all_told(&game), before, event);
+            same!(&rt; all_told(&game), before, event);
         }
     }
     let found = (game.stopped(0), game.stopped(1), game.flights());
-    same!(rt; found, (false, true, 2));
+    same!(&rt; found, (false, true, 2));
     Ok(())
 }
 

@@ -89,20 +89,20 @@ fn two_play_on_when_the_third_leaves(rt: HostRuntime) -> Result<(), Fail> {
         apply_and_leave(&rt, &mut game, *event);
     }
     let beyond = compare_all(&rt, &game, 3);
-    holds!(rt; beyond >= 70, beyond);
+    holds!(&rt; beyond >= 70, beyond);
     let two = game.node(2).ok_or("no node")?;
     let stood = (two.phase(), two.ran(), two.demo().len());
-    same!(rt; stood, (Phase::Ended(Cause::Quit), 20, 314));
+    same!(&rt; stood, (Phase::Ended(Cause::Quit), 20, 314));
     let end = two.made();
-    same!(rt; two.end(2), Some(end));
+    same!(&rt; two.end(2), Some(end));
     let (zero, one) = (
         game.node(0).ok_or("no node")?,
         game.node(1).ok_or("no node")?,
     );
     plays_on(&rt, zero, end);
     plays_on(&rt, one, end);
-    same!(rt; zero.ran(), one.ran());
-    same!(rt; places(zero), places(one));
+    same!(&rt; zero.ran(), one.ran());
+    same!(&rt; places(zero), places(one));
     Ok(())
 }
 
@@ -134,7 +134,7 @@ fn nodes_agree_in_storms_that_players_leave(rt: HostRuntime) -> Result<(), Fail>
             let game = stormed(rt.alloc(), players, seed)?;
             beyond = compare_all(&rt, &game, players).max(beyond);
         }
-        holds!(rt; beyond > 0, players);
+        holds!(&rt; beyond > 0, players);
     }
     Ok(())
 }

@@ -43,13 +43,13 @@ fn refused_memory_is_told(rt: HostRuntime) -> Result<(), Fail> {
                     send_one(&rt, &mut game);
                 }
             }
-            Err(fault) => same!(rt; fault, GameFault::Memory),
+            Err(fault) => same!(&rt; fault, GameFault::Memory),
         }
     }
     if let Ok(worlds) = walks(rt.alloc(), 2) {
         match storm(rt.alloc(), config(1_024)?, worlds, 1, 500) {
-            Ok(played) => same!(rt; played.done.checked_add(played.refused), Some(500)),
-            Err(fault) => same!(rt; fault, GameFault::Memory),
+            Ok(played) => same!(&rt; played.done.checked_add(played.refused), Some(500)),
+            Err(fault) => same!(&rt; fault, GameFault::Memory),
         }
     }
     Ok(())
@@ -65,12 +65,12 @@ fn play_goes_on_without_a_packet(rt: HostRuntime) -> Result<(), Fail> {
     match play(rt.alloc(), config(1_024)?, worlds, &events) {
         Ok(played) => {
             assert!(rt; played.refused <= 1);
-            same!(rt; played.done.checked_add(played.refused), Some(4));
-            same!(rt; played.game.flights(), 2 - played.refused);
+            same!(&rt; played.done.checked_add(played.refused), Some(4));
+            same!(&rt; played.game.flights(), 2 - played.refused);
             let left = played.game.node(1).map(|node| node.phase());
-            same!(rt; left, Some(Phase::Ended(Cause::Quit)));
+            same!(&rt; left, Some(Phase::Ended(Cause::Quit)));
         }
-        Err(fault) => same!(rt; fault, GameFault::Memory),
+        Err(fault) => same!(&rt; fault, GameFault::Memory),
     }
     Ok(())
 }
@@ -89,11 +89,11 @@ fn only_sends_are_left_out(rt: HostRuntime) -> Result<(), Fail> {
         match (event, game.apply(event)) {
             (_, Ok(_)) => {}
             (Event::Send { .. }, Err(Refusal::Memory)) => left_out = true,
-            (Event::Deliver(_), Err(Refusal::NoPacket)) => holds!(rt; left_out),
-            (_, Err(refusal)) => holds!(rt; false, (event, refusal)),
+            (Event::Deliver(_), Err(Refusal::NoPacket)) => holds!(&rt; left_out),
+            (_, Err(refusal)) => holds!(&rt; false, (event, refusal)),
         }
     }
-    holds!(rt; left_out || game.flights() == 3);
+    holds!(&rt; left_out || game.flights() == 3);
     Ok(())
 }
 
@@ -103,8 +103,8 @@ fn there_is_room_for_many_packets(rt: HostRuntime) -> Result<(), Fail> {
     for which in 0..10_000 {
         applies(&rt, &mut game, send(0, 1), Ok(Done::Sent(which)));
     }
-    same!(rt; game.flights(), 10_000);
-    same!(rt; game.pool().len(), 80_000);
+    same!(&rt; game.flights(), 10_000);
+    same!(&rt; game.pool().len(), 80_000);
     Ok(())
 }
 
@@ -120,10 +120,10 @@ fn the_first_send_needs_room_in_both_lists(rt: HostRuntime) -> Result<(), Fail> 
     };
     let before = all_told(&game);
     if game.apply(send(0, 1)) == Err(Refusal::Memory) {
-        same!(rt; all_told(&game), before);
+        same!(&rt; all_told(&game), before);
         applies(&rt, &mut game, send(0, 1), Ok(Done::Sent(0)));
     }
-    same!(rt; game.flights(), 1);
-    same!(rt; game.pool().len(), 8);
+    same!(&rt; game.flights(), 1);
+    same!(&rt; game.pool().len(), 8);
     Ok(())
 }

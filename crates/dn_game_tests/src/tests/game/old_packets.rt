@@ -50,19 +50,19 @@ fn both_play(rt: &impl Abort, zero: &mut Node<Walk>, one: &mut Node<Walk>, tic: 
 fn a_node_takes_what_a_game_refuses(rt: HostRuntime) -> Result<(), Fail> {
     let mut zero = node(rt.alloc(), 0)?;
     let mut one = node(rt.alloc(), 1)?;
-    same!(rt; give(&mut zero, &mut one), Some(Heard::Started));
-    same!(rt; give(&mut one, &mut zero), Some(Heard::Started));
+    same!(&rt; give(&mut zero, &mut one), Some(Heard::Started));
+    same!(&rt; give(&mut one, &mut zero), Some(Heard::Started));
     let keys = Keys::from_bits(0);
     one.build(keys);
     one.build(keys);
     let old = one.packet(0).ok_or("no packet")?;
-    same!(rt; zero.receive(1, old.as_slice()), Heard::Taken(2));
+    same!(&rt; zero.receive(1, old.as_slice()), Heard::Taken(2));
     for tic in 0..256 {
         both_play(&rt, &mut zero, &mut one, tic);
     }
-    same!(rt; (zero.made(), zero.ran(), zero.got(1)), (256, 255, Some(256)));
-    same!(rt; zero.receive(1, old.as_slice()), Heard::Taken(2));
-    same!(rt; zero.got(1), Some(258));
+    same!(&rt; (zero.made(), zero.ran(), zero.got(1)), (256, 255, Some(256)));
+    same!(&rt; zero.receive(1, old.as_slice()), Heard::Taken(2));
+    same!(&rt; zero.got(1), Some(258));
     Ok(())
 }
 
@@ -73,8 +73,8 @@ fn a_game_refuses_what_a_node_takes(rt: HostRuntime) -> Result<(), Fail> {
         let _ = game.apply(build(node, 0));
         let _ = game.apply(build(node, 0));
     }
-    same!(rt; hand_over(&mut game, send(0, 1)), Some(Heard::Taken(2)));
-    same!(rt; hand_over(&mut game, send(1, 0)), Some(Heard::Taken(2)));
+    same!(&rt; hand_over(&mut game, send(0, 1)), Some(Heard::Taken(2)));
+    same!(&rt; hand_over(&mut game, send(1, 0)), Some(Heard::Taken(2)));
     for event in [Event::Run(0), Event::Run(1), Event::Run(0), Event::Run(1)] {
         let _ = game.apply(event);
     }
@@ -84,7 +84,7 @@ fn a_game_refuses_what_a_node_takes(rt: HostRuntime) -> Result<(), Fail> {
     hand_over(&mut game, send(0, 1));
     hand_over(&mut game, send(1, 0));
     let zero = game.node(0).ok_or("no node")?;
-    same!(rt; (zero.made(), zero.ran(), zero.got(1)), (256, 255, Some(256)));
+    same!(&rt; (zero.made(), zero.ran(), zero.got(1)), (256, 255, Some(256)));
     applies(&rt, &mut game, Event::Deliver(3), Err(Refusal::Far));
     Ok(())
 }
@@ -115,8 +115,8 @@ fn far_packets_are_left_out(rt: HostRuntime) -> Result<(), Fail> {
         play_five(&mut game);
     }
     // Of 28 packets those that start at tic 0 are far: the numbers 1, 2 and 3.
-    same!(rt; game.flights(), 28);
-    same!(rt; game.node(0).map(|node| node.made()), Some(65));
+    same!(&rt; game.flights(), 28);
+    same!(&rt; game.node(0).map(|node| node.made()), Some(65));
     draw(
         &rt,
         &game,

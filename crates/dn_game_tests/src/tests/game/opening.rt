@@ -26,7 +26,7 @@ fn games_are_made_or_refused_in_order(rt: HostRuntime) -> Result<(), Fail> {
     ] {
         let worlds = walks(rt.alloc(), players)?;
         let made = Game::new(rt.alloc(), config(limit)?, worlds);
-        same!(rt; made.err(), fault, (players, limit));
+        same!(&rt; made.err(), fault, (players, limit));
     }
     Ok(())
 }
@@ -50,13 +50,13 @@ fn a_new_game_waits(rt: HostRuntime) -> Result<(), Fail> {
         let game = opened(rt.alloc(), players)?;
         for number in 0..4 {
             let Some(node) = game.node(number) else {
-                holds!(rt; number as usize >= players, number);
+                holds!(&rt; number as usize >= players, number);
                 continue;
             };
-            holds!(rt; (number as usize) < players, number);
+            holds!(&rt; (number as usize) < players, number);
             waits(&rt, node, number);
         }
-        same!(rt; game.flights(), 0);
+        same!(&rt; game.flights(), 0);
     }
     Ok(())
 }
@@ -76,7 +76,7 @@ fn numbers_out_of_range_tell_nothing(rt: HostRuntime) -> Result<(), Fail> {
     ] {
         let flight = game.flight(number as usize).is_some();
         let found = (game.node(number).is_some(), game.stopped(number), flight);
-        same!(rt; found, (there, false, false), number);
+        same!(&rt; found, (there, false, false), number);
     }
     Ok(())
 }

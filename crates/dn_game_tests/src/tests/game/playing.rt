@@ -157,7 +157,7 @@ fn each_event_has_its_answer(rt: HostRuntime) -> Result<(), Fail> {
 #[test]
 fn a_script_is_played(rt: HostRuntime) -> Result<(), Fail> {
     let played = played(rt.alloc(), SCRIPT)?;
-    same!(rt; (played.done, played.refused), (15, 0));
+    same!(&rt; (played.done, played.refused), (15, 0));
     look(&rt, &played.game);
     Ok(())
 }
@@ -168,7 +168,7 @@ fn a_packet_may_come_again(rt: HostRuntime) -> Result<(), Fail> {
     let mut game = played.game;
     for _ in 0..3 {
         let again = game.apply(Event::Deliver(4));
-        same!(rt; again, Ok(Done::Heard(Heard::Stale)));
+        same!(&rt; again, Ok(Done::Heard(Heard::Stale)));
     }
     applies(&rt, &mut game, Event::Deliver(9), Err(Refusal::NoPacket));
     look(&rt, &game);
@@ -186,7 +186,7 @@ fn refused_events_are_counted(rt: HostRuntime) -> Result<(), Fail> {
     ] {
         let played = played(rt.alloc(), script)?;
         let found = (played.done, played.refused, played.game.flights());
-        same!(rt; found, (done, refused, 0), script);
+        same!(&rt; found, (done, refused, 0), script);
     }
     let mut events = Vec::new(rt.alloc());
     for (event, _) in answered() {
@@ -195,7 +195,7 @@ fn refused_events_are_counted(rt: HostRuntime) -> Result<(), Fail> {
     events.push(Event::Deliver(9))?;
     let worlds = walks(rt.alloc(), 2)?;
     let played = play(rt.alloc(), config(131_072)?, worlds, events.as_slice())?;
-    same!(rt; (played.done, played.refused), (15, 1));
+    same!(&rt; (played.done, played.refused), (15, 1));
     look(&rt, &played.game);
     Ok(())
 }

@@ -79,7 +79,7 @@ fn rounds_run_tics(rt: HostRuntime) -> Result<(), Fail> {
     ];
     for (events, rounds, zero, one) in rows {
         let game = after(&rt, rt.alloc(), events, rounds)?;
-        same!(rt; rans(&game), [Some(zero), Some(one), None, None], rounds);
+        same!(&rt; rans(&game), [Some(zero), Some(one), None, None], rounds);
     }
     Ok(())
 }
@@ -88,15 +88,15 @@ fn rounds_run_tics(rt: HostRuntime) -> Result<(), Fail> {
 #[test]
 fn a_stopped_node_holds_the_others_up(rt: HostRuntime) -> Result<(), Fail> {
     let mut game = opened(rt.alloc(), 3)?;
-    same!(rt; game.good_rounds(no_keys(), 20), Ok(()));
+    same!(&rt; game.good_rounds(no_keys(), 20), Ok(()));
     let before = rans(&game);
-    holds!(rt; before[0] > Some(10));
-    holds!(rt; game.apply(Event::Stop(1)).is_ok());
-    same!(rt; game.good_rounds(no_keys(), 20), Ok(()));
+    holds!(&rt; before[0] > Some(10));
+    holds!(&rt; game.apply(Event::Stop(1)).is_ok());
+    same!(&rt; game.good_rounds(no_keys(), 20), Ok(()));
     let held = rans(&game);
-    same!(rt; held[1], before[1]);
-    same!(rt; game.good_rounds(no_keys(), 20), Ok(()));
-    same!(rt; rans(&game), held);
+    same!(&rt; held[1], before[1]);
+    same!(&rt; game.good_rounds(no_keys(), 20), Ok(()));
+    same!(&rt; rans(&game), held);
     Ok(())
 }
 
@@ -138,7 +138,7 @@ fn a_game_is_played_on(rt: HostRuntime) -> Result<(), Fail> {
         &events[..12],
     )?;
     for _ in 0..30 {
-        same!(rt; played.game.good_round(keys), Ok(()));
+        same!(&rt; played.game.good_round(keys), Ok(()));
     }
     let on = play_on(
         rt.alloc(),
@@ -148,8 +148,8 @@ fn a_game_is_played_on(rt: HostRuntime) -> Result<(), Fail> {
         keys,
         30,
     )?;
-    same!(rt; all_told(&on.game), all_told(&played.game));
-    same!(rt; (on.done, on.refused), (12, 0));
+    same!(&rt; all_told(&on.game), all_told(&played.game));
+    same!(&rt; (on.done, on.refused), (12, 0));
     let other = play_on(
         rt.alloc(),
         config(131_072)?,
@@ -158,7 +158,7 @@ fn a_game_is_played_on(rt: HostRuntime) -> Result<(), Fail> {
         no_keys(),
         30,
     )?;
-    holds!(rt; all_told(&other.game) != all_told(&on.game));
+    holds!(&rt; all_told(&other.game) != all_told(&on.game));
     Ok(())
 }
 
@@ -236,8 +236,8 @@ fn storms_go_on(rt: HostRuntime) -> Result<(), Fail> {
         for seed in 1..=20 {
             let mut game = broken_off(&rt, rt.alloc(), players, seed)?;
             let (grown, ran) = rounds_needed(&rt, &mut game);
-            holds!(rt; (1..=14).contains(&grown), (players, seed, grown));
-            holds!(rt; ran <= ALL_RAN_BY, (players, seed));
+            holds!(&rt; (1..=14).contains(&grown), (players, seed, grown));
+            holds!(&rt; ran <= ALL_RAN_BY, (players, seed));
         }
     }
     Ok(())
@@ -256,9 +256,9 @@ fn refused_memory_ends_a_round(rt: HostRuntime) -> Result<(), Fail> {
     for _ in 0..16 {
         match game.good_round(no_keys()) {
             Ok(()) => carried_out = carried_out.saturating_add(1),
-            Err(refusal) => same!(rt; refusal, Refusal::Memory),
+            Err(refusal) => same!(&rt; refusal, Refusal::Memory),
         }
     }
-    holds!(rt; carried_out < 15 || ran(&game, 0) > Some(0));
+    holds!(&rt; carried_out < 15 || ran(&game, 0) > Some(0));
     Ok(())
 }

@@ -149,11 +149,11 @@ fn a_stopped_game_has_no_event(rt: HostRuntime) -> Result<(), Fail> {
         let mut game = opened(rt.alloc(), players)?;
         let mut schedule = Schedule::new(9);
         for node in 0..players as u32 {
-            holds!(rt; schedule.next(&game).is_some(), players);
+            holds!(&rt; schedule.next(&game).is_some(), players);
             let _ = game.apply(Event::Stop(node));
         }
         for _ in 0..3 {
-            same!(rt; schedule.next(&game), None, players);
+            same!(&rt; schedule.next(&game), None, players);
         }
     }
     Ok(())

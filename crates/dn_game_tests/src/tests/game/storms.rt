@@ -17,11 +17,11 @@ fn stormed(alloc: Global, players: usize, seed: u64, count: u32) -> Result<Playe
 fn no_event_of_a_storm_is_refused(rt: HostRuntime) -> Result<(), Fail> {
     for (players, seed, count) in [(2, 1, 0), (2, 1, 1), (2, 1, 1_000), (4, 0, 1_000)] {
         let played = stormed(rt.alloc(), players, seed, count)?;
-        same!(rt; (played.done, played.refused), (count as usize, 0), (players, seed));
+        same!(&rt; (played.done, played.refused), (count as usize, 0), (players, seed));
     }
     for seed in 1..=20 {
         let played = stormed(rt.alloc(), 3, seed, 5_000)?;
-        same!(rt; (played.done, played.refused), (5_000, 0), seed);
+        same!(&rt; (played.done, played.refused), (5_000, 0), seed);
     }
     Ok(())
 }
@@ -31,8 +31,8 @@ fn a_seed_has_one_storm(rt: HostRuntime) -> Result<(), Fail> {
     let one = stormed(rt.alloc(), 3, 7, 3_000)?;
     let again = stormed(rt.alloc(), 3, 7, 3_000)?;
     let other = stormed(rt.alloc(), 3, 8, 3_000)?;
-    same!(rt; all_told(&one.game), all_told(&again.game));
-    holds!(rt; all_told(&one.game) != all_told(&other.game));
+    same!(&rt; all_told(&one.game), all_told(&again.game));
+    holds!(&rt; all_told(&one.game) != all_told(&other.game));
     for number in 0..3 {
         match (
             one.game.node(number),
@@ -40,15 +40,15 @@ fn a_seed_has_one_storm(rt: HostRuntime) -> Result<(), Fail> {
             other.game.node(number),
         ) {
             (Some(one), Some(again), Some(other)) => {
-                holds!(rt; one.ran() > 0, number);
-                same!(rt; one.demo(), again.demo(), number);
-                holds!(rt; one.demo() != other.demo(), number);
+                holds!(&rt; one.ran() > 0, number);
+                same!(&rt; one.demo(), again.demo(), number);
+                holds!(&rt; one.demo() != other.demo(), number);
             }
-            _ => holds!(rt; false, number),
+            _ => holds!(&rt; false, number),
         }
     }
     for which in 0..one.game.flights() {
-        same!(rt; one.game.flight(which), again.game.flight(which), which);
+        same!(&rt; one.game.flight(which), again.game.flight(which), which);
     }
     Ok(())
 }
@@ -59,13 +59,13 @@ fn demos_of_a_storm_agree(rt: HostRuntime) -> Result<(), Fail> {
         let played = stormed(rt.alloc(), 2, seed, 5_000)?;
         match (played.game.node(0), played.game.node(1)) {
             (Some(zero), Some(one)) => {
-                holds!(rt; zero.ran() > 40 && one.ran() > 40, seed);
+                holds!(&rt; zero.ran() > 40 && one.ran() > 40, seed);
                 let both = zero.demo().len().min(one.demo().len());
                 let commands = zero.demo().get(13..both);
-                holds!(rt; commands.is_some(), seed);
-                same!(rt; commands, one.demo().get(13..both), seed);
+                holds!(&rt; commands.is_some(), seed);
+                same!(&rt; commands, one.demo().get(13..both), seed);
             }
-            _ => holds!(rt; false, "no node"),
+            _ => holds!(&rt; false, "no node"),
         }
     }
     Ok(())
@@ -77,19 +77,19 @@ fn worlds_with_vectors_are_stormed(rt: HostRuntime) -> Result<(), Fail> {
     for seed in 1..=6 {
         let worlds = belts(rt.alloc(), 2)?;
         let played = storm(rt.alloc(), config(131_072)?, worlds, seed, 5_000)?;
-        same!(rt; (played.done, played.refused), (5_000, 0), seed);
+        same!(&rt; (played.done, played.refused), (5_000, 0), seed);
         match (played.game.node(0), played.game.node(1)) {
             (Some(zero), Some(one)) if zero.ran() == one.ran() => {
                 compared = true;
                 for player in 0..4 {
                     let mark = zero.world().mark(player);
-                    same!(rt; mark, one.world().mark(player), seed);
+                    same!(&rt; mark, one.world().mark(player), seed);
                 }
             }
-            (Some(zero), Some(_)) => holds!(rt; zero.ran() > 40, seed),
-            _ => holds!(rt; false, "no node"),
+            (Some(zero), Some(_)) => holds!(&rt; zero.ran() > 40, seed),
+            _ => holds!(&rt; false, "no node"),
         }
     }
-    holds!(rt; compared);
+    holds!(&rt; compared);
     Ok(())
 }

@@ -30,7 +30,7 @@ fn without_calm_there_is_the_storm(rt: HostRuntime) -> Result<(), Fail> {
         let storm = storm(rt.alloc(), rules(DEFAULT_LIMIT)?, players, seed, count);
         let game = rules(DEFAULT_LIMIT)?;
         let printed = calm(rt.alloc(), game, players, (seed, count, 0));
-        same!(rt; storm.status, Ok(0), seed);
+        same!(&rt; storm.status, Ok(0), seed);
         prints(&rt, printed, 0, storm.bytes.as_slice(), seed);
     }
     Ok(())

@@ -48,10 +48,10 @@ fn too_long_comes_before_every_other_refusal(rt: HostRuntime) {
     ] {
         let mut input = Zeros { rest: size };
         prints(&rt, demo(rt.alloc(), &mut input), 1, text.as_bytes(), size);
-        same!(rt; input.rest, left);
+        same!(&rt; input.rest, left);
         let mut again = Zeros { rest: size };
         let upgraded = upgrade(rt.alloc(), LEAST, &mut again);
         prints(&rt, upgraded, 1, text.as_bytes(), size);
-        same!(rt; again.rest, left);
+        same!(&rt; again.rest, left);
     }
 }

@@ -109,13 +109,13 @@ fn a_failing_reader_ends_a_run_before_it_writes(rt: HostRuntime) -> Result<(), F
                 fails_at,
                 &mut output,
             );
-            same!(rt; status, Err(RunFault::Read), (run, fails_at));
-            holds!(rt; output.taken.is_empty(), (run, fails_at));
+            same!(&rt; status, Err(RunFault::Read), (run, fails_at));
+            holds!(&rt; output.taken.is_empty(), (run, fails_at));
         }
         let text = whole(rt.alloc(), rules(DEFAULT_LIMIT)?, run)?;
         let mut output = Sink::new(rt.alloc(), WHOLE, NEVER);
-        same!(rt; ended(rt.alloc(), rules(DEFAULT_LIMIT)?, run, 1, calls + 1, &mut output), Ok(0), run);
-        same!(rt; output.taken.as_slice(), text.as_slice(), run);
+        same!(&rt; ended(rt.alloc(), rules(DEFAULT_LIMIT)?, run, 1, calls + 1, &mut output), Ok(0), run);
+        same!(&rt; output.taken.as_slice(), text.as_slice(), run);
     }
     Ok(())
 }
@@ -153,8 +153,8 @@ fn a_failing_writer_has_a_front(rt: HostRuntime) -> Result<(), Fail> {
         let full = Sink::new(rt.alloc(), 0, NEVER);
         breaks_off(&rt, rt.alloc(), rules(DEFAULT_LIMIT)?, run, full, &[]);
         let mut slow = Sink::new(rt.alloc(), 1, NEVER);
-        same!(rt; ended(rt.alloc(), rules(DEFAULT_LIMIT)?, run, WHOLE, NEVER, &mut slow), Ok(0), run);
-        same!(rt; slow.taken.as_slice(), text.as_slice(), run);
+        same!(&rt; ended(rt.alloc(), rules(DEFAULT_LIMIT)?, run, WHOLE, NEVER, &mut slow), Ok(0), run);
+        same!(&rt; slow.taken.as_slice(), text.as_slice(), run);
     }
     Ok(())
 }
@@ -177,12 +177,12 @@ fn refused_memory_is_told(rt: HostRuntime) -> Result<(), Fail> {
         let written = &room[..512_usize.saturating_sub(left)];
         match status {
             Ok(status) => {
-                same!(rt; status, 0, run);
-                holds!(rt; written == text.as_slice() || run == Run::StormTraced, run);
+                same!(&rt; status, 0, run);
+                holds!(&rt; written == text.as_slice() || run == Run::StormTraced, run);
             }
             Err(fault) => {
-                same!(rt; fault, RunFault::Memory, run);
-                holds!(rt; written.is_empty() || written == ROWS.as_bytes(), run);
+                same!(&rt; fault, RunFault::Memory, run);
+                holds!(&rt; written.is_empty() || written == ROWS.as_bytes(), run);
             }
         }
     }
@@ -196,7 +196,7 @@ fn faults_have_their_lines(rt: HostRuntime) -> Result<(), Fail> {
         (RunFault::Write, "write fault"),
         (RunFault::Memory, "out of memory"),
     ] {
-        same!(rt; fault.to_string(rt.alloc())?.as_str(), line);
+        same!(&rt; fault.to_string(rt.alloc())?.as_str(), line);
     }
     Ok(())
 }

@@ -67,7 +67,7 @@ fn inconsistent_nodes_are_shown(rt: HostRuntime) -> Result<(), Fail> {
     let mut text = String::new(rt.alloc());
     push_node(&mut text, &node, false)?;
     push_node(&mut text, &node, true)?;
-    same!(rt; text.as_str(), "node 1 ended inconsistent 0 made 14 ran 13 got 14 14 demo 144\n\
+    same!(&rt; text.as_str(), "node 1 ended inconsistent 0 made 14 ran 13 got 14 14 demo 144\n\
          node 1 ended inconsistent 0 made 14 ran 13 got 14 14 demo 144 stopped\n");
     Ok(())
 }

@@ -56,8 +56,8 @@ fn a_player_alone_is_shown(rt: HostRuntime) -> Result<(), Fail> {
     for (raw, text) in [(false, ALONE), (true, "")] {
         let mut output = Vec::new(rt.alloc());
         let status = play_alone(&rt, rt.alloc(), base, raw, &mut output)?;
-        same!(rt; status, Ok(0));
-        same!(rt; output.as_slice(), text.as_bytes());
+        same!(&rt; status, Ok(0));
+        same!(&rt; output.as_slice(), text.as_bytes());
     }
     Ok(())
 }
@@ -69,11 +69,11 @@ fn held_ports_are_told(rt: HostRuntime) -> Result<(), Fail> {
     let held = UdpLine::bind(&rt, rt.alloc(), base, 0, 0, 2)?;
     let mut output = Vec::new(rt.alloc());
     let status = play_alone(&rt, rt.alloc(), base, true, &mut output)?;
-    same!(rt; status, Ok(3));
+    same!(&rt; status, Ok(3));
     let game = rules(DEFAULT_LIMIT)?;
     let status = run_loop(&rt, rt.alloc(), game, 2, base, 1, 10, &mut output);
-    same!(rt; status, Ok(3));
-    same!(rt; output.as_slice(), b"socket fault\nsocket fault\n".as_slice());
+    same!(&rt; status, Ok(3));
+    same!(&rt; output.as_slice(), b"socket fault\nsocket fault\n".as_slice());
     drop(held);
     Ok(())
 }
@@ -85,8 +85,8 @@ fn a_loop_is_shown(rt: HostRuntime) -> Result<(), Fail> {
     let mut output = Vec::new(rt.alloc());
     let game = rules(DEFAULT_LIMIT)?;
     let status = run_loop(&rt, rt.alloc(), game, 2, base, 1, 100, &mut output);
-    same!(rt; status, Ok(0));
-    holds!(rt; output.as_slice().starts_with(b"node 0 playing "));
+    same!(&rt; status, Ok(0));
+    holds!(&rt; output.as_slice().starts_with(b"node 0 playing "));
     Ok(())
 }
 
@@ -99,11 +99,11 @@ fn a_failing_writer_has_a_front_of_the_line(rt: HostRuntime) -> Result<(), Fail>
         let mut output = Sink::new(rt.alloc(), 1, fails_at as u64);
         let status = play_alone(&rt, rt.alloc(), base, false, &mut output)?;
         if fails_at <= text.len() {
-            same!(rt; status, Err(RunFault::Write));
-            same!(rt; output.taken.as_slice(), &text[..fails_at - 1]);
+            same!(&rt; status, Err(RunFault::Write));
+            same!(&rt; output.taken.as_slice(), &text[..fails_at - 1]);
         } else {
-            same!(rt; status, Ok(0));
-            same!(rt; output.taken.as_slice(), text);
+            same!(&rt; status, Ok(0));
+            same!(&rt; output.taken.as_slice(), text);
         }
     }
     Ok(())
@@ -120,14 +120,14 @@ fn refused_memory_is_told(rt: HostRuntime) -> Result<(), Fail> {
     let mut rest = room.as_mut_slice();
     let played = play_alone(&rt, rt.alloc(), base, false, &mut rest)?;
     match played {
-        Ok(status) => holds!(rt; status == 0 || status == 3),
-        Err(fault) => same!(rt; fault, RunFault::Memory),
+        Ok(status) => holds!(&rt; status == 0 || status == 3),
+        Err(fault) => same!(&rt; fault, RunFault::Memory),
     }
     let game = rules(DEFAULT_LIMIT)?;
     let looped = run_loop(&rt, rt.alloc(), game, 2, base, 1, 10, &mut rest);
     match looped {
-        Ok(status) => holds!(rt; status == 0 || status == 3),
-        Err(fault) => same!(rt; fault, RunFault::Memory),
+        Ok(status) => holds!(&rt; status == 0 || status == 3),
+        Err(fault) => same!(&rt; fault, RunFault::Memory),
     }
     Ok(())
 }

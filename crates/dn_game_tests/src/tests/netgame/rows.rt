@@ -90,7 +90,7 @@ fn a_failing_reader_leaves_the_rows_of_the_first_piece(rt: HostRuntime) {
     let last = b"tic 1019 player 0 forward 0 side 0 turn 0 buttons 0\n".as_slice();
     let mut output = Sink::new(rt.alloc(), WHOLE, NEVER);
     let status = run_rows(rt.alloc(), &mut Source::new(&bytes, WHOLE, 2), &mut output);
-    same!(rt; status, Err(RunFault::Read));
-    holds!(rt; output.taken.as_slice().starts_with(first));
-    holds!(rt; output.taken.as_slice().ends_with(last));
+    same!(&rt; status, Err(RunFault::Read));
+    holds!(&rt; output.taken.as_slice().starts_with(first));
+    holds!(&rt; output.taken.as_slice().ends_with(last));
 }

@@ -38,7 +38,7 @@ fn too_long_comes_before_a_bad_line(rt: HostRuntime) -> Result<(), Fail> {
         let mut input = Zeros { rest: size };
         let printed = sim(rt.alloc(), DEFAULT_LIMIT, 2, &mut input)?;
         prints(&rt, printed, 1, text.as_bytes(), size);
-        same!(rt; input.rest, left);
+        same!(&rt; input.rest, left);
     }
     Ok(())
 }
@@ -57,12 +57,12 @@ fn refused_memory_is_told(rt: HostRuntime) -> Result<(), Fail> {
         Ok(status) => {
             let sent = written.ends_with(b"events 1 refused 0 flights 1\n");
             let left_out = written.ends_with(b"events 0 refused 1 flights 0\n");
-            same!(rt; status, 0);
-            holds!(rt; sent || left_out);
+            same!(&rt; status, 0);
+            holds!(&rt; sent || left_out);
         }
         Err(fault) => {
-            same!(rt; fault, RunFault::Memory);
-            holds!(rt; written.is_empty());
+            same!(&rt; fault, RunFault::Memory);
+            holds!(&rt; written.is_empty());
         }
     }
     Ok(())

@@ -59,8 +59,8 @@ fn datagrams_are_shown(rt: HostRuntime) {
         let mut input = bytes;
         let mut output = Vec::new(rt.alloc());
         let shown = run_show(rt.alloc(), &mut input, &mut output);
-        same!(rt; shown, Ok(status), text);
-        same!(rt; output.as_slice(), text.as_bytes());
+        same!(&rt; shown, Ok(status), text);
+        same!(&rt; output.as_slice(), text.as_bytes());
     }
 }
 
@@ -74,7 +74,7 @@ fn twelve_commands_are_shown(rt: HostRuntime) -> Result<(), Fail> {
     let bytes = twelve();
     let mut input = bytes.as_slice();
     let mut output = Vec::new(rt.alloc());
-    same!(rt; run_show(rt.alloc(), &mut input, &mut output), Ok(0));
-    same!(rt; output.as_slice(), text.as_bytes());
+    same!(&rt; run_show(rt.alloc(), &mut input, &mut output), Ok(0));
+    same!(&rt; output.as_slice(), text.as_bytes());
     Ok(())
 }

@@ -115,7 +115,7 @@ fn answers_are_told_in_words(rt: HostRuntime) -> Result<(), Fail> {
         (Err(Refusal::Memory), "refused 5 no memory"),
     ];
     for (answer, text) in rows {
-        same!(rt; words(rt.alloc(), answer)?.as_str(), text);
+        same!(&rt; words(rt.alloc(), answer)?.as_str(), text);
     }
     Ok(())
 }
@@ -140,8 +140,8 @@ fn scripts_are_told_event_by_event(rt: HostRuntime) -> Result<(), Fail> {
             &mut input,
             &mut output,
         );
-        same!(rt; answer, Ok(status));
-        same!(rt; output.as_slice(), text.as_bytes());
+        same!(&rt; answer, Ok(status));
+        same!(&rt; output.as_slice(), text.as_bytes());
     }
     Ok(())
 }
@@ -162,8 +162,8 @@ fn packets_that_are_dropped_are_told(rt: HostRuntime) -> Result<(), Fail> {
         event 2 deliver 0: dropped 6 set-up\n\
         event 3 send 1 2: sent 1\n\
         event 4 deliver 1: dropped 13 not playing\n";
-    same!(rt; status, Ok(0));
-    holds!(rt; output.as_slice().starts_with(text));
+    same!(&rt; status, Ok(0));
+    holds!(&rt; output.as_slice().starts_with(text));
     Ok(())
 }
 
@@ -177,8 +177,8 @@ fn storms_are_told_event_by_event(rt: HostRuntime) -> Result<(), Fail> {
         let mut output = Vec::new(rt.alloc());
         let game = rules(DEFAULT_LIMIT)?;
         let status = trace_storm(rt.alloc(), game, 2, 42, 6, rounds, &mut output);
-        same!(rt; status, Ok(0), rounds);
-        same!(rt; output.as_slice(), text.as_slice(), rounds);
+        same!(&rt; status, Ok(0), rounds);
+        same!(&rt; output.as_slice(), text.as_slice(), rounds);
     }
     Ok(())
 }
@@ -187,8 +187,8 @@ fn storms_are_told_event_by_event(rt: HostRuntime) -> Result<(), Fail> {
 fn a_storm_is_written_as_its_script(rt: HostRuntime) -> Result<(), Fail> {
     let mut output = Vec::new(rt.alloc());
     let status = storm_script(rt.alloc(), rules(DEFAULT_LIMIT)?, 2, 42, 6, &mut output);
-    same!(rt; status, Ok(0));
-    same!(rt; output.as_slice(), DRAWN.as_bytes());
+    same!(&rt; status, Ok(0));
+    same!(&rt; output.as_slice(), DRAWN.as_bytes());
     Ok(())
 }
 
@@ -197,11 +197,11 @@ fn a_storm_is_written_as_its_script(rt: HostRuntime) -> Result<(), Fail> {
 fn a_storm_is_played_again_by_its_script(rt: HostRuntime) -> Result<(), Fail> {
     for (players, seed, count) in [(2, 1, 1_000), (3, 7, 3_000), (4, 4_294_967_295, 5_000)] {
         let storm = storm(rt.alloc(), rules(DEFAULT_LIMIT)?, players, seed, count);
-        same!(rt; storm.status, Ok(0), seed);
+        same!(&rt; storm.status, Ok(0), seed);
         let mut script = Vec::new(rt.alloc());
         let game = rules(DEFAULT_LIMIT)?;
         let written = storm_script(rt.alloc(), game, players, seed, count, &mut script);
-        same!(rt; written, Ok(0));
+        same!(&rt; written, Ok(0));
         let again = sim(rt.alloc(), DEFAULT_LIMIT, players, &mut script.as_slice())?;
         prints(&rt, again, 0, storm.bytes.as_slice(), seed);
     }

@@ -55,10 +55,10 @@ fn each_value_is_that_of_its_word(rt: HostRuntime) -> Result<(), Fail> {
         };
         match game {
             Some((config, count)) => {
-                same!(rt; count, players, line);
-                same!(rt; numbers(&config), read, line);
+                same!(&rt; count, players, line);
+                same!(&rt; numbers(&config), read, line);
             }
-            None => holds!(rt; false, line),
+            None => holds!(&rt; false, line),
         }
     }
     Ok(())
@@ -83,8 +83,8 @@ fn each_flag_is_that_of_its_word(rt: HostRuntime) -> Result<(), Fail> {
             None => None,
         };
         match game {
-            Some((config, _)) => same!(rt; flags(&config), read, line),
-            None => holds!(rt; false, line),
+            Some((config, _)) => same!(&rt; flags(&config), read, line),
+            None => holds!(&rt; false, line),
         }
     }
     Ok(())
@@ -98,7 +98,7 @@ fn seeds_and_counts_are_those_of_their_words(rt: HostRuntime) -> Result<(), Fail
         Some((_, given)) => dn_options::storm(given),
         None => None,
     };
-    same!(rt; storm, Some((7, 8, 9)));
+    same!(&rt; storm, Some((7, 8, 9)));
     let words = split(
         rt.alloc(),
         "netgame play --seed 7 --rounds 8 --base 2000 --me 3 --raw",
@@ -112,8 +112,8 @@ fn seeds_and_counts_are_those_of_their_words(rt: HostRuntime) -> Result<(), Fail
         ),
         None => (None, None, false),
     };
-    same!(rt; rounds, Some((7, 8, 2000)));
-    same!(rt; me, Some(3));
-    holds!(rt; raw);
+    same!(&rt; rounds, Some((7, 8, 2000)));
+    same!(&rt; me, Some(3));
+    holds!(&rt; raw);
     Ok(())
 }

@@ -177,15 +177,15 @@ fn help_is_printed(rt: HostRuntime) -> Result<(), Fail> {
         ("netgame help storm", "Usage: netgame storm"),
     ] {
         let host = Host::new(&rt, line.as_bytes(), b"");
-        same!(rt; finish(&host), 0, line);
+        same!(&rt; finish(&host), 0, line);
         let Host {
             printed,
             complained,
             ..
         } = host;
         let printed = String::from_utf8(printed.into_inner())?;
-        holds!(rt; printed.as_str().contains(usage), line);
-        holds!(rt; complained.into_inner().is_empty(), line);
+        holds!(&rt; printed.as_str().contains(usage), line);
+        holds!(&rt; complained.into_inner().is_empty(), line);
     }
     Ok(())
 }

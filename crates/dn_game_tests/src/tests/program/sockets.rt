@@ -54,16 +54,16 @@ fn rounds_are_played(rt: HostRuntime) -> Result<(), Fail> {
     for (line, sockets, status, text, asked) in ROWS {
         let mut host = Host::new(&rt, line.as_bytes(), b"");
         host.sockets = sockets;
-        same!(rt; finish(&host), status, line);
+        same!(&rt; finish(&host), status, line);
         let Host {
             printed,
             complained,
             ports,
             ..
         } = host;
-        same!(rt; printed.into_inner().as_slice(), text.as_bytes(), line);
-        holds!(rt; complained.into_inner().is_empty(), line);
-        same!(rt; ports.into_inner().as_slice(), asked, line);
+        same!(&rt; printed.into_inner().as_slice(), text.as_bytes(), line);
+        holds!(&rt; complained.into_inner().is_empty(), line);
+        same!(&rt; ports.into_inner().as_slice(), asked, line);
     }
     Ok(())
 }

@@ -95,18 +95,18 @@ fn each_call_may_fail(rt: HostRuntime) -> Result<(), Fail> {
                 failed: 0,
             };
             let (once, often) = forty_rounds(&mut nodes, &mut line);
-            same!(rt; often, 0, (player, fails_at));
-            holds!(rt; nodes[0].ran() > 0, (player, fails_at));
-            holds!(rt; nodes[1].ran() > 0, (player, fails_at));
+            same!(&rt; often, 0, (player, fails_at));
+            holds!(&rt; nodes[0].ran() > 0, (player, fails_at));
+            holds!(&rt; nodes[1].ran() > 0, (player, fails_at));
             one_game(&rt, &nodes);
-            same!(rt; line.failed, u64::from(once > 0), (player, fails_at));
+            same!(&rt; line.failed, u64::from(once > 0), (player, fails_at));
             if once == 0 {
-                holds!(rt; line.calls < fails_at, player);
+                holds!(&rt; line.calls < fails_at, player);
                 ended = true;
                 break;
             }
         }
-        holds!(rt; ended, player);
+        holds!(&rt; ended, player);
     }
     Ok(())
 }

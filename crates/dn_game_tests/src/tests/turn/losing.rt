@@ -48,10 +48,10 @@ fn line_loses_silently(rt: HostRuntime) -> Result<(), Fail> {
             kept: 0,
         };
         rounds(&mut nodes, &mut line, 1, 400);
-        holds!(rt; nodes[0].ran() >= 20, lost_of);
-        holds!(rt; nodes[1].ran() >= 20, lost_of);
+        holds!(&rt; nodes[0].ran() >= 20, lost_of);
+        holds!(&rt; nodes[1].ran() >= 20, lost_of);
         one_game(&rt, &nodes);
-        same!(rt; line.hub.failed(), 0);
+        same!(&rt; line.hub.failed(), 0);
     }
     Ok(())
 }
@@ -67,7 +67,7 @@ fn nothing_comes_of_nothing(rt: HostRuntime) -> Result<(), Fail> {
         kept: 0,
     };
     rounds(&mut nodes, &mut line, 1, 50);
-    same!(rt; (nodes[0].made(), nodes[1].made()), (0, 0));
-    same!(rt; line.hub.failed(), 0);
+    same!(&rt; (nodes[0].made(), nodes[1].made()), (0, 0));
+    same!(&rt; line.hub.failed(), 0);
     Ok(())
 }

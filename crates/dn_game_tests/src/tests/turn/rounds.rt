@@ -32,7 +32,7 @@ fn seven_rounds(rt: HostRuntime) -> Result<(), Fail> {
     counts(&rt, &idle);
     rounds(&mut busy, &mut other, 1, 7);
     counts(&rt, &busy);
-    same!(rt; hub.failed(), 0);
+    same!(&rt; hub.failed(), 0);
     Ok(())
 }
 
@@ -63,7 +63,7 @@ fn turns_are_told(rt: HostRuntime) -> Result<(), Fail> {
             heard,
             ran,
         };
-        same!(rt; turned, told, place);
+        same!(&rt; turned, told, place);
     }
     Ok(())
 }
@@ -75,7 +75,7 @@ fn no_turns_are_taken(rt: HostRuntime) -> Result<(), Fail> {
     let mut hub = MemoryHub::new(rt.alloc(), 2)?;
     rounds(&mut nodes[..0], &mut hub, 1, 7);
     rounds(&mut nodes, &mut hub, 1, 0);
-    same!(rt; (nodes[0].made(), nodes[1].made(), hub.failed()), (0, 0, 0));
+    same!(&rt; (nodes[0].made(), nodes[1].made(), hub.failed()), (0, 0, 0));
     Ok(())
 }
 
@@ -84,8 +84,8 @@ fn a_hundred_rounds_over_ports(rt: HostRuntime) -> Result<(), Fail> {
     let mut nodes = pair(rt.alloc())?;
     let (mut line, _) = free_line(&rt, rt.alloc(), 35_000, 1)?;
     rounds(&mut nodes, &mut line, 1, 100);
-    holds!(rt; nodes[0].ran() >= 50);
-    holds!(rt; nodes[1].ran() >= 50);
-    same!(rt; line.failed(), 0);
+    holds!(&rt; nodes[0].ran() >= 50);
+    holds!(&rt; nodes[1].ran() >= 50);
+    same!(&rt; line.failed(), 0);
     Ok(())
 }

@@ -103,7 +103,7 @@ fn fronts_of_a_demo_are_refused(rt: HostRuntime) {
             } else {
                 FeedFault::NoMarker
             };
-            same!(rt; fed(&demo[..len], 0, 5).err(), Some(fault), len);
+            same!(&rt; fed(&demo[..len], 0, 5).err(), Some(fault), len);
         }
     }
 }
@@ -111,15 +111,15 @@ fn fronts_of_a_demo_are_refused(rt: HostRuntime) {
 #[test]
 fn bytes_are_counted_as_they_come(rt: HostRuntime) {
     let mut feed = Feed::new(Walk::new());
-    same!(rt; feed.taken(), 0);
+    same!(&rt; feed.taken(), 0);
     push(&mut feed, &PLAYED[..17]);
-    same!(rt; feed.taken(), 17);
+    same!(&rt; feed.taken(), 17);
     push(&mut feed, &[]);
-    same!(rt; feed.taken(), 17);
+    same!(&rt; feed.taken(), 17);
     push(&mut feed, &PLAYED[17..]);
     push(&mut feed, &[7; 40]);
-    same!(rt; feed.taken(), 70);
-    same!(rt; feed.end().ok().map(|fed| (fed.version, fed.after)), Some((109, 40)));
+    same!(&rt; feed.taken(), 70);
+    same!(&rt; feed.end().ok().map(|fed| (fed.version, fed.after)), Some((109, 40)));
 }
 
 /// A feed of these bytes ends as `Demo::read` and `play` do.

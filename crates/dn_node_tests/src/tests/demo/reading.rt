@@ -1,6 +1,6 @@
 //! Tests of read demos and their playing.
 
-use super::{BEGUN, PLACES, PLAYED, Place, RECORDED, START, moved, stand};
+use super::{BEGUN, PLACES, PLAYED, Place, RECORDED, START, moved, stand, two_tics};
 use dn_demo::{Demo, DemoFault, play};
 use dn_setup::Start;
 use dn_world::Walk;
@@ -49,20 +49,19 @@ fn demos_are_read_and_played(rt: HostRuntime) -> Result<(), Fail> {
 
 #[test]
 fn headers_and_rows_are_told(rt: HostRuntime) -> Result<(), Fail> {
-    let first = [moved(50, 0, 0, 0), moved(0, 0, 256, 0), None, None];
-    let second = [moved(-50, 0, 0, 1), moved(25, 24, 16_384, 0), None, None];
+    let [first, second] = two_tics();
     for (bytes, version) in [(PLAYED.as_slice(), 109), (RECORDED.as_slice(), 111)] {
         let demo = Demo::read(rt.alloc(), bytes)?;
-        same!(rt; (demo.version(), demo.view()), (version, 1));
-        same!(rt; demo.start(), START, version);
-        same!(rt; demo.present(), [true, true, false, false], version);
+        same!(&rt; (demo.version(), demo.view()), (version, 1));
+        same!(&rt; demo.start(), START, version);
+        same!(&rt; demo.present(), [true, true, false, false], version);
         for (tic, row) in [
             (0, Some(first)),
             (1, Some(second)),
             (2, None),
             (usize::MAX, None),
         ] {
-            same!(rt; demo.row(tic), row, (tic, version));
+            same!(&rt; demo.row(tic), row, (tic, version));
         }
     }
     Ok(())
@@ -84,17 +83,17 @@ fn odd_bytes_are_kept(rt: HostRuntime) -> Result<(), Fail> {
         fast: 1,
         no_monsters: 9,
     };
-    same!(rt; demo.start(), start);
-    same!(rt; demo.view(), 77);
-    same!(rt; demo.present(), [true, false, true, false]);
+    same!(&rt; demo.start(), start);
+    same!(&rt; demo.view(), 77);
+    same!(&rt; demo.present(), [true, false, true, false]);
     let row = [
         moved(1, -128, -32_768, 255),
         None,
         moved(127, 2, -256, 128),
         None,
     ];
-    same!(rt; demo.row(0), Some(row));
-    same!(rt; demo.tics(), 1);
+    same!(&rt; demo.row(0), Some(row));
+    same!(&rt; demo.tics(), 1);
     Ok(())
 }
 
@@ -115,9 +114,9 @@ fn only_a_first_byte_ends_a_demo(rt: HostRuntime) -> Result<(), Fail> {
         bytes[place] = 0x80;
         bytes[17] = 0x80;
         let demo = Demo::read(rt.alloc(), &bytes[..len])?;
-        same!(rt; demo.tics(), tics, place);
-        same!(rt; demo.cut(), 0);
-        same!(rt; demo.after(), after, place);
+        same!(&rt; demo.tics(), tics, place);
+        same!(&rt; demo.cut(), 0);
+        same!(&rt; demo.after(), after, place);
     }
     Ok(())
 }
@@ -137,8 +136,8 @@ fn commands_of_version_111_have_five_bytes(rt: HostRuntime) -> Result<(), Fail> 
         bytes[place] = 0x80;
         bytes[18] = 0x80;
         let demo = Demo::read(rt.alloc(), &bytes[..len])?;
-        same!(rt; demo.tics(), tics, place);
-        same!(rt; demo.after(), after, place);
+        same!(&rt; demo.tics(), tics, place);
+        same!(&rt; demo.after(), after, place);
     }
     Ok(())
 }
@@ -166,9 +165,9 @@ fn absent_players_have_no_command(rt: HostRuntime) -> Result<(), Fail> {
     ] {
         let bytes = four_commands(flags);
         let demo = Demo::read(rt.alloc(), &bytes)?;
-        same!(rt; demo.tics(), tics, flags);
-        same!(rt; demo.cut(), cut, flags);
-        same!(rt; demo.row(0), Some(row), flags);
+        same!(&rt; demo.tics(), tics, flags);
+        same!(&rt; demo.cut(), cut, flags);
+        same!(&rt; demo.row(0), Some(row), flags);
     }
     Ok(())
 }
@@ -203,9 +202,9 @@ fn bytes_are_refused_in_order(rt: HostRuntime) -> Result<(), Fail> {
         (&RECORDED[..33], DemoFault::NoMarker),
     ] {
         let read = Demo::read(rt.alloc(), bytes);
-        same!(rt; read.err(), Some(fault), bytes);
+        same!(&rt; read.err(), Some(fault), bytes);
         let kept = Demo::from_vec(Vec::from_slice(rt.alloc(), bytes)?);
-        same!(rt; kept.err(), Some(fault), bytes);
+        same!(&rt; kept.err(), Some(fault), bytes);
     }
     Ok(())
 }
@@ -220,7 +219,7 @@ fn fronts_of_a_demo_are_none(rt: HostRuntime) {
                 DemoFault::NoMarker
             };
             let read = Demo::read(rt.alloc(), &demo[..len]);
-            same!(rt; read.err(), Some(fault), len);
+            same!(&rt; read.err(), Some(fault), len);
         }
     }
 }

@@ -20,32 +20,32 @@ fn limits_are_checked(rt: HostRuntime) {
         (u32::MAX, Some(RecorderFault::Limit)),
     ] {
         let made = Recorder::new(rt.alloc(), limit);
-        same!(rt; made.err(), fault, limit);
-        same!(rt; is_limit(limit), fault.is_none(), limit);
+        same!(&rt; made.err(), fault, limit);
+        same!(&rt; is_limit(limit), fault.is_none(), limit);
     }
 }
 
 #[test]
 fn rows_are_written_and_read_back(rt: HostRuntime) -> Result<(), Fail> {
     let mut recorder = Recorder::new(rt.alloc(), 1_024)?;
-    holds!(rt; recorder.bytes().is_empty());
-    holds!(rt; !recorder.closed());
+    holds!(&rt; recorder.bytes().is_empty());
+    holds!(&rt; !recorder.closed());
     recorder.head(&START, 1, [true, true, false, false]);
-    same!(rt; recorder.bytes(), &RECORDED[..13]);
-    holds!(rt; !recorder.closed());
+    same!(&rt; recorder.bytes(), &RECORDED[..13]);
+    holds!(&rt; !recorder.closed());
     let first = [moved(50, 0, 0, 0), moved(0, 0, 256, 0), None, None];
     assert!(rt; recorder.row(&first));
-    same!(rt; recorder.bytes(), &RECORDED[..23]);
+    same!(&rt; recorder.bytes(), &RECORDED[..23]);
     let second = [moved(-50, 0, 0, 1), moved(25, 24, 16_384, 0), None, None];
     assert!(rt; recorder.row(&second));
-    holds!(rt; !recorder.closed());
+    holds!(&rt; !recorder.closed());
     recorder.close();
-    holds!(rt; recorder.closed());
-    same!(rt; recorder.bytes(), RECORDED.as_slice());
+    holds!(&rt; recorder.closed());
+    same!(&rt; recorder.bytes(), RECORDED.as_slice());
     let demo = Demo::read(rt.alloc(), recorder.bytes())?;
-    same!(rt; demo.row(0), Some(first));
-    same!(rt; demo.row(1), Some(second));
-    same!(rt; demo.row(2), None);
+    same!(&rt; demo.row(0), Some(first));
+    same!(&rt; demo.row(1), Some(second));
+    same!(&rt; demo.row(2), None);
     Ok(())
 }
 
@@ -65,9 +65,9 @@ fn absent_players_are_not_written(rt: HostRuntime) -> Result<(), Fail> {
         0x6F, 3, 1, 7, 1, 0, 0, 1, 3, 0, 1, 0, 1, 1, 0xFE, 0xFF, 0xFE, 0xFF, 0x7F, 0x81, 0, 0x80,
         0, 0x80,
     ];
-    same!(rt; recorder.bytes(), bytes.as_slice());
+    same!(&rt; recorder.bytes(), bytes.as_slice());
     let demo = Demo::read(rt.alloc(), recorder.bytes())?;
-    same!(rt; demo.row(0), Some(row));
+    same!(&rt; demo.row(0), Some(row));
     Ok(())
 }
 
@@ -90,12 +90,12 @@ fn fill(recorder: &mut Recorder) -> usize
 fn a_full_demo_takes_no_row(rt: HostRuntime) -> Result<(), Fail> {
     for (limit, rows, len) in [(1_034, 102, 1_034), (1_033, 101, 1_024)] {
         let mut recorder = Recorder::new(rt.alloc(), limit)?;
-        same!(rt; recorder.room(), limit as usize);
-        same!(rt; fill(&mut recorder), rows, limit);
-        same!(rt; capacity(limit, 2) as usize, rows, limit);
+        same!(&rt; recorder.room(), limit as usize);
+        same!(&rt; fill(&mut recorder), rows, limit);
+        same!(&rt; capacity(limit, 2) as usize, rows, limit);
         recorder.close();
-        same!(rt; recorder.bytes().len(), len, limit);
-        same!(rt; recorder.room(), limit as usize);
+        same!(&rt; recorder.bytes().len(), len, limit);
+        same!(&rt; recorder.room(), limit as usize);
     }
     Ok(())
 }
@@ -104,17 +104,17 @@ fn a_full_demo_takes_no_row(rt: HostRuntime) -> Result<(), Fail> {
 #[test]
 fn refused_memory_is_told(rt: HostRuntime) {
     match Recorder::new(rt.alloc(), 1_024) {
-        Ok(recorder) => holds!(rt; recorder.bytes().is_empty()),
-        Err(fault) => same!(rt; fault, RecorderFault::Memory),
+        Ok(recorder) => holds!(&rt; recorder.bytes().is_empty()),
+        Err(fault) => same!(&rt; fault, RecorderFault::Memory),
     }
     match Demo::read(rt.alloc(), &RECORDED) {
         Ok(demo) => {
-            same!(rt; demo.tics(), 2);
+            same!(&rt; demo.tics(), 2);
             match upgrade(rt.alloc(), &demo, 1_024) {
-                Ok(recorder) => same!(rt; recorder.bytes(), RECORDED.as_slice()),
-                Err(fault) => same!(rt; fault, UpgradeFault::Memory),
+                Ok(recorder) => same!(&rt; recorder.bytes(), RECORDED.as_slice()),
+                Err(fault) => same!(&rt; fault, UpgradeFault::Memory),
             }
         }
-        Err(fault) => same!(rt; fault, DemoFault::Memory),
+        Err(fault) => same!(&rt; fault, DemoFault::Memory),
     }
 }

@@ -2,19 +2,10 @@
 
 ghost use Rattle.std.specs.Prelude.{◌<◌};
 
-use super::{PLAYED, RECORDED, moved};
+use super::{PLAYED, RECORDED, two_tics};
 use dn_demo::Feed;
-use dn_tic::Move;
 use dn_world::Walk;
 use std::process::Abort;
-
-/// The rows of both demos.
-fn rows() -> [[Option<Move>; 4]; 2] {
-    [
-        [moved(50, 0, 0, 0), moved(0, 0, 256, 0), None, None],
-        [moved(-50, 0, 0, 1), moved(25, 24, 16_384, 0), None, None],
-    ]
-}
 
 /// Feeds a piece of a small demo whose tics end behind `ends` bytes: the rows that end in it are told one
 /// after the other, each at its end.
@@ -25,7 +16,7 @@ fn tells(rt: &impl Abort, feed: &mut Feed<Walk>, piece: &[u8], ends: [u64; 2]) {
         let (row, behind) = feed.next_row(rest);
         rest = behind;
         if row.is_some() {
-            same!(rt; row, rows().get(tic as usize).copied());
+            same!(rt; row, two_tics().get(tic as usize).copied());
             same!(rt; Some(feed.taken()), ends.get(tic as usize).copied());
             same!(rt; feed.tics().checked_sub(1), Some(tic));
         } else {
@@ -47,10 +38,10 @@ fn rows_are_told_as_they_end(rt: HostRuntime) {
             for piece in demo.chunks(length) {
                 tells(&rt, &mut feed, piece, ends);
             }
-            same!(rt; feed.tics(), 2);
+            same!(&rt; feed.tics(), 2);
             tells(&rt, &mut feed, &[7; 40], ends);
             let end = feed.end().ok();
-            same!(rt; end.map(|fed| (fed.tics, fed.cut, fed.after)), Some((2, 0, 40)));
+            same!(&rt; end.map(|fed| (fed.tics, fed.cut, fed.after)), Some((2, 0, 40)));
         }
     }
 }
@@ -59,9 +50,9 @@ fn rows_are_told_as_they_end(rt: HostRuntime) {
 fn no_bytes_end_no_row(rt: HostRuntime) {
     let mut feed = Feed::new(Walk::new());
     let (row, rest) = feed.next_row(&[]);
-    same!(rt; (row, rest.len(), feed.taken()), (None, 0, 0));
+    same!(&rt; (row, rest.len(), feed.taken()), (None, 0, 0));
     let (row, rest) = feed.next_row(&PLAYED[..20]);
-    same!(rt; (row, rest.len(), feed.tics()), (None, 0, 0));
+    same!(&rt; (row, rest.len(), feed.tics()), (None, 0, 0));
 }
 
 /// A cut row is not told, nor are bytes behind a header that is refused.
@@ -76,7 +67,7 @@ fn what_is_no_row_is_not_told(rt: HostRuntime) {
     for bytes in [other, nobody, cut] {
         let mut feed = Feed::new(Walk::new());
         let (row, rest) = feed.next_row(&bytes);
-        same!(rt; (row, rest.len()), (None, 0));
-        same!(rt; (feed.tics(), feed.taken()), (0, 30));
+        same!(&rt; (row, rest.len()), (None, 0));
+        same!(&rt; (feed.tics(), feed.taken()), (0, 30));
     }
 }

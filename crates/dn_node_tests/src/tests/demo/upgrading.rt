@@ -14,13 +14,13 @@ fn demos_of_both_versions_are_upgraded(rt: HostRuntime) -> Result<(), Fail> {
     for bytes in [PLAYED.as_slice(), longer.as_slice(), RECORDED.as_slice()] {
         let demo = Demo::read(rt.alloc(), bytes)?;
         let recorder = upgrade(rt.alloc(), &demo, 1_024)?;
-        same!(rt; recorder.bytes(), RECORDED.as_slice());
+        same!(&rt; recorder.bytes(), RECORDED.as_slice());
         let again = Demo::read(rt.alloc(), recorder.bytes())?;
-        same!(rt; again.version(), 111);
+        same!(&rt; again.version(), 111);
         let (mut before, mut after) = (Walk::new(), Walk::new());
-        same!(rt; play(&demo, &mut before), play(&again, &mut after));
+        same!(&rt; play(&demo, &mut before), play(&again, &mut after));
         for player in 0..4 {
-            same!(rt; place(&after, player), place(&before, player), player);
+            same!(&rt; place(&after, player), place(&before, player), player);
         }
     }
     Ok(())
@@ -38,7 +38,7 @@ fn flags_of_players_are_written_as_one(rt: HostRuntime) -> Result<(), Fail> {
     ];
     let demo = Demo::read(rt.alloc(), &bytes)?;
     let recorder = upgrade(rt.alloc(), &demo, 1_024)?;
-    same!(rt; recorder.bytes(), upgraded.as_slice());
+    same!(&rt; recorder.bytes(), upgraded.as_slice());
     Ok(())
 }
 
@@ -51,7 +51,7 @@ fn upgrades_are_refused_in_order(rt: HostRuntime) -> Result<(), Fail> {
     bytes[10] = 1;
     bytes[829] = 0x80;
     let demo = Demo::read(rt.alloc(), &bytes)?;
-    same!(rt; demo.tics(), 102);
+    same!(&rt; demo.tics(), 102);
     for (limit, fault) in [
         (0, Some(UpgradeFault::Limit)),
         (1_023, Some(UpgradeFault::Limit)),
@@ -61,7 +61,7 @@ fn upgrades_are_refused_in_order(rt: HostRuntime) -> Result<(), Fail> {
         (1_034, None),
     ] {
         let upgraded = upgrade(rt.alloc(), &demo, limit);
-        same!(rt; upgraded.err(), fault, limit);
+        same!(&rt; upgraded.err(), fault, limit);
     }
     Ok(())
 }

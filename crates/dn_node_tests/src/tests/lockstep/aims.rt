@@ -1,10 +1,9 @@
 //! Tests of the exact numbers of the next packet, beside its bytes.
 
 use super::stages::{Stage, at};
-use super::{FORWARD, NO_KEYS, datagram, hears, pair, pass, tics};
+use super::{FORWARD, NO_KEYS, build, datagram, hears, pair, pass, quit, received, tics};
 use dn_lockstep::{Aim, Heard, Lockstep};
 use dn_packet::{EXIT, RETRANSMIT, SETUP};
-use dn_tic::Keys;
 use std::process::Abort;
 use std::test::Fail;
 
@@ -47,11 +46,11 @@ fn who_has_no_packet_has_no_numbers(rt: HostRuntime) -> Result<(), Fail> {
     ] {
         let mut node = at(rt.alloc(), stage)?;
         for (to, there) in (0..4u8).zip(peers) {
-            same!(rt; node.aim(to).is_some(), there, (stage, to));
-            same!(rt; node.packet(to).is_some(), there, (stage, to));
+            same!(&rt; node.aim(to).is_some(), there, (stage, to));
+            same!(&rt; node.packet(to).is_some(), there, (stage, to));
         }
-        same!(rt; node.aim(255), None, stage);
-        holds!(rt; node.packet(255).is_none(), stage);
+        same!(&rt; node.aim(255), None, stage);
+        holds!(&rt; node.packet(255).is_none(), stage);
     }
     Ok(())
 }
@@ -70,16 +69,16 @@ fn set_up_has_no_numbers(rt: HostRuntime) -> Result<(), Fail> {
 fn commands_have_their_tics(rt: HostRuntime) -> Result<(), Fail> {
     let (mut key, mut other) = pair(rt.alloc(), true)?;
     agree(&rt, &mut key, 1, numbers(0, None, 0, 0));
-    let _ = key.build(Keys::from_bits(FORWARD));
+    let _ = build(&mut key, FORWARD);
     agree(&rt, &mut key, 1, numbers(0, None, 0, 1));
-    let _ = key.build(Keys::from_bits(FORWARD));
+    let _ = build(&mut key, FORWARD);
     agree(&rt, &mut key, 1, numbers(0, None, 0, 2));
     agree(&rt, &mut key, 1, numbers(0, None, 1, 1));
     hears(&rt, &mut key, 1, (0, (0, 3, 1), &[]), Heard::Gap);
     agree(&rt, &mut key, 1, numbers(RETRANSMIT, Some(0), 1, 1));
     agree(&rt, &mut key, 1, numbers(RETRANSMIT, Some(0), 1, 1));
-    let _ = other.build(Keys::from_bits(NO_KEYS));
-    same!(rt; pass(&mut other, &mut key), Some(Heard::Taken(1)));
+    let _ = build(&mut other, NO_KEYS);
+    same!(&rt; pass(&mut other, &mut key), Some(Heard::Taken(1)));
     agree(&rt, &mut key, 1, numbers(0, None, 1, 1));
     Ok(())
 }
@@ -89,16 +88,16 @@ fn commands_have_their_tics(rt: HostRuntime) -> Result<(), Fail> {
 fn numbers_are_exact(rt: HostRuntime) -> Result<(), Fail> {
     let (mut key, mut other) = pair(rt.alloc(), false)?;
     tics(&mut key, &mut other, 520, (FORWARD, NO_KEYS));
-    let _ = key.build(Keys::from_bits(FORWARD));
+    let _ = build(&mut key, FORWARD);
     agree(&rt, &mut key, 1, numbers(0, None, 520, 1));
     // a gap at 521, which asks for 512
     let gap = datagram(RETRANSMIT, (0, 9, 1), &[]);
-    same!(rt; key.receive(1, gap.as_slice()), Heard::Gap);
+    same!(&rt; received(&mut key, 1, gap.as_slice()), Heard::Gap);
     agree(&rt, &mut key, 1, numbers(RETRANSMIT, Some(520), 512, 9));
     let (mut key, mut other) = pair(rt.alloc(), false)?;
     tics(&mut key, &mut other, 520, (FORWARD, NO_KEYS));
     let asks = datagram(RETRANSMIT, (255, 8, 1), &[]);
-    same!(rt; key.receive(1, asks.as_slice()), Heard::Stale);
+    same!(&rt; received(&mut key, 1, asks.as_slice()), Heard::Stale);
     agree(&rt, &mut key, 1, numbers(0, None, 511, 9));
     Ok(())
 }
@@ -110,10 +109,10 @@ fn who_left_tells_it_with_each_packet(rt: HostRuntime) -> Result<(), Fail> {
         let (mut key, mut other) = pair(rt.alloc(), extra)?;
         tics(&mut key, &mut other, 300, (FORWARD, NO_KEYS));
         for _ in 0..3 {
-            let _ = key.build(Keys::from_bits(FORWARD));
+            let _ = build(&mut key, FORWARD);
         }
         hears(&rt, &mut key, 1, (0, (0, 45, 1), &[]), Heard::Gap);
-        holds!(rt; key.quit());
+        holds!(&rt; quit(&mut key));
         agree(&rt, &mut key, 1, numbers(EXIT, None, first.0, first.1));
         for _ in 0..20 {
             agree(&rt, &mut key, 1, numbers(EXIT, None, next.0, next.1));

@@ -1,7 +1,7 @@
 //! Tests of what a node answers to datagrams: each test that a datagram meets, and which comes first.
 
 use super::stages::{STOP, Stage, at};
-use super::{STILL, hears};
+use super::{STILL, hears, received};
 use dn_lockstep::{Heard, Lockstep};
 use dn_packet::{EXIT, KILL, RETRANSMIT, SETUP};
 use dn_tic::TicCmd;
@@ -37,7 +37,7 @@ fn answers(
 /// Hands a node no bytes, a plain packet and a set-up packet, all of a sender who is no peer.
 fn drops_all_of(rt: &impl Abort, node: &mut Lockstep, from: u8) {
     let stranger = Heard::Dropped(5);
-    same!(rt; node.receive(from, &[]), stranger, from);
+    same!(rt; received(node, from, &[]), stranger, from);
     hears(rt, node, from, (0, (0, 0, from), &[]), stranger);
     hears(rt, node, from, (SETUP, (2, 65, 111), &[]), stranger);
 }
@@ -62,7 +62,7 @@ fn drops(
     number: u8,
 ) -> Result<(), Fail> {
     let mut node = at(alloc, stage)?;
-    same!(rt; node.receive(2, bytes), Heard::Dropped(number), (stage, bytes));
+    same!(rt; received(&mut node, 2, bytes), Heard::Dropped(number), (stage, bytes));
     Ok(())
 }
 
@@ -151,8 +151,8 @@ fn before_the_game_nothing_is_taken(rt: HostRuntime) -> Result<(), Fail> {
 
 #[test]
 fn a_playing_node_takes_what_comes_next(rt: HostRuntime) -> Result<(), Fail> {
-    let stop = [STOP; 12];
-    let still = [STILL; 12];
+    let (stop, one_stop) = ([STOP; 12], [STOP]);
+    let (still, one, three, eleven) = ([STILL; 12], [STILL], [STILL; 3], [STILL; 11]);
     let rows: [(u8, (u8, u8, u8), &[TicCmd], Heard); 31] = [
         (0, (0, 0, 0), &[], Heard::Dropped(5)),
         (0, (0, 0, 1), &[], Heard::Dropped(5)),
@@ -160,19 +160,19 @@ fn a_playing_node_takes_what_comes_next(rt: HostRuntime) -> Result<(), Fail> {
         (KILL, (0, 0, 1), &[], Heard::Dropped(5)),
         (EXIT, (0, 0, 1), &[], Heard::Dropped(5)),
         (EXIT, (0, 0, 2), &[], Heard::Left),
-        (EXIT, (0, 0, 2), &still[..3], Heard::Left),
+        (EXIT, (0, 0, 2), &three, Heard::Left),
         (EXIT + RETRANSMIT, (77, 0, 2), &still, Heard::Left),
         (EXIT, (0, 12, 2), &[], Heard::Gap),
-        (EXIT, (0, 1, 2), &still[..1], Heard::Gap),
+        (EXIT, (0, 1, 2), &one, Heard::Gap),
         (EXIT + KILL, (0, 0, 2), &[], Heard::Dropped(9)),
         (EXIT + RETRANSMIT, (9, 255, 2), &stop, Heard::Dropped(10)),
-        (EXIT, (0, 0, 2), &stop[..1], Heard::Dropped(11)),
+        (EXIT, (0, 0, 2), &one_stop, Heard::Dropped(11)),
         (EXIT, (0, 13, 2), &[], Heard::Dropped(12)),
         (KILL, (0, 0, 2), &[], Heard::Dropped(9)),
         (KILL + RETRANSMIT, (0, 255, 2), &stop, Heard::Dropped(9)),
         (0, (0, 255, 2), &[], Heard::Dropped(10)),
         (RETRANSMIT, (0, 65, 2), &stop, Heard::Dropped(10)),
-        (0, (0, 0, 2), &stop[..1], Heard::Dropped(11)),
+        (0, (0, 0, 2), &one_stop, Heard::Dropped(11)),
         (0, (0, 64, 2), &stop, Heard::Dropped(11)),
         (0, (0, 1, 2), &still, Heard::Dropped(12)),
         (0, (0, 13, 2), &[], Heard::Dropped(12)),
@@ -181,10 +181,10 @@ fn a_playing_node_takes_what_comes_next(rt: HostRuntime) -> Result<(), Fail> {
         (RETRANSMIT, (0, 0, 2), &[], Heard::Stale),
         (0, (0, 1, 2), &[], Heard::Gap),
         (0, (0, 12, 2), &[], Heard::Gap),
-        (0, (0, 1, 2), &still[..11], Heard::Gap),
-        (0, (0, 0, 2), &still[..1], Heard::Taken(1)),
+        (0, (0, 1, 2), &eleven, Heard::Gap),
+        (0, (0, 0, 2), &one, Heard::Taken(1)),
         (0, (0, 0, 2), &still, Heard::Taken(12)),
-        (RETRANSMIT, (77, 0, 2), &still[..3], Heard::Taken(3)),
+        (RETRANSMIT, (77, 0, 2), &three, Heard::Taken(3)),
     ];
     for (flags, numbers, commands, answer) in rows {
         let packet = (flags, numbers, commands);

@@ -1,15 +1,14 @@
 //! Tests of the commands that a node builds from keys.
 
-use super::{FORWARD, IDLE, LEFT, NO_KEYS, RIGHT, SPEED, STILL, hears, pair, pass, run, tic};
-use crate::tests::{ATTACK, BACK, STRAFE, STRAFE_LEFT, STRAFE_RIGHT, USE, WEAPONS};
+use super::{
+    FORWARD, IDLE, LEFT, NO_KEYS, RIGHT, SPEED, STILL, build, given, hears, pair, pass, quit,
+    received, run, tic,
+};
+use crate::tests::{STRAFE, built};
 use dn_lockstep::{Heard, Lockstep, Made, Ran};
-use dn_tic::{Keys, Move};
+use dn_tic::Move;
 use std::process::Abort;
 use std::test::Fail;
-
-fn build(node: &mut Lockstep, keys: u32) -> Made {
-    node.build(Keys::from_bits(keys))
-}
 
 /// Five builds are answered with their tics, and no sixth.
 fn fills(rt: &impl Abort, node: &mut Lockstep) {
@@ -26,18 +25,18 @@ fn five_commands_may_wait(rt: HostRuntime) -> Result<(), Fail> {
     let (mut key, mut other) = pair(rt.alloc(), false)?;
     fills(&rt, &mut key);
     fills(&rt, &mut other);
-    same!(rt; tic(&mut key, &mut other, IDLE), (Ran::Ran(0), Ran::Ran(0)));
-    same!(rt; build(&mut key, NO_KEYS), Made::Made(5));
-    same!(rt; build(&mut key, NO_KEYS), Made::Full);
-    holds!(rt; key.quit());
-    same!(rt; build(&mut key, NO_KEYS), Made::NotPlaying);
-    same!(rt; key.made(), 6);
+    same!(&rt; tic(&mut key, &mut other, IDLE), (Ran::Ran(0), Ran::Ran(0)));
+    same!(&rt; build(&mut key, NO_KEYS), Made::Made(5));
+    same!(&rt; build(&mut key, NO_KEYS), Made::Full);
+    holds!(&rt; quit(&mut key));
+    same!(&rt; build(&mut key, NO_KEYS), Made::NotPlaying);
+    same!(&rt; key.made(), 6);
     Ok(())
 }
 
 /// The eight bytes of the one command of the next packet.
 fn carried(rt: &impl Abort, node: &mut Lockstep) -> Result<[u8; 8], Fail> {
-    let bytes = node.packet(1).ok_or("no packet")?;
+    let bytes = given(node, 1)?;
     assert_eq!(rt; bytes.len(), 16);
     let mut command = [0; 8];
     command.copy_from_slice(&bytes.as_slice()[8..16]);
@@ -46,45 +45,10 @@ fn carried(rt: &impl Abort, node: &mut Lockstep) -> Result<[u8; 8], Fail> {
 
 #[test]
 fn keys_make_commands(rt: HostRuntime) -> Result<(), Fail> {
-    let rows: [(u32, [u8; 8]); 22] = [
-        (NO_KEYS, [0; 8]),
-        (FORWARD, [25, 0, 0, 0, 0, 0, 0, 0]),
-        (FORWARD | SPEED, [50, 0, 0, 0, 0, 0, 0, 0]),
-        (BACK, [231, 0, 0, 0, 0, 0, 0, 0]),
-        (BACK | SPEED, [206, 0, 0, 0, 0, 0, 0, 0]),
-        (FORWARD | BACK, [0; 8]),
-        (LEFT, [0, 0, 64, 1, 0, 0, 0, 0]),
-        (RIGHT, [0, 0, 192, 254, 0, 0, 0, 0]),
-        (RIGHT | SPEED, [0, 0, 192, 254, 0, 0, 0, 0]),
-        (LEFT | RIGHT, [0; 8]),
-        (STRAFE_LEFT, [0, 232, 0, 0, 0, 0, 0, 0]),
-        (STRAFE_RIGHT | SPEED, [0, 40, 0, 0, 0, 0, 0, 0]),
-        (STRAFE | RIGHT, [0, 24, 0, 0, 0, 0, 0, 0]),
-        (STRAFE | LEFT, [0, 232, 0, 0, 0, 0, 0, 0]),
-        (STRAFE | RIGHT | STRAFE_RIGHT, [0, 48, 0, 0, 0, 0, 0, 0]),
-        (
-            STRAFE | RIGHT | STRAFE_RIGHT | SPEED,
-            [0, 50, 0, 0, 0, 0, 0, 0],
-        ),
-        (
-            STRAFE | LEFT | STRAFE_LEFT | SPEED,
-            [0, 206, 0, 0, 0, 0, 0, 0],
-        ),
-        (STRAFE | LEFT | STRAFE_RIGHT, [0; 8]),
-        (ATTACK, [0, 0, 0, 0, 0, 0, 0, 1]),
-        (USE, [0, 0, 0, 0, 0, 0, 0, 2]),
-        (ATTACK | USE | FORWARD, [25, 0, 0, 0, 0, 0, 0, 3]),
-        (WEAPONS[2] | WEAPONS[6], [0, 0, 0, 0, 0, 0, 0, 20]),
-    ];
-    for (keys, bytes) in rows {
+    for (keys, bytes) in built() {
         let (mut key, _) = pair(rt.alloc(), false)?;
-        same!(rt; build(&mut key, keys), Made::Made(0));
-        same!(rt; carried(&rt, &mut key)?, bytes, keys);
-    }
-    for (weapon, buttons) in WEAPONS.into_iter().zip([4, 12, 20, 28, 36, 44, 52, 60]) {
-        let (mut key, _) = pair(rt.alloc(), false)?;
-        same!(rt; build(&mut key, weapon), Made::Made(0));
-        same!(rt; carried(&rt, &mut key)?, [0, 0, 0, 0, 0, 0, 0, buttons]);
+        same!(&rt; build(&mut key, keys), Made::Made(0));
+        same!(&rt; carried(&rt, &mut key)?, bytes, keys);
     }
     Ok(())
 }
@@ -122,10 +86,10 @@ fn turns_are_fast_from_the_sixth_on(rt: HostRuntime) -> Result<(), Fail> {
     ] {
         let (mut key, _) = pair(rt.alloc(), false)?;
         for turn in [slow, slow, slow, slow, slow, fast, fast] {
-            same!(rt; turn_of(alone(&rt, &mut key, keys)?), turn, keys);
+            same!(&rt; turn_of(alone(&rt, &mut key, keys)?), turn, keys);
             let [low, high] = turn.to_le_bytes();
             let row = [0, 0, low, high, 0, 0, 0, 0, 0, 0];
-            holds!(rt; key.demo().ends_with(&row), (keys, turn));
+            holds!(&rt; key.demo().ends_with(&row), (keys, turn));
         }
     }
     Ok(())
@@ -145,8 +109,18 @@ fn letting_go_begins_again(rt: HostRuntime) -> Result<(), Fail> {
         (FORWARD, 0),
         (RIGHT, -320),
     ] {
-        same!(rt; turn_of(alone(&rt, &mut key, keys)?), turn, keys);
+        same!(&rt; turn_of(alone(&rt, &mut key, keys)?), turn, keys);
     }
+    Ok(())
+}
+
+/// A node with five commands runs this tic, and builds a turn to the right.
+fn turns_right(rt: &impl Abort, node: &mut Lockstep, tic: u8, turn: i16) -> Result<(), Fail> {
+    hears(rt, node, 1, (0, (0, tic, 1), &[STILL]), Heard::Taken(1));
+    let number = u32::from(tic);
+    same!(rt; run(node), Ran::Ran(number));
+    same!(rt; build(node, RIGHT), Made::Made(number + 5));
+    same!(rt; turn_of(carried(rt, node)?), turn, tic);
     Ok(())
 }
 
@@ -159,29 +133,24 @@ fn a_full_build_leaves_the_hold(rt: HostRuntime) -> Result<(), Fail> {
         (NO_KEYS, NO_KEYS, RIGHT, [-320, -320]),
     ] {
         let (mut key, _) = pair(rt.alloc(), false)?;
-        same!(rt; build(&mut key, first), Made::Made(0));
+        same!(&rt; build(&mut key, first), Made::Made(0));
         for tic in 1..5 {
-            same!(rt; build(&mut key, rest), Made::Made(tic));
+            same!(&rt; build(&mut key, rest), Made::Made(tic));
         }
         for _ in 0..7 {
-            same!(rt; build(&mut key, full), Made::Full);
+            same!(&rt; build(&mut key, full), Made::Full);
         }
-        let sent = key.packet(1).ok_or("no packet")?;
-        same!(rt; sent.len(), 48);
-        for (tic, turn) in [(0u8, turns[0]), (1u8, turns[1])] {
-            hears(
-                &rt,
-                &mut key,
-                1,
-                (0, (0, tic, 1), &[STILL]),
-                Heard::Taken(1),
-            );
-            same!(rt; run(&mut key), Ran::Ran(u32::from(tic)));
-            same!(rt; build(&mut key, RIGHT), Made::Made(u32::from(tic) + 5));
-            same!(rt; turn_of(carried(&rt, &mut key)?), turn, tic);
-        }
+        let sent = given(&mut key, 1)?;
+        same!(&rt; sent.len(), 48);
+        turns_right(&rt, &mut key, 0, turns[0])?;
+        turns_right(&rt, &mut key, 1, turns[1])?;
     }
     Ok(())
+}
+
+/// How many bytes of the next packet are written to this room.
+fn written(node: &mut Lockstep, to: u8, room: &mut [u8; 106]) -> usize {
+    node.packet_to(to, room)
 }
 
 #[test]
@@ -190,15 +159,15 @@ fn a_packet_is_written_to_the_front_of_a_room(rt: HostRuntime) -> Result<(), Fai
     let (mut same, _) = pair(rt.alloc(), false)?;
     let mut room = [7; 106];
     // nothing for itself, nor for nobody
-    same!(rt; (key.packet_to(0, &mut room), key.packet_to(2, &mut room)), (0, 0));
-    same!(rt; room, [7; 106]);
-    same!(rt; (build(&mut key, FORWARD), build(&mut same, FORWARD)), (Made::Made(0), Made::Made(0)));
-    let size = key.packet_to(1, &mut room);
-    let packet = same.packet(1).ok_or("no packet")?;
-    same!(rt; size, 16);
-    same!(rt; room.get(..16), Some(packet.as_slice()));
-    same!(rt; room.get(16..), Some([7; 90].as_slice()));
-    same!(rt; other.receive(0, &room[..16]), Heard::Taken(1));
+    same!(&rt; (written(&mut key, 0, &mut room), written(&mut key, 2, &mut room)), (0, 0));
+    same!(&rt; room, [7; 106]);
+    same!(&rt; (build(&mut key, FORWARD), build(&mut same, FORWARD)), (Made::Made(0), Made::Made(0)));
+    let size = written(&mut key, 1, &mut room);
+    let packet = given(&mut same, 1)?;
+    same!(&rt; size, 16);
+    same!(&rt; room.get(..16), Some(packet.as_slice()));
+    same!(&rt; room.get(16..), Some([7; 90].as_slice()));
+    same!(&rt; received(&mut other, 0, &room[..16]), Heard::Taken(1));
     Ok(())
 }
 
@@ -207,16 +176,16 @@ fn a_row_is_filled_in_where_a_tic_is_run(rt: HostRuntime) -> Result<(), Fail> {
     let (mut key, mut other) = pair(rt.alloc(), false)?;
     let marked = [Some(Move::default()), None, Some(Move::default()), None];
     let mut row = marked;
-    same!(rt; key.run_into(&[0; 4], &mut row), Ran::Waiting(0));
-    same!(rt; row, marked);
+    same!(&rt; key.run_into(&[0; 4], &mut row), Ran::Waiting(0));
+    same!(&rt; row, marked);
     let _ = tic(&mut key, &mut other, (FORWARD, NO_KEYS));
-    same!(rt; other.ran(), 1);
+    same!(&rt; other.ran(), 1);
     let _ = build(&mut key, FORWARD);
     let _ = build(&mut other, NO_KEYS);
     let _ = pass(&mut other, &mut key);
-    same!(rt; key.run_into(&[0; 4], &mut row), Ran::Ran(1));
-    same!(rt; row[0].map(|step| step.forward), Some(25));
-    same!(rt; row[1].map(|step| step.forward), Some(0));
-    same!(rt; (row[2].is_none(), row[3].is_none()), (true, true));
+    same!(&rt; key.run_into(&[0; 4], &mut row), Ran::Ran(1));
+    same!(&rt; row[0].map(|step| step.forward), Some(25));
+    same!(&rt; row[1].map(|step| step.forward), Some(0));
+    same!(&rt; (row[2].is_none(), row[3].is_none()), (true, true));
     Ok(())
 }

@@ -1,7 +1,7 @@
 //! Tests that a dropped datagram changes nothing.
 
 use super::stages::{STOP, Stage, at};
-use super::{IDLE, STILL, datagram, hears, pair, tics};
+use super::{IDLE, STILL, datagram, given, hears, pair, received, tics};
 use arrayvec::ArrayVec;
 use dn_lockstep::{Aim, Heard, Lockstep, Phase};
 use dn_packet::{EXIT, KILL, RETRANSMIT, SETUP};
@@ -37,7 +37,7 @@ fn told(node: &Lockstep) -> Readings {
 /// Hands a node a datagram that it has to drop, and compares what it tells before and after.
 fn drops(rt: &impl Abort, node: &mut Lockstep, from: u8, bytes: &[u8], number: u8) {
     let before = told(node);
-    same!(rt; node.receive(from, bytes), Heard::Dropped(number), bytes);
+    same!(rt; received(node, from, bytes), Heard::Dropped(number), bytes);
     same!(rt; told(node), before, bytes);
 }
 
@@ -128,9 +128,9 @@ fn in_the_game_nothing_is_changed(rt: HostRuntime) -> Result<(), Fail> {
         refuses(&rt, &mut key, from, (flags, numbers, commands), number);
     }
     // a request that was dropped is not met: nothing goes out again
-    let packet = key.packet(1).ok_or("no packet")?;
+    let packet = given(&mut key, 1)?;
     let empty: [u8; 8] = [0x67, 0x49, 0x23, 0x01, 0, 4, 0, 0];
-    same!(rt; packet.as_slice(), empty.as_slice());
+    same!(&rt; packet.as_slice(), empty.as_slice());
     Ok(())
 }
 
@@ -147,11 +147,8 @@ fn the_next_packet_is_the_same(rt: HostRuntime) -> Result<(), Fail> {
     }
     drops(&rt, &mut key, 1, wrong.as_slice(), 3);
     refuses(&rt, &mut key, 1, (RETRANSMIT, (9, 15, 1), &[STILL; 12]), 12);
-    let (next, again) = (
-        key.packet(1).ok_or("no packet")?,
-        key_again.packet(1).ok_or("no packet")?,
-    );
-    same!(rt; next.as_slice(), again.as_slice());
-    same!(rt; key.demo(), key_again.demo());
+    let (next, again) = (given(&mut key, 1)?, given(&mut key_again, 1)?);
+    same!(&rt; next.as_slice(), again.as_slice());
+    same!(&rt; key.demo(), key_again.demo());
     Ok(())
 }

@@ -1,7 +1,7 @@
 //! Tests of nodes that have left: what they hear, and what they give.
 
 use super::stages::{STOP, Stage, at};
-use super::{IDLE, STILL, hears, pair, tics};
+use super::{IDLE, STILL, hears, pair, quit, tics};
 use dn_lockstep::{Aim, Heard, Lockstep, Phase};
 use dn_packet::{EXIT, KILL, RETRANSMIT, SETUP};
 use dn_tic::TicCmd;
@@ -34,7 +34,7 @@ fn a_leaver_hears_who_plays_on(rt: HostRuntime) -> Result<(), Fail> {
     for (flags, numbers, commands, answer) in rows {
         let mut node = at(rt.alloc(), Stage::Leaver)?;
         hears(&rt, &mut node, 2, (flags, numbers, commands), answer);
-        same!(rt; (node.got(2), node.end(2)), (Some(0), None), (flags, numbers));
+        same!(&rt; (node.got(2), node.end(2)), (Some(0), None), (flags, numbers));
     }
     Ok(())
 }
@@ -69,7 +69,7 @@ fn sends(rt: &impl Abort, node: &mut Lockstep, start: u32, count: u8) {
 fn a_leaver_answers_requests(rt: HostRuntime) -> Result<(), Fail> {
     let (mut key, mut other) = pair(rt.alloc(), false)?;
     tics(&mut key, &mut other, 30, IDLE);
-    holds!(rt; key.quit());
+    holds!(&rt; quit(&mut key));
     ask(&rt, &mut key, 17);
     sends(&rt, &mut key, 30, 0);
     ask(&rt, &mut key, 18);
@@ -80,8 +80,8 @@ fn a_leaver_answers_requests(rt: HostRuntime) -> Result<(), Fail> {
     }
     ask(&rt, &mut key, 20);
     sends(&rt, &mut key, 20, 10);
-    same!(rt; (key.made(), key.ran()), (30, 30));
-    same!(rt; key.end(0), Some(30));
+    same!(&rt; (key.made(), key.ran()), (30, 30));
+    same!(&rt; key.end(0), Some(30));
     Ok(())
 }
 
@@ -98,9 +98,9 @@ fn a_node_tells_its_own_end(rt: HostRuntime) -> Result<(), Fail> {
     ] {
         let node = at(rt.alloc(), stage)?;
         let me = node.me();
-        same!(rt; node.end(me), end, stage);
-        same!(rt; node.end(2), None, stage);
-        same!(rt; (node.end(3), node.end(255)), (None, None), stage);
+        same!(&rt; node.end(me), end, stage);
+        same!(&rt; node.end(2), None, stage);
+        same!(&rt; (node.end(3), node.end(255)), (None, None), stage);
     }
     Ok(())
 }
@@ -139,8 +139,8 @@ fn an_end_stays(rt: HostRuntime) -> Result<(), Fail> {
         let still = [STILL; 3];
         let commands = still.get(..count).ok_or("too many")?;
         hears(&rt, &mut key, 1, (flags, (0, start, 1), commands), answer);
-        same!(rt; key.end(1), end, (flags, start, count));
+        same!(&rt; key.end(1), end, (flags, start, count));
     }
-    same!(rt; (key.got(1), key.phase()), (Some(7), Phase::Playing));
+    same!(&rt; (key.got(1), key.phase()), (Some(7), Phase::Playing));
     Ok(())
 }

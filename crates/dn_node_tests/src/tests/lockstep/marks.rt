@@ -1,18 +1,17 @@
 //! Tests of the marks that a caller hands in, and of the rows that it is told.
 
-use super::{FORWARD, IDLE, NO_KEYS, SPEED, pair, pass, tics};
+use super::{FORWARD, IDLE, NO_KEYS, SPEED, build, given, pair, pass, quit, received, tics};
 use dn_lockstep::{Cause, Heard, Lockstep, Phase, Ran};
 use dn_packet::decode;
-use dn_tic::Keys;
 use std::process::Abort;
 use std::test::Fail;
 
 /// Builds on both, and passes both their packets. The answer is the mark of the first one's command.
 fn exchange(rt: &impl Abort, key: &mut Lockstep, other: &mut Lockstep) -> Result<i16, Fail> {
-    let _ = key.build(Keys::from_bits(FORWARD | SPEED));
-    let _ = other.build(Keys::from_bits(NO_KEYS));
-    let bytes = key.packet(1).ok_or("no packet")?;
-    same!(rt; other.receive(0, bytes.as_slice()), Heard::Taken(1));
+    let _ = build(key, FORWARD | SPEED);
+    let _ = build(other, NO_KEYS);
+    let bytes = given(key, 1)?;
+    same!(rt; received(other, 0, bytes.as_slice()), Heard::Taken(1));
     same!(rt; pass(other, key), Some(Heard::Taken(1)));
     let packet = decode(bytes.as_slice())?;
     Ok(packet.cmds.as_slice().first().ok_or("no command")?.mark)
@@ -24,11 +23,11 @@ fn marks_come_back_twelve_tics_on(rt: HostRuntime) -> Result<(), Fail> {
     let (mut key, mut other) = pair(rt.alloc(), false)?;
     for tic in 0i16..30 {
         let carried = exchange(&rt, &mut key, &mut other)?;
-        same!(rt; carried, if tic < 12 { 0 } else { 1_000 + tic - 12 }, tic);
+        same!(&rt; carried, if tic < 12 { 0 } else { 1_000 + tic - 12 }, tic);
         let marks = [1_000 + tic, -2_000 - tic, 3, 4];
         let number = tic.unsigned_abs().into();
-        same!(rt; key.run(&marks).0, Ran::Ran(number));
-        same!(rt; other.run(&marks).0, Ran::Ran(number));
+        same!(&rt; key.run(&marks).0, Ran::Ran(number));
+        same!(&rt; other.run(&marks).0, Ran::Ran(number));
     }
     Ok(())
 }
@@ -40,8 +39,8 @@ fn other_marks_end_it(rt: HostRuntime) -> Result<(), Fail> {
     for tic in 0..17 {
         let _ = exchange(&rt, &mut key, &mut other)?;
         let off = if tic == 5 { 8 } else { 7 };
-        same!(rt; key.run(&[7, off, 0, 0]).0, Ran::Ran(tic));
-        same!(rt; other.run(&[7; 4]).0, Ran::Ran(tic));
+        same!(&rt; key.run(&[7, off, 0, 0]).0, Ran::Ran(tic));
+        same!(&rt; other.run(&[7; 4]).0, Ran::Ran(tic));
     }
     let _ = exchange(&rt, &mut key, &mut other)?;
     let ran = Ran::Inconsistent {
@@ -49,14 +48,14 @@ fn other_marks_end_it(rt: HostRuntime) -> Result<(), Fail> {
         was: 7,
         should: 8,
     };
-    same!(rt; key.run(&[7; 4]), (ran, None));
+    same!(&rt; key.run(&[7; 4]), (ran, None));
     let cause = Cause::Inconsistent {
         player: 1,
         was: 7,
         should: 8,
     };
-    same!(rt; key.phase(), Phase::Ended(cause));
-    same!(rt; other.run(&[7; 4]).0, Ran::Ran(17));
+    same!(&rt; key.phase(), Phase::Ended(cause));
+    same!(&rt; other.run(&[7; 4]).0, Ran::Ran(17));
     Ok(())
 }
 
@@ -65,15 +64,15 @@ fn other_marks_end_it(rt: HostRuntime) -> Result<(), Fail> {
 fn marks_of_the_gone_do_not_matter(rt: HostRuntime) -> Result<(), Fail> {
     let (mut key, mut other) = pair(rt.alloc(), false)?;
     tics(&mut key, &mut other, 20, IDLE);
-    holds!(rt; key.quit());
-    same!(rt; pass(&mut key, &mut other), Some(Heard::Left));
+    holds!(&rt; quit(&mut key));
+    same!(&rt; pass(&mut key, &mut other), Some(Heard::Left));
     for tic in 20i16..50 {
         let number = tic.unsigned_abs().into();
-        let _ = other.build(Keys::from_bits(FORWARD));
+        let _ = build(&mut other, FORWARD);
         let (ran, row) = other.run(&[tic, 0, 0, 0]);
-        same!(rt; ran, Ran::Ran(number));
+        same!(&rt; ran, Ran::Ran(number));
         let row = row.ok_or("no row")?;
-        same!(rt; row.map(|step| step.map(|step| step.forward)), [None, Some(25), None, None]);
+        same!(&rt; row.map(|step| step.map(|step| step.forward)), [None, Some(25), None, None]);
     }
     Ok(())
 }
@@ -82,12 +81,12 @@ fn marks_of_the_gone_do_not_matter(rt: HostRuntime) -> Result<(), Fail> {
 #[test]
 fn no_other_run_tells_a_row(rt: HostRuntime) -> Result<(), Fail> {
     let (mut key, mut other) = pair(rt.alloc(), false)?;
-    same!(rt; key.run(&[0; 4]), (Ran::Waiting(0), None));
+    same!(&rt; key.run(&[0; 4]), (Ran::Waiting(0), None));
     let _ = exchange(&rt, &mut key, &mut other)?;
     let (ran, row) = key.run(&[0; 4]);
-    same!(rt; (ran, row.is_some()), (Ran::Ran(0), true));
-    same!(rt; key.run(&[0; 4]), (Ran::Waiting(0), None));
-    holds!(rt; key.quit());
-    same!(rt; key.run(&[0; 4]), (Ran::NotPlaying, None));
+    same!(&rt; (ran, row.is_some()), (Ran::Ran(0), true));
+    same!(&rt; key.run(&[0; 4]), (Ran::Waiting(0), None));
+    holds!(&rt; quit(&mut key));
+    same!(&rt; key.run(&[0; 4]), (Ran::NotPlaying, None));
     Ok(())
 }

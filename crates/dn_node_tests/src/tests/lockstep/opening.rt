@@ -1,9 +1,8 @@
 //! Tests of how a node is made, and of why there is none.
 
-use super::{LIMIT, choice, run};
+use super::{LIMIT, build, choice, run};
 use dn_lockstep::{Config, Lockstep, Made, NodeFault, Phase, Ran, is_game};
 use dn_setup::Settings;
-use dn_tic::Keys;
 use std::test::Fail;
 
 fn config(players: u8, me: u8, limit: u32, settings: Option<Settings>) -> Config {
@@ -26,7 +25,7 @@ fn two_to_four_may_play(rt: HostRuntime) {
         (5, false),
         (usize::MAX, false),
     ] {
-        same!(rt; is_game(players), may, players);
+        same!(&rt; is_game(players), may, players);
     }
 }
 
@@ -57,7 +56,7 @@ fn the_first_fault_is_told(rt: HostRuntime) -> Result<(), Fail> {
         (4, 3, None, u32::MAX, NodeFault::Limit),
     ] {
         let made = Lockstep::new(rt.alloc(), config(players, me, limit, settings));
-        same!(rt; made.err(), Some(fault), (me, players, limit, settings));
+        same!(&rt; made.err(), Some(fault), (me, players, limit, settings));
     }
     Ok(())
 }
@@ -73,19 +72,19 @@ fn a_node_begins_with_nothing(rt: HostRuntime) -> Result<(), Fail> {
         (4, 3, None, 16_777_216, Phase::Listening),
     ] {
         let mut node = Lockstep::new(rt.alloc(), config(players, me, limit, settings))?;
-        same!(rt; node.me(), me);
-        same!(rt; node.phase(), phase, me);
-        same!(rt; node.settings(), settings, me);
-        same!(rt; (node.made(), node.ran()), (0, 0), me);
+        same!(&rt; node.me(), me);
+        same!(&rt; node.phase(), phase, me);
+        same!(&rt; node.settings(), settings, me);
+        same!(&rt; (node.made(), node.ran()), (0, 0), me);
         for player in 0..=5 {
             let got = (player < players).then_some(0);
-            same!(rt; node.got(player), got, (player, players));
+            same!(&rt; node.got(player), got, (player, players));
         }
-        same!(rt; node.got(255), None);
-        holds!(rt; node.demo().is_empty());
-        same!(rt; node.build(Keys::from_bits(1)), Made::NotPlaying);
-        same!(rt; run(&mut node), Ran::NotPlaying);
-        same!(rt; node.made(), 0);
+        same!(&rt; node.got(255), None);
+        holds!(&rt; node.demo().is_empty());
+        same!(&rt; build(&mut node, 1), Made::NotPlaying);
+        same!(&rt; run(&mut node), Ran::NotPlaying);
+        same!(&rt; node.made(), 0);
     }
     Ok(())
 }
@@ -95,8 +94,8 @@ fn a_node_begins_with_nothing(rt: HostRuntime) -> Result<(), Fail> {
 fn refused_memory_is_told(rt: HostRuntime) -> Result<(), Fail> {
     let settings = Some(choice()?);
     match Lockstep::new(rt.alloc(), config(2, 0, LIMIT, settings)) {
-        Ok(node) => same!(rt; node.phase(), Phase::Gathering),
-        Err(fault) => same!(rt; fault, NodeFault::Memory),
+        Ok(node) => same!(&rt; node.phase(), Phase::Gathering),
+        Err(fault) => same!(&rt; fault, NodeFault::Memory),
     }
     Ok(())
 }

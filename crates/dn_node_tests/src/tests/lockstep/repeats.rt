@@ -1,9 +1,8 @@
 //! Tests of the commands that packets carry without a request.
 
 use super::requests::sends;
-use super::{LIMIT, NO_KEYS, STILL, hears, opened, pair, run};
+use super::{LIMIT, NO_KEYS, STILL, build, hears, opened, pair, run};
 use dn_lockstep::{Heard, Made};
-use dn_tic::Keys;
 use std::test::Fail;
 
 #[test]
@@ -19,7 +18,7 @@ fn a_packet_may_repeat_the_last_command(rt: HostRuntime) -> Result<(), Fail> {
         (0, 3, 1),
     ] {
         for _ in 0..built {
-            let _ = key.build(Keys::from_bits(NO_KEYS));
+            let _ = build(&mut key, NO_KEYS);
         }
         sends(&rt, &mut key, start, count);
     }
@@ -32,7 +31,7 @@ fn each_command_goes_out_once(rt: HostRuntime) -> Result<(), Fail> {
     sends(&rt, &mut key, 0, 0);
     for (built, start, count) in [(1, 0, 1), (1, 1, 1), (0, 2, 0), (3, 2, 3), (0, 5, 0)] {
         for _ in 0..built {
-            let _ = key.build(Keys::from_bits(NO_KEYS));
+            let _ = build(&mut key, NO_KEYS);
         }
         sends(&rt, &mut key, start, count);
     }
@@ -54,7 +53,7 @@ fn what_is_too_old_is_not_sent(rt: HostRuntime) -> Result<(), Fail> {
         hears(&rt, &mut key, 1, (0, (0, 0, 1), &[]), Heard::Started);
         for tic in 0..behind {
             let low = (tic % 256) as u8;
-            same!(rt; key.build(Keys::from_bits(NO_KEYS)), Made::Made(tic));
+            same!(&rt; build(&mut key, NO_KEYS), Made::Made(tic));
             hears(
                 &rt,
                 &mut key,

@@ -1,9 +1,9 @@
 //! Tests of requests for commands, and of what packets carry again.
 
-use super::{IDLE, NO_KEYS, STILL, datagram, hears, pair, pass, tics};
+use super::{IDLE, NO_KEYS, STILL, build, datagram, given, hears, pair, pass, received, tics};
 use dn_lockstep::{Aim, Heard, Lockstep};
 use dn_packet::{EXIT, RETRANSMIT};
-use dn_tic::{Keys, TicCmd};
+use dn_tic::TicCmd;
 use std::alloc::Global;
 use std::process::Abort;
 use std::test::Fail;
@@ -18,7 +18,11 @@ fn at_tic(alloc: Global, count: u32) -> Result<(Lockstep, Lockstep), Fail> {
 /// Hands a node a request of player 1, in a packet with nothing new.
 fn ask(node: &mut Lockstep, tic: u8) -> Heard {
     let start = (node.got(1).unwrap_or(0) % 256) as u8;
-    node.receive(1, datagram(RETRANSMIT, (tic, start, 1), &[]).as_slice())
+    received(
+        node,
+        1,
+        datagram(RETRANSMIT, (tic, start, 1), &[]).as_slice(),
+    )
 }
 
 /// Compares the start and the count of the next packet to player 1, by its numbers and by its bytes.
@@ -62,8 +66,8 @@ fn requests_within_the_last_twelve_are_met(rt: HostRuntime) -> Result<(), Fail> 
         (260, 5, 260),
     ] {
         let (mut key, _) = at_tic(rt.alloc(), made)?;
-        same!(rt; key.made(), made);
-        same!(rt; ask(&mut key, byte), Heard::Stale, (made, byte));
+        same!(&rt; key.made(), made);
+        same!(&rt; ask(&mut key, byte), Heard::Stale, (made, byte));
         let count = (made.saturating_sub(start) % 256) as u8;
         sends(&rt, &mut key, start, count);
         // then the next packet has nothing to repeat
@@ -75,15 +79,15 @@ fn requests_within_the_last_twelve_are_met(rt: HostRuntime) -> Result<(), Fail> 
 #[test]
 fn a_met_request_stands_for_ten_packets(rt: HostRuntime) -> Result<(), Fail> {
     let (mut key, _) = at_tic(rt.alloc(), 30)?;
-    same!(rt; ask(&mut key, 18), Heard::Stale);
+    same!(&rt; ask(&mut key, 18), Heard::Stale);
     sends(&rt, &mut key, 18, 12);
     for _ in 0..10 {
-        same!(rt; ask(&mut key, 20), Heard::Stale);
+        same!(&rt; ask(&mut key, 20), Heard::Stale);
         sends(&rt, &mut key, 30, 0);
     }
-    same!(rt; ask(&mut key, 20), Heard::Stale);
+    same!(&rt; ask(&mut key, 20), Heard::Stale);
     sends(&rt, &mut key, 20, 10);
-    same!(rt; ask(&mut key, 20), Heard::Stale);
+    same!(&rt; ask(&mut key, 20), Heard::Stale);
     sends(&rt, &mut key, 30, 0);
     Ok(())
 }
@@ -92,7 +96,7 @@ fn a_met_request_stands_for_ten_packets(rt: HostRuntime) -> Result<(), Fail> {
 #[test]
 fn dropped_packets_do_not_count(rt: HostRuntime) -> Result<(), Fail> {
     let (mut key, _) = at_tic(rt.alloc(), 30)?;
-    same!(rt; ask(&mut key, 18), Heard::Stale);
+    same!(&rt; ask(&mut key, 18), Heard::Stale);
     sends(&rt, &mut key, 18, 12);
     let stop = TicCmd {
         forward: -128,
@@ -101,7 +105,7 @@ fn dropped_packets_do_not_count(rt: HostRuntime) -> Result<(), Fail> {
     let late = datagram(0, (0, 31, 1), &[STILL; 12]);
     for _ in 0..12 {
         hears(&rt, &mut key, 1, (0, (0, 30, 0), &[]), Heard::Dropped(5));
-        same!(rt; key.receive(1, late.as_slice()), Heard::Dropped(12));
+        same!(&rt; received(&mut key, 1, late.as_slice()), Heard::Dropped(12));
         hears(
             &rt,
             &mut key,
@@ -117,20 +121,20 @@ fn dropped_packets_do_not_count(rt: HostRuntime) -> Result<(), Fail> {
             Heard::Dropped(14),
         );
     }
-    same!(rt; ask(&mut key, 20), Heard::Stale);
+    same!(&rt; ask(&mut key, 20), Heard::Stale);
     sends(&rt, &mut key, 30, 0);
     // one more was heard just now; eight are stale, of a gap, or new, and the next is met
     let stale = datagram(0, (0, 20, 1), &[STILL; 4]);
     let gap = datagram(0, (0, 35, 1), &[]);
     for _ in 0..4 {
-        same!(rt; key.receive(1, stale.as_slice()), Heard::Stale);
-        same!(rt; key.receive(1, gap.as_slice()), Heard::Gap);
+        same!(&rt; received(&mut key, 1, stale.as_slice()), Heard::Stale);
+        same!(&rt; received(&mut key, 1, gap.as_slice()), Heard::Gap);
     }
     let new = datagram(RETRANSMIT, (20, 30, 1), &[STILL]);
-    same!(rt; key.receive(1, new.as_slice()), Heard::Taken(1));
+    same!(&rt; received(&mut key, 1, new.as_slice()), Heard::Taken(1));
     sends(&rt, &mut key, 30, 0);
     let met = datagram(RETRANSMIT, (20, 31, 1), &[STILL]);
-    same!(rt; key.receive(1, met.as_slice()), Heard::Taken(1));
+    same!(&rt; received(&mut key, 1, met.as_slice()), Heard::Taken(1));
     sends(&rt, &mut key, 20, 10);
     Ok(())
 }
@@ -139,26 +143,26 @@ fn dropped_packets_do_not_count(rt: HostRuntime) -> Result<(), Fail> {
 #[test]
 fn a_gap_is_asked_for(rt: HostRuntime) -> Result<(), Fail> {
     let (mut key, mut other) = at_tic(rt.alloc(), 3)?;
-    let _ = other.build(Keys::from_bits(NO_KEYS));
-    let lost = other.packet(0).ok_or("no packet")?;
-    same!(rt; lost.len(), 16);
-    let _ = other.build(Keys::from_bits(NO_KEYS));
-    same!(rt; pass(&mut other, &mut key), Some(Heard::Gap));
+    let _ = build(&mut other, NO_KEYS);
+    let lost = given(&mut other, 0)?;
+    same!(&rt; lost.len(), 16);
+    let _ = build(&mut other, NO_KEYS);
+    same!(&rt; pass(&mut other, &mut key), Some(Heard::Gap));
     let asks = Aim {
         flags: RETRANSMIT,
         ask: Some(3),
         start: 3,
         count: 0,
     };
-    same!(rt; key.aim(1), Some(asks));
-    same!(rt; pass(&mut key, &mut other), Some(Heard::Stale));
-    same!(rt; key.aim(1), Some(asks));
-    same!(rt; pass(&mut other, &mut key), Some(Heard::Taken(2)));
+    same!(&rt; key.aim(1), Some(asks));
+    same!(&rt; pass(&mut key, &mut other), Some(Heard::Stale));
+    same!(&rt; key.aim(1), Some(asks));
+    same!(&rt; pass(&mut other, &mut key), Some(Heard::Taken(2)));
     let quiet = Aim {
         flags: 0,
         ask: None,
         ..asks
     };
-    same!(rt; key.aim(1), Some(quiet));
+    same!(&rt; key.aim(1), Some(quiet));
     Ok(())
 }

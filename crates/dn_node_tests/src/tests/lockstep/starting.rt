@@ -1,11 +1,9 @@
 //! Tests of how a game starts.
 
-use super::{LIMIT, NO_KEYS, STILL, choice, hears, opened, pass, run};
-use arrayvec::ArrayVec;
+use super::{LIMIT, NO_KEYS, STILL, build, choice, given, hears, opened, pass, received, run};
 use dn_lockstep::{Heard, Lockstep, Made, Phase, Ran};
 use dn_packet::{EXIT, KILL, RETRANSMIT, SETUP};
 use dn_setup::Settings;
-use dn_tic::Keys;
 use std::alloc::Global;
 use std::process::Abort;
 use std::test::Fail;
@@ -26,17 +24,17 @@ fn listener(alloc: Global) -> Result<Lockstep, Fail> {
 #[test]
 fn a_listener_starts_once(rt: HostRuntime) -> Result<(), Fail> {
     let mut node = listener(rt.alloc())?;
-    same!(rt; node.settings(), None);
-    same!(rt; node.packet(0).map(|bytes| bytes.len()), None);
-    same!(rt; node.receive(0, &CHOICE), Heard::Started);
+    same!(&rt; node.settings(), None);
+    same!(&rt; node.packet(0).map(|bytes| bytes.len()), None);
+    same!(&rt; received(&mut node, 0, &CHOICE), Heard::Started);
     let settings = Settings::new(3, 1, true, false, 1, 7)?;
-    same!(rt; node.settings(), Some(settings));
-    same!(rt; node.phase(), Phase::Playing);
+    same!(&rt; node.settings(), Some(settings));
+    same!(&rt; node.phase(), Phase::Playing);
     let header = [0x6F, 3, 1, 7, 1, 0, 0, 1, 1, 1, 1, 0, 0];
-    same!(rt; node.demo(), header.as_slice());
-    same!(rt; node.players(), 2);
-    same!(rt; node.present(), [true, true, false, false]);
-    same!(rt; node.receive(0, &CHOICE), Heard::Dropped(6));
+    same!(&rt; node.demo(), header.as_slice());
+    same!(&rt; node.players(), 2);
+    same!(&rt; node.present(), [true, true, false, false]);
+    same!(&rt; received(&mut node, 0, &CHOICE), Heard::Dropped(6));
     Ok(())
 }
 
@@ -44,10 +42,10 @@ fn a_listener_starts_once(rt: HostRuntime) -> Result<(), Fail> {
 fn a_listener_takes_no_other_version(rt: HostRuntime) -> Result<(), Fail> {
     let mut node = listener(rt.alloc())?;
     for other in OTHER_VERSIONS {
-        same!(rt; node.receive(0, &other), Heard::Dropped(7), other);
+        same!(&rt; received(&mut node, 0, &other), Heard::Dropped(7), other);
     }
-    same!(rt; node.phase(), Phase::Listening);
-    same!(rt; node.receive(0, &CHOICE), Heard::Started);
+    same!(&rt; node.phase(), Phase::Listening);
+    same!(&rt; received(&mut node, 0, &CHOICE), Heard::Started);
     Ok(())
 }
 
@@ -69,7 +67,7 @@ fn any_valid_choice_starts_a_listener(rt: HostRuntime) -> Result<(), Fail> {
             (flags, (99, 71, 111), &[STILL]),
             Heard::Started,
         );
-        same!(rt; (node.made(), node.got(0)), (0, Some(0)), flags);
+        same!(&rt; (node.made(), node.got(0)), (0, Some(0)), flags);
     }
     Ok(())
 }
@@ -97,21 +95,16 @@ fn the_key_player_waits_for_all(rt: HostRuntime) -> Result<(), Fail> {
     ] {
         let mut key = opened(rt.alloc(), (4, 0), false, LIMIT)?;
         for (player, answer) in heard.into_iter().zip(answers) {
-            same!(rt; key.phase(), Phase::Gathering, heard);
+            same!(&rt; key.phase(), Phase::Gathering, heard);
             hears(&rt, &mut key, player, (0, (0, 0, player), &[STILL]), answer);
         }
-        same!(rt; key.phase(), Phase::Playing, heard);
+        same!(&rt; key.phase(), Phase::Playing, heard);
         // what the packets carried is not kept
-        same!(rt; key.got(3), Some(0), heard);
+        same!(&rt; key.got(3), Some(0), heard);
         let header = [0x6F, 2, 1, 1, 0, 0, 0, 0, 0, 1, 1, 1, 1];
-        same!(rt; key.demo(), header.as_slice(), heard);
+        same!(&rt; key.demo(), header.as_slice(), heard);
     }
     Ok(())
-}
-
-/// The bytes of a packet, which has to be there.
-fn given(node: &mut Lockstep, to: u8) -> Result<ArrayVec<u8, 104>, Fail> {
-    Ok(node.packet(to).ok_or("no packet")?)
 }
 
 /// Compares what nodes tell of themselves: made, ran, the commands of both players, the demo's length.
@@ -124,36 +117,35 @@ fn stands(rt: &impl Abort, node: &Lockstep, made: u32, got: (u32, u32)) {
 
 #[test]
 fn two_nodes_start_and_run_a_tic(rt: HostRuntime) -> Result<(), Fail> {
-    let keys = Keys::from_bits(NO_KEYS);
     let mut key = opened(rt.alloc(), (2, 0), false, LIMIT)?;
     let mut other = listener(rt.alloc())?;
     let choice_bytes = [0x69, 0x86, 0x92, 0x21, 0x02, 0x41, 0x6F, 0x00];
     let set_up = given(&mut key, 1)?;
-    same!(rt; set_up.as_slice(), choice_bytes.as_slice());
-    same!(rt; other.receive(0, set_up.as_slice()), Heard::Started);
-    same!(rt; other.settings(), Some(choice()?));
-    same!(rt; other.build(keys), Made::Made(0));
+    same!(&rt; set_up.as_slice(), choice_bytes.as_slice());
+    same!(&rt; received(&mut other, 0, set_up.as_slice()), Heard::Started);
+    same!(&rt; other.settings(), Some(choice()?));
+    same!(&rt; build(&mut other, NO_KEYS), Made::Made(0));
     // its first packet is used up by the start
-    same!(rt; pass(&mut other, &mut key), Some(Heard::Started));
-    same!(rt; other.build(keys), Made::Made(1));
-    same!(rt; pass(&mut other, &mut key), Some(Heard::Gap));
-    same!(rt; key.build(keys), Made::Made(0));
+    same!(&rt; pass(&mut other, &mut key), Some(Heard::Started));
+    same!(&rt; build(&mut other, NO_KEYS), Made::Made(1));
+    same!(&rt; pass(&mut other, &mut key), Some(Heard::Gap));
+    same!(&rt; build(&mut key, NO_KEYS), Made::Made(0));
     let request = given(&mut key, 1)?;
     let mut bytes = [0; 16];
     bytes[..8].copy_from_slice(&[0x67, 0x45, 0x23, 0x42, 0, 0, 0, 1]);
-    same!(rt; request.as_slice(), bytes.as_slice());
-    same!(rt; other.receive(0, request.as_slice()), Heard::Taken(1));
+    same!(&rt; request.as_slice(), bytes.as_slice());
+    same!(&rt; received(&mut other, 0, request.as_slice()), Heard::Taken(1));
     let answer = given(&mut other, 0)?;
     let mut bytes = [0; 24];
     bytes[..8].copy_from_slice(&[0x67, 0x45, 0x24, 0x03, 0, 0, 1, 2]);
-    same!(rt; answer.as_slice(), bytes.as_slice());
-    same!(rt; key.receive(1, answer.as_slice()), Heard::Taken(2));
-    same!(rt; run(&mut key), Ran::Ran(0));
-    same!(rt; run(&mut other), Ran::Ran(0));
+    same!(&rt; answer.as_slice(), bytes.as_slice());
+    same!(&rt; received(&mut key, 1, answer.as_slice()), Heard::Taken(2));
+    same!(&rt; run(&mut key), Ran::Ran(0));
+    same!(&rt; run(&mut other), Ran::Ran(0));
     stands(&rt, &key, 1, (1, 2));
     stands(&rt, &other, 2, (1, 2));
     // the same once more
-    same!(rt; key.receive(1, answer.as_slice()), Heard::Stale);
+    same!(&rt; received(&mut key, 1, answer.as_slice()), Heard::Stale);
     stands(&rt, &key, 1, (1, 2));
     Ok(())
 }

@@ -117,33 +117,38 @@ fn runs(rt: &impl Abort, beside: &mut Beside, node: &mut Node<Walk>, leaves: boo
     agree(rt, beside, node);
 }
 
+/// One round of two players: both build and hear each other, but that now and then a packet is lost, and both
+/// run. The first leaves after a hundred rounds.
+fn play_round(
+    rt: &impl Abort,
+    (one, first): (&mut Beside, &mut Node<Walk>),
+    (two, second): (&mut Beside, &mut Node<Walk>),
+    round: u32,
+) -> Result<(), Fail> {
+    let packet = builds(rt, one, first, round.wrapping_mul(0x9E37_79B1));
+    let answer = builds(rt, two, second, round.wrapping_mul(0x85EB_CA6B));
+    if round % 25 != 3 {
+        hears(rt, two, second, packet)?;
+    }
+    if round % 31 != 4 {
+        hears(rt, one, first, answer)?;
+    }
+    runs(rt, one, first, round == 100);
+    runs(rt, two, second, false);
+    Ok(())
+}
+
 #[test]
 fn a_world_beside_is_a_world_inside(rt: HostRuntime) -> Result<(), Fail> {
     let alloc = rt.alloc();
-    let mut besides = (Beside::new(alloc, 0)?, Beside::new(alloc, 1)?);
-    let mut nodes = (
-        opened(alloc, (2, 0), false, LIMIT, Walk::new())?,
-        opened(alloc, (2, 1), false, LIMIT, Walk::new())?,
-    );
+    let mut one = Beside::new(alloc, 0)?;
+    let mut two = Beside::new(alloc, 1)?;
+    let mut first = opened(alloc, (2, 0), false, LIMIT, Walk::new())?;
+    let mut second = opened(alloc, (2, 1), false, LIMIT, Walk::new())?;
     for round in 0u32..120 {
-        let bits = (
-            round.wrapping_mul(0x9E37_79B1),
-            round.wrapping_mul(0x85EB_CA6B),
-        );
-        let first = builds(&rt, &mut besides.0, &mut nodes.0, bits.0);
-        let second = builds(&rt, &mut besides.1, &mut nodes.1, bits.1);
-        // now and then a packet is lost
-        if round % 25 != 3 {
-            hears(&rt, &mut besides.1, &mut nodes.1, first)?;
-        }
-        if round % 31 != 4 {
-            hears(&rt, &mut besides.0, &mut nodes.0, second)?;
-        }
-        // the first leaves after a hundred rounds
-        runs(&rt, &mut besides.0, &mut nodes.0, round == 100);
-        runs(&rt, &mut besides.1, &mut nodes.1, false);
+        play_round(&rt, (&mut one, &mut first), (&mut two, &mut second), round)?;
     }
-    holds!(rt; nodes.0.ran() > 40);
-    holds!(rt; nodes.1.ran() > nodes.0.ran());
+    holds!(&rt; first.ran() > 40);
+    holds!(&rt; second.ran() > first.ran());
     Ok(())
 }

@@ -1,10 +1,9 @@
 //! Tests of the demos that nodes record, and of demos of ended nodes played again.
 
-use super::{FORWARD, IDLE, LEFT, RIGHT, SPEED, pair, pair_of, pass, tic, tics};
+use super::{FORWARD, IDLE, LEFT, RIGHT, SPEED, build, pair, pair_of, pass, quit, run, tic, tics};
 use dn_demo::{Demo, play};
 use dn_node::{Cause, Heard, Made, Node, Phase, Ran};
 use dn_packet::EXIT;
-use dn_tic::Keys;
 use dn_world::Walk;
 use std::alloc::Global;
 use std::process::Abort;
@@ -15,8 +14,8 @@ fn is_full(rt: &impl Abort, node: &mut Node<Walk>, ran: u32, size: usize) {
     same!(rt; node.phase(), Phase::Ended(Cause::Full));
     same!(rt; (node.ran(), node.demo().len()), (ran, size));
     same!(rt; node.demo().last(), Some(&0x80));
-    same!(rt; node.run(), Ran::NotPlaying);
-    holds!(rt; !node.quit());
+    same!(rt; run(node), Ran::NotPlaying);
+    holds!(rt; !quit(node));
 }
 
 /// Two nodes whose demos have this limit run so many tics, and then end with demos of that size.
@@ -63,13 +62,13 @@ fn a_full_demo_waits_for_commands(rt: HostRuntime) -> Result<(), Fail> {
     let walks = (Walk::new(), Walk::new());
     let (mut key, mut other) = pair_of(rt.alloc(), false, 1_034, walks)?;
     tics(&mut key, &mut other, 102, IDLE);
-    same!(rt; key.run(), Ran::Waiting(0));
-    same!(rt; key.build(Keys::from_bits(0)), Made::Made(102));
-    same!(rt; key.run(), Ran::Waiting(1));
-    same!(rt; key.phase(), Phase::Playing);
-    let _ = other.build(Keys::from_bits(0));
+    same!(&rt; run(&mut key), Ran::Waiting(0));
+    same!(&rt; build(&mut key, 0), Made::Made(102));
+    same!(&rt; run(&mut key), Ran::Waiting(1));
+    same!(&rt; key.phase(), Phase::Playing);
+    let _ = build(&mut other, 0);
     let _ = pass(&mut other, &mut key);
-    same!(rt; key.run(), Ran::DemoFull);
+    same!(&rt; run(&mut key), Ran::DemoFull);
     Ok(())
 }
 
@@ -106,20 +105,28 @@ fn demos_of_ended_nodes_are_played_again(rt: HostRuntime) -> Result<(), Fail> {
     for (count, extra) in [(0, false), (1, false), (25, true), (300, false)] {
         let (mut key, mut other) = pair(rt.alloc(), extra)?;
         wander(&mut key, &mut other, count);
-        same!(rt; (key.ran(), other.ran()), (count, count));
-        holds!(rt; key.quit());
-        same!(rt; pass(&mut key, &mut other), Some(Heard::Left));
-        same!(rt; other.phase(), Phase::Playing);
-        holds!(rt; other.quit());
+        same!(&rt; (key.ran(), other.ran()), (count, count));
+        holds!(&rt; quit(&mut key));
+        same!(&rt; pass(&mut key, &mut other), Some(Heard::Left));
+        same!(&rt; other.phase(), Phase::Playing);
+        holds!(&rt; quit(&mut other));
         replays(&rt, rt.alloc(), &key)?;
         replays(&rt, rt.alloc(), &other)?;
         // the same rows behind headers that differ in their views
         let (one, two) = (key.demo(), other.demo());
-        holds!(rt; one.len() > 13);
-        holds!(rt; two.len() > 13);
-        same!(rt; one.get(13..), two.get(13..), count);
+        holds!(&rt; one.len() > 13);
+        holds!(&rt; two.len() > 13);
+        same!(&rt; one.get(13..), two.get(13..), count);
     }
     Ok(())
+}
+
+/// A new Walk in which a demo was played, and in how many tics.
+fn replayed(alloc: Global, bytes: &[u8]) -> Result<(Walk, usize), Fail> {
+    let demo = Demo::read(alloc, bytes)?;
+    let mut walk = Walk::new();
+    let count = play(&demo, &mut walk);
+    Ok((walk, count))
 }
 
 /// The tics that a node runs alone, after the other has left, are not in its demo.
@@ -128,27 +135,24 @@ fn tics_without_a_player_are_not_recorded(rt: HostRuntime) -> Result<(), Fail> {
     let (mut key, mut other) = pair(rt.alloc(), false)?;
     let keys = (FORWARD, FORWARD | LEFT);
     tics(&mut key, &mut other, 20, keys);
-    holds!(rt; key.quit());
-    same!(rt; pass(&mut key, &mut other), Some(Heard::Left));
+    holds!(&rt; quit(&mut key));
+    same!(&rt; pass(&mut key, &mut other), Some(Heard::Left));
     // what the demo is played to, before and after the tics that the node runs alone
-    let mut before = Walk::new();
-    let closed = key.demo();
-    let _ = play(&Demo::read(rt.alloc(), closed)?, &mut before);
+    let (before, _) = replayed(rt.alloc(), key.demo())?;
     for tic in 20..25 {
-        same!(rt; other.build(Keys::from_bits(FORWARD | SPEED)), Made::Made(tic));
-        same!(rt; other.run(), Ran::Ran(tic));
-        same!(rt; other.demo().len(), 13 + 20 * 10 + 1);
+        same!(&rt; build(&mut other, FORWARD | SPEED), Made::Made(tic));
+        same!(&rt; run(&mut other), Ran::Ran(tic));
+        same!(&rt; other.demo().len(), 13 + 20 * 10 + 1);
     }
-    let demo = Demo::read(rt.alloc(), other.demo())?;
-    let mut after = Walk::new();
-    same!(rt; play(&demo, &mut after), 20);
+    let (after, count) = replayed(rt.alloc(), other.demo())?;
+    same!(&rt; count, 20);
     for player in 0..2 {
         let place = (before.x(player), before.angle(player));
-        same!(rt; (after.x(player), after.angle(player)), place, player);
+        same!(&rt; (after.x(player), after.angle(player)), place, player);
     }
     // who left stands still, and the other has gone on
-    same!(rt; other.world().x(0), before.x(0));
-    holds!(rt; other.world().x(1) != before.x(1));
+    same!(&rt; other.world().x(0), before.x(0));
+    holds!(&rt; other.world().x(1) != before.x(1));
     Ok(())
 }
 
@@ -156,7 +160,7 @@ fn tics_without_a_player_are_not_recorded(rt: HostRuntime) -> Result<(), Fail> {
 fn wrote(rt: &impl Abort, node: &mut Node<Walk>, row: [u8; 10]) {
     same!(rt; node.demo().len(), 23);
     holds!(rt; node.demo().ends_with(&row));
-    holds!(rt; node.quit());
+    holds!(rt; quit(node));
     same!(rt; node.demo().len(), 24);
     same!(rt; node.demo().last(), Some(&0x80));
 }
@@ -166,10 +170,10 @@ fn wrote(rt: &impl Abort, node: &mut Node<Walk>, row: [u8; 10]) {
 fn a_row_has_the_used_moves(rt: HostRuntime) -> Result<(), Fail> {
     let (mut key, mut other) = pair(rt.alloc(), false)?;
     let header = [0x6F, 2, 1, 1, 0, 0, 0, 0, 1, 1, 1, 0, 0];
-    same!(rt; other.demo(), header.as_slice());
+    same!(&rt; other.demo(), header.as_slice());
     // forward and speed; left, strafe right, attack and the third weapon
     let keys = (0x81, 0x1124);
-    same!(rt; tic(&mut key, &mut other, keys), (Ran::Ran(0), Ran::Ran(0)));
+    same!(&rt; tic(&mut key, &mut other, keys), (Ran::Ran(0), Ran::Ran(0)));
     let row = [50, 0, 0, 0, 0, 0, 24, 64, 1, 21];
     wrote(&rt, &mut key, row);
     wrote(&rt, &mut other, row);

@@ -1,9 +1,8 @@
 //! Tests of how a player leaves, and how the others play on.
 
-use super::{LIMIT, NO_KEYS, STILL, hears, opened, pass};
+use super::{LIMIT, NO_KEYS, STILL, build, given, hears, opened, pass, quit, received, run};
 use dn_node::{Aim, Cause, Heard, Made, Node, Phase, Ran};
 use dn_packet::{EXIT, RETRANSMIT};
-use dn_tic::Keys;
 use dn_world::Walk;
 use std::alloc::Global;
 use std::process::Abort;
@@ -19,9 +18,13 @@ const NONE: [u8; 8] = [0x67, 0x68, 0x25, 0x81, 0x00, 0x23, 0x02, 0x00];
 type Three = (Node<Walk>, Node<Walk>, Node<Walk>);
 
 /// Builds `count` commands and passes them to the others.
-fn build(node: &mut Node<Walk>, (one, two): (&mut Node<Walk>, &mut Node<Walk>), count: u32) {
+fn build_and_pass(
+    node: &mut Node<Walk>,
+    (one, two): (&mut Node<Walk>, &mut Node<Walk>),
+    count: u32,
+) {
     for _ in 0..count {
-        let _ = node.build(Keys::from_bits(NO_KEYS));
+        let _ = build(node, NO_KEYS);
         let _ = pass(node, one);
         let _ = pass(node, two);
     }
@@ -30,12 +33,12 @@ fn build(node: &mut Node<Walk>, (one, two): (&mut Node<Walk>, &mut Node<Walk>), 
 /// Plays `count` tics of all three.
 fn run_three((a, b, c): (&mut Node<Walk>, &mut Node<Walk>, &mut Node<Walk>), count: u32) {
     for _ in 0..count {
-        build(a, (b, c), 1);
-        build(b, (a, c), 1);
-        build(c, (a, b), 1);
-        let _ = a.run();
-        let _ = b.run();
-        let _ = c.run();
+        build_and_pass(a, (b, c), 1);
+        build_and_pass(b, (a, c), 1);
+        build_and_pass(c, (a, b), 1);
+        let _ = run(a);
+        let _ = run(b);
+        let _ = run(c);
     }
 }
 
@@ -50,11 +53,11 @@ fn three(rt: &impl Abort, alloc: Global) -> Result<Three, Fail> {
     same!(rt; pass(&mut b, &mut a), Some(Heard::Noted));
     same!(rt; pass(&mut c, &mut a), Some(Heard::Started));
     run_three((&mut a, &mut b, &mut c), 30);
-    build(&mut c, (&mut a, &mut b), 3);
-    build(&mut a, (&mut b, &mut c), 5);
-    build(&mut b, (&mut a, &mut c), 5);
-    same!(rt; c.build(Keys::from_bits(NO_KEYS)), Made::Made(33));
-    same!(rt; c.build(Keys::from_bits(NO_KEYS)), Made::Made(34));
+    build_and_pass(&mut c, (&mut a, &mut b), 3);
+    build_and_pass(&mut a, (&mut b, &mut c), 5);
+    build_and_pass(&mut b, (&mut a, &mut c), 5);
+    same!(rt; build(&mut c, NO_KEYS), Made::Made(33));
+    same!(rt; build(&mut c, NO_KEYS), Made::Made(34));
     same!(rt; (a.ran(), b.ran(), c.ran()), (30, 30, 30));
     same!(rt; (a.got(2), b.got(2), c.made()), (Some(33), Some(33), 35));
     Ok((a, b, c))
@@ -85,14 +88,14 @@ fn gives(rt: &impl Abort, node: &mut Node<Walk>, to: u8, first: &[u8; 8], zeros:
 #[test]
 fn who_leaves_gives_the_last_commands(rt: HostRuntime) -> Result<(), Fail> {
     let (_, _, mut c) = three(&rt, rt.alloc())?;
-    same!(rt; c.end(2), None);
-    holds!(rt; c.quit());
-    holds!(rt; !c.quit());
-    same!(rt; c.phase(), Phase::Ended(Cause::Quit));
-    same!(rt; (c.end(0), c.end(1), c.end(2)), (None, None, Some(35)));
-    same!(rt; c.demo().len(), 464);
-    same!(rt; c.build(Keys::from_bits(NO_KEYS)), Made::NotPlaying);
-    same!(rt; c.run(), Ran::NotPlaying);
+    same!(&rt; c.end(2), None);
+    holds!(&rt; quit(&mut c));
+    holds!(&rt; !quit(&mut c));
+    same!(&rt; c.phase(), Phase::Ended(Cause::Quit));
+    same!(&rt; (c.end(0), c.end(1), c.end(2)), (None, None, Some(35)));
+    same!(&rt; c.demo().len(), 464);
+    same!(&rt; build(&mut c, NO_KEYS), Made::NotPlaying);
+    same!(&rt; run(&mut c), Ran::NotPlaying);
     for to in [0, 1] {
         gives(&rt, &mut c, to, &LAST, 16);
         for _ in 0..9 {
@@ -100,8 +103,8 @@ fn who_leaves_gives_the_last_commands(rt: HostRuntime) -> Result<(), Fail> {
         }
     }
     for to in [2, 3, 4, 255] {
-        same!(rt; c.aim(to), None);
-        holds!(rt; c.packet(to).is_none());
+        same!(&rt; c.aim(to), None);
+        holds!(&rt; c.packet(to).is_none());
     }
     Ok(())
 }
@@ -110,69 +113,78 @@ fn who_leaves_gives_the_last_commands(rt: HostRuntime) -> Result<(), Fail> {
 /// The commands of the other player are there.
 fn plays_on(rt: &impl Abort, node: &mut Node<Walk>, other: u8, first: u32) {
     for tic in first..35 {
-        same!(rt; node.run(), Ran::Ran(tic));
+        same!(rt; run(node), Ran::Ran(tic));
     }
-    same!(rt; node.run(), Ran::Waiting(0));
+    same!(rt; run(node), Ran::Waiting(0));
     same!(rt; node.demo().len(), 538);
     for tic in 35..40u32 {
         let command = (0, (0, (tic % 256) as u8, other), [STILL].as_slice());
         hears(rt, node, other, command, Heard::Taken(1));
-        same!(rt; node.build(Keys::from_bits(NO_KEYS)), Made::Made(tic));
-        same!(rt; (node.run(), node.demo().len()), (Ran::Ran(tic), 539));
+        same!(rt; build(node, NO_KEYS), Made::Made(tic));
+        same!(rt; (run(node), node.demo().len()), (Ran::Ran(tic), 539));
     }
     same!(rt; node.demo().last(), Some(&0x80));
     same!(rt; (node.end(2), node.end(node.me())), (Some(35), None));
     // one marker is enough
-    holds!(rt; node.quit());
+    holds!(rt; quit(node));
     same!(rt; node.demo().len(), 539);
+}
+
+/// Node 1 asks player 2, and is answered with the first packet once more.
+fn asks_again(rt: &impl Abort, b: &mut Node<Walk>, c: &mut Node<Walk>) -> Result<(), Fail> {
+    let asks = b.aim(2).ok_or("no packet")?;
+    same!(rt; (asks.flags, asks.ask), (RETRANSMIT, Some(33)));
+    same!(rt; pass(b, c), Some(Heard::Noted));
+    let answer = given(c, 1)?;
+    same!(rt; answer.len(), 24);
+    holds!(rt; answer.as_slice().starts_with(&LAST));
+    same!(rt; received(b, 2, answer.as_slice()), Heard::Left);
+    same!(rt; (b.got(2), b.end(2)), (Some(35), Some(35)));
+    Ok(())
+}
+
+/// The nodes have the same rows, behind headers that differ in their views, and the players of the first two
+/// are at the same places.
+fn played_alike(rt: &impl Abort, a: &Node<Walk>, b: &Node<Walk>, c: &Node<Walk>) {
+    let (one, two, three) = (a.demo(), b.demo(), c.demo());
+    same!(rt; (one.len(), two.len(), three.len()), (539, 539, 464));
+    same!(rt; one.get(13..), two.get(13..));
+    same!(rt; one.get(13..463), three.get(13..463));
+    for player in 0..4 {
+        same!(rt; a.world().x(player), b.world().x(player), player);
+    }
 }
 
 #[test]
 fn the_others_play_on(rt: HostRuntime) -> Result<(), Fail> {
     let (mut a, mut b, mut c) = three(&rt, rt.alloc())?;
-    holds!(rt; c.quit());
+    holds!(&rt; quit(&mut c));
     // node 0 hears the first packet
-    same!(rt; pass(&mut c, &mut a), Some(Heard::Left));
-    same!(rt; (a.got(2), a.end(2)), (Some(35), Some(35)));
-    same!(rt; (a.phase(), a.demo().len()), (Phase::Playing, 463));
+    same!(&rt; pass(&mut c, &mut a), Some(Heard::Left));
+    same!(&rt; (a.got(2), a.end(2)), (Some(35), Some(35)));
+    same!(&rt; (a.phase(), a.demo().len()), (Phase::Playing, 463));
     // node 1 hears the second alone, and waits for the commands before the end
     gives(&rt, &mut c, 1, &LAST, 16);
-    same!(rt; pass(&mut c, &mut b), Some(Heard::Gap));
-    same!(rt; (b.got(2), b.end(2)), (Some(33), Some(35)));
+    same!(&rt; pass(&mut c, &mut b), Some(Heard::Gap));
+    same!(&rt; (b.got(2), b.end(2)), (Some(33), Some(35)));
     for tic in 30..33 {
-        same!(rt; b.run(), Ran::Ran(tic));
+        same!(&rt; run(&mut b), Ran::Ran(tic));
     }
-    same!(rt; b.run(), Ran::Waiting(2));
-    // it asks, and is answered with the first packet once more
-    let asks = b.aim(2).ok_or("no packet")?;
-    same!(rt; (asks.flags, asks.ask), (RETRANSMIT, Some(33)));
-    same!(rt; pass(&mut b, &mut c), Some(Heard::Noted));
-    let answer = c.packet(1).ok_or("no packet")?;
-    same!(rt; answer.len(), 24);
-    holds!(rt; answer.as_slice().starts_with(&LAST));
-    same!(rt; b.receive(2, answer.as_slice()), Heard::Left);
-    same!(rt; (b.got(2), b.end(2)), (Some(35), Some(35)));
+    same!(&rt; run(&mut b), Ran::Waiting(2));
+    asks_again(&rt, &mut b, &mut c)?;
     plays_on(&rt, &mut a, 1, 30);
     plays_on(&rt, &mut b, 0, 33);
-    // the same rows, behind headers that differ in their views
-    let (one, two, three) = (a.demo(), b.demo(), c.demo());
-    same!(rt; (one.len(), two.len(), three.len()), (539, 539, 464));
-    same!(rt; one.get(13..), two.get(13..));
-    same!(rt; one.get(13..463), three.get(13..463));
-    // and the players are at the same places
-    for player in 0..4 {
-        same!(rt; a.world().x(player), b.world().x(player), player);
-    }
+    played_alike(&rt, &a, &b, &c);
     Ok(())
 }
 
 /// A node that ran 33 tics plays on, and waits for player 2.
 fn waits(rt: &impl Abort, node: &mut Node<Walk>) {
     for tic in 30..33 {
-        same!(rt; node.run(), Ran::Ran(tic));
+        same!(rt; run(node), Ran::Ran(tic));
     }
     for _ in 0..3 {
-        same!(rt; node.run(), Ran::Waiting(2));
+        same!(rt; run(node), Ran::Waiting(2));
     }
     same!(rt; (node.ran(), node.end(2)), (33, None));
     same!(rt; node.phase(), Phase::Playing);

@@ -1,10 +1,12 @@
 //! Tests of consistency marks, which commands carry and runs compare.
 
-use super::{FORWARD, NO_KEYS, SPEED, STILL, datagram, hears, pair, pass, tic, tics};
-use arrayvec::ArrayVec;
+use super::{
+    FORWARD, NO_KEYS, SPEED, STILL, build, datagram, given, hears, pair, pass, quit, received, run,
+    tic, tics,
+};
 use dn_node::{Cause, Heard, Node, Phase, Ran};
 use dn_packet::{EXIT, decode};
-use dn_tic::{Keys, TicCmd};
+use dn_tic::TicCmd;
 use dn_world::Walk;
 use std::alloc::Global;
 use std::process::Abort;
@@ -35,9 +37,9 @@ fn with_mark(
     mark: i16,
 ) -> Result<Ran, Fail> {
     let start = (key.made() % 256) as u8;
-    let _ = key.build(Keys::from_bits(FORWARD | SPEED));
-    let _ = other.build(Keys::from_bits(NO_KEYS));
-    let bytes = key.packet(1).ok_or("no packet")?;
+    let _ = build(key, FORWARD | SPEED);
+    let _ = build(other, NO_KEYS);
+    let bytes = given(key, 1)?;
     let command = TicCmd {
         mark,
         ..carried(rt, bytes.as_slice())?
@@ -49,7 +51,7 @@ fn with_mark(
         (0, (0, start, 0), &[command]),
         Heard::Taken(1),
     );
-    Ok(other.run())
+    Ok(run(other))
 }
 
 /// Builds on both nodes, and passes both their packets: the key player's command has this mark.
@@ -59,16 +61,16 @@ fn exchange(
     other: &mut Node<Walk>,
     mark: i16,
 ) -> Result<(), Fail> {
-    let _ = key.build(Keys::from_bits(FORWARD | SPEED));
-    let _ = other.build(Keys::from_bits(NO_KEYS));
-    let bytes = key.packet(1).ok_or("no packet")?;
+    let _ = build(key, FORWARD | SPEED);
+    let _ = build(other, NO_KEYS);
+    let bytes = given(key, 1)?;
     let command = TicCmd {
         forward: 50,
         mark,
         ..STILL
     };
     same!(rt; carried(rt, bytes.as_slice())?, command, key.ran());
-    same!(rt; other.receive(0, bytes.as_slice()), Heard::Taken(1), key.ran());
+    same!(rt; received(other, 0, bytes.as_slice()), Heard::Taken(1), key.ran());
     same!(rt; pass(other, key), Some(Heard::Taken(1)), mark);
     Ok(())
 }
@@ -84,8 +86,8 @@ fn commands_carry_marks_from_tic_twelve_on(rt: HostRuntime) -> Result<(), Fail> 
     .enumerate()
     {
         exchange(&rt, &mut key, &mut other, mark)?;
-        same!(rt; key.run(), other.run(), number);
-        same!(rt; key.ran() as usize, number.saturating_add(1));
+        same!(&rt; run(&mut key), run(&mut other), number);
+        same!(&rt; key.ran() as usize, number.saturating_add(1));
     }
     Ok(())
 }
@@ -100,23 +102,23 @@ fn another_mark_ends_a_node(rt: HostRuntime) -> Result<(), Fail> {
         was,
         should,
     };
-    same!(rt; ran, answer);
+    same!(&rt; ran, answer);
     let cause = Cause::Inconsistent {
         player,
         was,
         should,
     };
-    same!(rt; other.phase(), Phase::Ended(cause));
-    same!(rt; other.ran(), 13);
-    same!(rt; other.demo().len(), 13 + 10 * 13 + 1);
-    same!(rt; other.demo().last(), Some(&0x80));
-    same!(rt; other.run(), Ran::NotPlaying);
-    holds!(rt; !other.quit());
-    same!(rt; other.phase(), Phase::Ended(cause));
+    same!(&rt; other.phase(), Phase::Ended(cause));
+    same!(&rt; other.ran(), 13);
+    same!(&rt; other.demo().len(), 13 + 10 * 13 + 1);
+    same!(&rt; other.demo().last(), Some(&0x80));
+    same!(&rt; run(&mut other), Ran::NotPlaying);
+    holds!(&rt; !quit(&mut other));
+    same!(&rt; other.phase(), Phase::Ended(cause));
     // it tells the others, with the last command
     let exit = datagram(EXIT, (0, 13, 1), &[STILL]);
-    let told: ArrayVec<u8, 104> = other.packet(0).ok_or("no packet")?;
-    same!(rt; told.as_slice(), exit.as_slice());
+    let told = given(&mut other, 0)?;
+    same!(&rt; told.as_slice(), exit.as_slice());
     Ok(())
 }
 
@@ -150,7 +152,7 @@ fn the_mark_of_tic_twelve_is_not_compared(rt: HostRuntime) -> Result<(), Fail> {
     ] {
         let (mut key, mut other) = at_tic(rt.alloc(), count)?;
         let ran = with_mark(&rt, &mut key, &mut other, mark)?;
-        same!(rt; ran, answer, (count, mark));
+        same!(&rt; ran, answer, (count, mark));
     }
     Ok(())
 }
@@ -162,8 +164,8 @@ fn many_tics_are_consistent(rt: HostRuntime) -> Result<(), Fail> {
     for number in 0..60u32 {
         let keys = (number % 512, number.saturating_mul(7) % 512);
         let ran = Ran::Ran(number);
-        same!(rt; tic(&mut key, &mut other, keys), (ran, ran), number);
+        same!(&rt; tic(&mut key, &mut other, keys), (ran, ran), number);
     }
-    same!(rt; key.world().x(1), other.world().x(1));
+    same!(&rt; key.world().x(1), other.world().x(1));
     Ok(())
 }

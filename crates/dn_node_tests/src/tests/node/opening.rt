@@ -1,9 +1,8 @@
 //! Tests of how a node is made, and of how its world begins.
 
-use super::{LIMIT, choice, datagram, opened};
+use super::{LIMIT, build, choice, datagram, opened, received, run};
 use dn_node::{Config, Heard, Made, Node, NodeFault, Phase, Ran};
 use dn_packet::SETUP;
-use dn_tic::Keys;
 use dn_world::Walk;
 use std::test::Fail;
 
@@ -25,7 +24,7 @@ fn a_node_is_refused_as_its_lockstep_is(rt: HostRuntime) -> Result<(), Fail> {
             settings,
         };
         let made = Node::new(rt.alloc(), config, Walk::new());
-        same!(rt; made.err(), Some(fault));
+        same!(&rt; made.err(), Some(fault));
     }
     Ok(())
 }
@@ -41,8 +40,8 @@ fn refused_memory_is_told(rt: HostRuntime) -> Result<(), Fail> {
         settings: Some(choice()?),
     };
     match Node::new(rt.alloc(), config, Walk::new()) {
-        Ok(node) => same!(rt; node.phase(), Phase::Gathering),
-        Err(fault) => same!(rt; fault, NodeFault::Memory),
+        Ok(node) => same!(&rt; node.phase(), Phase::Gathering),
+        Err(fault) => same!(&rt; fault, NodeFault::Memory),
     }
     Ok(())
 }
@@ -51,15 +50,15 @@ fn refused_memory_is_told(rt: HostRuntime) -> Result<(), Fail> {
 #[test]
 fn a_world_begins_with_the_game(rt: HostRuntime) -> Result<(), Fail> {
     let mut node = opened(rt.alloc(), (2, 1), false, LIMIT, Walk::new())?;
-    same!(rt; (node.me(), node.settings()), (1, None));
-    same!(rt; node.build(Keys::from_bits(1)), Made::NotPlaying);
-    same!(rt; node.run(), Ran::NotPlaying);
-    same!(rt; node.world().x(0), None);
+    same!(&rt; (node.me(), node.settings()), (1, None));
+    same!(&rt; build(&mut node, 1), Made::NotPlaying);
+    same!(&rt; run(&mut node), Ran::NotPlaying);
+    same!(&rt; node.world().x(0), None);
     // skill 2, episode 1, map 1, as version 111
     let choice = datagram(SETUP, (2, 65, 111), &[]);
-    same!(rt; node.receive(0, choice.as_slice()), Heard::Started);
-    same!(rt; node.world().x(1), Some(4_194_304));
-    same!(rt; node.world().x(2), None);
-    same!(rt; (node.got(0), node.got(2)), (Some(0), None));
+    same!(&rt; received(&mut node, 0, choice.as_slice()), Heard::Started);
+    same!(&rt; node.world().x(1), Some(4_194_304));
+    same!(&rt; node.world().x(2), None);
+    same!(&rt; (node.got(0), node.got(2)), (Some(0), None));
     Ok(())
 }

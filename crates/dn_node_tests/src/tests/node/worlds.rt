@@ -1,10 +1,12 @@
 //! Tests of nodes over two worlds, of which one keeps its state in a vector.
 
-use super::{LEFT, LIMIT, NO_KEYS, RIGHT, SPEED, datagram, pair, pair_of, pass, tics};
+use super::{
+    LEFT, LIMIT, NO_KEYS, RIGHT, SPEED, build, datagram, pair, pair_of, pass, quit, received, run,
+    tics,
+};
 use dn_node::{Aim, Heard, Made, Node, Phase, Ran};
 use dn_packet::{KILL, RETRANSMIT};
 use dn_setup::Settings;
-use dn_tic::Keys;
 use dn_world::{Belt, Walk, World};
 use std::process::Abort;
 use std::test::Fail;
@@ -26,8 +28,8 @@ struct Answers {
 
 /// One tic of two nodes, with a lost packet in every fifth: what the first answers.
 fn one_tic<W: World>(node: &mut Node<W>, other: &mut Node<W>, tic: u32) -> Answers {
-    let made = node.build(Keys::from_bits(tic.wrapping_mul(0x9E37_79B1) >> 14));
-    let _ = other.build(Keys::from_bits(tic.wrapping_mul(0x85EB_CA6B) >> 14));
+    let made = build(node, tic.wrapping_mul(0x9E37_79B1) >> 14);
+    let _ = build(other, tic.wrapping_mul(0x85EB_CA6B) >> 14);
     let aim = node.aim(other.me());
     let heard = pass(other, node);
     if tic % 5 == 3 {
@@ -36,9 +38,9 @@ fn one_tic<W: World>(node: &mut Node<W>, other: &mut Node<W>, tic: u32) -> Answe
         let _ = pass(node, other);
     }
     let kill = datagram(KILL | RETRANSMIT, (0, 0, other.me()), &[]);
-    let dropped = node.receive(other.me(), kill.as_slice());
-    let ran = node.run();
-    let _ = other.run();
+    let dropped = received(node, other.me(), kill.as_slice());
+    let ran = run(node);
+    let _ = run(other);
     Answers {
         made,
         aim,
@@ -57,7 +59,7 @@ fn one_tic<W: World>(node: &mut Node<W>, other: &mut Node<W>, tic: u32) -> Answe
 /// request is heard within eleven packets.
 fn end<W: World>(rt: &impl Abort, node: &mut Node<W>, other: &mut Node<W>) {
     holds!(rt; node.ran() >= 30 && other.ran() >= 30);
-    holds!(rt; node.quit());
+    holds!(rt; quit(node));
     for _ in 0..11 {
         if pass(node, other) == Some(Heard::Left) {
             break;
@@ -66,7 +68,7 @@ fn end<W: World>(rt: &impl Abort, node: &mut Node<W>, other: &mut Node<W>) {
     }
     same!(rt; other.end(node.me()), Some(node.made()));
     same!(rt; other.got(node.me()), Some(node.made()));
-    holds!(rt; other.quit());
+    holds!(rt; quit(other));
 }
 
 #[test]
@@ -79,15 +81,15 @@ fn nodes_of_two_worlds_answer_alike(rt: HostRuntime) -> Result<(), Fail> {
     for tic in 0..40 {
         let one = one_tic(&mut belt, &mut other_belt, tic);
         let two = one_tic(&mut walk, &mut other_walk, tic);
-        same!(rt; one, two, tic);
+        same!(&rt; one, two, tic);
         let other_one = one_tic(&mut other_belt, &mut belt, tic);
         let other_two = one_tic(&mut other_walk, &mut walk, tic);
-        same!(rt; other_one, other_two, tic);
+        same!(&rt; other_one, other_two, tic);
     }
     end(&rt, &mut belt, &mut other_belt);
     end(&rt, &mut walk, &mut other_walk);
-    same!(rt; belt.demo(), walk.demo());
-    same!(rt; other_belt.demo(), other_walk.demo());
+    same!(&rt; belt.demo(), walk.demo());
+    same!(&rt; other_belt.demo(), other_walk.demo());
     Ok(())
 }
 
@@ -98,20 +100,20 @@ fn a_node_steps_its_world(rt: HostRuntime) -> Result<(), Fail> {
     let belts = (Belt::new(alloc)?, Belt::new(alloc)?);
     let (mut key, mut other) = pair_of(alloc, false, LIMIT, belts)?;
     // map 1
-    same!(rt; key.world().places(), [1, 1, 1, 1].as_slice());
+    same!(&rt; key.world().places(), [1, 1, 1, 1].as_slice());
     for (keys, places) in [
         (0x100, [1, 1, 1, 1]),
         (0x200, [2, 1, 1, 1]),
         (0x300, [3, 1, 1, 2]),
         (0, [0, 1, 1, 3]),
     ] {
-        let _ = key.build(Keys::from_bits(keys));
-        let _ = other.build(Keys::from_bits(0x100));
-        same!(rt; pass(&mut key, &mut other), Some(Heard::Taken(1)));
-        same!(rt; pass(&mut other, &mut key), Some(Heard::Taken(1)));
-        same!(rt; key.run(), other.run());
-        same!(rt; key.world().places(), places.as_slice());
-        same!(rt; other.world().places(), places.as_slice());
+        let _ = build(&mut key, keys);
+        let _ = build(&mut other, 0x100);
+        same!(&rt; pass(&mut key, &mut other), Some(Heard::Taken(1)));
+        same!(&rt; pass(&mut other, &mut key), Some(Heard::Taken(1)));
+        same!(&rt; run(&mut key), run(&mut other));
+        same!(&rt; key.world().places(), places.as_slice());
+        same!(&rt; other.world().places(), places.as_slice());
     }
     Ok(())
 }
@@ -128,7 +130,7 @@ fn a_world_uses_whole_turns(rt: HostRuntime) -> Result<(), Fail> {
     ] {
         let (mut key, mut other) = pair(rt.alloc(), false)?;
         tics(&mut key, &mut other, 7, (keys, NO_KEYS));
-        same!(rt; key.world().angle(0), Some(angle), keys);
+        same!(&rt; key.world().angle(0), Some(angle), keys);
     }
     Ok(())
 }
