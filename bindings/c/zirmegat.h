@@ -47,8 +47,8 @@
 extern "C" {
 #endif
 
-/* The version of this header: 65,536 times the first number, and the second. The first changes only where a
- * program that was written for another would no longer do. */
+/* The version of this header: 65,536 times the first number, plus the second. The first changes only where a
+ * program that was written for another would no longer work. */
 #define ZMG_VERSION 65536u
 /* The version of the library that is linked. */
 uint32_t zmg_version(void);
@@ -56,8 +56,8 @@ uint32_t zmg_version(void);
 /* ---- A node ------------------------------------------------------------------------------------------- */
 
 /* A node, or none. The fields are the library's own. ZMG_NODE_NONE is an initialiser, for a handle that
- * holds nothing yet. To overwrite a handle that holds a node, with it or with another handle, leaks the
- * node's memory. zmg_node_free empties a handle. */
+ * holds nothing yet. Overwriting a handle that holds a node, be it with ZMG_NODE_NONE or with another handle,
+ * leaks the node's memory. zmg_node_free empties a handle. */
 typedef struct zmg_node {
     uint8_t live;
     void *at;
@@ -193,8 +193,8 @@ typedef struct zmg_heard {
  * since ask lies at most 5 before start. Where it goes by age, it drops what is older than 47 tics (1.3
  * seconds at 35 builds a second): a new packet may already lie 17 tics away. The packets of a player
  * who has left keep their start while the others play on, so their age does not tell how far away it lies:
- * once zmg_node_ran has reached that player's zmg_node_end, they are dropped. A set-up packet may come at any
- * time. */
+ * once zmg_node_ran has reached that player's zmg_node_end, the transport drops them. A set-up packet may
+ * come at any time. */
 zmg_heard zmg_node_receive(zmg_node *node, uint8_t from, const uint8_t *bytes, size_t length);
 
 /* A player's move in one tic, where present is 1; else all 0. forward and side in units of 2048 in a world
@@ -222,9 +222,9 @@ typedef struct zmg_ran {
     uint8_t player;
 } zmg_ran;
 
-/* Runs the next tic. marks: each player's mark in the caller's world as it stands; of seats without a
- * player any. At ZMG_RUN_RAN row has the moves by which the world is stepped next; else row stays as it
- * is. */
+/* Runs the next tic. marks: each player's mark in the caller's world as it stands; any number for a seat
+ * without a player. At ZMG_RUN_RAN row has the moves by which the world is stepped next; else row stays as
+ * it is. */
 zmg_ran zmg_node_run(zmg_node *node, const int16_t marks[4], zmg_move row[4]);
 
 /* Ends the node: 1 where it had not ended, else 0. If it has played, it still gives packets, which tell the

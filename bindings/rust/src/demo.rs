@@ -176,7 +176,8 @@ impl fmt::Debug for Demo {
 /// The most bytes that a demo may have.
 const MOST: usize = 1 << 24;
 
-/// Writes a demo anew as version 111, within `limit` bytes: 1,024 to 16,777,216. It takes memory for as many.
+/// Writes a demo anew as version 111, within `limit` bytes: 1,024 to 16,777,216. While it works, it takes
+/// memory for twice the limit and for a copy of the demo.
 pub fn upgrade(bytes: &[u8], limit: usize) -> Result<Vec<u8>, UpgradeError> {
     // one byte more than the largest limit is refused like any larger one
     let room = limit.min(MOST + 1);

@@ -82,7 +82,7 @@ pub use values::{
     Aim, Cause, Config, Dropped, Heard, Keys, Made, Move, Phase, Ran, Settings, Start,
 };
 
-/// The version of the library that is linked: 65,536 times the first number, and the second.
+/// The version of the library that is linked: 65,536 times the first number, plus the second.
 pub fn version() -> u32 {
     // SAFETY: it asks for nothing.
     unsafe { raw::zmg_version() }

@@ -11,7 +11,7 @@ use std::fmt;
 pub enum NodeError {
     /// Not 2 to 4 players.
     Players,
-    /// No player of the game.
+    /// `me` is not below `players`.
     Me,
     /// The demo's limit is not 1,024 to 16,777,216 bytes.
     Limit,
@@ -87,7 +87,8 @@ impl Node {
         values::made(unsafe { raw::zmg_node_build(&mut self.0, keys.0) })
     }
 
-    /// The next packet to a player. Each call is taken as sent.
+    /// The next packet to a player. Each call is taken as sent. None for this node's own number, for a number
+    /// that is no player's, while the node listens, and where it has ended before its game started.
     pub fn packet(&mut self, to: u8) -> Option<Datagram> {
         let mut datagram = Datagram {
             bytes: [0; 104],

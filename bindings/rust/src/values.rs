@@ -106,7 +106,7 @@ impl Config {
         }
     }
 
-    /// Of another player.
+    /// Of another player, with a demo of at most 1 MiB. `me` is 1 to `players` - 1.
     pub fn other(players: u8, me: u8) -> Config {
         Config {
             players,
@@ -139,7 +139,7 @@ impl Keys {
     pub const ATTACK: Keys = Keys(1 << 8);
     pub const USE: Keys = Keys(1 << 9);
 
-    /// The key of a weapon, 1 to 8.
+    /// The key of a weapon, 1 to 8; no key for any other number.
     pub const fn weapon(number: u8) -> Keys {
         if number >= 1 && number <= 8 {
             Keys(1 << (9 + number))
@@ -241,7 +241,7 @@ pub enum Heard {
     Gap,
     /// The sender has left, and all its commands are here: see `end`.
     Left,
-    /// Player 0 waits for others yet, or this node has ended.
+    /// Player 0 heard the sender and still waits for others, or this node has ended.
     Noted,
     /// It changed nothing.
     Dropped(Dropped),
@@ -255,7 +255,7 @@ pub enum Ran {
     Ran(u32),
     /// The command of this player is missing.
     Waiting(u8),
-    /// The demo is full, and the node has ended.
+    /// The demo has no room for the tic, or the most tics were run, and the node has ended.
     DemoFull,
     /// The worlds of this node and of `player` differ, and the node has ended.
     #[allow(missing_docs)]
@@ -270,7 +270,7 @@ pub enum Ran {
 pub enum Cause {
     /// It quit.
     Quit,
-    /// The demo was full.
+    /// The demo had no room for the next tic, or the most tics were run.
     Full,
     /// The mark of `player` was `was` in place of `should`.
     #[allow(missing_docs)]

@@ -75,8 +75,8 @@ abbrev pub Takes : {S W : Type 0} → (W → S) → Physics S → Feeding W → 
 Takes state physics old piece new = (bytes : List ℕ) → Shows state physics bytes old
     → Shows state physics (bytes ++ piece) new
 
--- what holds of every feed: nothing is counted before the header is whole, and a row is shorter than a whole
--- one
+-- what holds of every feed: no tic is counted before the header is whole, and the bytes that are kept of a row
+-- are fewer than a whole row has
 pub record IsKept {W : Type 0} (f : Feeding W) : Type 0 where
   pub played : f.tics ≤ f.taken
   pub behind : f.after ≤ f.taken

@@ -9,8 +9,8 @@ use Rattle.dn_game.specs.declared.config.GameConfig.{GameConfig}
 use Rattle.dn_game.specs.declared.config.GameFault.{GameFault}
 use Rattle.dn_game.specs.declared.config.GameFault.TheVariants.{Players, Limit, Memory}
 
--- a game of this many worlds is made where nothing is wrong, and else refused for the first thing that is;
--- memory can be refused only where nothing is
+-- a game of this many worlds is made where nothing is wrong, and else refused for the first thing that is
+-- wrong; `Memory` is answered only where nothing else is
 abbrev pub IsAdmitted : {A : Type 0} → GameConfig → ℕ → Result A GameFault → Type 0
 IsAdmitted config worlds (Ok game) = IsGame worlds × IsLimit config.limit
 IsAdmitted config worlds (Err Players) = ¬ IsGame worlds

@@ -20,7 +20,7 @@ use Rattle.dn_game.specs.KeysMade.{keys_made}
 use Rattle.dn_game.specs.Played.{Plays, IsPlayed, IsReachedWith}
 use Rattle.dn_game.specs.Represents.{Represents}
 
--- it represents a game that the events may leave
+-- it represents a game that the events may lead to
 pub record IsReached {W S : Type 0} (state : W → S) (rules : Rules S) (settings : Settings)
     (events : List Event) (g : Contents W) : Type 0 where
   pub last : machine.Game
@@ -46,8 +46,8 @@ pub record IsSteady (answer : Result Done Refusal) : Type 0 where
   pub kept : (number : ℕ) → answer ≡ Ok (Done.Heard (Heard.Dropped number))
       → (number ≡ drops.out_of_place) ⊎ (number ≡ drops.not_playing)
 
--- What is promised of a game that these events leave with these answers: by the game of the machine that it
--- represents, by its answers, and by what its nodes tell.
+-- What is promised of a game that these events lead to, with these answers: by the game of the machine that
+-- it represents, by the answers, and by what its nodes tell.
 pub record IsPromised {W S : Type 0} (state : W → S) (rules : Rules S) (settings : Settings)
     (events : List Event) (answers : List (Result Done Refusal)) (last : machine.Game)
     (g : Contents W) : Type 0 where

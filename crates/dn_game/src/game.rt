@@ -60,7 +60,7 @@ impl<W: World> Game<W> {
         self.pool.len()
     }
 
-    /// The packet that was sent as this one, counted from 0.
+    /// The packet of this number, counted from 0 in order of sending; None where no packet has it.
     pub fn flight(&self, which: usize) -> Option<Flight>
         ensures { result ≡ slice_get (contents self.now).flights which }
     {

@@ -20,9 +20,9 @@ use dn_tic::Keys;
 use dn_world::World;
 use std::alloc::Global;
 
-/// Whatever events a game has met: if no node was lost, fourteen good rounds raise the fewest tics run by
-/// a node that has not ended, and every thirteen rounds more raise them again, as long as there is room for
-/// five tics beyond those.
+/// Whatever events a game has met: if no node was lost, fourteen good rounds raise the least number of tics
+/// that any node which has not ended has run, and every thirteen further rounds raise it again, as long as
+/// there is room for five tics more than that.
 pub fn reached_games_go_on<W: World>()
     ensures fourteen { (players : ℕ) (extra : Bool) (capacity : ℕ) (settings : Settings) (events : List Event)
         (g later : Contents W)

@@ -15,8 +15,8 @@ ghost use Rattle.dn_game.specs.Promised.{IsReached, IsPromised, IsSteady};
 
 use dn_world::World;
 
-/// Whatever game of the machine a game represents: if a list of events may leave it, it has all that is
-/// promised, and the nodes agree in what they tell of themselves.
+/// Whatever game of the machine a game represents: if a list of events may lead to that one, all that is
+/// promised holds of it, and the nodes agree in what they tell of themselves.
 pub fn reached_games_agree<W: World>()
     ensures promised { (players : ℕ) (extra : Bool) (capacity : ℕ) (settings : Settings) (events : List Event)
         (g : Contents W)

@@ -125,7 +125,7 @@ impl Pool {
         &self.bytes[record.place..record.place + usize::from(record.length)]
     }
 
-    /// The packet that was sent as this one, counted from 0.
+    /// The packet of this number, counted from 0 in order of sending; None where no packet has it.
     pub(crate) fn flight(&self, which: usize) -> Option<Flight>
         ensures { result ≡ slice_get self.now.flights which }
     {

@@ -1,6 +1,7 @@
 //! Tests of lines, of turns, of all nodes of a game, of the program's subcommands, and of its command line.
 
 ghost use Rattle.std.specs.Prelude.{◌≤◌, ◌<◌, IfOk};
+ghost use Rattle.dn_line.specs.Udp.{IsBase};
 
 /// Compares two values, and names what was compared. An `assert_eq!` is proved anew at each place, which
 /// takes several times as long as this call.
@@ -60,7 +61,7 @@ fn free_line<R: Net>(
     last: u8,
 ) -> Result<(UdpLine, u16), LineFault>
     requires { (1024 < area) × (area ≤ 60000) × (last < 2) }
-    ensures { IfOk result (λ found. (1024 < found.1) × (found.1 ≤ 65532)) }
+    ensures { IfOk result (λ found. IsBase found.1) }
 {
     for step in 0..200u16 {
         let base = area + 8 * step;

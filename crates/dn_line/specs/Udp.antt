@@ -1,9 +1,13 @@
 -- A line over UDP: what can be said of it without the network.
-use Rattle.std.specs.Prelude.{◌≡◌, ◌⊎◌, ℕ, ◌<◌, Bool, false, not, ◌&&◌, ◌==◌, nat_lt, nat_le, List, Option, Result, IsErr, IfErr, IfOk, IfSome}
+use Rattle.std.specs.Prelude.{◌≡◌, ◌⊎◌, ℕ, ◌<◌, ◌≤◌, Bool, false, not, ◌&&◌, ◌==◌, nat_lt, nat_le, List, Option, Result, IsErr, IfErr, IfOk, IfSome}
 use Rattle.dn_line.specs.Counts.{Done, count_after}
 use Rattle.dn_line.specs.declared.line.Datagram.{Datagram}
 use Rattle.dn_line.specs.declared.line.LineFault.{LineFault}
 use Rattle.dn_line.specs.declared.line.LineFault.TheVariants.{Send, Poll}
+
+-- where player 0 may be: not below 1024, and with room above for the ports of three more players
+abbrev pub IsBase : ℕ → Type 0
+IsBase port = (1024 ≤ port) × (port ≤ 65532)
 
 -- the players' ports, from a base on, which of them are bound here, and how many calls failed
 pub record Ports : Type 0 where

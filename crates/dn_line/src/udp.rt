@@ -1,7 +1,7 @@
 //! A line over UDP, between the ports of this machine.
 
-ghost use Rattle.std.specs.Prelude.{◌≡◌, ◌⊎◌, ◌<◌, ◌≤◌, ◌+◌, false, is_some, IsErr, IfOk, IfErr, IfSome};
-ghost use Rattle.dn_line.specs.Udp.{is_bound, is_route, UdpSends, UdpPolls};
+ghost use Rattle.std.specs.Prelude.{◌≡◌, ◌⊎◌, ◌<◌, ◌≤◌, ◌+◌, true, false, is_some, IsErr, IfOk, IfErr, IfSome};
+ghost use Rattle.dn_line.specs.Udp.{IsBase, is_bound, is_route, UdpSends, UdpPolls};
 ghost use Rattle.dn_line.specs.declared.line.LineFault.TheVariants.{Bind, Send, Poll};
 
 use crate::line::{Datagram, KEPT, Line, LineFault};
@@ -45,6 +45,14 @@ impl Model for UdpLine {
         × (l.last + 1 ≤ l.first + vec_len l.sockets) };
 }
 
+/// Whether player 0 may be at this port: 1024 to 65532. Above, there is no room for the ports of three more.
+pub fn is_base(port: u16) -> bool
+    ensures yes { result ≡ true → IsBase port }
+    ensures no { IsBase port → result ≡ true }
+{
+    (1024..=65_532).contains(&port)
+}
+
 /// A socket of this port, which does not wait.
 fn socket(rt: &impl Net, port: u16) -> io::Result<UdpSocket> {
     let socket = UdpSocket::bind(rt, SocketAddr::from((Ipv4Addr::LOCALHOST, port)))?;
@@ -62,7 +70,7 @@ impl UdpLine {
         last: u8,
         players: u8,
     ) -> Result<UdpLine, LineFault>
-        requires base { (1024 ≤ base) × (base ≤ 65532) }
+        requires base { IsBase base }
         requires players { (2 ≤ players) × (players ≤ 4) }
         requires bound { (first ≤ last) × (last < players) }
         ensures line { IfOk result (λ line. line

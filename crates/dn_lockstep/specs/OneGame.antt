@@ -17,7 +17,7 @@ use Rattle.dn_lockstep.specs.Contents.{Contents}
 use Rattle.dn_lockstep.specs.Represents.{Represents, is_demo_closed}
 use Rattle.dn_lockstep.specs.Rows.{seats_of}
 
--- each player's lockstep represents the player's node of one game of the machine, which these events leave.
+-- each player's lockstep represents the player's node of one game of the machine, to which these events lead.
 -- The contracts of the calls keep this true, as long as every call is one of the events and every caller
 -- hands in its own world's marks
 pub record AreOneGame {S : Type 0} (rules : Rules S) (settings : Settings) (events : List Event)

@@ -81,7 +81,7 @@ pub record HasTable (players count : ℕ) (table : ℕ → ℕ → ℤ) (tics : 
 -- what it has recorded
 pub record HasRecorded (players : ℕ) (recorded : Recorded) (played : Bool) (text : List ℕ) (is_done : Bool)
     (rows : List (List (Option Move))) : Type 0 where
-  -- its demo is that of its rows, and the marker is written where they say so
+  -- its demo is this text; once it has played, the marker is written just where `is_done` says
   pub bytes : recorded.bytes ≡ text
   pub closed : played ≡ true → is_closed recorded.stage ≡ is_done
   -- and no move of those rows would read as the marker

@@ -31,8 +31,8 @@ use dn_machine::Phase;
 use dn_setup::{Gather, Settings};
 use dn_tic::Builder;
 
-/// One player's node without a world. A contract sees it as what it holds, and as the node of the machine
-/// that this represents.
+/// One player's node without a world. A contract sees its contents, and the node of the machine that these
+/// represent.
 #[derive(Drop)]
 pub struct Lockstep {
     players: u8,

@@ -19,7 +19,7 @@ use dn_tic::{Move, round};
 /// The last tic whose marks are not compared (`g_game.c`, G_Ticker).
 const LAST_UNCHECKED: u32 = 12;
 
-/// The most tics that are run: the next is not run, where it lacks a player.
+/// The most tics that a node runs once a player has left. A demo with every player is full before that.
 const TIC_LIMIT: u32 = 2_097_150;
 
 /// Which seats are taken.
@@ -133,7 +133,7 @@ pub(crate) fn fill_row(
     whole
 }
 
-/// The tic at which a node ends in place of running a row, which lacks a player or is whole.
+/// The tic at which a node ends instead of running its row; `whole` tells whether the row has every player.
 pub(crate) fn full_at(whole: bool, capacity: u32) -> u32
     ensures { result ≡ (if whole then capacity else tic_limit) }
 {

@@ -22,7 +22,7 @@ pub record Flight : Type 0 where
   pub request : Option ℕ
   pub commands : List TicCmd
 
--- a packet by which its sender tells that it has left (d_net.h)
+-- a packet by which its sender tells that it has left (d_net.c, NCMD_EXIT)
 abbrev pub is_exit : Kind → Bool
 is_exit (SetUp settings) = false
 is_exit Play = false

@@ -1,6 +1,6 @@
 -- What a packet does to the node that it comes to (d_net.c, GetPackets). That an overrun is dropped, that a
--- request is bounded, and that EXIT tells its sender's end are rules of this project; ten packets after a
--- request is RESENDCOUNT of d_net.c.
+-- request is bounded, and that EXIT tells its sender's end are rules of this project. For ten packets after a
+-- request further ones are ignored, as by RESENDCOUNT of d_net.c.
 use Rattle.std.specs.Prelude.{ℕ, ◌+◌, ◌-◌, Bool, true, false, not, ◌&&◌, ◌||◌, ◌++◌, nat_lt, nat_le, ◌==◌, if◌then◌else◌, drop, Option, Some, None}
 use Rattle.dn_setup.specs.Settings.{Settings}
 use Rattle.dn_setup.specs.Gathered.{all_noted}
@@ -34,7 +34,7 @@ abbrev pub requested_tic : Option ℕ → ℕ
 requested_tic None = 0
 requested_tic (Some tic) = tic
 
--- a request is met unless one was met within the last ten packets of that peer
+-- a request that can be met is noted, unless one was within the last ten packets of that peer
 abbrev pub after_request : ℕ → Peer → Option ℕ → Peer
 after_request made peer request =
     if peer.pause == 0 && is_within made request

@@ -23,10 +23,10 @@ pub record Node : Type 0 where
   pub rows : List (List (Option Move))
   -- what it keeps of each peer
   pub peers : ℕ → Peer
-  -- whether it was heard while gathering
+  -- by number, which players it has heard while it gathered
   pub noted : ℕ → Bool
 
--- at one place another thing
+-- the same but at one place, where it is another thing
 abbrev pub put : {A : Type 0} → (ℕ → A) → ℕ → A → ℕ → A
 put all place new other = if other == place then new else all other
 

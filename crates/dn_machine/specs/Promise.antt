@@ -67,13 +67,13 @@ end_or game player tic = if has_left (game.nodes player) then made player (game.
 
 -- Windows: no ring of twelve overwrites a command that a node that has not ended still needs.
 pub record Fits {S : Type 0} (rules : Rules S) (game : Game) : Type 0 where
-  -- a node has every command of the tics that it ran, up to its player's end, and at most ten that it has not
-  -- run yet
+  -- of each player a node has every command of the tics that it ran, up to that player's end, and at most ten
+  -- that it has not run yet
   pub run : (q p : ℕ) → q < rules.players → p < rules.players
       → min (ran (game.nodes q)) (end_or game p (ran (game.nodes q))) ≤ got (game.nodes q) p
   pub unread : (q p : ℕ) → q < rules.players → p < rules.players
       → got (game.nodes q) p ≤ ran (game.nodes q) + 10
-  -- it has no command that was not made, and at most ten that were made are missing
+  -- it has no command that was not made; and until it ends, it lacks at most ten that were made
   pub held : (q p : ℕ) → q < rules.players → p < rules.players → got (game.nodes q) p ≤ made p (game.nodes p)
   pub unheard : (q p : ℕ) → q < rules.players → p < rules.players → is_ended (game.nodes q).phase ≡ false
       → made p (game.nodes p) ≤ got (game.nodes q) p + 10
@@ -85,10 +85,10 @@ pub record Fits {S : Type 0} (rules : Rules S) (game : Game) : Type 0 where
   pub room : (q : ℕ) → q < rules.players → length (demo_rows rules (game.nodes q)) ≤ rules.capacity
   pub least : (q p : ℕ) → q < rules.players → p < rules.players
       → length (demo_rows rules (game.nodes q)) ≤ made p (game.nodes p)
-  -- no more tics are run than may be, where no demo has more
+  -- no node runs more tics than the limit, where a demo's capacity is not above it
   pub most : (q : ℕ) → q < rules.players → rules.capacity ≤ tic_limit → ran (game.nodes q) ≤ tic_limit
 
--- Steadiness: nothing that was truly sent is taken for wrong.
+-- Steadiness: no consistency check fails, and a node that plays drops nothing that was sent but set-up.
 pub record Steady {S : Type 0} (rules : Rules S) (game : Game) : Type 0 where
   -- no consistency check failed
   pub consistent : (q : ℕ) (player : ℕ) (was should : ℤ) → q < rules.players

@@ -9,7 +9,7 @@ use Rattle.dn_machine.specs.declared.answers.Ran.{Ran}
 use Rattle.dn_machine.specs.Worlds.{Rules, row_of}
 use Rattle.dn_machine.specs.Node.{Node, ends_of, got, ran, held_at, own_mark, lowest, is_whole}
 
--- the most tics that a node runs; while nobody has left, its demo is full before
+-- the most tics that a node runs by rows that lack a player; whole rows are bounded by the capacity
 abbrev pub tic_limit : ℕ
 tic_limit = 2097150
 

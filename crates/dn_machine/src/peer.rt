@@ -3,7 +3,7 @@
 /// What a node keeps of a peer.
 #[derive(Clone, Copy, Debug)]
 pub struct Peer {
-    /// The first tic of the next packet to it.
+    /// From which tic on it is sent commands next, if that is at most twelve behind what the node made.
     pub resend: u32,
     /// Whether the next packet asks it for a resend.
     pub want: bool,

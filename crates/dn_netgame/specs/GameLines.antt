@@ -14,7 +14,7 @@ node_lines stopped number [] = []
 node_lines stopped number (n ∷ ns) =
     node_line (node.contents n) (slice_index_or stopped number false) ++ node_lines stopped (number + 1) ns
 
--- how many events did something, how many were refused, and how many packets were sent
+-- how many events were not refused, how many were refused, and how many packets were sent
 unfoldable pub events_line : {W : Type 0} → Played W → List ℕ
 events_line p = labelled (
     (codes "events ", pos p.done)

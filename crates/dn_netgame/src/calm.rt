@@ -1,4 +1,4 @@
-//! A storm and the calm after it: the lines of a game whose packets come to arrive.
+//! A storm and the calm after it: the lines of a game whose last rounds lose no packet.
 
 ghost use Rattle.std.specs.Prelude.{◌≡◌, IfOk, OnOk};
 ghost use Rattle.std.specs.String.{string_bytes};

@@ -5,6 +5,7 @@ ghost use Rattle.std.specs.Option.{option_copied};
 ghost use Rattle.std.specs.String.{string_bytes};
 ghost use Rattle.dn_demo.specs.Recorded.{IsLimit};
 ghost use Rattle.dn_lockstep.specs.Opening.{IsGame};
+ghost use Rattle.dn_line.specs.Udp.{IsBase};
 ghost use Rattle.dn_turn.specs.Rounds.{LeadAll, TakeRounds};
 ghost use Rattle.dn_netgame.specs.GameLines.{node_lines};
 ghost use Rattle.dn_netgame.specs.LoopLines.{IsLoop};
@@ -84,7 +85,7 @@ fn play_all<R: Net>(
     seed: u64,
     count: u32,
 ) -> Result<Option<String>, RunFault>
-    requires base { (1024 ≤ base) × (base ≤ 65532) }
+    requires base { IsBase base }
     requires players { IsGame players }
     requires limit { IsLimit config.limit }
     ensures played { IfOk result
@@ -118,7 +119,7 @@ pub fn run_loop<R: Net, W: Write>(
     count: u32,
     output: &mut W,
 ) -> Result<u8, RunFault>
-    requires base { (1024 ≤ base) × (base ≤ 65532) }
+    requires base { IsBase base }
     requires players { IsGame players }
     requires limit { IsLimit config.limit }
     ensures { PrintsOrFails W.contents (IsLoop config players base seed count) output.old output.new result }

@@ -5,6 +5,7 @@ ghost use Rattle.std.specs.String.{string_bytes};
 ghost use Rattle.dn_demo.specs.Recorded.{IsLimit};
 ghost use Rattle.dn_node.specs.Contents.{contents};
 ghost use Rattle.dn_lockstep.specs.Opening.{IsGame, IsKeyed};
+ghost use Rattle.dn_line.specs.Udp.{IsBase};
 ghost use Rattle.dn_turn.specs.Rounds.{LeadAll};
 ghost use Rattle.dn_netgame.specs.NetLines.{PlaysOut, HasEverPlayed, IsPlay};
 ghost use Rattle.dn_netgame.specs.NodeLines.{node_line};
@@ -62,7 +63,7 @@ fn play<R: Net>(
     seed: u64,
     count: u32,
 ) -> Result<Option<Node<Walk>>, RunFault>
-    requires base { (1024 ≤ base) × (base ≤ 65532) }
+    requires base { IsBase base }
     requires players { IsGame config.players }
     requires me { config.me < config.players }
     requires keyed { IsKeyed config }
@@ -98,7 +99,7 @@ pub fn run_play<R: Net, W: Write>(
     raw: bool,
     output: &mut W,
 ) -> Result<u8, RunFault>
-    requires base { (1024 ≤ base) × (base ≤ 65532) }
+    requires base { IsBase base }
     requires players { IsGame config.players }
     requires me { config.me < config.players }
     requires keyed { IsKeyed config }

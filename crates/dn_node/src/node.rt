@@ -12,8 +12,7 @@ use dn_setup::Settings;
 use dn_world::World;
 use std::alloc::Global;
 
-/// One player's node. A contract sees it as what it holds, and as the node of the machine that this
-/// represents.
+/// One player's node. A contract sees its contents, and the node of the machine that these represent.
 #[derive(Drop)]
 pub struct Node<W> {
     lockstep: Lockstep,

@@ -1,16 +1,32 @@
 -- What is made of the options of a command line: each value and each flag is that of its own word.
-use Rattle.std.specs.Prelude.{◌≡◌, ℕ, Bool, true, false, List, Some, None, codes}
-use Rattle.std.specs.Str.Parse.{digits_value, without_leading_plus}
+use Rattle.std.specs.Prelude.{◌≡◌, ◌<◌, ◌^◌, ℕ, Bool, true, false, List, Option, Some, None, codes}
+use Rattle.std.specs.Str.Parse.{IsNumeral, digits_value, without_leading_plus}
 use Rattle.clap.specs.Matches.{found_of, one_text}
 use Rattle.clap.specs.declared.parser.matches.ArgMatches.{ArgMatches}
-use Rattle.dn_setup.specs.Settings.{Settings}
+use Rattle.dn_setup.specs.Settings.{Settings, IsSettings}
+use Rattle.dn_demo.specs.Recorded.{IsLimit}
+use Rattle.dn_line.specs.Udp.{IsBase}
+use Rattle.dn_lockstep.specs.Opening.{IsGame}
 use Rattle.dn_game.specs.declared.config.GameConfig.{GameConfig}
 
--- the decimal value of the text that an option was given, or else of its default; that the text is a number
--- in range is the parser's to check
+-- a value that is found is right; and where none is found, no value is right
+abbrev pub Finds : {A : Type 0} → (A → Type 0) → Option A → Type 0
+Finds IsRight (Some found) = IsRight found
+Finds {A} IsRight None = (a : A) → ¬ IsRight a
+
+-- a text is a number of 32 bits: its decimal digits, and perhaps a plus before them
+abbrev pub IsNumber : List ℕ → ℕ → Type 0
+IsNumber text number = IsNumeral 10 (without_leading_plus text) × (number < 2 ^ 32)
+    × (number ≡ digits_value 10 (without_leading_plus text))
+
+-- the number of an option: of the text that it was given, or else of its default
 abbrev pub IsNumberOf : ArgMatches → List ℕ → ℕ → Type 0
 IsNumberOf matches name number = (text : List ℕ)
-    × (one_text (found_of matches) name ≡ Some text) × (number ≡ digits_value 10 (without_leading_plus text))
+    × (one_text (found_of matches) name ≡ Some text) × IsNumber text number
+
+-- the number of an option, where it fits into a byte
+abbrev pub IsByteOf : ArgMatches → List ℕ → ℕ → Type 0
+IsByteOf matches name number = IsNumberOf matches name number × (number < 2 ^ 8)
 
 -- whether a flag was given: clap keeps the text `true` or `false` for it
 pub record IsFlagOf (matches : ArgMatches) (name : List ℕ) (flag : Bool) : Type 0 where
@@ -26,10 +42,30 @@ pub record IsSettingsOf (matches : ArgMatches) (settings : Settings) : Type 0 wh
   pub deathmatch : IsNumberOf matches (codes "deathmatch") settings.deathmatch
   pub respawn : IsFlagOf matches (codes "respawn") settings.respawn
   pub no_monsters : IsFlagOf matches (codes "nomonsters") settings.no_monsters
+  pub in_range : IsSettings settings
+
+-- the most bytes of a demo
+pub record IsLimitOf (matches : ArgMatches) (limit : ℕ) : Type 0 where
+  pub number : IsNumberOf matches (codes "limit") limit
+  pub in_range : IsLimit limit
 
 -- the rules of a game and its number of players, each by its own option
-pub record IsGameOf (matches : ArgMatches) (config : GameConfig) (count : ℕ) : Type 0 where
-  pub players : IsNumberOf matches (codes "players") count
-  pub choice : IsSettingsOf matches config.settings
-  pub extra : IsFlagOf matches (codes "extra") config.extra
-  pub limit : IsNumberOf matches (codes "limit") config.limit
+pub record IsGameOf (matches : ArgMatches) (game : GameConfig × ℕ) : Type 0 where
+  pub players : IsNumberOf matches (codes "players") game.1
+  pub choice : IsSettingsOf matches game.0.settings
+  pub extra : IsFlagOf matches (codes "extra") game.0.extra
+  pub limit : IsLimitOf matches game.0.limit
+  pub in_range : IsGame game.1
+
+-- the seed of a storm, how many events it has, and how many rounds come after it
+pub record IsStormOf (matches : ArgMatches) (storm : ℕ × ℕ × ℕ) : Type 0 where
+  pub seed : IsNumberOf matches (codes "seed") storm.0
+  pub count : IsNumberOf matches (codes "count") storm.1
+  pub calm : IsNumberOf matches (codes "calm") storm.2
+
+-- the seed of the keys, how many rounds there are, and the port of player 0
+pub record IsRoundsOf (matches : ArgMatches) (rounds : ℕ × ℕ × ℕ) : Type 0 where
+  pub seed : IsNumberOf matches (codes "seed") rounds.0
+  pub count : IsNumberOf matches (codes "rounds") rounds.1
+  pub base : IsNumberOf matches (codes "base") rounds.2
+  pub in_range : IsBase rounds.2

@@ -1,27 +1,28 @@
 //! The options of the command line, read: what a parsed command line says of the game, the storm, the rounds.
+//! A function answers None only where an option is missing, is not a number, or is out of range. The program
+//! never meets that: its parser has a default for each option and refuses the rest.
 #![tactic(auto)]
 
-ghost use Rattle.std.specs.Prelude.{◌≤◌, IfSome, codes};
-ghost use Rattle.dn_demo.specs.Recorded.{IsLimit};
-ghost use Rattle.dn_lockstep.specs.Opening.{IsGame};
-ghost use Rattle.dn_options.specs.Given.{IsNumberOf, IsFlagOf, IsGameOf, IsSettingsOf};
+ghost use Rattle.std.specs.Prelude.{codes};
+ghost use Rattle.dn_options.specs.Given.{Finds, IsNumberOf, IsByteOf, IsFlagOf, IsSettingsOf, IsLimitOf, IsGameOf, IsStormOf, IsRoundsOf};
 
 use clap::ArgMatches;
 use dn_demo::is_limit;
 use dn_game::GameConfig;
+use dn_line::is_base;
 use dn_lockstep::is_game;
 use dn_setup::Settings;
 
 /// The value of an option.
 fn value(matches: &ArgMatches<'_>, name: &str) -> Option<u32>
-    ensures { IfSome result (IsNumberOf matches.now name.now) }
+    ensures { Finds (IsNumberOf matches.now name.now) result }
 {
     matches.get_one::<u32>(name)
 }
 
 /// The value of an option, if it is no more than a byte holds.
 fn byte(matches: &ArgMatches<'_>, name: &str) -> Option<u8>
-    ensures { IfSome result (IsNumberOf matches.now name.now) }
+    ensures { Finds (IsByteOf matches.now name.now) result }
 {
     u8::try_from(value(matches, name)?).ok()
 }
@@ -35,7 +36,7 @@ fn flag(matches: &ArgMatches<'_>, name: &str) -> bool
 
 /// The choice of game.
 fn settings(matches: &ArgMatches<'_>) -> Option<Settings>
-    ensures { IfSome result (IsSettingsOf matches.now) }
+    ensures { Finds (IsSettingsOf matches.now) result }
 {
     let made = Settings::new(
         byte(matches, "skill")?,
@@ -48,20 +49,17 @@ fn settings(matches: &ArgMatches<'_>) -> Option<Settings>
     made.ok()
 }
 
-/// Most bytes of a demo. It is not missing, since the parser has read it and kept it to its range.
+/// Most bytes of a demo.
 pub fn limit(matches: &ArgMatches<'_>) -> Option<u32>
-    ensures in_range { IfSome result IsLimit }
-    ensures given { IfSome result (IsNumberOf matches.now (codes "limit")) }
+    ensures { Finds (IsLimitOf matches.now) result }
 {
     let limit = value(matches, "limit")?;
     if is_limit(limit) { Some(limit) } else { None }
 }
 
-/// The rules of a game, and how many players it has. None is missing, since the parser has read each
-/// value and kept it to its range.
+/// The rules of a game, and how many players it has.
 pub fn game(matches: &ArgMatches<'_>) -> Option<(GameConfig, u8)>
-    ensures in_range { IfSome result (λ game. IsLimit game.0.limit × IsGame game.1) }
-    ensures given { IfSome result (λ game. IsGameOf matches.now game.0 game.1) }
+    ensures { Finds (IsGameOf matches.now) result }
 {
     let players = byte(matches, "players")?;
     if !is_game(usize::from(players)) {
@@ -77,9 +75,7 @@ pub fn game(matches: &ArgMatches<'_>) -> Option<(GameConfig, u8)>
 
 /// The seed of a storm, how many events it has, and how many rounds without losses come after it.
 pub fn storm(matches: &ArgMatches<'_>) -> Option<(u64, u32, u32)>
-    ensures seed { IfSome result (λ given. IsNumberOf matches.now (codes "seed") given.0) }
-    ensures count { IfSome result (λ given. IsNumberOf matches.now (codes "count") given.1) }
-    ensures calm { IfSome result (λ given. IsNumberOf matches.now (codes "calm") given.2) }
+    ensures { Finds (IsStormOf matches.now) result }
 {
     let seed = value(matches, "seed")?;
     let count = value(matches, "count")?;
@@ -89,15 +85,12 @@ pub fn storm(matches: &ArgMatches<'_>) -> Option<(u64, u32, u32)>
 
 /// The seed of the keys, how many rounds there are, and the port of player 0.
 pub fn rounds(matches: &ArgMatches<'_>) -> Option<(u64, u32, u16)>
-    ensures in_range { IfSome result (λ given. (1024 ≤ given.2) × (given.2 ≤ 65532)) }
-    ensures seed { IfSome result (λ given. IsNumberOf matches.now (codes "seed") given.0) }
-    ensures rounds { IfSome result (λ given. IsNumberOf matches.now (codes "rounds") given.1) }
-    ensures base { IfSome result (λ given. IsNumberOf matches.now (codes "base") given.2) }
+    ensures { Finds (IsRoundsOf matches.now) result }
 {
     let seed = value(matches, "seed")?;
     let count = value(matches, "rounds")?;
     let base = u16::try_from(value(matches, "base")?).ok()?;
-    if !(1024..=65_532).contains(&base) {
+    if !is_base(base) {
         return None;
     }
     Some((u64::from(seed), count, base))
@@ -105,7 +98,7 @@ pub fn rounds(matches: &ArgMatches<'_>) -> Option<(u64, u32, u16)>
 
 /// Which player this is.
 pub fn me(matches: &ArgMatches<'_>) -> Option<u8>
-    ensures { IfSome result (IsNumberOf matches.now (codes "me")) }
+    ensures { Finds (IsByteOf matches.now (codes "me")) result }
 {
     byte(matches, "me")
 }

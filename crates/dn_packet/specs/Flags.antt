@@ -1,4 +1,4 @@
--- The flags of a packet (d_net.h).
+-- The flags of a packet (d_net.c).
 use Rattle.std.specs.Prelude.{ℕ}
 
 -- the receiver is to end the game

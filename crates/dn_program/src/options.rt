@@ -95,8 +95,8 @@ fn with_trace<'a>(alloc: Global, command: Command<'a>) -> Result<Command<'a>, Al
     command.arg(switch(alloc, "trace", about))
 }
 
-/// Adds the flag that asks for the script of a storm. It has no lines of its own for a trace, and no events
-/// for a calm.
+/// Adds the flag that asks for the script of a storm. It excludes `--trace` and `--calm`: a script has no place
+/// for the lines of a trace, and rounds are no events.
 fn with_script<'a>(alloc: Global, command: Command<'a>) -> Result<Command<'a>, AllocError> {
     let about = "Prints the events as a script and nothing else";
     let script = switch(alloc, "script", about);

@@ -70,7 +70,7 @@ fn netgame<'a>(alloc: Global) -> Result<Command<'a>, AllocError> {
 }
 
 /// Reads the words of a command line, the program's name first: the subcommand and its options, each number
-/// in its range, or clap's fault, which help and the version are too.
+/// in its range, or clap's `Error`, which also stands for help and for the version.
 pub fn matches_of<'a>(alloc: Global, words: &'a [String]) -> Result<ArgMatches<'a>, Error> {
     netgame(alloc)?.try_get_matches_from(words)
 }

@@ -20,8 +20,8 @@ keys_in seed round player =
     (pcg32 (advance 64 multiplier_64 round (started 64 multiplier_64 seed (increment_of 64 player)))).0 % 2 ^
     18
 
--- a node of the machine in its game: the number of players, whether packets repeat the last command, the
--- bytes of a demo, and the node's number
+-- a node of the machine in its game: the number of players, whether packets repeat the last command, how
+-- many tics fit into a demo, and the node's number
 pub record Seat : Type 0 where
   pub players : ℕ
   pub extra : Bool

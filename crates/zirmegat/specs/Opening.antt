@@ -37,7 +37,7 @@ settings_code SettingsFault.Deathmatch = 7
 settings_code SettingsFault.Episode = 8
 settings_code SettingsFault.Map = 9
 
--- no handle asks for settings where it has none, so that 3 is never told
+-- 3 is never answered: player 0 always has settings here, and no other player has
 abbrev pub fault_code : NodeFault → ℕ
 fault_code NodeFault.Players = 1
 fault_code NodeFault.Me = 2

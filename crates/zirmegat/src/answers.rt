@@ -9,7 +9,8 @@ use dn_tic::Move;
 
 /// Where a node stands. `code` is 0 for no node, 1 for one that listens, 2 for one that gathers, 3 for one
 /// that plays and 4 for one that has ended. `cause` is 0 but for a node that has ended: 1 where it quit, 2
-/// where its demo was full, 3 where the mark of `player` was `was` in place of `should`.
+/// where its demo was full or the most tics were run, 3 where the mark of `player` was `was` in place of
+/// `should`.
 #[repr(C)]
 #[derive(Clone, Copy, Debug, PartialEq, Eq)]
 pub struct PhaseAnswer {
@@ -99,8 +100,9 @@ impl BuildAnswer {
 }
 
 /// What a node answers to a datagram: 0 where it has started, 1 where it took `number` new commands, 2
-/// where it has them all, 3 where some before are missing, 4 where the sender has left, 5 where it noted the
-/// sender, 6 where it dropped the datagram, for the reason of this number.
+/// where no command was new, 3 where earlier commands are missing, 4 where the sender has left and all its
+/// commands are here, 5 where a gathering node noted the sender, or where the node has ended, 6 where it
+/// dropped the datagram, for the reason `number`.
 #[repr(C)]
 #[derive(Clone, Copy, Debug, PartialEq, Eq)]
 pub struct HeardAnswer {
@@ -128,7 +130,8 @@ impl HeardAnswer {
 }
 
 /// What a run answers: 0 where `tic` was run, 1 where the command of `player` is missing, 2 where the demo
-/// is full, 3 where the mark of `player` was `was` in place of `should`, 4 where the node does not play.
+/// is full or the most tics were run, 3 where the mark of `player` was `was` in place of `should`, 4 where
+/// the node does not play.
 #[repr(C)]
 #[derive(Clone, Copy, Debug, PartialEq, Eq)]
 pub struct RunAnswer {

@@ -58,7 +58,7 @@ pub extern "C" fn zmg_node_aim(node: &mut NodeHandle, to: u8) -> AimAnswer
 }
 
 /// Writes the next packet to a player, and answers how many bytes it has, and 0 where there is none.
-/// Where the room is not 104 bytes, the node is not asked.
+/// Where the room is below 104 bytes, it answers 0, and the node stays as it is.
 #[unsafe(no_mangle)]
 pub extern "C" fn zmg_node_packet(node: &mut NodeHandle, to: u8, out: &mut [u8]) -> usize
     ensures given { 104 ≤ length out.old → Calls (node_of node.old) (node_of node.new)
@@ -75,7 +75,7 @@ pub extern "C" fn zmg_node_packet(node: &mut NodeHandle, to: u8, out: &mut [u8])
     }
 }
 
-/// Hears a datagram of this player. Where it answers 0, the caller begins its world.
+/// Hears a datagram that came from player `from`. Where it answers 0, the caller begins its world.
 #[unsafe(no_mangle)]
 pub extern "C" fn zmg_node_receive(node: &mut NodeHandle, from: u8, bytes: &[u8]) -> HeardAnswer
     ensures { Calls (node_of node.old) (node_of node.new)

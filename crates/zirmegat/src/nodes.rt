@@ -26,7 +26,7 @@ fn boxed(alloc: Global, config: Config) -> Result<Box<Lockstep>, NodeFault>
 
 /// Makes a node in the handle, which gives up the node that it held. Answers 0, or why there is none: 6
 /// to 9 where player 0's skill, deathmatch, episode or map is out of range, and else the first of these:
-/// 1 not 2 to 4 players, 2 no player of the game, 4 the demo's limit out of range, 5 out of memory.
+/// 1 not 2 to 4 players, 2 `me` is not below `players`, 4 the demo's limit out of range, 5 out of memory.
 #[unsafe(no_mangle)]
 pub extern "C" fn zmg_node_new(alloc: Global, node: &mut NodeHandle, config: &NodeConfig) -> u32
     ensures { Opens config.now result (node_of node.new) }

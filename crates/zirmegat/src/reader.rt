@@ -41,7 +41,7 @@ impl DemoReader {
         }
     }
 
-    /// Reads the bytes as a demo, or answers why they are none, and then has none.
+    /// Reads the bytes as a demo; or answers why they are no demo, and then drops them.
     pub(crate) fn read(&mut self, alloc: Global) -> u32
         ensures reads { IsReadOut (reading_of self.old) (reading_of self.new) result }
         ensures no_memory { result ≢ 5 }

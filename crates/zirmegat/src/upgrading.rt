@@ -45,8 +45,10 @@ fn limit_of(room: usize) -> Option<u32>
     if is_limit(limit) { Some(limit) } else { None }
 }
 
-/// Writes the demo that these bytes are anew as version 111, where its upgrade fits into the room: its start,
-/// view, players and whole tics. The room is 1,024 to 16,777,216 bytes.
+/// Writes the demo that these bytes are anew as version 111: its start, view, players and whole tics. It
+/// refuses, in this order: bytes that are no demo, by 1 to 4 as `zmg_demo_read` does, or by 5 where there is
+/// no memory for a copy; 6, a room that is not 1,024 to 16,777,216 bytes; 7, an upgrade longer than the room;
+/// 5, no memory for it.
 #[unsafe(no_mangle)]
 pub extern "C" fn zmg_demo_upgrade(alloc: Global, bytes: &[u8], out: &mut [u8]) -> UpgradeAnswer
     ensures { Upgrades bytes.now (length out.old) out.old out.new result }

@@ -2,7 +2,7 @@
 
 ghost use Rattle.std.specs.Prelude.{◌≡◌};
 
-/// The version: 65,536 times the first number, and the second.
+/// The version: 65,536 times the first number, plus the second.
 const VERSION: u32 = 65_536;
 
 /// The version of the library that is linked.

@@ -62,7 +62,7 @@ impl<W: World> Game<W> {
         }
     }
 
-    /// Why an event is refused, if it is, wherever memory is there.
+    /// Why an event is refused, if it is, apart from want of memory.
     fn refused(&self, event: Event) -> Option<Refusal>
         ensures told { Tells W.state W.physics (contents self.now)
             (λ rules m. result ≡ refused rules.players m event) }

@@ -34,8 +34,8 @@ impl Lockstep {
         }
     }
 
-    /// Hears a datagram of this player. A datagram that is dropped changes nothing. At `Started` the caller
-    /// begins its world with the start of `settings` and the seats of `present`.
+    /// Hears a datagram that came from player `from`. A datagram that is dropped changes nothing. At `Started`
+    /// the caller begins its world with the start of `settings` and the seats of `present`.
     pub fn receive(&mut self, from: u8, bytes: &[u8]) -> Heard
         ensures any { HearsAny from bytes.now (contents self.old) (contents self.new) result }
         ensures near { HearsNear from bytes.now (contents self.old) (contents self.new) result }

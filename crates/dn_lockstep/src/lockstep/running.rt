@@ -46,7 +46,7 @@ impl Lockstep {
     }
 
     /// Runs the next tic (`d_net.c`, TryRunTics; `g_game.c`, G_Ticker), where no mark is off and the command
-    /// of every player is there who has not left by then. It is told each player's mark in the caller's world
+    /// of every player who has not left by then is there. It is told each player's mark in the caller's world
     /// as it stands, and where it answers `Ran`, it has filled in the row of moves by which that world goes
     /// on. Where it waits or does not play, it stays as it is, and so does the row; at `DemoFull` and
     /// `Inconsistent` the row means nothing.

@@ -91,7 +91,7 @@ impl<W: World> Node<W> {
         self.lockstep.packet(to)
     }
 
-    /// Hears a datagram of this player. A datagram that is dropped changes nothing.
+    /// Hears a datagram that came from player `from`. A datagram that is dropped changes nothing.
     pub fn receive(&mut self, from: u8, bytes: &[u8]) -> Heard
         ensures any { (read : Result Packet PacketFault) (told : Result Settings SetupFault)
             → IsReadAs bytes.now read → IsTold read told
@@ -128,7 +128,7 @@ impl<W: World> Node<W> {
     }
 
     /// Runs the next tic (`d_net.c`, TryRunTics; `g_game.c`, G_Ticker), where no mark is off and the command
-    /// of every player is there who has not left by then. A node that waits stays as it is.
+    /// of every player who has not left by then is there. A node that waits stays as it is.
     pub fn run(&mut self) -> Ran
         ensures step { Steps W.state W.physics (contents self.old) (contents self.new)
             (λ rules me m. on_run rules m) (λ ran. result ≡ ran) }

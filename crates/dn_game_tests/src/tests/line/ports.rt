@@ -2,7 +2,7 @@
 
 use super::came;
 use crate::tests::free_line;
-use dn_line::{Datagram, Line, LineFault, UdpLine};
+use dn_line::{Datagram, Line, LineFault, UdpLine, is_base};
 use std::test::Fail;
 
 /// How many polls are made for a datagram that is on its way.
@@ -16,6 +16,21 @@ fn awaited(line: &mut UdpLine, me: u8) -> Option<Datagram> {
         }
     }
     None
+}
+
+#[test]
+fn four_ports_fit_behind_the_last_base(rt: HostRuntime) {
+    for (port, may) in [
+        (0, false),
+        (1_023, false),
+        (1_024, true),
+        (5_029, true),
+        (65_532, true),
+        (65_533, false),
+        (65_535, false),
+    ] {
+        same!(&rt; is_base(port), may, port);
+    }
 }
 
 /// 64 datagrams, from either player in turn: each arrives once, with its bytes and its sender.

@@ -1,6 +1,7 @@
 //! Nodes over ports of this machine that are free.
 
 ghost use Rattle.std.specs.Prelude.{◌≡◌, ◌≤◌, ◌<◌, IfOk};
+ghost use Rattle.dn_line.specs.Udp.{IsBase};
 
 use super::games::{DEFAULT_LIMIT, rules};
 use super::streams::Sink;
@@ -26,7 +27,7 @@ fn play_alone<R: Net, W: Write>(
     raw: bool,
     output: &mut W,
 ) -> Result<Result<u8, RunFault>, SettingsFault>
-    requires { (1024 ≤ base) × (base ≤ 65532) }
+    requires { IsBase base }
 {
     let settings = Settings::new(2, 0, false, false, 1, 1)?;
     let config = Config {
@@ -42,7 +43,7 @@ fn play_alone<R: Net, W: Write>(
 /// Ports of two players that were free just now, from this one on.
 fn base<R: Net>(rt: &R, alloc: Global, area: u16) -> Result<u16, LineFault>
     requires { (1024 < area) × (area ≤ 60000) }
-    ensures { IfOk result (λ base. (1024 < base) × (base ≤ 65532)) }
+    ensures { IfOk result IsBase }
 {
     let (line, base) = free_line(rt, alloc, area, 1)?;
     drop(line);

@@ -117,3 +117,31 @@ fn seeds_and_counts_are_those_of_their_words(rt: HostRuntime) -> Result<(), Fail
     holds!(&rt; raw);
     Ok(())
 }
+
+/// Each row tells which of a limit, a game, a storm, rounds and a player are found.
+#[test]
+fn what_a_subcommand_has_no_options_for_is_not_found(rt: HostRuntime) -> Result<(), Fail> {
+    for (line, wanted) in [
+        ("netgame show", [false; 5]),
+        ("netgame upgrade", [true, false, false, false, false]),
+        ("netgame sim", [true, true, false, false, false]),
+        ("netgame storm", [true, true, true, false, false]),
+        ("netgame loop", [true, true, false, true, false]),
+        ("netgame play", [true, true, false, true, true]),
+    ] {
+        let words = split(rt.alloc(), line)?;
+        let matches = matches_of(rt.alloc(), words.as_slice())?;
+        let found = match matches.subcommand() {
+            Some((_, given)) => [
+                dn_options::limit(given).is_some(),
+                dn_options::game(given).is_some(),
+                dn_options::storm(given).is_some(),
+                dn_options::rounds(given).is_some(),
+                dn_options::me(given).is_some(),
+            ],
+            None => [true; 5],
+        };
+        same!(&rt; found, wanted, line);
+    }
+    Ok(())
+}
