@@ -1,6 +1,6 @@
 //! Nodes over ports of this machine that are free.
 
-ghost use Rattle.std.specs.Prelude.{◌≡◌, ◌≤◌, ◌<◌, IfOk};
+ghost use Rattle.std.specs.Prelude.{◌≤◌, ◌<◌, IfOk};
 ghost use Rattle.dn_line.specs.Udp.{IsBase};
 
 use super::games::{DEFAULT_LIMIT, rules};
