@@ -1,5 +1,5 @@
--- What is made of the options of a command line: each value and each flag is that of its own word.
-use Rattle.std.specs.Prelude.{◌≡◌, ◌<◌, ◌^◌, ℕ, Bool, true, false, List, Option, Some, None, codes}
+-- What is made of the options of a command line: each number and each flag is that of its own option.
+use Rattle.std.specs.Prelude.{◌≡◌, ◌<◌, ◌^◌, ℕ, Bool, true, List, Option, Some, None, codes}
 use Rattle.std.specs.Str.Parse.{IsNumeral, digits_value, without_leading_plus}
 use Rattle.clap.specs.Matches.{found_of, one_text}
 use Rattle.clap.specs.declared.parser.matches.ArgMatches.{ArgMatches}
@@ -19,7 +19,7 @@ abbrev pub IsNumber : List ℕ → ℕ → Type 0
 IsNumber text number = IsNumeral 10 (without_leading_plus text) × (number < 2 ^ 32)
     × (number ≡ digits_value 10 (without_leading_plus text))
 
--- the number of an option: of the text that it was given, or else of its default
+-- the number of an option: of the text that clap reads for it, given or by default
 abbrev pub IsNumberOf : ArgMatches → List ℕ → ℕ → Type 0
 IsNumberOf matches name number = (text : List ℕ)
     × (one_text (found_of matches) name ≡ Some text) × IsNumber text number
@@ -28,11 +28,10 @@ IsNumberOf matches name number = (text : List ℕ)
 abbrev pub IsByteOf : ArgMatches → List ℕ → ℕ → Type 0
 IsByteOf matches name number = IsNumberOf matches name number × (number < 2 ^ 8)
 
--- whether a flag was given: clap keeps the text `true` or `false` for it
+-- whether a flag was given: clap keeps the text `true` for one that was, and for no other
 pub record IsFlagOf (matches : ArgMatches) (name : List ℕ) (flag : Bool) : Type 0 where
   pub given : one_text (found_of matches) name ≡ Some (codes "true") → flag ≡ true
-  pub left_out : one_text (found_of matches) name ≡ Some (codes "false") → flag ≡ false
-  pub unknown : one_text (found_of matches) name ≡ None → flag ≡ false
+  pub only : flag ≡ true → one_text (found_of matches) name ≡ Some (codes "true")
 
 -- a choice of game, each field by its own option
 pub record IsSettingsOf (matches : ArgMatches) (settings : Settings) : Type 0 where
@@ -57,7 +56,7 @@ pub record IsGameOf (matches : ArgMatches) (game : GameConfig × ℕ) : Type 0 w
   pub limit : IsLimitOf matches game.0.limit
   pub in_range : IsGame game.1
 
--- the seed of a storm, how many events it has, and how many rounds come after it
+-- the seed of a storm, how many events it has, and how many rounds without losses come after it
 pub record IsStormOf (matches : ArgMatches) (storm : ℕ × ℕ × ℕ) : Type 0 where
   pub seed : IsNumberOf matches (codes "seed") storm.0
   pub count : IsNumberOf matches (codes "count") storm.1

@@ -31,7 +31,7 @@ fn byte(matches: &ArgMatches<'_>, name: &str) -> Option<u8>
 fn flag(matches: &ArgMatches<'_>, name: &str) -> bool
     ensures { IsFlagOf matches.now name.now result }
 {
-    matches.get_flag(name)
+    matches.get_one::<bool>(name).unwrap_or(false)
 }
 
 /// The choice of game.
