@@ -17,7 +17,7 @@ pub record Layout : Type 0 where
   -- the turn that such bytes tell
   pub turn_told : List ℕ → ℤ
 
--- of the 1997 release: the high byte of a turn
+-- of Doom 1.9: the high byte of a turn
 abbrev pub vanilla : Layout
 vanilla =
     record {

@@ -127,7 +127,7 @@ impl Demo {
         })
     }
 
-    /// The version, which is the demo's first byte: 109, as the 1997 release records, or 111.
+    /// The version, which is the demo's first byte: 109, as Doom 1.9 records, or 111.
     pub fn version(&self) -> u8
         ensures { result ≡ self.now.version }
     {

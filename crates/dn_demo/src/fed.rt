@@ -23,7 +23,7 @@ pub enum FeedFault {
 /// A demo that was fed, and played in its world.
 #[derive(Debug, Drop)]
 pub struct Fed<W> {
-    /// The first byte: 109, as the 1997 release records, or 111.
+    /// The first byte: 109, as Doom 1.9 records, or 111.
     pub version: u8,
     /// What the game started from.
     pub start: Start,

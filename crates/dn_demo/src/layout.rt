@@ -17,13 +17,13 @@ pub(crate) const HEADER: usize = 13;
 /// How many bytes a command of version 111 has.
 pub(crate) const COMMAND: usize = 5;
 
-/// The version of the 1997 release.
+/// The version of Doom 1.9.
 const VANILLA: u8 = 109;
 
 /// How a demo's commands are laid out, by its version.
 #[derive(Clone, Copy, Debug, PartialEq, Eq)]
 pub(crate) enum Layout {
-    /// Of the 1997 release: a turn has one byte.
+    /// Of Doom 1.9: a turn has one byte.
     Vanilla,
     /// Of version 111, which is recorded here: a turn has two bytes.
     LongTics,

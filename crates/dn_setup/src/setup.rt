@@ -11,7 +11,7 @@ use arrayvec::ArrayVec;
 use dn_packet::{Packet, SETUP};
 use thiserror::Error;
 
-/// The version of the game, which set-up packets and recorded demos carry; that of the 1997 release is 109.
+/// The version of the game, which set-up packets and recorded demos carry. Doom 1.9 has 109.
 pub const VERSION: u8 = 111;
 
 /// Why a packet tells no settings.

@@ -8,7 +8,7 @@ mod upgrading;
 
 use super::{PLACES, Place, START, moved, place, stand, two_tics};
 
-/// Two tics of players 0 and 1, closed, as the 1997 release records them.
+/// Two tics of players 0 and 1, closed, as Doom 1.9 records them.
 const PLAYED: [u8; 30] = [
     0x6D, 3, 1, 7, 1, 0, 0, 1, 1, 1, 1, 0, 0, 0x32, 0, 0, 0, 0, 0, 1, 0, 0xCE, 0, 0, 1, 0x19, 0x18,
     0x40, 0, 0x80,
