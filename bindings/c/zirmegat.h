@@ -6,14 +6,14 @@
  * nothing, waits for nothing and prints nothing. A tic is 1/35 second.
  *
  *     zmg_node node = ZMG_NODE_NONE;
- *     zmg_node_new(&node, &config);
+ *     if (zmg_node_new(&node, &config) != ZMG_NEW_OK) there is no node
  *     35 times a second:
  *         zmg_node_build(&node, keys);
  *         each other player: n = zmg_node_packet(&node, player, bytes, sizeof bytes); if (n) send it
  *         each datagram: if (zmg_node_receive(&node, sender, bytes, n).code == ZMG_RECEIVE_STARTED)
  *             begin the world
  *         while (zmg_node_run(&node, marks of the world, row).code == ZMG_RUN_RAN) step the world by row
- *     zmg_node_quit(&node);  a few more packets to each player;  zmg_node_free(&node);
+ *     zmg_node_quit(&node);  give packets and hear datagrams for a second more;  zmg_node_free(&node);
  *
  * What the caller owes:
  *   - Pointers are valid and aligned for what they point to, and not NULL, also where a length is 0. What a
@@ -29,9 +29,9 @@
  *     zmg_node_settings and the players 0 to zmg_node_players - 1 when zmg_node_receive answered
  *     ZMG_RECEIVE_STARTED, was stepped by every row that zmg_node_run told and by nothing else, and has
  *     marks that follow from its state alone (no clock, no random numbers but the world's own, no pointers).
- * Every number and every byte is tested inside. A handle that holds nothing may be given to every call: a
- * node's calls answer as a node that does not play, with ZMG_PHASE_NO_NODE or 0 where they only read; a
- * reader's answer ZMG_DEMO_NO_READER, or 0.
+ * The library checks every number and every byte itself. A handle that holds nothing may be given to every
+ * call: a node's calls answer as a node that does not play, with ZMG_PHASE_NO_NODE or 0 where they only read;
+ * a reader's answer ZMG_DEMO_NO_READER, or 0.
  *
  * The names of a call's answers begin with the word of the call: ZMG_RUN_ of zmg_node_run, ZMG_DEMO_ of the
  * calls on demos.
@@ -70,12 +70,13 @@ typedef struct zmg_settings {
     uint8_t skill, deathmatch, no_monsters, respawn, episode, map;
 } zmg_settings;
 
-/* limit: how many bytes the demo may have, 1,024 to 16,777,216; a tic takes 5 for each player. The memory for
- *     them is taken by zmg_node_new.
- * players: 2 to 4.
+/* limit: how many bytes the demo may have, 1,024 to 16,777,216. The same for all players. A tic takes 5 for
+ *     each player, and a full demo ends the node: 1 MiB lasts 50 minutes for two players, 25 for four. The
+ *     memory for them is taken by zmg_node_new.
+ * players: 2 to 4. The same for all players.
  * me: the number of this player, 0 to players - 1.
- * extra: 0 or not; if not, each packet repeats the last command, which helps on lines that lose packets. The
- *     same for all players.
+ * extra: if not 0, each packet repeats the last command, which helps on lines that lose packets. The same for
+ *     all players.
  * settings: of player 0, who sends them to the others; of another they are not read. */
 typedef struct zmg_config {
     uint32_t limit;
@@ -143,7 +144,7 @@ typedef struct zmg_number {
 
 /* The full tic numbers of a packet, of which it carries only the low bytes. known: 1, or 0 where there is no
  * packet, and then all is 0. ask: the tic from which commands are asked for again, at most 5 before start.
- * start: the tic of the first command. count: how many commands. flags: as in zmg_packet. */
+ * start: the tic of the first command; 0 for set-up. count: how many commands. flags: as in zmg_packet. */
 typedef struct zmg_aim {
     uint32_t known;
     zmg_number ask;
@@ -191,8 +192,10 @@ typedef struct zmg_heard {
  * bytes of tics, so the transport hands in none whose start or ask lies more than 64 tics from
  * zmg_node_made. Where it sends zmg_aim.start along, it drops at receipt what has a start more than 59 away,
  * since ask lies at most 5 before start. Where it goes by age, it drops what is older than 47 tics (1.3
- * seconds at 35 builds a second): a new packet may already lie 17 tics away. The packets of a player
- * who has left keep their start while the others play on, so their age does not tell how far away it lies:
+ * seconds at 35 builds a second): a new packet may already lie 17 tics away; and a node that has
+ * ended is handed nothing later than 59 tics after its end, since those who play on leave its zmg_node_made
+ * behind. The packets of a player who has left keep their start while the others play on, so their age does
+ * not tell how far away it lies:
  * once zmg_node_ran has reached that player's zmg_node_end, the transport drops them. A set-up packet may
  * come at any time. */
 zmg_heard zmg_node_receive(zmg_node *node, uint8_t from, const uint8_t *bytes, size_t length);
@@ -228,7 +231,7 @@ typedef struct zmg_ran {
 zmg_ran zmg_node_run(zmg_node *node, const int16_t marks[4], zmg_move row[4]);
 
 /* Ends the node: 1 where it had not ended, else 0. If it has played, it still gives packets, which tell the
- * others of its end. */
+ * others of its end, and hears datagrams, which may ask for its last commands again. */
 uint32_t zmg_node_quit(zmg_node *node);
 
 /* What a node tells of itself. */
@@ -240,7 +243,8 @@ uint32_t zmg_node_quit(zmg_node *node);
 #define ZMG_PHASE_ENDED 4u
 #define ZMG_CAUSE_NONE 0u
 #define ZMG_CAUSE_QUIT 1u         /* zmg_node_quit */
-#define ZMG_CAUSE_FULL 2u         /* the demo had no room for the next tic, or the most tics were run */
+#define ZMG_CAUSE_FULL 2u         /* the demo had no room for the next tic; or 2,097,150 tics were
+                                   * run in a game that somebody has left */
 #define ZMG_CAUSE_INCONSISTENT 3u /* player, was and should as in zmg_ran; 0 at other causes */
 typedef struct zmg_phase {
     uint32_t code, cause;
@@ -345,8 +349,8 @@ typedef struct zmg_start {
 } zmg_start;
 
 /* known: 1 for a demo that was read, else all is 0. tics: how many whole tics it has. cut: how many
- * commands stand between them and the marker. after: how many bytes follow the marker. version: 109, as the
- * 1997 release records, or 111, whose turns have both bytes. view: whose view it shows. present: 1 for each
+ * commands stand between them and the marker. after: how many bytes follow the marker. version: 109, as
+ * Doom 1.9 records, or 111, whose turns have both bytes. view: whose view it shows. present: 1 for each
  * seat with a player. */
 typedef struct zmg_demo_told {
     size_t tics, cut, after;

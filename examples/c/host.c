@@ -4,7 +4,7 @@
  *
  * Player p is at port BASE + p of 127.0.0.1, as for `netgame play`. The host builds TICS commands, plays
  * until it has run them and the other player has left or is silent, writes its demo to the file DEMO, and
- * prints where the players stand. */
+ * prints where the players stand. It builds as fast as the line lets it; an engine builds 35 times a second. */
 #define _POSIX_C_SOURCE 200809L
 #include "walk.h"
 #include "zirmegat.h"
@@ -110,6 +110,17 @@ static int play(engine *e) {
     return 1;
 }
 
+/* Tells the other player of the end, and hears what it still asks for. */
+static void leave(engine *e) {
+    zmg_node_quit(&e->node);
+    for (int k = 0; k < FAREWELLS; k++) {
+        struct pollfd ready = { e->line, POLLIN, 0 };
+        give(e);
+        poll(&ready, 1, 1);
+        hear(e);
+    }
+}
+
 static int save(engine *e, const char *name) {
     static uint8_t bytes[DEMO];
     size_t length = zmg_node_demo(&e->node, 0, bytes, sizeof bytes);
@@ -138,8 +149,7 @@ int main(int argc, char **argv) {
     zmg_config config = { DEMO, PLAYERS, e.me, 0, { 2, 0, 0, 0, 1, 1 } };
     if (zmg_node_new(&e.node, &config) != ZMG_NEW_OK || !open_line(&e)) return 2;
     int played = play(&e);
-    zmg_node_quit(&e.node);
-    for (int k = 0; k < FAREWELLS; k++) give(&e);
+    leave(&e);
     print_spots(&e.world);
     int saved = save(&e, argv[5]);
     zmg_node_free(&e.node);

@@ -117,7 +117,7 @@ impl Demo {
         unsafe { raw::zmg_demo_tell(&mut self.0) }
     }
 
-    /// The version: 109, as the 1997 release records, or 111.
+    /// The version: 109, as Doom 1.9 records, or 111.
     pub fn version(&mut self) -> u8 {
         self.told().version
     }

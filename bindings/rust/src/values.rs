@@ -88,14 +88,16 @@ pub struct Config {
     /// Whether each packet repeats the last command, which helps on lines that lose packets. The same for
     /// all.
     pub extra: bool,
-    /// How many bytes the demo may have: 1,024 to 16,777,216. A tic takes 5 for each player.
+    /// How many bytes the demo may have: 1,024 to 16,777,216. A tic takes 5 for each player, and a full demo
+    /// ends the node. The same for all.
     pub limit: u32,
     /// The choice of game, which is player 0's, and not read of another.
     pub settings: Settings,
 }
 
 impl Config {
-    /// Of player 0, whose settings the game has, with a demo of a MiB at most.
+    /// Of player 0, whose settings the game has, with a demo of at most 1 MiB: the node ends when it is
+    /// full, after 50 minutes of two players or 25 of four. `limit` raises it.
     pub fn key(players: u8, settings: Settings) -> Config {
         Config {
             players,
@@ -106,7 +108,8 @@ impl Config {
         }
     }
 
-    /// Of another player, with a demo of at most 1 MiB. `me` is 1 to `players` - 1.
+    /// Of another player, with a demo of at most 1 MiB, as of [`key`](Config::key). `me` is 1 to
+    /// `players` - 1.
     pub fn other(players: u8, me: u8) -> Config {
         Config {
             players,
