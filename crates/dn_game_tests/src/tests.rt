@@ -61,7 +61,7 @@ fn free_line<R: Net>(
     last: u8,
 ) -> Result<(UdpLine, u16), LineFault>
     requires { (1024 < area) × (area ≤ 60000) × (last < 2) }
-    ensures { IfOk result (λ found. IsBase found.1) }
+    ensures { IfOk result (λ found. (1024 < found.1) × IsBase found.1) }
 {
     for step in 0..200u16 {
         let base = area + 8 * step;
