@@ -9,6 +9,9 @@ const PIECE: usize = 65_536;
 const MOST_BYTES: usize = 33_554_432;
 const HEADER: usize = 13;
 const END: u8 = 0x80;
+/// Where forward goes in each quadrant, times 2048; no branch, since the quadrant of a random move is not to be
+/// foreseen.
+const AXES: [(i32, i32); 4] = [(2048, 0), (0, 2048), (-2048, 0), (0, -2048)];
 
 /// Where a player of a Walk stands.
 #[derive(Clone, Copy, Default)]
@@ -20,17 +23,12 @@ struct Spot {
 
 impl Spot {
     fn step(&mut self, forward: u8, side: u8, turn: u16, buttons: u8) {
-        let forward = (i32::from(forward as i8) * 2048) as u32;
-        let side = (i32::from(side as i8) * 2048) as u32;
+        let (forward, side) = (i32::from(forward as i8), i32::from(side as i8));
         self.angle = self.angle.wrapping_add(turn);
-        let (x, y) = match self.angle >> 14 {
-            0 => (forward, side.wrapping_neg()),
-            1 => (side, forward),
-            2 => (forward.wrapping_neg(), side),
-            _ => (side.wrapping_neg(), forward.wrapping_neg()),
-        };
-        self.x = self.x.wrapping_add(x).wrapping_add(u32::from(buttons));
-        self.y = self.y.wrapping_add(y);
+        let (cos, sin) = AXES[usize::from(self.angle >> 14)];
+        let (x, y) = (forward * cos + side * sin, forward * sin - side * cos);
+        self.x = self.x.wrapping_add(x as u32).wrapping_add(u32::from(buttons));
+        self.y = self.y.wrapping_add(y as u32);
     }
 }
 
