@@ -9,8 +9,8 @@ const PIECE: usize = 65_536;
 const MOST_BYTES: usize = 33_554_432;
 const HEADER: usize = 13;
 const END: u8 = 0x80;
-/// Where forward goes in each quadrant, times 2048; no branch, since the quadrant of a random move is not to be
-/// foreseen.
+/// Where forward goes in each quadrant, times 2048. It is a table and no branch, since the quadrants of random
+/// moves cannot be foreseen.
 const AXES: [(i32, i32); 4] = [(2048, 0), (0, 2048), (-2048, 0), (0, -2048)];
 
 /// Where a player of a Walk stands.
