@@ -6,6 +6,18 @@ use std::alloc::Global;
 use std::process::Abort;
 use std::test::Fail;
 
+/// What each reader of `dn_options` makes of one line.
+#[derive(Clone, Copy, Drop)]
+struct Options {
+    limit: Option<u32>,
+    /// How many players, the numbers, the flags.
+    game: Option<(u8, [u32; 5], [bool; 3])>,
+    storm: Option<(u64, u32, u32)>,
+    rounds: Option<(u64, u32, u16)>,
+    me: Option<u8>,
+    raw: bool,
+}
+
 /// The words of a line.
 fn split(alloc: Global, line: &str) -> Result<Vec<String>, Fail> {
     let mut words = Vec::new(alloc);
@@ -36,54 +48,72 @@ fn flags(config: &GameConfig) -> [bool; 3] {
     ]
 }
 
-#[test]
-fn each_value_is_that_of_its_word(rt: HostRuntime) -> Result<(), Fail> {
-    for (line, players, read) in [
-        ("netgame sim", 2, [2, 1, 1, 0, 131_072]),
-        ("netgame sim --players 3", 3, [2, 1, 1, 0, 131_072]),
-        ("netgame sim --skill 4", 2, [4, 1, 1, 0, 131_072]),
-        ("netgame storm --episode 3", 2, [2, 3, 1, 0, 131_072]),
-        ("netgame loop --map 32", 2, [2, 1, 32, 0, 131_072]),
-        ("netgame play --deathmatch 1", 2, [2, 1, 1, 1, 131_072]),
-        ("netgame sim --limit 1024", 2, [2, 1, 1, 0, 1_024]),
-    ] {
-        let words = split(rt.alloc(), line)?;
-        let matches = matches_of(rt.alloc(), words.as_slice())?;
-        let game = match matches.subcommand() {
-            Some((_, given)) => dn_options::game(given),
-            None => None,
-        };
-        match game {
-            Some((config, count)) => {
-                same!(&rt; count, players, line);
-                same!(&rt; numbers(&config), read, line);
-            }
-            None => holds!(&rt; false, line),
-        }
-    }
-    Ok(())
+/// Reads a line by every reader. None where it has no subcommand.
+fn read(alloc: Global, line: &str) -> Result<Option<Options>, Fail> {
+    let words = split(alloc, line)?;
+    let matches = matches_of(alloc, words.as_slice())?;
+    let Some((_, given)) = matches.subcommand() else {
+        return Ok(None);
+    };
+    let game = match dn_options::game(given) {
+        Some((config, players)) => Some((players, numbers(&config), flags(&config))),
+        None => None,
+    };
+    Ok(Some(Options {
+        limit: dn_options::limit(given),
+        game,
+        storm: dn_options::storm(given),
+        rounds: dn_options::rounds(given),
+        me: dn_options::me(given),
+        raw: dn_options::raw(given),
+    }))
+}
+
+/// Which of a limit, a game, a storm, rounds and a player are found.
+fn found(options: &Options) -> [bool; 5] {
+    [
+        options.limit.is_some(),
+        options.game.is_some(),
+        options.storm.is_some(),
+        options.rounds.is_some(),
+        options.me.is_some(),
+    ]
 }
 
 #[test]
-fn each_flag_is_that_of_its_word(rt: HostRuntime) -> Result<(), Fail> {
-    for (line, read) in [
-        ("netgame sim", [false, false, false]),
-        ("netgame sim --respawn", [true, false, false]),
-        ("netgame storm --nomonsters", [false, true, false]),
-        ("netgame loop --extra", [false, false, true]),
+fn each_value_and_flag_is_that_of_its_word(rt: HostRuntime) -> Result<(), Fail> {
+    let defaults = [2, 1, 1, 0, 131_072];
+    let none = [false; 3];
+    for (line, players, values, flags) in [
+        ("netgame sim", 2, defaults, none),
+        ("netgame sim --players 3", 3, defaults, none),
+        ("netgame sim --skill 4", 2, [4, 1, 1, 0, 131_072], none),
+        ("netgame storm --episode 3", 2, [2, 3, 1, 0, 131_072], none),
+        ("netgame loop --map 32", 2, [2, 1, 32, 0, 131_072], none),
+        (
+            "netgame play --deathmatch 1",
+            2,
+            [2, 1, 1, 1, 131_072],
+            none,
+        ),
+        ("netgame sim --limit 1024", 2, [2, 1, 1, 0, 1_024], none),
+        ("netgame sim --respawn", 2, defaults, [true, false, false]),
+        (
+            "netgame storm --nomonsters",
+            2,
+            defaults,
+            [false, true, false],
+        ),
+        ("netgame loop --extra", 2, defaults, [false, false, true]),
         (
             "netgame play --respawn --nomonsters --extra",
-            [true, true, true],
+            2,
+            defaults,
+            [true; 3],
         ),
     ] {
-        let words = split(rt.alloc(), line)?;
-        let matches = matches_of(rt.alloc(), words.as_slice())?;
-        let game = match matches.subcommand() {
-            Some((_, given)) => dn_options::game(given),
-            None => None,
-        };
-        match game {
-            Some((config, _)) => same!(&rt; flags(&config), read, line),
+        match read(rt.alloc(), line)? {
+            Some(options) => same!(&rt; options.game, Some((players, values, flags)), line),
             None => holds!(&rt; false, line),
         }
     }
@@ -92,33 +122,23 @@ fn each_flag_is_that_of_its_word(rt: HostRuntime) -> Result<(), Fail> {
 
 #[test]
 fn seeds_and_counts_are_those_of_their_words(rt: HostRuntime) -> Result<(), Fail> {
-    let words = split(rt.alloc(), "netgame storm --seed 7 --count 8 --calm 9")?;
-    let matches = matches_of(rt.alloc(), words.as_slice())?;
-    let storm = match matches.subcommand() {
-        Some((_, given)) => dn_options::storm(given),
-        None => None,
-    };
-    same!(&rt; storm, Some((7, 8, 9)));
-    let words = split(
-        rt.alloc(),
-        "netgame play --seed 7 --rounds 8 --base 2000 --me 3 --raw",
-    )?;
-    let matches = matches_of(rt.alloc(), words.as_slice())?;
-    let (rounds, me, raw) = match matches.subcommand() {
-        Some((_, given)) => (
-            dn_options::rounds(given),
-            dn_options::me(given),
-            dn_options::raw(given),
-        ),
-        None => (None, None, false),
-    };
-    same!(&rt; rounds, Some((7, 8, 2000)));
-    same!(&rt; me, Some(3));
-    holds!(&rt; raw);
+    let line = "netgame storm --seed 7 --count 8 --calm 9";
+    match read(rt.alloc(), line)? {
+        Some(options) => same!(&rt; options.storm, Some((7, 8, 9))),
+        None => holds!(&rt; false),
+    }
+    let line = "netgame play --seed 7 --rounds 8 --base 2000 --me 3 --raw";
+    match read(rt.alloc(), line)? {
+        Some(options) => {
+            same!(&rt; options.rounds, Some((7, 8, 2000)));
+            same!(&rt; options.me, Some(3));
+            holds!(&rt; options.raw);
+        }
+        None => holds!(&rt; false),
+    }
     Ok(())
 }
 
-/// Each row tells which of a limit, a game, a storm, rounds and a player are found.
 #[test]
 fn what_a_subcommand_has_no_options_for_is_not_found(rt: HostRuntime) -> Result<(), Fail> {
     for (line, wanted) in [
@@ -129,19 +149,10 @@ fn what_a_subcommand_has_no_options_for_is_not_found(rt: HostRuntime) -> Result<
         ("netgame loop", [true, true, false, true, false]),
         ("netgame play", [true, true, false, true, true]),
     ] {
-        let words = split(rt.alloc(), line)?;
-        let matches = matches_of(rt.alloc(), words.as_slice())?;
-        let found = match matches.subcommand() {
-            Some((_, given)) => [
-                dn_options::limit(given).is_some(),
-                dn_options::game(given).is_some(),
-                dn_options::storm(given).is_some(),
-                dn_options::rounds(given).is_some(),
-                dn_options::me(given).is_some(),
-            ],
-            None => [true; 5],
-        };
-        same!(&rt; found, wanted, line);
+        match read(rt.alloc(), line)? {
+            Some(options) => same!(&rt; found(&options), wanted, line),
+            None => holds!(&rt; false, line),
+        }
     }
     Ok(())
 }
