@@ -43,7 +43,6 @@ fn push_players(text: &mut String, present: [bool; 4]) -> Result<(), AllocError>
     text.push_str("\n")
 }
 
-#[tactic(auto, unfolding(crate::specs::DemoLines::header_fields))]
 fn push_header(text: &mut String, version: u8, start: &Start, view: u8) -> Result<(), AllocError>
     ensures { OnOk result (string_bytes text.new ≡ string_bytes text.old ++ header_fields version start.now
         view) }
@@ -62,7 +61,6 @@ fn push_header(text: &mut String, version: u8, start: &Start, view: u8) -> Resul
     push_fields(text, &fields)
 }
 
-#[tactic(auto, unfolding(crate::specs::DemoLines::size_line))]
 fn push_size(text: &mut String, tics: u64, cut: u64, after: u64) -> Result<(), AllocError>
     ensures { OnOk result (string_bytes text.new ≡ string_bytes text.old ++ size_line tics cut after) }
 {
@@ -74,7 +72,6 @@ fn push_size(text: &mut String, tics: u64, cut: u64, after: u64) -> Result<(), A
     push_line(text, &fields)
 }
 
-#[tactic(auto, unfolding(crate::specs::DemoLines::player_line))]
 fn push_player(
     text: &mut String,
     player: u8,

@@ -40,7 +40,6 @@ fn push_counts<W: World>(text: &mut String, node: &Node<W>) -> Result<(), AllocE
 }
 
 /// Whose node it is, and where it stands.
-#[tactic(auto, unfolding(crate::specs::NodeLines::standing))]
 fn push_standing<W: World>(text: &mut String, node: &Node<W>) -> Result<(), AllocError>
     ensures { OnOk result (string_bytes text.new ≡ string_bytes text.old ++ standing (contents node.now)) }
 {
@@ -50,7 +49,6 @@ fn push_standing<W: World>(text: &mut String, node: &Node<W>) -> Result<(), Allo
 }
 
 /// How many commands it made, how many tics it ran, and how many commands it has of each player.
-#[tactic(auto, unfolding(crate::specs::NodeLines::progress))]
 fn push_progress<W: World>(text: &mut String, node: &Node<W>) -> Result<(), AllocError>
     ensures { OnOk result (string_bytes text.new ≡ string_bytes text.old ++ progress (contents node.now)) }
 {
@@ -64,7 +62,6 @@ fn push_progress<W: World>(text: &mut String, node: &Node<W>) -> Result<(), Allo
 }
 
 /// How many bytes its demo has.
-#[tactic(auto, unfolding(crate::specs::NodeLines::demo_size))]
 fn push_demo_size<W: World>(text: &mut String, node: &Node<W>) -> Result<(), AllocError>
     ensures { OnOk result (string_bytes text.new ≡ string_bytes text.old ++ demo_size (contents node.now)) }
 {
@@ -80,7 +77,6 @@ fn line_end(stopped: bool) -> &'static str
 
 /// Appends the line of a node, which also tells whether its program has stopped. Err where memory is refused;
 /// the text may then have a front of the line.
-#[tactic(auto, unfolding(crate::specs::NodeLines::node_line))]
 pub fn push_node<W: World>(
     text: &mut String,
     node: &Node<W>,

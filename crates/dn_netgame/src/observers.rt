@@ -63,7 +63,6 @@ impl Trace {
     }
 }
 
-#[tactic(auto, unfolding(crate::specs::TraceLines::trace_line))]
 fn push_trace_line(
     text: &mut String,
     number: usize,

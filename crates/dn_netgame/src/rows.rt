@@ -24,7 +24,6 @@ use dn_world::Walk;
 use std::alloc::{AllocError, Global};
 use std::io::{Read, Write};
 
-#[tactic(auto, unfolding(crate::specs::RowLines::move_line))]
 fn push_move(text: &mut String, tic: u64, player: u8, step: Move) -> Result<(), AllocError>
     ensures { OnOk result (string_bytes text.new ≡ string_bytes text.old ++ move_line tic player step) }
 {

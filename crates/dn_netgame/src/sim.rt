@@ -21,7 +21,6 @@ use std::io::{Read, Write};
 /// The most bytes of a script.
 pub(crate) const SCRIPT_LIMIT: usize = 1 << 20;
 
-#[tactic(auto, unfolding(crate::specs::SimLines::bad_line))]
 fn text_of_bad_line(alloc: Global, number: usize) -> Result<String, AllocError>
     ensures { IfOk result (λ text. string_bytes text ≡ bad_line number) }
 {
