@@ -6,7 +6,8 @@ use Rattle.std.specs.declared.alloc.Global.{Global}
 use Rattle.std.specs.declared.string.String.{String}
 use Rattle.dn_world.specs.Plane.{Spots}
 use Rattle.dn_game.specs.declared.played.Played.{Played}
-use Rattle.dn_netgame.specs.GameLines.{game_lines, IsGameShown}
+use Rattle.dn_text.specs.GameLines.{game_lines}
+use Rattle.dn_netgame.specs.GameShown.{IsGameShown}
 
 -- the text of a game that came about so is shown for it
 pub game_text : {E : Type 0} (text : Result (String Global) E) (CameAbout : Played Spots → Type 0)

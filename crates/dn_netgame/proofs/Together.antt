@@ -7,7 +7,7 @@ use Rattle.dn_turn.specs.Rounds.{AreSeated}
 use Rattle.dn_game.specs.declared.config.GameConfig.{GameConfig}
 use Rattle.dn_game.specs.Fresh.{AreFresh}
 use Rattle.dn_game.specs.Opening.{rules_in}
-use Rattle.dn_netgame.specs.LoopLines.{new_seats, IsLoop}
+use Rattle.dn_netgame.specs.LoopShown.{new_seats, IsLoop}
 
 -- nodes of no history are in the seats of new ones
 pub together : {W S : Type 0} (state : W → S) (physics : Physics S) (config : GameConfig) (players worlds : ℕ)

@@ -4,7 +4,7 @@ ghost use Rattle.std.specs.Prelude.{◌≡◌, IfOk, OnOk};
 ghost use Rattle.std.specs.String.{string_bytes};
 ghost use Rattle.dn_demo.specs.Recorded.{IsLimit};
 ghost use Rattle.dn_lockstep.specs.Opening.{IsGame};
-ghost use Rattle.dn_netgame.specs.CalmLines.{no_keys, Calms, IsCalm};
+ghost use Rattle.dn_netgame.specs.CalmShown.{no_keys, Calms, IsCalm};
 ghost use Rattle.dn_netgame.specs.Shown.{PrintsOrFails};
 
 use crate::fault::RunFault;

@@ -5,7 +5,7 @@ ghost use Rattle.dn_world.specs.Plane.{walking};
 ghost use Rattle.dn_demo.specs.Reading.{Recording};
 ghost use Rattle.dn_demo.specs.Feeding.{Shows};
 ghost use Rattle.dn_demo.specs.Fed.{Summarizes};
-ghost use Rattle.dn_netgame.specs.DemoLines.{demo_limit, IsGiven, IsRefused};
+ghost use Rattle.dn_netgame.specs.DemoShown.{demo_limit, IsGiven, IsRefused};
 ghost use Rattle.dn_netgame.specs.Transfer.{TakesUpTo, TakesFewer};
 ghost use Rattle.dn_netgame.specs.declared.fault.RunFault.{RunFault};
 

@@ -1,20 +1,16 @@
-//! The lines of a game that was played.
+//! Games of walks, played and told.
 
-ghost use Rattle.std.specs.Prelude.{◌≡◌, ◌++◌, length, IfOk, OnOk};
+ghost use Rattle.std.specs.Prelude.{◌≡◌, length, IfOk};
 ghost use Rattle.std.specs.String.{string_bytes};
 ghost use Rattle.dn_world.specs.Plane.{walking};
 ghost use Rattle.dn_demo.specs.Recorded.{IsLimit};
 ghost use Rattle.dn_lockstep.specs.Opening.{IsGame};
-ghost use Rattle.dn_game.specs.Contents.{contents};
 ghost use Rattle.dn_game.specs.Observed.{IsPlayedObserved, IsStormedObserved};
 ghost use Rattle.dn_game.specs.Opening.{rules_in};
-ghost use Rattle.dn_netgame.specs.GameLines.{node_lines, events_line, game_lines};
+ghost use Rattle.dn_text.specs.GameLines.{game_lines};
 
-use crate::fields::push_line;
-use crate::nodes::push_node;
-use dn_game::{
-    Event, Game, GameConfig, GameFault, Observer, Played, play_observed, storm_observed,
-};
+use dn_game::{Event, GameConfig, GameFault, Observer, Played, play_observed, storm_observed};
+use dn_text::push_game;
 use dn_world::{Walk, World};
 use std::alloc::{AllocError, Global};
 
@@ -73,38 +69,6 @@ pub(crate) fn storm_walks<L: Observer>(
         Err(GameFault::Memory) => Err(AllocError),
         Err(GameFault::Players | GameFault::Limit) => unreachable!(),
     }
-}
-
-/// The lines of a game's nodes, in the order of their numbers.
-fn push_nodes<W: World>(text: &mut String, game: &Game<W>) -> Result<(), AllocError>
-    ensures { OnOk result (string_bytes text.new
-        ≡ string_bytes text.old ++ node_lines (contents game.now).stopped 0 (contents game.now).nodes) }
-{
-    let mut number = 0;
-    while let Some(node) = game.node(number) {
-        push_node(text, node, game.stopped(number))?;
-        number += 1;
-    }
-    Ok(())
-}
-
-fn push_events<W: World>(text: &mut String, played: &Played<W>) -> Result<(), AllocError>
-    ensures { OnOk result (string_bytes text.new ≡ string_bytes text.old ++ events_line played.now) }
-{
-    let fields = [
-        ("events ", played.done as i128),
-        (" refused ", played.refused as i128),
-        (" flights ", played.game.flights() as i128),
-    ];
-    push_line(text, &fields)
-}
-
-/// Appends the lines of all nodes, and of the events.
-pub(crate) fn push_game<W: World>(text: &mut String, played: &Played<W>) -> Result<(), AllocError>
-    ensures { OnOk result (string_bytes text.new ≡ string_bytes text.old ++ game_lines played.now) }
-{
-    push_nodes(text, &played.game)?;
-    push_events(text, played)
 }
 
 /// The lines of all nodes, and of the events.

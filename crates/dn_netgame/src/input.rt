@@ -2,7 +2,7 @@
 
 ghost use Rattle.std.specs.Prelude.{◌≡◌, codes, IfOk, IfErr};
 ghost use Rattle.dn_demo.specs.Fed.{fault_of};
-ghost use Rattle.dn_netgame.specs.DemoLines.{IsFaultLine, IsGiven, IsRefused};
+ghost use Rattle.dn_netgame.specs.DemoShown.{IsFaultLine, IsGiven, IsRefused};
 
 use dn_demo::{Demo, DemoFault, FeedFault};
 

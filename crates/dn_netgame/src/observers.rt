@@ -1,14 +1,13 @@
 //! Observers that keep the text of each event that they are told of.
 
-ghost use Rattle.std.specs.Prelude.{◌≡◌, ◌++◌, [], OnOk};
+ghost use Rattle.std.specs.Prelude.{◌≡◌, ◌++◌, []};
 ghost use Rattle.std.specs.String.{string_bytes};
 ghost use Rattle.dn_game.specs.Written.{event_line};
-ghost use Rattle.dn_netgame.specs.TraceLines.{IsNotLeftOut, trace_line};
+ghost use Rattle.dn_text.specs.TraceLines.{trace_line};
+ghost use Rattle.dn_netgame.specs.TraceShown.{IsNotLeftOut};
 
-use crate::answers::push_answer;
-use crate::events::{push_event, push_event_line};
-use crate::fields::push_fields;
 use dn_game::{Done, Event, Observer, Refusal};
+use dn_text::{push_event_line, push_trace_line};
 use std::alloc::{AllocError, Global};
 
 /// Keeps the script of the events. It ends a game that leaves out a send for lack of memory, since the script
@@ -61,22 +60,6 @@ impl Trace {
             text: String::new(alloc),
         }
     }
-}
-
-fn push_trace_line(
-    text: &mut String,
-    number: usize,
-    event: Event,
-    answer: Result<Done, Refusal>,
-) -> Result<(), AllocError>
-    ensures { OnOk result (string_bytes text.new ≡ string_bytes text.old ++ trace_line number event answer) }
-{
-    push_fields(text, &[("event ", number as i128)])?;
-    text.push_str(" ")?;
-    push_event(text, event)?;
-    text.push_str(": ")?;
-    push_answer(text, answer)?;
-    text.push_str("\n")
 }
 
 impl Observer for Trace {

@@ -1,14 +1,15 @@
 //! Listing the rows of a demo as it is read.
 
-ghost use Rattle.std.specs.Prelude.{◌≡◌, ◌≤◌, ℕ, ◌+◌, List, [], ◌∷◌, ◌++◌, length, Option, Err, IfOk, OnOk};
+ghost use Rattle.std.specs.Prelude.{◌≡◌, ◌≤◌, ℕ, ◌+◌, List, [], ◌++◌, length, Option, Err, IfOk, OnOk};
 ghost use Rattle.std.specs.String.{string_bytes};
 ghost use Rattle.std.specs.Io.KnownBytes.{Appends};
 ghost use Rattle.dn_tic.specs.declared.command.Move.{Move};
 ghost use Rattle.dn_world.specs.Plane.{walking};
 ghost use Rattle.dn_demo.specs.Feeding.{Shows};
 ghost use Rattle.dn_demo.specs.Listed.{told, AreListed, TellsFront};
-ghost use Rattle.dn_netgame.specs.DemoLines.{demo_limit};
-ghost use Rattle.dn_netgame.specs.RowLines.{move_line, step_line, row_lines, lines_of_rows, IsRowsShown, ListsWhole, ListsFront};
+ghost use Rattle.dn_text.specs.RowLines.{lines_of_rows};
+ghost use Rattle.dn_netgame.specs.DemoShown.{demo_limit};
+ghost use Rattle.dn_netgame.specs.RowsShown.{IsRowsShown, ListsWhole, ListsFront};
 ghost use Rattle.dn_netgame.specs.Shown as shown;
 ghost use Rattle.dn_netgame.specs.Transfer.{TakesUpTo};
 ghost use Rattle.dn_netgame.specs.declared.fault.RunFault.{RunFault};
@@ -16,47 +17,13 @@ ghost use Rattle.dn_netgame.specs.declared.fault.RunFault.{RunFault};
 use crate::demo::text_of;
 use crate::fault::RunFault;
 use crate::feeding::{ENOUGH, PIECE};
-use crate::fields::push_line;
 use crate::transfer::{fill, put};
 use dn_demo::Feed;
+use dn_text::push_row;
 use dn_tic::Move;
 use dn_world::Walk;
 use std::alloc::{AllocError, Global};
 use std::io::{Read, Write};
-
-fn push_move(text: &mut String, tic: u64, player: u8, step: Move) -> Result<(), AllocError>
-    ensures { OnOk result (string_bytes text.new ≡ string_bytes text.old ++ move_line tic player step) }
-{
-    let fields = [
-        ("tic ", tic as i128),
-        (" player ", player as i128),
-        (" forward ", step.forward as i128),
-        (" side ", step.side as i128),
-        (" turn ", step.turn as i128),
-        (" buttons ", step.buttons as i128),
-    ];
-    push_line(text, &fields)
-}
-
-/// The line of who has a move, and nothing for another.
-fn push_step(text: &mut String, tic: u64, player: u8, step: Option<Move>) -> Result<(), AllocError>
-    ensures { OnOk result (string_bytes text.new ≡ string_bytes text.old ++ step_line tic player step) }
-{
-    match step {
-        Some(step) => push_move(text, tic, player, step),
-        None => Ok(()),
-    }
-}
-
-fn push_row(text: &mut String, tic: u64, row: [Option<Move>; 4]) -> Result<(), AllocError>
-    ensures { OnOk result (string_bytes text.new ≡ string_bytes text.old ++ row_lines tic 0 row) }
-{
-    let [a, b, c, d] = row;
-    push_step(text, tic, 0, a)?;
-    push_step(text, tic, 1, b)?;
-    push_step(text, tic, 2, c)?;
-    push_step(text, tic, 3, d)
-}
 
 /// The lines of a row that was told.
 fn push_told(text: &mut String, tic: u64, row: Option<[Option<Move>; 4]>) -> Result<(), AllocError>

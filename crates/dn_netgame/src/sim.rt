@@ -5,29 +5,21 @@ ghost use Rattle.std.specs.String.{string_bytes};
 ghost use Rattle.dn_demo.specs.Recorded.{IsLimit};
 ghost use Rattle.dn_lockstep.specs.Opening.{IsGame};
 ghost use Rattle.dn_game.specs.Script.{size_limit};
-ghost use Rattle.dn_netgame.specs.GameLines.{IsGameShown};
+ghost use Rattle.dn_netgame.specs.GameShown.{IsGameShown};
 ghost use Rattle.dn_netgame.specs.Shown.{ShowsOrFails};
-ghost use Rattle.dn_netgame.specs.SimLines.{WalksBy, IsFaultShown, IsSim, bad_line};
+ghost use Rattle.dn_netgame.specs.SimShown.{WalksBy, IsFaultShown, IsSim};
 ghost use Rattle.dn_netgame.specs.declared.fault.RunFault.{RunFault};
 
 use crate::fault::RunFault;
-use crate::fields::push_line;
 use crate::games::{play_walks, text_of_game};
 use crate::transfer::{gather, print};
 use dn_game::{Event, GameConfig, Nobody, ScriptFault, read_script};
+use dn_text::text_of_bad_line;
 use std::alloc::{AllocError, Global};
 use std::io::{Read, Write};
 
 /// The most bytes of a script.
 pub(crate) const SCRIPT_LIMIT: usize = 1 << 20;
-
-fn text_of_bad_line(alloc: Global, number: usize) -> Result<String, AllocError>
-    ensures { IfOk result (λ text. string_bytes text ≡ bad_line number) }
-{
-    let mut text = String::new(alloc);
-    push_line(&mut text, &[("script: line ", number as i128)])?;
-    Ok(text)
-}
 
 /// The lines of a game of walks that has played these events.
 fn text_of_events(

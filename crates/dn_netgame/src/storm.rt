@@ -5,7 +5,7 @@ ghost use Rattle.std.specs.String.{string_bytes};
 ghost use Rattle.dn_demo.specs.Recorded.{IsLimit};
 ghost use Rattle.dn_lockstep.specs.Opening.{IsGame};
 ghost use Rattle.dn_netgame.specs.Shown.{PrintsOrFails};
-ghost use Rattle.dn_netgame.specs.StormLines.{IsStorm};
+ghost use Rattle.dn_netgame.specs.StormShown.{IsStorm};
 
 use crate::fault::RunFault;
 use crate::games::{storm_walks, text_of_game};

@@ -6,16 +6,17 @@ ghost use Rattle.dn_demo.specs.Recorded.{IsLimit};
 ghost use Rattle.dn_lockstep.specs.Opening.{IsGame};
 ghost use Rattle.dn_game.specs.Script.{size_limit};
 ghost use Rattle.dn_netgame.specs.Shown.{ShowsOrFails, PrintsOrFails};
-ghost use Rattle.dn_netgame.specs.TraceLines.{AreTraced, IsSimTraced, IsStormTraced, IsStormScript};
+ghost use Rattle.dn_netgame.specs.TraceShown.{AreTraced, IsSimTraced, IsStormTraced, IsStormScript};
 ghost use Rattle.dn_netgame.specs.declared.fault.RunFault.{RunFault};
 
 use crate::calm::calm_down;
 use crate::fault::RunFault;
-use crate::games::{play_walks, push_game, storm_walks};
+use crate::games::{play_walks, storm_walks};
 use crate::observers::{Script, Trace};
 use crate::sim::{SCRIPT_LIMIT, text_of_fault};
 use crate::transfer::{gather, print};
 use dn_game::{Event, GameConfig, read_script};
+use dn_text::push_game;
 use std::alloc::{AllocError, Global};
 use std::io::{Read, Write};
 

@@ -2,8 +2,8 @@
 
 ghost use Rattle.std.specs.Prelude.{◌≡◌, ◌+◌, Err, IfOk, IfErr};
 ghost use Rattle.dn_demo.specs.Recorded.{IsLimit};
-ghost use Rattle.dn_netgame.specs.DemoLines.{demo_limit};
-ghost use Rattle.dn_netgame.specs.UpgradeLines.{IsUpgradedTo, IsUpgrade};
+ghost use Rattle.dn_netgame.specs.DemoShown.{demo_limit};
+ghost use Rattle.dn_netgame.specs.UpgradeShown.{IsUpgradedTo, IsUpgrade};
 ghost use Rattle.dn_netgame.specs.Shown.{ShowsOrFails};
 ghost use Rattle.dn_netgame.specs.declared.fault.RunFault.{RunFault};
 

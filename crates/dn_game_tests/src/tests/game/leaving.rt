@@ -82,6 +82,26 @@ fn plays_on(rt: &impl Abort, node: &Node<Walk>, end: u32) {
     same!(rt; node.demo().last(), Some(&0x80));
 }
 
+/// The node that left, and what it made by then.
+fn left(rt: &impl Abort, node: &Node<Walk>) -> u32 {
+    let stood = (node.phase(), node.ran(), node.demo().len());
+    same!(rt; stood, (Phase::Ended(Cause::Quit), 20, 314));
+    same!(rt; node.end(2), Some(node.made()));
+    node.made()
+}
+
+/// Two nodes of three have played on together without player 2.
+fn played_on(rt: &impl Abort, game: &Game<Walk>) {
+    let (Some(zero), Some(one), Some(two)) = (game.node(0), game.node(1), game.node(2)) else {
+        panic!(rt; "no node");
+    };
+    let end = left(rt, two);
+    plays_on(rt, zero, end);
+    plays_on(rt, one, end);
+    same!(rt; zero.ran(), one.ran());
+    same!(rt; places(zero), places(one));
+}
+
 #[test]
 fn two_play_on_when_the_third_leaves(rt: HostRuntime) -> Result<(), Fail> {
     let mut game = opened(rt.alloc(), 3)?;
@@ -90,19 +110,7 @@ fn two_play_on_when_the_third_leaves(rt: HostRuntime) -> Result<(), Fail> {
     }
     let beyond = compare_all(&rt, &game, 3);
     holds!(&rt; beyond >= 70, beyond);
-    let two = game.node(2).ok_or("no node")?;
-    let stood = (two.phase(), two.ran(), two.demo().len());
-    same!(&rt; stood, (Phase::Ended(Cause::Quit), 20, 314));
-    let end = two.made();
-    same!(&rt; two.end(2), Some(end));
-    let (zero, one) = (
-        game.node(0).ok_or("no node")?,
-        game.node(1).ok_or("no node")?,
-    );
-    plays_on(&rt, zero, end);
-    plays_on(&rt, one, end);
-    same!(&rt; zero.ran(), one.ran());
-    same!(&rt; places(zero), places(one));
+    played_on(&rt, &game);
     Ok(())
 }
 

@@ -188,6 +188,11 @@ fn refused_events_are_counted(rt: HostRuntime) -> Result<(), Fail> {
         let found = (played.done, played.refused, played.game.flights());
         same!(&rt; found, (done, refused, 0), script);
     }
+    Ok(())
+}
+
+#[test]
+fn a_refused_event_leaves_the_game(rt: HostRuntime) -> Result<(), Fail> {
     let mut events = Vec::new(rt.alloc());
     for (event, _) in answered() {
         events.push(event)?;

@@ -2,7 +2,7 @@
 
 use super::told::all_told;
 use super::{build, config, opened, send, walks};
-use dn_game::{Event, Game, Refusal, play, play_on, storm};
+use dn_game::{Event, Game, Played, Refusal, play, play_on, storm};
 use dn_machine::{Cause, Phase};
 use dn_tic::Keys;
 use dn_world::Walk;
@@ -121,43 +121,31 @@ fn who_stays_runs_past_the_demo(rt: HostRuntime) -> Result<(), Fail> {
     long_game(&rt, rt.alloc(), false, Phase::Ended(Cause::Full))
 }
 
+/// A game of two that has played the events before the quit.
+fn played(alloc: Global) -> Result<Played<Walk>, Fail> {
+    let worlds = walks(alloc, 2)?;
+    Ok(play(alloc, config(131_072)?, worlds, &lost()[..12])?)
+}
+
+/// Such a game that is played on by thirty rounds.
+fn played_on(alloc: Global, keys: [Keys; 4]) -> Result<Played<Walk>, Fail> {
+    let worlds = walks(alloc, 2)?;
+    let events = &lost()[..12];
+    Ok(play_on(alloc, config(131_072)?, worlds, events, keys, 30)?)
+}
+
 /// Playing on is playing and then rounds, each with the keys of its players.
 #[test]
 fn a_game_is_played_on(rt: HostRuntime) -> Result<(), Fail> {
-    let keys = [
-        Keys::from_bits(1),
-        Keys::from_bits(2),
-        Keys::from_bits(3),
-        Keys::from_bits(4),
-    ];
-    let events = lost();
-    let mut played = play(
-        rt.alloc(),
-        config(131_072)?,
-        walks(rt.alloc(), 2)?,
-        &events[..12],
-    )?;
+    let keys = [1, 2, 3, 4].map(Keys::from_bits);
+    let mut rounds = played(rt.alloc())?;
     for _ in 0..30 {
-        same!(&rt; played.game.good_round(keys), Ok(()));
+        same!(&rt; rounds.game.good_round(keys), Ok(()));
     }
-    let on = play_on(
-        rt.alloc(),
-        config(131_072)?,
-        walks(rt.alloc(), 2)?,
-        &events[..12],
-        keys,
-        30,
-    )?;
-    same!(&rt; all_told(&on.game), all_told(&played.game));
+    let on = played_on(rt.alloc(), keys)?;
+    same!(&rt; all_told(&on.game), all_told(&rounds.game));
     same!(&rt; (on.done, on.refused), (12, 0));
-    let other = play_on(
-        rt.alloc(),
-        config(131_072)?,
-        walks(rt.alloc(), 2)?,
-        &events[..12],
-        no_keys(),
-        30,
-    )?;
+    let other = played_on(rt.alloc(), no_keys())?;
     holds!(&rt; all_told(&other.game) != all_told(&on.game));
     Ok(())
 }

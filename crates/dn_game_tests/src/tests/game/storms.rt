@@ -3,9 +3,10 @@
 use super::belts::belts;
 use super::told::all_told;
 use super::{config, walks};
-use dn_game::{Played, storm};
+use dn_game::{Game, Played, storm};
 use dn_world::{Walk, World};
 use std::alloc::Global;
+use std::process::Abort;
 use std::test::Fail;
 
 fn stormed(alloc: Global, players: usize, seed: u64, count: u32) -> Result<Played<Walk>, Fail> {
@@ -26,29 +27,43 @@ fn no_event_of_a_storm_is_refused(rt: HostRuntime) -> Result<(), Fail> {
     Ok(())
 }
 
+/// How many tics a node ran, and its demo.
+fn recorded(game: &Game<Walk>, number: u32) -> (u32, &[u8]) {
+    match game.node(number) {
+        Some(node) => (node.ran(), node.demo()),
+        None => (0, &[]),
+    }
+}
+
+/// All packets of both games are the same.
+fn same_flights(rt: &impl Abort, one: &Game<Walk>, other: &Game<Walk>) {
+    same!(rt; one.flights(), other.flights());
+    for which in 0..one.flights() {
+        same!(rt; one.flight(which), other.flight(which), which);
+    }
+}
+
 #[test]
 fn a_seed_has_one_storm(rt: HostRuntime) -> Result<(), Fail> {
     let one = stormed(rt.alloc(), 3, 7, 3_000)?;
     let again = stormed(rt.alloc(), 3, 7, 3_000)?;
-    let other = stormed(rt.alloc(), 3, 8, 3_000)?;
     same!(&rt; all_told(&one.game), all_told(&again.game));
+    same_flights(&rt, &one.game, &again.game);
+    for number in 0..3 {
+        let (ran, demo) = recorded(&one.game, number);
+        holds!(&rt; ran > 0, number);
+        same!(&rt; recorded(&again.game, number), (ran, demo), number);
+    }
+    Ok(())
+}
+
+#[test]
+fn another_seed_has_another_storm(rt: HostRuntime) -> Result<(), Fail> {
+    let one = stormed(rt.alloc(), 3, 7, 3_000)?;
+    let other = stormed(rt.alloc(), 3, 8, 3_000)?;
     holds!(&rt; all_told(&one.game) != all_told(&other.game));
     for number in 0..3 {
-        match (
-            one.game.node(number),
-            again.game.node(number),
-            other.game.node(number),
-        ) {
-            (Some(one), Some(again), Some(other)) => {
-                holds!(&rt; one.ran() > 0, number);
-                same!(&rt; one.demo(), again.demo(), number);
-                holds!(&rt; one.demo() != other.demo(), number);
-            }
-            _ => holds!(&rt; false, number),
-        }
-    }
-    for which in 0..one.game.flights() {
-        same!(&rt; one.game.flight(which), again.game.flight(which), which);
+        holds!(&rt; recorded(&one.game, number).1 != recorded(&other.game, number).1, number);
     }
     Ok(())
 }

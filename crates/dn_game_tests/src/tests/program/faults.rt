@@ -2,7 +2,6 @@
 
 use super::ONE;
 use super::host::Host;
-use dn_program::finish;
 use std::process::Abort;
 use std::test::Fail;
 
@@ -17,9 +16,9 @@ fn read_faults_are_told(rt: HostRuntime) -> Result<(), Fail> {
     ] {
         let mut host = Host::new(&rt, line.as_bytes(), &ONE);
         host.mute = true;
-        same!(&rt; finish(&host), 3, line);
-        let printed = host.printed.into_inner();
-        same!(&rt; printed.as_slice(), b"read fault\n".as_slice(), line);
+        let called = host.call();
+        same!(&rt; called.status, 3, line);
+        same!(&rt; called.printed.as_slice(), b"read fault\n".as_slice(), line);
     }
     Ok(())
 }
@@ -42,9 +41,9 @@ fn write_faults_are_told(rt: HostRuntime) -> Result<(), Fail> {
         let mut host = Host::new(&rt, line.as_bytes(), &ONE);
         host.jams.set(1);
         host.sockets = 2;
-        same!(&rt; finish(&host), 3, line);
-        let printed = host.printed.into_inner();
-        same!(&rt; printed.as_slice(), b"write fault\n".as_slice(), line);
+        let called = host.call();
+        same!(&rt; called.status, 3, line);
+        same!(&rt; called.printed.as_slice(), b"write fault\n".as_slice(), line);
     }
     Ok(())
 }
@@ -54,6 +53,7 @@ fn write_faults_are_told(rt: HostRuntime) -> Result<(), Fail> {
 fn a_full_output_is_told_by_the_status(rt: HostRuntime) {
     let host = Host::new(&rt, b"netgame show", &ONE);
     host.jams.set(1_000_000);
-    same!(&rt; finish(&host), 3);
-    holds!(&rt; host.printed.into_inner().is_empty());
+    let called = host.call();
+    same!(&rt; called.status, 3);
+    holds!(&rt; called.printed.is_empty());
 }

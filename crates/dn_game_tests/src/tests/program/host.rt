@@ -1,5 +1,6 @@
 //! A runtime of the tests: they choose its words, its input and its sockets, and see what it printed.
 
+use dn_program::finish;
 use std::alloc::{Allocator, Global};
 use std::cell::{Cell, RefCell};
 use std::env::FillError;
@@ -55,11 +56,39 @@ pub(crate) struct Host<'a, N> {
     /// How many sockets are bound before the first that is not.
     pub(crate) sockets: usize,
     /// The ports that were asked for.
-    pub(crate) ports: RefCell<Vec<u16>>,
+    ports: RefCell<Vec<u16>>,
     /// What went to standard output.
-    pub(crate) printed: RefCell<Vec<u8>>,
+    printed: RefCell<Vec<u8>>,
     /// What went to standard error.
-    pub(crate) complained: RefCell<Vec<u8>>,
+    complained: RefCell<Vec<u8>>,
+}
+
+/// What a call of the program answered, what it printed, and which ports it asked for.
+#[derive(Drop)]
+pub(crate) struct Called {
+    pub(crate) status: u8,
+    pub(crate) printed: Vec<u8>,
+    pub(crate) complained: Vec<u8>,
+    pub(crate) ports: Vec<u16>,
+}
+
+impl<N: AllocGlobal + Net> Host<'_, N> {
+    /// Calls the program.
+    pub(crate) fn call(self) -> Called {
+        let status = finish(&self);
+        let Host {
+            ports,
+            printed,
+            complained,
+            ..
+        } = self;
+        Called {
+            status,
+            printed: printed.into_inner(),
+            complained: complained.into_inner(),
+            ports: ports.into_inner(),
+        }
+    }
 }
 
 impl<'a, N: AllocGlobal> Host<'a, N> {

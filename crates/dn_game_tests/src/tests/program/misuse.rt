@@ -1,23 +1,17 @@
 //! Command lines that cannot be read: clap's words on standard error, and the exit status 2.
 
 use super::host::Host;
-use dn_program::finish;
 use std::net::Net;
 use std::process::Abort;
 use std::test::Fail;
 
 /// Compares the status and the first words on standard error, and that nothing was printed.
 fn complains(rt: &(impl Abort + AllocGlobal + Net), line: &[u8], text: &str) -> Result<(), Fail> {
-    let host = Host::new(rt, line, b"");
-    same!(rt; finish(&host), 2, text);
-    let Host {
-        printed,
-        complained,
-        ..
-    } = host;
-    let complained = String::from_utf8(complained.into_inner())?;
+    let called = Host::new(rt, line, b"").call();
+    same!(rt; called.status, 2, text);
+    holds!(rt; called.printed.is_empty(), text);
+    let complained = String::from_utf8(called.complained)?;
     holds!(rt; complained.as_str().starts_with(text), complained);
-    holds!(rt; printed.into_inner().is_empty(), text);
     Ok(())
 }
 

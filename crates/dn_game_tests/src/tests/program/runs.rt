@@ -2,7 +2,6 @@
 
 use super::host::Host;
 use super::{ONE, TWO};
-use dn_program::finish;
 use std::net::Net;
 use std::process::Abort;
 use std::test::Fail;
@@ -15,15 +14,10 @@ fn runs(
     status: u8,
     text: &[u8],
 ) -> Result<(), Fail> {
-    let host = Host::new(rt, line.as_bytes(), input);
-    same!(rt; finish(&host), status, line);
-    let Host {
-        printed,
-        complained,
-        ..
-    } = host;
-    same!(rt; printed.into_inner().as_slice(), text, line);
-    holds!(rt; complained.into_inner().is_empty(), line);
+    let called = Host::new(rt, line.as_bytes(), input).call();
+    same!(rt; called.status, status, line);
+    same!(rt; called.printed.as_slice(), text, line);
+    holds!(rt; called.complained.is_empty(), line);
     Ok(())
 }
 
@@ -176,16 +170,11 @@ fn help_is_printed(rt: HostRuntime) -> Result<(), Fail> {
         ("netgame storm --help", "Usage: netgame storm"),
         ("netgame help storm", "Usage: netgame storm"),
     ] {
-        let host = Host::new(&rt, line.as_bytes(), b"");
-        same!(&rt; finish(&host), 0, line);
-        let Host {
-            printed,
-            complained,
-            ..
-        } = host;
-        let printed = String::from_utf8(printed.into_inner())?;
+        let called = Host::new(&rt, line.as_bytes(), b"").call();
+        same!(&rt; called.status, 0, line);
+        let printed = String::from_utf8(called.printed)?;
         holds!(&rt; printed.as_str().contains(usage), line);
-        holds!(&rt; complained.into_inner().is_empty(), line);
+        holds!(&rt; called.complained.is_empty(), line);
     }
     Ok(())
 }

@@ -1,7 +1,6 @@
 //! The subcommands over UDP: which ports they ask for, what they print, and their exit statuses.
 
 use super::host::Host;
-use dn_program::finish;
 use std::process::Abort;
 use std::test::Fail;
 
@@ -54,16 +53,11 @@ fn rounds_are_played(rt: HostRuntime) -> Result<(), Fail> {
     for (line, sockets, status, text, asked) in ROWS {
         let mut host = Host::new(&rt, line.as_bytes(), b"");
         host.sockets = sockets;
-        same!(&rt; finish(&host), status, line);
-        let Host {
-            printed,
-            complained,
-            ports,
-            ..
-        } = host;
-        same!(&rt; printed.into_inner().as_slice(), text.as_bytes(), line);
-        holds!(&rt; complained.into_inner().is_empty(), line);
-        same!(&rt; ports.into_inner().as_slice(), asked, line);
+        let called = host.call();
+        same!(&rt; called.status, status, line);
+        same!(&rt; called.printed.as_slice(), text.as_bytes(), line);
+        holds!(&rt; called.complained.is_empty(), line);
+        same!(&rt; called.ports.as_slice(), asked, line);
     }
     Ok(())
 }

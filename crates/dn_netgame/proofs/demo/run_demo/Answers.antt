@@ -1,4 +1,4 @@
-use Rattle.dn_netgame.specs.DemoLines.{IsDemo}
+use Rattle.dn_netgame.specs.DemoShown.{IsDemo}
 use Rattle.dn_netgame.proofs.Showing.{shows_such}
 use Rattle.dn_netgame.proofs.demo.run_demo.Goals as goal
 

@@ -3,7 +3,7 @@ use Rattle.dn_world.specs.Plane.{Spots, walking}
 use Rattle.dn_line.specs.Udp.{Ports, UdpSends, UdpPolls}
 use Rattle.dn_node.specs.declared.node.Node.{Node}
 use Rattle.dn_turn.specs.Rounds.{AreSeated, TakeRounds}
-use Rattle.dn_netgame.specs.LoopLines.{new_seats, HavePlayed}
+use Rattle.dn_netgame.specs.LoopShown.{new_seats, HavePlayed}
 use Rattle.dn_netgame.proofs.Together.{together}
 use Rattle.dn_netgame.proofs.netloop.play_all.Goals as goal
 

@@ -3,8 +3,8 @@ use Rattle.std.specs.Prelude.{slice_get}
 use Rattle.std.specs.String.{string_bytes}
 use Rattle.std.proofs.lemmas.Option.{slice_get_within}
 use Rattle.dn_node.specs.Contents as node
-use Rattle.dn_netgame.specs.NodeLines.{node_line}
-use Rattle.dn_netgame.proofs.Listing.{lines_more, lines_done}
+use Rattle.dn_text.specs.NodeLines.{node_line}
+use Rattle.dn_text.proofs.Listing.{lines_more, lines_done}
 use Rattle.dn_netgame.proofs.netloop.push_all.Goals as goal
 
 pub loop-node-smaller : goal.loop-node-smaller

@@ -3,7 +3,7 @@ use Rattle.std.proofs.lemmas.Option.{slice_get-get_or}
 use Rattle.dn_world.specs.Plane.{Spots, walking}
 use Rattle.dn_line.specs.Udp.{Ports, UdpSends, UdpPolls}
 use Rattle.dn_turn.specs.Rounds.{Seat}
-use Rattle.dn_netgame.specs.NetLines.{new_seat, PlaysOut}
+use Rattle.dn_netgame.specs.PlayShown.{new_seat, PlaysOut}
 use Rattle.dn_netgame.proofs.Alone.{alone}
 use Rattle.dn_netgame.proofs.netplay.play.Goals as goal
 

@@ -8,7 +8,7 @@ use Rattle.dn_node.specs.Contents.{contents}
 use Rattle.dn_node.specs.Represents.{Represents}
 use Rattle.dn_turn.specs.Rounds.{Seat, TakeRounds, rules_at}
 use Rattle.dn_turn.proofs.Places.{seated_with}
-use Rattle.dn_netgame.specs.NetLines.{with_quit}
+use Rattle.dn_netgame.specs.PlayShown.{with_quit}
 use Rattle.dn_netgame.proofs.netplay.play_out.Goals as goal
 
 pub returns : goal.returns

@@ -2,7 +2,7 @@ use Rattle.std.proofs.Common.{rules, ◌++◌, ℕ, List, [], refl, sym, subst, 
 use Rattle.std.specs.String.{string_bytes}
 use Rattle.std.specs.Io.KnownBytes.{Appends, Consumes}
 use Rattle.std.proofs.KnownBytes.{Appends-trans}
-use Rattle.dn_netgame.specs.RowLines.{lines_of_rows}
+use Rattle.dn_text.specs.RowLines.{lines_of_rows}
 use Rattle.dn_netgame.specs.Transfer.{AppendsFront}
 use Rattle.dn_netgame.proofs.RowPieces.{are_rows, front_behind}
 use Rattle.dn_netgame.proofs.rows.run_rows.Goals as goal

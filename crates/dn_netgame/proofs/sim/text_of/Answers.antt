@@ -1,8 +1,8 @@
 use Rattle.std.proofs.Common.{List, Ok, subst}
 use Rattle.std.specs.String.{string_bytes}
 use Rattle.dn_machine.specs.declared.events.Event.{Event}
-use Rattle.dn_netgame.specs.GameLines.{IsGameShown}
-use Rattle.dn_netgame.specs.SimLines.{WalksBy}
+use Rattle.dn_netgame.specs.GameShown.{IsGameShown}
+use Rattle.dn_netgame.specs.SimShown.{WalksBy}
 use Rattle.dn_netgame.proofs.sim.text_of.Goals as goal
 
 pub returns-in_ok-text_of_events-in-Ok-clause-shown :

@@ -1,7 +1,7 @@
 use Rattle.std.proofs.Common.{List, Ok, subst}
 use Rattle.std.specs.String.{string_bytes}
 use Rattle.dn_machine.specs.declared.events.Event.{Event}
-use Rattle.dn_netgame.specs.TraceLines.{AreTraced}
+use Rattle.dn_netgame.specs.TraceShown.{AreTraced}
 use Rattle.dn_netgame.proofs.trace.text_of_script.Goals as goal
 
 pub returns-in_ok-text_of_events-in-Ok-clause-shown :

@@ -1,8 +1,8 @@
 use Rattle.std.proofs.Common.{ℕ, List, ◌++◌, ap, refl, ◌∙◌}
 use Rattle.std.specs.String.{string_bytes}
 use Rattle.dn_demo.specs.Recorded.{capacity}
-use Rattle.dn_netgame.specs.GameLines.{game_lines}
-use Rattle.dn_netgame.specs.TraceLines.{trace_lines}
+use Rattle.dn_text.specs.GameLines.{game_lines}
+use Rattle.dn_text.specs.TraceLines.{trace_lines}
 use Rattle.dn_netgame.specs.declared.observers.Trace.{Trace}
 use Rattle.dn_netgame.proofs.Tracing.{all_traced}
 use Rattle.dn_netgame.proofs.trace.text_of_storm.Goals as goal

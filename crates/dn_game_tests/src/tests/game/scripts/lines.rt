@@ -3,6 +3,8 @@
 use dn_game::read_script;
 use dn_machine::Event;
 use dn_tic::Keys;
+use std::alloc::Global;
+use std::process::Abort;
 use std::test::Fail;
 
 const RUN: Event = Event::Run(0);
@@ -12,6 +14,13 @@ const STOP: Event = Event::Stop(1);
 fn build(node: u32, bits: u32) -> Event {
     let keys = Keys::from_bits(bits);
     Event::Build { node, keys }
+}
+
+/// The text is read as these events.
+fn reads(rt: &impl Abort, alloc: Global, text: &str, events: &[Event]) -> Result<(), Fail> {
+    let read = read_script(alloc, text.as_bytes())?;
+    same!(rt; read.as_slice(), events, text);
+    Ok(())
 }
 
 #[test]
@@ -45,8 +54,7 @@ fn lines_are_events(rt: HostRuntime) -> Result<(), Fail> {
         ("stop 3", Event::Stop(3)),
         ("stop 98765432", Event::Stop(98_765_432)),
     ] {
-        let events = read_script(rt.alloc(), line.as_bytes())?;
-        assert_eq!(rt; events.as_slice(), [event].as_slice(), "{line}");
+        reads(&rt, rt.alloc(), line, &[event])?;
     }
     Ok(())
 }
@@ -73,23 +81,16 @@ fn each_letter_is_a_key(rt: HostRuntime) -> Result<(), Fail> {
         ("build 0 7", 16),
         ("build 0 8", 17),
     ] {
-        let events = read_script(rt.alloc(), line.as_bytes())?;
-        assert_eq!(rt;
-            events.as_slice(),
-            [build(0, 1 << place)].as_slice(),
-            "{line}"
-        );
+        reads(&rt, rt.alloc(), line, &[build(0, 1 << place)])?;
     }
-    let all = read_script(rt.alloc(), b"build 0 8u7x6s5t4d3a2r1lfb")?;
-    assert_eq!(rt; all.as_slice(), [build(0, 0x3_FFFF)].as_slice());
-    Ok(())
+    let all = "build 0 8u7x6s5t4d3a2r1lfb";
+    reads(&rt, rt.alloc(), all, &[build(0, 0x3_FFFF)])
 }
 
 #[test]
 fn some_lines_are_skipped(rt: HostRuntime) -> Result<(), Fail> {
     for text in ["", "\n", "\n\n\n", "#", "#q", "# run 0", "#\r\n\n##\n"] {
-        let events = read_script(rt.alloc(), text.as_bytes())?;
-        assert!(rt; events.is_empty(), "{text:?}");
+        reads(&rt, rt.alloc(), text, &[])?;
     }
     Ok(())
 }
@@ -108,8 +109,7 @@ fn events_stand_in_order(rt: HostRuntime) -> Result<(), Fail> {
             [RUN, RUN, STOP].as_slice(),
         ),
     ] {
-        let read = read_script(rt.alloc(), text.as_bytes())?;
-        assert_eq!(rt; read.as_slice(), events, "{text:?}");
+        reads(&rt, rt.alloc(), text, events)?;
     }
     Ok(())
 }

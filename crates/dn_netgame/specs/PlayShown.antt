@@ -1,0 +1,67 @@
+-- What is printed of nodes that played over UDP.
+use Rattle.std.specs.Prelude.{◌≡◌, ◌⊎◌, ℕ, Bool, false, List, codes, Some, if◌then◌else◌}
+use Rattle.dn_setup.specs.Settings.{Settings}
+use Rattle.dn_demo.specs.Recorded.{capacity}
+use Rattle.dn_world.specs.Physics.{Physics}
+use Rattle.dn_world.specs.Plane.{Spots, walking}
+use Rattle.dn_line.specs.Udp.{Ports, UdpSends, UdpPolls}
+use Rattle.dn_machine.specs.Game.{fresh}
+use Rattle.dn_machine.specs.Node.{put}
+use Rattle.dn_machine.specs.Running.{on_quit}
+use Rattle.dn_lockstep.specs.declared.config.Config.{Config}
+use Rattle.dn_node.specs.Contents.{Contents}
+use Rattle.dn_node.specs.Represents.{Represents}
+use Rattle.dn_turn.specs.Giving.{Sends}
+use Rattle.dn_turn.specs.Hearing.{Polls}
+use Rattle.dn_turn.specs.Rounds.{Seat, Table, TakeRounds, rules_at}
+use Rattle.dn_text.specs.NodeLines.{node_line}
+
+-- ports of players that are bound here, and no call has failed
+abbrev pub new_ports : (base first last players : ℕ) → Ports
+new_ports base first last players =
+    record { base = base; first = first; last = last; players = players; failed = 0 }
+
+-- the seat of a new node
+abbrev pub new_seat : Config → Settings → Seat
+new_seat config settings =
+    record {
+      players = config.players;
+      extra = config.extra;
+      capacity =
+          capacity config.limit config.players;
+      me = config.me;
+      node = fresh settings config.me;
+    }
+
+-- the node at a place quits
+abbrev pub with_quit : {L : Type 0} → ℕ → Table L → Table L
+with_quit place table =
+    (put table.0 place (record (table.0 place) { node = (on_quit (table.0 place).node).0 }), table.1)
+
+-- `count` rounds of one node, which then quits, and four rounds more
+pub record PlaysOut {S L : Type 0} (sends : Sends L) (polls : Polls L) (physics : Physics S) (seed count : ℕ)
+    (old new : Table L) : Type 0 where
+  pub mid : Table L
+  pub rounds : TakeRounds sends polls physics seed 1 count old mid
+  pub farewells : TakeRounds sends polls physics seed 1 4 (with_quit 0 mid) new
+
+-- a node that has played so from its beginning on
+pub record HasPlayed (config : Config) (settings : Settings) (base seed count : ℕ)
+    (n : Contents Spots) : Type 0 where
+  pub last : Table Ports
+  pub plays : PlaysOut UdpSends UdpPolls walking seed count
+      (λ place. new_seat config settings, new_ports base config.me config.me config.players) last
+  pub node : Represents (λ spots. spots) (rules_at walking (last.0 0)) (last.0 0).me n (last.0 0).node
+
+-- whatever settings are taken where there are none, since only player 0 has some
+abbrev pub HasEverPlayed : Config → (base seed count : ℕ) → Contents Spots → Type 0
+HasEverPlayed config base seed count n =
+    (settings : Settings) → (config.me ≡ 0 → config.settings ≡ Some settings)
+    → HasPlayed config settings base seed count n
+
+-- the output and the exit status are those of such a node, or tell that the socket cannot be bound
+abbrev pub IsPlay : Config → (base seed count : ℕ) → Bool → List ℕ → ℕ → Type 0
+IsPlay config base seed count raw lines status =
+    ((lines ≡ codes "socket fault\n") × (status ≡ 3))
+    ⊎ ((n : Contents Spots) × HasEverPlayed config base seed count n
+    × (lines ≡ (if raw then n.demo.bytes else node_line n false)) × (status ≡ 0))

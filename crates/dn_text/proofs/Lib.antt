@@ -1,0 +1,4 @@
+pub mod Counts
+pub mod Letters
+pub mod Listing
+pub mod Seats

@@ -1,0 +1,37 @@
+//! Labelled numbers, as the printed lines have them.
+
+ghost use Rattle.std.specs.Prelude.{◌≡◌, ◌++◌, codes, OnOk};
+ghost use Rattle.std.specs.Fmt.{decimal};
+ghost use Rattle.std.specs.String.{string_bytes};
+ghost use Rattle.dn_text.specs.Fields.{labelled, fields_of};
+
+use std::alloc::AllocError;
+
+/// Appends each label and, behind it, its number in decimal.
+pub(crate) fn push_fields(text: &mut String, fields: &[(&str, i128)]) -> Result<(), AllocError>
+    ensures { OnOk result (string_bytes text.new
+        ≡ string_bytes text.old ++ labelled (fields_of fields.now)) }
+{
+    for (label, number) in fields {
+        text.push_str(label)?;
+        write!(text, "{number}")?;
+    }
+    Ok(())
+}
+
+/// Appends a line of such fields.
+pub(crate) fn push_line(text: &mut String, fields: &[(&str, i128)]) -> Result<(), AllocError>
+    ensures { OnOk result (string_bytes text.new
+        ≡ string_bytes text.old ++ (labelled (fields_of fields.now) ++ codes "\n")) }
+{
+    push_fields(text, fields)?;
+    text.push_str("\n")
+}
+
+/// Appends a label and, behind it, a number in decimal.
+pub(crate) fn push_number(text: &mut String, label: &str, number: u32) -> Result<(), AllocError>
+    ensures { OnOk result (string_bytes text.new ≡ string_bytes text.old ++ (label.now ++ decimal number)) }
+{
+    text.push_str(label)?;
+    write!(text, "{number}")
+}

@@ -1,0 +1,24 @@
+//! The text that the program prints, line by line: what a line says of a packet, a demo, a row, a node, an event,
+//! an answer or a game.
+#![tactic(auto)]
+
+mod answers;
+mod demo;
+mod events;
+mod fields;
+mod game;
+mod nodes;
+mod packet;
+mod rows;
+mod script;
+mod trace;
+
+pub use answers::push_answer;
+pub use demo::text_of_demo;
+pub use events::push_event_line;
+pub use game::push_game;
+pub use nodes::push_node;
+pub use packet::text_of_packet;
+pub use rows::push_row;
+pub use script::text_of_bad_line;
+pub use trace::push_trace_line;

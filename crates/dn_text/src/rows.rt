@@ -1,0 +1,45 @@
+//! The lines of a demo's rows.
+
+ghost use Rattle.std.specs.Prelude.{◌≡◌, ◌++◌, OnOk};
+ghost use Rattle.std.specs.String.{string_bytes};
+ghost use Rattle.dn_text.specs.RowLines.{move_line, step_line, row_lines};
+
+use crate::fields::push_line;
+use dn_tic::Move;
+use std::alloc::AllocError;
+
+fn push_move(text: &mut String, tic: u64, player: u8, step: Move) -> Result<(), AllocError>
+    ensures { OnOk result (string_bytes text.new ≡ string_bytes text.old ++ move_line tic player step) }
+{
+    let fields = [
+        ("tic ", tic as i128),
+        (" player ", player as i128),
+        (" forward ", step.forward as i128),
+        (" side ", step.side as i128),
+        (" turn ", step.turn as i128),
+        (" buttons ", step.buttons as i128),
+    ];
+    push_line(text, &fields)
+}
+
+/// The line of who has a move, and nothing for another.
+fn push_step(text: &mut String, tic: u64, player: u8, step: Option<Move>) -> Result<(), AllocError>
+    ensures { OnOk result (string_bytes text.new ≡ string_bytes text.old ++ step_line tic player step) }
+{
+    match step {
+        Some(step) => push_move(text, tic, player, step),
+        None => Ok(()),
+    }
+}
+
+/// Appends the lines of a row of a demo: one for each player who is present, in the order of their numbers.
+/// Err where memory is refused; the text may then have a front of the lines.
+pub fn push_row(text: &mut String, tic: u64, row: [Option<Move>; 4]) -> Result<(), AllocError>
+    ensures { OnOk result (string_bytes text.new ≡ string_bytes text.old ++ row_lines tic 0 row) }
+{
+    let [a, b, c, d] = row;
+    push_step(text, tic, 0, a)?;
+    push_step(text, tic, 1, b)?;
+    push_step(text, tic, 2, c)?;
+    push_step(text, tic, 3, d)
+}

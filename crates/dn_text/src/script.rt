@@ -1,0 +1,17 @@
+//! The line of a text that is no script.
+
+ghost use Rattle.std.specs.Prelude.{◌≡◌, IfOk};
+ghost use Rattle.std.specs.String.{string_bytes};
+ghost use Rattle.dn_text.specs.ScriptLines.{bad_line};
+
+use crate::fields::push_line;
+use std::alloc::{AllocError, Global};
+
+/// The line that tells which line of a text is no event, counted from 1. Err where memory is refused.
+pub fn text_of_bad_line(alloc: Global, number: usize) -> Result<String, AllocError>
+    ensures { IfOk result (λ text. string_bytes text ≡ bad_line number) }
+{
+    let mut text = String::new(alloc);
+    push_line(&mut text, &[("script: line ", number as i128)])?;
+    Ok(text)
+}

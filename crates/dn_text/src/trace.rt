@@ -1,0 +1,29 @@
+//! The lines of a trace.
+
+ghost use Rattle.std.specs.Prelude.{◌≡◌, ◌++◌, OnOk};
+ghost use Rattle.std.specs.String.{string_bytes};
+ghost use Rattle.dn_text.specs.TraceLines.{trace_line};
+
+use crate::answers::push_answer;
+use crate::events::push_event;
+use crate::fields::push_fields;
+use dn_game::{Done, Event, Refusal};
+use std::alloc::AllocError;
+
+/// Appends the line of an event in a trace: its number, the event in the words of a script, and its answer in
+/// words. Err where memory is refused; the text may then have a front of the line.
+pub fn push_trace_line(
+    text: &mut String,
+    number: usize,
+    event: Event,
+    answer: Result<Done, Refusal>,
+) -> Result<(), AllocError>
+    ensures { OnOk result (string_bytes text.new ≡ string_bytes text.old ++ trace_line number event answer) }
+{
+    push_fields(text, &[("event ", number as i128)])?;
+    text.push_str(" ")?;
+    push_event(text, event)?;
+    text.push_str(": ")?;
+    push_answer(text, answer)?;
+    text.push_str("\n")
+}
