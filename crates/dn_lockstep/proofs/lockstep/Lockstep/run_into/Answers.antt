@@ -43,3 +43,9 @@ returns-clause-step c marking players extra capacity me m r own =
     let ran = c.run_row.ensures.step marking players extra capacity me m r
     (λ tic e. own tic (ap (λ (x : machine.Node × Ran). x.1) on ∙ e)) in
     after _ _ on ran.node ran.answer
+
+pub first_off-requires-clause-there : goal.first_off-requires-clause-there
+first_off-requires-clause-there c = search rules
+
+pub run_row-requires-clause-there : goal.run_row-requires-clause-there
+run_row-requires-clause-there c = search rules

@@ -1,4 +1,4 @@
-use Rattle.std.proofs.Common.{◌≡◌, refl, ℕ, ◌+◌, ◌-◌, true, false, length, sym, ap, ◌∙◌, arith, inl, inr}
+use Rattle.std.proofs.Common.{◌≡◌, refl, ℕ, ◌+◌, ◌-◌, true, false, length, sym, ap, ◌∙◌, arith, inl, inr, rules}
 use Rattle.std.specs.List.{list_any}
 use Rattle.dn_ring.specs.Ring.{Ring}
 use Rattle.dn_machine.specs.declared.peer.Peer.{Peer}
@@ -207,3 +207,11 @@ returns-clause-step c marking players extra capacity me m r =
     c.if-end-got.false c.if-start-got.false c.want-2.ensures.put c.put_all.ensures.kept
     c.put_all.ensures.others in
     record { node = taken.node; answer = c.left_or-2.ensures ∙ taken.answer }
+
+-- a packet that is dropped changes nothing
+
+pub returns-then-end-self-clause-dropped : goal.returns-then-end-self-clause-dropped
+returns-then-end-self-clause-dropped c = search rules
+
+pub returns-then-is_strange_end-clause-dropped : goal.returns-then-is_strange_end-clause-dropped
+returns-then-is_strange_end-clause-dropped c = search rules
