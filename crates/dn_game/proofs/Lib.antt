@@ -7,14 +7,6 @@ pub mod DemoTexts
 pub mod RowsMade
 pub mod DemosAgreeing
 pub mod Agreeing
-pub mod ScriptNumbers
-pub mod ScriptKeys
-pub mod Lacking
-pub mod ScriptLines
-pub mod ScriptOneEvent
-pub mod ScriptEvents
-pub mod ScriptReading
-pub mod ScriptWriting
 pub mod Places
 pub mod Packing
 pub mod Standing

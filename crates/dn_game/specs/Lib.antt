@@ -13,10 +13,6 @@ pub mod Rounds
 pub mod GoingOn
 pub mod Stopped
 pub mod Schedule
-pub mod ScriptWords
-pub mod ScriptLines
-pub mod Script
-pub mod Written
 pub mod Stormed
 pub mod Observed
 pub mod Pool

@@ -6,7 +6,7 @@ use Rattle.dn_machine.specs.declared.events.Done.{Done}
 use Rattle.dn_machine.specs.declared.events.Event.{Event}
 use Rattle.dn_machine.specs.declared.events.Refusal.{Refusal}
 use Rattle.dn_game.specs.Observed.{Observing, ObservesAll}
-use Rattle.dn_game.specs.Written.{event_line, script_text}
+use Rattle.dn_script.specs.Written.{event_line, script_text}
 use Rattle.dn_text.specs.TraceLines.{trace_line, trace_lines}
 
 module _ {L : Type 0} (observes : Observing L) (text : L → List ℕ) where

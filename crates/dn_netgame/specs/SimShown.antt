@@ -4,11 +4,11 @@ use Rattle.dn_world.specs.Plane.{Spots, walking}
 use Rattle.dn_machine.specs.declared.events.Event.{Event}
 use Rattle.dn_game.specs.declared.config.GameConfig.{GameConfig}
 use Rattle.dn_game.specs.declared.played.Played.{Played}
-use Rattle.dn_game.specs.declared.script.ScriptFault.{ScriptFault}
-use Rattle.dn_game.specs.declared.script.ScriptFault.TheVariants.{TooLong, Line, Memory}
+use Rattle.dn_script.specs.declared.script.ScriptFault.{ScriptFault}
+use Rattle.dn_script.specs.declared.script.ScriptFault.TheVariants.{TooLong, Line, Memory}
 use Rattle.dn_game.specs.Opening.{rules_in}
 use Rattle.dn_game.specs.Played.{IsPlayed}
-use Rattle.dn_game.specs.Script.{IsReadAs}
+use Rattle.dn_script.specs.Script.{IsReadAs}
 use Rattle.dn_text.specs.ScriptLines.{bad_line}
 use Rattle.dn_netgame.specs.GameShown.{IsGameShown}
 

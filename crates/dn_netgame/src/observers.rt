@@ -2,7 +2,7 @@
 
 ghost use Rattle.std.specs.Prelude.{◌≡◌, ◌++◌, []};
 ghost use Rattle.std.specs.String.{string_bytes};
-ghost use Rattle.dn_game.specs.Written.{event_line};
+ghost use Rattle.dn_script.specs.Written.{event_line};
 ghost use Rattle.dn_text.specs.TraceLines.{trace_line};
 ghost use Rattle.dn_netgame.specs.TraceShown.{IsNotLeftOut};
 

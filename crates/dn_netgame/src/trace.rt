@@ -4,7 +4,7 @@ ghost use Rattle.std.specs.Prelude.{◌≡◌, ◌+◌, Err, IfOk, IfErr};
 ghost use Rattle.std.specs.String.{string_bytes};
 ghost use Rattle.dn_demo.specs.Recorded.{IsLimit};
 ghost use Rattle.dn_lockstep.specs.Opening.{IsGame};
-ghost use Rattle.dn_game.specs.Script.{size_limit};
+ghost use Rattle.dn_script.specs.Script.{size_limit};
 ghost use Rattle.dn_netgame.specs.Shown.{ShowsOrFails, PrintsOrFails};
 ghost use Rattle.dn_netgame.specs.TraceShown.{AreTraced, IsSimTraced, IsStormTraced, IsStormScript};
 ghost use Rattle.dn_netgame.specs.declared.fault.RunFault.{RunFault};

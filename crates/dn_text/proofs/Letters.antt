@@ -3,9 +3,9 @@ use Rattle.std.proofs.Common.{◌≡◌, ◌<◌, ◌+◌, ℕ, Bool, false, eqb
 use Rattle.std.specs.Int.{bit_at}
 use Rattle.std.proofs.lemmas.Bool.{cond-true, cond-false, eq-eqb}
 use Rattle.std.proofs.lemmas.List.Elements.{filter_more}
-use Rattle.dn_game.specs.ScriptWords.{letters, place_in_letters}
-use Rattle.dn_game.specs.Written.{is_down_at, letters_down}
-use Rattle.dn_game.proofs.ScriptKeys.{letter_found}
+use Rattle.dn_script.specs.Words.{letters, place_in_letters}
+use Rattle.dn_script.specs.Written.{is_down_at, letters_down}
+use Rattle.dn_script.proofs.Keys.{letter_found}
 
 module _ (keys place : ℕ) (within : place < 18) where
   passes : ℕ → Bool

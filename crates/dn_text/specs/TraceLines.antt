@@ -3,7 +3,7 @@ use Rattle.std.specs.Prelude.{ℕ, pos, ◌+◌, List, [], ◌∷◌, ◌++◌, 
 use Rattle.dn_machine.specs.declared.events.Done.{Done}
 use Rattle.dn_machine.specs.declared.events.Event.{Event}
 use Rattle.dn_machine.specs.declared.events.Refusal.{Refusal}
-use Rattle.dn_game.specs.Written.{event_words}
+use Rattle.dn_script.specs.Written.{event_words}
 use Rattle.dn_text.specs.AnswerWords.{answer_words}
 use Rattle.dn_text.specs.Fields.{labelled}
 

@@ -2,8 +2,8 @@
 
 ghost use Rattle.std.specs.Prelude.{◌≡◌, ◌<◌, ℕ, ◌++◌, [], ◌∷◌, OnOk, get_or};
 ghost use Rattle.std.specs.String.{string_bytes};
-ghost use Rattle.dn_game.specs.ScriptWords.{letters};
-ghost use Rattle.dn_game.specs.Written.{letters_down, keys_word, event_words, event_line};
+ghost use Rattle.dn_script.specs.Words.{letters};
+ghost use Rattle.dn_script.specs.Written.{letters_down, keys_word, event_words, event_line};
 ghost use Rattle.dn_machine.specs.declared.events.Event.TheVariants.{Build, Send};
 
 use crate::fields::push_number;

@@ -1,6 +1,6 @@
 use Rattle.std.proofs.Common.{ℕ, List, ◌++◌, ap, refl, ◌∙◌}
 use Rattle.std.specs.String.{string_bytes}
-use Rattle.dn_game.specs.Written.{script_text}
+use Rattle.dn_script.specs.Written.{script_text}
 use Rattle.dn_netgame.specs.TraceShown.{IsNotLeftOut}
 use Rattle.dn_netgame.specs.declared.observers.Script.{Script}
 use Rattle.dn_netgame.proofs.Tracing.{all_answered, all_written}

@@ -2,8 +2,8 @@ use Rattle.std.proofs.Common.{◌≡◌, ℕ, List, ◌++◌, ap, sym, ◌∙◌
 use Rattle.std.specs.String.{string_bytes}
 use Rattle.std.proofs.lemmas.Bool.{cond-false, ne_eqb}
 use Rattle.std.proofs.lemmas.Result.{IfOk-weaker}
-use Rattle.dn_game.specs.ScriptWords.{letters}
-use Rattle.dn_game.specs.Written.{letters_down, keys_word}
+use Rattle.dn_script.specs.Words.{letters}
+use Rattle.dn_script.specs.Written.{letters_down, keys_word}
 use Rattle.dn_text.proofs.events.push_keys.Goals as goal
 
 pub returns : goal.returns

@@ -3,8 +3,8 @@ use Rattle.std.specs.String.{string_bytes}
 use Rattle.std.specs.declared.alloc.Global.{Global}
 use Rattle.std.specs.declared.string.String.{String}
 use Rattle.std.proofs.lemmas.Bool.{ne_eqb}
-use Rattle.dn_game.specs.ScriptWords.{letters}
-use Rattle.dn_game.specs.Written.{letters_down}
+use Rattle.dn_script.specs.Words.{letters}
+use Rattle.dn_script.specs.Written.{letters_down}
 use Rattle.dn_text.proofs.Letters.{letter_more, letter_not}
 use Rattle.dn_text.proofs.events.push_letters.Goals as goal
 use Rattle.dn_text.proofs.events.push_letters.Goals.{then-bits-place-eq1+in_ok-push_str, else-bits-place-eq1}

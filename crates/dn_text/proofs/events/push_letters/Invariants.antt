@@ -1,7 +1,7 @@
 use Rattle.std.proofs.Common.{◌≡◌, ◌++◌, take}
 use Rattle.std.specs.String.{string_bytes}
-use Rattle.dn_game.specs.ScriptWords.{letters}
-use Rattle.dn_game.specs.Written.{letters_down}
+use Rattle.dn_script.specs.Words.{letters}
+use Rattle.dn_script.specs.Written.{letters_down}
 use Rattle.dn_text.proofs.events.push_letters.Given as goal
 
 abbrev pub invariant-loop-place : goal.invariant-loop-place
