@@ -1,4 +1,4 @@
--- The lines of a storm and the calm after it.
+-- What is shown of a storm and the calm after it.
 use Rattle.std.specs.Prelude.{ℕ, List, [], ◌∷◌}
 use Rattle.dn_world.specs.Plane.{Spots, walking}
 use Rattle.dn_game.specs.declared.config.GameConfig.{GameConfig}

@@ -1,4 +1,4 @@
--- The lines of a storm.
+-- What is shown of a storm.
 use Rattle.std.specs.Prelude.{ℕ, List}
 use Rattle.dn_world.specs.Plane.{Spots, walking}
 use Rattle.dn_game.specs.declared.config.GameConfig.{GameConfig}

@@ -9,14 +9,14 @@ use Rattle.dn_game.specs.declared.played.Played.{Played}
 use Rattle.dn_game.specs.GoingOn.{IsCalmed}
 use Rattle.dn_game.specs.Opening.{rules_in}
 use Rattle.dn_game.specs.Rounds.{keys_of}
+use Rattle.dn_script.specs.Script.{IsReadAs}
+use Rattle.dn_script.specs.declared.script.ScriptFault.{ScriptFault}
 use Rattle.dn_script.specs.Written.{script_text}
 use Rattle.dn_text.specs.GameLines.{game_lines}
 use Rattle.dn_text.specs.TraceLines.{trace_lines}
 use Rattle.dn_netgame.specs.CalmShown.{no_keys}
 use Rattle.dn_netgame.specs.SimShown.{WalksBy, IsScriptShownBy}
 use Rattle.dn_netgame.specs.StormShown.{WalksUnder}
-use Rattle.dn_script.specs.Script.{IsReadAs}
-use Rattle.dn_script.specs.declared.script.ScriptFault.{ScriptFault}
 
 -- the lines and the exit status are those of a game of walks that has played these events: a line for each,
 -- and then those of the game

@@ -7,8 +7,8 @@ ghost use Rattle.dn_node.specs.Contents.{contents};
 ghost use Rattle.dn_lockstep.specs.Opening.{IsGame, IsKeyed};
 ghost use Rattle.dn_line.specs.Udp.{IsBase};
 ghost use Rattle.dn_turn.specs.Rounds.{LeadAll};
-ghost use Rattle.dn_netgame.specs.PlayShown.{PlaysOut, HasEverPlayed, IsPlay};
 ghost use Rattle.dn_text.specs.NodeLines.{node_line};
+ghost use Rattle.dn_netgame.specs.PlayShown.{PlaysOut, HasEverPlayed, IsPlay};
 ghost use Rattle.dn_netgame.specs.Shown.{PrintsOrFails};
 ghost use Rattle.dn_netgame.specs.declared.fault.RunFault.{RunFault};
 

@@ -7,7 +7,7 @@ use crate::words;
 use dn_machine::Event;
 
 /// Whether a line is skipped.
-pub(super) fn is_skipped(line: &[u8]) -> bool
+pub(crate) fn is_skipped(line: &[u8]) -> bool
     ensures { IsTrue result ↔ IsSkipped line.now }
 {
     line.is_empty() || line[0] == b'#'
@@ -45,7 +45,7 @@ fn send(text: &[u8]) -> Option<Event>
 }
 
 /// The event of a line.
-pub(super) fn event(line: &[u8]) -> Option<Event>
+pub(crate) fn event(line: &[u8]) -> Option<Event>
     ensures { IsEventOf line.now result }
 {
     if let Some(text) = line.strip_prefix(b"build ") {

@@ -12,7 +12,7 @@ const LETTERS: [u8; 18] = *b"fblradtsxu12345678";
 const MOST_DIGITS: usize = 9;
 
 /// The number that a word is.
-pub(super) fn number(word: &[u8]) -> Option<u32>
+pub(crate) fn number(word: &[u8]) -> Option<u32>
     ensures { MatchOption result ((n : ℕ) → ¬ IsNumber word.now n) (IsNumber word.now) }
 {
     if word.is_empty() || word.len() > MOST_DIGITS {
@@ -37,7 +37,7 @@ fn place(byte: u8) -> Option<usize>
 }
 
 /// The keys that a word is.
-pub(super) fn keys(word: &[u8]) -> Option<Keys>
+pub(crate) fn keys(word: &[u8]) -> Option<Keys>
     ensures { MatchOption result ((k : ℕ) → ¬ AreKeys word.now k) (AreKeys word.now) }
 {
     if word == b"-".as_slice() {

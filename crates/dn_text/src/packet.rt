@@ -50,8 +50,8 @@ fn push_command(text: &mut String, index: usize, command: TicCmd) -> Result<(), 
     push_line(text, &fields)
 }
 
-/// The lines of what a datagram is read as: those of a packet and its commands, or why it is none. Err where
-/// memory is refused.
+/// The lines of what a datagram is read as: those of a packet and its commands, or the line that tells why it
+/// is none. Err where memory is refused.
 pub fn text_of_packet(
     alloc: Global,
     read: &Result<Packet, PacketFault>,

@@ -7,7 +7,7 @@ ghost use Rattle.dn_text.specs.ScriptLines.{bad_line};
 use crate::fields::push_line;
 use std::alloc::{AllocError, Global};
 
-/// The line that tells which line of a text is no event, counted from 1. Err where memory is refused.
+/// The line that tells of a script's bad line by its number, counted from 1. Err where memory is refused.
 pub fn text_of_bad_line(alloc: Global, number: usize) -> Result<String, AllocError>
     ensures { IfOk result (λ text. string_bytes text ≡ bad_line number) }
 {

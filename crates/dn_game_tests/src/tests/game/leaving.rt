@@ -82,7 +82,7 @@ fn plays_on(rt: &impl Abort, node: &Node<Walk>, end: u32) {
     same!(rt; node.demo().last(), Some(&0x80));
 }
 
-/// The node that left, and what it made by then.
+/// Checks the node that left, and answers how many commands it made.
 fn left(rt: &impl Abort, node: &Node<Walk>) -> u32 {
     let stood = (node.phase(), node.ran(), node.demo().len());
     same!(rt; stood, (Phase::Ended(Cause::Quit), 20, 314));

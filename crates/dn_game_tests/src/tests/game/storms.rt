@@ -63,6 +63,7 @@ fn another_seed_has_another_storm(rt: HostRuntime) -> Result<(), Fail> {
     let other = stormed(rt.alloc(), 3, 8, 3_000)?;
     holds!(&rt; all_told(&one.game) != all_told(&other.game));
     for number in 0..3 {
+        holds!(&rt; other.game.node(number).is_some(), number);
         holds!(&rt; recorded(&one.game, number).1 != recorded(&other.game, number).1, number);
     }
     Ok(())

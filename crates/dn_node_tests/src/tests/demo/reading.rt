@@ -8,6 +8,13 @@ use std::alloc::Global;
 use std::process::Abort;
 use std::test::Fail;
 
+/// Bytes that are handed over are the same demo as bytes that are read.
+fn is_kept_as(rt: &impl Abort, bytes: Vec<u8>, demo: &Demo) -> Result<(), Fail> {
+    let kept = Demo::from_vec(bytes)?;
+    same!(rt; (kept.row(1), kept.after()), (demo.row(1), demo.after()));
+    Ok(())
+}
+
 /// The bytes are a demo of so many tics, with so many bytes cut and after, and play to these places.
 fn reads_as(
     rt: &impl Abort,
@@ -18,8 +25,7 @@ fn reads_as(
 ) -> Result<(), Fail> {
     let demo = Demo::read(alloc, bytes)?;
     same!(rt; (demo.tics(), demo.cut(), demo.after()), (tics, cut, after));
-    let kept = Demo::from_vec(Vec::from_slice(alloc, bytes)?)?;
-    same!(rt; (kept.row(1), kept.after()), (demo.row(1), after));
+    is_kept_as(rt, Vec::from_slice(alloc, bytes)?, &demo)?;
     let mut walk = Walk::new();
     same!(rt; play(&demo, &mut walk), tics);
     stand(rt, &walk, places);
@@ -172,6 +178,14 @@ fn absent_players_have_no_command(rt: HostRuntime) -> Result<(), Fail> {
     Ok(())
 }
 
+/// Bytes that are read, and bytes that are handed over, are refused for the same fault.
+fn is_refused(rt: &impl Abort, alloc: Global, bytes: &[u8], fault: DemoFault) -> Result<(), Fail> {
+    same!(rt; Demo::read(alloc, bytes).err(), Some(fault), bytes);
+    let kept = Demo::from_vec(Vec::from_slice(alloc, bytes)?);
+    same!(rt; kept.err(), Some(fault), bytes);
+    Ok(())
+}
+
 #[test]
 fn bytes_are_refused_in_order(rt: HostRuntime) -> Result<(), Fail> {
     let mut other = PLAYED;
@@ -201,10 +215,7 @@ fn bytes_are_refused_in_order(rt: HostRuntime) -> Result<(), Fail> {
         (&RECORDED[..12], DemoFault::Short),
         (&RECORDED[..33], DemoFault::NoMarker),
     ] {
-        let read = Demo::read(rt.alloc(), bytes);
-        same!(&rt; read.err(), Some(fault), bytes);
-        let kept = Demo::from_vec(Vec::from_slice(rt.alloc(), bytes)?);
-        same!(&rt; kept.err(), Some(fault), bytes);
+        is_refused(&rt, rt.alloc(), bytes, fault)?;
     }
     Ok(())
 }

@@ -3,7 +3,17 @@
 use super::{PLAYED, RECORDED, place};
 use dn_demo::{Demo, UpgradeFault, play, upgrade};
 use dn_world::Walk;
+use std::process::Abort;
 use std::test::Fail;
+
+/// Both demos lead to the same places after as many tics.
+fn play_alike(rt: &impl Abort, one: &Demo, other: &Demo) {
+    let (mut before, mut after) = (Walk::new(), Walk::new());
+    same!(rt; play(one, &mut before), play(other, &mut after));
+    for player in 0..4 {
+        same!(rt; place(&after, player), place(&before, player), player);
+    }
+}
 
 #[test]
 fn demos_of_both_versions_are_upgraded(rt: HostRuntime) -> Result<(), Fail> {
@@ -17,11 +27,7 @@ fn demos_of_both_versions_are_upgraded(rt: HostRuntime) -> Result<(), Fail> {
         same!(&rt; recorder.bytes(), RECORDED.as_slice());
         let again = Demo::read(rt.alloc(), recorder.bytes())?;
         same!(&rt; again.version(), 111);
-        let (mut before, mut after) = (Walk::new(), Walk::new());
-        same!(&rt; play(&demo, &mut before), play(&again, &mut after));
-        for player in 0..4 {
-            same!(&rt; place(&after, player), place(&before, player), player);
-        }
+        play_alike(&rt, &demo, &again);
     }
     Ok(())
 }

@@ -34,6 +34,16 @@ fn numbers(flags: u8, ask: Option<u32>, start: u32, count: u8) -> Aim {
     }
 }
 
+/// The node has numbers and a packet for these players, and for nobody else.
+fn aims_at(rt: &impl Abort, node: &mut Lockstep, peers: [bool; 4], stage: Stage) {
+    for (to, there) in (0..4u8).zip(peers) {
+        same!(rt; node.aim(to).is_some(), there, (stage, to));
+        same!(rt; node.packet(to).is_some(), there, (stage, to));
+    }
+    same!(rt; node.aim(255), None, stage);
+    holds!(rt; node.packet(255).is_none(), stage);
+}
+
 #[test]
 fn who_has_no_packet_has_no_numbers(rt: HostRuntime) -> Result<(), Fail> {
     for (stage, peers) in [
@@ -44,13 +54,7 @@ fn who_has_no_packet_has_no_numbers(rt: HostRuntime) -> Result<(), Fail> {
         (Stage::Quitter, [false, false, false, false]),
         (Stage::Leaver, [true, false, true, false]),
     ] {
-        let mut node = at(rt.alloc(), stage)?;
-        for (to, there) in (0..4u8).zip(peers) {
-            same!(&rt; node.aim(to).is_some(), there, (stage, to));
-            same!(&rt; node.packet(to).is_some(), there, (stage, to));
-        }
-        same!(&rt; node.aim(255), None, stage);
-        holds!(&rt; node.packet(255).is_none(), stage);
+        aims_at(&rt, &mut at(rt.alloc(), stage)?, peers, stage);
     }
     Ok(())
 }

@@ -149,15 +149,22 @@ fn before_the_game_nothing_is_taken(rt: HostRuntime) -> Result<(), Fail> {
     Ok(())
 }
 
+/// A packet of player 2, as two nodes that play and have heard nothing answer it.
+fn both_answer(
+    rt: &impl Abort,
+    alloc: Global,
+    packet: (u8, (u8, u8, u8), &[TicCmd]),
+    answer: Heard,
+) -> Result<(), Fail> {
+    answers(rt, alloc, (Stage::First, 2), packet, answer)?;
+    answers(rt, alloc, (Stage::Second, 2), packet, answer)
+}
+
 #[test]
-fn a_playing_node_takes_what_comes_next(rt: HostRuntime) -> Result<(), Fail> {
+fn a_playing_node_hears_who_leaves(rt: HostRuntime) -> Result<(), Fail> {
     let (stop, one_stop) = ([STOP; 12], [STOP]);
-    let (still, one, three, eleven) = ([STILL; 12], [STILL], [STILL; 3], [STILL; 11]);
-    let rows: [(u8, (u8, u8, u8), &[TicCmd], Heard); 31] = [
-        (0, (0, 0, 0), &[], Heard::Dropped(5)),
-        (0, (0, 0, 1), &[], Heard::Dropped(5)),
-        (0, (0, 0, 0x82), &[], Heard::Dropped(5)),
-        (KILL, (0, 0, 1), &[], Heard::Dropped(5)),
+    let (still, one, three) = ([STILL; 12], [STILL], [STILL; 3]);
+    let rows: [(u8, (u8, u8, u8), &[TicCmd], Heard); 11] = [
         (EXIT, (0, 0, 1), &[], Heard::Dropped(5)),
         (EXIT, (0, 0, 2), &[], Heard::Left),
         (EXIT, (0, 0, 2), &three, Heard::Left),
@@ -169,6 +176,22 @@ fn a_playing_node_takes_what_comes_next(rt: HostRuntime) -> Result<(), Fail> {
         (EXIT, (0, 0, 2), &one_stop, Heard::Dropped(11)),
         (EXIT, (0, 13, 2), &[], Heard::Dropped(12)),
         (KILL, (0, 0, 2), &[], Heard::Dropped(9)),
+    ];
+    for (flags, numbers, commands, answer) in rows {
+        both_answer(&rt, rt.alloc(), (flags, numbers, commands), answer)?;
+    }
+    Ok(())
+}
+
+#[test]
+fn a_playing_node_takes_what_comes_next(rt: HostRuntime) -> Result<(), Fail> {
+    let (stop, one_stop) = ([STOP; 12], [STOP]);
+    let (still, one, three, eleven) = ([STILL; 12], [STILL], [STILL; 3], [STILL; 11]);
+    let rows: [(u8, (u8, u8, u8), &[TicCmd], Heard); 20] = [
+        (0, (0, 0, 0), &[], Heard::Dropped(5)),
+        (0, (0, 0, 1), &[], Heard::Dropped(5)),
+        (0, (0, 0, 0x82), &[], Heard::Dropped(5)),
+        (KILL, (0, 0, 1), &[], Heard::Dropped(5)),
         (KILL + RETRANSMIT, (0, 255, 2), &stop, Heard::Dropped(9)),
         (0, (0, 255, 2), &[], Heard::Dropped(10)),
         (RETRANSMIT, (0, 65, 2), &stop, Heard::Dropped(10)),
@@ -187,9 +210,7 @@ fn a_playing_node_takes_what_comes_next(rt: HostRuntime) -> Result<(), Fail> {
         (RETRANSMIT, (77, 0, 2), &three, Heard::Taken(3)),
     ];
     for (flags, numbers, commands, answer) in rows {
-        let packet = (flags, numbers, commands);
-        answers(&rt, rt.alloc(), (Stage::First, 2), packet, answer)?;
-        answers(&rt, rt.alloc(), (Stage::Second, 2), packet, answer)?;
+        both_answer(&rt, rt.alloc(), (flags, numbers, commands), answer)?;
     }
     Ok(())
 }

@@ -7,6 +7,7 @@ use super::{
 use crate::tests::{STRAFE, built};
 use dn_lockstep::{Heard, Lockstep, Made, Ran};
 use dn_tic::Move;
+use std::alloc::Global;
 use std::process::Abort;
 use std::test::Fail;
 
@@ -154,17 +155,30 @@ fn written(node: &mut Lockstep, to: u8, room: &mut [u8; 106]) -> usize {
 }
 
 #[test]
-fn a_packet_is_written_to_the_front_of_a_room(rt: HostRuntime) -> Result<(), Fail> {
-    let (mut key, mut other) = pair(rt.alloc(), false)?;
-    let (mut same, _) = pair(rt.alloc(), false)?;
+fn no_packet_is_written_for_itself_nor_for_nobody(rt: HostRuntime) -> Result<(), Fail> {
+    let (mut key, _) = pair(rt.alloc(), false)?;
     let mut room = [7; 106];
-    // nothing for itself, nor for nobody
-    same!(&rt; (written(&mut key, 0, &mut room), written(&mut key, 2, &mut room)), (0, 0));
-    same!(&rt; room, [7; 106]);
-    same!(&rt; (build(&mut key, FORWARD), build(&mut same, FORWARD)), (Made::Made(0), Made::Made(0)));
-    let size = written(&mut key, 1, &mut room);
-    let packet = given(&mut same, 1)?;
-    same!(&rt; size, 16);
+    for to in [0, 2] {
+        same!(&rt; written(&mut key, to, &mut room), 0, to);
+        same!(&rt; room, [7; 106], to);
+    }
+    Ok(())
+}
+
+/// Player 0 with one command, and player 1.
+fn built_once(alloc: Global) -> Result<(Lockstep, Lockstep), Fail> {
+    let (mut key, other) = pair(alloc, false)?;
+    let _ = build(&mut key, FORWARD);
+    Ok((key, other))
+}
+
+#[test]
+fn a_packet_is_written_to_the_front_of_a_room(rt: HostRuntime) -> Result<(), Fail> {
+    let (mut key, mut other) = built_once(rt.alloc())?;
+    let (mut again, _) = built_once(rt.alloc())?;
+    let mut room = [7; 106];
+    same!(&rt; written(&mut key, 1, &mut room), 16);
+    let packet = given(&mut again, 1)?;
     same!(&rt; room.get(..16), Some(packet.as_slice()));
     same!(&rt; room.get(16..), Some([7; 90].as_slice()));
     same!(&rt; received(&mut other, 0, &room[..16]), Heard::Taken(1));

@@ -7,6 +7,7 @@ use dn_lockstep::{Aim, Heard, Lockstep, Phase};
 use dn_packet::{EXIT, KILL, RETRANSMIT, SETUP};
 use dn_setup::Settings;
 use dn_tic::TicCmd;
+use std::alloc::Global;
 use std::process::Abort;
 use std::test::Fail;
 
@@ -134,21 +135,31 @@ fn in_the_game_nothing_is_changed(rt: HostRuntime) -> Result<(), Fail> {
     Ok(())
 }
 
-/// The bytes of the next packet are those of a node that was handed nothing.
-#[test]
-fn the_next_packet_is_the_same(rt: HostRuntime) -> Result<(), Fail> {
-    let (mut key, mut other) = pair(rt.alloc(), true)?;
-    let (mut key_again, mut other_again) = pair(rt.alloc(), true)?;
+/// Player 0, who has played fourteen tics.
+fn played(alloc: Global) -> Result<Lockstep, Fail> {
+    let (mut key, mut other) = pair(alloc, true)?;
     tics(&mut key, &mut other, 14, (1, 4));
-    tics(&mut key_again, &mut other_again, 14, (1, 4));
+    Ok(key)
+}
+
+/// Hands it a datagram whose bytes are damaged, and commands that overrun its ring.
+fn is_misled(rt: &impl Abort, key: &mut Lockstep) {
     let mut wrong: ArrayVec<u8, 104> = datagram(0, (0, 14, 1), &[STILL]);
     for byte in wrong.as_mut_slice() {
         *byte ^= 1;
     }
-    drops(&rt, &mut key, 1, wrong.as_slice(), 3);
-    refuses(&rt, &mut key, 1, (RETRANSMIT, (9, 15, 1), &[STILL; 12]), 12);
-    let (next, again) = (given(&mut key, 1)?, given(&mut key_again, 1)?);
-    same!(&rt; next.as_slice(), again.as_slice());
-    same!(&rt; key.demo(), key_again.demo());
+    drops(rt, key, 1, wrong.as_slice(), 3);
+    refuses(rt, key, 1, (RETRANSMIT, (9, 15, 1), &[STILL; 12]), 12);
+}
+
+/// The bytes of the next packet are those of a node that was handed nothing.
+#[test]
+fn the_next_packet_is_the_same(rt: HostRuntime) -> Result<(), Fail> {
+    let mut key = played(rt.alloc())?;
+    let mut again = played(rt.alloc())?;
+    is_misled(&rt, &mut key);
+    let (next, wanted) = (given(&mut key, 1)?, given(&mut again, 1)?);
+    same!(&rt; next.as_slice(), wanted.as_slice());
+    same!(&rt; key.demo(), again.demo());
     Ok(())
 }

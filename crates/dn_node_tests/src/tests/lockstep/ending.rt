@@ -2,8 +2,9 @@
 
 use super::stages::{Stage, at};
 use super::{IDLE, NO_KEYS, STILL, build, datagram, hears, pair, quit, received, run, tics};
-use dn_lockstep::{Cause, Heard, Made, Phase, Ran};
+use dn_lockstep::{Cause, Heard, Lockstep, Made, Phase, Ran};
 use dn_packet::{EXIT, SETUP};
+use std::process::Abort;
 use std::test::Fail;
 
 /// A node that ended before the game says nothing.
@@ -24,6 +25,15 @@ fn before_the_game_a_node_ends_in_silence(rt: HostRuntime) -> Result<(), Fail> {
     Ok(())
 }
 
+/// A tic of a node whose peers have left: it waits for nobody but itself, and its demo has ended. It then
+/// builds the next.
+fn plays_alone(rt: &impl Abort, key: &mut Lockstep, tic: u32, next: u32) {
+    same!(rt; run(key), Ran::Ran(tic));
+    same!(rt; key.demo().len(), 14, tic);
+    same!(rt; run(key), Ran::Waiting(0), tic);
+    same!(rt; build(key, NO_KEYS), Made::Made(next), tic);
+}
+
 /// Several may leave: player 1 before any command, and player 2 after the first.
 #[test]
 fn the_last_player_plays_alone(rt: HostRuntime) -> Result<(), Fail> {
@@ -35,11 +45,7 @@ fn the_last_player_plays_alone(rt: HostRuntime) -> Result<(), Fail> {
     hears(&rt, &mut key, 2, (EXIT, (0, 0, 2), &[STILL]), Heard::Left);
     same!(&rt; (key.end(0), key.end(1), key.end(2)), (None, Some(0), Some(1)));
     for tic in 0..30 {
-        same!(&rt; run(&mut key), Ran::Ran(tic));
-        same!(&rt; key.demo().len(), 14);
-        same!(&rt; run(&mut key), Ran::Waiting(0));
-        let next = Made::Made(tic + 1);
-        same!(&rt; build(&mut key, NO_KEYS), next);
+        plays_alone(&rt, &mut key, tic, tic + 1);
     }
     holds!(&rt; quit(&mut key));
     same!(&rt; (key.end(0), key.demo().len()), (Some(31), 14));

@@ -115,20 +115,26 @@ fn stands(rt: &impl Abort, node: &Lockstep, made: u32, got: (u32, u32)) {
     same!(rt; node.demo().len(), 23);
 }
 
+/// The first packet of player 0 starts player 1, whose first packet starts player 0 and is used up by it: so
+/// its second leaves a gap.
+fn starts(rt: &impl Abort, key: &mut Lockstep, other: &mut Lockstep) -> Result<(), Fail> {
+    let choice_bytes = [0x69, 0x86, 0x92, 0x21, 0x02, 0x41, 0x6F, 0x00];
+    let set_up = given(key, 1)?;
+    same!(rt; set_up.as_slice(), choice_bytes.as_slice());
+    same!(rt; received(other, 0, set_up.as_slice()), Heard::Started);
+    same!(rt; other.settings(), Some(choice()?));
+    same!(rt; build(other, NO_KEYS), Made::Made(0));
+    same!(rt; pass(other, key), Some(Heard::Started));
+    same!(rt; build(other, NO_KEYS), Made::Made(1));
+    same!(rt; pass(other, key), Some(Heard::Gap));
+    Ok(())
+}
+
 #[test]
 fn two_nodes_start_and_run_a_tic(rt: HostRuntime) -> Result<(), Fail> {
     let mut key = opened(rt.alloc(), (2, 0), false, LIMIT)?;
     let mut other = listener(rt.alloc())?;
-    let choice_bytes = [0x69, 0x86, 0x92, 0x21, 0x02, 0x41, 0x6F, 0x00];
-    let set_up = given(&mut key, 1)?;
-    same!(&rt; set_up.as_slice(), choice_bytes.as_slice());
-    same!(&rt; received(&mut other, 0, set_up.as_slice()), Heard::Started);
-    same!(&rt; other.settings(), Some(choice()?));
-    same!(&rt; build(&mut other, NO_KEYS), Made::Made(0));
-    // its first packet is used up by the start
-    same!(&rt; pass(&mut other, &mut key), Some(Heard::Started));
-    same!(&rt; build(&mut other, NO_KEYS), Made::Made(1));
-    same!(&rt; pass(&mut other, &mut key), Some(Heard::Gap));
+    starts(&rt, &mut key, &mut other)?;
     same!(&rt; build(&mut key, NO_KEYS), Made::Made(0));
     let request = given(&mut key, 1)?;
     let mut bytes = [0; 16];

@@ -100,23 +100,26 @@ fn wander(key: &mut Node<Walk>, other: &mut Node<Walk>, count: u32) {
     }
 }
 
+/// Player 0 quits, and player 1 once it has heard of it.
+fn both_quit(rt: &impl Abort, key: &mut Node<Walk>, other: &mut Node<Walk>) {
+    holds!(rt; quit(key));
+    same!(rt; pass(key, other), Some(Heard::Left));
+    same!(rt; other.phase(), Phase::Playing);
+    holds!(rt; quit(other));
+}
+
 #[test]
 fn demos_of_ended_nodes_are_played_again(rt: HostRuntime) -> Result<(), Fail> {
     for (count, extra) in [(0, false), (1, false), (25, true), (300, false)] {
         let (mut key, mut other) = pair(rt.alloc(), extra)?;
         wander(&mut key, &mut other, count);
         same!(&rt; (key.ran(), other.ran()), (count, count));
-        holds!(&rt; quit(&mut key));
-        same!(&rt; pass(&mut key, &mut other), Some(Heard::Left));
-        same!(&rt; other.phase(), Phase::Playing);
-        holds!(&rt; quit(&mut other));
+        both_quit(&rt, &mut key, &mut other);
         replays(&rt, rt.alloc(), &key)?;
         replays(&rt, rt.alloc(), &other)?;
         // the same rows behind headers that differ in their views
-        let (one, two) = (key.demo(), other.demo());
-        holds!(&rt; one.len() > 13);
-        holds!(&rt; two.len() > 13);
-        same!(&rt; one.get(13..), two.get(13..), count);
+        holds!(&rt; key.demo().len() > 13, count);
+        same!(&rt; key.demo().get(13..), other.demo().get(13..), count);
     }
     Ok(())
 }
