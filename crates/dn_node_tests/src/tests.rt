@@ -1,25 +1,33 @@
 //! Tests of commands, packets, settings, rings, worlds, demos, nodes without a world, and nodes that step one.
 
-ghost use Rattle.std.specs.Prelude.{◌≡◌, ◌<◌, Some};
+ghost use Rattle.std.specs.Prelude.{◌≡◌, ◌<◌, Ok, Some};
 
 /// Compares two values, and names what was compared. An `assert_eq!` is proved anew at each place, which
 /// takes several times as long as this call.
 macro_rules! same {
     ($rt:expr; $found:expr, $wanted:expr) => {
-        same!($rt; $found, $wanted, ())
+        $crate::tests::compare($rt, stringify!($found), $found, $wanted)
     };
     ($rt:expr; $found:expr, $wanted:expr, $row:expr) => {
-        $crate::tests::compare($rt, stringify!($found), &$row, $found, $wanted)
+        $crate::tests::compare_in_row($rt, stringify!($found), &$row, $found, $wanted)
     };
 }
 
 /// The same for a fact, in place of `assert!`.
 macro_rules! holds {
     ($rt:expr; $fact:expr) => {
-        holds!($rt; $fact, ())
+        $crate::tests::confirm($rt, stringify!($fact), $fact)
     };
     ($rt:expr; $fact:expr, $row:expr) => {
-        $crate::tests::confirm($rt, stringify!($fact), &$row, $fact)
+        $crate::tests::confirm_in_row($rt, stringify!($fact), &$row, $fact)
+    };
+}
+
+/// What a call gives that has to succeed, in place of `?`: at each `?` a test gives up all that it holds, and
+/// that is proved anew each time.
+macro_rules! must {
+    ($rt:expr; $call:expr) => {
+        $crate::tests::succeed($rt, stringify!($call), $call)
     };
 }
 
@@ -107,9 +115,13 @@ const START: Start = Start {
     no_monsters: 1,
 };
 
-/// Compares what a test found with what it wants. Where they differ, what was asked and the row of its table
-/// are told.
-fn compare<T: PartialEq + Debug + Drop>(
+/// Compares what a test found with what it wants. Where they differ, what was asked is told.
+fn compare<T: PartialEq + Debug + Drop>(rt: &impl Abort, what: &str, found: T, wanted: T) {
+    assert_eq!(rt; found, wanted, "{what}");
+}
+
+/// The same, and the row of its table is told.
+fn compare_in_row<T: PartialEq + Debug + Drop>(
     rt: &impl Abort,
     what: &str,
     row: &impl Debug,
@@ -120,8 +132,23 @@ fn compare<T: PartialEq + Debug + Drop>(
 }
 
 /// Confirms a fact.
-fn confirm(rt: &impl Abort, what: &str, row: &impl Debug, fact: bool) {
+fn confirm(rt: &impl Abort, what: &str, fact: bool) {
+    assert!(rt; fact, "{what}");
+}
+
+/// The same, and the row of its table is told.
+fn confirm_in_row(rt: &impl Abort, what: &str, row: &impl Debug, fact: bool) {
     assert!(rt; fact, "{what}, row {row:?}");
+}
+
+/// What a call gives, which has to succeed.
+fn succeed<T, E>(rt: &impl Abort, what: &str, given: Result<T, E>) -> T
+    ensures { given ≡ Ok result }
+{
+    match given {
+        Ok(value) => value,
+        Err(_) => panic!(rt; "{what}"),
+    }
 }
 
 /// Skill 2, episode 1, map 1.

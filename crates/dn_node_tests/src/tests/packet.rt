@@ -82,10 +82,11 @@ fn is_text_of(rt: &impl Abort, bytes: &[u8], packet: &Packet) {
 
 #[test]
 fn packets_are_read_and_written(rt: HostRuntime) {
-    is_text_of(&rt, &CHOICE, &packet_of(SETUP, (99, 71, 109), &[]));
-    is_text_of(&rt, &EMPTY, &packet_of(0, (0, 5, 1), &[]));
-    is_text_of(&rt, &ONE, &packet_of(0, (0, 0, 0), &[attack()]));
-    is_text_of(&rt, &twelve(), &packet_of(0, (0, 0, 0), &[all_ones(); 12]));
+    let rt = &rt;
+    is_text_of(rt, &CHOICE, &packet_of(SETUP, (99, 71, 109), &[]));
+    is_text_of(rt, &EMPTY, &packet_of(0, (0, 5, 1), &[]));
+    is_text_of(rt, &ONE, &packet_of(0, (0, 0, 0), &[attack()]));
+    is_text_of(rt, &twelve(), &packet_of(0, (0, 0, 0), &[all_ones(); 12]));
 }
 
 /// Two commands of player 1 from tic 5 on, who asks for tic 9: forward 50 and attack, and eight bytes 255.
@@ -96,6 +97,7 @@ const TWO: [u8; 24] = [
 
 #[test]
 fn commands_are_written_in_two_pieces(rt: HostRuntime) {
+    let rt = &rt;
     let head = Head {
         flags: RETRANSMIT,
         ask: 9,
@@ -103,12 +105,12 @@ fn commands_are_written_in_two_pieces(rt: HostRuntime) {
         player: 1,
     };
     let commands = [attack(), all_ones()];
-    is_text_of(&rt, &TWO, &packet_of(RETRANSMIT, (9, 5, 1), &commands));
+    is_text_of(rt, &TWO, &packet_of(RETRANSMIT, (9, 5, 1), &commands));
     for middle in 0..3 {
         let mut room = [7; 25];
         let size = encode_parts(&head, &commands[..middle], &commands[middle..], &mut room);
-        same!(&rt; room.get(..size), Some(TWO.as_slice()), middle);
-        same!(&rt; (size, room[24]), (24, 7), middle);
+        same!(rt; room.get(..size), Some(TWO.as_slice()), middle);
+        same!(rt; (size, room[24]), (24, 7), middle);
     }
 }
 
@@ -186,18 +188,20 @@ fn leaves_the_packet(rt: &impl Abort, bytes: &[u8]) {
 
 #[test]
 fn a_fault_leaves_the_packet(rt: HostRuntime) {
-    leaves_the_packet(&rt, &ONE[..7]);
-    leaves_the_packet(&rt, &ONE[..15]);
-    leaves_the_packet(&rt, &changed(ONE, 7, 13));
-    leaves_the_packet(&rt, &changed(ONE, 15, 2));
+    let rt = &rt;
+    leaves_the_packet(rt, &ONE[..7]);
+    leaves_the_packet(rt, &ONE[..15]);
+    leaves_the_packet(rt, &changed(ONE, 7, 13));
+    leaves_the_packet(rt, &changed(ONE, 15, 2));
 }
 
 #[test]
 fn a_packet_is_decoded_in_place(rt: HostRuntime) {
+    let rt = &rt;
     let mut read = Packet::empty();
-    same!(&rt; &read, &packet_of(0, (0, 0, 0), &[]));
-    same!(&rt; decode_into(&ONE, &mut read), Ok(()));
-    same!(&rt; &read, &packet_of(0, (0, 0, 0), &[attack()]));
+    same!(rt; &read, &packet_of(0, (0, 0, 0), &[]));
+    same!(rt; decode_into(&ONE, &mut read), Ok(()));
+    same!(rt; &read, &packet_of(0, (0, 0, 0), &[attack()]));
 }
 
 #[test]
@@ -220,6 +224,7 @@ fn is_unseen(place: usize, bit: u8) -> bool {
 
 #[test]
 fn one_changed_bit(rt: HostRuntime) {
+    let rt = &rt;
     let (mut sum, mut length, mut many, mut unseen) = (0u8, 0u8, 0u8, 0u8);
     for place in 0..16 {
         for bit in 0..8u8 {
@@ -229,11 +234,11 @@ fn one_changed_bit(rt: HostRuntime) {
                 Err(PacketFault::Many) => many = many.saturating_add(1),
                 Err(PacketFault::Short) => panic!(rt; "place {place} bit {bit}"),
                 Ok(_) => {
-                    holds!(&rt; is_unseen(place, bit), (place, bit));
+                    holds!(rt; is_unseen(place, bit), (place, bit));
                     unseen = unseen.saturating_add(1);
                 }
             }
         }
     }
-    same!(&rt; (sum, length, many, unseen), (107, 4, 4, 13));
+    same!(rt; (sum, length, many, unseen), (107, 4, 4, 13));
 }

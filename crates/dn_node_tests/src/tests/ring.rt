@@ -11,20 +11,21 @@ fn chat(chat: u8) -> TicCmd {
 
 #[test]
 fn a_ring_keeps_the_last_twelve(rt: HostRuntime) {
+    let rt = &rt;
     let mut ring = Ring::new();
     assert_eq!(rt; ring.count(), 0);
-    same!(&rt; ring.get(0), None);
+    same!(rt; ring.get(0), None);
     for letter in 0..14_u8 {
         let tic = u32::from(letter);
         assert_eq!(rt; ring.count(), tic);
         ring.put(chat(letter));
-        same!(&rt; ring.get(tic), Some(chat(letter)));
-        same!(&rt; ring.get(tic + 1), None, tic);
+        same!(rt; ring.get(tic), Some(chat(letter)));
+        same!(rt; ring.get(tic + 1), None, tic);
     }
     assert_eq!(rt; ring.count(), 14);
-    same!(&rt; (ring.at(2), ring.at(13)), (chat(2), chat(13)));
+    same!(rt; (ring.at(2), ring.at(13)), (chat(2), chat(13)));
     // tic 13 stands where tic 1 stood
-    same!(&rt; (ring.slot(1), ring.slot(2)), (chat(13), chat(2)));
+    same!(rt; (ring.slot(1), ring.slot(2)), (chat(13), chat(2)));
     let rows = [
         (0, None),
         (1, None),
@@ -34,16 +35,17 @@ fn a_ring_keeps_the_last_twelve(rt: HostRuntime) {
         (14, None),
     ];
     for (tic, want) in rows {
-        same!(&rt; ring.get(tic), want, tic);
+        same!(rt; ring.get(tic), want, tic);
     }
 }
 
 #[test]
 fn commands_from_a_tic_on_are_two_pieces(rt: HostRuntime) {
+    let rt = &rt;
     let mut ring = Ring::new();
     assert_eq!(rt; ring.count(), 0);
     let (first, second) = ring.since(0);
-    same!(&rt; (first.len(), second.len()), (0, 0));
+    same!(rt; (first.len(), second.len()), (0, 0));
     for letter in 0..14_u8 {
         assert_eq!(rt; ring.count(), u32::from(letter));
         ring.put(chat(letter));
@@ -51,41 +53,43 @@ fn commands_from_a_tic_on_are_two_pieces(rt: HostRuntime) {
     // tic 11 stands in the last slot, and tic 12 in the first
     assert_eq!(rt; ring.count(), 14);
     let (first, second) = ring.since(11);
-    same!(&rt; first, [chat(11)].as_slice());
-    same!(&rt; second, [chat(12), chat(13)].as_slice());
+    same!(rt; first, [chat(11)].as_slice());
+    same!(rt; second, [chat(12), chat(13)].as_slice());
     let (first, second) = ring.since(12);
-    same!(&rt; first, [chat(12), chat(13)].as_slice());
-    same!(&rt; second.len(), 0);
+    same!(rt; first, [chat(12), chat(13)].as_slice());
+    same!(rt; second.len(), 0);
     let (first, second) = ring.since(14);
-    same!(&rt; (first.len(), second.len()), (0, 0));
+    same!(rt; (first.len(), second.len()), (0, 0));
     let (first, second) = ring.since(2);
-    same!(&rt; (first.len(), second.len()), (10, 2));
-    same!(&rt; first.first().copied(), Some(chat(2)));
-    same!(&rt; second.get(1).copied(), Some(chat(13)));
+    same!(rt; (first.len(), second.len()), (10, 2));
+    same!(rt; first.first().copied(), Some(chat(2)));
+    same!(rt; second.get(1).copied(), Some(chat(13)));
 }
 
 #[test]
 fn slots_go_round(rt: HostRuntime) {
+    let rt = &rt;
     let mut ring = Ring::new();
-    same!(&rt; *ring.slots(), [STILL; 12]);
+    same!(rt; *ring.slots(), [STILL; 12]);
     for letter in 0..13_u8 {
         assert_eq!(rt; ring.count(), u32::from(letter));
         ring.put(chat(letter));
     }
     let rows = [(0, 12), (1, 1), (2, 2), (10, 10), (11, 11)];
     for (place, letter) in rows {
-        same!(&rt; ring.slots()[place], chat(letter), place);
+        same!(rt; ring.slots()[place], chat(letter), place);
     }
 }
 
 #[test]
 fn a_slot_that_was_never_taken_is_zero(rt: HostRuntime) {
+    let rt = &rt;
     let mut ring = Ring::new();
     ring.put(chat(7));
-    same!(&rt; (ring.slot(0), ring.slot(1)), (chat(7), STILL));
-    same!(&rt; ring.slots()[0], chat(7));
+    same!(rt; (ring.slot(0), ring.slot(1)), (chat(7), STILL));
+    same!(rt; ring.slots()[0], chat(7));
     for place in 1..12 {
-        same!(&rt; ring.slots()[place], STILL, place);
+        same!(rt; ring.slots()[place], STILL, place);
     }
-    same!(&rt; ring.get(1), None);
+    same!(rt; ring.get(1), None);
 }

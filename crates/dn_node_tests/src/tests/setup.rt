@@ -3,7 +3,6 @@
 use super::{START, STILL, packet_of};
 use dn_packet::encode;
 use dn_setup::{Gather, Settings, SettingsFault, SetupFault, from_packet, to_packet};
-use std::test::Fail;
 
 #[test]
 fn fields_are_checked_in_their_order(rt: HostRuntime) {
@@ -26,26 +25,26 @@ fn fields_are_checked_in_their_order(rt: HostRuntime) {
 }
 
 #[test]
-fn settings_are_read_back(rt: HostRuntime) -> Result<(), Fail> {
-    let settings = Settings::new(3, 1, true, false, 1, 7)?;
-    same!(&rt; settings.skill(), 3);
-    same!(&rt; settings.deathmatch(), 1);
-    holds!(&rt; settings.no_monsters());
-    holds!(&rt; !settings.respawn());
-    same!(&rt; settings.episode(), 1);
-    same!(&rt; settings.map(), 7);
-    same!(&rt; settings.start(), START);
-    Ok(())
+fn settings_are_read_back(rt: HostRuntime) {
+    let rt = &rt;
+    let settings = must!(rt; Settings::new(3, 1, true, false, 1, 7));
+    same!(rt; settings.skill(), 3);
+    same!(rt; settings.deathmatch(), 1);
+    holds!(rt; settings.no_monsters());
+    holds!(rt; !settings.respawn());
+    same!(rt; settings.episode(), 1);
+    same!(rt; settings.map(), 7);
+    same!(rt; settings.start(), START);
 }
 
 #[test]
-fn a_packet_tells_settings(rt: HostRuntime) -> Result<(), Fail> {
-    let settings = Settings::new(3, 1, true, false, 1, 7)?;
+fn a_packet_tells_settings(rt: HostRuntime) {
+    let rt = &rt;
+    let settings = must!(rt; Settings::new(3, 1, true, false, 1, 7));
     let packet = to_packet(&settings);
     let bytes = [0xCA, 0x8C, 0x92, 0x21, 0x63, 0x47, 0x6F, 0];
-    same!(&rt; encode(&packet).as_slice(), bytes.as_slice());
-    same!(&rt; from_packet(&packet), Ok(settings));
-    Ok(())
+    same!(rt; encode(&packet).as_slice(), bytes.as_slice());
+    same!(rt; from_packet(&packet), Ok(settings));
 }
 
 #[test]
@@ -71,13 +70,13 @@ fn packets_are_refused_in_order(rt: HostRuntime) {
 }
 
 #[test]
-fn other_flags_and_commands_are_not_looked_at(rt: HostRuntime) -> Result<(), Fail> {
-    let settings = Settings::new(4, 2, true, true, 3, 32)?;
+fn other_flags_and_commands_are_not_looked_at(rt: HostRuntime) {
+    let rt = &rt;
+    let settings = must!(rt; Settings::new(4, 2, true, true, 3, 32));
     for flags in [2, 3, 6, 10, 15] {
         let packet = packet_of(flags, (180, 224, 111), &[STILL]);
-        same!(&rt; from_packet(&packet), Ok(settings), flags);
+        same!(rt; from_packet(&packet), Ok(settings), flags);
     }
-    Ok(())
 }
 
 #[test]

@@ -7,6 +7,7 @@ use std::process::Abort;
 
 #[test]
 fn a_command_is_found_again_in_its_bytes(rt: HostRuntime) {
+    let rt = &rt;
     let command = TicCmd {
         forward: -50,
         side: 24,
@@ -16,17 +17,18 @@ fn a_command_is_found_again_in_its_bytes(rt: HostRuntime) {
         buttons: 5,
     };
     let bytes = [0xCE, 0x18, 0x80, 0xFD, 0x02, 0x01, 7, 5];
-    same!(&rt; command.to_bytes(), bytes);
-    same!(&rt; TicCmd::from_bytes(&bytes), command);
+    same!(rt; command.to_bytes(), bytes);
+    same!(rt; TicCmd::from_bytes(&bytes), command);
 }
 
 #[test]
 fn bits_from_eighteen_on_are_no_keys(rt: HostRuntime) {
-    same!(&rt; Keys::from_bits(0xFFFF_FFFF).bits(), 0x3_FFFF);
-    same!(&rt; Keys::from_bits(1 << 18).bits(), 0);
-    holds!(&rt; Keys::from_bits(WEAPONS[7]).is_down(Key::Weapon8));
-    holds!(&rt; !Keys::from_bits(WEAPONS[7]).is_down(Key::Weapon7));
-    same!(&rt; Keys::default(), Keys::from_bits(0));
+    let rt = &rt;
+    same!(rt; Keys::from_bits(0xFFFF_FFFF).bits(), 0x3_FFFF);
+    same!(rt; Keys::from_bits(1 << 18).bits(), 0);
+    holds!(rt; Keys::from_bits(WEAPONS[7]).is_down(Key::Weapon8));
+    holds!(rt; !Keys::from_bits(WEAPONS[7]).is_down(Key::Weapon7));
+    same!(rt; Keys::default(), Keys::from_bits(0));
 }
 
 #[test]
@@ -60,26 +62,28 @@ fn turns_of(rt: &impl Abort, keys: u32, turns: [i16; 8]) {
 
 #[test]
 fn the_sixth_turn_is_fast(rt: HostRuntime) {
-    turns_of(&rt, RIGHT, [-320, -320, -320, -320, -320, -640, -640, -640]);
-    turns_of(&rt, LEFT, [320, 320, 320, 320, 320, 640, 640, 640]);
+    let rt = &rt;
+    turns_of(rt, RIGHT, [-320, -320, -320, -320, -320, -640, -640, -640]);
+    turns_of(rt, LEFT, [320, 320, 320, 320, 320, 640, 640, 640]);
     turns_of(
-        &rt,
+        rt,
         LEFT | SPEED,
         [320, 320, 320, 320, 320, 1280, 1280, 1280],
     );
-    turns_of(&rt, LEFT | RIGHT, [0; 8]);
+    turns_of(rt, LEFT | RIGHT, [0; 8]);
 }
 
 #[test]
 fn letting_go_forgets_the_count(rt: HostRuntime) {
+    let rt = &rt;
     let mut builder = Builder::new();
     for _ in 0..6 {
         let _ = builder.build(Keys::from_bits(LEFT | RIGHT), 0);
     }
-    same!(&rt; builder.held(), 6);
+    same!(rt; builder.held(), 6);
     let _ = builder.build(Keys::from_bits(STRAFE), 0);
-    same!(&rt; builder.held(), 0);
-    same!(&rt; builder.build(Keys::from_bits(LEFT), 0).turn, 320);
+    same!(rt; builder.held(), 0);
+    same!(rt; builder.build(Keys::from_bits(LEFT), 0).turn, 320);
 }
 
 #[test]

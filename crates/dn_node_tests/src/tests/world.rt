@@ -6,7 +6,6 @@ use super::{PLACES, moved, place, stand, two_tics};
 use dn_setup::Start;
 use dn_world::{Belt, Walk, World};
 use playing::play;
-use std::test::Fail;
 
 const TWO: [bool; 4] = [true, true, false, false];
 
@@ -40,16 +39,17 @@ fn players_begin_in_a_row(rt: HostRuntime) {
 
 #[test]
 fn the_first_step_forward_is_marked(rt: HostRuntime) {
+    let rt = &rt;
     let mut walk = Walk::new();
     walk.begin(&Start::default(), TWO);
     walk.step(&[moved(50, 0, 0, 0), None, moved(50, 0, 0, 0), None]);
-    same!(&rt; walk.x(0), Some(102_400));
-    same!(&rt; walk.y(0), Some(0));
-    same!(&rt; walk.mark(0), -28672);
-    same!(&rt; walk.x(1), Some(4_194_304));
-    same!(&rt; walk.mark(1), 0);
-    same!(&rt; walk.x(2), None);
-    same!(&rt; walk.mark(2), 0);
+    same!(rt; walk.x(0), Some(102_400));
+    same!(rt; walk.y(0), Some(0));
+    same!(rt; walk.mark(0), -28672);
+    same!(rt; walk.x(1), Some(4_194_304));
+    same!(rt; walk.mark(1), 0);
+    same!(rt; walk.x(2), None);
+    same!(rt; walk.mark(2), 0);
 }
 
 #[test]
@@ -80,23 +80,24 @@ fn each_quadrant_has_its_ways(rt: HostRuntime) {
 
 #[test]
 fn places_and_angles_wrap(rt: HostRuntime) {
+    let rt = &rt;
     let mut walk = Walk::new();
     walk.begin(&Start::default(), [true, false, false, false]);
     for _ in 0..8192 {
         walk.step(&[moved(-128, 0, 0, 0), None, None, None]);
     }
-    same!(&rt; walk.x(0), Some(-2_147_483_648));
+    same!(rt; walk.x(0), Some(-2_147_483_648));
     walk.step(&[moved(-128, 0, 0, 255), None, None, None]);
-    same!(&rt; walk.x(0), Some(2_147_221_759));
+    same!(rt; walk.x(0), Some(2_147_221_759));
     for _ in 0..8191 {
         walk.step(&[moved(0, -128, 0, 0), None, None, None]);
     }
-    same!(&rt; walk.y(0), Some(2_147_221_504));
+    same!(rt; walk.y(0), Some(2_147_221_504));
     walk.step(&[moved(0, -128, 0, 0), None, None, None]);
-    same!(&rt; walk.y(0), Some(-2_147_483_648));
+    same!(rt; walk.y(0), Some(-2_147_483_648));
     for (turn, angle) in [(32767, 32767), (32767, 65534), (3, 1), (-2, 65535)] {
         walk.step(&[moved(0, 0, turn, 0), None, None, None]);
-        same!(&rt; walk.angle(0), Some(angle), turn);
+        same!(rt; walk.angle(0), Some(angle), turn);
     }
 }
 
@@ -108,8 +109,9 @@ fn two_tics_of_two_players_are_walked(rt: HostRuntime) {
 }
 
 #[test]
-fn a_world_may_hold_a_vector(rt: HostRuntime) -> Result<(), Fail> {
-    let mut belt = Belt::new(rt.alloc())?;
+fn a_world_may_hold_a_vector(rt: HostRuntime) {
+    let rt = &rt;
+    let mut belt = must!(rt; Belt::new(rt.alloc()));
     let start = Start {
         map: 7,
         ..Start::default()
@@ -121,21 +123,21 @@ fn a_world_may_hold_a_vector(rt: HostRuntime) -> Result<(), Fail> {
     ];
     play(&mut belt, &start, TWO, &rows);
     for (player, mark) in [(0, 0), (1, 7), (2, 7), (3, 2)] {
-        same!(&rt; belt.mark(player), mark, player);
+        same!(rt; belt.mark(player), mark, player);
     }
-    Ok(())
 }
 
 #[test]
-fn a_belt_changes_ends(rt: HostRuntime) -> Result<(), Fail> {
-    let mut belt = Belt::new(rt.alloc())?;
-    same!(&rt; belt.places(), [0, 0, 0, 0].as_slice());
+fn a_belt_changes_ends(rt: HostRuntime) {
+    let rt = &rt;
+    let mut belt = must!(rt; Belt::new(rt.alloc()));
+    same!(rt; belt.places(), [0, 0, 0, 0].as_slice());
     let start = Start {
         map: 32,
         ..Start::default()
     };
     belt.begin(&start, [false; 4]);
-    same!(&rt; belt.places(), [32, 32, 32, 32].as_slice());
+    same!(rt; belt.places(), [32, 32, 32, 32].as_slice());
     for (moves, places) in [
         (
             [moved(1, 1, 1, 5), moved(1, 1, 1, 6), None, None],
@@ -145,11 +147,10 @@ fn a_belt_changes_ends(rt: HostRuntime) -> Result<(), Fail> {
         ([moved(0, 0, 0, 255), None, None, None], [255, 32, 32, 0]),
     ] {
         belt.step(&moves);
-        same!(&rt; belt.places(), places.as_slice());
+        same!(rt; belt.places(), places.as_slice());
     }
-    same!(&rt; belt.mark(0), 255);
-    same!(&rt; belt.mark(7), 0);
-    Ok(())
+    same!(rt; belt.mark(0), 255);
+    same!(rt; belt.mark(7), 0);
 }
 
 /// Its only request for memory may be refused: then it answers so.

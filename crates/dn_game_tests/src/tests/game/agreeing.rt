@@ -153,61 +153,61 @@ fn recorded(rt: &impl Abort, game: &Game<Walk>, number: u32) -> u32 {
 }
 
 #[test]
-fn three_nodes_agree_after_forty_tics(rt: HostRuntime) -> Result<(), Fail> {
-    let events = events(rt.alloc())?;
-    let played = played(rt.alloc(), events.as_slice())?;
-    same!(&rt; played.done, events.len());
-    same!(&rt; played.refused, 0);
-    same!(&rt; compare_all(&rt, &played.game), 3);
+fn three_nodes_agree_after_forty_tics(rt: HostRuntime) {
+    let rt = &rt;
+    let events = must!(rt; events(rt.alloc()));
+    let played = must!(rt; played(rt.alloc(), events.as_slice()));
+    same!(rt; played.done, events.len());
+    same!(rt; played.refused, 0);
+    same!(rt; compare_all(rt, &played.game), 3);
     let mut newest = 0;
     for number in 0..3 {
-        newest = recorded(&rt, &played.game, number).max(newest);
+        newest = recorded(rt, &played.game, number).max(newest);
     }
     // Nothing was lost in the end, so all have run the same tics.
     for number in 0..3 {
-        same!(&rt; recorded(&rt, &played.game, number), newest, number);
+        same!(rt; recorded(rt, &played.game, number), newest, number);
     }
-    Ok(())
 }
 
 #[test]
-fn three_nodes_agree_at_each_stage(rt: HostRuntime) -> Result<(), Fail> {
-    let events = events(rt.alloc())?;
+fn three_nodes_agree_at_each_stage(rt: HostRuntime) {
+    let rt = &rt;
+    let events = must!(rt; events(rt.alloc()));
     // How many of the stages before calm comes have two nodes that ran as many tics.
     let mut level = 0_u32;
     for stage in 0..200 {
         let len = events.len().min(stage * 37);
-        let played = played(rt.alloc(), &events[..len])?;
-        same!(&rt; played.done, len);
-        if compare_all(&rt, &played.game) > 0 && stage < 150 {
+        let played = must!(rt; played(rt.alloc(), &events[..len]));
+        same!(rt; played.done, len);
+        if compare_all(rt, &played.game) > 0 && stage < 150 {
             level = level.saturating_add(1);
         }
     }
-    holds!(&rt; level >= 50, level);
-    Ok(())
+    holds!(rt; level >= 50, level);
 }
 
 #[test]
-fn worlds_with_vectors_agree(rt: HostRuntime) -> Result<(), Fail> {
-    let events = events(rt.alloc())?;
-    let worlds = belts(rt.alloc(), 3)?;
-    let played = play(rt.alloc(), config(131_072)?, worlds, events.as_slice())?;
-    same!(&rt; played.refused, 0);
+fn worlds_with_vectors_agree(rt: HostRuntime) {
+    let rt = &rt;
+    let events = must!(rt; events(rt.alloc()));
+    let worlds = must!(rt; belts(rt.alloc(), 3));
+    let played = must!(rt; play(rt.alloc(), must!(rt; config(131_072)), worlds, events.as_slice()));
+    same!(rt; played.refused, 0);
     match (
         played.game.node(0),
         played.game.node(1),
         played.game.node(2),
     ) {
         (Some(zero), Some(one), Some(two)) => {
-            holds!(&rt; zero.ran() >= 40);
-            same!(&rt; (one.ran(), two.ran()), (zero.ran(), zero.ran()));
+            holds!(rt; zero.ran() >= 40);
+            same!(rt; (one.ran(), two.ran()), (zero.ran(), zero.ran()));
             for player in 0..4 {
                 let mark = zero.world().mark(player);
                 let others = (one.world().mark(player), two.world().mark(player));
-                same!(&rt; others, (mark, mark), player);
+                same!(rt; others, (mark, mark), player);
             }
         }
-        _ => holds!(&rt; false, "no node"),
+        _ => holds!(rt; false, "no node"),
     }
-    Ok(())
 }

@@ -4,7 +4,6 @@ use super::told::all_told;
 use super::{applies, build, opened, send};
 use dn_game::{Done, Event, Refusal};
 use dn_node::{Heard, Made, Ran};
-use std::test::Fail;
 
 const NO_NODE: Result<Done, Refusal> = Err(Refusal::NoNode);
 
@@ -13,8 +12,9 @@ const NO_PACKET: Result<Done, Refusal> = Err(Refusal::NoPacket);
 const STOPPED: Result<Done, Refusal> = Err(Refusal::Stopped);
 
 #[test]
-fn events_are_refused_in_order(rt: HostRuntime) -> Result<(), Fail> {
-    let mut game = opened(rt.alloc(), 2)?;
+fn events_are_refused_in_order(rt: HostRuntime) {
+    let rt = &rt;
+    let mut game = must!(rt; opened(rt.alloc(), 2));
     for (event, answer) in [
         (send(0, 5), NO_NODE),
         (send(5, 0), NO_NODE),
@@ -41,19 +41,19 @@ fn events_are_refused_in_order(rt: HostRuntime) -> Result<(), Fail> {
         (Event::Deliver(2), NO_PACKET),
     ] {
         let before = all_told(&game);
-        applies(&rt, &mut game, event, answer);
+        applies(rt, &mut game, event, answer);
         if answer.is_err() {
-            same!(&rt; all_told(&game), before, event);
+            same!(rt; all_told(&game), before, event);
         }
     }
     let found = (game.stopped(0), game.stopped(1), game.flights());
-    same!(&rt; found, (false, true, 2));
-    Ok(())
+    same!(rt; found, (false, true, 2));
 }
 
 #[test]
-fn events_answer_what_nodes_do(rt: HostRuntime) -> Result<(), Fail> {
-    let mut game = opened(rt.alloc(), 2)?;
+fn events_answer_what_nodes_do(rt: HostRuntime) {
+    let rt = &rt;
+    let mut game = must!(rt; opened(rt.alloc(), 2));
     for (event, answer) in [
         (send(0, 0), Done::Silent),
         (send(1, 0), Done::Silent),
@@ -93,7 +93,6 @@ fn events_answer_what_nodes_do(rt: HostRuntime) -> Result<(), Fail> {
         (send(1, 0), Done::Sent(7)),
         (send(1, 1), Done::Silent),
     ] {
-        applies(&rt, &mut game, event, Ok(answer));
+        applies(rt, &mut game, event, Ok(answer));
     }
-    Ok(())
 }

@@ -45,8 +45,9 @@ pub(super) fn started(alloc: Global) -> Result<Game<Walk>, Fail> {
 }
 
 #[test]
-fn a_start_is_near_up_to_sixty_four(rt: HostRuntime) -> Result<(), Fail> {
-    let mut game = started(rt.alloc())?;
+fn a_start_is_near_up_to_sixty_four(rt: HostRuntime) {
+    let rt = &rt;
+    let mut game = must!(rt; started(rt.alloc()));
     play_rounds(&mut game, 64);
     // The first packets of the rounds: each has its sender's first command.
     for (event, answer) in [
@@ -64,58 +65,58 @@ fn a_start_is_near_up_to_sixty_four(rt: HostRuntime) -> Result<(), Fail> {
         (Event::Deliver(129), Err(Refusal::Stopped)),
         (Event::Deliver(130), Err(Refusal::NoPacket)),
     ] {
-        applies(&rt, &mut game, event, answer);
+        applies(rt, &mut game, event, answer);
     }
-    Ok(())
 }
 
 #[test]
-fn a_request_alone_may_be_far(rt: HostRuntime) -> Result<(), Fail> {
-    let mut game = opened(rt.alloc(), 2)?;
+fn a_request_alone_may_be_far(rt: HostRuntime) {
+    let rt = &rt;
+    let mut game = must!(rt; opened(rt.alloc(), 2));
     hand_over(&mut game, send(0, 1));
     let _ = game.apply(build(1, 0));
-    same!(&rt; hand_over(&mut game, send(1, 0)), Some(Heard::Started));
+    same!(rt; hand_over(&mut game, send(1, 0)), Some(Heard::Started));
     let _ = game.apply(build(1, 0));
-    same!(&rt; hand_over(&mut game, send(1, 0)), Some(Heard::Gap));
+    same!(rt; hand_over(&mut game, send(1, 0)), Some(Heard::Gap));
     for _ in 0..3 {
         let _ = game.apply(build(0, 0));
     }
     // Node 0 asks for tic 0, once with its commands from tic 0 on, once from tic 3 on.
-    same!(&rt; hand_over(&mut game, send(0, 1)), Some(Heard::Taken(3)));
-    applies(&rt, &mut game, send(0, 1), Ok(Done::Sent(4)));
-    let flight = game.flight(4).ok_or("no packet")?;
-    same!(&rt; (flight.aim.start, flight.aim.ask), (3, Some(0)));
-    same!(&rt; hand_over(&mut game, send(1, 0)), Some(Heard::Taken(2)));
+    same!(rt; hand_over(&mut game, send(0, 1)), Some(Heard::Taken(3)));
+    applies(rt, &mut game, send(0, 1), Ok(Done::Sent(4)));
+    let flight = must!(rt; game.flight(4).ok_or("no packet"));
+    same!(rt; (flight.aim.start, flight.aim.ask), (3, Some(0)));
+    same!(rt; hand_over(&mut game, send(1, 0)), Some(Heard::Taken(2)));
     play_rounds(&mut game, 62);
     for (event, answer) in [
         (Event::Deliver(4), STALE),
         (build(1, 0), Ok(Done::Built(Made::Made(64)))),
         (Event::Deliver(4), FAR),
     ] {
-        applies(&rt, &mut game, event, answer);
+        applies(rt, &mut game, event, answer);
     }
-    Ok(())
 }
 
 #[test]
-fn a_start_alone_may_be_far(rt: HostRuntime) -> Result<(), Fail> {
-    let mut game = started(rt.alloc())?;
+fn a_start_alone_may_be_far(rt: HostRuntime) {
+    let rt = &rt;
+    let mut game = must!(rt; started(rt.alloc()));
     for _ in 0..3 {
         let _ = game.apply(build(1, 0));
     }
-    same!(&rt; hand_over(&mut game, send(1, 0)), Some(Heard::Taken(3)));
+    same!(rt; hand_over(&mut game, send(1, 0)), Some(Heard::Taken(3)));
     let _ = game.apply(build(1, 0));
-    applies(&rt, &mut game, send(1, 0), Ok(Done::Sent(3)));
+    applies(rt, &mut game, send(1, 0), Ok(Done::Sent(3)));
     let _ = game.apply(build(1, 0));
-    same!(&rt; hand_over(&mut game, send(1, 0)), Some(Heard::Gap));
+    same!(rt; hand_over(&mut game, send(1, 0)), Some(Heard::Gap));
     let _ = game.apply(build(0, 0));
     // Node 0 sends from tic 0 on, and asks for tic 3.
-    same!(&rt; hand_over(&mut game, send(0, 1)), Some(Heard::Taken(1)));
-    let flight = game.flight(5).ok_or("no packet")?;
-    same!(&rt; (flight.aim.start, flight.aim.ask), (0, Some(3)));
-    same!(&rt; hand_over(&mut game, send(1, 0)), Some(Heard::Taken(2)));
+    same!(rt; hand_over(&mut game, send(0, 1)), Some(Heard::Taken(1)));
+    let flight = must!(rt; game.flight(5).ok_or("no packet"));
+    same!(rt; (flight.aim.start, flight.aim.ask), (0, Some(3)));
+    same!(rt; hand_over(&mut game, send(1, 0)), Some(Heard::Taken(2)));
     for event in [Event::Run(0), Event::Run(1)] {
-        applies(&rt, &mut game, event, Ok(Done::Ran(Ran::Ran(0))));
+        applies(rt, &mut game, event, Ok(Done::Ran(Ran::Ran(0))));
     }
     play_rounds(&mut game, 59);
     for (event, answer) in [
@@ -123,7 +124,6 @@ fn a_start_alone_may_be_far(rt: HostRuntime) -> Result<(), Fail> {
         (build(1, 0), Ok(Done::Built(Made::Made(64)))),
         (Event::Deliver(5), FAR),
     ] {
-        applies(&rt, &mut game, event, answer);
+        applies(rt, &mut game, event, answer);
     }
-    Ok(())
 }

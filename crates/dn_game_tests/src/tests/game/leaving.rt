@@ -103,15 +103,15 @@ fn played_on(rt: &impl Abort, game: &Game<Walk>) {
 }
 
 #[test]
-fn two_play_on_when_the_third_leaves(rt: HostRuntime) -> Result<(), Fail> {
-    let mut game = opened(rt.alloc(), 3)?;
-    for event in events(rt.alloc())?.iter() {
-        apply_and_leave(&rt, &mut game, *event);
+fn two_play_on_when_the_third_leaves(rt: HostRuntime) {
+    let rt = &rt;
+    let mut game = must!(rt; opened(rt.alloc(), 3));
+    for event in must!(rt; events(rt.alloc())).iter() {
+        apply_and_leave(rt, &mut game, *event);
     }
-    let beyond = compare_all(&rt, &game, 3);
-    holds!(&rt; beyond >= 70, beyond);
-    played_on(&rt, &game);
-    Ok(())
+    let beyond = compare_all(rt, &game, 3);
+    holds!(rt; beyond >= 70, beyond);
+    played_on(rt, &game);
 }
 
 /// Plays events of a schedule, in which two nodes quit or stop on the way.
@@ -135,14 +135,14 @@ fn stormed(alloc: Global, players: u32, seed: u32) -> Result<Game<Walk>, Fail> {
 }
 
 #[test]
-fn nodes_agree_in_storms_that_players_leave(rt: HostRuntime) -> Result<(), Fail> {
+fn nodes_agree_in_storms_that_players_leave(rt: HostRuntime) {
+    let rt = &rt;
     for players in [3, 4] {
         let mut beyond = 0;
         for seed in 1..=20 {
-            let game = stormed(rt.alloc(), players, seed)?;
-            beyond = compare_all(&rt, &game, players).max(beyond);
+            let game = must!(rt; stormed(rt.alloc(), players, seed));
+            beyond = compare_all(rt, &game, players).max(beyond);
         }
-        holds!(&rt; beyond > 0, players);
+        holds!(rt; beyond > 0, players);
     }
-    Ok(())
 }

@@ -6,7 +6,6 @@ use dn_game::{Done, Event, Game, GameFault, Refusal, play, storm};
 use dn_machine::{Cause, Phase};
 use dn_world::Walk;
 use std::process::Abort;
-use std::test::Fail;
 
 fn start() -> [Event; 6] {
     [
@@ -35,95 +34,95 @@ fn send_one(rt: &impl Abort, game: &mut Game<Walk>) {
 
 /// Each request for memory may be refused: then the answer says so, and there is no other.
 #[test]
-fn refused_memory_is_told(rt: HostRuntime) -> Result<(), Fail> {
+fn refused_memory_is_told(rt: HostRuntime) {
+    let rt = &rt;
     if let Ok(worlds) = walks(rt.alloc(), 2) {
-        match Game::new(rt.alloc(), config(1_024)?, worlds) {
+        match Game::new(rt.alloc(), must!(rt; config(1_024)), worlds) {
             Ok(mut game) => {
                 for _ in 0..30 {
-                    send_one(&rt, &mut game);
+                    send_one(rt, &mut game);
                 }
             }
-            Err(fault) => same!(&rt; fault, GameFault::Memory),
+            Err(fault) => same!(rt; fault, GameFault::Memory),
         }
     }
     if let Ok(worlds) = walks(rt.alloc(), 2) {
-        match storm(rt.alloc(), config(1_024)?, worlds, 1, 500) {
-            Ok(played) => same!(&rt; played.done.checked_add(played.refused), Some(500)),
-            Err(fault) => same!(&rt; fault, GameFault::Memory),
+        match storm(rt.alloc(), must!(rt; config(1_024)), worlds, 1, 500) {
+            Ok(played) => same!(rt; played.done.checked_add(played.refused), Some(500)),
+            Err(fault) => same!(rt; fault, GameFault::Memory),
         }
     }
-    Ok(())
 }
 
 /// A send without room is left out of a list of events, the others are done, and the answer counts it.
 #[test]
-fn play_goes_on_without_a_packet(rt: HostRuntime) -> Result<(), Fail> {
+fn play_goes_on_without_a_packet(rt: HostRuntime) {
+    let rt = &rt;
     let events = [send(0, 1), Event::Run(0), send(0, 1), Event::Quit(1)];
     let Ok(worlds) = walks(rt.alloc(), 2) else {
-        return Ok(());
+        return;
     };
-    match play(rt.alloc(), config(1_024)?, worlds, &events) {
+    match play(rt.alloc(), must!(rt; config(1_024)), worlds, &events) {
         Ok(played) => {
             assert!(rt; played.refused <= 1);
-            same!(&rt; played.done.checked_add(played.refused), Some(4));
-            same!(&rt; played.game.flights(), 2 - played.refused);
+            same!(rt; played.done.checked_add(played.refused), Some(4));
+            same!(rt; played.game.flights(), 2 - played.refused);
             let left = played.game.node(1).map(|node| node.phase());
-            same!(&rt; left, Some(Phase::Ended(Cause::Quit)));
+            same!(rt; left, Some(Phase::Ended(Cause::Quit)));
         }
-        Err(fault) => same!(&rt; fault, GameFault::Memory),
+        Err(fault) => same!(rt; fault, GameFault::Memory),
     }
-    Ok(())
 }
 
 /// A send that is left out takes its delivery with it, and nothing else.
 #[test]
-fn only_sends_are_left_out(rt: HostRuntime) -> Result<(), Fail> {
+fn only_sends_are_left_out(rt: HostRuntime) {
+    let rt = &rt;
     let Ok(worlds) = walks(rt.alloc(), 2) else {
-        return Ok(());
+        return;
     };
-    let Ok(mut game) = Game::new(rt.alloc(), config(1_024)?, worlds) else {
-        return Ok(());
+    let Ok(mut game) = Game::new(rt.alloc(), must!(rt; config(1_024)), worlds) else {
+        return;
     };
     let mut left_out = false;
     for event in start() {
         match (event, game.apply(event)) {
             (_, Ok(_)) => {}
             (Event::Send { .. }, Err(Refusal::Memory)) => left_out = true,
-            (Event::Deliver(_), Err(Refusal::NoPacket)) => holds!(&rt; left_out),
-            (_, Err(refusal)) => holds!(&rt; false, (event, refusal)),
+            (Event::Deliver(_), Err(Refusal::NoPacket)) => holds!(rt; left_out),
+            (_, Err(refusal)) => holds!(rt; false, (event, refusal)),
         }
     }
-    holds!(&rt; left_out || game.flights() == 3);
-    Ok(())
+    holds!(rt; left_out || game.flights() == 3);
 }
 
 #[test]
-fn there_is_room_for_many_packets(rt: HostRuntime) -> Result<(), Fail> {
-    let mut game = opened(rt.alloc(), 2)?;
+fn there_is_room_for_many_packets(rt: HostRuntime) {
+    let rt = &rt;
+    let mut game = must!(rt; opened(rt.alloc(), 2));
     for which in 0..10_000 {
-        applies(&rt, &mut game, send(0, 1), Ok(Done::Sent(which)));
+        applies(rt, &mut game, send(0, 1), Ok(Done::Sent(which)));
     }
-    same!(&rt; game.flights(), 10_000);
-    same!(&rt; game.pool().len(), 80_000);
-    Ok(())
+    same!(rt; game.flights(), 10_000);
+    same!(rt; game.pool().len(), 80_000);
 }
 
 /// Both lists grow at the first send: where either may not, the answer says so, and the same send may
 /// come again.
 #[test]
-fn the_first_send_needs_room_in_both_lists(rt: HostRuntime) -> Result<(), Fail> {
+fn the_first_send_needs_room_in_both_lists(rt: HostRuntime) {
+    let rt = &rt;
     let Ok(worlds) = walks(rt.alloc(), 2) else {
-        return Ok(());
+        return;
     };
-    let Ok(mut game) = Game::new(rt.alloc(), config(1_024)?, worlds) else {
-        return Ok(());
+    let Ok(mut game) = Game::new(rt.alloc(), must!(rt; config(1_024)), worlds) else {
+        return;
     };
     let before = all_told(&game);
     if game.apply(send(0, 1)) == Err(Refusal::Memory) {
-        same!(&rt; all_told(&game), before);
-        applies(&rt, &mut game, send(0, 1), Ok(Done::Sent(0)));
+        same!(rt; all_told(&game), before);
+        applies(rt, &mut game, send(0, 1), Ok(Done::Sent(0)));
     }
-    same!(&rt; game.flights(), 1);
-    same!(&rt; game.pool().len(), 8);
-    Ok(())
+    same!(rt; game.flights(), 1);
+    same!(rt; game.pool().len(), 8);
 }

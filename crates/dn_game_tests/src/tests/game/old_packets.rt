@@ -47,34 +47,35 @@ fn both_play(rt: &impl Abort, zero: &mut Node<Walk>, one: &mut Node<Walk>, tic: 
 
 /// A node alone takes an old packet for a new one, since it sees but the low byte of its tic.
 #[test]
-fn a_node_takes_what_a_game_refuses(rt: HostRuntime) -> Result<(), Fail> {
-    let mut zero = node(rt.alloc(), 0)?;
-    let mut one = node(rt.alloc(), 1)?;
-    same!(&rt; give(&mut zero, &mut one), Some(Heard::Started));
-    same!(&rt; give(&mut one, &mut zero), Some(Heard::Started));
+fn a_node_takes_what_a_game_refuses(rt: HostRuntime) {
+    let rt = &rt;
+    let mut zero = must!(rt; node(rt.alloc(), 0));
+    let mut one = must!(rt; node(rt.alloc(), 1));
+    same!(rt; give(&mut zero, &mut one), Some(Heard::Started));
+    same!(rt; give(&mut one, &mut zero), Some(Heard::Started));
     let keys = Keys::from_bits(0);
     one.build(keys);
     one.build(keys);
-    let old = one.packet(0).ok_or("no packet")?;
-    same!(&rt; zero.receive(1, old.as_slice()), Heard::Taken(2));
+    let old = must!(rt; one.packet(0).ok_or("no packet"));
+    same!(rt; zero.receive(1, old.as_slice()), Heard::Taken(2));
     for tic in 0..256 {
-        both_play(&rt, &mut zero, &mut one, tic);
+        both_play(rt, &mut zero, &mut one, tic);
     }
-    same!(&rt; (zero.made(), zero.ran(), zero.got(1)), (256, 255, Some(256)));
-    same!(&rt; zero.receive(1, old.as_slice()), Heard::Taken(2));
-    same!(&rt; zero.got(1), Some(258));
-    Ok(())
+    same!(rt; (zero.made(), zero.ran(), zero.got(1)), (256, 255, Some(256)));
+    same!(rt; zero.receive(1, old.as_slice()), Heard::Taken(2));
+    same!(rt; zero.got(1), Some(258));
 }
 
 #[test]
-fn a_game_refuses_what_a_node_takes(rt: HostRuntime) -> Result<(), Fail> {
-    let mut game = started(rt.alloc())?;
+fn a_game_refuses_what_a_node_takes(rt: HostRuntime) {
+    let rt = &rt;
+    let mut game = must!(rt; started(rt.alloc()));
     for node in [0, 1] {
         let _ = game.apply(build(node, 0));
         let _ = game.apply(build(node, 0));
     }
-    same!(&rt; hand_over(&mut game, send(0, 1)), Some(Heard::Taken(2)));
-    same!(&rt; hand_over(&mut game, send(1, 0)), Some(Heard::Taken(2)));
+    same!(rt; hand_over(&mut game, send(0, 1)), Some(Heard::Taken(2)));
+    same!(rt; hand_over(&mut game, send(1, 0)), Some(Heard::Taken(2)));
     for event in [Event::Run(0), Event::Run(1), Event::Run(0), Event::Run(1)] {
         let _ = game.apply(event);
     }
@@ -83,10 +84,9 @@ fn a_game_refuses_what_a_node_takes(rt: HostRuntime) -> Result<(), Fail> {
     let _ = game.apply(build(1, 0));
     hand_over(&mut game, send(0, 1));
     hand_over(&mut game, send(1, 0));
-    let zero = game.node(0).ok_or("no node")?;
-    same!(&rt; (zero.made(), zero.ran(), zero.got(1)), (256, 255, Some(256)));
-    applies(&rt, &mut game, Event::Deliver(3), Err(Refusal::Far));
-    Ok(())
+    let zero = must!(rt; game.node(0).ok_or("no node"));
+    same!(rt; (zero.made(), zero.ran(), zero.got(1)), (256, 255, Some(256)));
+    applies(rt, &mut game, Event::Deliver(3), Err(Refusal::Far));
 }
 
 /// Builds five commands on both nodes, hands them over, and runs them.
@@ -106,8 +106,9 @@ fn play_five(game: &mut Game<Walk>) {
 }
 
 #[test]
-fn far_packets_are_left_out(rt: HostRuntime) -> Result<(), Fail> {
-    let mut game = opened(rt.alloc(), 2)?;
+fn far_packets_are_left_out(rt: HostRuntime) {
+    let rt = &rt;
+    let mut game = must!(rt; opened(rt.alloc(), 2));
     for event in [send(0, 1), Event::Deliver(0), send(1, 0), Event::Deliver(1)] {
         let _ = game.apply(event);
     }
@@ -115,10 +116,10 @@ fn far_packets_are_left_out(rt: HostRuntime) -> Result<(), Fail> {
         play_five(&mut game);
     }
     // Of 28 packets those that start at tic 0 are far: the numbers 1, 2 and 3.
-    same!(&rt; game.flights(), 28);
-    same!(&rt; game.node(0).map(|node| node.made()), Some(65));
+    same!(rt; game.flights(), 28);
+    same!(rt; game.node(0).map(|node| node.made()), Some(65));
     draw(
-        &rt,
+        rt,
         &game,
         1_920,
         &[
@@ -136,5 +137,4 @@ fn far_packets_are_left_out(rt: HostRuntime) -> Result<(), Fail> {
             Event::Deliver(21),
         ],
     );
-    Ok(())
 }

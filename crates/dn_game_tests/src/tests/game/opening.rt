@@ -5,10 +5,10 @@ use dn_game::{Game, GameFault};
 use dn_node::{Node, Phase};
 use dn_world::Walk;
 use std::process::Abort;
-use std::test::Fail;
 
 #[test]
-fn games_are_made_or_refused_in_order(rt: HostRuntime) -> Result<(), Fail> {
+fn games_are_made_or_refused_in_order(rt: HostRuntime) {
+    let rt = &rt;
     for (players, limit, fault) in [
         (0, 131_072, Some(GameFault::Players)),
         (1, 131_072, Some(GameFault::Players)),
@@ -24,11 +24,10 @@ fn games_are_made_or_refused_in_order(rt: HostRuntime) -> Result<(), Fail> {
         (5, 1_023, Some(GameFault::Players)),
         (1, 16_777_217, Some(GameFault::Players)),
     ] {
-        let worlds = walks(rt.alloc(), players)?;
-        let made = Game::new(rt.alloc(), config(limit)?, worlds);
-        same!(&rt; made.err(), fault, (players, limit));
+        let worlds = must!(rt; walks(rt.alloc(), players));
+        let made = Game::new(rt.alloc(), must!(rt; config(limit)), worlds);
+        same!(rt; made.err(), fault, (players, limit));
     }
-    Ok(())
 }
 
 /// A node of a game that no event has met: player 0 alone has settings, and gathers.
@@ -45,25 +44,26 @@ fn waits(rt: &impl Abort, node: &Node<Walk>, number: u32) {
 }
 
 #[test]
-fn a_new_game_waits(rt: HostRuntime) -> Result<(), Fail> {
+fn a_new_game_waits(rt: HostRuntime) {
+    let rt = &rt;
     for players in 2..=4 {
-        let game = opened(rt.alloc(), players)?;
+        let game = must!(rt; opened(rt.alloc(), players));
         for number in 0..4 {
             let Some(node) = game.node(number) else {
-                holds!(&rt; number as usize >= players, number);
+                holds!(rt; number as usize >= players, number);
                 continue;
             };
-            holds!(&rt; (number as usize) < players, number);
-            waits(&rt, node, number);
+            holds!(rt; (number as usize) < players, number);
+            waits(rt, node, number);
         }
-        same!(&rt; game.flights(), 0);
+        same!(rt; game.flights(), 0);
     }
-    Ok(())
 }
 
 #[test]
-fn numbers_out_of_range_tell_nothing(rt: HostRuntime) -> Result<(), Fail> {
-    let game = opened(rt.alloc(), 3)?;
+fn numbers_out_of_range_tell_nothing(rt: HostRuntime) {
+    let rt = &rt;
+    let game = must!(rt; opened(rt.alloc(), 3));
     for (number, there) in [
         (3, false),
         (4, false),
@@ -76,7 +76,6 @@ fn numbers_out_of_range_tell_nothing(rt: HostRuntime) -> Result<(), Fail> {
     ] {
         let flight = game.flight(number as usize).is_some();
         let found = (game.node(number).is_some(), game.stopped(number), flight);
-        same!(&rt; found, (there, false, false), number);
+        same!(rt; found, (there, false, false), number);
     }
-    Ok(())
 }

@@ -145,38 +145,39 @@ fn played(alloc: Global, script: &str) -> Result<Played<Walk>, Fail> {
 }
 
 #[test]
-fn each_event_has_its_answer(rt: HostRuntime) -> Result<(), Fail> {
-    let mut game = opened(rt.alloc(), 2)?;
+fn each_event_has_its_answer(rt: HostRuntime) {
+    let rt = &rt;
+    let mut game = must!(rt; opened(rt.alloc(), 2));
     for (event, answer) in answered() {
-        applies(&rt, &mut game, event, Ok(answer));
+        applies(rt, &mut game, event, Ok(answer));
     }
-    look(&rt, &game);
-    Ok(())
+    look(rt, &game);
 }
 
 #[test]
-fn a_script_is_played(rt: HostRuntime) -> Result<(), Fail> {
-    let played = played(rt.alloc(), SCRIPT)?;
-    same!(&rt; (played.done, played.refused), (15, 0));
-    look(&rt, &played.game);
-    Ok(())
+fn a_script_is_played(rt: HostRuntime) {
+    let rt = &rt;
+    let played = must!(rt; played(rt.alloc(), SCRIPT));
+    same!(rt; (played.done, played.refused), (15, 0));
+    look(rt, &played.game);
 }
 
 #[test]
-fn a_packet_may_come_again(rt: HostRuntime) -> Result<(), Fail> {
-    let played = played(rt.alloc(), SCRIPT)?;
+fn a_packet_may_come_again(rt: HostRuntime) {
+    let rt = &rt;
+    let played = must!(rt; played(rt.alloc(), SCRIPT));
     let mut game = played.game;
     for _ in 0..3 {
         let again = game.apply(Event::Deliver(4));
-        same!(&rt; again, Ok(Done::Heard(Heard::Stale)));
+        same!(rt; again, Ok(Done::Heard(Heard::Stale)));
     }
-    applies(&rt, &mut game, Event::Deliver(9), Err(Refusal::NoPacket));
-    look(&rt, &game);
-    Ok(())
+    applies(rt, &mut game, Event::Deliver(9), Err(Refusal::NoPacket));
+    look(rt, &game);
 }
 
 #[test]
-fn refused_events_are_counted(rt: HostRuntime) -> Result<(), Fail> {
+fn refused_events_are_counted(rt: HostRuntime) {
+    let rt = &rt;
     for (script, done, refused) in [
         ("", 0, 0),
         ("stop 1\nsend 1 0\n", 1, 1),
@@ -184,23 +185,22 @@ fn refused_events_are_counted(rt: HostRuntime) -> Result<(), Fail> {
         ("run 7\nrun 7\nrun 1", 1, 2),
         ("stop 0\nstop 0\nstop 1\nstop 1\n", 2, 2),
     ] {
-        let played = played(rt.alloc(), script)?;
+        let played = must!(rt; played(rt.alloc(), script));
         let found = (played.done, played.refused, played.game.flights());
-        same!(&rt; found, (done, refused, 0), script);
+        same!(rt; found, (done, refused, 0), script);
     }
-    Ok(())
 }
 
 #[test]
-fn a_refused_event_leaves_the_game(rt: HostRuntime) -> Result<(), Fail> {
+fn a_refused_event_leaves_the_game(rt: HostRuntime) {
+    let rt = &rt;
     let mut events = Vec::new(rt.alloc());
     for (event, _) in answered() {
-        events.push(event)?;
+        must!(rt; events.push(event));
     }
-    events.push(Event::Deliver(9))?;
-    let worlds = walks(rt.alloc(), 2)?;
-    let played = play(rt.alloc(), config(131_072)?, worlds, events.as_slice())?;
-    same!(&rt; (played.done, played.refused), (15, 1));
-    look(&rt, &played.game);
-    Ok(())
+    must!(rt; events.push(Event::Deliver(9)));
+    let worlds = must!(rt; walks(rt.alloc(), 2));
+    let played = must!(rt; play(rt.alloc(), must!(rt; config(131_072)), worlds, events.as_slice()));
+    same!(rt; (played.done, played.refused), (15, 1));
+    look(rt, &played.game);
 }

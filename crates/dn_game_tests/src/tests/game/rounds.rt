@@ -45,22 +45,18 @@ fn lost() -> [Event; 13] {
 }
 
 /// A game of two after events of which none is refused, and then rounds.
-fn after(
-    rt: &impl Abort,
-    alloc: Global,
-    events: &[Event],
-    rounds: u32,
-) -> Result<Game<Walk>, Fail> {
-    let mut game = opened(alloc, 2)?;
+fn after(rt: &impl Abort, alloc: Global, events: &[Event], rounds: u32) -> Game<Walk> {
+    let mut game = must!(rt; opened(alloc, 2));
     for event in events {
         holds!(rt; game.apply(*event).is_ok(), *event);
     }
     same!(rt; game.good_rounds(no_keys(), rounds), Ok(()));
-    Ok(game)
+    game
 }
 
 #[test]
-fn rounds_run_tics(rt: HostRuntime) -> Result<(), Fail> {
+fn rounds_run_tics(rt: HostRuntime) {
+    let rt = &rt;
     let left = lost();
     let missed = &left[..12];
     let nothing = &left[..0];
@@ -78,32 +74,31 @@ fn rounds_run_tics(rt: HostRuntime) -> Result<(), Fail> {
         (left.as_slice(), 14, 0, 3),
     ];
     for (events, rounds, zero, one) in rows {
-        let game = after(&rt, rt.alloc(), events, rounds)?;
-        same!(&rt; rans(&game), [Some(zero), Some(one), None, None], rounds);
+        let game = after(rt, rt.alloc(), events, rounds);
+        same!(rt; rans(&game), [Some(zero), Some(one), None, None], rounds);
     }
-    Ok(())
 }
 
 /// A node that stopped takes no turn, and the others wait for it.
 #[test]
-fn a_stopped_node_holds_the_others_up(rt: HostRuntime) -> Result<(), Fail> {
-    let mut game = opened(rt.alloc(), 3)?;
-    same!(&rt; game.good_rounds(no_keys(), 20), Ok(()));
+fn a_stopped_node_holds_the_others_up(rt: HostRuntime) {
+    let rt = &rt;
+    let mut game = must!(rt; opened(rt.alloc(), 3));
+    same!(rt; game.good_rounds(no_keys(), 20), Ok(()));
     let before = rans(&game);
-    holds!(&rt; before[0] > Some(10));
-    holds!(&rt; game.apply(Event::Stop(1)).is_ok());
-    same!(&rt; game.good_rounds(no_keys(), 20), Ok(()));
+    holds!(rt; before[0] > Some(10));
+    holds!(rt; game.apply(Event::Stop(1)).is_ok());
+    same!(rt; game.good_rounds(no_keys(), 20), Ok(()));
     let held = rans(&game);
-    same!(&rt; held[1], before[1]);
-    same!(&rt; game.good_rounds(no_keys(), 20), Ok(()));
-    same!(&rt; rans(&game), held);
-    Ok(())
+    same!(rt; held[1], before[1]);
+    same!(rt; game.good_rounds(no_keys(), 20), Ok(()));
+    same!(rt; rans(&game), held);
 }
 
 /// Two hundred rounds, after thirty of which node 1 may quit: node 0 is then in this phase.
-fn long_game(rt: &impl Abort, alloc: Global, quits: bool, phase: Phase) -> Result<(), Fail> {
-    let worlds = walks(alloc, 2)?;
-    let mut game = Game::new(alloc, config(1_024)?, worlds)?;
+fn long_game(rt: &impl Abort, alloc: Global, quits: bool, phase: Phase) {
+    let worlds = must!(rt; walks(alloc, 2));
+    let mut game = must!(rt; Game::new(alloc, must!(rt; config(1_024)), worlds));
     same!(rt; game.good_rounds(no_keys(), 30), Ok(()), quits);
     if quits {
         holds!(rt; game.apply(Event::Quit(1)).is_ok());
@@ -111,14 +106,14 @@ fn long_game(rt: &impl Abort, alloc: Global, quits: bool, phase: Phase) -> Resul
     same!(rt; game.good_rounds(no_keys(), 170), Ok(()), quits);
     let zero = game.node(0).map(|node| (node.phase(), node.ran() > 101));
     same!(rt; zero, Some((phase, quits)));
-    Ok(())
 }
 
 /// The demos have room for 101 tics. A game that a player has left goes on past them.
 #[test]
-fn who_stays_runs_past_the_demo(rt: HostRuntime) -> Result<(), Fail> {
-    long_game(&rt, rt.alloc(), true, Phase::Playing)?;
-    long_game(&rt, rt.alloc(), false, Phase::Ended(Cause::Full))
+fn who_stays_runs_past_the_demo(rt: HostRuntime) {
+    let rt = &rt;
+    long_game(rt, rt.alloc(), true, Phase::Playing);
+    long_game(rt, rt.alloc(), false, Phase::Ended(Cause::Full));
 }
 
 /// A game of two that has played the events before the quit.
@@ -136,18 +131,18 @@ fn played_on(alloc: Global, keys: [Keys; 4]) -> Result<Played<Walk>, Fail> {
 
 /// Playing on is playing and then rounds, each with the keys of its players.
 #[test]
-fn a_game_is_played_on(rt: HostRuntime) -> Result<(), Fail> {
+fn a_game_is_played_on(rt: HostRuntime) {
+    let rt = &rt;
     let keys = [1, 2, 3, 4].map(Keys::from_bits);
-    let mut rounds = played(rt.alloc())?;
+    let mut rounds = must!(rt; played(rt.alloc()));
     for _ in 0..30 {
-        same!(&rt; rounds.game.good_round(keys), Ok(()));
+        same!(rt; rounds.game.good_round(keys), Ok(()));
     }
-    let on = played_on(rt.alloc(), keys)?;
-    same!(&rt; all_told(&on.game), all_told(&rounds.game));
-    same!(&rt; (on.done, on.refused), (12, 0));
-    let other = played_on(rt.alloc(), no_keys())?;
-    holds!(&rt; all_told(&other.game) != all_told(&on.game));
-    Ok(())
+    let on = must!(rt; played_on(rt.alloc(), keys));
+    same!(rt; all_told(&on.game), all_told(&rounds.game));
+    same!(rt; (on.done, on.refused), (12, 0));
+    let other = must!(rt; played_on(rt.alloc(), no_keys()));
+    holds!(rt; all_told(&other.game) != all_told(&on.game));
 }
 
 /// Who has not ended, with the tics that it ran.
@@ -198,15 +193,11 @@ fn rounds_needed(rt: &impl Abort, game: &mut Game<Walk>) -> (u32, u32) {
 }
 
 /// A storm that breaks off somewhere. With every fourth seed node 1 then quits, where it plays.
-fn broken_off(
-    rt: &impl Abort,
-    alloc: Global,
-    players: usize,
-    seed: u64,
-) -> Result<Game<Walk>, Fail> {
+fn broken_off(rt: &impl Abort, alloc: Global, players: usize, seed: u64) -> Game<Walk> {
     let count = (seed % 100 * 7_919 + players as u64 % 100 * 104_729) % 3_000;
-    let worlds = walks(alloc, players)?;
-    let mut game = storm(alloc, config(131_072)?, worlds, seed, count as u32)?.game;
+    let worlds = must!(rt; walks(alloc, players));
+    let mut game =
+        must!(rt; storm(alloc, must!(rt; config(131_072)), worlds, seed, count as u32)).game;
     let plays = match game.node(1) {
         Some(node) => node.phase() == Phase::Playing,
         None => false,
@@ -214,39 +205,39 @@ fn broken_off(
     if seed % 4 == 0 && plays {
         holds!(rt; game.apply(Event::Quit(1)).is_ok(), (players, seed));
     }
-    Ok(game)
+    game
 }
 
 /// Storms that break off anywhere, some with a node that then quits.
 #[test]
-fn storms_go_on(rt: HostRuntime) -> Result<(), Fail> {
+fn storms_go_on(rt: HostRuntime) {
+    let rt = &rt;
     for players in 2..=4 {
         for seed in 1..=20 {
-            let mut game = broken_off(&rt, rt.alloc(), players, seed)?;
-            let (grown, ran) = rounds_needed(&rt, &mut game);
-            holds!(&rt; (1..=14).contains(&grown), (players, seed, grown));
-            holds!(&rt; ran <= ALL_RAN_BY, (players, seed));
+            let mut game = broken_off(rt, rt.alloc(), players, seed);
+            let (grown, ran) = rounds_needed(rt, &mut game);
+            holds!(rt; (1..=14).contains(&grown), (players, seed, grown));
+            holds!(rt; ran <= ALL_RAN_BY, (players, seed));
         }
     }
-    Ok(())
 }
 
 /// Where a packet finds no room, the round says so, and the next goes on from there.
 #[test]
-fn refused_memory_ends_a_round(rt: HostRuntime) -> Result<(), Fail> {
+fn refused_memory_ends_a_round(rt: HostRuntime) {
+    let rt = &rt;
     let Ok(worlds) = walks(rt.alloc(), 2) else {
-        return Ok(());
+        return;
     };
-    let Ok(mut game) = Game::new(rt.alloc(), config(1_024)?, worlds) else {
-        return Ok(());
+    let Ok(mut game) = Game::new(rt.alloc(), must!(rt; config(1_024)), worlds) else {
+        return;
     };
     let mut carried_out = 0_u32;
     for _ in 0..16 {
         match game.good_round(no_keys()) {
             Ok(()) => carried_out = carried_out.saturating_add(1),
-            Err(refusal) => same!(&rt; refusal, Refusal::Memory),
+            Err(refusal) => same!(rt; refusal, Refusal::Memory),
         }
     }
-    holds!(&rt; carried_out < 15 || ran(&game, 0) > Some(0));
-    Ok(())
+    holds!(rt; carried_out < 15 || ran(&game, 0) > Some(0));
 }

@@ -4,7 +4,6 @@ use super::{build, opened, send};
 use dn_game::{Event, Game, Schedule};
 use dn_world::Walk;
 use std::process::Abort;
-use std::test::Fail;
 
 /// Sends packets from node 0 to the others, going round.
 fn send_round(game: &mut Game<Walk>, players: u32, count: u32) {
@@ -23,10 +22,11 @@ pub(super) fn draw(rt: &impl Abort, game: &Game<Walk>, seed: u64, events: &[Even
 }
 
 #[test]
-fn without_packets_deliveries_are_runs(rt: HostRuntime) -> Result<(), Fail> {
-    let game = opened(rt.alloc(), 2)?;
+fn without_packets_deliveries_are_runs(rt: HostRuntime) {
+    let rt = &rt;
+    let game = must!(rt; opened(rt.alloc(), 2));
     draw(
-        &rt,
+        rt,
         &game,
         42,
         &[
@@ -38,15 +38,15 @@ fn without_packets_deliveries_are_runs(rt: HostRuntime) -> Result<(), Fail> {
             Event::Run(0),
         ],
     );
-    Ok(())
 }
 
 #[test]
-fn the_last_packets_are_delivered(rt: HostRuntime) -> Result<(), Fail> {
-    let mut game = opened(rt.alloc(), 2)?;
+fn the_last_packets_are_delivered(rt: HostRuntime) {
+    let rt = &rt;
+    let mut game = must!(rt; opened(rt.alloc(), 2));
     send_round(&mut game, 2, 40);
     draw(
-        &rt,
+        rt,
         &game,
         42,
         &[
@@ -64,16 +64,16 @@ fn the_last_packets_are_delivered(rt: HostRuntime) -> Result<(), Fail> {
             Event::Deliver(20),
         ],
     );
-    Ok(())
 }
 
 #[test]
-fn stopped_nodes_are_left_out(rt: HostRuntime) -> Result<(), Fail> {
-    let mut game = opened(rt.alloc(), 4)?;
+fn stopped_nodes_are_left_out(rt: HostRuntime) {
+    let rt = &rt;
+    let mut game = must!(rt; opened(rt.alloc(), 4));
     send_round(&mut game, 4, 40);
     let _ = game.apply(Event::Stop(2));
     draw(
-        &rt,
+        rt,
         &game,
         7,
         &[
@@ -91,17 +91,17 @@ fn stopped_nodes_are_left_out(rt: HostRuntime) -> Result<(), Fail> {
             send(0, 2),
         ],
     );
-    Ok(())
 }
 
 #[test]
-fn few_packets_are_all_recent(rt: HostRuntime) -> Result<(), Fail> {
-    let mut game = opened(rt.alloc(), 3)?;
+fn few_packets_are_all_recent(rt: HostRuntime) {
+    let rt = &rt;
+    let mut game = must!(rt; opened(rt.alloc(), 3));
     send_round(&mut game, 3, 5);
     let _ = game.apply(Event::Stop(0));
     let _ = game.apply(Event::Stop(1));
     draw(
-        &rt,
+        rt,
         &game,
         u64::MAX,
         &[
@@ -119,12 +119,12 @@ fn few_packets_are_all_recent(rt: HostRuntime) -> Result<(), Fail> {
             Event::Run(2),
         ],
     );
-    let mut other = opened(rt.alloc(), 4)?;
+    let mut other = must!(rt; opened(rt.alloc(), 4));
     send_round(&mut other, 4, 31);
     let _ = other.apply(Event::Stop(0));
     let _ = other.apply(Event::Stop(3));
     draw(
-        &rt,
+        rt,
         &other,
         1,
         &[
@@ -140,21 +140,20 @@ fn few_packets_are_all_recent(rt: HostRuntime) -> Result<(), Fail> {
             build(1, 196_009),
         ],
     );
-    Ok(())
 }
 
 #[test]
-fn a_stopped_game_has_no_event(rt: HostRuntime) -> Result<(), Fail> {
+fn a_stopped_game_has_no_event(rt: HostRuntime) {
+    let rt = &rt;
     for players in 2..=4 {
-        let mut game = opened(rt.alloc(), players)?;
+        let mut game = must!(rt; opened(rt.alloc(), players));
         let mut schedule = Schedule::new(9);
         for node in 0..players as u32 {
-            holds!(&rt; schedule.next(&game).is_some(), players);
+            holds!(rt; schedule.next(&game).is_some(), players);
             let _ = game.apply(Event::Stop(node));
         }
         for _ in 0..3 {
-            same!(&rt; schedule.next(&game), None, players);
+            same!(rt; schedule.next(&game), None, players);
         }
     }
-    Ok(())
 }

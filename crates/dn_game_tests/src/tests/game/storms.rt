@@ -15,16 +15,16 @@ fn stormed(alloc: Global, players: usize, seed: u64, count: u32) -> Result<Playe
 }
 
 #[test]
-fn no_event_of_a_storm_is_refused(rt: HostRuntime) -> Result<(), Fail> {
+fn no_event_of_a_storm_is_refused(rt: HostRuntime) {
+    let rt = &rt;
     for (players, seed, count) in [(2, 1, 0), (2, 1, 1), (2, 1, 1_000), (4, 0, 1_000)] {
-        let played = stormed(rt.alloc(), players, seed, count)?;
-        same!(&rt; (played.done, played.refused), (count as usize, 0), (players, seed));
+        let played = must!(rt; stormed(rt.alloc(), players, seed, count));
+        same!(rt; (played.done, played.refused), (count as usize, 0), (players, seed));
     }
     for seed in 1..=20 {
-        let played = stormed(rt.alloc(), 3, seed, 5_000)?;
-        same!(&rt; (played.done, played.refused), (5_000, 0), seed);
+        let played = must!(rt; stormed(rt.alloc(), 3, seed, 5_000));
+        same!(rt; (played.done, played.refused), (5_000, 0), seed);
     }
-    Ok(())
 }
 
 /// How many tics a node ran, and its demo.
@@ -44,68 +44,68 @@ fn same_flights(rt: &impl Abort, one: &Game<Walk>, other: &Game<Walk>) {
 }
 
 #[test]
-fn a_seed_has_one_storm(rt: HostRuntime) -> Result<(), Fail> {
-    let one = stormed(rt.alloc(), 3, 7, 3_000)?;
-    let again = stormed(rt.alloc(), 3, 7, 3_000)?;
-    same!(&rt; all_told(&one.game), all_told(&again.game));
-    same_flights(&rt, &one.game, &again.game);
+fn a_seed_has_one_storm(rt: HostRuntime) {
+    let rt = &rt;
+    let one = must!(rt; stormed(rt.alloc(), 3, 7, 3_000));
+    let again = must!(rt; stormed(rt.alloc(), 3, 7, 3_000));
+    same!(rt; all_told(&one.game), all_told(&again.game));
+    same_flights(rt, &one.game, &again.game);
     for number in 0..3 {
         let (ran, demo) = recorded(&one.game, number);
-        holds!(&rt; ran > 0, number);
-        same!(&rt; recorded(&again.game, number), (ran, demo), number);
+        holds!(rt; ran > 0, number);
+        same!(rt; recorded(&again.game, number), (ran, demo), number);
     }
-    Ok(())
 }
 
 #[test]
-fn another_seed_has_another_storm(rt: HostRuntime) -> Result<(), Fail> {
-    let one = stormed(rt.alloc(), 3, 7, 3_000)?;
-    let other = stormed(rt.alloc(), 3, 8, 3_000)?;
-    holds!(&rt; all_told(&one.game) != all_told(&other.game));
+fn another_seed_has_another_storm(rt: HostRuntime) {
+    let rt = &rt;
+    let one = must!(rt; stormed(rt.alloc(), 3, 7, 3_000));
+    let other = must!(rt; stormed(rt.alloc(), 3, 8, 3_000));
+    holds!(rt; all_told(&one.game) != all_told(&other.game));
     for number in 0..3 {
-        holds!(&rt; other.game.node(number).is_some(), number);
-        holds!(&rt; recorded(&one.game, number).1 != recorded(&other.game, number).1, number);
+        holds!(rt; other.game.node(number).is_some(), number);
+        holds!(rt; recorded(&one.game, number).1 != recorded(&other.game, number).1, number);
     }
-    Ok(())
 }
 
 #[test]
-fn demos_of_a_storm_agree(rt: HostRuntime) -> Result<(), Fail> {
+fn demos_of_a_storm_agree(rt: HostRuntime) {
+    let rt = &rt;
     for seed in 1..=5 {
-        let played = stormed(rt.alloc(), 2, seed, 5_000)?;
+        let played = must!(rt; stormed(rt.alloc(), 2, seed, 5_000));
         match (played.game.node(0), played.game.node(1)) {
             (Some(zero), Some(one)) => {
-                holds!(&rt; zero.ran() > 40 && one.ran() > 40, seed);
+                holds!(rt; zero.ran() > 40 && one.ran() > 40, seed);
                 let both = zero.demo().len().min(one.demo().len());
                 let commands = zero.demo().get(13..both);
-                holds!(&rt; commands.is_some(), seed);
-                same!(&rt; commands, one.demo().get(13..both), seed);
+                holds!(rt; commands.is_some(), seed);
+                same!(rt; commands, one.demo().get(13..both), seed);
             }
-            _ => holds!(&rt; false, "no node"),
+            _ => holds!(rt; false, "no node"),
         }
     }
-    Ok(())
 }
 
 #[test]
-fn worlds_with_vectors_are_stormed(rt: HostRuntime) -> Result<(), Fail> {
+fn worlds_with_vectors_are_stormed(rt: HostRuntime) {
+    let rt = &rt;
     let mut compared = false;
     for seed in 1..=6 {
-        let worlds = belts(rt.alloc(), 2)?;
-        let played = storm(rt.alloc(), config(131_072)?, worlds, seed, 5_000)?;
-        same!(&rt; (played.done, played.refused), (5_000, 0), seed);
+        let worlds = must!(rt; belts(rt.alloc(), 2));
+        let played = must!(rt; storm(rt.alloc(), must!(rt; config(131_072)), worlds, seed, 5_000));
+        same!(rt; (played.done, played.refused), (5_000, 0), seed);
         match (played.game.node(0), played.game.node(1)) {
             (Some(zero), Some(one)) if zero.ran() == one.ran() => {
                 compared = true;
                 for player in 0..4 {
                     let mark = zero.world().mark(player);
-                    same!(&rt; mark, one.world().mark(player), seed);
+                    same!(rt; mark, one.world().mark(player), seed);
                 }
             }
-            (Some(zero), Some(_)) => holds!(&rt; zero.ran() > 40, seed),
-            _ => holds!(&rt; false, "no node"),
+            (Some(zero), Some(_)) => holds!(rt; zero.ran() > 40, seed),
+            _ => holds!(rt; false, "no node"),
         }
     }
-    holds!(&rt; compared);
-    Ok(())
+    holds!(rt; compared);
 }

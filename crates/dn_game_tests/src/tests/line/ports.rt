@@ -3,7 +3,6 @@
 use super::came;
 use crate::tests::free_line;
 use dn_line::{Datagram, Line, LineFault, UdpLine, is_base};
-use std::test::Fail;
 
 /// How many polls are made for a datagram that is on its way.
 const POLLS: u32 = 100_000;
@@ -35,75 +34,76 @@ fn four_ports_fit_behind_the_last_base(rt: HostRuntime) {
 
 /// 64 datagrams, from either player in turn: each arrives once, with its bytes and its sender.
 #[test]
-fn datagrams_go_both_ways(rt: HostRuntime) -> Result<(), Fail> {
-    let (mut line, _) = free_line(&rt, rt.alloc(), 20_000, 1)?;
+fn datagrams_go_both_ways(rt: HostRuntime) {
+    let rt = &rt;
+    let (mut line, _) = must!(rt; free_line(rt, rt.alloc(), 20_000, 1));
     let mut bytes = [7; 104];
     for size in 41..105usize {
         bytes[0] = size as u8;
         for me in 0..2u8 {
-            same!(&rt; line.send(me, 1 - me, &bytes[..size]), Ok(()), size);
-            came(&rt, awaited(&mut line, 1 - me), me, &bytes[..size]);
-            same!(&rt; line.poll(1 - me), Ok(None), size);
+            same!(rt; line.send(me, 1 - me, &bytes[..size]), Ok(()), size);
+            came(rt, awaited(&mut line, 1 - me), me, &bytes[..size]);
+            same!(rt; line.poll(1 - me), Ok(None), size);
         }
     }
-    same!(&rt; line.failed(), 0);
-    Ok(())
+    same!(rt; line.failed(), 0);
 }
 
 /// A port that is held is not bound again, and is free once its line is dropped.
 #[test]
-fn held_ports_are_refused(rt: HostRuntime) -> Result<(), Fail> {
-    let (held, base) = free_line(&rt, rt.alloc(), 23_000, 0)?;
+fn held_ports_are_refused(rt: HostRuntime) {
+    let rt = &rt;
+    let (held, base) = must!(rt; free_line(rt, rt.alloc(), 23_000, 0));
     for last in 0..2 {
-        let again = UdpLine::bind(&rt, rt.alloc(), base, 0, last, 2);
-        same!(&rt; again.err(), Some(LineFault::Bind), last);
+        let again = UdpLine::bind(rt, rt.alloc(), base, 0, last, 2);
+        same!(rt; again.err(), Some(LineFault::Bind), last);
     }
     drop(held);
-    let again = UdpLine::bind(&rt, rt.alloc(), base, 0, 0, 2);
-    holds!(&rt; again.is_ok());
-    Ok(())
+    let again = UdpLine::bind(rt, rt.alloc(), base, 0, 0, 2);
+    holds!(rt; again.is_ok());
 }
 
 /// Player 0 alone is bound. Numbers that are no route are faults, and where nobody listens none comes back.
 #[test]
-fn numbers_alone_decide_these_faults(rt: HostRuntime) -> Result<(), Fail> {
-    let (mut line, _) = free_line(&rt, rt.alloc(), 26_000, 0)?;
+fn numbers_alone_decide_these_faults(rt: HostRuntime) {
+    let rt = &rt;
+    let (mut line, _) = must!(rt; free_line(rt, rt.alloc(), 26_000, 0));
     for (me, to) in [(0, 0), (1, 0), (0, 2), (2, 0), (255, 1)] {
-        same!(&rt; line.send(me, to, &[1]), Err(LineFault::Send), (me, to));
+        same!(rt; line.send(me, to, &[1]), Err(LineFault::Send), (me, to));
     }
     for me in [1, 2, 255] {
-        same!(&rt; line.poll(me), Err(LineFault::Poll), me);
+        same!(rt; line.poll(me), Err(LineFault::Poll), me);
     }
-    same!(&rt; line.failed(), 8);
+    same!(rt; line.failed(), 8);
     for _ in 0..10 {
-        same!(&rt; line.send(0, 1, &[1]), Ok(()));
-        same!(&rt; line.poll(0), Ok(None));
+        same!(rt; line.send(0, 1, &[1]), Ok(()));
+        same!(rt; line.poll(0), Ok(None));
     }
-    same!(&rt; line.failed(), 8);
-    Ok(())
+    same!(rt; line.failed(), 8);
 }
 
 /// Who sends from no player's port is a stranger, and only 105 bytes of a datagram arrive.
 #[test]
-fn strangers_are_told(rt: HostRuntime) -> Result<(), Fail> {
-    let (mut line, base) = free_line(&rt, rt.alloc(), 29_000, 0)?;
+fn strangers_are_told(rt: HostRuntime) {
+    let rt = &rt;
+    let (mut line, base) = must!(rt; free_line(rt, rt.alloc(), 29_000, 0));
     // Its player 3 is at no player's port of the line, and its player 1 at that of the line's player 0.
-    let mut stranger = UdpLine::bind(&rt, rt.alloc(), base - 1, 3, 3, 4)?;
-    same!(&rt; stranger.send(3, 1, &[5; 200]), Ok(()));
-    came(&rt, awaited(&mut line, 0), 255, [5; 105].as_slice());
-    Ok(())
+    let mut stranger = must!(rt; UdpLine::bind(rt, rt.alloc(), base - 1, 3, 3, 4));
+    same!(rt; stranger.send(3, 1, &[5; 200]), Ok(()));
+    came(rt, awaited(&mut line, 0), 255, [5; 105].as_slice());
 }
 
 /// Each request for memory may be refused: then there is no line.
 #[test]
 fn refused_memory_is_told(rt: HostRuntime) {
+    let rt = &rt;
     for step in 0..200u16 {
-        match UdpLine::bind(&rt, rt.alloc(), 32_000 + 8 * step, 0, 3, 4) {
+        match UdpLine::bind(rt, rt.alloc(), 32_000 + 8 * step, 0, 3, 4) {
             Ok(line) => {
-                same!(&rt; line.failed(), 0);
+                same!(rt; line.failed(), 0);
                 return;
             }
-            Err(fault) => same!(&rt; fault, LineFault::Bind),
+            Err(fault) => same!(rt; fault, LineFault::Bind),
         }
     }
 }

@@ -7,6 +7,7 @@ use super::upgrades::LEAST;
 
 #[test]
 fn bytes_that_are_no_demo_are_refused(rt: HostRuntime) {
+    let rt = &rt;
     let mut version = TWO;
     version[0] = 0x6E;
     let mut nobody = TWO;
@@ -28,30 +29,31 @@ fn bytes_that_are_no_demo_are_refused(rt: HostRuntime) {
     for (bytes, text) in rows {
         let (mut input, mut again) = (bytes, bytes);
         prints(
-            &rt,
+            rt,
             demo(rt.alloc(), &mut input),
             1,
             text.as_bytes(),
             bytes.len(),
         );
         let upgraded = upgrade(rt.alloc(), LEAST, &mut again);
-        prints(&rt, upgraded, 1, text.as_bytes(), bytes.len());
+        prints(rt, upgraded, 1, text.as_bytes(), bytes.len());
     }
 }
 
 #[test]
 fn too_long_comes_before_every_other_refusal(rt: HostRuntime) {
+    let rt = &rt;
     for (size, text, left) in [
         (33_554_432, "demo: version\n", 0),
         (33_554_433, "demo: too long\n", 0),
         (33_554_500, "demo: too long\n", 67),
     ] {
         let mut input = Zeros { rest: size };
-        prints(&rt, demo(rt.alloc(), &mut input), 1, text.as_bytes(), size);
-        same!(&rt; input.rest, left);
+        prints(rt, demo(rt.alloc(), &mut input), 1, text.as_bytes(), size);
+        same!(rt; input.rest, left);
         let mut again = Zeros { rest: size };
         let upgraded = upgrade(rt.alloc(), LEAST, &mut again);
-        prints(&rt, upgraded, 1, text.as_bytes(), size);
-        same!(&rt; again.rest, left);
+        prints(rt, upgraded, 1, text.as_bytes(), size);
+        same!(rt; again.rest, left);
     }
 }

@@ -37,7 +37,8 @@ pub(crate) fn lines(alloc: Global, version: &str, size: &str) -> Result<String, 
 }
 
 #[test]
-fn demos_are_shown(rt: HostRuntime) -> Result<(), Fail> {
+fn demos_are_shown(rt: HostRuntime) {
+    let rt = &rt;
     let mut followed = [7; 33];
     followed[..30].copy_from_slice(&TWO);
     let mut cut = [0x80; 34];
@@ -62,10 +63,9 @@ fn demos_are_shown(rt: HostRuntime) -> Result<(), Fail> {
     ];
     for (bytes, version, size) in rows {
         let mut input = bytes;
-        let text = lines(rt.alloc(), version, size)?;
-        prints(&rt, demo(rt.alloc(), &mut input), 0, text.as_bytes(), ());
+        let text = must!(rt; lines(rt.alloc(), version, size));
+        prints(rt, demo(rt.alloc(), &mut input), 0, text.as_bytes(), ());
     }
-    Ok(())
 }
 
 #[test]

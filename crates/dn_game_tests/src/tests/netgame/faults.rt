@@ -17,7 +17,6 @@ use dn_netgame::{
 use std::alloc::Global;
 use std::io::{Read, Write};
 use std::process::Abort;
-use std::test::Fail;
 
 /// A subcommand that opens no socket.
 #[derive(Clone, Copy, Debug, PartialEq, Eq)]
@@ -95,7 +94,8 @@ fn whole(alloc: Global, game: GameConfig, run: Run) -> Result<Vec<u8>, RunFault>
 }
 
 #[test]
-fn a_failing_reader_ends_a_run_before_it_writes(rt: HostRuntime) -> Result<(), Fail> {
+fn a_failing_reader_ends_a_run_before_it_writes(rt: HostRuntime) {
+    let rt = &rt;
     for (run, size) in READERS {
         // A byte a call: a call for each byte, and one that finds the end.
         let calls = u64::from(size) + 1;
@@ -103,21 +103,20 @@ fn a_failing_reader_ends_a_run_before_it_writes(rt: HostRuntime) -> Result<(), F
             let mut output = Sink::new(rt.alloc(), WHOLE, NEVER);
             let status = ended(
                 rt.alloc(),
-                rules(DEFAULT_LIMIT)?,
+                must!(rt; rules(DEFAULT_LIMIT)),
                 run,
                 1,
                 fails_at,
                 &mut output,
             );
-            same!(&rt; status, Err(RunFault::Read), (run, fails_at));
-            holds!(&rt; output.taken.is_empty(), (run, fails_at));
+            same!(rt; status, Err(RunFault::Read), (run, fails_at));
+            holds!(rt; output.taken.is_empty(), (run, fails_at));
         }
-        let text = whole(rt.alloc(), rules(DEFAULT_LIMIT)?, run)?;
+        let text = must!(rt; whole(rt.alloc(), must!(rt; rules(DEFAULT_LIMIT)), run));
         let mut output = Sink::new(rt.alloc(), WHOLE, NEVER);
-        same!(&rt; ended(rt.alloc(), rules(DEFAULT_LIMIT)?, run, 1, calls + 1, &mut output), Ok(0), run);
-        same!(&rt; output.taken.as_slice(), text.as_slice(), run);
+        same!(rt; ended(rt.alloc(), must!(rt; rules(DEFAULT_LIMIT)), run, 1, calls + 1, &mut output), Ok(0), run);
+        same!(rt; output.taken.as_slice(), text.as_slice(), run);
     }
-    Ok(())
 }
 
 /// Runs with a writer that takes these bytes and no more.
@@ -138,37 +137,59 @@ fn breaks_off(
 
 /// A write that fails ends a run, and so does one that takes no byte.
 #[test]
-fn a_failing_writer_has_a_front(rt: HostRuntime) -> Result<(), Fail> {
+fn a_failing_writer_has_a_front(rt: HostRuntime) {
+    let rt = &rt;
     for run in RUNS {
-        let text = whole(rt.alloc(), rules(DEFAULT_LIMIT)?, run)?;
+        let text = must!(rt; whole(rt.alloc(), must!(rt; rules(DEFAULT_LIMIT)), run));
         // A byte a call.
         for at in 1..=text.len() {
             let front = &text.as_slice()[..at - 1];
             let failing = Sink::new(rt.alloc(), 1, at as u64);
-            breaks_off(&rt, rt.alloc(), rules(DEFAULT_LIMIT)?, run, failing, front);
+            breaks_off(
+                rt,
+                rt.alloc(),
+                must!(rt; rules(DEFAULT_LIMIT)),
+                run,
+                failing,
+                front,
+            );
             let mut idle = Sink::new(rt.alloc(), 1, NEVER);
             idle.idle_at = at as u64;
-            breaks_off(&rt, rt.alloc(), rules(DEFAULT_LIMIT)?, run, idle, front);
+            breaks_off(
+                rt,
+                rt.alloc(),
+                must!(rt; rules(DEFAULT_LIMIT)),
+                run,
+                idle,
+                front,
+            );
         }
         let full = Sink::new(rt.alloc(), 0, NEVER);
-        breaks_off(&rt, rt.alloc(), rules(DEFAULT_LIMIT)?, run, full, &[]);
+        breaks_off(
+            rt,
+            rt.alloc(),
+            must!(rt; rules(DEFAULT_LIMIT)),
+            run,
+            full,
+            &[],
+        );
         let mut slow = Sink::new(rt.alloc(), 1, NEVER);
-        same!(&rt; ended(rt.alloc(), rules(DEFAULT_LIMIT)?, run, WHOLE, NEVER, &mut slow), Ok(0), run);
-        same!(&rt; slow.taken.as_slice(), text.as_slice(), run);
+        same!(rt; ended(rt.alloc(), must!(rt; rules(DEFAULT_LIMIT)), run, WHOLE, NEVER, &mut slow), Ok(0), run);
+        same!(rt; slow.taken.as_slice(), text.as_slice(), run);
     }
-    Ok(())
 }
 
 /// Each request for memory may be refused: then the answer says so, and nothing is written, but for the rows
 /// of a demo. A storm that is told goes on without a packet's room, and tells that.
 #[test]
-fn refused_memory_is_told(rt: HostRuntime) -> Result<(), Fail> {
-    let game = rules(DEFAULT_LIMIT)?;
+fn refused_memory_is_told(rt: HostRuntime) {
+    let rt = &rt;
+    let game = must!(rt; rules(DEFAULT_LIMIT));
     for run in RUNS {
         // The request that is refused may be one of these.
         let text = match whole(rt.alloc(), game, run) {
             Ok(text) => text,
-            Err(_) => whole(rt.alloc(), game, run)?,
+            Err(_) => must!(rt; whole(rt.alloc(), game, run)),
         };
         let mut room = [0; 512];
         let mut rest = room.as_mut_slice();
@@ -177,26 +198,25 @@ fn refused_memory_is_told(rt: HostRuntime) -> Result<(), Fail> {
         let written = &room[..512_usize.saturating_sub(left)];
         match status {
             Ok(status) => {
-                same!(&rt; status, 0, run);
-                holds!(&rt; written == text.as_slice() || run == Run::StormTraced, run);
+                same!(rt; status, 0, run);
+                holds!(rt; written == text.as_slice() || run == Run::StormTraced, run);
             }
             Err(fault) => {
-                same!(&rt; fault, RunFault::Memory, run);
-                holds!(&rt; written.is_empty() || written == ROWS.as_bytes(), run);
+                same!(rt; fault, RunFault::Memory, run);
+                holds!(rt; written.is_empty() || written == ROWS.as_bytes(), run);
             }
         }
     }
-    Ok(())
 }
 
 #[test]
-fn faults_have_their_lines(rt: HostRuntime) -> Result<(), Fail> {
+fn faults_have_their_lines(rt: HostRuntime) {
+    let rt = &rt;
     for (fault, line) in [
         (RunFault::Read, "read fault"),
         (RunFault::Write, "write fault"),
         (RunFault::Memory, "out of memory"),
     ] {
-        same!(&rt; fault.to_string(rt.alloc())?.as_str(), line);
+        same!(rt; must!(rt; fault.to_string(rt.alloc())).as_str(), line);
     }
-    Ok(())
 }

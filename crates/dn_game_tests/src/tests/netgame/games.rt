@@ -10,7 +10,6 @@ use dn_packet::{Packet, encode};
 use dn_setup::{Settings, SettingsFault};
 use dn_tic::{Keys, TicCmd};
 use dn_world::Walk;
-use std::test::Fail;
 
 /// How many bytes a demo may have where nothing is said.
 pub(crate) const DEFAULT_LIMIT: u32 = 131_072;
@@ -48,7 +47,8 @@ fn forward_by_fifty(tic: u8) -> ArrayVec<u8, 104> {
 
 /// No command of player 0 carries its mark, so that its thirteenth is found out.
 #[test]
-fn inconsistent_nodes_are_shown(rt: HostRuntime) -> Result<(), Fail> {
+fn inconsistent_nodes_are_shown(rt: HostRuntime) {
+    let rt = &rt;
     let config = Config {
         players: 2,
         me: 1,
@@ -56,7 +56,7 @@ fn inconsistent_nodes_are_shown(rt: HostRuntime) -> Result<(), Fail> {
         limit: DEFAULT_LIMIT,
         settings: None,
     };
-    let mut node = Node::new(rt.alloc(), config, Walk::new())?;
+    let mut node = must!(rt; Node::new(rt.alloc(), config, Walk::new()));
     let started = [0x69, 0x86, 0x92, 0x21, 0x02, 0x41, 0x6F, 0x00];
     node.receive(0, &started);
     for tic in 0..14 {
@@ -65,9 +65,8 @@ fn inconsistent_nodes_are_shown(rt: HostRuntime) -> Result<(), Fail> {
         node.run();
     }
     let mut text = String::new(rt.alloc());
-    push_node(&mut text, &node, false)?;
-    push_node(&mut text, &node, true)?;
-    same!(&rt; text.as_str(), "node 1 ended inconsistent 0 made 14 ran 13 got 14 14 demo 144\n\
+    must!(rt; push_node(&mut text, &node, false));
+    must!(rt; push_node(&mut text, &node, true));
+    same!(rt; text.as_str(), "node 1 ended inconsistent 0 made 14 ran 13 got 14 14 demo 144\n\
          node 1 ended inconsistent 0 made 14 ran 13 got 14 14 demo 144 stopped\n");
-    Ok(())
 }

@@ -3,7 +3,6 @@
 use super::games::DEFAULT_LIMIT;
 use super::printed::{prints, sim};
 use super::scripts::{STARTED, joined};
-use std::test::Fail;
 
 /// What is played once player 1 has made two commands and both players have run a tic, and what is
 /// shown then. Each time player 1 quits first.
@@ -46,11 +45,11 @@ const ROWS: [(&str, &str); 5] = [
 ];
 
 #[test]
-fn a_game_is_shown_once_a_player_has_left(rt: HostRuntime) -> Result<(), Fail> {
+fn a_game_is_shown_once_a_player_has_left(rt: HostRuntime) {
+    let rt = &rt;
     for (more, text) in ROWS {
-        let script = joined(rt.alloc(), STARTED, more)?;
-        let printed = sim(rt.alloc(), DEFAULT_LIMIT, 2, &mut script.as_bytes())?;
-        prints(&rt, printed, 0, text.as_bytes(), more);
+        let script = must!(rt; joined(rt.alloc(), STARTED, more));
+        let printed = must!(rt; sim(rt.alloc(), DEFAULT_LIMIT, 2, &mut script.as_bytes()));
+        prints(rt, printed, 0, text.as_bytes(), more);
     }
-    Ok(())
 }

@@ -14,7 +14,6 @@ use std::alloc::Global;
 use std::io::Write;
 use std::net::Net;
 use std::process::Abort;
-use std::test::Fail;
 
 /// What player 0 of two prints who finds nobody.
 const ALONE: &str = "node 0 ended quit made 0 ran 0 got 0 0 demo 0\n";
@@ -52,83 +51,83 @@ fn base<R: Net>(rt: &R, alloc: Global, area: u16) -> Result<u16, LineFault>
 
 /// A player who finds nobody quits before the game starts.
 #[test]
-fn a_player_alone_is_shown(rt: HostRuntime) -> Result<(), Fail> {
-    let base = base(&rt, rt.alloc(), 40_000)?;
+fn a_player_alone_is_shown(rt: HostRuntime) {
+    let rt = &rt;
+    let base = must!(rt; base(rt, rt.alloc(), 40_000));
     for (raw, text) in [(false, ALONE), (true, "")] {
         let mut output = Vec::new(rt.alloc());
-        let status = play_alone(&rt, rt.alloc(), base, raw, &mut output)?;
-        same!(&rt; status, Ok(0));
-        same!(&rt; output.as_slice(), text.as_bytes());
+        let status = must!(rt; play_alone(rt, rt.alloc(), base, raw, &mut output));
+        same!(rt; status, Ok(0));
+        same!(rt; output.as_slice(), text.as_bytes());
     }
-    Ok(())
 }
 
 /// Where a port is held, neither plays.
 #[test]
-fn held_ports_are_told(rt: HostRuntime) -> Result<(), Fail> {
-    let base = base(&rt, rt.alloc(), 42_000)?;
-    let held = UdpLine::bind(&rt, rt.alloc(), base, 0, 0, 2)?;
+fn held_ports_are_told(rt: HostRuntime) {
+    let rt = &rt;
+    let base = must!(rt; base(rt, rt.alloc(), 42_000));
+    let held = must!(rt; UdpLine::bind(rt, rt.alloc(), base, 0, 0, 2));
     let mut output = Vec::new(rt.alloc());
-    let status = play_alone(&rt, rt.alloc(), base, true, &mut output)?;
-    same!(&rt; status, Ok(3));
-    let game = rules(DEFAULT_LIMIT)?;
-    let status = run_loop(&rt, rt.alloc(), game, 2, base, 1, 10, &mut output);
-    same!(&rt; status, Ok(3));
-    same!(&rt; output.as_slice(), b"socket fault\nsocket fault\n".as_slice());
+    let status = must!(rt; play_alone(rt, rt.alloc(), base, true, &mut output));
+    same!(rt; status, Ok(3));
+    let game = must!(rt; rules(DEFAULT_LIMIT));
+    let status = run_loop(rt, rt.alloc(), game, 2, base, 1, 10, &mut output);
+    same!(rt; status, Ok(3));
+    same!(rt; output.as_slice(), b"socket fault\nsocket fault\n".as_slice());
     drop(held);
-    Ok(())
 }
 
 /// Two nodes of one program meet, and play.
 #[test]
-fn a_loop_is_shown(rt: HostRuntime) -> Result<(), Fail> {
-    let base = base(&rt, rt.alloc(), 44_000)?;
+fn a_loop_is_shown(rt: HostRuntime) {
+    let rt = &rt;
+    let base = must!(rt; base(rt, rt.alloc(), 44_000));
     let mut output = Vec::new(rt.alloc());
-    let game = rules(DEFAULT_LIMIT)?;
-    let status = run_loop(&rt, rt.alloc(), game, 2, base, 1, 100, &mut output);
-    same!(&rt; status, Ok(0));
-    holds!(&rt; output.as_slice().starts_with(b"node 0 playing "));
-    Ok(())
+    let game = must!(rt; rules(DEFAULT_LIMIT));
+    let status = run_loop(rt, rt.alloc(), game, 2, base, 1, 100, &mut output);
+    same!(rt; status, Ok(0));
+    holds!(rt; output.as_slice().starts_with(b"node 0 playing "));
 }
 
 #[test]
-fn a_failing_writer_has_a_front_of_the_line(rt: HostRuntime) -> Result<(), Fail> {
-    let base = base(&rt, rt.alloc(), 46_000)?;
+fn a_failing_writer_has_a_front_of_the_line(rt: HostRuntime) {
+    let rt = &rt;
+    let base = must!(rt; base(rt, rt.alloc(), 46_000));
     let text = ALONE.as_bytes();
     for fails_at in 1..=text.len() + 1 {
         // A byte a call.
         let mut output = Sink::new(rt.alloc(), 1, fails_at as u64);
-        let status = play_alone(&rt, rt.alloc(), base, false, &mut output)?;
+        let status = must!(rt; play_alone(rt, rt.alloc(), base, false, &mut output));
         if fails_at <= text.len() {
-            same!(&rt; status, Err(RunFault::Write));
-            same!(&rt; output.taken.as_slice(), &text[..fails_at - 1]);
+            same!(rt; status, Err(RunFault::Write));
+            same!(rt; output.taken.as_slice(), &text[..fails_at - 1]);
         } else {
-            same!(&rt; status, Ok(0));
-            same!(&rt; output.taken.as_slice(), text);
+            same!(rt; status, Ok(0));
+            same!(rt; output.taken.as_slice(), text);
         }
     }
-    Ok(())
 }
 
 /// Each request for memory may be refused: then the answer says so and nothing is written, or no socket is
 /// bound.
 #[test]
-fn refused_memory_is_told(rt: HostRuntime) -> Result<(), Fail> {
-    let Ok(base) = base(&rt, rt.alloc(), 48_000) else {
-        return Ok(());
+fn refused_memory_is_told(rt: HostRuntime) {
+    let rt = &rt;
+    let Ok(base) = base(rt, rt.alloc(), 48_000) else {
+        return;
     };
     let mut room = [0; 512];
     let mut rest = room.as_mut_slice();
-    let played = play_alone(&rt, rt.alloc(), base, false, &mut rest)?;
+    let played = must!(rt; play_alone(rt, rt.alloc(), base, false, &mut rest));
     match played {
-        Ok(status) => holds!(&rt; status == 0 || status == 3),
-        Err(fault) => same!(&rt; fault, RunFault::Memory),
+        Ok(status) => holds!(rt; status == 0 || status == 3),
+        Err(fault) => same!(rt; fault, RunFault::Memory),
     }
-    let game = rules(DEFAULT_LIMIT)?;
-    let looped = run_loop(&rt, rt.alloc(), game, 2, base, 1, 10, &mut rest);
+    let game = must!(rt; rules(DEFAULT_LIMIT));
+    let looped = run_loop(rt, rt.alloc(), game, 2, base, 1, 10, &mut rest);
     match looped {
-        Ok(status) => holds!(&rt; status == 0 || status == 3),
-        Err(fault) => same!(&rt; fault, RunFault::Memory),
+        Ok(status) => holds!(rt; status == 0 || status == 3),
+        Err(fault) => same!(rt; fault, RunFault::Memory),
     }
-    Ok(())
 }

@@ -22,7 +22,8 @@ fn listed(alloc: Global, version: &str, size: &str) -> Result<String, Fail> {
 }
 
 #[test]
-fn rows_of_demos_are_listed(rt: HostRuntime) -> Result<(), Fail> {
+fn rows_of_demos_are_listed(rt: HostRuntime) {
+    let rt = &rt;
     let mut cut = [0x80; 34];
     cut[..29].copy_from_slice(&TWO[..29]);
     cut[29..33].copy_from_slice(&[0x32, 0, 0, 0]);
@@ -35,19 +36,19 @@ fn rows_of_demos_are_listed(rt: HostRuntime) -> Result<(), Fail> {
         (followed.as_slice(), "version 111", "tics 2 cut 0 after 3\n"),
     ] {
         let mut input = bytes;
-        let text = listed(rt.alloc(), version, size)?;
-        prints(&rt, rows(rt.alloc(), &mut input), 0, text.as_bytes(), ());
+        let text = must!(rt; listed(rt.alloc(), version, size));
+        prints(rt, rows(rt.alloc(), &mut input), 0, text.as_bytes(), ());
     }
-    Ok(())
 }
 
 /// The rows that came are listed, and then the refusal.
 #[test]
-fn bytes_that_are_no_demo_are_refused(rt: HostRuntime) -> Result<(), Fail> {
+fn bytes_that_are_no_demo_are_refused(rt: HostRuntime) {
+    let rt = &rt;
     let mut version = TWO;
     version[0] = 0x6E;
-    let mut unmarked = String::from_str(rt.alloc(), ROWS)?;
-    unmarked.push_str("demo: no marker\n")?;
+    let mut unmarked = must!(rt; String::from_str(rt.alloc(), ROWS));
+    must!(rt; unmarked.push_str("demo: no marker\n"));
     for (bytes, text) in [
         (&TWO[..12], "demo: short\n"),
         (version.as_slice(), "demo: version\n"),
@@ -55,9 +56,8 @@ fn bytes_that_are_no_demo_are_refused(rt: HostRuntime) -> Result<(), Fail> {
         (&TWO[..29], unmarked.as_str()),
     ] {
         let mut input = bytes;
-        prints(&rt, rows(rt.alloc(), &mut input), 1, text.as_bytes(), ());
+        prints(rt, rows(rt.alloc(), &mut input), 1, text.as_bytes(), ());
     }
-    Ok(())
 }
 
 #[test]
@@ -83,6 +83,7 @@ fn an_absent_player_has_no_line(rt: HostRuntime) {
 /// Two pieces: the first call gives 4,096 bytes, with 1,020 tics of one player.
 #[test]
 fn a_failing_reader_leaves_the_rows_of_the_first_piece(rt: HostRuntime) {
+    let rt = &rt;
     let mut bytes = [0; 8192];
     bytes[0] = 109;
     bytes[9] = 1;
@@ -90,7 +91,7 @@ fn a_failing_reader_leaves_the_rows_of_the_first_piece(rt: HostRuntime) {
     let last = b"tic 1019 player 0 forward 0 side 0 turn 0 buttons 0\n".as_slice();
     let mut output = Sink::new(rt.alloc(), WHOLE, NEVER);
     let status = run_rows(rt.alloc(), &mut Source::new(&bytes, WHOLE, 2), &mut output);
-    same!(&rt; status, Err(RunFault::Read));
-    holds!(&rt; output.taken.as_slice().starts_with(first));
-    holds!(&rt; output.taken.as_slice().ends_with(last));
+    same!(rt; status, Err(RunFault::Read));
+    holds!(rt; output.taken.as_slice().starts_with(first));
+    holds!(rt; output.taken.as_slice().ends_with(last));
 }

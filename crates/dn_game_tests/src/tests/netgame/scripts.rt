@@ -29,7 +29,8 @@ pub(crate) fn joined(alloc: Global, one: &str, other: &str) -> Result<String, Fa
 }
 
 #[test]
-fn a_started_game_is_shown(rt: HostRuntime) -> Result<(), Fail> {
+fn a_started_game_is_shown(rt: HostRuntime) {
+    let rt = &rt;
     let rows = [
         ("", STARTED_SHOWN),
         // The packet is delivered once more, and has no new command.
@@ -54,15 +55,15 @@ fn a_started_game_is_shown(rt: HostRuntime) -> Result<(), Fail> {
         ),
     ];
     for (more, text) in rows {
-        let script = joined(rt.alloc(), STARTED, more)?;
-        let printed = sim(rt.alloc(), DEFAULT_LIMIT, 2, &mut script.as_bytes())?;
-        prints(&rt, printed, 0, text.as_bytes(), more);
+        let script = must!(rt; joined(rt.alloc(), STARTED, more));
+        let printed = must!(rt; sim(rt.alloc(), DEFAULT_LIMIT, 2, &mut script.as_bytes()));
+        prints(rt, printed, 0, text.as_bytes(), more);
     }
-    Ok(())
 }
 
 #[test]
-fn scripts_before_the_start_are_shown(rt: HostRuntime) -> Result<(), Fail> {
+fn scripts_before_the_start_are_shown(rt: HostRuntime) {
+    let rt = &rt;
     let rows = [
         (
             2,
@@ -92,10 +93,9 @@ fn scripts_before_the_start_are_shown(rt: HostRuntime) -> Result<(), Fail> {
     ];
     for (players, script, text) in rows {
         let mut input = script;
-        let printed = sim(rt.alloc(), DEFAULT_LIMIT, players, &mut input)?;
-        prints(&rt, printed, 0, text.as_bytes(), players);
+        let printed = must!(rt; sim(rt.alloc(), DEFAULT_LIMIT, players, &mut input));
+        prints(rt, printed, 0, text.as_bytes(), players);
     }
-    Ok(())
 }
 
 /// Two players build and run `tics` tics, each with the commands of both.
@@ -112,7 +112,8 @@ fn script_of(alloc: Global, tics: u8) -> Result<String, Fail> {
 
 /// A demo of 1,034 bytes has room for 102 tics of two players, one of 1,033 for 101, and no more.
 #[test]
-fn full_demos_are_shown(rt: HostRuntime) -> Result<(), Fail> {
+fn full_demos_are_shown(rt: HostRuntime) {
+    let rt = &rt;
     let rows = [
         (
             1034,
@@ -130,9 +131,8 @@ fn full_demos_are_shown(rt: HostRuntime) -> Result<(), Fail> {
         ),
     ];
     for (limit, tics, text) in rows {
-        let script = script_of(rt.alloc(), tics)?;
-        let printed = sim(rt.alloc(), limit, 2, &mut script.as_bytes())?;
-        prints(&rt, printed, 0, text.as_bytes(), limit);
+        let script = must!(rt; script_of(rt.alloc(), tics));
+        let printed = must!(rt; sim(rt.alloc(), limit, 2, &mut script.as_bytes()));
+        prints(rt, printed, 0, text.as_bytes(), limit);
     }
-    Ok(())
 }

@@ -1,7 +1,6 @@
 //! Datagrams shown.
 
 use dn_netgame::run_show;
-use std::test::Fail;
 
 /// One command of player 0: forward 50 and attack.
 pub(crate) const ONE: [u8; 16] = [
@@ -20,6 +19,7 @@ fn twelve() -> [u8; 104] {
 
 #[test]
 fn datagrams_are_shown(rt: HostRuntime) {
+    let rt = &rt;
     let mut sum = ONE;
     sum[15] = 2;
     let mut many = ONE;
@@ -59,22 +59,23 @@ fn datagrams_are_shown(rt: HostRuntime) {
         let mut input = bytes;
         let mut output = Vec::new(rt.alloc());
         let shown = run_show(rt.alloc(), &mut input, &mut output);
-        same!(&rt; shown, Ok(status), text);
-        same!(&rt; output.as_slice(), text.as_bytes());
+        same!(rt; shown, Ok(status), text);
+        same!(rt; output.as_slice(), text.as_bytes());
     }
 }
 
 #[test]
-fn twelve_commands_are_shown(rt: HostRuntime) -> Result<(), Fail> {
-    let mut text = String::from_str(rt.alloc(), "flags 0 ask 0 start 0 player 0 count 12\n")?;
+fn twelve_commands_are_shown(rt: HostRuntime) {
+    let rt = &rt;
+    let mut text =
+        must!(rt; String::from_str(rt.alloc(), "flags 0 ask 0 start 0 player 0 count 12\n"));
     for index in 0..12 {
         let numbers = "forward -1 side -1 turn -1 mark -1 chat 255 buttons 255";
-        writeln!(&mut text, "cmd {index} {numbers}")?;
+        must!(rt; writeln!(&mut text, "cmd {index} {numbers}"));
     }
     let bytes = twelve();
     let mut input = bytes.as_slice();
     let mut output = Vec::new(rt.alloc());
-    same!(&rt; run_show(rt.alloc(), &mut input, &mut output), Ok(0));
-    same!(&rt; output.as_slice(), text.as_bytes());
-    Ok(())
+    same!(rt; run_show(rt.alloc(), &mut input, &mut output), Ok(0));
+    same!(rt; output.as_slice(), text.as_bytes());
 }

@@ -2,7 +2,6 @@
 
 use super::games::{DEFAULT_LIMIT, rules};
 use super::printed::{prints, storm};
-use std::test::Fail;
 
 /// What a storm of one event prints.
 const ONE_SHOWN: &str = "node 0 gathering made 0 ran 0 got 0 0 demo 0\n\
@@ -10,7 +9,8 @@ const ONE_SHOWN: &str = "node 0 gathering made 0 ran 0 got 0 0 demo 0\n\
     events 1 refused 0 flights 0\n";
 
 #[test]
-fn storms_are_shown(rt: HostRuntime) -> Result<(), Fail> {
+fn storms_are_shown(rt: HostRuntime) {
+    let rt = &rt;
     let rows = [
         (2, 1, 1, ONE_SHOWN),
         (
@@ -41,22 +41,27 @@ fn storms_are_shown(rt: HostRuntime) -> Result<(), Fail> {
         ),
     ];
     for (players, seed, count, text) in rows {
-        let printed = storm(rt.alloc(), rules(DEFAULT_LIMIT)?, players, seed, count);
-        prints(&rt, printed, 0, text.as_bytes(), (players, seed, count));
+        let printed = storm(
+            rt.alloc(),
+            must!(rt; rules(DEFAULT_LIMIT)),
+            players,
+            seed,
+            count,
+        );
+        prints(rt, printed, 0, text.as_bytes(), (players, seed, count));
     }
-    Ok(())
 }
 
 /// Each packet repeats a command, and the demos fill up.
 #[test]
-fn storms_with_repeats_are_shown(rt: HostRuntime) -> Result<(), Fail> {
-    let mut config = rules(1034)?;
+fn storms_with_repeats_are_shown(rt: HostRuntime) {
+    let rt = &rt;
+    let mut config = must!(rt; rules(1034));
     config.extra = true;
     let printed = storm(rt.alloc(), config, 3, 4_294_967_295, 20_000);
     let text = "node 0 ended full made 73 ran 68 got 73 72 71 demo 1034\n\
         node 1 ended full made 73 ran 68 got 72 73 72 demo 1034\n\
         node 2 ended full made 73 ran 68 got 72 73 73 demo 1034\n\
         events 20000 refused 0 flights 5065\n";
-    prints(&rt, printed, 0, text.as_bytes(), ());
-    Ok(())
+    prints(rt, printed, 0, text.as_bytes(), ());
 }

@@ -76,7 +76,8 @@ fn words(alloc: Global, answer: Result<Done, Refusal>) -> Result<String, Fail> {
 }
 
 #[test]
-fn answers_are_told_in_words(rt: HostRuntime) -> Result<(), Fail> {
+fn answers_are_told_in_words(rt: HostRuntime) {
+    let rt = &rt;
     let inconsistent = Ran::Inconsistent {
         player: 1,
         was: -5,
@@ -115,16 +116,16 @@ fn answers_are_told_in_words(rt: HostRuntime) -> Result<(), Fail> {
         (Err(Refusal::Memory), "refused 5 no memory"),
     ];
     for (answer, text) in rows {
-        same!(&rt; words(rt.alloc(), answer)?.as_str(), text);
+        same!(rt; must!(rt; words(rt.alloc(), answer)).as_str(), text);
     }
-    Ok(())
 }
 
 #[test]
-fn scripts_are_told_event_by_event(rt: HostRuntime) -> Result<(), Fail> {
-    let more = joined(rt.alloc(), STARTED, MORE)?;
-    let more_told = joined(rt.alloc(), STARTED_TOLD, MORE_TOLD)?;
-    let quit_told = joined(rt.alloc(), QUIT_TOLD, QUIT_SHOWN)?;
+fn scripts_are_told_event_by_event(rt: HostRuntime) {
+    let rt = &rt;
+    let more = must!(rt; joined(rt.alloc(), STARTED, MORE));
+    let more_told = must!(rt; joined(rt.alloc(), STARTED_TOLD, MORE_TOLD));
+    let quit_told = must!(rt; joined(rt.alloc(), QUIT_TOLD, QUIT_SHOWN));
     let rows = [
         (more.as_bytes(), 0, more_told.as_str()),
         (QUIT, 0, quit_told.as_str()),
@@ -135,24 +136,24 @@ fn scripts_are_told_event_by_event(rt: HostRuntime) -> Result<(), Fail> {
         let mut output = Vec::new(rt.alloc());
         let answer = trace_sim(
             rt.alloc(),
-            rules(DEFAULT_LIMIT)?,
+            must!(rt; rules(DEFAULT_LIMIT)),
             2,
             &mut input,
             &mut output,
         );
-        same!(&rt; answer, Ok(status));
-        same!(&rt; output.as_slice(), text.as_bytes());
+        same!(rt; answer, Ok(status));
+        same!(rt; output.as_slice(), text.as_bytes());
     }
-    Ok(())
 }
 
 #[test]
-fn packets_that_are_dropped_are_told(rt: HostRuntime) -> Result<(), Fail> {
+fn packets_that_are_dropped_are_told(rt: HostRuntime) {
+    let rt = &rt;
     let mut input = b"send 0 1\ndeliver 0\ndeliver 0\nsend 1 2\ndeliver 1\n".as_slice();
     let mut output = Vec::new(rt.alloc());
     let status = trace_sim(
         rt.alloc(),
-        rules(DEFAULT_LIMIT)?,
+        must!(rt; rules(DEFAULT_LIMIT)),
         3,
         &mut input,
         &mut output,
@@ -162,48 +163,65 @@ fn packets_that_are_dropped_are_told(rt: HostRuntime) -> Result<(), Fail> {
         event 2 deliver 0: dropped 6 set-up\n\
         event 3 send 1 2: sent 1\n\
         event 4 deliver 1: dropped 13 not playing\n";
-    same!(&rt; status, Ok(0));
-    holds!(&rt; output.as_slice().starts_with(text));
-    Ok(())
+    same!(rt; status, Ok(0));
+    holds!(rt; output.as_slice().starts_with(text));
 }
 
 #[test]
-fn storms_are_told_event_by_event(rt: HostRuntime) -> Result<(), Fail> {
+fn storms_are_told_event_by_event(rt: HostRuntime) {
+    let rt = &rt;
     for rounds in [0, 4] {
-        let plain = calm(rt.alloc(), rules(DEFAULT_LIMIT)?, 2, (42, 6, rounds));
+        let plain = calm(
+            rt.alloc(),
+            must!(rt; rules(DEFAULT_LIMIT)),
+            2,
+            (42, 6, rounds),
+        );
         let mut text = Vec::new(rt.alloc());
-        text.extend_from_slice(DRAWN_TOLD.as_bytes())?;
-        text.extend_from_slice(plain.bytes.as_slice())?;
+        must!(rt; text.extend_from_slice(DRAWN_TOLD.as_bytes()));
+        must!(rt; text.extend_from_slice(plain.bytes.as_slice()));
         let mut output = Vec::new(rt.alloc());
-        let game = rules(DEFAULT_LIMIT)?;
+        let game = must!(rt; rules(DEFAULT_LIMIT));
         let status = trace_storm(rt.alloc(), game, 2, 42, 6, rounds, &mut output);
-        same!(&rt; status, Ok(0), rounds);
-        same!(&rt; output.as_slice(), text.as_slice(), rounds);
+        same!(rt; status, Ok(0), rounds);
+        same!(rt; output.as_slice(), text.as_slice(), rounds);
     }
-    Ok(())
 }
 
 #[test]
-fn a_storm_is_written_as_its_script(rt: HostRuntime) -> Result<(), Fail> {
+fn a_storm_is_written_as_its_script(rt: HostRuntime) {
+    let rt = &rt;
     let mut output = Vec::new(rt.alloc());
-    let status = storm_script(rt.alloc(), rules(DEFAULT_LIMIT)?, 2, 42, 6, &mut output);
-    same!(&rt; status, Ok(0));
-    same!(&rt; output.as_slice(), DRAWN.as_bytes());
-    Ok(())
+    let status = storm_script(
+        rt.alloc(),
+        must!(rt; rules(DEFAULT_LIMIT)),
+        2,
+        42,
+        6,
+        &mut output,
+    );
+    same!(rt; status, Ok(0));
+    same!(rt; output.as_slice(), DRAWN.as_bytes());
 }
 
 /// The script of a storm, played, comes to the same end.
 #[test]
-fn a_storm_is_played_again_by_its_script(rt: HostRuntime) -> Result<(), Fail> {
+fn a_storm_is_played_again_by_its_script(rt: HostRuntime) {
+    let rt = &rt;
     for (players, seed, count) in [(2, 1, 1_000), (3, 7, 3_000), (4, 4_294_967_295, 5_000)] {
-        let storm = storm(rt.alloc(), rules(DEFAULT_LIMIT)?, players, seed, count);
-        same!(&rt; storm.status, Ok(0), seed);
+        let storm = storm(
+            rt.alloc(),
+            must!(rt; rules(DEFAULT_LIMIT)),
+            players,
+            seed,
+            count,
+        );
+        same!(rt; storm.status, Ok(0), seed);
         let mut script = Vec::new(rt.alloc());
-        let game = rules(DEFAULT_LIMIT)?;
+        let game = must!(rt; rules(DEFAULT_LIMIT));
         let written = storm_script(rt.alloc(), game, players, seed, count, &mut script);
-        same!(&rt; written, Ok(0));
-        let again = sim(rt.alloc(), DEFAULT_LIMIT, players, &mut script.as_slice())?;
-        prints(&rt, again, 0, storm.bytes.as_slice(), seed);
+        same!(rt; written, Ok(0));
+        let again = must!(rt; sim(rt.alloc(), DEFAULT_LIMIT, players, &mut script.as_slice()));
+        prints(rt, again, 0, storm.bytes.as_slice(), seed);
     }
-    Ok(())
 }

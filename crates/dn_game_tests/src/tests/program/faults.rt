@@ -3,10 +3,10 @@
 use super::ONE;
 use super::host::Host;
 use std::process::Abort;
-use std::test::Fail;
 
 #[test]
-fn read_faults_are_told(rt: HostRuntime) -> Result<(), Fail> {
+fn read_faults_are_told(rt: HostRuntime) {
+    let rt = &rt;
     for line in [
         "netgame show",
         "netgame demo",
@@ -14,18 +14,18 @@ fn read_faults_are_told(rt: HostRuntime) -> Result<(), Fail> {
         "netgame upgrade",
         "netgame sim",
     ] {
-        let mut host = Host::new(&rt, line.as_bytes(), &ONE);
+        let mut host = Host::new(rt, line.as_bytes(), &ONE);
         host.mute = true;
         let called = host.call();
-        same!(&rt; called.status, 3, line);
-        same!(&rt; called.printed.as_slice(), b"read fault\n".as_slice(), line);
+        same!(rt; called.status, 3, line);
+        same!(rt; called.printed.as_slice(), b"read fault\n".as_slice(), line);
     }
-    Ok(())
 }
 
 /// The first write fails, and the next, of the fault's line, does not.
 #[test]
-fn write_faults_are_told(rt: HostRuntime) -> Result<(), Fail> {
+fn write_faults_are_told(rt: HostRuntime) {
+    let rt = &rt;
     for line in [
         "netgame show",
         "netgame demo",
@@ -38,22 +38,22 @@ fn write_faults_are_told(rt: HostRuntime) -> Result<(), Fail> {
         "netgame play --me 2",
         "netgame --help",
     ] {
-        let mut host = Host::new(&rt, line.as_bytes(), &ONE);
+        let mut host = Host::new(rt, line.as_bytes(), &ONE);
         host.jams.set(1);
         host.sockets = 2;
         let called = host.call();
-        same!(&rt; called.status, 3, line);
-        same!(&rt; called.printed.as_slice(), b"write fault\n".as_slice(), line);
+        same!(rt; called.status, 3, line);
+        same!(rt; called.printed.as_slice(), b"write fault\n".as_slice(), line);
     }
-    Ok(())
 }
 
 /// Where no write succeeds, the status tells it.
 #[test]
 fn a_full_output_is_told_by_the_status(rt: HostRuntime) {
-    let host = Host::new(&rt, b"netgame show", &ONE);
+    let rt = &rt;
+    let host = Host::new(rt, b"netgame show", &ONE);
     host.jams.set(1_000_000);
     let called = host.call();
-    same!(&rt; called.status, 3);
-    holds!(&rt; called.printed.is_empty());
+    same!(rt; called.status, 3);
+    holds!(rt; called.printed.is_empty());
 }

@@ -3,20 +3,19 @@
 use super::host::Host;
 use std::net::Net;
 use std::process::Abort;
-use std::test::Fail;
 
 /// Compares the status and the first words on standard error, and that nothing was printed.
-fn complains(rt: &(impl Abort + AllocGlobal + Net), line: &[u8], text: &str) -> Result<(), Fail> {
+fn complains(rt: &(impl Abort + AllocGlobal + Net), line: &[u8], text: &str) {
     let called = Host::new(rt, line, b"").call();
     same!(rt; called.status, 2, text);
     holds!(rt; called.printed.is_empty(), text);
-    let complained = String::from_utf8(called.complained)?;
+    let complained = must!(rt; String::from_utf8(called.complained));
     holds!(rt; complained.as_str().starts_with(text), complained);
-    Ok(())
 }
 
 #[test]
-fn words_that_are_unknown_are_told(rt: HostRuntime) -> Result<(), Fail> {
+fn words_that_are_unknown_are_told(rt: HostRuntime) {
+    let rt = &rt;
     for (line, text) in [
         ("netgame shew", "error: unrecognized subcommand 'shew'"),
         (
@@ -105,13 +104,13 @@ fn words_that_are_unknown_are_told(rt: HostRuntime) -> Result<(), Fail> {
             "error: unexpected argument '--fast' found",
         ),
     ] {
-        complains(&rt, line.as_bytes(), text)?;
+        complains(rt, line.as_bytes(), text);
     }
-    Ok(())
 }
 
 #[test]
-fn values_that_are_none_are_told(rt: HostRuntime) -> Result<(), Fail> {
+fn values_that_are_none_are_told(rt: HostRuntime) {
+    let rt = &rt;
     for (line, text) in [
         (
             "netgame storm --players two",
@@ -142,21 +141,21 @@ fn values_that_are_none_are_told(rt: HostRuntime) -> Result<(), Fail> {
             "error: unexpected value '1' for '--extra' found; no more were expected",
         ),
     ] {
-        complains(&rt, line.as_bytes(), text)?;
+        complains(rt, line.as_bytes(), text);
     }
-    Ok(())
 }
 
 #[test]
-fn words_that_are_missing_or_no_text_are_told(rt: HostRuntime) -> Result<(), Fail> {
+fn words_that_are_missing_or_no_text_are_told(rt: HostRuntime) {
+    let rt = &rt;
     complains(
-        &rt,
+        rt,
         b"netgame",
         "error: 'netgame' requires a subcommand but one was not provided",
-    )?;
+    );
     complains(
-        &rt,
+        rt,
         b"netgame sh\xFFw",
         "error: invalid UTF-8 was detected in one or more arguments\n",
-    )
+    );
 }

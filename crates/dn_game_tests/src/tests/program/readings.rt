@@ -81,7 +81,8 @@ fn found(options: &Options) -> [bool; 5] {
 }
 
 #[test]
-fn each_value_and_flag_is_that_of_its_word(rt: HostRuntime) -> Result<(), Fail> {
+fn each_value_and_flag_is_that_of_its_word(rt: HostRuntime) {
+    let rt = &rt;
     let defaults = [2, 1, 1, 0, 131_072];
     let none = [false; 3];
     for (line, players, values, flags) in [
@@ -112,35 +113,35 @@ fn each_value_and_flag_is_that_of_its_word(rt: HostRuntime) -> Result<(), Fail> 
             [true; 3],
         ),
     ] {
-        match read(rt.alloc(), line)? {
-            Some(options) => same!(&rt; options.game, Some((players, values, flags)), line),
-            None => holds!(&rt; false, line),
+        match must!(rt; read(rt.alloc(), line)) {
+            Some(options) => same!(rt; options.game, Some((players, values, flags)), line),
+            None => holds!(rt; false, line),
         }
     }
-    Ok(())
 }
 
 #[test]
-fn seeds_and_counts_are_those_of_their_words(rt: HostRuntime) -> Result<(), Fail> {
+fn seeds_and_counts_are_those_of_their_words(rt: HostRuntime) {
+    let rt = &rt;
     let line = "netgame storm --seed 7 --count 8 --calm 9";
-    match read(rt.alloc(), line)? {
-        Some(options) => same!(&rt; options.storm, Some((7, 8, 9))),
-        None => holds!(&rt; false),
+    match must!(rt; read(rt.alloc(), line)) {
+        Some(options) => same!(rt; options.storm, Some((7, 8, 9))),
+        None => holds!(rt; false),
     }
     let line = "netgame play --seed 7 --rounds 8 --base 2000 --me 3 --raw";
-    match read(rt.alloc(), line)? {
+    match must!(rt; read(rt.alloc(), line)) {
         Some(options) => {
-            same!(&rt; options.rounds, Some((7, 8, 2000)));
-            same!(&rt; options.me, Some(3));
-            holds!(&rt; options.raw);
+            same!(rt; options.rounds, Some((7, 8, 2000)));
+            same!(rt; options.me, Some(3));
+            holds!(rt; options.raw);
         }
-        None => holds!(&rt; false),
+        None => holds!(rt; false),
     }
-    Ok(())
 }
 
 #[test]
-fn what_a_subcommand_has_no_options_for_is_not_found(rt: HostRuntime) -> Result<(), Fail> {
+fn what_a_subcommand_has_no_options_for_is_not_found(rt: HostRuntime) {
+    let rt = &rt;
     for (line, wanted) in [
         ("netgame show", [false; 5]),
         ("netgame upgrade", [true, false, false, false, false]),
@@ -149,10 +150,9 @@ fn what_a_subcommand_has_no_options_for_is_not_found(rt: HostRuntime) -> Result<
         ("netgame loop", [true, true, false, true, false]),
         ("netgame play", [true, true, false, true, true]),
     ] {
-        match read(rt.alloc(), line)? {
-            Some(options) => same!(&rt; found(&options), wanted, line),
-            None => holds!(&rt; false, line),
+        match must!(rt; read(rt.alloc(), line)) {
+            Some(options) => same!(rt; found(&options), wanted, line),
+            None => holds!(rt; false, line),
         }
     }
-    Ok(())
 }

@@ -2,7 +2,6 @@
 
 use super::host::Host;
 use std::process::Abort;
-use std::test::Fail;
 
 /// What a call of the program prints and answers, by its words and how many sockets there are for it.
 type Row = (&'static str, usize, u8, &'static str, &'static [u16]);
@@ -49,15 +48,15 @@ const ROWS: [Row; 9] = [
 ];
 
 #[test]
-fn rounds_are_played(rt: HostRuntime) -> Result<(), Fail> {
+fn rounds_are_played(rt: HostRuntime) {
+    let rt = &rt;
     for (line, sockets, status, text, asked) in ROWS {
-        let mut host = Host::new(&rt, line.as_bytes(), b"");
+        let mut host = Host::new(rt, line.as_bytes(), b"");
         host.sockets = sockets;
         let called = host.call();
-        same!(&rt; called.status, status, line);
-        same!(&rt; called.printed.as_slice(), text.as_bytes(), line);
-        holds!(&rt; called.complained.is_empty(), line);
-        same!(&rt; called.ports.as_slice(), asked, line);
+        same!(rt; called.status, status, line);
+        same!(rt; called.printed.as_slice(), text.as_bytes(), line);
+        holds!(rt; called.complained.is_empty(), line);
+        same!(rt; called.ports.as_slice(), asked, line);
     }
-    Ok(())
 }

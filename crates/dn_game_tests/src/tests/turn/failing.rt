@@ -8,7 +8,6 @@ use dn_node::Node;
 use dn_tic::Keys;
 use dn_turn::turn;
 use dn_world::Walk;
-use std::test::Fail;
 
 /// A line in memory that fails one of the calls made for one player, and passes nothing on in it.
 #[derive(Drop)]
@@ -81,12 +80,13 @@ fn forty_rounds(nodes: &mut [Node<Walk>; 2], line: &mut Failing) -> (u32, u32) {
 /// Each call of either player fails in turn, until none is left that could: one turn tells of it, and the
 /// nodes play on.
 #[test]
-fn each_call_may_fail(rt: HostRuntime) -> Result<(), Fail> {
+fn each_call_may_fail(rt: HostRuntime) {
+    let rt = &rt;
     for player in 0..2 {
         let mut ended = false;
         for fails_at in 1..400 {
-            let mut nodes = pair(rt.alloc())?;
-            let hub = MemoryHub::new(rt.alloc(), 2)?;
+            let mut nodes = must!(rt; pair(rt.alloc()));
+            let hub = must!(rt; MemoryHub::new(rt.alloc(), 2));
             let mut line = Failing {
                 hub,
                 player,
@@ -95,18 +95,17 @@ fn each_call_may_fail(rt: HostRuntime) -> Result<(), Fail> {
                 failed: 0,
             };
             let (once, often) = forty_rounds(&mut nodes, &mut line);
-            same!(&rt; often, 0, (player, fails_at));
-            holds!(&rt; nodes[0].ran() > 0, (player, fails_at));
-            holds!(&rt; nodes[1].ran() > 0, (player, fails_at));
-            one_game(&rt, &nodes);
-            same!(&rt; line.failed, u64::from(once > 0), (player, fails_at));
+            same!(rt; often, 0, (player, fails_at));
+            holds!(rt; nodes[0].ran() > 0, (player, fails_at));
+            holds!(rt; nodes[1].ran() > 0, (player, fails_at));
+            one_game(rt, &nodes);
+            same!(rt; line.failed, u64::from(once > 0), (player, fails_at));
             if once == 0 {
-                holds!(&rt; line.calls < fails_at, player);
+                holds!(rt; line.calls < fails_at, player);
                 ended = true;
                 break;
             }
         }
-        holds!(&rt; ended, player);
+        holds!(rt; ended, player);
     }
-    Ok(())
 }

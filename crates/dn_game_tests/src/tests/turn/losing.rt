@@ -3,7 +3,6 @@
 use super::{one_game, pair};
 use dn_line::{Datagram, Line, LineFault, MemoryHub};
 use dn_turn::rounds;
-use std::test::Fail;
 
 /// A line in memory that loses one of every `lost_of` datagrams, and answers that it was sent.
 #[derive(Drop)]
@@ -38,36 +37,36 @@ impl Line for Losing {
 
 /// What is lost silently is asked for again: no call fails, and the nodes play on.
 #[test]
-fn line_loses_silently(rt: HostRuntime) -> Result<(), Fail> {
+fn line_loses_silently(rt: HostRuntime) {
+    let rt = &rt;
     for lost_of in [3, 4, 5, 7] {
-        let mut nodes = pair(rt.alloc())?;
-        let hub = MemoryHub::new(rt.alloc(), 2)?;
+        let mut nodes = must!(rt; pair(rt.alloc()));
+        let hub = must!(rt; MemoryHub::new(rt.alloc(), 2));
         let mut line = Losing {
             hub,
             lost_of,
             kept: 0,
         };
         rounds(&mut nodes, &mut line, 1, 400);
-        holds!(&rt; nodes[0].ran() >= 20, lost_of);
-        holds!(&rt; nodes[1].ran() >= 20, lost_of);
-        one_game(&rt, &nodes);
-        same!(&rt; line.hub.failed(), 0);
+        holds!(rt; nodes[0].ran() >= 20, lost_of);
+        holds!(rt; nodes[1].ran() >= 20, lost_of);
+        one_game(rt, &nodes);
+        same!(rt; line.hub.failed(), 0);
     }
-    Ok(())
 }
 
 /// A line that loses everything starts no game.
 #[test]
-fn nothing_comes_of_nothing(rt: HostRuntime) -> Result<(), Fail> {
-    let mut nodes = pair(rt.alloc())?;
-    let hub = MemoryHub::new(rt.alloc(), 2)?;
+fn nothing_comes_of_nothing(rt: HostRuntime) {
+    let rt = &rt;
+    let mut nodes = must!(rt; pair(rt.alloc()));
+    let hub = must!(rt; MemoryHub::new(rt.alloc(), 2));
     let mut line = Losing {
         hub,
         lost_of: 1,
         kept: 0,
     };
     rounds(&mut nodes, &mut line, 1, 50);
-    same!(&rt; (nodes[0].made(), nodes[1].made()), (0, 0));
-    same!(&rt; line.hub.failed(), 0);
-    Ok(())
+    same!(rt; (nodes[0].made(), nodes[1].made()), (0, 0));
+    same!(rt; line.hub.failed(), 0);
 }

@@ -9,7 +9,6 @@ use dn_tic::Keys;
 use dn_turn::{Turned, rounds, turn};
 use dn_world::Walk;
 use std::process::Abort;
-use std::test::Fail;
 
 /// The counts of both nodes after seven rounds.
 fn counts(rt: &impl Abort, nodes: &[Node<Walk>; 2]) {
@@ -21,27 +20,31 @@ fn counts(rt: &impl Abort, nodes: &[Node<Walk>; 2]) {
 
 /// Seven rounds without keys, and seven with keys of a seed, lead to the same counts.
 #[test]
-fn seven_rounds(rt: HostRuntime) -> Result<(), Fail> {
+fn seven_rounds(rt: HostRuntime) {
+    let rt = &rt;
     let alloc = rt.alloc();
-    let (mut idle, mut busy) = (pair(alloc)?, pair(alloc)?);
-    let (mut hub, mut other) = (MemoryHub::new(alloc, 2)?, MemoryHub::new(alloc, 2)?);
+    let (mut idle, mut busy) = (must!(rt; pair(alloc)), must!(rt; pair(alloc)));
+    let (mut hub, mut other) = (
+        must!(rt; MemoryHub::new(alloc, 2)),
+        must!(rt; MemoryHub::new(alloc, 2)),
+    );
     for _ in 0..7 {
         turn(&mut idle[0], &mut hub, Keys::from_bits(0));
         turn(&mut idle[1], &mut hub, Keys::from_bits(0));
     }
-    counts(&rt, &idle);
+    counts(rt, &idle);
     rounds(&mut busy, &mut other, 1, 7);
-    counts(&rt, &busy);
-    same!(&rt; hub.failed(), 0);
-    Ok(())
+    counts(rt, &busy);
+    same!(rt; hub.failed(), 0);
 }
 
 /// What the first turns tell: player 1 hears the key player's settings and sends its first command, and
 /// hearing that, the key player starts.
 #[test]
-fn turns_are_told(rt: HostRuntime) -> Result<(), Fail> {
-    let mut nodes = pair(rt.alloc())?;
-    let mut hub = MemoryHub::new(rt.alloc(), 2)?;
+fn turns_are_told(rt: HostRuntime) {
+    let rt = &rt;
+    let mut nodes = must!(rt; pair(rt.alloc()));
+    let mut hub = must!(rt; MemoryHub::new(rt.alloc(), 2));
     let rows = [
         // place, build, packets sent, datagrams received, tics run
         (0, Made::NotPlaying, 1, 0, 0),
@@ -63,29 +66,28 @@ fn turns_are_told(rt: HostRuntime) -> Result<(), Fail> {
             heard,
             ran,
         };
-        same!(&rt; turned, told, place);
+        same!(rt; turned, told, place);
     }
-    Ok(())
 }
 
 /// No node takes no turn, and no round leaves nodes as they are.
 #[test]
-fn no_turns_are_taken(rt: HostRuntime) -> Result<(), Fail> {
-    let mut nodes = pair(rt.alloc())?;
-    let mut hub = MemoryHub::new(rt.alloc(), 2)?;
+fn no_turns_are_taken(rt: HostRuntime) {
+    let rt = &rt;
+    let mut nodes = must!(rt; pair(rt.alloc()));
+    let mut hub = must!(rt; MemoryHub::new(rt.alloc(), 2));
     rounds(&mut nodes[..0], &mut hub, 1, 7);
     rounds(&mut nodes, &mut hub, 1, 0);
-    same!(&rt; (nodes[0].made(), nodes[1].made(), hub.failed()), (0, 0, 0));
-    Ok(())
+    same!(rt; (nodes[0].made(), nodes[1].made(), hub.failed()), (0, 0, 0));
 }
 
 #[test]
-fn a_hundred_rounds_over_ports(rt: HostRuntime) -> Result<(), Fail> {
-    let mut nodes = pair(rt.alloc())?;
-    let (mut line, _) = free_line(&rt, rt.alloc(), 35_000, 1)?;
+fn a_hundred_rounds_over_ports(rt: HostRuntime) {
+    let rt = &rt;
+    let mut nodes = must!(rt; pair(rt.alloc()));
+    let (mut line, _) = must!(rt; free_line(rt, rt.alloc(), 35_000, 1));
     rounds(&mut nodes, &mut line, 1, 100);
-    holds!(&rt; nodes[0].ran() >= 50);
-    holds!(&rt; nodes[1].ran() >= 50);
-    same!(&rt; line.failed(), 0);
-    Ok(())
+    holds!(rt; nodes[0].ran() >= 50);
+    holds!(rt; nodes[1].ran() >= 50);
+    same!(rt; line.failed(), 0);
 }

@@ -110,16 +110,17 @@ fn fronts_of_a_demo_are_refused(rt: HostRuntime) {
 
 #[test]
 fn bytes_are_counted_as_they_come(rt: HostRuntime) {
+    let rt = &rt;
     let mut feed = Feed::new(Walk::new());
-    same!(&rt; feed.taken(), 0);
+    same!(rt; feed.taken(), 0);
     push(&mut feed, &PLAYED[..17]);
-    same!(&rt; feed.taken(), 17);
+    same!(rt; feed.taken(), 17);
     push(&mut feed, &[]);
-    same!(&rt; feed.taken(), 17);
+    same!(rt; feed.taken(), 17);
     push(&mut feed, &PLAYED[17..]);
     push(&mut feed, &[7; 40]);
-    same!(&rt; feed.taken(), 70);
-    same!(&rt; feed.end().ok().map(|fed| (fed.version, fed.after)), Some((109, 40)));
+    same!(rt; feed.taken(), 70);
+    same!(rt; feed.end().ok().map(|fed| (fed.version, fed.after)), Some((109, 40)));
 }
 
 /// A feed of these bytes ends as `Demo::read` and `play` do.
@@ -167,15 +168,15 @@ fn drawn(seats: u8, version: u8) -> [u8; 300] {
 
 /// For each set of players, in both versions: a feed ends as `Demo::read` and `play` do.
 #[test]
-fn any_seats_end_as_they_are_read(rt: HostRuntime) -> Result<(), Fail> {
+fn any_seats_end_as_they_are_read(rt: HostRuntime) {
+    let rt = &rt;
     for seats in 0..16_u8 {
         for version in [109, 111] {
             let bytes = drawn(seats, version);
             for length in [1, 3, 20, 64, 299] {
                 let read = Demo::read(rt.alloc(), &bytes);
-                ends_as_read(&rt, read, fed(&bytes, 40, length))?;
+                must!(rt; ends_as_read(rt, read, fed(&bytes, 40, length)));
             }
         }
     }
-    Ok(())
 }

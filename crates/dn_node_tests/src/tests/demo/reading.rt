@@ -6,13 +6,11 @@ use dn_setup::Start;
 use dn_world::Walk;
 use std::alloc::Global;
 use std::process::Abort;
-use std::test::Fail;
 
 /// Bytes that are handed over are the same demo as bytes that are read.
-fn is_kept_as(rt: &impl Abort, bytes: Vec<u8>, demo: &Demo) -> Result<(), Fail> {
-    let kept = Demo::from_vec(bytes)?;
+fn is_kept_as(rt: &impl Abort, bytes: Vec<u8>, demo: &Demo) {
+    let kept = must!(rt; Demo::from_vec(bytes));
     same!(rt; (kept.row(1), kept.after()), (demo.row(1), demo.after()));
-    Ok(())
 }
 
 /// The bytes are a demo of so many tics, with so many bytes cut and after, and play to these places.
@@ -22,18 +20,18 @@ fn reads_as(
     bytes: &[u8],
     (tics, cut, after): (usize, usize, usize),
     places: [Place; 2],
-) -> Result<(), Fail> {
-    let demo = Demo::read(alloc, bytes)?;
+) {
+    let demo = must!(rt; Demo::read(alloc, bytes));
     same!(rt; (demo.tics(), demo.cut(), demo.after()), (tics, cut, after));
-    is_kept_as(rt, Vec::from_slice(alloc, bytes)?, &demo)?;
+    is_kept_as(rt, must!(rt; Vec::from_slice(alloc, bytes)), &demo);
     let mut walk = Walk::new();
     same!(rt; play(&demo, &mut walk), tics);
     stand(rt, &walk, places);
-    Ok(())
 }
 
 #[test]
-fn demos_are_read_and_played(rt: HostRuntime) -> Result<(), Fail> {
+fn demos_are_read_and_played(rt: HostRuntime) {
+    let rt = &rt;
     let mut more = [7; 33];
     more[..30].copy_from_slice(&PLAYED);
     let mut cut = [0; 34];
@@ -48,38 +46,38 @@ fn demos_are_read_and_played(rt: HostRuntime) -> Result<(), Fail> {
         (cut.as_slice(), (2, 1, 0), PLACES),
         (none.as_slice(), (0, 0, 0), BEGUN),
     ] {
-        reads_as(&rt, rt.alloc(), bytes, counts, places)?;
+        reads_as(rt, rt.alloc(), bytes, counts, places);
     }
-    Ok(())
 }
 
 #[test]
-fn headers_and_rows_are_told(rt: HostRuntime) -> Result<(), Fail> {
+fn headers_and_rows_are_told(rt: HostRuntime) {
+    let rt = &rt;
     let [first, second] = two_tics();
     for (bytes, version) in [(PLAYED.as_slice(), 109), (RECORDED.as_slice(), 111)] {
-        let demo = Demo::read(rt.alloc(), bytes)?;
-        same!(&rt; (demo.version(), demo.view()), (version, 1));
-        same!(&rt; demo.start(), START, version);
-        same!(&rt; demo.present(), [true, true, false, false], version);
+        let demo = must!(rt; Demo::read(rt.alloc(), bytes));
+        same!(rt; (demo.version(), demo.view()), (version, 1));
+        same!(rt; demo.start(), START, version);
+        same!(rt; demo.present(), [true, true, false, false], version);
         for (tic, row) in [
             (0, Some(first)),
             (1, Some(second)),
             (2, None),
             (usize::MAX, None),
         ] {
-            same!(&rt; demo.row(tic), row, (tic, version));
+            same!(rt; demo.row(tic), row, (tic, version));
         }
     }
-    Ok(())
 }
 
 #[test]
-fn odd_bytes_are_kept(rt: HostRuntime) -> Result<(), Fail> {
+fn odd_bytes_are_kept(rt: HostRuntime) {
+    let rt = &rt;
     let bytes = [
         109, 200, 4, 0, 255, 2, 1, 9, 77, 2, 0, 255, 0, 1, 0x80, 0x80, 255, 127, 2, 0xFF, 0x80,
         0x80,
     ];
-    let demo = Demo::read(rt.alloc(), &bytes)?;
+    let demo = must!(rt; Demo::read(rt.alloc(), &bytes));
     let start = Start {
         skill: 200,
         episode: 4,
@@ -89,22 +87,22 @@ fn odd_bytes_are_kept(rt: HostRuntime) -> Result<(), Fail> {
         fast: 1,
         no_monsters: 9,
     };
-    same!(&rt; demo.start(), start);
-    same!(&rt; demo.view(), 77);
-    same!(&rt; demo.present(), [true, false, true, false]);
+    same!(rt; demo.start(), start);
+    same!(rt; demo.view(), 77);
+    same!(rt; demo.present(), [true, false, true, false]);
     let row = [
         moved(1, -128, -32_768, 255),
         None,
         moved(127, 2, -256, 128),
         None,
     ];
-    same!(&rt; demo.row(0), Some(row));
-    same!(&rt; demo.tics(), 1);
-    Ok(())
+    same!(rt; demo.row(0), Some(row));
+    same!(rt; demo.tics(), 1);
 }
 
 #[test]
-fn only_a_first_byte_ends_a_demo(rt: HostRuntime) -> Result<(), Fail> {
+fn only_a_first_byte_ends_a_demo(rt: HostRuntime) {
+    let rt = &rt;
     // One player: the place of the marker, how many bytes there are, and what is read.
     for (place, len, tics, after) in [
         (14, 18, 1, 0),
@@ -119,16 +117,16 @@ fn only_a_first_byte_ends_a_demo(rt: HostRuntime) -> Result<(), Fail> {
         bytes[9] = 1;
         bytes[place] = 0x80;
         bytes[17] = 0x80;
-        let demo = Demo::read(rt.alloc(), &bytes[..len])?;
-        same!(&rt; demo.tics(), tics, place);
-        same!(&rt; demo.cut(), 0);
-        same!(&rt; demo.after(), after, place);
+        let demo = must!(rt; Demo::read(rt.alloc(), &bytes[..len]));
+        same!(rt; demo.tics(), tics, place);
+        same!(rt; demo.cut(), 0);
+        same!(rt; demo.after(), after, place);
     }
-    Ok(())
 }
 
 #[test]
-fn commands_of_version_111_have_five_bytes(rt: HostRuntime) -> Result<(), Fail> {
+fn commands_of_version_111_have_five_bytes(rt: HostRuntime) {
+    let rt = &rt;
     for (place, len, tics, after) in [
         (14, 19, 1, 0),
         (16, 19, 1, 0),
@@ -141,11 +139,10 @@ fn commands_of_version_111_have_five_bytes(rt: HostRuntime) -> Result<(), Fail> 
         bytes[9] = 1;
         bytes[place] = 0x80;
         bytes[18] = 0x80;
-        let demo = Demo::read(rt.alloc(), &bytes[..len])?;
-        same!(&rt; demo.tics(), tics, place);
-        same!(&rt; demo.after(), after, place);
+        let demo = must!(rt; Demo::read(rt.alloc(), &bytes[..len]));
+        same!(rt; demo.tics(), tics, place);
+        same!(rt; demo.after(), after, place);
     }
-    Ok(())
 }
 
 /// A demo of four commands, of the bytes 1 to 16, with these in-game flags.
@@ -159,7 +156,8 @@ fn four_commands(flags: [u8; 4]) -> [u8; 30] {
 }
 
 #[test]
-fn absent_players_have_no_command(rt: HostRuntime) -> Result<(), Fail> {
+fn absent_players_have_no_command(rt: HostRuntime) {
+    let rt = &rt;
     let a = moved(1, 2, 768, 4);
     let b = moved(5, 6, 1_792, 8);
     let c = moved(9, 10, 2_816, 12);
@@ -170,24 +168,23 @@ fn absent_players_have_no_command(rt: HostRuntime) -> Result<(), Fail> {
         ([0, 1, 1, 1], 1, 1, [None, a, b, c]),
     ] {
         let bytes = four_commands(flags);
-        let demo = Demo::read(rt.alloc(), &bytes)?;
-        same!(&rt; demo.tics(), tics, flags);
-        same!(&rt; demo.cut(), cut, flags);
-        same!(&rt; demo.row(0), Some(row), flags);
+        let demo = must!(rt; Demo::read(rt.alloc(), &bytes));
+        same!(rt; demo.tics(), tics, flags);
+        same!(rt; demo.cut(), cut, flags);
+        same!(rt; demo.row(0), Some(row), flags);
     }
-    Ok(())
 }
 
 /// Bytes that are read, and bytes that are handed over, are refused for the same fault.
-fn is_refused(rt: &impl Abort, alloc: Global, bytes: &[u8], fault: DemoFault) -> Result<(), Fail> {
+fn is_refused(rt: &impl Abort, alloc: Global, bytes: &[u8], fault: DemoFault) {
     same!(rt; Demo::read(alloc, bytes).err(), Some(fault), bytes);
-    let kept = Demo::from_vec(Vec::from_slice(alloc, bytes)?);
+    let kept = Demo::from_vec(must!(rt; Vec::from_slice(alloc, bytes)));
     same!(rt; kept.err(), Some(fault), bytes);
-    Ok(())
 }
 
 #[test]
-fn bytes_are_refused_in_order(rt: HostRuntime) -> Result<(), Fail> {
+fn bytes_are_refused_in_order(rt: HostRuntime) {
+    let rt = &rt;
     let mut other = PLAYED;
     other[0] = 110;
     let mut later = PLAYED;
@@ -215,9 +212,8 @@ fn bytes_are_refused_in_order(rt: HostRuntime) -> Result<(), Fail> {
         (&RECORDED[..12], DemoFault::Short),
         (&RECORDED[..33], DemoFault::NoMarker),
     ] {
-        is_refused(&rt, rt.alloc(), bytes, fault)?;
+        is_refused(rt, rt.alloc(), bytes, fault);
     }
-    Ok(())
 }
 
 #[test]

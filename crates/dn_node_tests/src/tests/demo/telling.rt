@@ -29,6 +29,7 @@ fn tells(rt: &impl Abort, feed: &mut Feed<Walk>, piece: &[u8], ends: [u64; 2]) {
 /// In pieces of one to forty bytes; behind the marker no row is told.
 #[test]
 fn rows_are_told_as_they_end(rt: HostRuntime) {
+    let rt = &rt;
     for (demo, ends) in [
         (PLAYED.as_slice(), [21, 29]),
         (RECORDED.as_slice(), [23, 33]),
@@ -36,28 +37,30 @@ fn rows_are_told_as_they_end(rt: HostRuntime) {
         for length in 1..41_usize {
             let mut feed = Feed::new(Walk::new());
             for piece in demo.chunks(length) {
-                tells(&rt, &mut feed, piece, ends);
+                tells(rt, &mut feed, piece, ends);
             }
-            same!(&rt; feed.tics(), 2);
-            tells(&rt, &mut feed, &[7; 40], ends);
+            same!(rt; feed.tics(), 2);
+            tells(rt, &mut feed, &[7; 40], ends);
             let end = feed.end().ok();
-            same!(&rt; end.map(|fed| (fed.tics, fed.cut, fed.after)), Some((2, 0, 40)));
+            same!(rt; end.map(|fed| (fed.tics, fed.cut, fed.after)), Some((2, 0, 40)));
         }
     }
 }
 
 #[test]
 fn no_bytes_end_no_row(rt: HostRuntime) {
+    let rt = &rt;
     let mut feed = Feed::new(Walk::new());
     let (row, rest) = feed.next_row(&[]);
-    same!(&rt; (row, rest.len(), feed.taken()), (None, 0, 0));
+    same!(rt; (row, rest.len(), feed.taken()), (None, 0, 0));
     let (row, rest) = feed.next_row(&PLAYED[..20]);
-    same!(&rt; (row, rest.len(), feed.tics()), (None, 0, 0));
+    same!(rt; (row, rest.len(), feed.tics()), (None, 0, 0));
 }
 
 /// A cut row is not told, nor are bytes behind a header that is refused.
 #[test]
 fn what_is_no_row_is_not_told(rt: HostRuntime) {
+    let rt = &rt;
     let mut other = PLAYED;
     other[0] = 110;
     let mut nobody = PLAYED;
@@ -67,7 +70,7 @@ fn what_is_no_row_is_not_told(rt: HostRuntime) {
     for bytes in [other, nobody, cut] {
         let mut feed = Feed::new(Walk::new());
         let (row, rest) = feed.next_row(&bytes);
-        same!(&rt; (row, rest.len()), (None, 0));
-        same!(&rt; (feed.tics(), feed.taken()), (0, 30));
+        same!(rt; (row, rest.len()), (None, 0));
+        same!(rt; (feed.tics(), feed.taken()), (0, 30));
     }
 }

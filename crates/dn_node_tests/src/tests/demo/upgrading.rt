@@ -4,7 +4,6 @@ use super::{PLAYED, RECORDED, place};
 use dn_demo::{Demo, UpgradeFault, play, upgrade};
 use dn_world::Walk;
 use std::process::Abort;
-use std::test::Fail;
 
 /// Both demos lead to the same places after as many tics.
 fn play_alike(rt: &impl Abort, one: &Demo, other: &Demo) {
@@ -16,24 +15,25 @@ fn play_alike(rt: &impl Abort, one: &Demo, other: &Demo) {
 }
 
 #[test]
-fn demos_of_both_versions_are_upgraded(rt: HostRuntime) -> Result<(), Fail> {
+fn demos_of_both_versions_are_upgraded(rt: HostRuntime) {
+    let rt = &rt;
     // what is cut, and what follows the marker, is left out
     let mut longer = [7; 37];
     longer[..29].copy_from_slice(&PLAYED[..29]);
     longer[29..34].copy_from_slice(&[0x32, 0, 0, 0, 0x80]);
     for bytes in [PLAYED.as_slice(), longer.as_slice(), RECORDED.as_slice()] {
-        let demo = Demo::read(rt.alloc(), bytes)?;
-        let recorder = upgrade(rt.alloc(), &demo, 1_024)?;
-        same!(&rt; recorder.bytes(), RECORDED.as_slice());
-        let again = Demo::read(rt.alloc(), recorder.bytes())?;
-        same!(&rt; again.version(), 111);
-        play_alike(&rt, &demo, &again);
+        let demo = must!(rt; Demo::read(rt.alloc(), bytes));
+        let recorder = must!(rt; upgrade(rt.alloc(), &demo, 1_024));
+        same!(rt; recorder.bytes(), RECORDED.as_slice());
+        let again = must!(rt; Demo::read(rt.alloc(), recorder.bytes()));
+        same!(rt; again.version(), 111);
+        play_alike(rt, &demo, &again);
     }
-    Ok(())
 }
 
 #[test]
-fn flags_of_players_are_written_as_one(rt: HostRuntime) -> Result<(), Fail> {
+fn flags_of_players_are_written_as_one(rt: HostRuntime) {
+    let rt = &rt;
     let bytes = [
         109, 200, 4, 0, 255, 2, 1, 9, 77, 2, 0, 255, 0, 1, 0x80, 0x80, 255, 127, 2, 0xFF, 0x80,
         0x80,
@@ -42,22 +42,22 @@ fn flags_of_players_are_written_as_one(rt: HostRuntime) -> Result<(), Fail> {
         111, 200, 4, 0, 255, 2, 1, 9, 77, 1, 0, 1, 0, 1, 0x80, 0, 0x80, 255, 127, 2, 0, 0xFF, 0x80,
         0x80,
     ];
-    let demo = Demo::read(rt.alloc(), &bytes)?;
-    let recorder = upgrade(rt.alloc(), &demo, 1_024)?;
-    same!(&rt; recorder.bytes(), upgraded.as_slice());
-    Ok(())
+    let demo = must!(rt; Demo::read(rt.alloc(), &bytes));
+    let recorder = must!(rt; upgrade(rt.alloc(), &demo, 1_024));
+    same!(rt; recorder.bytes(), upgraded.as_slice());
 }
 
 #[test]
-fn upgrades_are_refused_in_order(rt: HostRuntime) -> Result<(), Fail> {
+fn upgrades_are_refused_in_order(rt: HostRuntime) {
+    let rt = &rt;
     // two players who stand still for 102 tics: 1,034 bytes as they are recorded here
     let mut bytes = [0; 830];
     bytes[0] = 109;
     bytes[9] = 1;
     bytes[10] = 1;
     bytes[829] = 0x80;
-    let demo = Demo::read(rt.alloc(), &bytes)?;
-    same!(&rt; demo.tics(), 102);
+    let demo = must!(rt; Demo::read(rt.alloc(), &bytes));
+    same!(rt; demo.tics(), 102);
     for (limit, fault) in [
         (0, Some(UpgradeFault::Limit)),
         (1_023, Some(UpgradeFault::Limit)),
@@ -67,7 +67,6 @@ fn upgrades_are_refused_in_order(rt: HostRuntime) -> Result<(), Fail> {
         (1_034, None),
     ] {
         let upgraded = upgrade(rt.alloc(), &demo, limit);
-        same!(&rt; upgraded.err(), fault, limit);
+        same!(rt; upgraded.err(), fault, limit);
     }
-    Ok(())
 }

@@ -28,10 +28,9 @@ fn answers(
     (stage, from): (Stage, u8),
     packet: Written,
     answer: Heard,
-) -> Result<(), Fail> {
-    let mut node = at(alloc, stage)?;
+) {
+    let mut node = must!(rt; at(alloc, stage));
     hears(rt, &mut node, from, packet, answer);
-    Ok(())
 }
 
 /// Hands a node no bytes, a plain packet and a set-up packet, all of a sender who is no peer.
@@ -43,14 +42,14 @@ fn drops_all_of(rt: &impl Abort, node: &mut Lockstep, from: u8) {
 }
 
 #[test]
-fn who_is_no_peer_is_a_stranger(rt: HostRuntime) -> Result<(), Fail> {
+fn who_is_no_peer_is_a_stranger(rt: HostRuntime) {
+    let rt = &rt;
     for stage in PEERS {
-        let mut node = at(rt.alloc(), stage)?;
+        let mut node = must!(rt; at(rt.alloc(), stage));
         for from in [node.me(), 3, 4, 255] {
-            drops_all_of(&rt, &mut node, from);
+            drops_all_of(rt, &mut node, from);
         }
     }
-    Ok(())
 }
 
 /// Hands bytes that are no packet to a node that stands so, and compares its answer.
@@ -67,7 +66,8 @@ fn drops(
 }
 
 #[test]
-fn bytes_that_are_no_packet_are_told_apart(rt: HostRuntime) -> Result<(), Fail> {
+fn bytes_that_are_no_packet_are_told_apart(rt: HostRuntime) {
+    let rt = &rt;
     // one command of player 2, forward 50 and attack, which every phase would answer otherwise
     let one = [
         0xCB, 0x45, 0x25, 0x05, 0, 0, 2, 1, 0x32, 0, 0, 0, 0, 0, 0, 1,
@@ -91,14 +91,14 @@ fn bytes_that_are_no_packet_are_told_apart(rt: HostRuntime) -> Result<(), Fail> 
             (long.as_slice(), 3),
             (sum.as_slice(), 4),
         ] {
-            drops(&rt, rt.alloc(), stage, bytes, number)?;
+            must!(rt; drops(rt, rt.alloc(), stage, bytes, number));
         }
     }
-    Ok(())
 }
 
 #[test]
-fn set_up_is_for_listeners(rt: HostRuntime) -> Result<(), Fail> {
+fn set_up_is_for_listeners(rt: HostRuntime) {
+    let rt = &rt;
     let rows: [(Stage, u8, (u8, u8, u8), Heard); 13] = [
         (Stage::Listener, 0, (2, 65, 111), Heard::Started),
         (Stage::Listener, 0, (2, 65, 110), Heard::Dropped(7)),
@@ -117,14 +117,14 @@ fn set_up_is_for_listeners(rt: HostRuntime) -> Result<(), Fail> {
     for (stage, from, numbers, answer) in rows {
         for flags in [SETUP, SETUP + KILL, SETUP + EXIT] {
             let packet = (flags, numbers, [].as_slice());
-            answers(&rt, rt.alloc(), (stage, from), packet, answer)?;
+            answers(rt, rt.alloc(), (stage, from), packet, answer);
         }
     }
-    Ok(())
 }
 
 #[test]
-fn before_the_game_nothing_is_taken(rt: HostRuntime) -> Result<(), Fail> {
+fn before_the_game_nothing_is_taken(rt: HostRuntime) {
+    let rt = &rt;
     let rows: [(Stage, u8, u8, (u8, u8, u8), Heard); 15] = [
         (Stage::Listener, 0, 0, (0, 0, 0), Heard::Dropped(13)),
         (Stage::Listener, 0, 0, (0, 0, 2), Heard::Dropped(13)),
@@ -144,9 +144,8 @@ fn before_the_game_nothing_is_taken(rt: HostRuntime) -> Result<(), Fail> {
     ];
     for (stage, from, flags, numbers, answer) in rows {
         let packet = (flags, numbers, [STOP].as_slice());
-        answers(&rt, rt.alloc(), (stage, from), packet, answer)?;
+        answers(rt, rt.alloc(), (stage, from), packet, answer);
     }
-    Ok(())
 }
 
 /// A packet of player 2, as two nodes that play and have heard nothing answer it.
@@ -155,13 +154,14 @@ fn both_answer(
     alloc: Global,
     packet: (u8, (u8, u8, u8), &[TicCmd]),
     answer: Heard,
-) -> Result<(), Fail> {
-    answers(rt, alloc, (Stage::First, 2), packet, answer)?;
-    answers(rt, alloc, (Stage::Second, 2), packet, answer)
+) {
+    answers(rt, alloc, (Stage::First, 2), packet, answer);
+    answers(rt, alloc, (Stage::Second, 2), packet, answer);
 }
 
 #[test]
-fn a_playing_node_hears_who_leaves(rt: HostRuntime) -> Result<(), Fail> {
+fn a_playing_node_hears_who_leaves(rt: HostRuntime) {
+    let rt = &rt;
     let (stop, one_stop) = ([STOP; 12], [STOP]);
     let (still, one, three) = ([STILL; 12], [STILL], [STILL; 3]);
     let rows: [(u8, (u8, u8, u8), &[TicCmd], Heard); 11] = [
@@ -178,13 +178,13 @@ fn a_playing_node_hears_who_leaves(rt: HostRuntime) -> Result<(), Fail> {
         (KILL, (0, 0, 2), &[], Heard::Dropped(9)),
     ];
     for (flags, numbers, commands, answer) in rows {
-        both_answer(&rt, rt.alloc(), (flags, numbers, commands), answer)?;
+        both_answer(rt, rt.alloc(), (flags, numbers, commands), answer);
     }
-    Ok(())
 }
 
 #[test]
-fn a_playing_node_takes_what_comes_next(rt: HostRuntime) -> Result<(), Fail> {
+fn a_playing_node_takes_what_comes_next(rt: HostRuntime) {
+    let rt = &rt;
     let (stop, one_stop) = ([STOP; 12], [STOP]);
     let (still, one, three, eleven) = ([STILL; 12], [STILL], [STILL; 3], [STILL; 11]);
     let rows: [(u8, (u8, u8, u8), &[TicCmd], Heard); 20] = [
@@ -210,7 +210,6 @@ fn a_playing_node_takes_what_comes_next(rt: HostRuntime) -> Result<(), Fail> {
         (RETRANSMIT, (77, 0, 2), &three, Heard::Taken(3)),
     ];
     for (flags, numbers, commands, answer) in rows {
-        both_answer(&rt, rt.alloc(), (flags, numbers, commands), answer)?;
+        both_answer(rt, rt.alloc(), (flags, numbers, commands), answer);
     }
-    Ok(())
 }

@@ -22,17 +22,17 @@ fn fills(rt: &impl Abort, node: &mut Lockstep) {
 }
 
 #[test]
-fn five_commands_may_wait(rt: HostRuntime) -> Result<(), Fail> {
-    let (mut key, mut other) = pair(rt.alloc(), false)?;
-    fills(&rt, &mut key);
-    fills(&rt, &mut other);
-    same!(&rt; tic(&mut key, &mut other, IDLE), (Ran::Ran(0), Ran::Ran(0)));
-    same!(&rt; build(&mut key, NO_KEYS), Made::Made(5));
-    same!(&rt; build(&mut key, NO_KEYS), Made::Full);
-    holds!(&rt; quit(&mut key));
-    same!(&rt; build(&mut key, NO_KEYS), Made::NotPlaying);
-    same!(&rt; key.made(), 6);
-    Ok(())
+fn five_commands_may_wait(rt: HostRuntime) {
+    let rt = &rt;
+    let (mut key, mut other) = must!(rt; pair(rt.alloc(), false));
+    fills(rt, &mut key);
+    fills(rt, &mut other);
+    same!(rt; tic(&mut key, &mut other, IDLE), (Ran::Ran(0), Ran::Ran(0)));
+    same!(rt; build(&mut key, NO_KEYS), Made::Made(5));
+    same!(rt; build(&mut key, NO_KEYS), Made::Full);
+    holds!(rt; quit(&mut key));
+    same!(rt; build(&mut key, NO_KEYS), Made::NotPlaying);
+    same!(rt; key.made(), 6);
 }
 
 /// The eight bytes of the one command of the next packet.
@@ -45,21 +45,21 @@ fn carried(rt: &impl Abort, node: &mut Lockstep) -> Result<[u8; 8], Fail> {
 }
 
 #[test]
-fn keys_make_commands(rt: HostRuntime) -> Result<(), Fail> {
+fn keys_make_commands(rt: HostRuntime) {
+    let rt = &rt;
     for (keys, bytes) in built() {
-        let (mut key, _) = pair(rt.alloc(), false)?;
-        same!(&rt; build(&mut key, keys), Made::Made(0));
-        same!(&rt; carried(&rt, &mut key)?, bytes, keys);
+        let (mut key, _) = must!(rt; pair(rt.alloc(), false));
+        same!(rt; build(&mut key, keys), Made::Made(0));
+        same!(rt; must!(rt; carried(rt, &mut key)), bytes, keys);
     }
-    Ok(())
 }
 
 /// Builds with these keys, hears of player 1 who stands still, and runs the tic. The answer is the
 /// command that was built.
-fn alone(rt: &impl Abort, node: &mut Lockstep, keys: u32) -> Result<[u8; 8], Fail> {
+fn alone(rt: &impl Abort, node: &mut Lockstep, keys: u32) -> [u8; 8] {
     let tic = node.made();
     same!(rt; build(node, keys), Made::Made(tic));
-    let command = carried(rt, node)?;
+    let command = must!(rt; carried(rt, node));
     hears(
         rt,
         node,
@@ -68,7 +68,7 @@ fn alone(rt: &impl Abort, node: &mut Lockstep, keys: u32) -> Result<[u8; 8], Fai
         Heard::Taken(1),
     );
     same!(rt; run(node), Ran::Ran(tic));
-    Ok(command)
+    command
 }
 
 fn turn_of([_, _, low, high, ..]: [u8; 8]) -> i16 {
@@ -77,7 +77,8 @@ fn turn_of([_, _, low, high, ..]: [u8; 8]) -> i16 {
 
 /// Turns as packets carry them, and as demos have them.
 #[test]
-fn turns_are_fast_from_the_sixth_on(rt: HostRuntime) -> Result<(), Fail> {
+fn turns_are_fast_from_the_sixth_on(rt: HostRuntime) {
+    let rt = &rt;
     for (keys, slow, fast) in [
         (RIGHT, -320, -640),
         (LEFT, 320, 640),
@@ -85,20 +86,20 @@ fn turns_are_fast_from_the_sixth_on(rt: HostRuntime) -> Result<(), Fail> {
         (RIGHT | SPEED, -320, -1_280),
         (LEFT | RIGHT, 0, 0),
     ] {
-        let (mut key, _) = pair(rt.alloc(), false)?;
+        let (mut key, _) = must!(rt; pair(rt.alloc(), false));
         for turn in [slow, slow, slow, slow, slow, fast, fast] {
-            same!(&rt; turn_of(alone(&rt, &mut key, keys)?), turn, keys);
+            same!(rt; turn_of(alone(rt, &mut key, keys)), turn, keys);
             let [low, high] = turn.to_le_bytes();
             let row = [0, 0, low, high, 0, 0, 0, 0, 0, 0];
-            holds!(&rt; key.demo().ends_with(&row), (keys, turn));
+            holds!(rt; key.demo().ends_with(&row), (keys, turn));
         }
     }
-    Ok(())
 }
 
 #[test]
-fn letting_go_begins_again(rt: HostRuntime) -> Result<(), Fail> {
-    let (mut key, _) = pair(rt.alloc(), false)?;
+fn letting_go_begins_again(rt: HostRuntime) {
+    let rt = &rt;
+    let (mut key, _) = must!(rt; pair(rt.alloc(), false));
     for (keys, turn) in [
         (LEFT, 320),
         (RIGHT, -320),
@@ -110,43 +111,41 @@ fn letting_go_begins_again(rt: HostRuntime) -> Result<(), Fail> {
         (FORWARD, 0),
         (RIGHT, -320),
     ] {
-        same!(&rt; turn_of(alone(&rt, &mut key, keys)?), turn, keys);
+        same!(rt; turn_of(alone(rt, &mut key, keys)), turn, keys);
     }
-    Ok(())
 }
 
 /// A node with five commands runs this tic, and builds a turn to the right.
-fn turns_right(rt: &impl Abort, node: &mut Lockstep, tic: u8, turn: i16) -> Result<(), Fail> {
+fn turns_right(rt: &impl Abort, node: &mut Lockstep, tic: u8, turn: i16) {
     hears(rt, node, 1, (0, (0, tic, 1), &[STILL]), Heard::Taken(1));
     let number = u32::from(tic);
     same!(rt; run(node), Ran::Ran(number));
     same!(rt; build(node, RIGHT), Made::Made(number + 5));
-    same!(rt; turn_of(carried(rt, node)?), turn, tic);
-    Ok(())
+    same!(rt; turn_of(must!(rt; carried(rt, node))), turn, tic);
 }
 
 #[test]
-fn a_full_build_leaves_the_hold(rt: HostRuntime) -> Result<(), Fail> {
+fn a_full_build_leaves_the_hold(rt: HostRuntime) {
+    let rt = &rt;
     // five builds, those that find the node full, and the turns of the next two to the right
     for (first, rest, full, turns) in [
         (RIGHT, RIGHT, NO_KEYS, [-640, -640]),
         (NO_KEYS, RIGHT, RIGHT, [-320, -640]),
         (NO_KEYS, NO_KEYS, RIGHT, [-320, -320]),
     ] {
-        let (mut key, _) = pair(rt.alloc(), false)?;
-        same!(&rt; build(&mut key, first), Made::Made(0));
+        let (mut key, _) = must!(rt; pair(rt.alloc(), false));
+        same!(rt; build(&mut key, first), Made::Made(0));
         for tic in 1..5 {
-            same!(&rt; build(&mut key, rest), Made::Made(tic));
+            same!(rt; build(&mut key, rest), Made::Made(tic));
         }
         for _ in 0..7 {
-            same!(&rt; build(&mut key, full), Made::Full);
+            same!(rt; build(&mut key, full), Made::Full);
         }
-        let sent = given(&mut key, 1)?;
-        same!(&rt; sent.len(), 48);
-        turns_right(&rt, &mut key, 0, turns[0])?;
-        turns_right(&rt, &mut key, 1, turns[1])?;
+        let sent = must!(rt; given(&mut key, 1));
+        same!(rt; sent.len(), 48);
+        turns_right(rt, &mut key, 0, turns[0]);
+        turns_right(rt, &mut key, 1, turns[1]);
     }
-    Ok(())
 }
 
 /// How many bytes of the next packet are written to this room.
@@ -155,14 +154,14 @@ fn written(node: &mut Lockstep, to: u8, room: &mut [u8; 106]) -> usize {
 }
 
 #[test]
-fn no_packet_is_written_for_itself_nor_for_nobody(rt: HostRuntime) -> Result<(), Fail> {
-    let (mut key, _) = pair(rt.alloc(), false)?;
+fn no_packet_is_written_for_itself_nor_for_nobody(rt: HostRuntime) {
+    let rt = &rt;
+    let (mut key, _) = must!(rt; pair(rt.alloc(), false));
     let mut room = [7; 106];
     for to in [0, 2] {
-        same!(&rt; written(&mut key, to, &mut room), 0, to);
-        same!(&rt; room, [7; 106], to);
+        same!(rt; written(&mut key, to, &mut room), 0, to);
+        same!(rt; room, [7; 106], to);
     }
-    Ok(())
 }
 
 /// Player 0 with one command, and player 1.
@@ -173,33 +172,33 @@ fn built_once(alloc: Global) -> Result<(Lockstep, Lockstep), Fail> {
 }
 
 #[test]
-fn a_packet_is_written_to_the_front_of_a_room(rt: HostRuntime) -> Result<(), Fail> {
-    let (mut key, mut other) = built_once(rt.alloc())?;
-    let (mut again, _) = built_once(rt.alloc())?;
+fn a_packet_is_written_to_the_front_of_a_room(rt: HostRuntime) {
+    let rt = &rt;
+    let (mut key, mut other) = must!(rt; built_once(rt.alloc()));
+    let (mut again, _) = must!(rt; built_once(rt.alloc()));
     let mut room = [7; 106];
-    same!(&rt; written(&mut key, 1, &mut room), 16);
-    let packet = given(&mut again, 1)?;
-    same!(&rt; room.get(..16), Some(packet.as_slice()));
-    same!(&rt; room.get(16..), Some([7; 90].as_slice()));
-    same!(&rt; received(&mut other, 0, &room[..16]), Heard::Taken(1));
-    Ok(())
+    same!(rt; written(&mut key, 1, &mut room), 16);
+    let packet = must!(rt; given(&mut again, 1));
+    same!(rt; room.get(..16), Some(packet.as_slice()));
+    same!(rt; room.get(16..), Some([7; 90].as_slice()));
+    same!(rt; received(&mut other, 0, &room[..16]), Heard::Taken(1));
 }
 
 #[test]
-fn a_row_is_filled_in_where_a_tic_is_run(rt: HostRuntime) -> Result<(), Fail> {
-    let (mut key, mut other) = pair(rt.alloc(), false)?;
+fn a_row_is_filled_in_where_a_tic_is_run(rt: HostRuntime) {
+    let rt = &rt;
+    let (mut key, mut other) = must!(rt; pair(rt.alloc(), false));
     let marked = [Some(Move::default()), None, Some(Move::default()), None];
     let mut row = marked;
-    same!(&rt; key.run_into(&[0; 4], &mut row), Ran::Waiting(0));
-    same!(&rt; row, marked);
+    same!(rt; key.run_into(&[0; 4], &mut row), Ran::Waiting(0));
+    same!(rt; row, marked);
     let _ = tic(&mut key, &mut other, (FORWARD, NO_KEYS));
-    same!(&rt; other.ran(), 1);
+    same!(rt; other.ran(), 1);
     let _ = build(&mut key, FORWARD);
     let _ = build(&mut other, NO_KEYS);
     let _ = pass(&mut other, &mut key);
-    same!(&rt; key.run_into(&[0; 4], &mut row), Ran::Ran(1));
-    same!(&rt; row[0].map(|step| step.forward), Some(25));
-    same!(&rt; row[1].map(|step| step.forward), Some(0));
-    same!(&rt; (row[2].is_none(), row[3].is_none()), (true, true));
-    Ok(())
+    same!(rt; key.run_into(&[0; 4], &mut row), Ran::Ran(1));
+    same!(rt; row[0].map(|step| step.forward), Some(25));
+    same!(rt; row[1].map(|step| step.forward), Some(0));
+    same!(rt; (row[2].is_none(), row[3].is_none()), (true, true));
 }

@@ -61,7 +61,8 @@ fn refuses(
 }
 
 #[test]
-fn before_the_game_nothing_is_changed(rt: HostRuntime) -> Result<(), Fail> {
+fn before_the_game_nothing_is_changed(rt: HostRuntime) {
+    let rt = &rt;
     let rows: [(Stage, u8, u8, (u8, u8, u8), u8); 16] = [
         (Stage::Listener, 1, SETUP, (2, 65, 111), 5),
         (Stage::Listener, 0, SETUP, (2, 65, 110), 7),
@@ -81,29 +82,29 @@ fn before_the_game_nothing_is_changed(rt: HostRuntime) -> Result<(), Fail> {
         (Stage::Leaver, 3, 0, (0, 0, 3), 5),
     ];
     for (stage, from, flags, numbers, number) in rows {
-        let mut node = at(rt.alloc(), stage)?;
-        refuses(&rt, &mut node, from, (flags, numbers, &[]), number);
-        refuses(&rt, &mut node, from, (flags, numbers, &[]), number);
+        let mut node = must!(rt; at(rt.alloc(), stage));
+        refuses(rt, &mut node, from, (flags, numbers, &[]), number);
+        refuses(rt, &mut node, from, (flags, numbers, &[]), number);
     }
-    Ok(())
 }
 
 /// A player whose packet was dropped while the node gathers is still waited for.
 #[test]
-fn who_was_dropped_is_not_noted(rt: HostRuntime) -> Result<(), Fail> {
-    let mut key = at(rt.alloc(), Stage::Key)?;
+fn who_was_dropped_is_not_noted(rt: HostRuntime) {
+    let rt = &rt;
+    let mut key = must!(rt; at(rt.alloc(), Stage::Key));
     for (from, flags, player, number) in [(1, KILL, 1, 9), (1, 0, 2, 5), (2, SETUP, 111, 6)] {
-        refuses(&rt, &mut key, from, (flags, (2, 65, player), &[]), number);
+        refuses(rt, &mut key, from, (flags, (2, 65, player), &[]), number);
     }
     for (from, answer) in [(2, Heard::Noted), (2, Heard::Noted), (1, Heard::Started)] {
-        hears(&rt, &mut key, from, (0, (0, 0, from), &[]), answer);
+        hears(rt, &mut key, from, (0, (0, 0, from), &[]), answer);
     }
-    Ok(())
 }
 
 /// What a node of two players that has run four tics drops of player 1, and of others.
 #[test]
-fn in_the_game_nothing_is_changed(rt: HostRuntime) -> Result<(), Fail> {
+fn in_the_game_nothing_is_changed(rt: HostRuntime) {
+    let rt = &rt;
     let stop = [STOP; 1];
     let still = [STILL; 12];
     let rows: [(u8, u8, (u8, u8, u8), &[TicCmd], u8); 14] = [
@@ -123,16 +124,15 @@ fn in_the_game_nothing_is_changed(rt: HostRuntime) -> Result<(), Fail> {
         (1, EXIT, (0, 17, 1), &[], 12),
         (1, EXIT + RETRANSMIT, (0, 3, 1), &[], 14),
     ];
-    let (mut key, mut other) = pair(rt.alloc(), false)?;
+    let (mut key, mut other) = must!(rt; pair(rt.alloc(), false));
     tics(&mut key, &mut other, 4, IDLE);
     for (from, flags, numbers, commands, number) in rows {
-        refuses(&rt, &mut key, from, (flags, numbers, commands), number);
+        refuses(rt, &mut key, from, (flags, numbers, commands), number);
     }
     // a request that was dropped is not met: nothing goes out again
-    let packet = given(&mut key, 1)?;
+    let packet = must!(rt; given(&mut key, 1));
     let empty: [u8; 8] = [0x67, 0x49, 0x23, 0x01, 0, 4, 0, 0];
-    same!(&rt; packet.as_slice(), empty.as_slice());
-    Ok(())
+    same!(rt; packet.as_slice(), empty.as_slice());
 }
 
 /// Player 0, who has played fourteen tics.
@@ -154,12 +154,15 @@ fn is_misled(rt: &impl Abort, key: &mut Lockstep) {
 
 /// The bytes of the next packet are those of a node that was handed nothing.
 #[test]
-fn the_next_packet_is_the_same(rt: HostRuntime) -> Result<(), Fail> {
-    let mut key = played(rt.alloc())?;
-    let mut again = played(rt.alloc())?;
-    is_misled(&rt, &mut key);
-    let (next, wanted) = (given(&mut key, 1)?, given(&mut again, 1)?);
-    same!(&rt; next.as_slice(), wanted.as_slice());
-    same!(&rt; key.demo(), again.demo());
-    Ok(())
+fn the_next_packet_is_the_same(rt: HostRuntime) {
+    let rt = &rt;
+    let mut key = must!(rt; played(rt.alloc()));
+    let mut again = must!(rt; played(rt.alloc()));
+    is_misled(rt, &mut key);
+    let (next, wanted) = (
+        must!(rt; given(&mut key, 1)),
+        must!(rt; given(&mut again, 1)),
+    );
+    same!(rt; next.as_slice(), wanted.as_slice());
+    same!(rt; key.demo(), again.demo());
 }

@@ -5,24 +5,23 @@ use super::{IDLE, NO_KEYS, STILL, build, datagram, hears, pair, quit, received, 
 use dn_lockstep::{Cause, Heard, Lockstep, Made, Phase, Ran};
 use dn_packet::{EXIT, SETUP};
 use std::process::Abort;
-use std::test::Fail;
 
 /// A node that ended before the game says nothing.
 #[test]
-fn before_the_game_a_node_ends_in_silence(rt: HostRuntime) -> Result<(), Fail> {
+fn before_the_game_a_node_ends_in_silence(rt: HostRuntime) {
+    let rt = &rt;
     for stage in [Stage::Listener, Stage::Key] {
-        let mut node = at(rt.alloc(), stage)?;
-        holds!(&rt; quit(&mut node));
-        holds!(&rt; !quit(&mut node));
-        same!(&rt; node.phase(), Phase::Ended(Cause::Quit), stage);
-        holds!(&rt; node.demo().is_empty());
+        let mut node = must!(rt; at(rt.alloc(), stage));
+        holds!(rt; quit(&mut node));
+        holds!(rt; !quit(&mut node));
+        same!(rt; node.phase(), Phase::Ended(Cause::Quit), stage);
+        holds!(rt; node.demo().is_empty());
         for to in 0..5 {
-            same!(&rt; node.aim(to), None, (stage, to));
-            holds!(&rt; node.packet(to).is_none(), (stage, to));
-            same!(&rt; node.end(to), None, (stage, to));
+            same!(rt; node.aim(to), None, (stage, to));
+            holds!(rt; node.packet(to).is_none(), (stage, to));
+            same!(rt; node.end(to), None, (stage, to));
         }
     }
-    Ok(())
 }
 
 /// A tic of a node whose peers have left: it waits for nobody but itself, and its demo has ended. It then
@@ -36,47 +35,47 @@ fn plays_alone(rt: &impl Abort, key: &mut Lockstep, tic: u32, next: u32) {
 
 /// Several may leave: player 1 before any command, and player 2 after the first.
 #[test]
-fn the_last_player_plays_alone(rt: HostRuntime) -> Result<(), Fail> {
-    let mut key = at(rt.alloc(), Stage::First)?;
-    hears(&rt, &mut key, 1, (EXIT, (0, 0, 1), &[]), Heard::Left);
-    same!(&rt; build(&mut key, NO_KEYS), Made::Made(0));
-    same!(&rt; run(&mut key), Ran::Waiting(2));
-    same!(&rt; key.demo().len(), 13);
-    hears(&rt, &mut key, 2, (EXIT, (0, 0, 2), &[STILL]), Heard::Left);
-    same!(&rt; (key.end(0), key.end(1), key.end(2)), (None, Some(0), Some(1)));
+fn the_last_player_plays_alone(rt: HostRuntime) {
+    let rt = &rt;
+    let mut key = must!(rt; at(rt.alloc(), Stage::First));
+    hears(rt, &mut key, 1, (EXIT, (0, 0, 1), &[]), Heard::Left);
+    same!(rt; build(&mut key, NO_KEYS), Made::Made(0));
+    same!(rt; run(&mut key), Ran::Waiting(2));
+    same!(rt; key.demo().len(), 13);
+    hears(rt, &mut key, 2, (EXIT, (0, 0, 2), &[STILL]), Heard::Left);
+    same!(rt; (key.end(0), key.end(1), key.end(2)), (None, Some(0), Some(1)));
     for tic in 0..30 {
-        plays_alone(&rt, &mut key, tic, tic + 1);
+        plays_alone(rt, &mut key, tic, tic + 1);
     }
-    holds!(&rt; quit(&mut key));
-    same!(&rt; (key.end(0), key.demo().len()), (Some(31), 14));
-    Ok(())
+    holds!(rt; quit(&mut key));
+    same!(rt; (key.end(0), key.demo().len()), (Some(31), 14));
 }
 
 /// A node that quits while commands are under way keeps its rows and closes its demo.
 #[test]
-fn a_demo_is_closed_once(rt: HostRuntime) -> Result<(), Fail> {
-    let (mut key, mut other) = pair(rt.alloc(), false)?;
+fn a_demo_is_closed_once(rt: HostRuntime) {
+    let rt = &rt;
+    let (mut key, mut other) = must!(rt; pair(rt.alloc(), false));
     tics(&mut key, &mut other, 3, IDLE);
-    same!(&rt; key.demo().len(), 13 + 3 * 10);
-    same!(&rt; key.demo().last(), Some(&0));
-    holds!(&rt; quit(&mut key));
-    same!(&rt; key.demo().len(), 13 + 3 * 10 + 1);
-    same!(&rt; key.demo().last(), Some(&0x80));
-    holds!(&rt; !quit(&mut key));
-    same!(&rt; key.demo().len(), 13 + 3 * 10 + 1);
-    Ok(())
+    same!(rt; key.demo().len(), 13 + 3 * 10);
+    same!(rt; key.demo().last(), Some(&0));
+    holds!(rt; quit(&mut key));
+    same!(rt; key.demo().len(), 13 + 3 * 10 + 1);
+    same!(rt; key.demo().last(), Some(&0x80));
+    holds!(rt; !quit(&mut key));
+    same!(rt; key.demo().len(), 13 + 3 * 10 + 1);
 }
 
 #[test]
-fn who_ended_before_the_game_hears_nothing(rt: HostRuntime) -> Result<(), Fail> {
-    let mut node = at(rt.alloc(), Stage::Quitter)?;
+fn who_ended_before_the_game_hears_nothing(rt: HostRuntime) {
+    let rt = &rt;
+    let mut node = must!(rt; at(rt.alloc(), Stage::Quitter));
     let plain = datagram(0, (0, 0, 0), &[STILL]);
     let choice = datagram(SETUP, (2, 65, 111), &[]);
     let exit = datagram(EXIT, (0, 0, 0), &[]);
     for bytes in [&[], plain.as_slice(), choice.as_slice(), exit.as_slice()] {
         for from in [0, 1, 2, 3, 255] {
-            same!(&rt; received(&mut node, from, bytes), Heard::Dropped(13), from);
+            same!(rt; received(&mut node, from, bytes), Heard::Dropped(13), from);
         }
     }
-    Ok(())
 }

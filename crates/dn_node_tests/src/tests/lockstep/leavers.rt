@@ -6,11 +6,11 @@ use dn_lockstep::{Aim, Heard, Lockstep, Phase};
 use dn_packet::{EXIT, KILL, RETRANSMIT, SETUP};
 use dn_tic::TicCmd;
 use std::process::Abort;
-use std::test::Fail;
 
 /// What a node that has left makes of packets of player 2: of one who plays on it hears the request alone.
 #[test]
-fn a_leaver_hears_who_plays_on(rt: HostRuntime) -> Result<(), Fail> {
+fn a_leaver_hears_who_plays_on(rt: HostRuntime) {
+    let rt = &rt;
     let stop = [STOP; 12];
     let still = [STILL; 12];
     let rows: [(u8, (u8, u8, u8), &[TicCmd], Heard); 16] = [
@@ -32,11 +32,10 @@ fn a_leaver_hears_who_plays_on(rt: HostRuntime) -> Result<(), Fail> {
         (RETRANSMIT, (77, 3, 2), &still, Heard::Noted),
     ];
     for (flags, numbers, commands, answer) in rows {
-        let mut node = at(rt.alloc(), Stage::Leaver)?;
-        hears(&rt, &mut node, 2, (flags, numbers, commands), answer);
-        same!(&rt; (node.got(2), node.end(2)), (Some(0), None), (flags, numbers));
+        let mut node = must!(rt; at(rt.alloc(), Stage::Leaver));
+        hears(rt, &mut node, 2, (flags, numbers, commands), answer);
+        same!(rt; (node.got(2), node.end(2)), (Some(0), None), (flags, numbers));
     }
-    Ok(())
 }
 
 /// Hands a node that has left a request of player 1 who plays on, with a command that it does not take.
@@ -66,28 +65,29 @@ fn sends(rt: &impl Abort, node: &mut Lockstep, start: u32, count: u8) {
 
 /// A node that has left answers requests as one that plays does, and runs nothing.
 #[test]
-fn a_leaver_answers_requests(rt: HostRuntime) -> Result<(), Fail> {
-    let (mut key, mut other) = pair(rt.alloc(), false)?;
+fn a_leaver_answers_requests(rt: HostRuntime) {
+    let rt = &rt;
+    let (mut key, mut other) = must!(rt; pair(rt.alloc(), false));
     tics(&mut key, &mut other, 30, IDLE);
-    holds!(&rt; quit(&mut key));
-    ask(&rt, &mut key, 17);
-    sends(&rt, &mut key, 30, 0);
-    ask(&rt, &mut key, 18);
-    sends(&rt, &mut key, 18, 12);
+    holds!(rt; quit(&mut key));
+    ask(rt, &mut key, 17);
+    sends(rt, &mut key, 30, 0);
+    ask(rt, &mut key, 18);
+    sends(rt, &mut key, 18, 12);
     for _ in 0..10 {
-        ask(&rt, &mut key, 20);
-        sends(&rt, &mut key, 30, 0);
+        ask(rt, &mut key, 20);
+        sends(rt, &mut key, 30, 0);
     }
-    ask(&rt, &mut key, 20);
-    sends(&rt, &mut key, 20, 10);
-    same!(&rt; (key.made(), key.ran()), (30, 30));
-    same!(&rt; key.end(0), Some(30));
-    Ok(())
+    ask(rt, &mut key, 20);
+    sends(rt, &mut key, 20, 10);
+    same!(rt; (key.made(), key.ran()), (30, 30));
+    same!(rt; key.end(0), Some(30));
 }
 
 /// A node that has played and ended tells its own end, and any other tells none.
 #[test]
-fn a_node_tells_its_own_end(rt: HostRuntime) -> Result<(), Fail> {
+fn a_node_tells_its_own_end(rt: HostRuntime) {
+    let rt = &rt;
     for (stage, end) in [
         (Stage::Listener, None),
         (Stage::Key, None),
@@ -96,21 +96,21 @@ fn a_node_tells_its_own_end(rt: HostRuntime) -> Result<(), Fail> {
         (Stage::Quitter, None),
         (Stage::Leaver, Some(0)),
     ] {
-        let node = at(rt.alloc(), stage)?;
+        let node = must!(rt; at(rt.alloc(), stage));
         let me = node.me();
-        same!(&rt; node.end(me), end, stage);
-        same!(&rt; node.end(2), None, stage);
-        same!(&rt; (node.end(3), node.end(255)), (None, None), stage);
+        same!(rt; node.end(me), end, stage);
+        same!(rt; node.end(2), None, stage);
+        same!(rt; (node.end(3), node.end(255)), (None, None), stage);
     }
-    Ok(())
 }
 
 /// An end is told by an EXIT packet that is not dropped, and stays; what speaks against it is dropped.
 #[test]
-fn an_end_stays(rt: HostRuntime) -> Result<(), Fail> {
-    let (mut key, _) = pair(rt.alloc(), false)?;
+fn an_end_stays(rt: HostRuntime) {
+    let rt = &rt;
+    let (mut key, _) = must!(rt; pair(rt.alloc(), false));
     hears(
-        &rt,
+        rt,
         &mut key,
         1,
         (0, (0, 0, 1), &[STILL; 5]),
@@ -137,10 +137,9 @@ fn an_end_stays(rt: HostRuntime) -> Result<(), Fail> {
     ];
     for (flags, start, count, answer, end) in rows {
         let still = [STILL; 3];
-        let commands = still.get(..count).ok_or("too many")?;
-        hears(&rt, &mut key, 1, (flags, (0, start, 1), commands), answer);
-        same!(&rt; key.end(1), end, (flags, start, count));
+        let commands = must!(rt; still.get(..count).ok_or("too many"));
+        hears(rt, &mut key, 1, (flags, (0, start, 1), commands), answer);
+        same!(rt; key.end(1), end, (flags, start, count));
     }
-    same!(&rt; (key.got(1), key.phase()), (Some(7), Phase::Playing));
-    Ok(())
+    same!(rt; (key.got(1), key.phase()), (Some(7), Phase::Playing));
 }

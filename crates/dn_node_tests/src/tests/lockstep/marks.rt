@@ -19,74 +19,74 @@ fn exchange(rt: &impl Abort, key: &mut Lockstep, other: &mut Lockstep) -> Result
 
 /// A command carries the mark that was handed in at the run twelve tics before.
 #[test]
-fn marks_come_back_twelve_tics_on(rt: HostRuntime) -> Result<(), Fail> {
-    let (mut key, mut other) = pair(rt.alloc(), false)?;
+fn marks_come_back_twelve_tics_on(rt: HostRuntime) {
+    let rt = &rt;
+    let (mut key, mut other) = must!(rt; pair(rt.alloc(), false));
     for tic in 0i16..30 {
-        let carried = exchange(&rt, &mut key, &mut other)?;
-        same!(&rt; carried, if tic < 12 { 0 } else { 1_000 + tic - 12 }, tic);
+        let carried = must!(rt; exchange(rt, &mut key, &mut other));
+        same!(rt; carried, if tic < 12 { 0 } else { 1_000 + tic - 12 }, tic);
         let marks = [1_000 + tic, -2_000 - tic, 3, 4];
         let number = tic.unsigned_abs().into();
-        same!(&rt; key.run(&marks).0, Ran::Ran(number));
-        same!(&rt; other.run(&marks).0, Ran::Ran(number));
+        same!(rt; key.run(&marks).0, Ran::Ran(number));
+        same!(rt; other.run(&marks).0, Ran::Ran(number));
     }
-    Ok(())
 }
 
 /// Worlds that differ before tic 5 end the game at tic 17, at whoever hands in another mark than the player.
 #[test]
-fn other_marks_end_it(rt: HostRuntime) -> Result<(), Fail> {
-    let (mut key, mut other) = pair(rt.alloc(), false)?;
+fn other_marks_end_it(rt: HostRuntime) {
+    let rt = &rt;
+    let (mut key, mut other) = must!(rt; pair(rt.alloc(), false));
     for tic in 0..17 {
-        let _ = exchange(&rt, &mut key, &mut other)?;
+        let _ = must!(rt; exchange(rt, &mut key, &mut other));
         let off = if tic == 5 { 8 } else { 7 };
-        same!(&rt; key.run(&[7, off, 0, 0]).0, Ran::Ran(tic));
-        same!(&rt; other.run(&[7; 4]).0, Ran::Ran(tic));
+        same!(rt; key.run(&[7, off, 0, 0]).0, Ran::Ran(tic));
+        same!(rt; other.run(&[7; 4]).0, Ran::Ran(tic));
     }
-    let _ = exchange(&rt, &mut key, &mut other)?;
+    let _ = must!(rt; exchange(rt, &mut key, &mut other));
     let ran = Ran::Inconsistent {
         player: 1,
         was: 7,
         should: 8,
     };
-    same!(&rt; key.run(&[7; 4]), (ran, None));
+    same!(rt; key.run(&[7; 4]), (ran, None));
     let cause = Cause::Inconsistent {
         player: 1,
         was: 7,
         should: 8,
     };
-    same!(&rt; key.phase(), Phase::Ended(cause));
-    same!(&rt; other.run(&[7; 4]).0, Ran::Ran(17));
-    Ok(())
+    same!(rt; key.phase(), Phase::Ended(cause));
+    same!(rt; other.run(&[7; 4]).0, Ran::Ran(17));
 }
 
 /// Once a player is gone, the player's mark may be any.
 #[test]
-fn marks_of_the_gone_do_not_matter(rt: HostRuntime) -> Result<(), Fail> {
-    let (mut key, mut other) = pair(rt.alloc(), false)?;
+fn marks_of_the_gone_do_not_matter(rt: HostRuntime) {
+    let rt = &rt;
+    let (mut key, mut other) = must!(rt; pair(rt.alloc(), false));
     tics(&mut key, &mut other, 20, IDLE);
-    holds!(&rt; quit(&mut key));
-    same!(&rt; pass(&mut key, &mut other), Some(Heard::Left));
+    holds!(rt; quit(&mut key));
+    same!(rt; pass(&mut key, &mut other), Some(Heard::Left));
     for tic in 20i16..50 {
         let number = tic.unsigned_abs().into();
         let _ = build(&mut other, FORWARD);
         let (ran, row) = other.run(&[tic, 0, 0, 0]);
-        same!(&rt; ran, Ran::Ran(number));
-        let row = row.ok_or("no row")?;
-        same!(&rt; row.map(|step| step.map(|step| step.forward)), [None, Some(25), None, None]);
+        same!(rt; ran, Ran::Ran(number));
+        let row = must!(rt; row.ok_or("no row"));
+        same!(rt; row.map(|step| step.map(|step| step.forward)), [None, Some(25), None, None]);
     }
-    Ok(())
 }
 
 /// Only a tic that was run tells a row.
 #[test]
-fn no_other_run_tells_a_row(rt: HostRuntime) -> Result<(), Fail> {
-    let (mut key, mut other) = pair(rt.alloc(), false)?;
-    same!(&rt; key.run(&[0; 4]), (Ran::Waiting(0), None));
-    let _ = exchange(&rt, &mut key, &mut other)?;
+fn no_other_run_tells_a_row(rt: HostRuntime) {
+    let rt = &rt;
+    let (mut key, mut other) = must!(rt; pair(rt.alloc(), false));
+    same!(rt; key.run(&[0; 4]), (Ran::Waiting(0), None));
+    let _ = must!(rt; exchange(rt, &mut key, &mut other));
     let (ran, row) = key.run(&[0; 4]);
-    same!(&rt; (ran, row.is_some()), (Ran::Ran(0), true));
-    same!(&rt; key.run(&[0; 4]), (Ran::Waiting(0), None));
-    holds!(&rt; quit(&mut key));
-    same!(&rt; key.run(&[0; 4]), (Ran::NotPlaying, None));
-    Ok(())
+    same!(rt; (ran, row.is_some()), (Ran::Ran(0), true));
+    same!(rt; key.run(&[0; 4]), (Ran::Waiting(0), None));
+    holds!(rt; quit(&mut key));
+    same!(rt; key.run(&[0; 4]), (Ran::NotPlaying, None));
 }

@@ -91,11 +91,11 @@ fn a_node_begins_with_nothing(rt: HostRuntime) -> Result<(), Fail> {
 
 /// Each request for memory may be refused: then the answer says so, and there is no other.
 #[test]
-fn refused_memory_is_told(rt: HostRuntime) -> Result<(), Fail> {
-    let settings = Some(choice()?);
+fn refused_memory_is_told(rt: HostRuntime) {
+    let rt = &rt;
+    let settings = Some(must!(rt; choice()));
     match Lockstep::new(rt.alloc(), config(2, 0, LIMIT, settings)) {
-        Ok(node) => same!(&rt; node.phase(), Phase::Gathering),
-        Err(fault) => same!(&rt; fault, NodeFault::Memory),
+        Ok(node) => same!(rt; node.phase(), Phase::Gathering),
+        Err(fault) => same!(rt; fault, NodeFault::Memory),
     }
-    Ok(())
 }

@@ -3,12 +3,12 @@
 use super::requests::sends;
 use super::{LIMIT, NO_KEYS, STILL, build, hears, opened, pair, run};
 use dn_lockstep::{Heard, Made};
-use std::test::Fail;
 
 #[test]
-fn a_packet_may_repeat_the_last_command(rt: HostRuntime) -> Result<(), Fail> {
-    let (mut key, _) = pair(rt.alloc(), true)?;
-    sends(&rt, &mut key, 0, 0);
+fn a_packet_may_repeat_the_last_command(rt: HostRuntime) {
+    let rt = &rt;
+    let (mut key, _) = must!(rt; pair(rt.alloc(), true));
+    sends(rt, &mut key, 0, 0);
     for (built, start, count) in [
         (1, 0, 1),
         (1, 0, 2),
@@ -20,27 +20,27 @@ fn a_packet_may_repeat_the_last_command(rt: HostRuntime) -> Result<(), Fail> {
         for _ in 0..built {
             let _ = build(&mut key, NO_KEYS);
         }
-        sends(&rt, &mut key, start, count);
+        sends(rt, &mut key, start, count);
     }
-    Ok(())
 }
 
 #[test]
-fn each_command_goes_out_once(rt: HostRuntime) -> Result<(), Fail> {
-    let (mut key, _) = pair(rt.alloc(), false)?;
-    sends(&rt, &mut key, 0, 0);
+fn each_command_goes_out_once(rt: HostRuntime) {
+    let rt = &rt;
+    let (mut key, _) = must!(rt; pair(rt.alloc(), false));
+    sends(rt, &mut key, 0, 0);
     for (built, start, count) in [(1, 0, 1), (1, 1, 1), (0, 2, 0), (3, 2, 3), (0, 5, 0)] {
         for _ in 0..built {
             let _ = build(&mut key, NO_KEYS);
         }
-        sends(&rt, &mut key, start, count);
+        sends(rt, &mut key, start, count);
     }
-    Ok(())
 }
 
 /// A peer that was given nothing for more than twelve commands is given the newest alone.
 #[test]
-fn what_is_too_old_is_not_sent(rt: HostRuntime) -> Result<(), Fail> {
+fn what_is_too_old_is_not_sent(rt: HostRuntime) {
+    let rt = &rt;
     for (extra, behind, start, count) in [
         (false, 12, 0, 12),
         (false, 13, 13, 0),
@@ -49,21 +49,14 @@ fn what_is_too_old_is_not_sent(rt: HostRuntime) -> Result<(), Fail> {
         (true, 13, 12, 1),
         (true, 20, 19, 1),
     ] {
-        let mut key = opened(rt.alloc(), (2, 0), extra, LIMIT)?;
-        hears(&rt, &mut key, 1, (0, (0, 0, 1), &[]), Heard::Started);
+        let mut key = must!(rt; opened(rt.alloc(), (2, 0), extra, LIMIT));
+        hears(rt, &mut key, 1, (0, (0, 0, 1), &[]), Heard::Started);
         for tic in 0..behind {
             let low = (tic % 256) as u8;
-            same!(&rt; build(&mut key, NO_KEYS), Made::Made(tic));
-            hears(
-                &rt,
-                &mut key,
-                1,
-                (0, (0, low, 1), &[STILL]),
-                Heard::Taken(1),
-            );
+            same!(rt; build(&mut key, NO_KEYS), Made::Made(tic));
+            hears(rt, &mut key, 1, (0, (0, low, 1), &[STILL]), Heard::Taken(1));
             let _ = run(&mut key);
         }
-        sends(&rt, &mut key, start, count);
+        sends(rt, &mut key, start, count);
     }
-    Ok(())
 }

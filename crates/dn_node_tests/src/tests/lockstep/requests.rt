@@ -45,7 +45,8 @@ pub(super) fn sends(rt: &impl Abort, node: &mut Lockstep, start: u32, count: u8)
 }
 
 #[test]
-fn requests_within_the_last_twelve_are_met(rt: HostRuntime) -> Result<(), Fail> {
+fn requests_within_the_last_twelve_are_met(rt: HostRuntime) {
+    let rt = &rt;
     // commands made, the ask byte, and the first command of the next packet
     for (made, byte, start) in [
         (30, 17, 30),
@@ -65,104 +66,103 @@ fn requests_within_the_last_twelve_are_met(rt: HostRuntime) -> Result<(), Fail> 
         (260, 4, 260),
         (260, 5, 260),
     ] {
-        let (mut key, _) = at_tic(rt.alloc(), made)?;
-        same!(&rt; key.made(), made);
-        same!(&rt; ask(&mut key, byte), Heard::Stale, (made, byte));
+        let (mut key, _) = must!(rt; at_tic(rt.alloc(), made));
+        same!(rt; key.made(), made);
+        same!(rt; ask(&mut key, byte), Heard::Stale, (made, byte));
         let count = (made.saturating_sub(start) % 256) as u8;
-        sends(&rt, &mut key, start, count);
+        sends(rt, &mut key, start, count);
         // then the next packet has nothing to repeat
-        sends(&rt, &mut key, made, 0);
+        sends(rt, &mut key, made, 0);
     }
-    Ok(())
 }
 
 #[test]
-fn a_met_request_stands_for_ten_packets(rt: HostRuntime) -> Result<(), Fail> {
-    let (mut key, _) = at_tic(rt.alloc(), 30)?;
-    same!(&rt; ask(&mut key, 18), Heard::Stale);
-    sends(&rt, &mut key, 18, 12);
+fn a_met_request_stands_for_ten_packets(rt: HostRuntime) {
+    let rt = &rt;
+    let (mut key, _) = must!(rt; at_tic(rt.alloc(), 30));
+    same!(rt; ask(&mut key, 18), Heard::Stale);
+    sends(rt, &mut key, 18, 12);
     for _ in 0..10 {
-        same!(&rt; ask(&mut key, 20), Heard::Stale);
-        sends(&rt, &mut key, 30, 0);
+        same!(rt; ask(&mut key, 20), Heard::Stale);
+        sends(rt, &mut key, 30, 0);
     }
-    same!(&rt; ask(&mut key, 20), Heard::Stale);
-    sends(&rt, &mut key, 20, 10);
-    same!(&rt; ask(&mut key, 20), Heard::Stale);
-    sends(&rt, &mut key, 30, 0);
-    Ok(())
+    same!(rt; ask(&mut key, 20), Heard::Stale);
+    sends(rt, &mut key, 20, 10);
+    same!(rt; ask(&mut key, 20), Heard::Stale);
+    sends(rt, &mut key, 30, 0);
 }
 
 /// A pause gets shorter with every packet that is not dropped, and with no other.
 #[test]
-fn dropped_packets_do_not_count(rt: HostRuntime) -> Result<(), Fail> {
-    let (mut key, _) = at_tic(rt.alloc(), 30)?;
-    same!(&rt; ask(&mut key, 18), Heard::Stale);
-    sends(&rt, &mut key, 18, 12);
+fn dropped_packets_do_not_count(rt: HostRuntime) {
+    let rt = &rt;
+    let (mut key, _) = must!(rt; at_tic(rt.alloc(), 30));
+    same!(rt; ask(&mut key, 18), Heard::Stale);
+    sends(rt, &mut key, 18, 12);
     let stop = TicCmd {
         forward: -128,
         ..STILL
     };
     let late = datagram(0, (0, 31, 1), &[STILL; 12]);
     for _ in 0..12 {
-        hears(&rt, &mut key, 1, (0, (0, 30, 0), &[]), Heard::Dropped(5));
-        same!(&rt; received(&mut key, 1, late.as_slice()), Heard::Dropped(12));
+        hears(rt, &mut key, 1, (0, (0, 30, 0), &[]), Heard::Dropped(5));
+        same!(rt; received(&mut key, 1, late.as_slice()), Heard::Dropped(12));
         hears(
-            &rt,
+            rt,
             &mut key,
             1,
             (RETRANSMIT, (18, 30, 1), &[stop]),
             Heard::Dropped(11),
         );
         hears(
-            &rt,
+            rt,
             &mut key,
             1,
             (EXIT | RETRANSMIT, (18, 29, 1), &[]),
             Heard::Dropped(14),
         );
     }
-    same!(&rt; ask(&mut key, 20), Heard::Stale);
-    sends(&rt, &mut key, 30, 0);
+    same!(rt; ask(&mut key, 20), Heard::Stale);
+    sends(rt, &mut key, 30, 0);
     // one more was heard just now; eight are stale, of a gap, or new, and the next is met
     let stale = datagram(0, (0, 20, 1), &[STILL; 4]);
     let gap = datagram(0, (0, 35, 1), &[]);
     for _ in 0..4 {
-        same!(&rt; received(&mut key, 1, stale.as_slice()), Heard::Stale);
-        same!(&rt; received(&mut key, 1, gap.as_slice()), Heard::Gap);
+        same!(rt; received(&mut key, 1, stale.as_slice()), Heard::Stale);
+        same!(rt; received(&mut key, 1, gap.as_slice()), Heard::Gap);
     }
     let new = datagram(RETRANSMIT, (20, 30, 1), &[STILL]);
-    same!(&rt; received(&mut key, 1, new.as_slice()), Heard::Taken(1));
-    sends(&rt, &mut key, 30, 0);
+    same!(rt; received(&mut key, 1, new.as_slice()), Heard::Taken(1));
+    sends(rt, &mut key, 30, 0);
     let met = datagram(RETRANSMIT, (20, 31, 1), &[STILL]);
-    same!(&rt; received(&mut key, 1, met.as_slice()), Heard::Taken(1));
-    sends(&rt, &mut key, 20, 10);
-    Ok(())
+    same!(rt; received(&mut key, 1, met.as_slice()), Heard::Taken(1));
+    sends(rt, &mut key, 20, 10);
 }
 
 /// A node that misses commands asks for them until they come.
 #[test]
-fn a_gap_is_asked_for(rt: HostRuntime) -> Result<(), Fail> {
-    let (mut key, mut other) = at_tic(rt.alloc(), 3)?;
+fn a_gap_is_asked_for(rt: HostRuntime) {
+    let rt = &rt;
+    let (mut key, mut other) = must!(rt; at_tic(rt.alloc(), 3));
     let _ = build(&mut other, NO_KEYS);
-    let lost = given(&mut other, 0)?;
-    same!(&rt; lost.len(), 16);
+    let lost = must!(rt; given(&mut other, 0));
+    same!(rt; lost.len(), 16);
     let _ = build(&mut other, NO_KEYS);
-    same!(&rt; pass(&mut other, &mut key), Some(Heard::Gap));
+    same!(rt; pass(&mut other, &mut key), Some(Heard::Gap));
     let asks = Aim {
         flags: RETRANSMIT,
         ask: Some(3),
         start: 3,
         count: 0,
     };
-    same!(&rt; key.aim(1), Some(asks));
-    same!(&rt; pass(&mut key, &mut other), Some(Heard::Stale));
-    same!(&rt; key.aim(1), Some(asks));
-    same!(&rt; pass(&mut other, &mut key), Some(Heard::Taken(2)));
+    same!(rt; key.aim(1), Some(asks));
+    same!(rt; pass(&mut key, &mut other), Some(Heard::Stale));
+    same!(rt; key.aim(1), Some(asks));
+    same!(rt; pass(&mut other, &mut key), Some(Heard::Taken(2)));
     let quiet = Aim {
         flags: 0,
         ask: None,
         ..asks
     };
-    same!(&rt; key.aim(1), Some(quiet));
-    Ok(())
+    same!(rt; key.aim(1), Some(quiet));
 }

@@ -124,31 +124,30 @@ fn play_round(
     (one, first): (&mut Beside, &mut Node<Walk>),
     (two, second): (&mut Beside, &mut Node<Walk>),
     round: u32,
-) -> Result<(), Fail> {
+) {
     let packet = builds(rt, one, first, round.wrapping_mul(0x9E37_79B1));
     let answer = builds(rt, two, second, round.wrapping_mul(0x85EB_CA6B));
     if round % 25 != 3 {
-        hears(rt, two, second, packet)?;
+        must!(rt; hears(rt, two, second, packet));
     }
     if round % 31 != 4 {
-        hears(rt, one, first, answer)?;
+        must!(rt; hears(rt, one, first, answer));
     }
     runs(rt, one, first, round == 100);
     runs(rt, two, second, false);
-    Ok(())
 }
 
 #[test]
-fn a_world_beside_is_a_world_inside(rt: HostRuntime) -> Result<(), Fail> {
+fn a_world_beside_is_a_world_inside(rt: HostRuntime) {
+    let rt = &rt;
     let alloc = rt.alloc();
-    let mut one = Beside::new(alloc, 0)?;
-    let mut two = Beside::new(alloc, 1)?;
-    let mut first = opened(alloc, (2, 0), false, LIMIT, Walk::new())?;
-    let mut second = opened(alloc, (2, 1), false, LIMIT, Walk::new())?;
+    let mut one = must!(rt; Beside::new(alloc, 0));
+    let mut two = must!(rt; Beside::new(alloc, 1));
+    let mut first = must!(rt; opened(alloc, (2, 0), false, LIMIT, Walk::new()));
+    let mut second = must!(rt; opened(alloc, (2, 1), false, LIMIT, Walk::new()));
     for round in 0u32..120 {
-        play_round(&rt, (&mut one, &mut first), (&mut two, &mut second), round)?;
+        play_round(rt, (&mut one, &mut first), (&mut two, &mut second), round);
     }
-    holds!(&rt; first.ran() > 40);
-    holds!(&rt; second.ran() > first.ran());
-    Ok(())
+    holds!(rt; first.ran() > 40);
+    holds!(rt; second.ran() > first.ran());
 }

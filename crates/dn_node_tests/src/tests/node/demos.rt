@@ -19,14 +19,9 @@ fn is_full(rt: &impl Abort, node: &mut Node<Walk>, ran: u32, size: usize) {
 }
 
 /// Two nodes whose demos have this limit run so many tics, and then end with demos of that size.
-fn ends_full(
-    rt: &impl Abort,
-    alloc: Global,
-    limit: u32,
-    (ran, size): (u32, usize),
-) -> Result<(), Fail> {
+fn ends_full(rt: &impl Abort, alloc: Global, limit: u32, (ran, size): (u32, usize)) {
     let walks = (Walk::new(), Walk::new());
-    let (mut key, mut other) = pair_of(alloc, false, limit, walks)?;
+    let (mut key, mut other) = must!(rt; pair_of(alloc, false, limit, walks));
     for number in 0..ran {
         let answers = (Ran::Ran(number), Ran::Ran(number));
         same!(rt; tic(&mut key, &mut other, IDLE), answers, limit);
@@ -36,13 +31,13 @@ fn ends_full(
     is_full(rt, &mut key, ran, size);
     is_full(rt, &mut other, ran, size);
     // it tells its peer, which has all its commands
-    let aim = key.aim(1).ok_or("no packet")?;
+    let aim = must!(rt; key.aim(1).ok_or("no packet"));
     same!(rt; (aim.flags, aim.start), (EXIT, ran.saturating_add(1)), limit);
-    Ok(())
 }
 
 #[test]
-fn a_full_demo_ends_a_node(rt: HostRuntime) -> Result<(), Fail> {
+fn a_full_demo_ends_a_node(rt: HostRuntime) {
+    let rt = &rt;
     for (limit, ran, size) in [
         (1_034, 102, 1_034),
         (1_033, 101, 1_024),
@@ -51,30 +46,29 @@ fn a_full_demo_ends_a_node(rt: HostRuntime) -> Result<(), Fail> {
         (1_043, 102, 1_034),
         (1_044, 103, 1_044),
     ] {
-        ends_full(&rt, rt.alloc(), limit, (ran, size))?;
+        ends_full(rt, rt.alloc(), limit, (ran, size));
     }
-    Ok(())
 }
 
 /// A tic that waits for a command is asked for before the demo is full.
 #[test]
-fn a_full_demo_waits_for_commands(rt: HostRuntime) -> Result<(), Fail> {
+fn a_full_demo_waits_for_commands(rt: HostRuntime) {
+    let rt = &rt;
     let walks = (Walk::new(), Walk::new());
-    let (mut key, mut other) = pair_of(rt.alloc(), false, 1_034, walks)?;
+    let (mut key, mut other) = must!(rt; pair_of(rt.alloc(), false, 1_034, walks));
     tics(&mut key, &mut other, 102, IDLE);
-    same!(&rt; run(&mut key), Ran::Waiting(0));
-    same!(&rt; build(&mut key, 0), Made::Made(102));
-    same!(&rt; run(&mut key), Ran::Waiting(1));
-    same!(&rt; key.phase(), Phase::Playing);
+    same!(rt; run(&mut key), Ran::Waiting(0));
+    same!(rt; build(&mut key, 0), Made::Made(102));
+    same!(rt; run(&mut key), Ran::Waiting(1));
+    same!(rt; key.phase(), Phase::Playing);
     let _ = build(&mut other, 0);
     let _ = pass(&mut other, &mut key);
-    same!(&rt; run(&mut key), Ran::DemoFull);
-    Ok(())
+    same!(rt; run(&mut key), Ran::DemoFull);
 }
 
 /// Plays the demo of a node in a new Walk, and compares where the players stand.
-fn replays(rt: &impl Abort, alloc: Global, node: &Node<Walk>) -> Result<(), Fail> {
-    let demo = Demo::read(alloc, node.demo())?;
+fn replays(rt: &impl Abort, alloc: Global, node: &Node<Walk>) {
+    let demo = must!(rt; Demo::read(alloc, node.demo()));
     same!(rt; demo.view(), node.me());
     same!(rt; (demo.cut(), demo.after()), (0, 0));
     same!(rt; demo.present(), [true, true, false, false]);
@@ -88,7 +82,6 @@ fn replays(rt: &impl Abort, alloc: Global, node: &Node<Walk>) -> Result<(), Fail
         let place = (world.x(player), world.y(player), world.angle(player));
         same!(rt; (walk.x(player), walk.y(player), walk.angle(player)), place, player);
     }
-    Ok(())
 }
 
 /// Plays `count` tics with keys that change.
@@ -109,19 +102,19 @@ fn both_quit(rt: &impl Abort, key: &mut Node<Walk>, other: &mut Node<Walk>) {
 }
 
 #[test]
-fn demos_of_ended_nodes_are_played_again(rt: HostRuntime) -> Result<(), Fail> {
+fn demos_of_ended_nodes_are_played_again(rt: HostRuntime) {
+    let rt = &rt;
     for (count, extra) in [(0, false), (1, false), (25, true), (300, false)] {
-        let (mut key, mut other) = pair(rt.alloc(), extra)?;
+        let (mut key, mut other) = must!(rt; pair(rt.alloc(), extra));
         wander(&mut key, &mut other, count);
-        same!(&rt; (key.ran(), other.ran()), (count, count));
-        both_quit(&rt, &mut key, &mut other);
-        replays(&rt, rt.alloc(), &key)?;
-        replays(&rt, rt.alloc(), &other)?;
+        same!(rt; (key.ran(), other.ran()), (count, count));
+        both_quit(rt, &mut key, &mut other);
+        replays(rt, rt.alloc(), &key);
+        replays(rt, rt.alloc(), &other);
         // the same rows behind headers that differ in their views
-        holds!(&rt; key.demo().len() > 13, count);
-        same!(&rt; key.demo().get(13..), other.demo().get(13..), count);
+        holds!(rt; key.demo().len() > 13, count);
+        same!(rt; key.demo().get(13..), other.demo().get(13..), count);
     }
-    Ok(())
 }
 
 /// A new Walk in which a demo was played, and in how many tics.
@@ -134,29 +127,29 @@ fn replayed(alloc: Global, bytes: &[u8]) -> Result<(Walk, usize), Fail> {
 
 /// The tics that a node runs alone, after the other has left, are not in its demo.
 #[test]
-fn tics_without_a_player_are_not_recorded(rt: HostRuntime) -> Result<(), Fail> {
-    let (mut key, mut other) = pair(rt.alloc(), false)?;
+fn tics_without_a_player_are_not_recorded(rt: HostRuntime) {
+    let rt = &rt;
+    let (mut key, mut other) = must!(rt; pair(rt.alloc(), false));
     let keys = (FORWARD, FORWARD | LEFT);
     tics(&mut key, &mut other, 20, keys);
-    holds!(&rt; quit(&mut key));
-    same!(&rt; pass(&mut key, &mut other), Some(Heard::Left));
+    holds!(rt; quit(&mut key));
+    same!(rt; pass(&mut key, &mut other), Some(Heard::Left));
     // what the demo is played to, before and after the tics that the node runs alone
-    let (before, _) = replayed(rt.alloc(), key.demo())?;
+    let (before, _) = must!(rt; replayed(rt.alloc(), key.demo()));
     for tic in 20..25 {
-        same!(&rt; build(&mut other, FORWARD | SPEED), Made::Made(tic));
-        same!(&rt; run(&mut other), Ran::Ran(tic));
-        same!(&rt; other.demo().len(), 13 + 20 * 10 + 1);
+        same!(rt; build(&mut other, FORWARD | SPEED), Made::Made(tic));
+        same!(rt; run(&mut other), Ran::Ran(tic));
+        same!(rt; other.demo().len(), 13 + 20 * 10 + 1);
     }
-    let (after, count) = replayed(rt.alloc(), other.demo())?;
-    same!(&rt; count, 20);
+    let (after, count) = must!(rt; replayed(rt.alloc(), other.demo()));
+    same!(rt; count, 20);
     for player in 0..2 {
         let place = (before.x(player), before.angle(player));
-        same!(&rt; (after.x(player), after.angle(player)), place, player);
+        same!(rt; (after.x(player), after.angle(player)), place, player);
     }
     // who left stands still, and the other has gone on
-    same!(&rt; other.world().x(0), before.x(0));
-    holds!(&rt; other.world().x(1) != before.x(1));
-    Ok(())
+    same!(rt; other.world().x(0), before.x(0));
+    holds!(rt; other.world().x(1) != before.x(1));
 }
 
 /// A node has written one row, and closes its demo.
@@ -170,15 +163,15 @@ fn wrote(rt: &impl Abort, node: &mut Node<Walk>, row: [u8; 10]) {
 
 /// What one tic of two players writes.
 #[test]
-fn a_row_has_the_used_moves(rt: HostRuntime) -> Result<(), Fail> {
-    let (mut key, mut other) = pair(rt.alloc(), false)?;
+fn a_row_has_the_used_moves(rt: HostRuntime) {
+    let rt = &rt;
+    let (mut key, mut other) = must!(rt; pair(rt.alloc(), false));
     let header = [0x6F, 2, 1, 1, 0, 0, 0, 0, 1, 1, 1, 0, 0];
-    same!(&rt; other.demo(), header.as_slice());
+    same!(rt; other.demo(), header.as_slice());
     // forward and speed; left, strafe right, attack and the third weapon
     let keys = (0x81, 0x1124);
-    same!(&rt; tic(&mut key, &mut other, keys), (Ran::Ran(0), Ran::Ran(0)));
+    same!(rt; tic(&mut key, &mut other, keys), (Ran::Ran(0), Ran::Ran(0)));
     let row = [50, 0, 0, 0, 0, 0, 24, 64, 1, 21];
-    wrote(&rt, &mut key, row);
-    wrote(&rt, &mut other, row);
-    Ok(())
+    wrote(rt, &mut key, row);
+    wrote(rt, &mut other, row);
 }

@@ -6,7 +6,6 @@ use dn_packet::{EXIT, RETRANSMIT};
 use dn_world::Walk;
 use std::alloc::Global;
 use std::process::Abort;
-use std::test::Fail;
 
 /// The EXIT packets of player 2 with 35 commands made: the first has the last two, which are of no keys,
 /// and the next has none.
@@ -44,10 +43,10 @@ fn run_three((a, b, c): (&mut Node<Walk>, &mut Node<Walk>, &mut Node<Walk>), cou
 
 /// Three nodes after thirty tics. Player 2 has made 35 commands, of which the others have 33; they have made
 /// 35, and have each other's.
-fn three(rt: &impl Abort, alloc: Global) -> Result<Three, Fail> {
-    let mut a = opened(alloc, (3, 0), false, LIMIT, Walk::new())?;
-    let mut b = opened(alloc, (3, 1), false, LIMIT, Walk::new())?;
-    let mut c = opened(alloc, (3, 2), false, LIMIT, Walk::new())?;
+fn three(rt: &impl Abort, alloc: Global) -> Three {
+    let mut a = must!(rt; opened(alloc, (3, 0), false, LIMIT, Walk::new()));
+    let mut b = must!(rt; opened(alloc, (3, 1), false, LIMIT, Walk::new()));
+    let mut c = must!(rt; opened(alloc, (3, 2), false, LIMIT, Walk::new()));
     same!(rt; pass(&mut a, &mut b), Some(Heard::Started));
     same!(rt; pass(&mut a, &mut c), Some(Heard::Started));
     same!(rt; pass(&mut b, &mut a), Some(Heard::Noted));
@@ -60,7 +59,7 @@ fn three(rt: &impl Abort, alloc: Global) -> Result<Three, Fail> {
     same!(rt; build(&mut c, NO_KEYS), Made::Made(34));
     same!(rt; (a.ran(), b.ran(), c.ran()), (30, 30, 30));
     same!(rt; (a.got(2), b.got(2), c.made()), (Some(33), Some(33), 35));
-    Ok((a, b, c))
+    (a, b, c)
 }
 
 /// Takes a packet of the node, with these first bytes and `zeros` zero bytes behind them.
@@ -86,27 +85,27 @@ fn gives(rt: &impl Abort, node: &mut Node<Walk>, to: u8, first: &[u8; 8], zeros:
 }
 
 #[test]
-fn who_leaves_gives_the_last_commands(rt: HostRuntime) -> Result<(), Fail> {
-    let (_, _, mut c) = three(&rt, rt.alloc())?;
-    same!(&rt; c.end(2), None);
-    holds!(&rt; quit(&mut c));
-    holds!(&rt; !quit(&mut c));
-    same!(&rt; c.phase(), Phase::Ended(Cause::Quit));
-    same!(&rt; (c.end(0), c.end(1), c.end(2)), (None, None, Some(35)));
-    same!(&rt; c.demo().len(), 464);
-    same!(&rt; build(&mut c, NO_KEYS), Made::NotPlaying);
-    same!(&rt; run(&mut c), Ran::NotPlaying);
+fn who_leaves_gives_the_last_commands(rt: HostRuntime) {
+    let rt = &rt;
+    let (_, _, mut c) = three(rt, rt.alloc());
+    same!(rt; c.end(2), None);
+    holds!(rt; quit(&mut c));
+    holds!(rt; !quit(&mut c));
+    same!(rt; c.phase(), Phase::Ended(Cause::Quit));
+    same!(rt; (c.end(0), c.end(1), c.end(2)), (None, None, Some(35)));
+    same!(rt; c.demo().len(), 464);
+    same!(rt; build(&mut c, NO_KEYS), Made::NotPlaying);
+    same!(rt; run(&mut c), Ran::NotPlaying);
     for to in [0, 1] {
-        gives(&rt, &mut c, to, &LAST, 16);
+        gives(rt, &mut c, to, &LAST, 16);
         for _ in 0..9 {
-            gives(&rt, &mut c, to, &NONE, 0);
+            gives(rt, &mut c, to, &NONE, 0);
         }
     }
     for to in [2, 3, 4, 255] {
-        same!(&rt; c.aim(to), None);
-        holds!(&rt; c.packet(to).is_none());
+        same!(rt; c.aim(to), None);
+        holds!(rt; c.packet(to).is_none());
     }
-    Ok(())
 }
 
 /// A node runs the tics before 35 with player 2 and those from it on without, and its demo ends before them.
@@ -131,16 +130,15 @@ fn plays_on(rt: &impl Abort, node: &mut Node<Walk>, other: u8, first: u32) {
 }
 
 /// Node 1 asks player 2, and is answered with the first packet once more.
-fn asks_again(rt: &impl Abort, b: &mut Node<Walk>, c: &mut Node<Walk>) -> Result<(), Fail> {
-    let asks = b.aim(2).ok_or("no packet")?;
+fn asks_again(rt: &impl Abort, b: &mut Node<Walk>, c: &mut Node<Walk>) {
+    let asks = must!(rt; b.aim(2).ok_or("no packet"));
     same!(rt; (asks.flags, asks.ask), (RETRANSMIT, Some(33)));
     same!(rt; pass(b, c), Some(Heard::Noted));
-    let answer = given(c, 1)?;
+    let answer = must!(rt; given(c, 1));
     same!(rt; answer.len(), 24);
     holds!(rt; answer.as_slice().starts_with(&LAST));
     same!(rt; received(b, 2, answer.as_slice()), Heard::Left);
     same!(rt; (b.got(2), b.end(2)), (Some(35), Some(35)));
-    Ok(())
 }
 
 /// The nodes have the same rows, behind headers that differ in their views, and the players of the first two
@@ -156,26 +154,26 @@ fn played_alike(rt: &impl Abort, a: &Node<Walk>, b: &Node<Walk>, c: &Node<Walk>)
 }
 
 #[test]
-fn the_others_play_on(rt: HostRuntime) -> Result<(), Fail> {
-    let (mut a, mut b, mut c) = three(&rt, rt.alloc())?;
-    holds!(&rt; quit(&mut c));
+fn the_others_play_on(rt: HostRuntime) {
+    let rt = &rt;
+    let (mut a, mut b, mut c) = three(rt, rt.alloc());
+    holds!(rt; quit(&mut c));
     // node 0 hears the first packet
-    same!(&rt; pass(&mut c, &mut a), Some(Heard::Left));
-    same!(&rt; (a.got(2), a.end(2)), (Some(35), Some(35)));
-    same!(&rt; (a.phase(), a.demo().len()), (Phase::Playing, 463));
+    same!(rt; pass(&mut c, &mut a), Some(Heard::Left));
+    same!(rt; (a.got(2), a.end(2)), (Some(35), Some(35)));
+    same!(rt; (a.phase(), a.demo().len()), (Phase::Playing, 463));
     // node 1 hears the second alone, and waits for the commands before the end
-    gives(&rt, &mut c, 1, &LAST, 16);
-    same!(&rt; pass(&mut c, &mut b), Some(Heard::Gap));
-    same!(&rt; (b.got(2), b.end(2)), (Some(33), Some(35)));
+    gives(rt, &mut c, 1, &LAST, 16);
+    same!(rt; pass(&mut c, &mut b), Some(Heard::Gap));
+    same!(rt; (b.got(2), b.end(2)), (Some(33), Some(35)));
     for tic in 30..33 {
-        same!(&rt; run(&mut b), Ran::Ran(tic));
+        same!(rt; run(&mut b), Ran::Ran(tic));
     }
-    same!(&rt; run(&mut b), Ran::Waiting(2));
-    asks_again(&rt, &mut b, &mut c)?;
-    plays_on(&rt, &mut a, 1, 30);
-    plays_on(&rt, &mut b, 0, 33);
-    played_alike(&rt, &a, &b, &c);
-    Ok(())
+    same!(rt; run(&mut b), Ran::Waiting(2));
+    asks_again(rt, &mut b, &mut c);
+    plays_on(rt, &mut a, 1, 30);
+    plays_on(rt, &mut b, 0, 33);
+    played_alike(rt, &a, &b, &c);
 }
 
 /// A node that ran 33 tics plays on, and waits for player 2.
@@ -191,9 +189,9 @@ fn waits(rt: &impl Abort, node: &mut Node<Walk>) {
 }
 
 #[test]
-fn who_is_silent_is_waited_for(rt: HostRuntime) -> Result<(), Fail> {
-    let (mut a, mut b, _) = three(&rt, rt.alloc())?;
-    waits(&rt, &mut a);
-    waits(&rt, &mut b);
-    Ok(())
+fn who_is_silent_is_waited_for(rt: HostRuntime) {
+    let rt = &rt;
+    let (mut a, mut b, _) = three(rt, rt.alloc());
+    waits(rt, &mut a);
+    waits(rt, &mut b);
 }

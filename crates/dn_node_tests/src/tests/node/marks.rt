@@ -30,19 +30,14 @@ fn carried(rt: &impl Abort, bytes: &[u8]) -> Result<TicCmd, Fail> {
 }
 
 /// Builds for the next tic on both nodes. The other hears the key player's command with another mark.
-fn with_mark(
-    rt: &impl Abort,
-    key: &mut Node<Walk>,
-    other: &mut Node<Walk>,
-    mark: i16,
-) -> Result<Ran, Fail> {
+fn with_mark(rt: &impl Abort, key: &mut Node<Walk>, other: &mut Node<Walk>, mark: i16) -> Ran {
     let start = (key.made() % 256) as u8;
     let _ = build(key, FORWARD | SPEED);
     let _ = build(other, NO_KEYS);
-    let bytes = given(key, 1)?;
+    let bytes = must!(rt; given(key, 1));
     let command = TicCmd {
         mark,
-        ..carried(rt, bytes.as_slice())?
+        ..must!(rt; carried(rt, bytes.as_slice()))
     };
     hears(
         rt,
@@ -51,7 +46,7 @@ fn with_mark(
         (0, (0, start, 0), &[command]),
         Heard::Taken(1),
     );
-    Ok(run(other))
+    run(other)
 }
 
 /// Builds on both nodes, and passes both their packets: the key player's command has this mark.
@@ -76,8 +71,9 @@ fn exchange(
 }
 
 #[test]
-fn commands_carry_marks_from_tic_twelve_on(rt: HostRuntime) -> Result<(), Fail> {
-    let (mut key, mut other) = pair(rt.alloc(), false)?;
+fn commands_carry_marks_from_tic_twelve_on(rt: HostRuntime) {
+    let rt = &rt;
+    let (mut key, mut other) = must!(rt; pair(rt.alloc(), false));
     // 102,400 a tic, of which the low 16 bits are the mark
     for (number, mark) in [
         0, 0, 0, 0, 0, 0, 0, 0, 0, 0, 0, 0, 0, -28_672, 8_192, -20_480, 16_384,
@@ -85,46 +81,46 @@ fn commands_carry_marks_from_tic_twelve_on(rt: HostRuntime) -> Result<(), Fail> 
     .into_iter()
     .enumerate()
     {
-        exchange(&rt, &mut key, &mut other, mark)?;
-        same!(&rt; run(&mut key), run(&mut other), number);
-        same!(&rt; key.ran() as usize, number.saturating_add(1));
+        must!(rt; exchange(rt, &mut key, &mut other, mark));
+        same!(rt; run(&mut key), run(&mut other), number);
+        same!(rt; key.ran() as usize, number.saturating_add(1));
     }
-    Ok(())
 }
 
 #[test]
-fn another_mark_ends_a_node(rt: HostRuntime) -> Result<(), Fail> {
-    let (mut key, mut other) = at_tic(rt.alloc(), 13)?;
-    let ran = with_mark(&rt, &mut key, &mut other, 0)?;
+fn another_mark_ends_a_node(rt: HostRuntime) {
+    let rt = &rt;
+    let (mut key, mut other) = must!(rt; at_tic(rt.alloc(), 13));
+    let ran = with_mark(rt, &mut key, &mut other, 0);
     let (player, was, should) = (0, 0, -28_672);
     let answer = Ran::Inconsistent {
         player,
         was,
         should,
     };
-    same!(&rt; ran, answer);
+    same!(rt; ran, answer);
     let cause = Cause::Inconsistent {
         player,
         was,
         should,
     };
-    same!(&rt; other.phase(), Phase::Ended(cause));
-    same!(&rt; other.ran(), 13);
-    same!(&rt; other.demo().len(), 13 + 10 * 13 + 1);
-    same!(&rt; other.demo().last(), Some(&0x80));
-    same!(&rt; run(&mut other), Ran::NotPlaying);
-    holds!(&rt; !quit(&mut other));
-    same!(&rt; other.phase(), Phase::Ended(cause));
+    same!(rt; other.phase(), Phase::Ended(cause));
+    same!(rt; other.ran(), 13);
+    same!(rt; other.demo().len(), 13 + 10 * 13 + 1);
+    same!(rt; other.demo().last(), Some(&0x80));
+    same!(rt; run(&mut other), Ran::NotPlaying);
+    holds!(rt; !quit(&mut other));
+    same!(rt; other.phase(), Phase::Ended(cause));
     // it tells the others, with the last command
     let exit = datagram(EXIT, (0, 13, 1), &[STILL]);
-    let told = given(&mut other, 0)?;
-    same!(&rt; told.as_slice(), exit.as_slice());
-    Ok(())
+    let told = must!(rt; given(&mut other, 0));
+    same!(rt; told.as_slice(), exit.as_slice());
 }
 
 /// Marks are compared from tic 13 on.
 #[test]
-fn the_mark_of_tic_twelve_is_not_compared(rt: HostRuntime) -> Result<(), Fail> {
+fn the_mark_of_tic_twelve_is_not_compared(rt: HostRuntime) {
+    let rt = &rt;
     for (count, mark, answer) in [
         (0, 7, Ran::Ran(0)),
         (11, -1, Ran::Ran(11)),
@@ -150,22 +146,21 @@ fn the_mark_of_tic_twelve_is_not_compared(rt: HostRuntime) -> Result<(), Fail> {
             },
         ),
     ] {
-        let (mut key, mut other) = at_tic(rt.alloc(), count)?;
-        let ran = with_mark(&rt, &mut key, &mut other, mark)?;
-        same!(&rt; ran, answer, (count, mark));
+        let (mut key, mut other) = must!(rt; at_tic(rt.alloc(), count));
+        let ran = with_mark(rt, &mut key, &mut other, mark);
+        same!(rt; ran, answer, (count, mark));
     }
-    Ok(())
 }
 
 /// The mark of each player is compared with that player's own.
 #[test]
-fn many_tics_are_consistent(rt: HostRuntime) -> Result<(), Fail> {
-    let (mut key, mut other) = pair(rt.alloc(), true)?;
+fn many_tics_are_consistent(rt: HostRuntime) {
+    let rt = &rt;
+    let (mut key, mut other) = must!(rt; pair(rt.alloc(), true));
     for number in 0..60u32 {
         let keys = (number % 512, number.saturating_mul(7) % 512);
         let ran = Ran::Ran(number);
-        same!(&rt; tic(&mut key, &mut other, keys), (ran, ran), number);
+        same!(rt; tic(&mut key, &mut other, keys), (ran, ran), number);
     }
-    same!(&rt; key.world().x(1), other.world().x(1));
-    Ok(())
+    same!(rt; key.world().x(1), other.world().x(1));
 }

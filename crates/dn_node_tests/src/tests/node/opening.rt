@@ -31,34 +31,34 @@ fn a_node_is_refused_as_its_lockstep_is(rt: HostRuntime) -> Result<(), Fail> {
 
 /// Each request for memory may be refused: then the answer says so, and there is no other.
 #[test]
-fn refused_memory_is_told(rt: HostRuntime) -> Result<(), Fail> {
+fn refused_memory_is_told(rt: HostRuntime) {
+    let rt = &rt;
     let config = Config {
         players: 2,
         me: 0,
         extra: false,
         limit: LIMIT,
-        settings: Some(choice()?),
+        settings: Some(must!(rt; choice())),
     };
     match Node::new(rt.alloc(), config, Walk::new()) {
-        Ok(node) => same!(&rt; node.phase(), Phase::Gathering),
-        Err(fault) => same!(&rt; fault, NodeFault::Memory),
+        Ok(node) => same!(rt; node.phase(), Phase::Gathering),
+        Err(fault) => same!(rt; fault, NodeFault::Memory),
     }
-    Ok(())
 }
 
 /// The world begins with the game, at the seats of its players.
 #[test]
-fn a_world_begins_with_the_game(rt: HostRuntime) -> Result<(), Fail> {
-    let mut node = opened(rt.alloc(), (2, 1), false, LIMIT, Walk::new())?;
-    same!(&rt; (node.me(), node.settings()), (1, None));
-    same!(&rt; build(&mut node, 1), Made::NotPlaying);
-    same!(&rt; run(&mut node), Ran::NotPlaying);
-    same!(&rt; node.world().x(0), None);
+fn a_world_begins_with_the_game(rt: HostRuntime) {
+    let rt = &rt;
+    let mut node = must!(rt; opened(rt.alloc(), (2, 1), false, LIMIT, Walk::new()));
+    same!(rt; (node.me(), node.settings()), (1, None));
+    same!(rt; build(&mut node, 1), Made::NotPlaying);
+    same!(rt; run(&mut node), Ran::NotPlaying);
+    same!(rt; node.world().x(0), None);
     // skill 2, episode 1, map 1, as version 111
     let choice = datagram(SETUP, (2, 65, 111), &[]);
-    same!(&rt; received(&mut node, 0, choice.as_slice()), Heard::Started);
-    same!(&rt; node.world().x(1), Some(4_194_304));
-    same!(&rt; node.world().x(2), None);
-    same!(&rt; (node.got(0), node.got(2)), (Some(0), None));
-    Ok(())
+    same!(rt; received(&mut node, 0, choice.as_slice()), Heard::Started);
+    same!(rt; node.world().x(1), Some(4_194_304));
+    same!(rt; node.world().x(2), None);
+    same!(rt; (node.got(0), node.got(2)), (Some(0), None));
 }

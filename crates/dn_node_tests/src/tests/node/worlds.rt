@@ -9,7 +9,6 @@ use dn_packet::{KILL, RETRANSMIT};
 use dn_setup::Settings;
 use dn_world::{Belt, Walk, World};
 use std::process::Abort;
-use std::test::Fail;
 
 /// All that a node answers and tells in one tic.
 #[derive(Clone, Copy, Debug, PartialEq, Eq)]
@@ -72,35 +71,36 @@ fn end<W: World>(rt: &impl Abort, node: &mut Node<W>, other: &mut Node<W>) {
 }
 
 #[test]
-fn nodes_of_two_worlds_answer_alike(rt: HostRuntime) -> Result<(), Fail> {
+fn nodes_of_two_worlds_answer_alike(rt: HostRuntime) {
+    let rt = &rt;
     let alloc = rt.alloc();
-    let belts = (Belt::new(alloc)?, Belt::new(alloc)?);
-    let (mut belt, mut other_belt) = pair_of(alloc, false, LIMIT, belts)?;
+    let belts = (must!(rt; Belt::new(alloc)), must!(rt; Belt::new(alloc)));
+    let (mut belt, mut other_belt) = must!(rt; pair_of(alloc, false, LIMIT, belts));
     let walks = (Walk::new(), Walk::new());
-    let (mut walk, mut other_walk) = pair_of(alloc, false, LIMIT, walks)?;
+    let (mut walk, mut other_walk) = must!(rt; pair_of(alloc, false, LIMIT, walks));
     for tic in 0..40 {
         let one = one_tic(&mut belt, &mut other_belt, tic);
         let two = one_tic(&mut walk, &mut other_walk, tic);
-        same!(&rt; one, two, tic);
+        same!(rt; one, two, tic);
         let other_one = one_tic(&mut other_belt, &mut belt, tic);
         let other_two = one_tic(&mut other_walk, &mut walk, tic);
-        same!(&rt; other_one, other_two, tic);
+        same!(rt; other_one, other_two, tic);
     }
-    end(&rt, &mut belt, &mut other_belt);
-    end(&rt, &mut walk, &mut other_walk);
-    same!(&rt; belt.demo(), walk.demo());
-    same!(&rt; other_belt.demo(), other_walk.demo());
-    Ok(())
+    end(rt, &mut belt, &mut other_belt);
+    end(rt, &mut walk, &mut other_walk);
+    same!(rt; belt.demo(), walk.demo());
+    same!(rt; other_belt.demo(), other_walk.demo());
 }
 
 /// A world is begun by the settings, and stepped by the used moves.
 #[test]
-fn a_node_steps_its_world(rt: HostRuntime) -> Result<(), Fail> {
+fn a_node_steps_its_world(rt: HostRuntime) {
+    let rt = &rt;
     let alloc = rt.alloc();
-    let belts = (Belt::new(alloc)?, Belt::new(alloc)?);
-    let (mut key, mut other) = pair_of(alloc, false, LIMIT, belts)?;
+    let belts = (must!(rt; Belt::new(alloc)), must!(rt; Belt::new(alloc)));
+    let (mut key, mut other) = must!(rt; pair_of(alloc, false, LIMIT, belts));
     // map 1
-    same!(&rt; key.world().places(), [1, 1, 1, 1].as_slice());
+    same!(rt; key.world().places(), [1, 1, 1, 1].as_slice());
     for (keys, places) in [
         (0x100, [1, 1, 1, 1]),
         (0x200, [2, 1, 1, 1]),
@@ -109,18 +109,18 @@ fn a_node_steps_its_world(rt: HostRuntime) -> Result<(), Fail> {
     ] {
         let _ = build(&mut key, keys);
         let _ = build(&mut other, 0x100);
-        same!(&rt; pass(&mut key, &mut other), Some(Heard::Taken(1)));
-        same!(&rt; pass(&mut other, &mut key), Some(Heard::Taken(1)));
-        same!(&rt; run(&mut key), run(&mut other));
-        same!(&rt; key.world().places(), places.as_slice());
-        same!(&rt; other.world().places(), places.as_slice());
+        same!(rt; pass(&mut key, &mut other), Some(Heard::Taken(1)));
+        same!(rt; pass(&mut other, &mut key), Some(Heard::Taken(1)));
+        same!(rt; run(&mut key), run(&mut other));
+        same!(rt; key.world().places(), places.as_slice());
+        same!(rt; other.world().places(), places.as_slice());
     }
-    Ok(())
 }
 
 /// A world turns by the turns of the moves, which are fast from the sixth tic on.
 #[test]
-fn a_world_uses_whole_turns(rt: HostRuntime) -> Result<(), Fail> {
+fn a_world_uses_whole_turns(rt: HostRuntime) {
+    let rt = &rt;
     for (keys, angle) in [
         (RIGHT, 62_656),
         (LEFT, 2_880),
@@ -128,9 +128,8 @@ fn a_world_uses_whole_turns(rt: HostRuntime) -> Result<(), Fail> {
         (RIGHT | SPEED, 61_376),
         (LEFT | RIGHT, 0),
     ] {
-        let (mut key, mut other) = pair(rt.alloc(), false)?;
+        let (mut key, mut other) = must!(rt; pair(rt.alloc(), false));
         tics(&mut key, &mut other, 7, (keys, NO_KEYS));
-        same!(&rt; key.world().angle(0), Some(angle), keys);
+        same!(rt; key.world().angle(0), Some(angle), keys);
     }
-    Ok(())
 }

@@ -1,7 +1,6 @@
 //! Tests of bad lines, long texts and refused memory.
 
 use dn_game::{ScriptFault, read_script};
-use std::test::Fail;
 
 #[test]
 fn other_lines_are_bad(rt: HostRuntime) {
@@ -97,8 +96,9 @@ fn the_first_bad_line_is_told(rt: HostRuntime) {
 }
 
 #[test]
-fn long_texts_are_told_first(rt: HostRuntime) -> Result<(), Fail> {
-    let mut text = vec![in rt.alloc(); b'\n'; 1_048_577]?;
+fn long_texts_are_told_first(rt: HostRuntime) {
+    let rt = &rt;
+    let mut text = must!(rt; vec![in rt.alloc(); b'\n'; 1_048_577]);
     assert_eq!(rt;
         read_script(rt.alloc(), &text).err(),
         Some(ScriptFault::TooLong)
@@ -114,11 +114,10 @@ fn long_texts_are_told_first(rt: HostRuntime) -> Result<(), Fail> {
         Some(ScriptFault::Line(1))
     );
     text[0] = b'\n';
-    assert!(rt; read_script(rt.alloc(), &text)?.is_empty());
+    assert!(rt; must!(rt; read_script(rt.alloc(), &text)).is_empty());
     text[1_048_575] = b'q';
     let last = Some(ScriptFault::Line(1_048_576));
     assert_eq!(rt; read_script(rt.alloc(), &text).err(), last);
-    Ok(())
 }
 
 /// Each request for memory may be refused: then the answer says so, and there is no other.

@@ -5,7 +5,6 @@ use dn_machine::Event;
 use dn_tic::Keys;
 use std::alloc::Global;
 use std::process::Abort;
-use std::test::Fail;
 
 const RUN: Event = Event::Run(0);
 
@@ -17,14 +16,14 @@ fn build(node: u32, bits: u32) -> Event {
 }
 
 /// The text is read as these events.
-fn reads(rt: &impl Abort, alloc: Global, text: &str, events: &[Event]) -> Result<(), Fail> {
-    let read = read_script(alloc, text.as_bytes())?;
+fn reads(rt: &impl Abort, alloc: Global, text: &str, events: &[Event]) {
+    let read = must!(rt; read_script(alloc, text.as_bytes()));
     same!(rt; read.as_slice(), events, text);
-    Ok(())
 }
 
 #[test]
-fn lines_are_events(rt: HostRuntime) -> Result<(), Fail> {
+fn lines_are_events(rt: HostRuntime) {
+    let rt = &rt;
     for (line, event) in [
         ("build 0 -", build(0, 0)),
         ("build 0 f", build(0, 1)),
@@ -54,13 +53,13 @@ fn lines_are_events(rt: HostRuntime) -> Result<(), Fail> {
         ("stop 3", Event::Stop(3)),
         ("stop 98765432", Event::Stop(98_765_432)),
     ] {
-        reads(&rt, rt.alloc(), line, &[event])?;
+        reads(rt, rt.alloc(), line, &[event]);
     }
-    Ok(())
 }
 
 #[test]
-fn each_letter_is_a_key(rt: HostRuntime) -> Result<(), Fail> {
+fn each_letter_is_a_key(rt: HostRuntime) {
+    let rt = &rt;
     for (line, place) in [
         ("build 0 f", 0),
         ("build 0 b", 1),
@@ -81,22 +80,23 @@ fn each_letter_is_a_key(rt: HostRuntime) -> Result<(), Fail> {
         ("build 0 7", 16),
         ("build 0 8", 17),
     ] {
-        reads(&rt, rt.alloc(), line, &[build(0, 1 << place)])?;
+        reads(rt, rt.alloc(), line, &[build(0, 1 << place)]);
     }
     let all = "build 0 8u7x6s5t4d3a2r1lfb";
-    reads(&rt, rt.alloc(), all, &[build(0, 0x3_FFFF)])
+    reads(rt, rt.alloc(), all, &[build(0, 0x3_FFFF)]);
 }
 
 #[test]
-fn some_lines_are_skipped(rt: HostRuntime) -> Result<(), Fail> {
+fn some_lines_are_skipped(rt: HostRuntime) {
+    let rt = &rt;
     for text in ["", "\n", "\n\n\n", "#", "#q", "# run 0", "#\r\n\n##\n"] {
-        reads(&rt, rt.alloc(), text, &[])?;
+        reads(rt, rt.alloc(), text, &[]);
     }
-    Ok(())
 }
 
 #[test]
-fn events_stand_in_order(rt: HostRuntime) -> Result<(), Fail> {
+fn events_stand_in_order(rt: HostRuntime) {
+    let rt = &rt;
     for (text, events) in [
         ("run 0", [RUN].as_slice()),
         ("run 0\n", [RUN].as_slice()),
@@ -109,7 +109,6 @@ fn events_stand_in_order(rt: HostRuntime) -> Result<(), Fail> {
             [RUN, RUN, STOP].as_slice(),
         ),
     ] {
-        reads(&rt, rt.alloc(), text, events)?;
+        reads(rt, rt.alloc(), text, events);
     }
-    Ok(())
 }
