@@ -33,8 +33,8 @@
  * call: a node's calls answer as a node that does not play, with ZMG_PHASE_NO_NODE or 0 where they only read;
  * a reader's answer ZMG_DEMO_NO_READER, or 0.
  *
- * The names of a call's answers begin with the word of the call: ZMG_RUN_ of zmg_node_run, ZMG_DEMO_ of the
- * calls on demos.
+ * The codes of a call carry its name: ZMG_RUN_ are the answers of zmg_node_run, ZMG_DEMO_ those of the calls on
+ * demos.
  * Names and numbers of this header do not change. New ones may be added.
  */
 #ifndef ZIRMEGAT_H
@@ -195,9 +195,8 @@ typedef struct zmg_heard {
  * seconds at 35 builds a second): a new packet may already lie 17 tics away; and a node that has
  * ended is handed nothing later than 59 tics after its end, since those who play on leave its zmg_node_made
  * behind. The packets of a player who has left keep their start while the others play on, so their age does
- * not tell how far away it lies:
- * once zmg_node_ran has reached that player's zmg_node_end, the transport drops them. A set-up packet may
- * come at any time. */
+ * not tell how far away it lies: once zmg_node_ran has reached that player's zmg_node_end, the transport drops
+ * them. A set-up packet may come at any time. */
 zmg_heard zmg_node_receive(zmg_node *node, uint8_t from, const uint8_t *bytes, size_t length);
 
 /* A player's move in one tic, where present is 1; else all 0. forward and side in units of 2048 in a world

@@ -75,7 +75,7 @@ mod raw;
 mod values;
 
 pub use demo::{upgrade, Demo, DemoError, Reader, UpgradeError};
-pub use node::{Node, NodeError};
+pub use node::{Datagram, Node, NodeError};
 pub use packet::{Command, Packet, PacketError, EXIT, KILL, RETRANSMIT, SETUP};
 pub use player::{Player, World};
 pub use values::{

@@ -135,7 +135,7 @@ impl Node {
         }
     }
 
-    /// Ends the node: whether it had not ended. If it has played, it still gives packets, which tell the
+    /// Ends the node; true if it had not ended before. If it has played, it still gives packets, which tell the
     /// others of its end.
     pub fn quit(&mut self) -> bool {
         unsafe { raw::zmg_node_quit(&mut self.0) != 0 }

@@ -95,7 +95,7 @@ impl<W: World> Player<W> {
         }
     }
 
-    /// Ends the node: whether it had not ended. If it has played, it still gives packets, which tell the
+    /// Ends the node; true if it had not ended before. If it has played, it still gives packets, which tell the
     /// others of its end.
     pub fn quit(&mut self) -> bool {
         self.node.quit()

@@ -202,7 +202,7 @@ pub enum Made {
 pub enum Dropped {
     /// It has fewer than 8 bytes.
     Short,
-    /// It tells more than 12 commands.
+    /// It announces more than 12 commands.
     Many,
     /// Its length is not that of its commands.
     Length,

@@ -80,6 +80,12 @@ fn succeed<T, E>(rt: &impl Abort, what: &str, given: Result<T, E>) -> T
     }
 }
 
+/// Tells that this call was refused memory and answered so. `checks/memory/run` refuses each request in turn,
+/// and wants each of these lines.
+fn finds_no_memory(rt: &impl Print, call: &str) {
+    let _ = println!(rt; "no memory: {call}");
+}
+
 /// A line of two players at ports that are free, bound for those up to `last`, and where it is.
 fn free_line<R: Net>(
     rt: &R,

@@ -151,6 +151,12 @@ fn succeed<T, E>(rt: &impl Abort, what: &str, given: Result<T, E>) -> T
     }
 }
 
+/// Tells that this call was refused memory and answered so. `checks/memory/run` refuses each request in turn,
+/// and wants each of these lines.
+fn finds_no_memory(rt: &impl Print, call: &str) {
+    let _ = println!(rt; "no memory: {call}");
+}
+
 /// Skill 2, episode 1, map 1.
 fn choice() -> Result<Settings, SettingsFault> {
     Settings::new(2, 0, false, false, 1, 1)

@@ -2,7 +2,7 @@
 
 mod playing;
 
-use super::{PLACES, moved, place, stand, two_tics};
+use super::{PLACES, finds_no_memory, moved, place, stand, two_tics};
 use dn_setup::Start;
 use dn_world::{Belt, Walk, World};
 use playing::play;
@@ -156,7 +156,8 @@ fn a_belt_changes_ends(rt: HostRuntime) {
 /// Its only request for memory may be refused: then it answers so.
 #[test]
 fn refused_memory_is_told(rt: HostRuntime) {
-    if let Ok(belt) = Belt::new(rt.alloc()) {
-        same!(&rt; belt.places(), [0; 4].as_slice());
+    match Belt::new(rt.alloc()) {
+        Ok(belt) => same!(&rt; belt.places(), [0; 4].as_slice()),
+        Err(_) => finds_no_memory(&rt, "Belt::new"),
     }
 }

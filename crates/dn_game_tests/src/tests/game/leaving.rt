@@ -1,9 +1,9 @@
 //! Tests of games that players leave while the others play on.
 
 use super::agreeing::events;
-use super::opened;
-use super::told::places;
-use dn_game::{Event, Game, Refusal, Schedule};
+use super::told::{all_told, places};
+use super::{config, opened, walks};
+use dn_game::{Event, Game, Refusal, Schedule, play};
 use dn_machine::{Cause, Phase};
 use dn_node::Node;
 use dn_world::Walk;
@@ -58,17 +58,19 @@ fn compare_all(rt: &impl Abort, game: &Game<Walk>, players: u32) -> u64 {
     beyond
 }
 
-/// Applies an event, after which node 2 quits where it has run twenty tics.
-fn apply_and_leave(rt: &impl Abort, game: &mut Game<Walk>, event: Event) {
+/// Applies an event, after which node 2 quits where it has run twenty tics. The list gets what was applied.
+fn apply_and_leave(rt: &impl Abort, game: &mut Game<Walk>, event: Event, list: &mut Vec<Event>) {
     // The tics of who plays on go far beyond what the third has made.
     let answered = game.apply(event);
     holds!(rt; answered.is_ok() || answered == Err(Refusal::Far), event);
+    must!(rt; list.push(event));
     let quits = match game.node(2) {
         Some(node) => node.ran() == 20 && node.phase() == Phase::Playing,
         None => false,
     };
     if quits {
         holds!(rt; game.apply(Event::Quit(2)).is_ok());
+        must!(rt; list.push(Event::Quit(2)));
     }
 }
 
@@ -106,12 +108,16 @@ fn played_on(rt: &impl Abort, game: &Game<Walk>) {
 fn two_play_on_when_the_third_leaves(rt: HostRuntime) {
     let rt = &rt;
     let mut game = must!(rt; opened(rt.alloc(), 3));
+    let mut list = Vec::new(rt.alloc());
     for event in must!(rt; events(rt.alloc())).iter() {
-        apply_and_leave(rt, &mut game, *event);
+        apply_and_leave(rt, &mut game, *event, &mut list);
     }
     let beyond = compare_all(rt, &game, 3);
     holds!(rt; beyond >= 70, beyond);
     played_on(rt, &game);
+    let worlds = must!(rt; walks(rt.alloc(), 3));
+    let again = must!(rt; play(rt.alloc(), must!(rt; config(131_072)), worlds, list.as_slice()));
+    same!(rt; all_told(&again.game), all_told(&game));
 }
 
 /// Plays events of a schedule, in which two nodes quit or stop on the way.

@@ -1,26 +1,16 @@
 //! Tests of refused memory.
 
+use super::playing::events;
 use super::told::all_told;
 use super::{applies, config, opened, send, walks};
+use crate::tests::finds_no_memory;
 use dn_game::{Done, Event, Game, GameFault, Refusal, play, storm};
-use dn_machine::{Cause, Phase};
 use dn_world::Walk;
 use std::process::Abort;
 
-fn start() -> [Event; 6] {
-    [
-        send(0, 1),
-        Event::Deliver(0),
-        send(1, 0),
-        Event::Deliver(1),
-        send(0, 1),
-        Event::Deliver(2),
-    ]
-}
-
 /// Sends a packet: it joins the others, or there is no room in one of the two lists that it grows, and
 /// nothing has changed.
-fn send_one(rt: &impl Abort, game: &mut Game<Walk>) {
+fn send_one(rt: &(impl Abort + Print), game: &mut Game<Walk>) {
     let before = all_told(game);
     let count = game.flights();
     match game.apply(send(0, 1)) {
@@ -28,7 +18,18 @@ fn send_one(rt: &impl Abort, game: &mut Game<Walk>) {
         Err(refusal) => {
             same!(rt; refusal, Refusal::Memory);
             same!(rt; all_told(game), before);
+            finds_no_memory(rt, "Game::apply");
         }
+    }
+}
+
+/// All events of a list were done or refused, and those that were refused are a send without room, and what
+/// follows from it.
+fn all_counted(rt: &(impl Abort + Print), list: &str, counts: (usize, usize), wanted: usize) {
+    let (done, refused) = counts;
+    same!(rt; done.checked_add(refused), Some(wanted), list);
+    if refused > 0 {
+        finds_no_memory(rt, list);
     }
 }
 
@@ -43,38 +44,46 @@ fn refused_memory_is_told(rt: HostRuntime) {
                     send_one(rt, &mut game);
                 }
             }
-            Err(fault) => same!(rt; fault, GameFault::Memory),
+            Err(fault) => {
+                same!(rt; fault, GameFault::Memory);
+                finds_no_memory(rt, "Game::new");
+            }
         }
     }
     if let Ok(worlds) = walks(rt.alloc(), 2) {
         match storm(rt.alloc(), must!(rt; config(1_024)), worlds, 1, 500) {
-            Ok(played) => same!(rt; played.done.checked_add(played.refused), Some(500)),
-            Err(fault) => same!(rt; fault, GameFault::Memory),
+            Ok(played) => {
+                holds!(rt; played.refused <= 1);
+                all_counted(rt, "a send of storm", (played.done, played.refused), 500);
+            }
+            Err(fault) => {
+                same!(rt; fault, GameFault::Memory);
+                finds_no_memory(rt, "storm");
+            }
         }
     }
 }
 
-/// A send without room is left out of a list of events, the others are done, and the answer counts it.
+/// A send without room is left out of a list of events, with the deliveries of its packet, and counted.
 #[test]
 fn play_goes_on_without_a_packet(rt: HostRuntime) {
     let rt = &rt;
-    let events = [send(0, 1), Event::Run(0), send(0, 1), Event::Quit(1)];
     let Ok(worlds) = walks(rt.alloc(), 2) else {
         return;
     };
-    match play(rt.alloc(), must!(rt; config(1_024)), worlds, &events) {
+    match play(rt.alloc(), must!(rt; config(1_024)), worlds, &events()) {
         Ok(played) => {
-            assert!(rt; played.refused <= 1);
-            same!(rt; played.done.checked_add(played.refused), Some(4));
-            same!(rt; played.game.flights(), 2 - played.refused);
-            let left = played.game.node(1).map(|node| node.phase());
-            same!(rt; left, Some(Phase::Ended(Cause::Quit)));
+            all_counted(rt, "a send of play", (played.done, played.refused), 15);
+            holds!(rt; played.refused > 0 || played.game.flights() == 5);
         }
-        Err(fault) => same!(rt; fault, GameFault::Memory),
+        Err(fault) => {
+            same!(rt; fault, GameFault::Memory);
+            finds_no_memory(rt, "play");
+        }
     }
 }
 
-/// A send that is left out takes its delivery with it, and nothing else.
+/// A send that is left out changes nothing, takes the deliveries of its packet with it, and nothing else.
 #[test]
 fn only_sends_are_left_out(rt: HostRuntime) {
     let rt = &rt;
@@ -85,15 +94,19 @@ fn only_sends_are_left_out(rt: HostRuntime) {
         return;
     };
     let mut left_out = false;
-    for event in start() {
+    for event in events() {
+        let before = all_told(&game);
         match (event, game.apply(event)) {
             (_, Ok(_)) => {}
-            (Event::Send { .. }, Err(Refusal::Memory)) => left_out = true,
-            (Event::Deliver(_), Err(Refusal::NoPacket)) => holds!(rt; left_out),
+            (Event::Send { .. }, Err(Refusal::Memory)) => {
+                left_out = true;
+                same!(rt; all_told(&game), before, event);
+            }
+            (Event::Deliver(_), Err(Refusal::NoPacket)) => holds!(rt; left_out, event),
             (_, Err(refusal)) => holds!(rt; false, (event, refusal)),
         }
     }
-    holds!(rt; left_out || game.flights() == 3);
+    holds!(rt; left_out || game.flights() == 5);
 }
 
 #[test]

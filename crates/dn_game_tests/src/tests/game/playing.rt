@@ -63,26 +63,45 @@ const FLIGHTS: [FlightRow; 5] = [
     ),
 ];
 
-/// The script's events, each with its answer.
-fn answered() -> [(Event, Done); 15] {
+/// The script's events.
+pub(crate) fn events() -> [Event; 15] {
     [
-        (send(0, 1), Done::Sent(0)),
-        (Event::Deliver(0), Done::Heard(Heard::Started)),
-        (build(1, 0), Done::Built(Made::Made(0))),
-        (send(1, 0), Done::Sent(1)),
-        (Event::Deliver(1), Done::Heard(Heard::Started)),
-        (build(1, 0), Done::Built(Made::Made(1))),
-        (send(1, 0), Done::Sent(2)),
-        (Event::Deliver(2), Done::Heard(Heard::Gap)),
-        (build(0, 0), Done::Built(Made::Made(0))),
-        (send(0, 1), Done::Sent(3)),
-        (Event::Deliver(3), Done::Heard(Heard::Taken(1))),
-        (send(1, 0), Done::Sent(4)),
-        (Event::Deliver(4), Done::Heard(Heard::Taken(2))),
-        (Event::Run(0), Done::Ran(Ran::Ran(0))),
-        (Event::Run(1), Done::Ran(Ran::Ran(0))),
+        send(0, 1),
+        Event::Deliver(0),
+        build(1, 0),
+        send(1, 0),
+        Event::Deliver(1),
+        build(1, 0),
+        send(1, 0),
+        Event::Deliver(2),
+        build(0, 0),
+        send(0, 1),
+        Event::Deliver(3),
+        send(1, 0),
+        Event::Deliver(4),
+        Event::Run(0),
+        Event::Run(1),
     ]
 }
+
+/// Their answers.
+const ANSWERS: [Done; 15] = [
+    Done::Sent(0),
+    Done::Heard(Heard::Started),
+    Done::Built(Made::Made(0)),
+    Done::Sent(1),
+    Done::Heard(Heard::Started),
+    Done::Built(Made::Made(1)),
+    Done::Sent(2),
+    Done::Heard(Heard::Gap),
+    Done::Built(Made::Made(0)),
+    Done::Sent(3),
+    Done::Heard(Heard::Taken(1)),
+    Done::Sent(4),
+    Done::Heard(Heard::Taken(2)),
+    Done::Ran(Ran::Ran(0)),
+    Done::Ran(Ran::Ran(0)),
+];
 
 /// A packet of the script stands at its place, and its bytes at the front of the rest of the pool. The answer
 /// is the pool behind them.
@@ -148,7 +167,7 @@ fn played(alloc: Global, script: &str) -> Result<Played<Walk>, Fail> {
 fn each_event_has_its_answer(rt: HostRuntime) {
     let rt = &rt;
     let mut game = must!(rt; opened(rt.alloc(), 2));
-    for (event, answer) in answered() {
+    for (event, answer) in events().into_iter().zip(ANSWERS) {
         applies(rt, &mut game, event, Ok(answer));
     }
     look(rt, &game);
@@ -194,13 +213,11 @@ fn refused_events_are_counted(rt: HostRuntime) {
 #[test]
 fn a_refused_event_leaves_the_game(rt: HostRuntime) {
     let rt = &rt;
-    let mut events = Vec::new(rt.alloc());
-    for (event, _) in answered() {
-        must!(rt; events.push(event));
-    }
-    must!(rt; events.push(Event::Deliver(9)));
+    let mut list = Vec::new(rt.alloc());
+    must!(rt; list.extend_from_slice(&events()));
+    must!(rt; list.push(Event::Deliver(9)));
     let worlds = must!(rt; walks(rt.alloc(), 2));
-    let played = must!(rt; play(rt.alloc(), must!(rt; config(131_072)), worlds, events.as_slice()));
+    let played = must!(rt; play(rt.alloc(), must!(rt; config(131_072)), worlds, list.as_slice()));
     same!(rt; (played.done, played.refused), (15, 1));
     look(rt, &played.game);
 }

@@ -2,6 +2,7 @@
 
 use super::told::all_told;
 use super::{build, config, opened, send, walks};
+use crate::tests::finds_no_memory;
 use dn_game::{Event, Game, Played, Refusal, play, play_on, storm};
 use dn_machine::{Cause, Phase};
 use dn_tic::Keys;
@@ -236,7 +237,10 @@ fn refused_memory_ends_a_round(rt: HostRuntime) {
     for _ in 0..16 {
         match game.good_round(no_keys()) {
             Ok(()) => carried_out = carried_out.saturating_add(1),
-            Err(refusal) => same!(rt; refusal, Refusal::Memory),
+            Err(refusal) => {
+                same!(rt; refusal, Refusal::Memory);
+                finds_no_memory(rt, "Game::good_round");
+            }
         }
     }
     holds!(rt; carried_out < 15 || ran(&game, 0) > Some(0));

@@ -1,7 +1,7 @@
 //! What a node of a game tells of itself, to be compared.
 
 use dn_game::{Flight, Game};
-use dn_node::{Node, Phase};
+use dn_node::{Aim, Node, Phase};
 use dn_setup::Settings;
 use dn_world::{Walk, World};
 
@@ -15,6 +15,8 @@ pub struct Telling {
     made: u32,
     ran: u32,
     got: [Option<u32>; 4],
+    ends: [Option<u32>; 4],
+    aims: [Option<Aim>; 4],
     demo: usize,
     places: [Place; 4],
     stopped: bool,
@@ -49,6 +51,8 @@ pub fn told(game: &Game<Walk>, number: u32) -> Option<Telling> {
         made: node.made(),
         ran: node.ran(),
         got: [node.got(0), node.got(1), node.got(2), node.got(3)],
+        ends: [node.end(0), node.end(1), node.end(2), node.end(3)],
+        aims: [node.aim(0), node.aim(1), node.aim(2), node.aim(3)],
         demo: node.demo().len(),
         places: places(node),
         stopped: game.stopped(number),

@@ -1,6 +1,7 @@
 //! Tests of queues in memory.
 
-use super::came;
+use super::{came, rising};
+use crate::tests::finds_no_memory;
 use dn_line::{HubFault, Line, LineFault, MemoryHub};
 
 #[test]
@@ -60,7 +61,7 @@ fn numbers_of_no_player_are_refused(rt: HostRuntime) {
 fn long_datagrams_are_cut(rt: HostRuntime) {
     let rt = &rt;
     let mut hub = must!(rt; MemoryHub::new(rt.alloc(), 2));
-    let bytes = [9; 106];
+    let bytes = rising();
     for (sent, kept) in [(0, 0), (104, 104), (105, 105), (106, 105usize)] {
         same!(rt; hub.send(1, 0, &bytes[..sent]), Ok(()), sent);
         came(rt, must!(rt; hub.poll(0)), 1, &bytes[..kept]);
@@ -73,6 +74,9 @@ fn refused_memory_is_told(rt: HostRuntime) {
     let rt = &rt;
     match MemoryHub::new(rt.alloc(), 4) {
         Ok(hub) => same!(rt; hub.failed(), 0),
-        Err(fault) => same!(rt; fault, HubFault::Memory),
+        Err(fault) => {
+            same!(rt; fault, HubFault::Memory);
+            finds_no_memory(rt, "MemoryHub::new");
+        }
     }
 }

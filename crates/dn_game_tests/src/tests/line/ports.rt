@@ -1,7 +1,7 @@
 //! Tests of ports of this machine. Each looks for ports that are free, in an area of its own.
 
-use super::came;
-use crate::tests::free_line;
+use super::{came, rising};
+use crate::tests::{finds_no_memory, free_line};
 use dn_line::{Datagram, Line, LineFault, UdpLine, is_base};
 
 /// How many polls are made for a datagram that is on its way.
@@ -89,11 +89,12 @@ fn strangers_are_told(rt: HostRuntime) {
     let (mut line, base) = must!(rt; free_line(rt, rt.alloc(), 29_000, 0));
     // Its player 3 is at no player's port of the line, and its player 1 at that of the line's player 0.
     let mut stranger = must!(rt; UdpLine::bind(rt, rt.alloc(), base - 1, 3, 3, 4));
-    same!(rt; stranger.send(3, 1, &[5; 200]), Ok(()));
-    came(rt, awaited(&mut line, 0), 255, [5; 105].as_slice());
+    let bytes = rising();
+    same!(rt; stranger.send(3, 1, &bytes), Ok(()));
+    came(rt, awaited(&mut line, 0), 255, &bytes[..105]);
 }
 
-/// Each request for memory may be refused: then there is no line.
+/// Each request for memory may be refused: then there is no line, and the next is bound.
 #[test]
 fn refused_memory_is_told(rt: HostRuntime) {
     let rt = &rt;
@@ -103,7 +104,11 @@ fn refused_memory_is_told(rt: HostRuntime) {
                 same!(rt; line.failed(), 0);
                 return;
             }
-            Err(fault) => same!(rt; fault, LineFault::Bind),
+            Err(fault) => {
+                same!(rt; fault, LineFault::Bind);
+                finds_no_memory(rt, "UdpLine::bind");
+            }
         }
     }
+    holds!(rt; false, "no port is free");
 }

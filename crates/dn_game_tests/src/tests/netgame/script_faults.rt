@@ -3,6 +3,7 @@
 use super::games::{DEFAULT_LIMIT, rules};
 use super::printed::{prints, sim};
 use super::streams::Zeros;
+use crate::tests::finds_no_memory;
 use dn_netgame::{RunFault, run_sim};
 
 #[test]
@@ -65,10 +66,14 @@ fn refused_memory_is_told(rt: HostRuntime) {
             let left_out = written.ends_with(b"events 0 refused 1 flights 0\n");
             same!(rt; status, 0);
             holds!(rt; sent || left_out);
+            if left_out {
+                finds_no_memory(rt, "a send of run_sim");
+            }
         }
         Err(fault) => {
             same!(rt; fault, RunFault::Memory);
             holds!(rt; written.is_empty());
+            finds_no_memory(rt, "run_sim");
         }
     }
 }

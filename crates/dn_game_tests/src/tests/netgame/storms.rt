@@ -3,16 +3,27 @@
 use super::games::{DEFAULT_LIMIT, rules};
 use super::printed::{prints, storm};
 
-/// What a storm of one event prints.
+/// What a storm of one event prints, which is a run.
 const ONE_SHOWN: &str = "node 0 gathering made 0 ran 0 got 0 0 demo 0\n\
     node 1 listening made 0 ran 0 got 0 0 demo 0\n\
     events 1 refused 0 flights 0\n";
+
+/// What one prints whose event sends a packet.
+const SENT_SHOWN: &str = "node 0 gathering made 0 ran 0 got 0 0 demo 0\n\
+    node 1 listening made 0 ran 0 got 0 0 demo 0\n\
+    events 1 refused 0 flights 1\n";
+
+/// What it prints where there is no memory for the packet.
+pub(crate) const LEFT_OUT_SHOWN: &str = "node 0 gathering made 0 ran 0 got 0 0 demo 0\n\
+    node 1 listening made 0 ran 0 got 0 0 demo 0\n\
+    events 0 refused 1 flights 0\n";
 
 #[test]
 fn storms_are_shown(rt: HostRuntime) {
     let rt = &rt;
     let rows = [
         (2, 1, 1, ONE_SHOWN),
+        (2, 3, 1, SENT_SHOWN),
         (
             2,
             1,

@@ -63,15 +63,15 @@ impl Line for Failing {
     }
 }
 
-/// Forty rounds: the last turn that met one failed call, and the last that met more, counted from 1.
+/// Forty rounds: how many turns met one failed call, and how many met more.
 fn forty_rounds(nodes: &mut [Node<Walk>; 2], line: &mut Failing) -> (u32, u32) {
-    let (mut once, mut often) = (0, 0u32);
+    let (mut once, mut often) = (0u32, 0u32);
     for round in 0..80u32 {
         let node = &mut nodes[(round % 2) as usize];
         match turn(node, line, Keys::from_bits(0)).failed {
             0 => (),
-            1 => once = round + 1,
-            _ => often = round + 1,
+            1 => once = once.saturating_add(1),
+            _ => often = often.saturating_add(1),
         }
     }
     (once, often)
@@ -99,7 +99,8 @@ fn each_call_may_fail(rt: HostRuntime) {
             holds!(rt; nodes[0].ran() > 0, (player, fails_at));
             holds!(rt; nodes[1].ran() > 0, (player, fails_at));
             one_game(rt, &nodes);
-            same!(rt; line.failed, u64::from(once > 0), (player, fails_at));
+            holds!(rt; once <= 1, (player, fails_at));
+            same!(rt; line.failed, u64::from(once), (player, fails_at));
             if once == 0 {
                 holds!(rt; line.calls < fails_at, player);
                 ended = true;

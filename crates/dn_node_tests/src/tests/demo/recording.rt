@@ -4,6 +4,7 @@ ghost use Rattle.std.specs.Prelude.{◌≡◌};
 ghost use Rattle.dn_demo.specs.declared.recorder.Stage.TheVariants.{Blank, Open};
 
 use super::{RECORDED, START, moved};
+use crate::tests::finds_no_memory;
 use dn_demo::{
     Demo, DemoFault, Recorder, RecorderFault, UpgradeFault, capacity, is_limit, upgrade,
 };
@@ -106,16 +107,25 @@ fn refused_memory_is_told(rt: HostRuntime) {
     let rt = &rt;
     match Recorder::new(rt.alloc(), 1_024) {
         Ok(recorder) => holds!(rt; recorder.bytes().is_empty()),
-        Err(fault) => same!(rt; fault, RecorderFault::Memory),
+        Err(fault) => {
+            same!(rt; fault, RecorderFault::Memory);
+            finds_no_memory(rt, "Recorder::new");
+        }
     }
     match Demo::read(rt.alloc(), &RECORDED) {
         Ok(demo) => {
             same!(rt; demo.tics(), 2);
             match upgrade(rt.alloc(), &demo, 1_024) {
                 Ok(recorder) => same!(rt; recorder.bytes(), RECORDED.as_slice()),
-                Err(fault) => same!(rt; fault, UpgradeFault::Memory),
+                Err(fault) => {
+                    same!(rt; fault, UpgradeFault::Memory);
+                    finds_no_memory(rt, "upgrade");
+                }
             }
         }
-        Err(fault) => same!(rt; fault, DemoFault::Memory),
+        Err(fault) => {
+            same!(rt; fault, DemoFault::Memory);
+            finds_no_memory(rt, "Demo::read");
+        }
     }
 }

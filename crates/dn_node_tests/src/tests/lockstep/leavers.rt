@@ -1,7 +1,7 @@
 //! Tests of nodes that have left: what they hear, and what they give.
 
 use super::stages::{STOP, Stage, at};
-use super::{IDLE, STILL, hears, pair, quit, tics};
+use super::{IDLE, NO_KEYS, STILL, build, hears, pair, pass, quit, received, tics};
 use dn_lockstep::{Aim, Heard, Lockstep, Phase};
 use dn_packet::{EXIT, KILL, RETRANSMIT, SETUP};
 use dn_tic::TicCmd;
@@ -142,4 +142,24 @@ fn an_end_stays(rt: HostRuntime) {
         same!(rt; key.end(1), end, (flags, start, count));
     }
     same!(rt; (key.got(1), key.phase()), (Some(7), Phase::Playing));
+}
+
+/// An end may lie neither before the commands that are there, nor before the end of a later packet.
+#[test]
+fn an_end_is_that_of_all_packets(rt: HostRuntime) {
+    let rt = &rt;
+    let (mut key, mut other) = must!(rt; pair(rt.alloc(), false));
+    tics(&mut key, &mut other, 3, IDLE);
+    for _ in 0..2 {
+        let _ = build(&mut other, NO_KEYS);
+    }
+    same!(rt; pass(&mut other, &mut key), Some(Heard::Taken(2)));
+    let early = [0x67, 0x49, 0x24, 0x81, 0x00, 0x04, 0x01, 0x00];
+    same!(rt; received(&mut key, 1, &early), Heard::Dropped(14));
+    same!(rt; (key.ran(), key.got(1), key.end(1)), (3, Some(5), None));
+    hears(rt, &mut key, 1, (EXIT, (0, 5, 1), &[]), Heard::Left);
+    let mut late = [0; 16];
+    late[..8].copy_from_slice(&[0x67, 0x4A, 0x24, 0x02, 0x00, 0x05, 0x01, 0x01]);
+    same!(rt; received(&mut key, 1, &late), Heard::Dropped(14));
+    same!(rt; (key.ran(), key.got(1), key.end(1)), (3, Some(5), Some(5)));
 }

@@ -1,6 +1,7 @@
 //! Tests of how a node is made, and of why there is none.
 
 use super::{LIMIT, build, choice, run};
+use crate::tests::finds_no_memory;
 use dn_lockstep::{Config, Lockstep, Made, NodeFault, Phase, Ran, is_game};
 use dn_setup::Settings;
 use std::test::Fail;
@@ -96,6 +97,9 @@ fn refused_memory_is_told(rt: HostRuntime) {
     let settings = Some(must!(rt; choice()));
     match Lockstep::new(rt.alloc(), config(2, 0, LIMIT, settings)) {
         Ok(node) => same!(rt; node.phase(), Phase::Gathering),
-        Err(fault) => same!(rt; fault, NodeFault::Memory),
+        Err(fault) => {
+            same!(rt; fault, NodeFault::Memory);
+            finds_no_memory(rt, "Lockstep::new");
+        }
     }
 }

@@ -1,6 +1,7 @@
 //! Tests of how a node is made, and of how its world begins.
 
 use super::{LIMIT, build, choice, datagram, opened, received, run};
+use crate::tests::finds_no_memory;
 use dn_node::{Config, Heard, Made, Node, NodeFault, Phase, Ran};
 use dn_packet::SETUP;
 use dn_world::Walk;
@@ -42,7 +43,10 @@ fn refused_memory_is_told(rt: HostRuntime) {
     };
     match Node::new(rt.alloc(), config, Walk::new()) {
         Ok(node) => same!(rt; node.phase(), Phase::Gathering),
-        Err(fault) => same!(rt; fault, NodeFault::Memory),
+        Err(fault) => {
+            same!(rt; fault, NodeFault::Memory);
+            finds_no_memory(rt, "Node::new");
+        }
     }
 }
 

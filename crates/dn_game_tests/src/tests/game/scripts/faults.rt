@@ -1,5 +1,6 @@
 //! Tests of bad lines, long texts and refused memory.
 
+use crate::tests::finds_no_memory;
 use dn_game::{ScriptFault, read_script};
 
 #[test]
@@ -128,7 +129,10 @@ fn refused_memory_is_told(rt: HostRuntime) {
         b"run 0\nrun 1\nrun 2\nrun 3\nrun 4\nrun 5\nrun 6\nrun 7\nrun 8",
     ) {
         Ok(events) => assert_eq!(rt; events.len(), 9),
-        Err(fault) => assert_eq!(rt; fault, ScriptFault::Memory),
+        Err(fault) => {
+            assert_eq!(rt; fault, ScriptFault::Memory);
+            finds_no_memory(&rt, "read_script");
+        }
     }
     let fault = read_script(rt.alloc(), b"run 0\nrun").err();
     assert!(rt; fault == Some(ScriptFault::Line(2)) || fault == Some(ScriptFault::Memory));
