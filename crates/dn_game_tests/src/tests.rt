@@ -1,4 +1,4 @@
-//! Tests of lines, of turns, of all nodes of a game, of the program's subcommands, and of its command line.
+//! Tests of lines, of turns, and of all nodes of a game.
 
 ghost use Rattle.std.specs.Prelude.{◌≡◌, ◌≤◌, ◌<◌, IfOk, Ok};
 ghost use Rattle.dn_line.specs.Udp.{IsBase};
@@ -34,8 +34,6 @@ macro_rules! must {
 
 mod game;
 mod line;
-mod netgame;
-mod program;
 mod turn;
 
 use dn_line::{LineFault, UdpLine};

@@ -5,7 +5,7 @@ ghost use Rattle.dn_line.specs.Udp.{IsBase};
 
 use super::games::{DEFAULT_LIMIT, rules};
 use super::streams::{NEVER, Sink};
-use crate::tests::{finds_no_memory, free_line};
+use crate::tests::finds_no_memory;
 use dn_line::{LineFault, UdpLine};
 use dn_netgame::{RunFault, run_loop, run_play};
 use dn_node::Config;
@@ -50,9 +50,13 @@ fn base<R: Net>(rt: &R, alloc: Global, area: u16) -> Result<u16, LineFault>
     requires { (1024 < area) × (area ≤ 60000) }
     ensures { IfOk result IsBase }
 {
-    let (line, base) = free_line(rt, alloc, area, 1)?;
-    drop(line);
-    Ok(base)
+    for step in 0..200u16 {
+        let base = area + 8 * step;
+        if UdpLine::bind(rt, alloc, base, 0, 1, 2).is_ok() {
+            return Ok(base);
+        }
+    }
+    Err(LineFault::Bind)
 }
 
 /// A player who finds nobody quits before the game starts.
