@@ -10,7 +10,7 @@ use Rattle.dn_demo.specs.Rows.{player_count}
 use Rattle.dn_demo.specs.Text.{marker}
 use Rattle.dn_demo.specs.Places.{seats_in, place}
 use Rattle.dn_demo.specs.Reading.{recording, HasHeader, IsReadAs}
-use Rattle.dn_demo.specs.Feeding.{Feeding, IsFront, Shows, ShowsRows, TakesFront}
+use Rattle.dn_demo.specs.Feeding.{Feeding, IsUpToMarker, Shows, ShowsRows, TakesFront}
 use Rattle.dn_demo.specs.declared.demo.DemoFault.TheVariants.{NoMarker}
 use Rattle.dn_demo.proofs.OneReading.{same_layout}
 use Rattle.dn_demo.proofs.Layouts.{place_order}
@@ -56,8 +56,8 @@ pub fed_as : {S W : Type 0} (state : W → S) (physics : Physics S) (layout : La
     × (commands / player_count (seats_in bytes) ≡ f.tics)
     × (length f.row / command_size layout ≡ commands % player_count (seats_in bytes))
 fed_as state physics layout bytes f h marked rows =
-    let ends : IsFront layout bytes true rows.front f.after =
-    subst (λ m. IsFront layout bytes m rows.front f.after) marked rows.ends in
+    let ends : IsUpToMarker layout bytes true rows.front f.after =
+    subst (λ m. IsUpToMarker layout bytes m rows.front f.after) marked rows.ends in
     let commands = ends.0 in
     let players = player_count (seats_in bytes) in
     let size = command_size layout in

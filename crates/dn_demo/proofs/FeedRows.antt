@@ -10,7 +10,7 @@ use Rattle.dn_demo.specs.Rows.{player_count}
 use Rattle.dn_demo.specs.Text.{marker}
 use Rattle.dn_demo.specs.Places.{seats_in, place, moves_from}
 use Rattle.dn_demo.specs.Reading.{HasHeader}
-use Rattle.dn_demo.specs.Feeding.{Feeding, feeding_of, IsKept, Shows, ShowsRows, Steps, Takes, TakesFront, row_size}
+use Rattle.dn_demo.specs.Feeding.{Feeding, feeding_of, IsKept, Shows, ShowsRows, StepsRows, Takes, TakesFront, row_size}
 use Rattle.dn_demo.specs.Listed.{EndsRow}
 use Rattle.dn_demo.specs.declared.layout.Layout as declared
 use Rattle.dn_demo.specs.declared.layout.Layout.TheVariants.{Vanilla, LongTics}
@@ -200,7 +200,7 @@ module _ {S W : Type 0} (state : W → S) (physics : Physics S) {taken tics afte
     -- whole rows at the front of a piece
     pub rows_taken : (piece rest : List ℕ) {present : List Bool} {size players : ℕ} (new : W)
         → kept ≤ 0 → present ≡ seats_in header → size ≡ command_size layout
-        → players ≡ player_count present → Steps state physics layout present world piece rest new
+        → players ≡ player_count present → StepsRows state physics layout present world piece rest new
         → TakesFront state physics f piece rest
         (feeding_of (taken + (length piece - length rest)) header
         (tics + (length piece - length rest) / (size * players)) kept row marked after new)

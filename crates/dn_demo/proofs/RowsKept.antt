@@ -11,7 +11,7 @@ use Rattle.dn_demo.specs.Layout.{Layout, command_size}
 use Rattle.dn_demo.specs.Rows.{player_count}
 use Rattle.dn_demo.specs.Text.{marker}
 use Rattle.dn_demo.specs.Places.{start_in, seats_in, place, moves_from, row_in, IsUnmarked}
-use Rattle.dn_demo.specs.Feeding.{Feeding, IsFront, ShowsRows, Steps, row_size, state_by}
+use Rattle.dn_demo.specs.Feeding.{Feeding, IsUpToMarker, ShowsRows, StepsRows, row_size, state_by}
 use Rattle.dn_demo.proofs.Gets.{get_first, get_second}
 use Rattle.dn_demo.proofs.Layouts.{place_order}
 use Rattle.dn_demo.proofs.Stepping.{seats_in-append, state_by-append, state_by-more}
@@ -69,8 +69,8 @@ module _ {S W : Type 0} (state : W → S) (physics : Physics S) (layout : Layout
   pub unmarked : (f : Feeding W) → f.marked ≡ false → ShowsRows state physics layout bytes f
       → Unmarked state physics layout bytes f.after f.tics f.row f.world
   unmarked f free rows =
-      let ends : IsFront layout bytes false rows.front f.after =
-      subst (λ m. IsFront layout bytes m rows.front f.after) free rows.ends in
+      let ends : IsUpToMarker layout bytes false rows.front f.after =
+      subst (λ m. IsUpToMarker layout bytes m rows.front f.after) free rows.ends in
       let rest : f.row ≡ drop (row_place layout bytes f.tics) bytes =
       rows.row ∙ ap (drop (row_place layout bytes f.tics)) ends.1 in
       record {
@@ -92,10 +92,10 @@ module _ {S W : Type 0} (state : W → S) (physics : Physics S) (layout : Layout
       → Unmarked state physics layout bytes f.after f.tics f.row f.world
       → ShowsRows state physics layout bytes f
   of_unmarked f free u =
-      let ends : IsFront layout bytes false bytes f.after = (u.none, refl, u.none_after) in
+      let ends : IsUpToMarker layout bytes false bytes f.after = (u.none, refl, u.none_after) in
       record {
         front = bytes;
-        ends = subst (λ m. IsFront layout bytes m bytes f.after) (sym free) ends;
+        ends = subst (λ m. IsUpToMarker layout bytes m bytes f.after) (sym free) ends;
         whole = omega (arith, u.size);
         row = u.rest;
         unfinished = u.unfinished;
@@ -196,7 +196,7 @@ module _ {S W : Type 0} (state : W → S) (physics : Physics S) (layout : Layout
   -- the rows at the front of a piece
   pub rows_done : (piece rest : List ℕ) (present : List Bool) (after tics : ℕ) (row : List ℕ) (world new : W)
       → Unmarked state physics layout bytes after tics row world → row ≡ [] → present ≡ seats_in bytes
-      → (steps : Steps state physics layout present world piece rest new)
+      → (steps : StepsRows state physics layout present world piece rest new)
       → Unmarked state physics layout (bytes ++ take (row_size layout present * steps.tics) piece) after
       (tics + steps.tics) row new
   rows_done piece rest present after tics row world new u empty seats steps =

@@ -9,7 +9,7 @@ use Rattle.dn_demo.specs.Layout.{Layout, command_size}
 use Rattle.dn_demo.specs.Rows.{player_count}
 use Rattle.dn_demo.specs.Text.{marker}
 use Rattle.dn_demo.specs.Places.{seats_in, place, HasNoMarker, EndsBehind}
-use Rattle.dn_demo.specs.Feeding.{Feeding, IsFront, ShowsRows, row_size, state_by}
+use Rattle.dn_demo.specs.Feeding.{Feeding, IsUpToMarker, ShowsRows, row_size, state_by}
 use Rattle.dn_demo.proofs.Gets.{get_first, get_second}
 use Rattle.dn_demo.proofs.Layouts.{place_below}
 use Rattle.dn_demo.proofs.RowsKept.{Unmarked, row_place, same_place, same_size}
@@ -17,7 +17,7 @@ use Rattle.dn_demo.proofs.Stepping.{state_by-append}
 
 -- the front lies within the bytes
 pub front_within : (layout : Layout) (bytes : List ℕ) (marked : Bool) (front : List ℕ) (after : ℕ)
-    → IsFront layout bytes marked front after → length front ≤ length bytes
+    → IsUpToMarker layout bytes marked front after → length front ≤ length bytes
 front_within layout bytes true front after ends =
     let inside = slice_get_within bytes (place layout ends.0) marker ends.1.marked in
     omega (arith, ap length ends.2, length-take-le (place layout ends.0) bytes (omega arith))
@@ -43,10 +43,10 @@ module _ {S W : Type 0} (state : W → S) (physics : Physics S) (layout : Layout
       → ShowsRows state physics layout (bytes ++ more) f
   rows_longer f front commands marked ends is after whole within row unfinished played =
       let at = same_place layout bytes more f.tics (omega (arith, whole, within)) in
-      let all : IsFront layout (bytes ++ more) true front f.after = (commands, ends, is, after) in
+      let all : IsUpToMarker layout (bytes ++ more) true front f.after = (commands, ends, is, after) in
       record {
         front = front;
-        ends = subst (λ m. IsFront layout (bytes ++ more) m front f.after) (sym marked) all;
+        ends = subst (λ m. IsUpToMarker layout (bytes ++ more) m front f.after) (sym marked) all;
         whole = omega (arith, at, whole);
         row = row ∙ ap (λ n. drop n front) (sym at);
         unfinished =
@@ -90,8 +90,8 @@ pub passed : {S W : Type 0} (state : W → S) (physics : Physics S) (layout : La
     → ShowsRows state physics layout (bytes ++ more)
     (record f { taken = taken; header = header; after = f.after + length more })
 passed state physics layout bytes more f taken header was rows =
-    let ends : IsFront layout bytes true rows.front f.after =
-    subst (λ m. IsFront layout bytes m rows.front f.after) was rows.ends in
+    let ends : IsUpToMarker layout bytes true rows.front f.after =
+    subst (λ m. IsUpToMarker layout bytes m rows.front f.after) was rows.ends in
     let commands = ends.0 in
     let inside = slice_get_within bytes (place layout commands) marker ends.1.marked in
     let here = get_first bytes more (place layout commands) inside ∙ ends.1.marked in

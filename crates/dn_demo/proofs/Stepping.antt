@@ -12,7 +12,7 @@ use Rattle.dn_demo.specs.Layout.{Layout, command_size}
 use Rattle.dn_demo.specs.Rows.{player_count}
 use Rattle.dn_demo.specs.Text.{marker}
 use Rattle.dn_demo.specs.Places.{start_in, seats_in, place, moves_from, row_in, rows_in}
-use Rattle.dn_demo.specs.Feeding.{row_size, state_by, Steps}
+use Rattle.dn_demo.specs.Feeding.{row_size, state_by, StepsRows}
 use Rattle.dn_demo.proofs.Gets.{get_rest}
 use Rattle.dn_demo.proofs.Fronts.{start_in-take, seats_in-take, moves_from-take, map-agree}
 
@@ -79,7 +79,7 @@ state_by-more physics layout bytes tics =
 -- no step yet
 pub steps_none : {S W : Type 0} (state : W → S) (physics : Physics S) (layout : Layout) (present : List Bool)
     (w : W) (piece : List ℕ)
-    → Steps state physics layout present w piece piece w
+    → StepsRows state physics layout present w piece piece w
 steps_none state physics layout present w piece =
     let none : 0 ≡ row_size layout present * 0 = omega arith in
     record {
@@ -100,13 +100,13 @@ steps_none state physics layout present w piece =
 pub steps_more : {S W : Type 0} (state : W → S) (physics : Physics S) (layout : Layout) (present : List Bool)
     (old mid new : W)
     (piece rest after : List ℕ) (moves : List (Option Move))
-    → Steps state physics layout present old piece rest mid
+    → StepsRows state physics layout present old piece rest mid
     → row_size layout present ≤ length rest → after ≡ drop (row_size layout present) rest
     → ((command : ℕ) → command < player_count present
     → slice_get rest (command_size layout * command) ≢ Some marker)
     → ((front : List ℕ) (command : ℕ) → length front + 0 ≡ place layout command
     → moves ≡ moves_from layout (front ++ rest) present command)
-    → state new ≡ physics.step (state mid) moves → Steps state physics layout present old piece after new
+    → state new ≡ physics.step (state mid) moves → StepsRows state physics layout present old piece after new
 steps_more state physics layout present old mid new piece rest after moves so_far room next none told
     stepped =
     let n = so_far.tics in

@@ -7,7 +7,7 @@ use Rattle.std.proofs.lemmas.Option.{slice_get_within}
 use Rattle.dn_demo.specs.Layout.{Layout, command_size}
 use Rattle.dn_demo.specs.Text.{marker}
 use Rattle.dn_demo.specs.Places.{place, HasCommands}
-use Rattle.dn_demo.specs.Feeding.{IsFront}
+use Rattle.dn_demo.specs.Feeding.{IsUpToMarker}
 use Rattle.dn_demo.proofs.Layouts.{place_order}
 
 -- a number between a product and the next is divided to the factor
@@ -20,7 +20,7 @@ quotient players tics commands least most =
 
 -- the commands before the marker, or before the end, make this many tics
 pub counted : (layout : Layout) (bytes : List ℕ) (players tics : ℕ) (marked : Bool) (front : List ℕ) (after : ℕ)
-    → IsFront layout bytes marked front after
+    → IsUpToMarker layout bytes marked front after
     → 13 ≤ length bytes → place layout (players * tics) ≤ length front
     → length front < place layout (players * tics) + command_size layout * players
     → (commands : ℕ) × HasCommands layout bytes commands × (commands / players ≡ tics)

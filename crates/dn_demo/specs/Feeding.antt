@@ -39,11 +39,11 @@ row_size layout present = command_size layout * player_count present
 
 -- the front that stands before the marker, and how many bytes stand after it; all bytes, where there is no
 -- marker
-abbrev pub IsFront : Layout → List ℕ → Bool → List ℕ → ℕ → Type 0
-IsFront layout bytes true front after =
+abbrev pub IsUpToMarker : Layout → List ℕ → Bool → List ℕ → ℕ → Type 0
+IsUpToMarker layout bytes true front after =
     (commands : ℕ) × EndsBehind layout bytes commands
     × (front ≡ take (place layout commands) bytes) × (after ≡ length bytes - (place layout commands + 1))
-IsFront layout bytes false front after =
+IsUpToMarker layout bytes false front after =
     IsUnmarked layout bytes × (front ≡ bytes) × (after ≡ 0)
 
 -- the state of a world that began as the demo does, and was stepped by the rows of its first tics
@@ -56,7 +56,7 @@ state_by physics layout bytes tics = state_through physics (start_in bytes) (sea
 pub record ShowsRows {S W : Type 0} (state : W → S) (physics : Physics S) (layout : Layout) (bytes : List ℕ)
     (f : Feeding W) : Type 0 where
   pub front : List ℕ
-  pub ends : IsFront layout bytes f.marked front f.after
+  pub ends : IsUpToMarker layout bytes f.marked front f.after
   pub whole : place layout (player_count (seats_in bytes) * f.tics) ≤ length front
   pub row : f.row ≡ drop (place layout (player_count (seats_in bytes) * f.tics)) front
   pub unfinished : length f.row < row_size layout (seats_in bytes)
@@ -98,9 +98,9 @@ pub record TakesFront {S W : Type 0} (state : W → S) (physics : Physics S) (ol
   pub count : new.taken ≡ old.taken + length front
   pub shown : Takes state physics old front new
 
--- a world is stepped by the rows at the front of a piece, in which there is no marker, and the rest is left;
--- by whatever rows it was stepped before, it then was by those behind them, too
-pub record Steps {S W : Type 0} (state : W → S) (physics : Physics S) (layout : Layout) (present : List Bool)
+-- a world is stepped by `tics` rows at the front of a piece, in which there is no marker, and the rest is left:
+-- if it had been stepped by the first `before` rows, it has now been stepped by `tics` more
+pub record StepsRows {S W : Type 0} (state : W → S) (physics : Physics S) (layout : Layout) (present : List Bool)
     (old : W) (piece rest : List ℕ) (new : W) : Type 0 where
   pub tics : ℕ
   pub left : rest ≡ drop (row_size layout present * tics) piece

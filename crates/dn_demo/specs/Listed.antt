@@ -22,8 +22,7 @@ pub record AreListed (bytes : List ℕ) (tics : ℕ) (rows : List (List (Option 
   pub some : (layout : Layout) → HasHeader layout bytes → rows ≡ rows_in layout bytes tics
   pub none : ((layout : Layout) → ¬ HasHeader layout bytes) → rows ≡ []
 
--- whatever rows were told of the bytes shown, with these rows they are those of the bytes with the piece
--- behind them
+-- appended to the rows told so far, these are the rows of the bytes with the piece behind them
 pub record Lists {S W : Type 0} (state : W → S) (physics : Physics S) (old : Feeding W) (piece : List ℕ)
     (new : Feeding W) (rows : List (List (Option Move))) : Type 0 where
   pub tics : new.tics ≡ old.tics + length rows

@@ -152,6 +152,7 @@ impl Recorder {
         ensures text { AddsRow self.old.bytes self.new.bytes moves.now }
         ensures seats { seats_in self.new.bytes ≡ seats_in self.old.bytes }
     {
+        // costs nothing, and tells the checker the range of the limit
         let _ = &self.limit;
         self.add_all(moves);
     }

@@ -4,7 +4,7 @@ ghost use Rattle.std.specs.Prelude.{◌≡◌, ◌≢◌, ◌<◌, ◌≤◌, �
 ghost use Rattle.dn_demo.specs.Layout.{layout_of, vanilla, long_tics, command_size};
 ghost use Rattle.dn_demo.specs.Rows.{player_count};
 ghost use Rattle.dn_demo.specs.Text.{marker};
-ghost use Rattle.dn_demo.specs.Feeding.{Steps};
+ghost use Rattle.dn_demo.specs.Feeding.{StepsRows};
 
 use crate::layout::{Layout, MARKER};
 use crate::reading;
@@ -37,7 +37,7 @@ fn step_rows<'a, W: World>(
     present: [bool; 4],
 ) -> (W, &'a [u8])
     requires { 0 < player_count present }
-    ensures { Steps W.state W.physics (layout_of layout) present world piece.now result.1.now result.0 }
+    ensures { StepsRows W.state W.physics (layout_of layout) present world piece.now result.1.now result.0 }
 {
     let players = reading::players(present);
     let size = layout.size() * players;
@@ -58,7 +58,7 @@ fn step_rows<'a, W: World>(
 /// Steps a world by rows of two players in version 109.
 #[inline(never)]
 fn two_vanilla<'a, W: World>(world: W, piece: &'a [u8]) -> (W, &'a [u8])
-    ensures { Steps W.state W.physics vanilla (true ∷ true ∷ false ∷ false ∷ []) world piece.now result.1.now
+    ensures { StepsRows W.state W.physics vanilla (true ∷ true ∷ false ∷ false ∷ []) world piece.now result.1.now
         result.0 }
 {
     step_rows(world, piece, Layout::Vanilla, [true, true, false, false])
@@ -67,7 +67,7 @@ fn two_vanilla<'a, W: World>(world: W, piece: &'a [u8]) -> (W, &'a [u8])
 /// Steps a world by rows of three players in version 109.
 #[inline(never)]
 fn three_vanilla<'a, W: World>(world: W, piece: &'a [u8]) -> (W, &'a [u8])
-    ensures { Steps W.state W.physics vanilla (true ∷ true ∷ true ∷ false ∷ []) world piece.now result.1.now
+    ensures { StepsRows W.state W.physics vanilla (true ∷ true ∷ true ∷ false ∷ []) world piece.now result.1.now
         result.0 }
 {
     step_rows(world, piece, Layout::Vanilla, [true, true, true, false])
@@ -76,7 +76,7 @@ fn three_vanilla<'a, W: World>(world: W, piece: &'a [u8]) -> (W, &'a [u8])
 /// Steps a world by rows of four players in version 109.
 #[inline(never)]
 fn four_vanilla<'a, W: World>(world: W, piece: &'a [u8]) -> (W, &'a [u8])
-    ensures { Steps W.state W.physics vanilla (true ∷ true ∷ true ∷ true ∷ []) world piece.now result.1.now
+    ensures { StepsRows W.state W.physics vanilla (true ∷ true ∷ true ∷ true ∷ []) world piece.now result.1.now
         result.0 }
 {
     step_rows(world, piece, Layout::Vanilla, [true, true, true, true])
@@ -85,7 +85,7 @@ fn four_vanilla<'a, W: World>(world: W, piece: &'a [u8]) -> (W, &'a [u8])
 /// Steps a world by rows of two players in version 111.
 #[inline(never)]
 fn two_long_tics<'a, W: World>(world: W, piece: &'a [u8]) -> (W, &'a [u8])
-    ensures { Steps W.state W.physics long_tics (true ∷ true ∷ false ∷ false ∷ []) world piece.now
+    ensures { StepsRows W.state W.physics long_tics (true ∷ true ∷ false ∷ false ∷ []) world piece.now
         result.1.now result.0 }
 {
     step_rows(world, piece, Layout::LongTics, [true, true, false, false])
@@ -94,7 +94,7 @@ fn two_long_tics<'a, W: World>(world: W, piece: &'a [u8]) -> (W, &'a [u8])
 /// Steps a world by rows of three players in version 111.
 #[inline(never)]
 fn three_long_tics<'a, W: World>(world: W, piece: &'a [u8]) -> (W, &'a [u8])
-    ensures { Steps W.state W.physics long_tics (true ∷ true ∷ true ∷ false ∷ []) world piece.now result.1.now
+    ensures { StepsRows W.state W.physics long_tics (true ∷ true ∷ true ∷ false ∷ []) world piece.now result.1.now
         result.0 }
 {
     step_rows(world, piece, Layout::LongTics, [true, true, true, false])
@@ -103,7 +103,7 @@ fn three_long_tics<'a, W: World>(world: W, piece: &'a [u8]) -> (W, &'a [u8])
 /// Steps a world by rows of four players in version 111.
 #[inline(never)]
 fn four_long_tics<'a, W: World>(world: W, piece: &'a [u8]) -> (W, &'a [u8])
-    ensures { Steps W.state W.physics long_tics (true ∷ true ∷ true ∷ true ∷ []) world piece.now result.1.now
+    ensures { StepsRows W.state W.physics long_tics (true ∷ true ∷ true ∷ true ∷ []) world piece.now result.1.now
         result.0 }
 {
     step_rows(world, piece, Layout::LongTics, [true, true, true, true])
@@ -112,7 +112,7 @@ fn four_long_tics<'a, W: World>(world: W, piece: &'a [u8]) -> (W, &'a [u8])
 /// Steps a world by rows of any players in version 109.
 fn any_vanilla<'a, W: World>(world: W, given: (&'a [u8], [bool; 4])) -> (W, &'a [u8])
     requires { 0 < player_count given.1 }
-    ensures { Steps W.state W.physics vanilla given.entry.1 world given.entry.0.now result.1.now result.0 }
+    ensures { StepsRows W.state W.physics vanilla given.entry.1 world given.entry.0.now result.1.now result.0 }
 {
     let (piece, present) = given;
     step_rows(world, piece, Layout::Vanilla, present)
@@ -121,7 +121,7 @@ fn any_vanilla<'a, W: World>(world: W, given: (&'a [u8], [bool; 4])) -> (W, &'a 
 /// Steps the world by rows of version 109.
 fn step_vanilla<'a, W: World>(world: &mut W, piece: &'a [u8], present: [bool; 4]) -> &'a [u8]
     requires { 0 < player_count present }
-    ensures { Steps W.state W.physics vanilla present world.old piece.now result.now world.new }
+    ensures { StepsRows W.state W.physics vanilla present world.old piece.now result.now world.new }
 {
     match present {
         [true, true, false, false] => replace_with(world, piece, two_vanilla),
@@ -134,7 +134,7 @@ fn step_vanilla<'a, W: World>(world: &mut W, piece: &'a [u8], present: [bool; 4]
 /// Steps a world by rows of any players in version 111.
 fn any_long_tics<'a, W: World>(world: W, given: (&'a [u8], [bool; 4])) -> (W, &'a [u8])
     requires { 0 < player_count given.1 }
-    ensures { Steps W.state W.physics long_tics given.entry.1 world given.entry.0.now result.1.now result.0 }
+    ensures { StepsRows W.state W.physics long_tics given.entry.1 world given.entry.0.now result.1.now result.0 }
 {
     let (piece, present) = given;
     step_rows(world, piece, Layout::LongTics, present)
@@ -143,7 +143,7 @@ fn any_long_tics<'a, W: World>(world: W, given: (&'a [u8], [bool; 4])) -> (W, &'
 /// Steps the world by rows of version 111.
 fn step_long_tics<'a, W: World>(world: &mut W, piece: &'a [u8], present: [bool; 4]) -> &'a [u8]
     requires { 0 < player_count present }
-    ensures { Steps W.state W.physics long_tics present world.old piece.now result.now world.new }
+    ensures { StepsRows W.state W.physics long_tics present world.old piece.now result.now world.new }
 {
     match present {
         [true, true, false, false] => replace_with(world, piece, two_long_tics),
@@ -161,7 +161,7 @@ pub(crate) fn step_all<'a, W: World>(
     present: [bool; 4],
 ) -> &'a [u8]
     requires { 0 < player_count present }
-    ensures { Steps W.state W.physics (layout_of layout) present world.old piece.now result.now world.new }
+    ensures { StepsRows W.state W.physics (layout_of layout) present world.old piece.now result.now world.new }
 {
     match layout {
         Layout::Vanilla => step_vanilla(world, piece, present),

@@ -15,14 +15,14 @@ Finds IsRight (Some found) = IsRight found
 Finds {A} IsRight None = (a : A) → ¬ IsRight a
 
 -- a text is a number of 32 bits: its decimal digits, and perhaps a plus before them
-abbrev pub IsNumber : List ℕ → ℕ → Type 0
-IsNumber text number = IsNumeral 10 (without_leading_plus text) × (number < 2 ^ 32)
+abbrev pub IsOptionNumber : List ℕ → ℕ → Type 0
+IsOptionNumber text number = IsNumeral 10 (without_leading_plus text) × (number < 2 ^ 32)
     × (number ≡ digits_value 10 (without_leading_plus text))
 
 -- the number of an option: of the text that clap reads for it, given or by default
 abbrev pub IsNumberOf : ArgMatches → List ℕ → ℕ → Type 0
 IsNumberOf matches name number = (text : List ℕ)
-    × (one_text (found_of matches) name ≡ Some text) × IsNumber text number
+    × (one_text (found_of matches) name ≡ Some text) × IsOptionNumber text number
 
 -- the number of an option, where it fits into a byte
 abbrev pub IsByteOf : ArgMatches → List ℕ → ℕ → Type 0

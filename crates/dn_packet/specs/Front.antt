@@ -3,9 +3,8 @@ use Rattle.std.specs.Prelude.{◌≡◌, ℕ, ◌+◌, ◌%◌, ◌^◌, List, l
 use Rattle.dn_packet.specs.Text.{words, weighted}
 use Rattle.dn_packet.specs.Written.{IsWritten}
 
--- these bytes, whole pairs of words, are written to the front of a room; the sum is 0x1234567 and their
--- words, that at place k taken k times, modulo 2^32, so that the first, which the flags and the sum will
--- fill, does not count
+-- these bytes, whole pairs of words, are written to the front of a room. The sum is 0x1234567 plus k times the
+-- word at each place k, modulo 2^32; the first word, at place 0, is left for the flags and the sum
 pub record IsFront (bytes old new : List ℕ) (count sum : ℕ) : Type 0 where
   pub written : IsWritten bytes old new count
   pub whole : length bytes % 8 ≡ 0

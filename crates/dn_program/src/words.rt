@@ -5,7 +5,7 @@ use clap::{ArgMatches, Command, Error};
 use std::alloc::{AllocError, Global};
 
 /// What `--version` prints behind the program's name.
-const VERSION: &str = "1.0.0";
+const PROGRAM_VERSION: &str = "1.0.0";
 
 /// Adds a subcommand without options.
 fn add_plain<'a>(
@@ -55,7 +55,7 @@ fn add_play<'a>(alloc: Global, command: Command<'a>) -> Result<Command<'a>, Allo
 fn netgame<'a>(alloc: Global) -> Result<Command<'a>, AllocError> {
     let command = Command::new(alloc, "netgame")
         .about("Doom's netgame")
-        .version(VERSION)
+        .version(PROGRAM_VERSION)
         .subcommand_required(true);
     let command = add_plain(alloc, command, "show", "Prints the fields of a datagram")?;
     let demo = "Plays a demo and prints where its players end";

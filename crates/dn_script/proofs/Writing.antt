@@ -16,12 +16,12 @@ use Rattle.dn_machine.specs.declared.events.Event.TheVariants.{Build, Send, Deli
 use Rattle.dn_script.specs.Words.{IsNumber, AreKeys, AreLetters, letters, place_in_letters}
 use Rattle.dn_script.specs.Lines.{lines, IsLineOf}
 use Rattle.dn_script.specs.Script.{size_limit, AreEventsOf, skipped, told, none, IsReadAs}
-use Rattle.dn_script.specs.Written.{is_down_at, letters_down, keys_word, event_words, script_text, IsShort, HasScriptLine}
+use Rattle.dn_script.specs.Written.{is_down_at, letters_down, keys_word, event_words, script_text, IsScriptNumber, HasScriptLine}
 use Rattle.dn_script.proofs.Lacking.{Lacks, is_lacking, lacks, number_lacks, keys_lack}
 use Rattle.dn_script.proofs.Keys.{letter_found, place_small}
 
 -- a number of at most nine digits is read back
-number_written : (n : ℕ) → IsShort n → IsNumber (decimal n) n
+number_written : (n : ℕ) → IsScriptNumber n → IsNumber (decimal n) n
 number_written n short =
     let small : n < 2 ^ 64 = omega (arith, short) in
     let is = decimal_is_IsNumeral n small in
@@ -121,7 +121,7 @@ two_behind verb a b v p q =
     All-append P ((verb ++ a) ++ codes " ") b
     (All-append P (verb ++ a) (codes " ") (one_behind verb a v p) (lacks 10 (codes " ") refl)) q
 
-number_no_feed : (n : ℕ) → IsShort n → Lacks 10 (decimal n)
+number_no_feed : (n : ℕ) → IsScriptNumber n → Lacks 10 (decimal n)
 number_no_feed n short = number_lacks 10 (decimal n) n (omega arith) (number_written n short)
 
 words_no_feed : (event : Event) → HasScriptLine event → Lacks 10 (event_words event)

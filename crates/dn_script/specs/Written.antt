@@ -38,14 +38,14 @@ abbrev pub script_text : List Event → List ℕ
 script_text events = flat_map event_line events
 
 -- a number that a script can have
-abbrev pub IsShort : ℕ → Type 0
-IsShort number = number < 10 ^ 9
+abbrev pub IsScriptNumber : ℕ → Type 0
+IsScriptNumber number = number < 10 ^ 9
 
 -- an event that has a line, since a script can have its numbers
 abbrev pub HasScriptLine : Event → Type 0
-HasScriptLine (Build node keys) = IsShort node × (keys < 2 ^ 18)
-HasScriptLine (Send node to) = IsShort node × IsShort to
-HasScriptLine (Deliver flight) = IsShort flight
-HasScriptLine (Run node) = IsShort node
-HasScriptLine (Quit node) = IsShort node
-HasScriptLine (Stop node) = IsShort node
+HasScriptLine (Build node keys) = IsScriptNumber node × (keys < 2 ^ 18)
+HasScriptLine (Send node to) = IsScriptNumber node × IsScriptNumber to
+HasScriptLine (Deliver flight) = IsScriptNumber flight
+HasScriptLine (Run node) = IsScriptNumber node
+HasScriptLine (Quit node) = IsScriptNumber node
+HasScriptLine (Stop node) = IsScriptNumber node

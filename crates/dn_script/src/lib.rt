@@ -7,4 +7,4 @@ mod script;
 mod words;
 
 pub use laws::written_scripts_are_read;
-pub use script::{ScriptFault, read_script};
+pub use script::{MAX_SCRIPT, ScriptFault, read_script};

@@ -24,8 +24,8 @@ pub enum ScriptFault {
     Memory,
 }
 
-/// How many bytes a script may have.
-const LONGEST: usize = 1 << 20;
+/// The most bytes of a script.
+pub const MAX_SCRIPT: usize = 1 << 20;
 
 /// The events of a script, in order. Each stands on a line of its own, as `build 0 fs`, `send 0 1`,
 /// `deliver 0`, `run 0`, `quit 0` or `stop 0`. Empty lines and lines that begin with `#` are skipped.
@@ -34,7 +34,7 @@ pub fn read_script(alloc: Global, text: &[u8]) -> Result<Vec<Event>, ScriptFault
     ensures only { (r : Result (List Event) ScriptFault) → IsReadAs text.now r
         → IsSameButMemory (answered result) r }
 {
-    if text.len() > LONGEST {
+    if text.len() > MAX_SCRIPT {
         return Err(ScriptFault::TooLong);
     }
     let mut events = Vec::new(alloc);

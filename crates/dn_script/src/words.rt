@@ -8,7 +8,7 @@ use dn_tic::Keys;
 /// The letters of the keys, in the order of their bits.
 const LETTERS: [u8; 18] = *b"fblradtsxu12345678";
 
-/// A number has at most as many digits as fit into 32 bits whatever they are.
+/// The most digits of a number: any nine fit into 32 bits.
 const MOST_DIGITS: usize = 9;
 
 /// The number that a word is.

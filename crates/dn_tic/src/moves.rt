@@ -17,8 +17,10 @@ const ATTACK: u8 = 1;
 
 const USE: u8 = 2;
 
+/// The button bit of a change of weapon (`d_event.h`, BT_CHANGE).
 const CHANGE: u8 = 4;
 
+/// The next weapon's place, in the bits above it.
 const NEXT_WEAPON: u8 = 8;
 
 /// How many weapon keys there are.

@@ -8,8 +8,8 @@ use Rattle.zirmegat.specs.declared.handle.NodeHandle.{NodeHandle}
 abbrev pub node_of : NodeHandle → Option Contents
 node_of h = if h.live then option_map contents h.node else None
 
--- what a handle held is what it holds after a step, and one that held nothing holds nothing, with the empty
--- answer
+-- a handle that held a node holds it after a step; one that held none still holds none, and the answer is the
+-- empty one
 abbrev pub Calls : {A : Type 0} → Option A → Option A → (A → A → Type 0) → Type 0 → Type 0
 Calls (Some old) (Some new) Step Empty = Step old new
 Calls None None Step Empty = Empty

@@ -15,20 +15,20 @@ upgrade_code UpgradeFault.Full = 7
 upgrade_code UpgradeFault.Memory = 5
 
 -- nothing is written, and this is why
-abbrev pub IsRefused : ℕ → List ℕ → List ℕ → UpgradeAnswer → Type 0
-IsRefused code old new answer = (answer ≡ record { code = code; length = 0 }) × (new ≡ old)
+abbrev pub IsNotUpgraded : ℕ → List ℕ → List ℕ → UpgradeAnswer → Type 0
+IsNotUpgraded code old new answer = (answer ≡ record { code = code; length = 0 }) × (new ≡ old)
 
 -- all bytes of the upgrade are written
 abbrev pub IsToldOf : Result Recorded UpgradeFault → List ℕ → List ℕ → UpgradeAnswer → Type 0
 IsToldOf (Ok made) old new answer = (answer.code ≡ 0)
     × IsWritten made.bytes old new answer.length
-IsToldOf (Err fault) old new answer = IsRefused (upgrade_code fault) old new answer
+IsToldOf (Err fault) old new answer = IsNotUpgraded (upgrade_code fault) old new answer
 
 -- the demo that the bytes are read as is upgraded within this many bytes
 abbrev pub UpgradesBy : Result Recording DemoFault → ℕ → List ℕ → List ℕ → UpgradeAnswer → Type 0
 UpgradesBy (Ok demo) limit old new answer =
     (made : Result Recorded UpgradeFault) × IsUpgraded demo limit made × IsToldOf made old new answer
-UpgradesBy (Err fault) limit old new answer = IsRefused (demo_code fault) old new answer
+UpgradesBy (Err fault) limit old new answer = IsNotUpgraded (demo_code fault) old new answer
 
 abbrev pub Upgrades : List ℕ → ℕ → List ℕ → List ℕ → UpgradeAnswer → Type 0
 Upgrades bytes limit old new answer =

@@ -28,6 +28,7 @@ impl Model for DemoHandle {
 impl DemoHandle {
     ghost use Rattle.zirmegat.specs.Demos.{demo_of, reading_of};
 
+    /// The handle that holds nothing.
     fn none() -> DemoHandle
         ensures { result.live ≡ false }
     {
@@ -37,6 +38,7 @@ impl DemoHandle {
         }
     }
 
+    /// The handle of what a raw box points to.
     fn of_loose(loose: Loose<DemoReader, Global>) -> DemoHandle
         ensures { (result.live ≡ true) × (result.reader ≡ Some loose.value) }
     {
@@ -47,6 +49,7 @@ impl DemoHandle {
         }
     }
 
+    /// The raw box of a handle that holds one.
     fn into_loose(self, alloc: Global) -> Loose<DemoReader, Global>
         requires { self.live ≡ true }
         ensures { Some result.value ≡ self.reader }
@@ -58,6 +61,7 @@ impl DemoHandle {
         }
     }
 
+    /// Whether it holds a reader.
     fn is_live(&mut self) -> bool
         ensures { (result ≡ self.old.live) × (self.new ≡ self.old) }
     {

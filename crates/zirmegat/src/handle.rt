@@ -31,6 +31,7 @@ impl NodeHandle {
     ghost use Rattle.zirmegat.specs.Calls.{node_of};
     ghost use Rattle.zirmegat.specs.Lends.{lends_node, lends_held};
 
+    /// The handle that holds nothing.
     fn none() -> NodeHandle
         ensures { result.live ≡ false }
     {
@@ -40,6 +41,7 @@ impl NodeHandle {
         }
     }
 
+    /// The handle of what a raw box points to.
     fn of_loose(loose: Loose<Lockstep, Global>) -> NodeHandle
         ensures { (result.live ≡ true) × (result.node ≡ Some loose.value) }
     {
@@ -50,6 +52,7 @@ impl NodeHandle {
         }
     }
 
+    /// The raw box of a handle that holds one.
     fn into_loose(self, alloc: Global) -> Loose<Lockstep, Global>
         requires { self.live ≡ true }
         ensures { Some result.value ≡ self.node }
@@ -61,6 +64,7 @@ impl NodeHandle {
         }
     }
 
+    /// Whether it holds a node.
     fn is_live(&mut self) -> bool
         ensures { (result ≡ self.old.live) × (self.new ≡ self.old) }
     {
@@ -80,6 +84,7 @@ impl NodeHandle {
         ensures* writes_back { sem 𝓛 (lends_node self.entry result) }
         ensures value { Some result.now ≡ self.old.node }
     {
+        // SAFETY: a live handle owns a box, and this points to its node (`held_node`).
         unsafe { &mut *(self.at as *mut Lockstep) }
     }
 
