@@ -1,5 +1,5 @@
 -- What a build makes of the machine's node, and of one that represents it.
-use Rattle.std.proofs.Common.{◌≡◌, ◌≢◌, ◌<◌, ◌≤◌, ◌+◌, ◌-◌, ◌%◌, ℕ, ℤ, [], ◌∷◌, ◌++◌, refl, ap, ◌∙◌, Option, None}
+use Rattle.std.proofs.Common.{◌≡◌, ◌≢◌, ◌<◌, ◌≤◌, ◌+◌, ◌-◌, ◌%◌, ℕ, ℤ, [], ◌∷◌, ◌++◌, refl, ap, ◌∙◌, arith, None}
 use Rattle.std.proofs.lemmas.Bool.{le-leb, lt-leb}
 use Rattle.dn_tic.specs.Pressed.{pressed}
 use Rattle.dn_tic.specs.declared.command.TicCmd.{TicCmd}
@@ -9,13 +9,12 @@ use Rattle.dn_ring.proofs.Keeping.{put-ring_of}
 use Rattle.dn_machine.specs.declared.answers.Phase.{Phase}
 use Rattle.dn_machine.specs.declared.answers.Phase.TheVariants.{Listening, Gathering, Playing, Ended}
 use Rattle.dn_machine.specs.declared.answers.Made.{Made}
-use Rattle.dn_machine.specs.Running.{is_over}
 use Rattle.dn_machine.specs.Worlds.{Rules}
 use Rattle.dn_machine.specs.Node as machine
 use Rattle.dn_machine.specs.Node.{put, ends_of, own_mark}
 use Rattle.dn_machine.specs.Building.{on_build, on_build_in}
 use Rattle.dn_lockstep.specs.Contents.{Contents}
-use Rattle.dn_lockstep.specs.Represents.{Represents}
+use Rattle.dn_lockstep.specs.Represents.{Represents, marked_to}
 use Rattle.dn_lockstep.proofs.Counting.{mine}
 
 -- the command that the key state makes
@@ -68,9 +67,11 @@ pub own_ring : {S : Type 0} (rules : Rules S) (me : ℕ) (n : Contents) (m : mac
     → ring ≡ ring_of (m.held me ++ next_command rules me m keys ∷ [])
 own_ring rules me n m keys tic mark command ring r h made low high endless marked is e =
     let below = mine rules me n m r h in
+    let all : marked_to (machine.ran m) (ends_of m me) ≡ machine.ran m =
+    ap (marked_to (machine.ran m)) endless in
     let own : mark ≡ own_mark rules m me (machine.made me m) =
     marked ∙ ap (λ (p : ℕ). n.marks p (tic % 12)) r.whose.number
-    ∙ r.table.marks me tic below low high (ap (λ (o : Option ℕ). is_over o (tic - 12)) endless)
+    ∙ r.table.marks me tic below (omega (arith, low, all)) (omega (arith, high, all))
     ∙ ap (own_mark rules m me) made in
     let kept : n.rings n.me ≡ ring_of (m.held me) = ap n.rings r.whose.number ∙ r.commands.rings me below in
     let next : command ≡ next_command rules me m keys = is ∙ ap (pressed (m.keys ++ keys ∷ [])) own in

@@ -1,5 +1,5 @@
 -- What a run looks up in a node is what the machine looks up in the node that it represents.
-use Rattle.std.proofs.Common.{Option, Bool, true, ◌≡◌, ◌<◌, ◌≤◌, ◌+◌, ◌-◌, ◌%◌, ◌&&◌, ℕ, zero, suc, false, not, nat_le, List, [], ◌∷◌, get_or, Some, None, refl, ap, sym, ◌∙◌, subst, arith, inl, inr}
+use Rattle.std.proofs.Common.{Option, Bool, true, ◌≡◌, ◌<◌, ◌≤◌, ◌+◌, ◌%◌, ◌&&◌, ℕ, zero, suc, false, not, nat_le, List, [], ◌∷◌, get_or, Some, None, refl, ap, sym, ◌∙◌, subst, arith, inl, inr}
 use Rattle.std.specs.Prelude.{slice_get, nat_lt, if◌then◌else◌}
 use Rattle.std.specs.Option.{option_map}
 use Rattle.std.specs.Ordering.{int_eq}
@@ -20,7 +20,7 @@ use Rattle.dn_lockstep.proofs.Counting.{below, got_is}
 use Rattle.dn_lockstep.proofs.Keeping.{get_kept, get_some}
 use Rattle.std.proofs.lemmas.Option.{none-some}
 use Rattle.dn_lockstep.proofs.Lowest.{lowest_same, lowest_passes}
-use Rattle.dn_lockstep.proofs.Gone.{over_later}
+use Rattle.dn_lockstep.proofs.Marked.{marked_here}
 use Rattle.dn_lockstep.proofs.Seats.{here_all}
 
 -- the mark of a command that may be missing
@@ -61,9 +61,9 @@ module _ {S : Type 0} {rules : Rules S} {me : ℕ} {n : Contents} {m : machine.N
     pub should_is : (p : ℕ) → p < n.players → is_absent m p ≡ false
         → n.marks p (n.ran % 12) ≡ own_mark rules m p (machine.ran m)
     should_is p h present =
+        let all = marked_here (machine.ran m) (ends_of m p) present in
         ap (λ (tic : ℕ). n.marks p (tic % 12)) r.table.ran
-        ∙ r.table.marks p (machine.ran m) (below rules me n m r p h) (omega arith) (omega arith)
-        (over_later (ends_of m p) (machine.ran m - 12) (machine.ran m) (omega arith) present)
+        ∙ r.table.marks p (machine.ran m) (below rules me n m r p h) (omega (arith, all)) (omega (arith, all))
 
     differs_is : (p : ℕ) → p < rules.players → differs n.rings n.peers n.marks n.ran p ≡ is_off rules m p
     differs_is p h = elim (cases_Bool (is_absent m p)) [
@@ -133,6 +133,13 @@ module _ {S : Type 0} {rules : Rules S} {me : ℕ} {n : Contents} {m : machine.N
       seat_held p h seat present =
           seat_is rules.players (λ q. if is_absent m q then None else Some (held_at m q (machine.ran m))) p
           (below rules me n m r p h) seat ∙ rw present refl
+
+      -- and one who is absent has none
+      pub seat_empty : (p : ℕ) → p < n.players → p < 4 → is_absent m p ≡ true
+          → machine.lacks (row_held rules m) p ≡ true
+      seat_empty p h seat gone =
+          seat_is rules.players (λ q. if is_absent m q then None else Some (held_at m q (machine.ran m))) p
+          (below rules me n m r p h) seat ∙ rw gone refl
 
       -- the tic at which it ends is that of the row by its rings
       pub full_is : {row : List (Option Move)} {full : ℕ} {whole : Bool}

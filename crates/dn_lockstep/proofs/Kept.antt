@@ -52,7 +52,7 @@ module _ {old new : ℕ → Peer} {player made : ℕ} (kept : AreKept old new pl
       }
 
 -- an end that is told where one was known is the same
-pub told_later : (exit : Bool) (known : Option ℕ) (got end : ℕ) (peer : Peer)
+told_later : (exit : Bool) (known : Option ℕ) (got end : ℕ) (peer : Peer)
     → ((tic : ℕ) → is_over peer.end tic ≡ false → is_over known tic ≡ false)
     → is_strange_end exit got known end ≡ false
     → (tic : ℕ) → is_over (after_exit peer exit end).end tic ≡ false → is_over known tic ≡ false
@@ -65,7 +65,7 @@ told_later true (Some e) got end peer later fine tic h =
     ap (λ (k : ℕ). is_over (Some k) tic) (sym same) ∙ h
 
 -- a request leaves the known end
-pub asked_later : (made : ℕ) (peer : Peer) (request : Option ℕ) (tic : ℕ)
+asked_later : (made : ℕ) (peer : Peer) (request : Option ℕ) (tic : ℕ)
     → is_over (after_request made peer request).end tic ≡ false → is_over peer.end tic ≡ false
 asked_later made peer request tic h =
     ap (λ (o : Option ℕ). is_over o tic) (sym (asked_end made peer request)) ∙ h

@@ -28,3 +28,4 @@ pub mod Rests
 pub mod Taking
 pub mod Gone
 pub mod Telling
+pub mod Marked

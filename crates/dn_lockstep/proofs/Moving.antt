@@ -21,10 +21,11 @@ use Rattle.dn_machine.specs.Worlds.{Rules, mark_in, opening}
 use Rattle.dn_machine.specs.Node as machine
 use Rattle.dn_machine.specs.Node.{ends_of, own_mark, own_world, world_after, is_ended, is_whole, demo_rows}
 use Rattle.dn_lockstep.specs.Contents.{Contents}
-use Rattle.dn_lockstep.specs.Represents.{Represents, CanBeWritten, is_demo_closed}
+use Rattle.dn_lockstep.specs.Represents.{Represents, CanBeWritten, is_demo_closed, marked_to}
 use Rattle.dn_lockstep.specs.Rows.{seats_of}
 use Rattle.dn_lockstep.proofs.Replaying.{own_world_is, all_recorded, demo_is}
 use Rattle.dn_lockstep.proofs.Starting.{early_mark}
+use Rattle.dn_lockstep.proofs.Marked.{marked_low, marked_here, marked_next, marked_gone}
 
 -- the machine's node after one row more
 abbrev pub moved : machine.Node → List (Option Move) → machine.Node
@@ -185,10 +186,11 @@ pub shows_moved : {S : Type 0} (rules : Rules S) (me : ℕ) (n : Contents) (m : 
     → Represents rules me n m → n.phase ≡ Playing → n.played ≡ true → n.settings ≢ None
     → ((p : ℕ) → p < n.players → is_over (ends_of m p) (machine.ran m) ≡ false
     → marks p (n.ran % 12) ≡ mark_in rules.physics (own_world rules m (machine.ran m)) p)
+    → ((p j : ℕ) → p < n.players → is_over (ends_of m p) (machine.ran m) ≡ true → marks p j ≡ n.marks p j)
     → ((p j : ℕ) → j ≢ n.ran % 12 → marks p j ≡ n.marks p j)
     → IsWritten rules n.demo demo row
     → Represents rules me (record n { ran = n.ran + 1; marks = marks; demo = demo }) (moved m row)
-shows_moved {S} rules me n m row marks demo r on has_played has_settings new others written =
+shows_moved {S} rules me n m row marks demo r on has_played has_settings new absent others written =
     let playing : m.phase ≡ Playing = sym r.stands.phase ∙ on in
     let played : m.played ≡ true = sym r.stands.played ∙ has_played in
     let s = known_by m.settings (λ e. has_settings (r.stands.settings ∙ e)) in
@@ -203,20 +205,38 @@ shows_moved {S} rules me n m row marks demo r on has_played has_settings new oth
       peers = r.peers;
       table = record {
         ran = ap (λ (k : ℕ). k + 1) ran ∙ sym count;
-        marks = λ p tic below low high present. elim (cases_eq tic (machine.ran m + 12)) [
-          | inl e ↦
-              let place : tic % 12 ≡ n.ran % 12 = omega arith in
-              let mine : p < n.players = omega (arith, below, r.whose.players) in
-              let back : tic - 12 ≡ machine.ran m = omega arith in
-              ap (marks p) place ∙ new p mine (ap (is_over (ends_of m p)) (sym back) ∙ present)
-              ∙ ap (λ (w : Option S). mark_in rules.physics w p)
-              (own_world_is rules m settings known (machine.ran m))
-              ∙ sym (own_mark_now rules m settings known row p) ∙ ap (own_mark rules (moved m row) p) (sym e)
-          | inr other ↦
-              let apart : tic % 12 ≢ n.ran % 12 = λ h. absurd (omega arith) in
-              others p (tic % 12) apart ∙ r.table.marks p tic below (omega arith) (omega arith) present
-              ∙ sym (own_mark_before rules m settings known row p tic (omega arith))
-        ];
+        marks = λ p tic below low high.
+            let mine : p < n.players = omega (arith, below, r.whose.players) in
+            let end = ends_of m p in
+            elim (cases_Bool (is_over end (machine.ran m))) [
+              | inl gone ↦
+                  let same : marked_to (machine.ran (moved m row)) end ≡ marked_to (machine.ran m) end =
+                  ap (λ (k : ℕ). marked_to k end) count ∙ marked_gone (machine.ran m) end gone in
+                  let few = marked_low (machine.ran m) end in
+                  absent p (tic % 12) mine gone
+                  ∙ r.table.marks p tic below (omega (arith, low, same)) (omega (arith, high, same))
+                  ∙ sym (own_mark_before rules m settings known row p tic (omega (arith, high, same, few)))
+              | inr present ↦
+                  let all = marked_here (machine.ran m) end present in
+                  let next : marked_to (machine.ran (moved m row)) end ≡ machine.ran m + 1 =
+                  ap (λ (k : ℕ). marked_to k end) count ∙ marked_next (machine.ran m) end present in
+                  elim (cases_eq tic (machine.ran m + 12)) [
+                    | inl e ↦
+                        let place : tic % 12 ≡ n.ran % 12 = omega (arith, e, ran) in
+                        ap (marks p) place ∙ new p mine present
+                        ∙ ap (λ (w : Option S). mark_in rules.physics w p)
+                        (own_world_is rules m settings known (machine.ran m))
+                        ∙ sym (own_mark_now rules m settings known row p)
+                        ∙ ap (own_mark rules (moved m row) p) (sym e)
+                    | inr other ↦
+                        let apart : tic % 12 ≢ n.ran % 12 =
+                        λ h. absurd (omega (arith, h, ran, low, high, next, other)) in
+                        others p (tic % 12) apart
+                        ∙ r.table.marks p tic below (omega (arith, low, next, all))
+                        (omega (arith, high, next, all, other))
+                        ∙ sym (own_mark_before rules m settings known row p tic (omega (arith, high, next)))
+                  ]
+            ];
       };
       demo = record {
         bytes = demo_moved m playing written (r.demo.closed played) me settings

@@ -13,12 +13,13 @@ use Rattle.dn_demo.specs.Text.{demo_text}
 use Rattle.dn_machine.specs.declared.answers.Phase.TheVariants.{Playing}
 use Rattle.dn_machine.specs.Worlds.{Rules}
 use Rattle.dn_machine.specs.Node as machine
-use Rattle.dn_machine.specs.Node.{own_mark, is_whole}
+use Rattle.dn_machine.specs.Node.{own_mark, is_whole, ends_of}
 use Rattle.dn_machine.specs.Hearing.{started}
 use Rattle.dn_lockstep.specs.Contents.{Contents}
 use Rattle.dn_lockstep.specs.Represents.{Represents}
 use Rattle.dn_lockstep.specs.Rows.{seats_of}
 use Rattle.dn_lockstep.proofs.Opening.{first_marks}
+use Rattle.dn_lockstep.proofs.Marked.{marked_low}
 
 -- the mark of an early tic is 0 by any node
 pub early_mark : {S : Type 0} (rules : Rules S) (m other : machine.Node) (p tic : ℕ) → tic < 12
@@ -46,8 +47,10 @@ shows_start {S} rules me n m settings demo r unrun is_open written =
       peers = r.peers;
       table = record {
         ran = r.table.ran;
-        marks = λ p tic below low high present. r.table.marks p tic below low high present
-            ∙ early_mark rules m (started m settings) p tic (omega (arith, zero, high));
+        marks = λ p tic below low high.
+            let few = marked_low (machine.ran m) (ends_of m p) in
+            r.table.marks p tic below low high
+            ∙ early_mark rules m (started m settings) p tic (omega (arith, zero, high, few));
       };
       demo = record {
         bytes = written

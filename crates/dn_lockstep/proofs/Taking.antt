@@ -21,26 +21,30 @@ use Rattle.dn_lockstep.specs.Received.{on_player}
 use Rattle.dn_lockstep.proofs.Flags.{player_takes, left_asked}
 use Rattle.dn_machine.specs.declared.answers.Cause.{Cause}
 use Rattle.dn_machine.specs.declared.answers.Phase.TheVariants.{Playing, Ended}
-use Rattle.dn_lockstep.specs.Represents.{Represents}
+use Rattle.dn_lockstep.specs.Represents.{Represents, marked_to}
 use Rattle.dn_lockstep.specs.Rings.{count_of}
 use Rattle.dn_lockstep.specs.Steps.{IsAfter}
 use Rattle.dn_machine.specs.declared.peer.Peer.{Peer}
+use Rattle.dn_machine.proofs.Peers.{asked_end}
 use Rattle.dn_lockstep.proofs.After.{after}
 use Rattle.dn_lockstep.proofs.Counting.{below, got_is, made_is}
 use Rattle.dn_lockstep.proofs.Holding.{shows_commands}
-use Rattle.dn_lockstep.proofs.Kept.{asked_later, told_later}
+use Rattle.dn_lockstep.proofs.Marked.{told_marked}
 use Rattle.dn_lockstep.proofs.Peering.{shows_peer}
 
 -- what is kept of the sender after a flight
 abbrev asked : ℕ → machine.Node → Flight → Peer
 asked me m f = after_flight (machine.made me m) (m.peers f.from) f
 
-flight_later : (me : ℕ) (m : machine.Node) (f : Flight)
+-- it takes no mark of the sender's away
+flight_marked : (me : ℕ) (m : machine.Node) (f : Flight)
     → is_strange_end (is_exit f.kind) (machine.got m f.from) (ends_of m f.from) (end_of f) ≡ false
-    → (tic : ℕ) → is_over (asked me m f).end tic ≡ false → is_over (ends_of m f.from) tic ≡ false
-flight_later me m f = told_later (is_exit f.kind) (ends_of m f.from) (machine.got m f.from) (end_of f)
+    → (is_over (ends_of m f.from) (machine.ran m) ≡ false → machine.ran m ≤ machine.got m f.from)
+    → marked_to (machine.ran m) (asked me m f).end ≡ marked_to (machine.ran m) (ends_of m f.from)
+flight_marked me m f = told_marked (machine.ran m) (is_exit f.kind) (ends_of m f.from)
+    (machine.got m f.from) (end_of f)
     (after_request (machine.made me m) (m.peers f.from) f.request)
-    (asked_later (machine.made me m) (m.peers f.from) f.request)
+    (asked_end (machine.made me m) (m.peers f.from) f.request)
 
 -- the node that has taken its commands
 abbrev node_taken : ℕ → machine.Node → Flight → machine.Node
@@ -125,7 +129,9 @@ module _ {S : Type 0} {rules : Rules S} {me : ℕ} {n : Contents} {m : machine.N
         λ i. after_request (same_made i) (same_peer i) (request_in (same_made i) packet) in
         after (with_peer m from (after_request (machine.made me m) (m.peers from) asks)) Heard.Noted
         (left_asked rules me m from packet cause (sym r.stands.played ∙ played) start stays same_start)
-        (shows_peer r from peers (asked_later (machine.made me m) (m.peers from) asks) (is ∙ same) others)
+        (shows_peer r from peers
+        (ap (marked_to (machine.ran m)) (asked_end (machine.made me m) (m.peers from) asks)) (is ∙ same)
+        others)
         refl
 
     module _ {commands : List TicCmd} (items : commands ≡ packet.cmds.items) where
@@ -172,9 +178,16 @@ module _ {S : Type 0} {rules : Rules S} {me : ℕ} {n : Contents} {m : machine.N
             {q : Peer}
             (asks : q ≡ after_exit (after_request made (n.peers from) (request_in made packet)) exit
             (start + length commands))
+            (ahead : is_over (n.peers from).end n.ran ≡ false → n.ran ≤ got)
             (peers : ℕ → Peer) (others : (p : ℕ) → p ≢ from → peers p ≡ n.peers p) where
           fine : is_strange_end (is_exit f.kind) (machine.got m from) (ends_of m from) (end_of f) ≡ false
           fine = sym odd_is ∙ usual
+
+          -- the commands of one who is there have come up to the tics that were run
+          caught_up : is_over (ends_of m from) (machine.ran m) ≡ false → machine.ran m ≤ machine.got m from
+          caught_up present =
+              let come = ahead ((λ i. is_over (same_peer i).end (r.table.ran i)) ∙ present) in
+              omega (arith, come, r.table.ran, had)
 
           same_asked : q ≡ asked me m f
           same_asked =
@@ -187,7 +200,7 @@ module _ {S : Type 0} {rules : Rules S} {me : ℕ} {n : Contents} {m : machine.N
           stale_shows old is =
               after (with_peer m from (asked me m f)) (left_or (is_exit f.kind) Heard.Stale)
               (step ∙ stale me m f fits fine (omega (arith, old, had, same_length)))
-              (shows_peer r from peers (flight_later me m f fine) (is ∙ same_asked) others)
+              (shows_peer r from peers (flight_marked me m f fine caught_up) (is ∙ same_asked) others)
               (ap (λ (b : Bool). left_or b Heard.Stale) exits_is)
 
           pub gap_shows : got < start + length commands → got < start → peers from ≡ record q { want = true }
@@ -196,7 +209,7 @@ module _ {S : Type 0} {rules : Rules S} {me : ℕ} {n : Contents} {m : machine.N
           gap_shows new far is =
               after (with_peer m from (record (asked me m f) { want = true })) Heard.Gap
               (step ∙ gap me m f fits fine (omega (arith, new, had, same_length)) (omega (arith, far, had)))
-              (shows_peer r from peers (flight_later me m f fine)
+              (shows_peer r from peers (flight_marked me m f fine caught_up)
               (is ∙ ap (λ (x : Peer). record x { want = true }) same_asked) others) refl
 
           pub taken_shows : (rings : ℕ → Ring) → got < start + length commands → start ≤ got
@@ -223,7 +236,7 @@ module _ {S : Type 0} {rules : Rules S} {me : ℕ} {n : Contents} {m : machine.N
               (Heard.Taken (start + length packet.cmds.items - machine.got m from)))
               (step ∙ taken me m f fits fine (omega (arith, new, had, same_length))
               (omega (arith, near, had)))
-              (shows_commands (shows_peer r from peers (flight_later me m f fine)
+              (shows_commands (shows_peer r from peers (flight_marked me m f fine caught_up)
               (is ∙ ap (λ (x : Peer). record x { want = false }) same_asked) others) from n.hold m.keys _
               rings r.commands.hold rest apart)
               (λ i. left_or (exits_is i) (Heard.Taken (counts i)))

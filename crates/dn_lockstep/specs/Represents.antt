@@ -1,5 +1,5 @@
 -- When a lockstep represents a node of the machine.
-use Rattle.std.specs.Prelude.{◌≡◌, ℕ, ◌+◌, ◌-◌, ◌%◌, ◌<◌, ◌≤◌, ℤ, Bool, true, false, ◌||◌, nat_lt, List, [], length, Option, Some, None, if◌then◌else◌}
+use Rattle.std.specs.Prelude.{◌≡◌, ℕ, ◌+◌, ◌%◌, ◌<◌, ◌≤◌, min, ℤ, Bool, true, ◌||◌, nat_lt, List, [], length, Option, Some, None, if◌then◌else◌}
 use Rattle.dn_tic.specs.Pressed.{turn_hold}
 use Rattle.dn_tic.specs.declared.command.Move.{Move}
 use Rattle.dn_tic.specs.declared.command.TicCmd.{TicCmd}
@@ -15,7 +15,6 @@ use Rattle.dn_machine.specs.declared.answers.Phase.{Phase}
 use Rattle.dn_machine.specs.Worlds.{Rules}
 use Rattle.dn_machine.specs.Node as machine
 use Rattle.dn_machine.specs.Node.{own_mark, ends_of, is_ended, demo_rows}
-use Rattle.dn_machine.specs.Running.{is_over}
 use Rattle.dn_machine.specs.declared.peer.Peer.{Peer}
 use Rattle.dn_lockstep.specs.Contents.{Contents}
 use Rattle.dn_lockstep.specs.Rows.{seats_of}
@@ -68,15 +67,21 @@ pub record KnowsPeers (players : ℕ) (peers there : ℕ → Peer) (heard noted_
   pub known : (p : ℕ) → p < players → peers p ≡ there p
   pub noted : (p : ℕ) → is_peer players p ≡ true → heard p ≡ noted_there p
 
+-- up to which tic a player's marks are kept: of the tics that were run, but of none from a known end on
+abbrev pub marked_to : ℕ → Option ℕ → ℕ
+marked_to tics None = tics
+marked_to tics (Some end) = min tics end
+
 -- what it keeps of its world
 pub record HasTable (players count : ℕ) (table : ℕ → ℕ → ℤ) (tics : ℕ) (own : ℕ → ℕ → ℤ)
     (ends : ℕ → Option ℕ) : Type 0 where
   -- it ran as many tics
   pub ran : count ≡ tics
-  -- for each of the next twelve tics the table has the mark of the world twelve tics before, and 0 below tic
-  -- 12; but no mark is kept of a tic from a player's known end on
-  pub marks : (p tic : ℕ) → p < players → tics ≤ tic → tic < tics + 12
-      → is_over (ends p) (tic - 12) ≡ false → table p (tic % 12) ≡ own p tic
+  -- a player's slot has the mark of the last tic up to there whose remainder by twelve is the slot's, and 0
+  -- where there is none: that is, for each of the twelve tics from there on, the mark of the own world twelve
+  -- tics before, and 0 below tic 12. So the slots of a player who is gone stay as they are
+  pub marks : (p tic : ℕ) → p < players → marked_to tics (ends p) ≤ tic → tic < marked_to tics (ends p) + 12
+      → table p (tic % 12) ≡ own p tic
 
 -- what it has recorded
 pub record HasRecorded (players : ℕ) (recorded : Recorded) (played : Bool) (text : List ℕ) (is_done : Bool)

@@ -49,7 +49,7 @@ by_same_marks one other players extra capacity m same me n r =
       peers = r.peers;
       table = record {
         ran = r.table.ran;
-        marks = λ p tic below low high present. r.table.marks p tic below low high present ∙ same p tic;
+        marks = λ p tic below low high. r.table.marks p tic below low high ∙ same p tic;
       };
       demo = r.demo;
     }

@@ -90,8 +90,9 @@ fn strangers_are_told(rt: HostRuntime) {
     // Its player 3 is at no player's port of the line, and its player 1 at that of the line's player 0.
     let mut stranger = must!(rt; UdpLine::bind(rt, rt.alloc(), base - 1, 3, 3, 4));
     let bytes = rising();
+    let front = &bytes[..105];
     same!(rt; stranger.send(3, 1, &bytes), Ok(()));
-    came(rt, awaited(&mut line, 0), 255, &bytes[..105]);
+    came(rt, awaited(&mut line, 0), 255, front);
 }
 
 /// Each request for memory may be refused: then there is no line, and the next is bound.

@@ -23,7 +23,6 @@ fn storms_are_shown(rt: HostRuntime) {
     let rt = &rt;
     let rows = [
         (2, 1, 1, ONE_SHOWN),
-        (2, 3, 1, SENT_SHOWN),
         (
             2,
             1,
@@ -61,6 +60,13 @@ fn storms_are_shown(rt: HostRuntime) {
         );
         prints(rt, printed, 0, text.as_bytes(), (players, seed, count));
     }
+}
+
+#[test]
+fn a_packet_of_a_storm_is_counted(rt: HostRuntime) {
+    let rt = &rt;
+    let printed = storm(rt.alloc(), must!(rt; rules(DEFAULT_LIMIT)), 2, 3, 1);
+    prints(rt, printed, 0, SENT_SHOWN.as_bytes(), ());
 }
 
 /// Each packet repeats a command, and the demos fill up.

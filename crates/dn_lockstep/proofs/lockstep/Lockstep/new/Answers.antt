@@ -33,7 +33,7 @@ returns-clause-opened c marking settings key =
       };
       table = record {
         ran = refl;
-        marks = λ p tic below low high present. c.new-6.ensures p _
+        marks = λ p tic below low high. c.new-6.ensures p _
             ∙ first_marks rule (fresh settings config.me) p tic high;
       };
       demo = record {

@@ -1,4 +1,4 @@
-use Rattle.std.proofs.Common.{◌≡◌, ◌-◌, ℕ, ap, sym, ◌∙◌, inl, inr, arith}
+use Rattle.std.proofs.Common.{◌≡◌, ◌-◌, ℕ, refl, ap, sym, ◌∙◌, inl, inr, arith}
 use Rattle.dn_setup.specs.Starts.{bit}
 use Rattle.dn_machine.specs.Node as machine
 use Rattle.dn_machine.specs.Worlds.{Rules, rules_of}
@@ -44,7 +44,7 @@ returns-in-Playing-clause-step c marking players extra capacity me m r =
     let step = ap (after_giving rules me m c.args.to) (sym r.stands.phase)
     ∙ gives rules me m c.args.to n.phase c.in-Playing.is
     ∙ ap (λ (k : ℕ). machine.with_peer m c.args.to (record (m.peers c.args.to) { resend = k })) (sym tic) in
-    along step (shows_peer r c.args.to _ (λ tic h. h) peer c.resend_from.ensures.others)
+    along step (shows_peer r c.args.to _ refl peer c.resend_from.ensures.others)
 
 -- nothing but where its resends start is kept otherwise
 kept : (c : After-resend_from)

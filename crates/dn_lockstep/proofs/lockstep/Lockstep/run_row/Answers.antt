@@ -17,7 +17,7 @@ use Rattle.dn_lockstep.specs.Peers.{peer_at}
 use Rattle.dn_lockstep.specs.Rings.{ring_at}
 use Rattle.dn_lockstep.specs.Rows.{has_gone, seats_of}
 use Rattle.dn_lockstep.proofs.After.{after}
-use Rattle.dn_lockstep.proofs.Finding.{row_is, seat_held, full_is}
+use Rattle.dn_lockstep.proofs.Finding.{row_is, seat_held, seat_empty, full_is}
 use Rattle.dn_lockstep.proofs.Gone.{over_later, gone_later}
 use Rattle.dn_lockstep.proofs.Moving.{IsWritten, shows_moved}
 use Rattle.dn_lockstep.proofs.Room.{row_length, size_more, row_fits}
@@ -177,5 +177,8 @@ returns-clause-step c marking players extra capacity me m r own =
     ∙ seat_held r n.window c.requires.there p inside (omega (arith, inside, n.few)) present)
     ∙ own _ (ap (λ (x : machine.Node × Ran). x.1) moves) (sym r.stands.phase ∙ on) p
     (omega (arith, inside, r.whose.players)) present)
+    (λ p j inside gone. c.stamp.ensures.absent p j (omega (arith, inside, n.few))
+    (ap (λ (x : List (Option Move)). lacks x p) row
+    ∙ seat_empty r n.window c.requires.there p inside (omega (arith, inside, n.few)) gone))
     c.stamp.ensures.others written)
     (ap Ran.Ran r.table.ran, ap (λ (x : List (Option Move)). Some x) row)

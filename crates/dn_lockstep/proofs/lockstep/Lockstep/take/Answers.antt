@@ -1,8 +1,9 @@
-use Rattle.std.proofs.Common.{◌≡◌, refl, ℕ, ◌+◌, ◌-◌, false, length, sym, ap, ◌∙◌, arith, inl, inr, rules}
+use Rattle.std.proofs.Common.{◌≡◌, ◌≤◌, refl, ℕ, ◌+◌, ◌-◌, false, length, sym, ap, ◌∙◌, arith, inl, inr, rules}
 use Rattle.std.specs.List.{list_any}
 use Rattle.dn_ring.specs.Ring.{Ring}
 use Rattle.dn_machine.specs.declared.peer.Peer.{Peer}
 use Rattle.dn_machine.specs.Hearing.{after_request, after_exit, is_strange_end}
+use Rattle.dn_machine.specs.Running.{is_over}
 use Rattle.dn_lockstep.specs.Contents.{contents}
 use Rattle.dn_lockstep.specs.Peers.{peer_at}
 use Rattle.dn_lockstep.specs.Reading.{request_in}
@@ -45,6 +46,14 @@ usual c =
     ap (λ (q : Peer). is_strange_end c.has_flag-exit.result c.count-got.result q.end
     (c.in-Ok.start + length c.as_slice-commands.result.now)) (sym c.get.ensures)
     ∙ sym c.is_strange_end.ensures ∙ c.if-is_strange_end.false
+
+-- and what came of it reaches up to the tics that were run, unless it is gone
+ahead : (c : After-tell)
+    → is_over (peer_at c.args.self.now.peers c.args.from).end c.args.self.now.ran ≡ false
+    → c.args.self.now.ran ≤ c.count-got.result
+ahead c present =
+    let come = c.args.self.now.ahead c.args.from c.requires.peer present in
+    omega (arith, come, c.count-got.ensures)
 
 -- so all peers are kept
 kept : (c : After-tell)
@@ -98,7 +107,8 @@ returns-then-end-got-clause-step c marking players extra capacity me m r =
     let at = goal.at.returns-then-end-got-clause-step c in
     let stale = stale_shows r (read at.After-as_slice-commands) c.as_slice-commands.ensures.value
     c.if-end-self.false c.has_flag-exit.ensures c.count-got.ensures (usual at.After-tell)
-    (asked at.After-tell) (peer_at c.tell.new.self) (kept at.After-tell).others c.if-end-got.true refl in
+    (asked at.After-tell) (ahead at.After-tell) (peer_at c.tell.new.self) (kept at.After-tell).others
+    c.if-end-got.true refl in
     record { node = stale.node; answer = c.left_or.ensures ∙ stale.answer }
 
 -- a gap
@@ -132,7 +142,8 @@ returns-then-start-got-clause-step c marking players extra capacity me m r =
     let at = goal.at.returns-then-start-got-clause-step c in
     gap_shows r (read at.After-as_slice-commands) c.as_slice-commands.ensures.value c.if-end-self.false
     c.has_flag-exit.ensures c.count-got.ensures (usual at.After-tell) (asked at.After-tell)
-    (peer_at c.want.new.self) (λ p e. c.want.ensures.others p e ∙ (kept at.After-tell).others p e)
+    (ahead at.After-tell) (peer_at c.want.new.self)
+    (λ p e. c.want.ensures.others p e ∙ (kept at.After-tell).others p e)
     c.if-end-got.false c.if-start-got.true c.want.ensures.put
 
 -- new commands
@@ -202,7 +213,7 @@ returns-clause-step c marking players extra capacity me m r =
     let at = goal.at.returns-clause-step c in
     let taken = taken_shows r (read at.After-as_slice-commands) c.as_slice-commands.ensures.value
     c.if-end-self.false c.has_flag-exit.ensures c.count-got.ensures (usual at.After-tell)
-    (asked at.After-tell) (peer_at c.want-2.new.self)
+    (asked at.After-tell) (ahead at.After-tell) (peer_at c.want-2.new.self)
     (λ p e. c.want-2.ensures.others p e ∙ (kept at.After-tell).others p e) (ring_at c.put_all.new.self)
     c.if-end-got.false c.if-start-got.false c.want-2.ensures.put c.put_all.ensures.kept
     c.put_all.ensures.others in
