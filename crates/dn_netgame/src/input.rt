@@ -37,7 +37,8 @@ pub(crate) fn read_demo(bytes: Vec<u8>) -> Result<Demo, &'static str>
         Err(DemoFault::Short) => Err(line_of(FeedFault::Short)),
         Err(DemoFault::Version) => Err(line_of(FeedFault::Version)),
         Err(DemoFault::NoPlayers) => Err(line_of(FeedFault::NoPlayers)),
-        // keeping the bytes takes no memory
-        Err(DemoFault::NoMarker | DemoFault::Memory) => Err(line_of(FeedFault::NoMarker)),
+        Err(DemoFault::NoMarker) => Err(line_of(FeedFault::NoMarker)),
+        // the bytes are kept as they are
+        Err(DemoFault::Memory) => unreachable!(),
     }
 }

@@ -15,7 +15,7 @@ ghost use Rattle.dn_netgame.specs.declared.fault.RunFault.{RunFault};
 use crate::fault::RunFault;
 use crate::transfer::print;
 use dn_line::{Line, UdpLine};
-use dn_node::{Config, Node};
+use dn_node::{Config, Node, NodeFault};
 use dn_text::push_node;
 use dn_turn::rounds;
 use dn_world::{Walk, World};
@@ -73,8 +73,11 @@ fn play<R: Net>(
     ensures fault { IfErr result (λ fault. fault ≡ RunFault.Memory) }
 {
     let (me, players) = (config.me, config.players);
-    let Ok(mut node) = Node::new(alloc, config, Walk::new()) else {
-        return Err(RunFault::Memory);
+    let mut node = match Node::new(alloc, config, Walk::new()) {
+        Ok(node) => node,
+        Err(NodeFault::Memory) => return Err(RunFault::Memory),
+        Err(NodeFault::Players | NodeFault::Me | NodeFault::Key | NodeFault::Limit) =>
+            unreachable!(),
     };
     let Ok(mut line) = UdpLine::bind(rt, alloc, base, me, me, players) else {
         return Ok(None);
