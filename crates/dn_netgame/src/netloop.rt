@@ -110,7 +110,7 @@ fn play_all<R: Net>(
 /// that fails ends nothing.
 ///
 /// A write that fails or takes no bytes is the fault `Write`, and `Memory` is answered where memory for the
-/// nodes or the lines was refused. Each ends the run there.
+/// nodes or for their printed lines was refused. Each ends the run there.
 pub fn run_loop<R: Net, W: Write>(
     rt: &R,
     alloc: Global,

@@ -44,7 +44,7 @@ fn play_out<W: World, L: Line>(nodes: &mut [Node<W>], line: &mut L, seed: u64, c
     rounds(nodes, line, seed, FAREWELLS);
 }
 
-/// The line of a node.
+/// The line that is printed of a node.
 fn text_of<W: World>(alloc: Global, node: &Node<W>) -> Result<String, AllocError>
     ensures { IfOk result (λ text. string_bytes text ≡ node_line (contents node.now) false) }
 {
@@ -90,8 +90,8 @@ fn play<R: Net>(
 /// the node's line, or its demo if `raw` is set. The answer is the exit status: 0, and 3 where the socket
 /// cannot be bound. A send or a poll that fails ends nothing.
 ///
-/// A write that fails or takes no bytes is the fault `Write`, and `Memory` is answered where memory
-/// for the node or the line was refused. Each ends the run there.
+/// A write that fails or takes no bytes is the fault `Write`, and `Memory` is answered where memory for the
+/// node or for its printed line was refused. Each ends the run there.
 pub fn run_play<R: Net, W: Write>(
     rt: &R,
     alloc: Global,

@@ -10,7 +10,7 @@ ghost use Rattle.dn_demo.specs.Listed.{told, AreListed, TellsFront};
 ghost use Rattle.dn_text.specs.RowLines.{lines_of_rows};
 ghost use Rattle.dn_netgame.specs.DemoShown.{demo_limit};
 ghost use Rattle.dn_netgame.specs.RowsShown.{IsRowsShown, ListsWhole, ListsFront};
-ghost use Rattle.dn_netgame.specs.Shown as shown;
+ghost use Rattle.dn_netgame.specs.Shown.{ShowsInput};
 ghost use Rattle.dn_netgame.specs.Transfer.{TakesUpTo};
 ghost use Rattle.dn_netgame.specs.declared.fault.RunFault.{RunFault};
 
@@ -99,7 +99,7 @@ pub fn run_rows<R: Read, W: Write>(
     output: &mut W,
 ) -> Result<u8, RunFault>
     // All lines were written, and the status is theirs.
-    ensures shown { IfOk result (λ status. shown.Shows (demo_limit + 1) IsRowsShown
+    ensures shown { IfOk result (λ status. ShowsInput (demo_limit + 1) IsRowsShown
         (R.remaining input.old) (R.remaining input.new)
         (W.contents output.old) (W.contents output.new) status) }
     // After a read fault the output has the lines of the rows so far, but for those of the last piece.

@@ -85,7 +85,7 @@ pub fn run_sim<R: Read, W: Write>(
 ) -> Result<u8, RunFault>
     requires players { IsGame players }
     requires limit { IsLimit config.limit }
-    // A byte more than a script can have is taken, so that a longer input is not read as its front.
+    // A byte more than a script can have is taken, so that no prefix of a longer input is read as a script.
     ensures { ShowsOrFails W.contents (size_limit + 1) (IsSim config players) (R.remaining input.old)
         (R.remaining input.new) output.old output.new result }
 {
