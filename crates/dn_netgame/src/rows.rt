@@ -25,7 +25,7 @@ use dn_world::Walk;
 use std::alloc::{AllocError, Global};
 use std::io::{Read, Write};
 
-/// The lines of a row that was told.
+/// Appends the lines of the row that a feed told; none where it told no row.
 fn push_told(text: &mut String, tic: u64, row: Option<[Option<Move>; 4]>) -> Result<(), AllocError>
     ensures { OnOk result (string_bytes text.new ≡ string_bytes text.old ++ lines_of_rows tic (told row)) }
 {
@@ -105,7 +105,7 @@ pub fn run_rows<R: Read, W: Write>(
     // After a read fault the output has the lines of the rows so far, but for those of the last piece.
     ensures read { result ≡ Err RunFault.Read → ListsWhole (demo_limit + 1)
         (R.remaining input.old) (R.remaining input.new) (W.contents output.old) (W.contents output.new) }
-    // And so it has where memory was refused.
+    // The same holds where memory was refused.
     ensures memory { result ≡ Err RunFault.Memory → ListsWhole (demo_limit + 1)
         (R.remaining input.old) (R.remaining input.new) (W.contents output.old) (W.contents output.new) }
     // A write fault comes before the last byte of the lines so far is written.
