@@ -8,7 +8,7 @@ use Rattle.dn_world.specs.Physics.{Physics}
 use Rattle.dn_demo.specs.Feeding.{Feeding, Shows, Takes}
 use Rattle.dn_netgame.specs.Transfer.{TakesUpTo}
 
--- a front of what was read is fed
+-- a prefix of what was read is fed
 pub fed_more : {S W : Type 0} (state : W → S) (physics : Physics S) (f g : Feeding W)
     (xs buffer tail : List ℕ) (n : ℕ) → n ≤ length buffer
     → Shows state physics xs f → Takes state physics f (take n (buffer ++ tail)) g

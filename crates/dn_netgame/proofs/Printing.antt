@@ -1,4 +1,4 @@
--- Lines that were printed, or a front of them.
+-- Lines that were printed, or a prefix of them.
 use Rattle.std.proofs.Common.{◌≡◌, ℕ, List, Option, Result, Ok, Err, subst, sym, ◌∙◌}
 use Rattle.dn_netgame.specs.Shown.{PrintsOrFails, TheseLines}
 use Rattle.dn_netgame.specs.declared.fault.RunFault.{RunFault}

@@ -45,7 +45,7 @@ told_more f g h piece mid rest xs ys text text' one same other more = (
       ∙ sym (lines_at f.tics g.tics xs ys one.listed.tics),
 )
 
--- a front of a text that is written behind another
+-- a prefix of a text is written behind another text
 pub front_behind : (old mid new : Option (List ℕ)) (first text : List ℕ) → Appends old mid first
     → AppendsFront mid new text → AppendsFront old new (first ++ text)
 front_behind old mid new first text before front =
@@ -155,7 +155,7 @@ module _ (input mid output output' : Option (List ℕ)) (f : Feeding Spots)
       (all_rows, listed, written later put),
     )
 
-    -- a front of its lines was written
+    -- a prefix of its lines was written
     pub lists_front : (later : Option (List ℕ)) → AppendsFront output' later text
         → ListsFront 33554433 input input' output later
     lists_front later front =

@@ -5,6 +5,35 @@ use Rattle.dn_netgame.specs.Transfer.{TakesUpTo}
 use Rattle.dn_netgame.specs.declared.fault.RunFault.{RunFault}
 use Rattle.dn_netgame.specs.declared.fault.RunFault.TheVariants.{Read, Write, Memory}
 
+-- the input was taken, and what was printed for it is shown for it
+pub shows_printed : {W : Type 0} (contents : W → Option (List ℕ)) (limit : ℕ)
+    (IsShownAs : List ℕ → List ℕ → ℕ → Type 0) (IsPrinted : List ℕ → ℕ → Type 0)
+    (input input' : Option (List ℕ)) (output output' : W) (bytes : List ℕ) (result : Result ℕ RunFault)
+    → PrintsOrFails contents IsPrinted output output' result → TakesUpTo limit input input' bytes
+    → ((lines : List ℕ) (status : ℕ) → IsPrinted lines status → IsShownAs bytes lines status)
+    → ShowsOrFails contents limit IsShownAs input input' output output' result
+shows_printed contents limit IsShownAs IsPrinted input input' output output' bytes (Ok status) way taken such =
+    record {
+      bytes = bytes;
+      lines = way.lines;
+      taken = taken;
+      shown = such way.lines status way.printed;
+      written = way.written;
+    }
+shows_printed contents limit IsShownAs IsPrinted input input' output output' bytes (Err Read) way taken such =
+    absurd way
+shows_printed contents limit IsShownAs IsPrinted input input' output output' bytes (Err Write) way taken such =
+    record {
+      bytes = bytes;
+      lines = way.lines;
+      status = way.status;
+      taken = taken;
+      shown = such way.lines way.status way.printed;
+      written = way.written;
+    }
+shows_printed contents limit IsShownAs IsPrinted input input' output output' bytes (Err Memory) way taken such =
+    (record { bytes = bytes; taken = taken.taken; within = taken.within }, way)
+
 -- the input was taken, and its lines were printed as far as that went
 pub shows_such : {W : Type 0} (contents : W → Option (List ℕ)) (limit : ℕ)
     (IsShownAs : List ℕ → List ℕ → ℕ → Type 0) (input input' : Option (List ℕ)) (output output' : W)
@@ -12,26 +41,9 @@ pub shows_such : {W : Type 0} (contents : W → Option (List ℕ)) (limit : ℕ)
     → PrintsOrFails contents (TheseLines put status) output output' result → put ≡ lines
     → TakesUpTo limit input input' bytes → IsShownAs bytes lines status
     → ShowsOrFails contents limit IsShownAs input input' output output' result
-shows_such contents limit IsShownAs input input' output output' bytes put lines status (Ok answered) way same
-    taken such = record {
-      bytes = bytes;
-      lines = way.lines;
-      taken = taken;
-      shown = subst (λ (ls : List ℕ). IsShownAs bytes ls answered) (sym (way.printed.0 ∙ same))
-          (subst (IsShownAs bytes lines) (sym way.printed.1) such);
-      written = way.written;
-    }
-shows_such contents limit IsShownAs input input' output output' bytes put lines status (Err Read) way same
-    taken such = absurd way
-shows_such contents limit IsShownAs input input' output output' bytes put lines status (Err Write) way same
-    taken such = record {
-      bytes = bytes;
-      lines = way.lines;
-      status = way.status;
-      taken = taken;
-      shown = subst (λ (ls : List ℕ). IsShownAs bytes ls way.status) (sym (way.printed.0 ∙ same))
-          (subst (IsShownAs bytes lines) (sym way.printed.1) such);
-      written = way.written;
-    }
-shows_such contents limit IsShownAs input input' output output' bytes put lines status (Err Memory) way same
-    taken such = (record { bytes = bytes; taken = taken.taken; within = taken.within }, way)
+shows_such contents limit IsShownAs input input' output output' bytes put lines status result way same taken
+    such =
+    shows_printed contents limit IsShownAs (TheseLines put status) input input' output output' bytes result way
+    taken
+    (λ ls answered these. subst (λ (xs : List ℕ). IsShownAs bytes xs answered) (sym (these.0 ∙ same))
+    (subst (IsShownAs bytes lines) (sym these.1) such))

@@ -15,8 +15,8 @@ use Rattle.dn_netgame.specs.GameShown.{IsGameShown}
 abbrev pub no_keys : List ℕ
 no_keys = 0 ∷ 0 ∷ 0 ∷ 0 ∷ []
 
--- `calm` good rounds in which nobody presses a key lead on from whatever game of the machine the first
--- represents
+-- `played` is `before` after `calm` more good rounds in which nobody presses a key, for each game of the
+-- machine that `before` represents
 abbrev pub Calms : ℕ → Played Spots → Played Spots → Type 0
 Calms calm before played =
     Tells (λ spots. spots) walking (contents before.game)

@@ -18,23 +18,23 @@ abbrev pub demo_limit : ℕ
 demo_limit = 33554432
 
 -- the bytes are read as this demo, and are not too many
-abbrev pub IsGiven : List ℕ → Recording → Type 0
-IsGiven bytes demo = (length bytes ≤ demo_limit) × IsReadAs bytes (Ok demo)
+abbrev pub IsDemoInput : List ℕ → Recording → Type 0
+IsDemoInput bytes demo = (length bytes ≤ demo_limit) × IsReadAs bytes (Ok demo)
 
--- the line of bytes that are too many, or else no demo
-abbrev pub IsRefused : List ℕ → List ℕ → Type 0
-IsRefused bytes line =
+-- the line that refuses these bytes: they are too many, or else no demo
+abbrev pub IsDemoRefused : List ℕ → List ℕ → Type 0
+IsDemoRefused bytes line =
     ((demo_limit < length bytes) × (line ≡ codes "demo: too long\n"))
     ⊎ ((length bytes ≤ demo_limit)
     × ((fault : DemoFault) × IsReadAs bytes (Err fault) × IsFaultLine fault line))
 
--- what is written for these bytes, and the exit status: what is said of the demo, or else a refusal, with
--- status 1
-abbrev pub IsWritten : (Recording → List ℕ → ℕ → Type 0) → List ℕ → List ℕ → ℕ → Type 0
-IsWritten IsSaid bytes text status =
-    ((demo : Recording) × IsGiven bytes demo × IsSaid demo text status)
-    ⊎ (IsRefused bytes text × (status ≡ 1))
+-- the output and the exit status for these bytes: those that IsSaid tells for the demo, or else the line that
+-- refuses them and status 1
+abbrev pub IsDemoOutput : (Recording → List ℕ → ℕ → Type 0) → List ℕ → List ℕ → ℕ → Type 0
+IsDemoOutput IsSaid bytes text status =
+    ((demo : Recording) × IsDemoInput bytes demo × IsSaid demo text status)
+    ⊎ (IsDemoRefused bytes text × (status ≡ 1))
 
 -- the lines and the exit status are those of the demo, or of a refusal
 abbrev pub IsDemo : List ℕ → List ℕ → ℕ → Type 0
-IsDemo = IsWritten (λ d lines status. (lines ≡ demo_lines d) × (status ≡ 0))
+IsDemo = IsDemoOutput (λ d lines status. (lines ≡ demo_lines d) × (status ≡ 0))

@@ -13,8 +13,8 @@ use Rattle.dn_netgame.specs.PlayShown.{new_ports, new_seat}
 abbrev pub new_seats : GameConfig → ℕ → ℕ → Seat
 new_seats config players place = new_seat (config_of config players place) config.settings
 
--- nodes that have played `count` rounds with each other, all over ports that are bound here, from their
--- beginning on
+-- these nodes have played `count` rounds with each other since they were new, over ports that are all bound
+-- here
 pub record HavePlayed (config : GameConfig) (players base seed count : ℕ) (nodes : List (Node Spots)) : Type 0
   where
     pub last : Table Ports
@@ -23,7 +23,7 @@ pub record HavePlayed (config : GameConfig) (players base seed count : ℕ) (nod
     pub seated : AreSeated (λ spots. spots) walking nodes last.0
     pub each : length nodes ≡ players
 
--- the output and the exit status are those of such nodes, or tell that a socket cannot be bound
+-- the output and the exit status are those of such nodes, or of a socket that cannot be bound
 abbrev pub IsLoop : GameConfig → (players base seed count : ℕ) → List ℕ → ℕ → Type 0
 IsLoop config players base seed count lines status =
     ((lines ≡ codes "socket fault\n") × (status ≡ 3))

@@ -45,7 +45,7 @@ pub record PlaysOut {S L : Type 0} (sends : Sends L) (polls : Polls L) (physics 
   pub rounds : TakeRounds sends polls physics seed 1 count old mid
   pub farewells : TakeRounds sends polls physics seed 1 4 (with_quit 0 mid) new
 
--- a node that has played so from its beginning on
+-- a node has played so since it was new
 pub record HasPlayed (config : Config) (settings : Settings) (base seed count : ℕ)
     (n : Contents Spots) : Type 0 where
   pub last : Table Ports
@@ -53,13 +53,14 @@ pub record HasPlayed (config : Config) (settings : Settings) (base seed count : 
       (λ place. new_seat config settings, new_ports base config.me config.me config.players) last
   pub node : Represents (λ spots. spots) (rules_at walking (last.0 0)) (last.0 0).me n (last.0 0).node
 
--- whatever settings are taken where there are none, since only player 0 has some
+-- player 0 has played so from the settings of its configuration; another player has none there, and has
+-- played so from any settings
 abbrev pub HasEverPlayed : Config → (base seed count : ℕ) → Contents Spots → Type 0
 HasEverPlayed config base seed count n =
     (settings : Settings) → (config.me ≡ 0 → config.settings ≡ Some settings)
     → HasPlayed config settings base seed count n
 
--- the output and the exit status are those of such a node, or tell that the socket cannot be bound
+-- the output and the exit status are those of such a node, or of a socket that cannot be bound
 abbrev pub IsPlay : Config → (base seed count : ℕ) → Bool → List ℕ → ℕ → Type 0
 IsPlay config base seed count raw lines status =
     ((lines ≡ codes "socket fault\n") × (status ≡ 3))

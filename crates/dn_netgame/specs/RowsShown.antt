@@ -22,8 +22,8 @@ IsRowsShown bytes lines status =
 abbrev pub piece_size : ℕ
 piece_size = 4096
 
--- bytes were taken from the input, and all lines of the rows that they have were written, but for those of
--- the last bytes
+-- bytes were taken from the input, and all lines of the rows that they have were written; then no more than a
+-- piece was taken, and nothing was written for it
 pub record ListsWhole (limit : ℕ) (input input' output output' : Option (List ℕ)) : Type 0 where
   pub bytes : List ℕ
   pub last : List ℕ
@@ -34,8 +34,8 @@ pub record ListsWhole (limit : ℕ) (input input' output output' : Option (List 
   pub shown : AreRows bytes lines
   pub written : Appends output output' lines
 
--- bytes were taken from the input, and a front of their lines was written: of those of the rows, or of all,
--- where the input ended or a demo can have no more
+-- bytes were taken from the input, and a prefix of lines was written, and not all: of the lines of their rows;
+-- or, where the input ended or reached the limit, of these and the lines of `demo` behind them
 pub record ListsFront (limit : ℕ) (input input' output output' : Option (List ℕ)) : Type 0 where
   pub bytes : List ℕ
   pub lines : List ℕ

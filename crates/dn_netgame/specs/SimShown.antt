@@ -23,7 +23,8 @@ IsFaultShown TooLong lines status = (lines ≡ codes "script: too long\n") × (s
 IsFaultShown (Line number) lines status = (lines ≡ bad_line number) × (status ≡ 1)
 IsFaultShown Memory lines status = ⊥
 
--- the lines and the exit status for what a text is read as, where those of events are shown so
+-- the lines and the exit status for what a text is read as: those that AreShown tells for its events, or
+-- those of the fault
 abbrev pub IsScriptShownBy : (List Event → List ℕ → ℕ → Type 0) → Result (List Event) ScriptFault → List ℕ → ℕ
     → Type 0
 IsScriptShownBy AreShown (Ok events) lines status = AreShown events lines status

@@ -41,7 +41,7 @@ IsStormTraced config players seed count calm lines status =
     calm s.last before played
     × (lines ≡ trace_lines 0 s.events s.answers ++ game_lines played) × (status ≡ 0))
 
--- an event was not left out since memory was refused
+-- the event of this answer was not left out for want of memory
 abbrev pub IsNotLeftOut : Result Done Refusal → Type 0
 IsNotLeftOut answer = answer ≢ Err Refusal.Memory
 

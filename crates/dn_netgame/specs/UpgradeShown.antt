@@ -5,22 +5,22 @@ use Rattle.dn_demo.specs.Recorded.{Recorded}
 use Rattle.dn_demo.specs.Upgraded.{IsUpgraded}
 use Rattle.dn_demo.specs.declared.upgrading.UpgradeFault.{UpgradeFault}
 use Rattle.dn_demo.specs.declared.upgrading.UpgradeFault.TheVariants.{Limit, Full, Memory}
-use Rattle.dn_netgame.specs.DemoShown.{IsWritten}
+use Rattle.dn_netgame.specs.DemoShown.{IsDemoOutput}
 
--- what is written for what a demo is upgraded to, and the exit status; there is none for a limit that is out
--- of range and for `Memory`
+-- the output and the exit status for what a demo is upgraded to; there are none for a limit that is out of
+-- range, and none for `Memory`
 abbrev pub IsUpgradeShown : Result Recorded UpgradeFault → List ℕ → ℕ → Type 0
 IsUpgradeShown (Ok recorder) bytes status = (bytes ≡ recorder.bytes) × (status ≡ 0)
 IsUpgradeShown (Err Limit) bytes status = ⊥
 IsUpgradeShown (Err Full) bytes status = (bytes ≡ codes "upgrade: full\n") × (status ≡ 1)
 IsUpgradeShown (Err Memory) bytes status = ⊥
 
--- the demo is upgraded within this limit, and written so
+-- the output and the exit status for the demo, upgraded within this limit
 abbrev pub IsUpgradedTo : ℕ → Recording → List ℕ → ℕ → Type 0
 IsUpgradedTo limit demo bytes status =
     (upgraded : Result Recorded UpgradeFault) × IsUpgraded demo limit upgraded
     × IsUpgradeShown upgraded bytes status
 
--- what is written and the exit status are those of the upgraded demo, or of a refusal
+-- the output and the exit status are those of the upgraded demo, or of a refusal
 abbrev pub IsUpgrade : ℕ → List ℕ → List ℕ → ℕ → Type 0
-IsUpgrade limit = IsWritten (IsUpgradedTo limit)
+IsUpgrade limit = IsDemoOutput (IsUpgradedTo limit)

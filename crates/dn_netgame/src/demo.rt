@@ -39,7 +39,7 @@ pub fn run_demo<R: Read, W: Write>(
     input: &mut R,
     output: &mut W,
 ) -> Result<u8, RunFault>
-    // A byte more than a demo can have is taken, so that a longer input is not read as its front.
+    // A byte more than a demo can have is taken, so that no prefix of a longer input is read as a demo.
     ensures { ShowsOrFails W.contents (demo_limit + 1) IsDemo (R.remaining input.old) (R.remaining input.new)
         output.old output.new result }
 {

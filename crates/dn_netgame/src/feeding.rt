@@ -5,7 +5,7 @@ ghost use Rattle.dn_world.specs.Plane.{walking};
 ghost use Rattle.dn_demo.specs.Reading.{Recording};
 ghost use Rattle.dn_demo.specs.Feeding.{Shows};
 ghost use Rattle.dn_demo.specs.Fed.{Summarizes};
-ghost use Rattle.dn_netgame.specs.DemoShown.{demo_limit, IsGiven, IsRefused};
+ghost use Rattle.dn_netgame.specs.DemoShown.{demo_limit, IsDemoInput, IsDemoRefused};
 ghost use Rattle.dn_netgame.specs.Transfer.{TakesUpTo, TakesFewer};
 ghost use Rattle.dn_netgame.specs.declared.fault.RunFault.{RunFault};
 
@@ -47,9 +47,9 @@ pub(crate) fn feed_demo<R: Read>(input: &mut R) -> Result<Feed<Walk>, RunFault>
 /// The demo that was fed, or the line that tells why there is none.
 pub(crate) fn fed_demo(feed: Feed<Walk>) -> Result<Fed<Walk>, &'static str>
     ensures demo { IfOk result (λ fed. (bytes : List ℕ) → Shows (λ w. w) walking bytes feed
-        → (demo : Recording) × IsGiven bytes demo × Summarizes (λ w. w) walking demo fed) }
+        → (demo : Recording) × IsDemoInput bytes demo × Summarizes (λ w. w) walking demo fed) }
     ensures refused { IfErr result (λ line. (bytes : List ℕ) → Shows (λ w. w) walking bytes feed
-        → IsRefused bytes line.now) }
+        → IsDemoRefused bytes line.now) }
 {
     if feed.taken() >= ENOUGH {
         return Err(TOO_LONG);

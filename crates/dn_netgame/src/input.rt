@@ -2,7 +2,7 @@
 
 ghost use Rattle.std.specs.Prelude.{◌≡◌, codes, IfOk, IfErr};
 ghost use Rattle.dn_demo.specs.Fed.{fault_of};
-ghost use Rattle.dn_netgame.specs.DemoShown.{IsFaultLine, IsGiven, IsRefused};
+ghost use Rattle.dn_netgame.specs.DemoShown.{IsFaultLine, IsDemoInput, IsDemoRefused};
 
 use dn_demo::{Demo, DemoFault, FeedFault};
 
@@ -26,8 +26,8 @@ pub(crate) fn line_of(fault: FeedFault) -> &'static str
 
 /// The demo that the bytes are read as, or the line that tells why there is none.
 pub(crate) fn read_demo(bytes: Vec<u8>) -> Result<Demo, &'static str>
-    ensures demo { IfOk result (IsGiven bytes.items) }
-    ensures refused { IfErr result (λ line. IsRefused bytes.items line.now) }
+    ensures demo { IfOk result (IsDemoInput bytes.items) }
+    ensures refused { IfErr result (λ line. IsDemoRefused bytes.items line.now) }
 {
     if bytes.len() > INPUT_LIMIT {
         return Err(TOO_LONG);
@@ -37,7 +37,8 @@ pub(crate) fn read_demo(bytes: Vec<u8>) -> Result<Demo, &'static str>
         Err(DemoFault::Short) => Err(line_of(FeedFault::Short)),
         Err(DemoFault::Version) => Err(line_of(FeedFault::Version)),
         Err(DemoFault::NoPlayers) => Err(line_of(FeedFault::NoPlayers)),
-        // keeping the bytes takes no memory
-        Err(DemoFault::NoMarker | DemoFault::Memory) => Err(line_of(FeedFault::NoMarker)),
+        Err(DemoFault::NoMarker) => Err(line_of(FeedFault::NoMarker)),
+        // the bytes are kept as they are
+        Err(DemoFault::Memory) => unreachable!(),
     }
 }

@@ -15,7 +15,7 @@ ghost use Rattle.dn_netgame.specs.declared.fault.RunFault.{RunFault};
 use crate::fault::RunFault;
 use crate::transfer::print;
 use dn_line::{Line, UdpLine};
-use dn_node::{Config, Node};
+use dn_node::{Config, Node, NodeFault};
 use dn_text::push_node;
 use dn_turn::rounds;
 use dn_world::{Walk, World};
@@ -44,7 +44,7 @@ fn play_out<W: World, L: Line>(nodes: &mut [Node<W>], line: &mut L, seed: u64, c
     rounds(nodes, line, seed, FAREWELLS);
 }
 
-/// The line of a node.
+/// The line that is printed of a node.
 fn text_of<W: World>(alloc: Global, node: &Node<W>) -> Result<String, AllocError>
     ensures { IfOk result (λ text. string_bytes text ≡ node_line (contents node.now) false) }
 {
@@ -73,8 +73,11 @@ fn play<R: Net>(
     ensures fault { IfErr result (λ fault. fault ≡ RunFault.Memory) }
 {
     let (me, players) = (config.me, config.players);
-    let Ok(mut node) = Node::new(alloc, config, Walk::new()) else {
-        return Err(RunFault::Memory);
+    let mut node = match Node::new(alloc, config, Walk::new()) {
+        Ok(node) => node,
+        Err(NodeFault::Memory) => return Err(RunFault::Memory),
+        Err(NodeFault::Players | NodeFault::Me | NodeFault::Key | NodeFault::Limit) =>
+            unreachable!(),
     };
     let Ok(mut line) = UdpLine::bind(rt, alloc, base, me, me, players) else {
         return Ok(None);
@@ -87,8 +90,8 @@ fn play<R: Net>(
 /// the node's line, or its demo if `raw` is set. The answer is the exit status: 0, and 3 where the socket
 /// cannot be bound. A send or a poll that fails ends nothing.
 ///
-/// A write that fails or takes no bytes is the fault `Write`, and `Memory` is answered where memory
-/// for the node or the line was refused. Each ends the run there.
+/// A write that fails or takes no bytes is the fault `Write`, and `Memory` is answered where memory for the
+/// node or for its printed line was refused. Each ends the run there.
 pub fn run_play<R: Net, W: Write>(
     rt: &R,
     alloc: Global,

@@ -10,7 +10,7 @@ ghost use Rattle.dn_demo.specs.Listed.{told, AreListed, TellsFront};
 ghost use Rattle.dn_text.specs.RowLines.{lines_of_rows};
 ghost use Rattle.dn_netgame.specs.DemoShown.{demo_limit};
 ghost use Rattle.dn_netgame.specs.RowsShown.{IsRowsShown, ListsWhole, ListsFront};
-ghost use Rattle.dn_netgame.specs.Shown as shown;
+ghost use Rattle.dn_netgame.specs.Shown.{ShowsInput};
 ghost use Rattle.dn_netgame.specs.Transfer.{TakesUpTo};
 ghost use Rattle.dn_netgame.specs.declared.fault.RunFault.{RunFault};
 
@@ -25,7 +25,7 @@ use dn_world::Walk;
 use std::alloc::{AllocError, Global};
 use std::io::{Read, Write};
 
-/// The lines of a row that was told.
+/// Appends the lines of the row that a feed told; none where it told no row.
 fn push_told(text: &mut String, tic: u64, row: Option<[Option<Move>; 4]>) -> Result<(), AllocError>
     ensures { OnOk result (string_bytes text.new ≡ string_bytes text.old ++ lines_of_rows tic (told row)) }
 {
@@ -99,13 +99,13 @@ pub fn run_rows<R: Read, W: Write>(
     output: &mut W,
 ) -> Result<u8, RunFault>
     // All lines were written, and the status is theirs.
-    ensures shown { IfOk result (λ status. shown.Shows (demo_limit + 1) IsRowsShown
+    ensures shown { IfOk result (λ status. ShowsInput (demo_limit + 1) IsRowsShown
         (R.remaining input.old) (R.remaining input.new)
         (W.contents output.old) (W.contents output.new) status) }
     // After a read fault the output has the lines of the rows so far, but for those of the last piece.
     ensures read { result ≡ Err RunFault.Read → ListsWhole (demo_limit + 1)
         (R.remaining input.old) (R.remaining input.new) (W.contents output.old) (W.contents output.new) }
-    // And so it has where memory was refused.
+    // The same holds where memory was refused.
     ensures memory { result ≡ Err RunFault.Memory → ListsWhole (demo_limit + 1)
         (R.remaining input.old) (R.remaining input.new) (W.contents output.old) (W.contents output.new) }
     // A write fault comes before the last byte of the lines so far is written.

@@ -14,12 +14,10 @@ use crate::fault::RunFault;
 use crate::games::{play_walks, text_of_game};
 use crate::transfer::{gather, print};
 use dn_game::{Event, GameConfig, Nobody, ScriptFault, read_script};
+use dn_script::MAX_SCRIPT;
 use dn_text::text_of_bad_line;
 use std::alloc::{AllocError, Global};
 use std::io::{Read, Write};
-
-/// The most bytes of a script.
-pub(crate) const SCRIPT_LIMIT: usize = 1 << 20;
 
 /// The lines of a game of walks that has played these events.
 fn text_of_events(
@@ -85,11 +83,11 @@ pub fn run_sim<R: Read, W: Write>(
 ) -> Result<u8, RunFault>
     requires players { IsGame players }
     requires limit { IsLimit config.limit }
-    // A byte more than a script can have is taken, so that a longer input is not read as its front.
+    // A byte more than a script can have is taken, so that no prefix of a longer input is read as a script.
     ensures { ShowsOrFails W.contents (size_limit + 1) (IsSim config players) (R.remaining input.old)
         (R.remaining input.new) output.old output.new result }
 {
-    let bytes = gather(alloc, input, SCRIPT_LIMIT + 1)?;
+    let bytes = gather(alloc, input, MAX_SCRIPT + 1)?;
     let (text, status) = text_of(alloc, config, players, bytes.as_slice())?;
     print(output, text.as_bytes(), status)
 }

@@ -13,9 +13,10 @@ use crate::calm::calm_down;
 use crate::fault::RunFault;
 use crate::games::{play_walks, storm_walks};
 use crate::observers::{Script, Trace};
-use crate::sim::{SCRIPT_LIMIT, text_of_fault};
+use crate::sim::text_of_fault;
 use crate::transfer::{gather, print};
 use dn_game::{Event, GameConfig, read_script};
+use dn_script::MAX_SCRIPT;
 use dn_text::push_game;
 use std::alloc::{AllocError, Global};
 use std::io::{Read, Write};
@@ -75,7 +76,7 @@ pub fn trace_sim<R: Read, W: Write>(
     ensures { ShowsOrFails W.contents (size_limit + 1) (IsSimTraced config players) (R.remaining input.old)
         (R.remaining input.new) output.old output.new result }
 {
-    let bytes = gather(alloc, input, SCRIPT_LIMIT + 1)?;
+    let bytes = gather(alloc, input, MAX_SCRIPT + 1)?;
     let (text, status) = text_of_script(alloc, config, players, bytes.as_slice())?;
     print(output, text.as_bytes(), status)
 }
