@@ -120,8 +120,8 @@ abbrev pub told_of : Option Recording → DemoAnswer
 told_of (Some demo) = demo_told demo
 told_of None = no_demo
 
-abbrev pub demo_told : Reading → DemoAnswer
-demo_told r = told_of r.demo
+abbrev pub reading_told : Reading → DemoAnswer
+reading_told r = told_of r.demo
 
 abbrev pub row_of : ℕ → Option Recording → Option (List (Option Move))
 row_of tic (Some demo) = slice_get demo.rows tic

@@ -4,7 +4,7 @@ ghost use Rattle.std.specs.Prelude.{◌≡◌, ◌≢◌, ◌⊎◌, Some, None,
 ghost use Rattle.dn_setup.specs.Starts.{bit};
 ghost use Rattle.zirmegat.specs.Answers.{row_told_over};
 ghost use Rattle.zirmegat.specs.Calls.{Calls, Reads};
-ghost use Rattle.zirmegat.specs.Demos.{demo_of, blank, demo_told, row_by, no_demo, IsPushed, IsReadOut};
+ghost use Rattle.zirmegat.specs.Demos.{demo_of, blank, reading_told, row_by, no_demo, IsPushed, IsReadOut};
 
 use crate::answers::{MoveAnswer, flag};
 use crate::calls::tell_row;
@@ -77,7 +77,7 @@ pub extern "C" fn zmg_demo_read(alloc: Global, demo: &mut DemoHandle) -> u32
 /// What a demo that was read tells beside its rows.
 #[unsafe(no_mangle)]
 pub extern "C" fn zmg_demo_tell(alloc: Global, demo: &mut DemoHandle) -> DemoAnswer
-    ensures { Reads (demo_of demo.old) (demo_of demo.new) (λ r. result ≡ demo_told r) (result ≡ no_demo) }
+    ensures { Reads (demo_of demo.old) (demo_of demo.new) (λ r. result ≡ reading_told r) (result ≡ no_demo) }
 {
     match demo.take(alloc) {
         Some(held) => {

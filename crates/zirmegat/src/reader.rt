@@ -1,7 +1,7 @@
 //! A demo that is fed in pieces, and then read.
 
 ghost use Rattle.std.specs.Prelude.{◌≡◌, ◌≢◌, Option};
-ghost use Rattle.zirmegat.specs.Demos.{Reading, reading_of, demo_told, row_by, IsPushed, IsReadOut};
+ghost use Rattle.zirmegat.specs.Demos.{Reading, reading_of, reading_told, row_by, IsPushed, IsReadOut};
 
 use crate::demo_answers::{DemoAnswer, code_of};
 use dn_demo::Demo;
@@ -64,7 +64,7 @@ impl DemoReader {
 
     /// What the demo tells beside its rows.
     pub(crate) fn told(&self) -> DemoAnswer
-        ensures { result ≡ demo_told (reading_of self.now) }
+        ensures { result ≡ reading_told (reading_of self.now) }
     {
         match self {
             DemoReader::Feeding(_) => DemoAnswer::NONE,
