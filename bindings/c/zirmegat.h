@@ -34,7 +34,7 @@
  * a reader's answer ZMG_DEMO_NO_READER, or 0.
  *
  * The codes of a call carry its name: ZMG_RUN_ are the answers of zmg_node_run, ZMG_DEMO_ those of the calls on
- * demos.
+ * demos. ZMG_DROP_ says why zmg_node_receive or zmg_packet_decode refused a datagram.
  * Names and numbers of this header do not change. New ones may be added.
  */
 #ifndef ZIRMEGAT_H
