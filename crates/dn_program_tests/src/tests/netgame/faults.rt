@@ -86,7 +86,7 @@ fn ended(
     }
 }
 
-/// What it prints where nothing fails, which other tests compare.
+/// What it prints where nothing fails.
 fn whole(alloc: Global, game: GameConfig, run: Run) -> Result<Vec<u8>, RunFault>
     requires { IsLimit game.limit }
 {
@@ -190,18 +190,6 @@ fn goes_on(run: Run, written: &[u8]) -> bool {
     }
 }
 
-/// What it prints where nothing fails. If the first try finds no memory, the second does.
-fn whole_at_last(alloc: Global, game: GameConfig, run: Run) -> Result<Vec<u8>, RunFault>
-    requires { IsLimit game.limit }
-{
-    if let Ok(text) = whole(alloc, game, run) {
-        if !goes_on(run, text.as_slice()) {
-            return Ok(text);
-        }
-    }
-    whole(alloc, game, run)
-}
-
 /// A run that found no memory answered so, and wrote nothing but the rows of a demo; or it is a storm that went
 /// on without its packet.
 fn found_no_memory(
@@ -220,20 +208,35 @@ fn found_no_memory(
     }
 }
 
-/// Each request for memory may be refused: then the answer says so.
+/// What it prints until it ends.
+fn printed(alloc: Global, game: GameConfig, run: Run) -> Vec<u8>
+    requires { IsLimit game.limit }
+{
+    let mut output = Sink::new(alloc, WHOLE, NEVER);
+    let _ = ended(alloc, game, run, WHOLE, NEVER, &mut output);
+    output.taken
+}
+
+/// One request for memory of three runs may be refused: then that run says so, and the others print the same.
 #[test]
 fn refused_memory_is_told(rt: HostRuntime) {
     let rt = &rt;
-    let game = must!(rt; rules(DEFAULT_LIMIT));
     for run in RUNS {
-        let text = must!(rt; whole_at_last(rt.alloc(), game, run));
+        let game = must!(rt; rules(DEFAULT_LIMIT));
+        let first = printed(rt.alloc(), game, run);
+        let second = printed(rt.alloc(), game, run);
         let mut room = [0; 512];
         let mut rest = room.as_mut_slice();
         let status = ended(rt.alloc(), game, run, WHOLE, NEVER, &mut rest);
         let left = rest.len();
         let written = &room[..512_usize.saturating_sub(left)];
-        if status != Ok(0) || written != text.as_slice() {
+        if first.as_slice() != second.as_slice() {
+            same!(rt; status, Ok(0), run);
+            holds!(rt; written == first.as_slice() || written == second.as_slice(), run);
+        } else if written != first.as_slice() {
             found_no_memory(rt, run, status, written);
+        } else {
+            same!(rt; status, Ok(0), run);
         }
     }
 }
