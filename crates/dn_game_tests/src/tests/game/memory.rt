@@ -23,8 +23,7 @@ fn send_one(rt: &(impl Abort + Print), game: &mut Game<Walk>) {
     }
 }
 
-/// All events of a list were done or refused, and those that were refused are a send without room, and what
-/// follows from it.
+/// All events of a list were done or refused; where one was refused, the list is told.
 fn all_counted(rt: &(impl Abort + Print), list: &str, counts: (usize, usize), wanted: usize) {
     let (done, refused) = counts;
     same!(rt; done.checked_add(refused), Some(wanted), list);

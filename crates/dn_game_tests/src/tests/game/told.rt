@@ -68,7 +68,7 @@ fn pool_front(game: &Game<Walk>) -> (usize, [u8; 256]) {
     (pool.len(), front)
 }
 
-/// All that a game tells of itself.
+/// What a game tells of itself: its nodes, how many packets there are, the last of them, and the first bytes.
 #[derive(Debug, Drop, PartialEq, Eq)]
 pub struct GameTelling {
     nodes: [Option<Telling>; 4],
