@@ -122,7 +122,7 @@ fn refused_text(refusal: Refusal) -> &'static str
 }
 
 /// Appends what is answered to an event, in the words of a trace. Err where memory is refused; the text may
-/// then have a front of the words.
+/// then have a prefix of the words.
 pub fn push_answer(text: &mut String, answer: Result<Done, Refusal>) -> Result<(), AllocError>
     ensures { OnOk result (string_bytes text.new ≡ string_bytes text.old ++ answer_words answer) }
 {

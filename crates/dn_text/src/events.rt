@@ -95,7 +95,7 @@ pub(crate) fn push_event(text: &mut String, event: Event) -> Result<(), AllocErr
     }
 }
 
-/// Appends an event as a line of a script. Err where memory is refused; the text may then have a front of the
+/// Appends an event as a line of a script. Err where memory is refused; the text may then have a prefix of the
 /// line.
 pub fn push_event_line(text: &mut String, event: Event) -> Result<(), AllocError>
     ensures { OnOk result (string_bytes text.new ≡ string_bytes text.old ++ event_line event) }

@@ -76,7 +76,7 @@ fn line_end(stopped: bool) -> &'static str
 }
 
 /// Appends the line of a node, which also tells whether its program has stopped. Err where memory is refused;
-/// the text may then have a front of the line.
+/// the text may then have a prefix of the line.
 pub fn push_node<W: World>(
     text: &mut String,
     node: &Node<W>,

@@ -33,7 +33,7 @@ fn push_step(text: &mut String, tic: u64, player: u8, step: Option<Move>) -> Res
 }
 
 /// Appends the lines of a demo's row, which is that of `tic`: one for each player who has a move, in the order
-/// of their numbers. Err where memory is refused; the text may then have a front of the lines.
+/// of their numbers. Err where memory is refused; the text may then have a prefix of the lines.
 pub fn push_row(text: &mut String, tic: u64, row: [Option<Move>; 4]) -> Result<(), AllocError>
     ensures { OnOk result (string_bytes text.new ≡ string_bytes text.old ++ row_lines tic 0 row) }
 {
