@@ -3,7 +3,7 @@
 use super::told::all_told;
 use super::{build, config, opened, send, walks};
 use crate::tests::finds_no_memory;
-use dn_game::{Event, Game, Played, Refusal, play, play_on, storm};
+use dn_game::{Event, Game, GameFault, Played, Refusal, play, play_on, storm};
 use dn_machine::{Cause, Phase};
 use dn_tic::Keys;
 use dn_world::Walk;
@@ -244,4 +244,24 @@ fn refused_memory_ends_a_round(rt: HostRuntime) {
         }
     }
     holds!(rt; carried_out < 15 || ran(&game, 0) > Some(0));
+}
+
+/// Where a packet of a round finds no room, playing on answers that there is no memory.
+#[test]
+fn refused_memory_ends_playing_on(rt: HostRuntime) {
+    let rt = &rt;
+    let Ok(worlds) = walks(rt.alloc(), 2) else {
+        return;
+    };
+    let config = must!(rt; config(1_024));
+    match play_on(rt.alloc(), config, worlds, &lost()[..0], no_keys(), 16) {
+        Ok(played) => {
+            same!(rt; (played.done, played.refused), (0, 0));
+            same!(rt; played.game.flights(), 32);
+        }
+        Err(fault) => {
+            same!(rt; fault, GameFault::Memory);
+            finds_no_memory(rt, "play_on");
+        }
+    }
 }
