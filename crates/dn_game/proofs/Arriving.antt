@@ -1,11 +1,13 @@
 -- A packet that is delivered as soon as it is sent, and a round of such packets.
-use Rattle.std.proofs.Common.{◌≡◌, ◌≢◌, ℕ, suc, ◌+◌, true, false, true≢false, ◌∙◌, ◌++◌, length, Result, Ok, Err, refl, ap, sym, inl, inr, arith}
+use Rattle.std.proofs.Common.{◌≡◌, ◌≢◌, ℕ, zero, suc, List, [], ◌∷◌, map, ◌+◌, true, false, true≢false, ◌∙◌, ◌++◌, length, Result, Ok, Err, refl, ap, sym, subst, inl, inr, arith}
+use Rattle.dn_tic.specs.declared.input.Input.{Input}
+use Rattle.dn_tic.specs.declared.input.Input.TheVariants.{Pressed, Given}
 use Rattle.dn_machine.specs.declared.events.Done.{Done}
 use Rattle.dn_machine.specs.declared.events.Event.{Event}
 use Rattle.dn_machine.specs.declared.events.Event.TheVariants.{Send, Deliver}
 use Rattle.dn_machine.specs.declared.events.Refusal.{Refusal}
 use Rattle.dn_machine.specs.Game.{Game}
-use Rattle.dn_machine.specs.Progress.{after, in_order, is_of_round, exchange, turn}
+use Rattle.dn_machine.specs.Progress.{after, build_of, in_order, is_of_round, exchange, turn}
 use Rattle.dn_machine.specs.Runs.{is_send}
 use Rattle.dn_machine.specs.Worlds.{Rules}
 use Rattle.dn_machine.proofs.Leading as machine
@@ -13,7 +15,7 @@ use Rattle.dn_machine.proofs.Leading.{all_more, leads_more, led_on, led_in_order
 use Rattle.dn_game.specs.Applied.{IsApplied}
 use Rattle.dn_game.specs.Contents.{Contents}
 use Rattle.dn_game.specs.Represents.{Represents}
-use Rattle.dn_game.specs.Rounds.{IsUnsent, IsLed, IsCarriedOut}
+use Rattle.dn_game.specs.Rounds.{input_of, pressed_by, IsUnsent, IsLed, IsCarriedOut}
 
 -- one step more
 step_more : (step : Game → ℕ → Game) (count : ℕ) (game : Game)
@@ -21,6 +23,16 @@ step_more : (step : Game → ℕ → Game) (count : ℕ) (game : Game)
 unfolding in_order
 step_more step count game = let more : count + 1 ≡ suc count = omega arith in
     ap (λ (k : ℕ). in_order step k game) more
+
+-- keys are the inputs that press them
+pub keys_as_inputs : (keys : List ℕ) (inputs : List Input) → inputs ≡ map Pressed keys
+    → input_of inputs ≡ pressed_by keys
+keys_as_inputs keys inputs are = ap input_of are ∙ (λ i node. each keys node i)
+  where
+    each : (states : List ℕ) (node : ℕ) → input_of (map Pressed states) node ≡ pressed_by states node
+    each [] node = refl
+    each (first ∷ rest) zero = refl
+    each (first ∷ rest) (suc node) = each rest node
 
 module _ {W S : Type 0} (state : W → S) (rules : Rules S) where
   -- an event that is not left out is applied
@@ -36,6 +48,18 @@ module _ {W S : Type 0} (state : W → S) (rules : Rules S) where
       → Represents state rules new (after rules event m)
   after_other old new m event answer other =
       after_applied old new m event answer (λ send. absurd (true≢false (sym send ∙ other)))
+
+  -- as is a build, of whatever input
+  pub built : (old new : Contents W) (m : Game) (node : ℕ) (input : Input) (event : Event)
+      (answer : Result Done Refusal) → event ≡ build_of node input → IsApplied state rules old new m event answer
+      → Represents state rules new (after rules (build_of node input) m)
+  built old new m node input event answer is applied =
+      after_other old new m (build_of node input) answer (no_send input)
+      (subst (λ (e : Event). IsApplied state rules old new m e answer) is applied)
+    where
+      no_send : (i : Input) → is_send (build_of node i) ≡ false
+      no_send (Pressed keys) = refl
+      no_send (Given command) = refl
 
   pub exchanges : (old mid new : Contents W) (m : Game) (node to which : ℕ) (sent heard : Result Done Refusal)
       → which ≡ length m.flights → sent ≢ Err Refusal.Memory
@@ -68,13 +92,13 @@ module _ {W S : Type 0} (state : W → S) (rules : Rules S) where
         },
       )
 
-  -- a turn, whatever keys the others press
-  pub by_own_keys : {A : Type 0} (keys all : ℕ → ℕ) (m : Game) (node : ℕ) (g : Contents W)
-      (answer : Result A Refusal) → keys node ≡ all node
-      → IsCarriedOut state rules m (turn rules keys m node) g answer
+  -- a turn, whatever inputs the others have
+  pub by_own_input : {A : Type 0} (inputs all : ℕ → Input) (m : Game) (node : ℕ) (g : Contents W)
+      (answer : Result A Refusal) → inputs node ≡ all node
+      → IsCarriedOut state rules m (turn rules inputs m node) g answer
       → IsCarriedOut state rules m (turn rules all m node) g answer
   unfolding turn
-  by_own_keys keys all m node g answer same is = rw same at is
+  by_own_input inputs all m node g answer same is = rw same at is
 
   -- steps in order that each may end the whole
   module _ (step : Game → ℕ → Game) (each : (game : Game) (i : ℕ) → machine.IsLed rules game (step game i))

@@ -22,10 +22,12 @@ use Rattle.dn_game.specs.Promised.{IsReached}
 use Rattle.dn_game.specs.Represents.{Represents}
 use Rattle.dn_game.specs.Told.{HasNode}
 use Rattle.dn_game.specs.declared.played.Played.{Played}
-use Rattle.dn_game.proofs.Agreeing.{started, inside, end_is}
+use Rattle.dn_lockstep.proofs.Shown.{started, end_is}
+use Rattle.dn_game.proofs.Agreeing.{inside, shown}
 use Rattle.dn_game.proofs.Answering.{plays_leads}
 use Rattle.dn_game.proofs.Places.{there_is}
 use Rattle.dn_game.proofs.Promising.{promised, reached_promised}
+use Rattle.dn_tic.specs.declared.input.Input.{Input}
 
 module _ {W S : Type 0} (state : W → S) (rules : Rules S) (settings : Settings) where
   module _ (g : Contents W) (m : Game) (r : Represents state rules g m) where
@@ -41,7 +43,7 @@ module _ {W S : Type 0} (state : W → S) (rules : Rules S) (settings : Settings
     lost_none none i below =
         let at = node_of i below in
         let n = node.contents at.0 in (
-          (λ ended. started state rules settings g m r i n at.1
+          (λ ended. started rules.limits i (node.locked n) (m.nodes i) at.2.lockstep
               (none.started i n at.1 (ap is_ended at.2.lockstep.stands.phase ∙ ended))),
           sym (r.stopped i) ∙ none.moving i (omega (arith, below, r.players)),
         )
@@ -64,9 +66,10 @@ module _ {W S : Type 0} (state : W → S) (rules : Rules S) (settings : Settings
     room_of kept tics most (inl demos) = inl demos
     room_of kept tics most (inr (i, player, end, n, at, below, known, before, few)) =
         let its : player < rules.players = omega (arith, below, r.players) in
-        let told = (Promises.agree rules settings m kept).ends i player end
-        (inside state rules settings g m r i n at) its
-        (sym (end_is state rules settings g m r i n at player its) ∙ known) in
+        let mine = inside state rules g m r i n at in
+        let told = (Promises.agree rules settings m kept).ends i player end mine its
+        (sym (end_is rules.limits i (node.locked n) (m.nodes i) (shown state rules g m r i n at).lockstep mine player its)
+        ∙ known) in
         inr (player, its, told.0, omega (arith, told.1, before), few)
 
   ran_all : (g later : Contents W) (m last : Game) → Represents state rules g m
@@ -75,7 +78,7 @@ module _ {W S : Type 0} (state : W → S) (rules : Rules S) (settings : Settings
   ran_all g later m last r s tics all i n k (one, at, is) there (other, its, so) =
       let before = r.nodes i one at in
       let after = s.nodes i other its in
-      let far = all i (inside state rules settings g m r i n (one, at, is))
+      let far = all i (inside state rules g m r i n (one, at, is))
       (sym (ap is_ended before.lockstep.stands.phase)
       ∙ (ap (λ (c : node.Contents W). is_ended c.phase) (sym is) ∙ there)) in
       let told = ap (λ (c : node.Contents W). c.ran) so in
@@ -83,29 +86,29 @@ module _ {W S : Type 0} (state : W → S) (rules : Rules S) (settings : Settings
 
   pub continues : (events : List Event) (g later : Contents W)
       (reached : IsReached state rules settings events g)
-      → 2 ≤ rules.players → (keys : ℕ → ℕ → ℕ) (rounds : ℕ)
-      → Represents state rules later (good_rounds rules keys rounds reached.last)
+      → 2 ≤ rules.players → (inputs : ℕ → ℕ → Input) (rounds : ℕ)
+      → Represents state rules later (good_rounds rules inputs rounds reached.last)
       → GoesOn rules.capacity rounds g later
-  continues events g later reached several keys rounds shown none tics more enough room all =
+  continues events g later reached several inputs rounds shown none tics more enough room all =
       let kept = always rules settings events reached.last reached.run in
       ran_all g later reached.last _ reached.game shown _
       (goes_on_with rules settings (short g reached.last reached.game several) several events reached.last
       reached.run (lost_none g reached.last reached.game none)
-      keys tics more rounds (room_of g reached.last reached.game kept tics (tics + more + 5) room) enough
+      inputs tics more rounds (room_of g reached.last reached.game kept tics (tics + more + 5) room) enough
       (all_ran g reached.last reached.game tics all))
 
-  pub played_on_promised : (events : List Event) (keys : ℕ → ℕ) (rounds : ℕ) (played : Played W)
-      → (p : IsPlayedOn state rules settings events keys rounds played) → 2 ≤ rules.players
-      → HasPlayedOn state rules settings events keys rounds played
-  played_on_promised events keys rounds played p several =
+  pub played_on_promised : (events : List Event) (inputs : ℕ → Input) (rounds : ℕ) (played : Played W)
+      → (p : IsPlayedOn state rules settings events inputs rounds played) → 2 ≤ rules.players
+      → HasPlayedOn state rules settings events inputs rounds played
+  played_on_promised events inputs rounds played p several =
       let e = p.events_played in
       let run = plays_leads rules events e.answers (opening_game settings) e.last e.plays in
-      let led = led_rounds rules (λ round. keys) rounds e.last in
+      let led = led_rounds rules (λ round. inputs) rounds e.last in
       let reached : IsReached state rules settings (events ++ led.0) (contents played.game) =
       record {
-        last = good_rounds rules (λ round. keys) rounds e.last;
+        last = good_rounds rules (λ round. inputs) rounds e.last;
         run = leads_more rules events led.0 (opening_game settings) e.last
-            (good_rounds rules (λ round. keys) rounds e.last) run led.1;
+            (good_rounds rules (λ round. inputs) rounds e.last) run led.1;
         game = p.calmed.game;
       } in
       let after = reached_promised state rules settings (events ++ led.0) (contents played.game) reached in
@@ -114,7 +117,7 @@ module _ {W S : Type 0} (state : W → S) (rules : Rules S) (settings : Settings
         promised = promised state rules settings events e.answers e.last (contents p.before.game) e.plays
             e.game;
         goes_on = continues events _ _ (record { last = e.last; run = run; game = e.game }) several
-            (λ round. keys) rounds p.calmed.game;
+            (λ round. inputs) rounds p.calmed.game;
         more = led.0;
         answers = after.0;
         last = reached.last;

@@ -1,7 +1,6 @@
 -- A packet comes to its receiver.
-use Rattle.std.proofs.Common.{◌≡◌, ◌≢◌, ◌<◌, ℕ, Bool, true, None, List, length, set, Some, refl, ap, sym, ◌∙◌, subst, arith}
+use Rattle.std.proofs.Common.{◌≡◌, ◌<◌, ℕ, Bool, None, List, length, set, Some, refl, ap, sym, ◌∙◌, subst, arith}
 use Rattle.std.specs.Prelude.{slice_get, slice_index_or}
-use Rattle.dn_packet.specs.Text.{text}
 use Rattle.dn_world.specs.Physics.{Physics}
 use Rattle.dn_machine.specs.declared.answers.Heard.{Heard}
 use Rattle.dn_machine.specs.declared.events.Done.{Done}
@@ -14,10 +13,8 @@ use Rattle.dn_machine.specs.Node.{made}
 use Rattle.dn_machine.specs.Worlds.{Rules, rules_of}
 use Rattle.dn_node.specs.declared.node.Node.{Node}
 use Rattle.dn_node.specs.Contents as node
-use Rattle.dn_lockstep.specs.Near.{IsFair}
-use Rattle.dn_lockstep.specs.Rings.{count_of}
 use Rattle.dn_node.specs.Steps as step
-use Rattle.dn_node.specs.Steps.{Steps}
+use Rattle.dn_node.specs.Steps.{HearsNear}
 use Rattle.dn_game.specs.declared.flight.Flight.{Flight}
 use Rattle.dn_game.specs.declared.pool.Record.{Record}
 use Rattle.dn_game.specs.Applied.{IsAfter}
@@ -32,13 +29,13 @@ delivers_to : {W S : Type 0} (state : W → S) (rules : Rules S) (g : Contents W
     (flight : exact.Flight) (to : ℕ) (n : Node W) (heard : Heard)
     → Represents state rules g m → slice_get m.flights which ≡ Some flight → to ≡ flight.to
     → to < length g.nodes
-    → step.IsAfter state rules to (node.contents n) (on_packet rules to (m.nodes to) flight) (λ x. heard ≡ x)
+    → step.IsAfter state rules to (node.contents n) (on_packet rules.limits to (m.nodes to) flight) (λ x. heard ≡ x)
     → IsAfter state rules (record g { nodes = set g.nodes to n })
     (delivered rules m (slice_get m.flights which)) (Done.Heard heard)
 delivers_to {W} {S} state rules g m which flight to n heard r there is below after =
     let P : ℕ → Type 0 = λ k. IsAfter state rules (record g { nodes = set g.nodes to n }) (
-      machine.with_node m k (on_packet rules k (m.nodes k) flight).0,
-      Done.Heard (on_packet rules k (m.nodes k) flight).1,
+      machine.with_node m k (on_packet rules.limits k (m.nodes k) flight).0,
+      Done.Heard (on_packet rules.limits k (m.nodes k) flight).1,
     ) (Done.Heard heard) in
     rw there
     (subst P is
@@ -46,15 +43,6 @@ delivers_to {W} {S} state rules g m which flight to n heard r there is below aft
       game = places state rules g m to n _ r below after.node;
       answered = ap Done.Heard after.answer;
     }))
-
--- a node hears the packets of near flights exactly
-abbrev pub Hears : {W S : Type 0} → (W → S) → Physics S → Node W → Node W → ℕ → List ℕ → Heard → Type 0
-Hears state physics old new from bytes heard =
-    (flight : exact.Flight) → IsFair flight → bytes ≡ text (packet_of flight) → flight.from ≡ from
-    → from < (node.contents old).players → from ≢ (node.contents old).me
-    → is_near (count_of (node.contents old).rings (node.contents old).me) flight ≡ true
-    → Steps state physics (node.contents old) (node.contents new) (λ rules me m. on_packet rules me m flight)
-    (λ x. heard ≡ x)
 
 pub delivers : {W S : Type 0} (state : W → S) (physics : Physics S) (players : ℕ) (extra : Bool)
     (capacity : ℕ) (g : Contents W) (m : machine.Game)
@@ -65,7 +53,7 @@ pub delivers : {W S : Type 0} (state : W → S) (physics : Physics S) (players :
     → (to : ℕ) (old new : Node W) (bytes : List ℕ) (heard : Heard) → to ≡ entry.to
     → old ≡ slice_index_or g.nodes to old
     → ((f : Flight) → slice_get g.flights which ≡ Some f → bytes ≡ f.bytes.items)
-    → Hears state physics old new entry.from bytes heard
+    → HearsNear state physics entry.from bytes (node.contents old) (node.contents new) heard
     → IsAfter state (rules_of physics players extra capacity) (record g { nodes = set g.nodes to new })
     (delivered (rules_of physics players extra capacity) m (slice_get m.flights which)) (Done.Heard heard)
 delivers state physics players extra capacity g m r which entry below told free to old new bytes heard is_to
@@ -81,8 +69,8 @@ delivers state physics players extra capacity g m r which entry below told free 
     let count = made_at state rules g m r to _ old inside is_old refl
     ∙ ap (λ (k : ℕ). made k (m.nodes k)) goes in
     delivers_to state rules g m which flight to new heard r at.1.there goes inside
-    (hears flight at.1.carried.fair (is_bytes (flight_of flight) at.1.sent) (sym comes)
+    ((hears flight at.1.carried.fair (is_bytes (flight_of flight) at.1.sent) (sym comes)
     (let a = at.1.carried.from in omega (arith, a, comes, shown.lockstep.whose.players))
     (λ e. at.1.carried.apart (sym comes ∙ e ∙ shown.lockstep.whose.number ∙ goes))
-    (ap (λ (k : ℕ). is_near k flight) count ∙ near_unless m which flight at.1.there free)
-    players extra capacity to (m.nodes to) shown)
+    (ap (λ (k : ℕ). is_near k flight) count ∙ near_unless m which flight at.1.there free)).step
+    _ to (m.nodes to) shown)

@@ -1,11 +1,8 @@
 pub mod Freshening
 pub mod Answering
-pub mod KeysMade
+pub mod InputsMade
 pub mod Promising
 pub mod SteadyAnswers
-pub mod DemoTexts
-pub mod RowsMade
-pub mod DemosAgreeing
 pub mod Agreeing
 pub mod Places
 pub mod Packing
@@ -15,7 +12,7 @@ pub mod GoingRound
 pub mod Recent
 pub mod Scheduling
 pub mod Moving
-pub mod Limits
+pub mod Whose
 pub mod Posting
 pub mod Applying
 pub mod Delivering

@@ -1,7 +1,7 @@
 -- Why the machine refuses an event, by what was looked at.
 use Rattle.std.proofs.Common.{◌≡◌, ◌<◌, ◌⊎◌, ℕ, Bool, true, false, length, Option, Some, None, ap, sym, ◌∙◌, arith}
 use Rattle.std.specs.Prelude.{not, if◌then◌else◌, nat_lt, slice_get, slice_index_or}
-use Rattle.std.proofs.lemmas.Bool.{cond-true}
+use Rattle.std.proofs.lemmas.Bool.{cond-false}
 use Rattle.dn_machine.specs.Flight as exact
 use Rattle.dn_machine.specs.Flight.{is_near}
 use Rattle.dn_machine.specs.Node.{made}
@@ -9,8 +9,9 @@ use Rattle.dn_machine.specs.Game as machine
 use Rattle.dn_machine.specs.Game.{refused_at, refused, refused_flight}
 use Rattle.dn_machine.specs.Worlds.{Rules}
 use Rattle.dn_tic.specs.declared.keys.Keys.{Keys}
+use Rattle.dn_tic.specs.declared.input.Command.{Command}
 use Rattle.dn_machine.specs.declared.events.Event.{Event}
-use Rattle.dn_machine.specs.declared.events.Event.TheVariants.{Build, Send, Run, Quit, Stop}
+use Rattle.dn_machine.specs.declared.events.Event.TheVariants.{Build, Give, Send, Run, Quit, Stop}
 use Rattle.dn_machine.specs.declared.events.Refusal.{Refusal}
 use Rattle.dn_node.specs.declared.node.Node.{Node}
 use Rattle.dn_node.specs.Contents as node
@@ -30,10 +31,10 @@ refused_send players m node to is = grind arith
 
 -- a delivery, by what was found of the flight
 module _ (m : machine.Game) (which : ℕ) (flight : exact.Flight)
-    (there : slice_get m.flights which ≡ Some flight) (far : Bool)
-    (is_far : far ≡ not (is_near (made flight.to (m.nodes flight.to)) flight)) where
-  is_refused : (if far then Some Refusal.Far
-      else (if m.stopped flight.to then Some Refusal.Stopped else None))
+    (there : slice_get m.flights which ≡ Some flight) (near : Bool)
+    (near_is : near ≡ is_near (made flight.to (m.nodes flight.to)) flight) where
+  is_refused : (if near then (if m.stopped flight.to then Some Refusal.Stopped else None)
+      else Some Refusal.Far)
       ≡ refused_flight m (slice_get m.flights which)
   is_refused = grind arith
 
@@ -44,8 +45,8 @@ module _ {W S : Type 0} (state : W → S) (rules : Rules S) (g : Contents W) (m 
     (told : (f : Flight) → slice_get g.flights which ≡ Some f → IsRecordOf f entry)
     (to : ℕ) (n : Node W) (is_to : to ≡ entry.to) (is_n : n ≡ slice_index_or g.nodes to n)
     (count : ℕ) (counted : count ≡ count_of (node.contents n).rings (node.contents n).me)
-    (far : Bool) (tested : (flight : exact.Flight) → entry.aim ≡ aim_of flight
-    → far ≡ not (is_near count flight)) where
+    (near : Bool) (tested : (flight : exact.Flight) → entry.aim ≡ aim_of flight
+    → near ≡ is_near count flight) where
   sent : (flight : exact.Flight) × IsFlight m rules.players g.flights which flight
   sent = flight_at state rules g m r which below
 
@@ -58,29 +59,29 @@ module _ {W S : Type 0} (state : W → S) (rules : Rules S) (g : Contents W) (m 
   there_is : to < rules.players
   there_is = let inside = sent.1.carried.to in omega (arith, inside, goes_to)
 
-  tells_far : far ≡ not (is_near (made sent.0.to (m.nodes sent.0.to)) sent.0)
-  tells_far =
+  tells_near : near ≡ is_near (made sent.0.to (m.nodes sent.0.to)) sent.0
+  tells_near =
       let known = made_at state rules g m r to count n (omega (arith, there_is, r.players)) is_n counted
       ∙ ap (λ (k : ℕ). made k (m.nodes k)) goes_to in
-      tested sent.0 of.aim ∙ ap (λ (k : ℕ). not (is_near k sent.0)) known
+      tested sent.0 of.aim ∙ ap (λ (k : ℕ). is_near k sent.0) known
 
-  refused_so : (if far then Some Refusal.Far
-      else (if m.stopped sent.0.to then Some Refusal.Stopped else None))
+  refused_so : (if near then (if m.stopped sent.0.to then Some Refusal.Stopped else None)
+      else Some Refusal.Far)
       ≡ refused_flight m (slice_get m.flights which)
-  refused_so = is_refused m which sent.0 sent.1.there far tells_far
+  refused_so = is_refused m which sent.0 sent.1.there near tells_near
 
-  pub told_far : far ≡ true → Some Refusal.Far ≡ refused_flight m (slice_get m.flights which)
-  told_far so = sym (cond-true far _ _ so) ∙ refused_so
+  pub told_far : near ≡ false → Some Refusal.Far ≡ refused_flight m (slice_get m.flights which)
+  told_far so = sym (cond-false near _ _ so) ∙ refused_so
 
-  pub told_near : far ≡ false → (place : ℕ) (stopped : Bool) → place ≡ entry.to
+  pub told_near : near ≡ true → (place : ℕ) (stopped : Bool) → place ≡ entry.to
       → stopped ≡ slice_index_or g.stopped place false
       → (if stopped then Some Refusal.Stopped else None) ≡ refused_flight m (slice_get m.flights which)
   told_near so place stopped there is = grind (arith, refused_so, r.stopped, goes_to)
 
 -- an event of one node
 abbrev pub IsOfNode : ℕ → Event → Type 0
-IsOfNode node event = ((keys : Keys) × (event ≡ Build node keys))
-    ⊎ ((event ≡ Run node) ⊎ ((event ≡ Quit node) ⊎ (event ≡ Stop node)))
+IsOfNode node event = ((keys : Keys) × (event ≡ Build node keys)) ⊎ (((command : Command) × (event ≡ Give node command))
+    ⊎ ((event ≡ Run node) ⊎ ((event ≡ Quit node) ⊎ (event ≡ Stop node))))
 
 pub refused_own : (players : ℕ) (m : machine.Game) (node place : ℕ) (event : Event) → place ≡ node
     → IsOfNode node event

@@ -11,7 +11,7 @@ use Rattle.dn_machine.specs.declared.events.Done.{Done}
 use Rattle.dn_machine.specs.declared.events.Event.TheVariants.{Send}
 use Rattle.dn_machine.specs.Flight as exact
 use Rattle.dn_machine.specs.Game as machine
-use Rattle.dn_machine.specs.Game.{on_event, posted, with_node}
+use Rattle.dn_machine.specs.Game.{on_event, with_node}
 use Rattle.dn_machine.specs.Node as machine_node
 use Rattle.dn_machine.specs.Sending.{on_send, on_send_in}
 use Rattle.dn_machine.specs.Worlds.{Rules}
@@ -38,22 +38,22 @@ IsBetween me to flight = (flight.from ≡ me) × (flight.to ≡ to)
 
 between_in : {S : Type 0} (rules : Rules S) (me to : ℕ) (m : machine_node.Node) (phase : Phase)
     (given : exact.Flight)
-    → (on_send_in rules me m to phase).1 ≡ Some given → IsBetween me to given
+    → (on_send_in rules.limits me m to phase).1 ≡ Some given → IsBetween me to given
 between_in rules me to m phase given e = grind arith
 
 -- a packet that a node gives is carried
 module _ {W S : Type 0} (state : W → S) (rules : Rules S) (me to : ℕ) (n : node.Contents W)
     (m : machine_node.Node) where
   given_between : node_to.Represents state rules me n m → Gives n to → (given : exact.Flight)
-      → (sent_to to rules me m).1 ≡ Some given → IsBetween me to given
+      → (sent_to to rules.limits me m).1 ≡ Some given → IsBetween me to given
   given_between r gives given e =
-      let sends = sends_in rules me (node.locked n) m to m.phase r.lockstep gives.below gives.other
+      let sends = sends_in rules.limits me (node.locked n) m to m.phase r.lockstep gives.below gives.other
       r.lockstep.stands.phase in
       between_in rules me to m m.phase given
       (sym (ap (λ (x : machine_node.Node × Option exact.Flight). x.1) sends) ∙ e)
 
   carries : node_to.Represents state rules me n m → Gives n to → (given : exact.Flight)
-      → (sent_to to rules me m).1 ≡ Some given → me < rules.players
+      → (sent_to to rules.limits me m).1 ≡ Some given → me < rules.players
       → IsFair given → IsCarried rules.players given
   carries r gives given e mine fair =
       let ends = given_between r gives given e in
@@ -68,15 +68,15 @@ module _ {W S : Type 0} (state : W → S) (rules : Rules S) (me to : ℕ) (n : n
 module _ {W S : Type 0} (state : W → S) (rules : Rules S) (g : Contents W) (m : machine.Game)
     (r : Represents state rules g m) (me to : ℕ)
     (below : me < length g.nodes) (there : to < length g.nodes) (new : Node W) (flights : List Flight) where
-  asked : sent_to to rules me (m.nodes me) ≡ on_send rules me (m.nodes me) to
+  asked : sent_to to rules.limits me (m.nodes me) ≡ on_send rules.limits me (m.nodes me) to
   asked = cond-true (nat_lt to rules.players) _ _ (lt-ltb to rules.players (omega (arith, there, r.players)))
 
-  pub sends_none : node_to.Represents state rules me (node.contents new) (sent_to to rules me (m.nodes me)).0
-      → (sent_to to rules me (m.nodes me)).1 ≡ None → flights ≡ g.flights
+  pub sends_none : node_to.Represents state rules me (node.contents new) (sent_to to rules.limits me (m.nodes me)).0
+      → (sent_to to rules.limits me (m.nodes me)).1 ≡ None → flights ≡ g.flights
       → IsAfter state rules (record g { nodes = set g.nodes me new; flights = flights })
       (on_event rules m (Send me to)) Done.Silent
   sends_none is none same =
-      let sent = sent_to to rules me (m.nodes me) in
+      let sent = sent_to to rules.limits me (m.nodes me) in
       rw asked
       at (posts_none state rules (record g { nodes = set g.nodes me new }) (with_node m me sent.0)
       (places state rules g m me new sent.0 r below is) sent.1 flights none same)
@@ -84,16 +84,16 @@ module _ {W S : Type 0} (state : W → S) (rules : Rules S) (g : Contents W) (m 
   -- the packet has the numbers that were aimed at
   pub sends_packet : (old : node.Contents W) (aim : Aim) (bytes : ArrayVec ℕ) (which : ℕ)
       → node_to.Represents state rules me old (m.nodes me) → Gives old to
-      → Some aim ≡ option_map aim_of (sent_to to rules me (m.nodes me)).1
-      → step.IsAfter state rules me (node.contents new) (sent_to to rules me (m.nodes me))
+      → Some aim ≡ option_map aim_of (sent_to to rules.limits me (m.nodes me)).1
+      → step.IsAfter state rules me (node.contents new) (sent_to to rules.limits me (m.nodes me))
       (λ x. Some bytes.items ≡ option_map bytes_of x)
-      → IfSome (sent_to to rules me (m.nodes me)).1 IsFair
+      → IfSome (sent_to to rules.limits me (m.nodes me)).1 IsFair
       → flights ≡ g.flights ++ record { from = me; to = to; aim = aim; bytes = bytes } ∷ []
       → which ≡ length g.flights
       → IsAfter state rules (record g { nodes = set g.nodes me new; flights = flights })
       (on_event rules m (Send me to)) (Done.Sent which)
   sends_packet old aim bytes which shown gives aimed after fair more last =
-      let sent = sent_to to rules me (m.nodes me) in
+      let sent = sent_to to rules.limits me (m.nodes me) in
       let some = some_flight bytes_of bytes.items sent.1 after.answer in
       let flight = some.0 in
       let numbers = same_Some aim (aim_of flight) (aimed ∙ ap (option_map aim_of) some.1) in

@@ -35,7 +35,7 @@ module _ {W S : Type 0} (state : W → S) (rules : Rules S) (g : Contents W) (m 
   -- and has made as many commands
   pub made_at : (i count : ℕ) (n : Node W) → i < length g.nodes → n ≡ slice_index_or g.nodes i n
       → count ≡ count_of (node.contents n).rings (node.contents n).me → count ≡ made i (m.nodes i)
-  made_at i count n h is c = c ∙ made_is rules i (node.locked (node.contents n)) (m.nodes i)
+  made_at i count n h is c = c ∙ made_is rules.limits i (node.locked (node.contents n)) (m.nodes i)
       (node_at i n h is).lockstep n.lockstep.me_below
 
   -- a packet that was sent is that of a flight

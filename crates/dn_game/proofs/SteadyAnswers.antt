@@ -9,13 +9,13 @@ use Rattle.dn_machine.specs.declared.answers.Phase.TheVariants.{Ended}
 use Rattle.dn_machine.specs.declared.answers.Ran.{Ran}
 use Rattle.dn_machine.specs.declared.events.Done.{Done}
 use Rattle.dn_machine.specs.declared.events.Event.{Event}
-use Rattle.dn_machine.specs.declared.events.Event.TheVariants.{Build, Send, Deliver, Run, Quit, Stop}
+use Rattle.dn_machine.specs.declared.events.Event.TheVariants.{Build, Give, Send, Deliver, Run, Quit, Stop}
 use Rattle.dn_machine.specs.declared.events.Refusal.{Refusal}
 use Rattle.dn_machine.specs.Worlds.{Rules}
 use Rattle.dn_machine.specs.Flight.{Flight}
 use Rattle.dn_machine.specs.Node.{Node, ran}
 use Rattle.dn_machine.specs.Running.{on_run}
-use Rattle.dn_machine.specs.Game.{Game, opening_game, posted, delivered, refused_flight, refused, on_event, applied_if, applied}
+use Rattle.dn_machine.specs.Game.{Game, opening_game, posted, delivered, refused_flight, refused, on_event, applied_if, applied, on_own_run}
 use Rattle.dn_machine.proofs.Invariant.{IsKept}
 use Rattle.dn_machine.proofs.Games.{opens, happens_keeps, applied_keeps}
 use Rattle.dn_machine.proofs.Promises
@@ -25,8 +25,8 @@ use Rattle.dn_game.specs.Promised.{IsSteady}
 
 -- a run that is answered by a mark that is off ends the node for it
 off_ends : {S : Type 0} (rules : Rules S) (node : Node) (player : ℕ) (was should : ℤ)
-    → (on_run rules node).1 ≡ Ran.Inconsistent player was should
-    → (on_run rules node).0.phase ≡ Ended (Cause.Inconsistent player was should)
+    → (on_own_run rules node).1 ≡ Ran.Inconsistent player was should
+    → (on_own_run rules node).0.phase ≡ Ended (Cause.Inconsistent player was should)
 unfolding on_run
 off_ends rules node player was should e = grind arith
 
@@ -79,6 +79,7 @@ module _ {S : Type 0} (rules : Rules S) (settings : Settings) (game : Game)
   happens : (event : Event) → refused rules.players game event ≡ None
       → IsSteady (Ok (on_event rules game event).1)
   happens (Build node keys) free = other_steady _ refl
+  happens (Give node command) free = other_steady _ refl
   happens (Send node to) free = sends _ _
   happens (Deliver which) free = delivers which (slice_get game.flights which) refl free
   happens (Run node) free = runs node free

@@ -3,7 +3,7 @@ use Rattle.std.specs.Prelude.{◌≡◌, ◌<◌, ◌⊎◌, ℕ, Bool, IsTrue, 
 use Rattle.dn_world.specs.Physics.{Physics}
 use Rattle.dn_machine.specs.declared.events.Done.{Done}
 use Rattle.dn_machine.specs.declared.events.Event.{Event}
-use Rattle.dn_machine.specs.declared.events.Event.TheVariants.{Build, Send, Deliver, Run, Quit, Stop}
+use Rattle.dn_machine.specs.declared.events.Event.TheVariants.{Build, Give, Send, Deliver, Run, Quit, Stop}
 use Rattle.dn_machine.specs.declared.events.Refusal.{Refusal}
 use Rattle.dn_machine.specs.Game as machine
 use Rattle.dn_machine.specs.Game.{applied, refused}
@@ -43,6 +43,7 @@ IsApplied state rules old new m event answer =
 -- the nodes and the packet that the event names are there
 abbrev pub IsAddressed : {W : Type 0} → Contents W → Event → Type 0
 IsAddressed g (Build node keys) = node < length g.nodes
+IsAddressed g (Give node command) = node < length g.nodes
 IsAddressed g (Send node to) = (node < length g.nodes) × (to < length g.nodes)
 IsAddressed g (Deliver which) = which < length g.flights
 IsAddressed g (Run node) = node < length g.nodes

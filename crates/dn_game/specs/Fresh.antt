@@ -3,8 +3,9 @@ use Rattle.std.specs.Prelude.{◌≡◌, ℕ, List, All, map, Some, slice_get}
 use Rattle.dn_setup.specs.Settings.{Settings}
 use Rattle.dn_machine.specs.Game.{fresh}
 use Rattle.dn_machine.specs.Worlds.{Rules}
+use Rattle.dn_lockstep.specs.Contents.{Whose}
 use Rattle.dn_node.specs.declared.node.Node.{Node}
-use Rattle.dn_node.specs.Contents.{contents}
+use Rattle.dn_node.specs.Contents.{contents, whose}
 use Rattle.dn_node.specs.Represents.{Represents}
 
 -- each represents a node of no history
@@ -13,11 +14,11 @@ AreFresh {W} state rules settings nodes =
     (i : ℕ) (n : Node W) → slice_get nodes i ≡ Some n
     → Represents state rules i (contents n) (fresh settings i)
 
--- how many bytes each node's demo has memory for
-abbrev pub limits_of : {W : Type 0} → List (Node W) → List ℕ
-limits_of nodes = map (λ n. (contents n).demo.limit) nodes
+-- whose each node is
+abbrev pub whose_of : {W : Type 0} → List (Node W) → List Whose
+whose_of nodes = map (λ n. whose (contents n)) nodes
 
--- each has memory for this many
+-- each node's demo has memory for this many bytes
 abbrev pub AreLimited : {W : Type 0} → ℕ → List (Node W) → Type 0
 AreLimited limit nodes = All (λ n. (contents n).demo.limit ≡ limit) nodes
 

@@ -9,19 +9,22 @@ use Rattle.dn_machine.specs.Node.{is_ended}
 use Rattle.dn_machine.specs.Progress.{good_rounds}
 use Rattle.dn_machine.specs.Running.{tic_limit}
 use Rattle.dn_machine.specs.Worlds.{Rules}
+use Rattle.dn_lockstep.specs.Told.{HasStarted}
 use Rattle.dn_node.specs.Contents as node
-use Rattle.dn_node.specs.Contents.{end_in}
+use Rattle.dn_node.specs.Contents.{locked, end_in}
 use Rattle.dn_game.specs.declared.played.Played.{Played}
 use Rattle.dn_game.specs.Contents.{Contents, contents}
 use Rattle.dn_game.specs.Played.{IsPlayed}
 use Rattle.dn_game.specs.Promised.{IsPromised}
 use Rattle.dn_game.specs.Represents.{Represents}
-use Rattle.dn_game.specs.Told.{HasNode, HasStarted}
+use Rattle.dn_game.specs.Told.{HasNode}
+use Rattle.dn_tic.specs.declared.input.Input.{Input}
 
 -- no node is lost: none has stopped, and whoever has ended had started
 pub record NoneLost {W : Type 0} (g : Contents W) : Type 0 where
   pub moving : (i : ℕ) → i < length g.nodes → slice_index_or g.stopped i false ≡ false
-  pub started : (i : ℕ) (n : node.Contents W) → HasNode g i n → is_ended n.phase ≡ true → HasStarted n
+  pub started : (i : ℕ) (n : node.Contents W) → HasNode g i n → is_ended n.phase ≡ true
+      → HasStarted (locked n)
 
 -- every node that had not ended before has now run at least `tics` tics
 abbrev pub AllRan : {W : Type 0} → Contents W → Contents W → ℕ → Type 0
@@ -45,24 +48,24 @@ GoesOn capacity rounds before g =
     → AllRan before before tics → AllRan before g (tics + more)
 
 -- the rounds lead from the machine's game `m` to the one represented now, and the counts are unchanged
-pub record IsCalmed {W S : Type 0} (state : W → S) (rules : Rules S) (keys : ℕ → ℕ) (rounds : ℕ)
+pub record IsCalmed {W S : Type 0} (state : W → S) (rules : Rules S) (inputs : ℕ → Input) (rounds : ℕ)
     (m : machine.Game) (before played : Played W) : Type 0 where
-  pub game : Represents state rules (contents played.game) (good_rounds rules (λ round. keys) rounds m)
+  pub game : Represents state rules (contents played.game) (good_rounds rules (λ round. inputs) rounds m)
   pub done : played.done ≡ before.done
   pub refused : played.refused ≡ before.refused
 
 -- the events were played, then `rounds` good rounds
 pub record IsPlayedOn {W S : Type 0} (state : W → S) (rules : Rules S) (settings : Settings)
-    (events : List Event) (keys : ℕ → ℕ) (rounds : ℕ) (played : Played W) : Type 0 where
+    (events : List Event) (inputs : ℕ → Input) (rounds : ℕ) (played : Played W) : Type 0 where
   pub before : Played W
   pub events_played : IsPlayed state rules settings events before
-  pub calmed : IsCalmed state rules keys rounds events_played.last before played
+  pub calmed : IsCalmed state rules inputs rounds events_played.last before played
 
 -- the game before the rounds is promised, the rounds went on, and the game after them is promised too, since
 -- they are events like any other
 pub record HasPlayedOn {W S : Type 0} (state : W → S) (rules : Rules S) (settings : Settings)
-    (events : List Event) (keys : ℕ → ℕ) (rounds : ℕ) (played : Played W) : Type 0 where
-  pub on : IsPlayedOn state rules settings events keys rounds played
+    (events : List Event) (inputs : ℕ → Input) (rounds : ℕ) (played : Played W) : Type 0 where
+  pub on : IsPlayedOn state rules settings events inputs rounds played
   pub promised : IsPromised state rules settings events on.events_played.answers on.events_played.last
       (contents on.before.game)
   pub goes_on : GoesOn rules.capacity rounds (contents on.before.game) (contents played.game)

@@ -4,10 +4,9 @@ pub mod Opening
 pub mod Fresh
 pub mod Applied
 pub mod Played
-pub mod KeysMade
+pub mod InputsMade
 pub mod Promised
 pub mod Told
-pub mod Demos
 pub mod Agreed
 pub mod Rounds
 pub mod GoingOn

@@ -16,7 +16,7 @@ use Rattle.dn_machine.specs.Worlds.{Rules, rules_of}
 use Rattle.dn_game.specs.declared.played.Played.{Played}
 use Rattle.dn_game.specs.Agreed.{AreAgreed}
 use Rattle.dn_game.specs.Contents.{Contents, contents}
-use Rattle.dn_game.specs.KeysMade.{keys_made}
+use Rattle.dn_game.specs.InputsMade.{inputs_made}
 use Rattle.dn_game.specs.Played.{Plays, IsPlayed, IsReachedWith}
 use Rattle.dn_game.specs.Represents.{Represents}
 
@@ -61,8 +61,8 @@ pub record IsPromised {W S : Type 0} (state : W → S) (rules : Rules S) (settin
   pub steady : Steady rules last
   -- no answer told of a failed check
   pub answered : All IsSteady answers
-  -- the nodes agree in what they tell of themselves; the keys are those of the builds that made a command
-  pub agreed : AreAgreed state rules settings (keys_made events answers) g
+  -- the nodes agree in what they tell of themselves; the inputs are those of the builds that made a command
+  pub agreed : AreAgreed state rules settings (inputs_made events answers) g
 
 -- the events were played, and the game that is left is promised
 pub record HasPlayed {W S : Type 0} (state : W → S) (rules : Rules S) (settings : Settings)

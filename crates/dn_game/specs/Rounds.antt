@@ -1,5 +1,7 @@
 -- Rounds in which the packets arrive.
 use Rattle.std.specs.List.{list_all}
+use Rattle.dn_tic.specs.declared.input.Input.{Input}
+use Rattle.dn_tic.specs.declared.input.Input.TheVariants.{Pressed}
 use Rattle.std.specs.Prelude.{◌≡◌, ◌≤◌, ◌⊎◌, ◌^◌, ℕ, true, List, slice_index_or, length, Result, Ok, Err}
 use Rattle.dn_machine.specs.declared.events.Event.{Event}
 use Rattle.dn_machine.specs.declared.events.Refusal.{Refusal}
@@ -13,6 +15,14 @@ use Rattle.dn_game.specs.Represents.{Represents}
 -- the key states of a round, by node
 abbrev pub keys_of : List ℕ → ℕ → ℕ
 keys_of keys node = slice_index_or keys node 0
+
+-- the input of a node among those of a round, by node; no key for one that has none
+abbrev pub input_of : List Input → ℕ → Input
+input_of inputs node = slice_index_or inputs node (Pressed 0)
+
+-- each node presses its own of these keys
+abbrev pub pressed_by : List ℕ → ℕ → Input
+pressed_by keys node = Pressed (keys_of keys node)
 
 -- the game represents one that some builds, sends, deliveries and runs lead to
 pub record IsLed {W S : Type 0} (state : W → S) (rules : Rules S) (m : machine.Game) (g : Contents W) : Type 0

@@ -1,21 +1,44 @@
--- What the nodes of a game tell of themselves.
-use Rattle.std.specs.Prelude.{◌≡◌, ◌≢◌, ℕ, [], slice_get, Some}
-use Rattle.dn_lockstep.specs.Rings.{count_of}
+-- The nodes of a game, and the locksteps in them.
+use Rattle.std.specs.Prelude.{◌≡◌, ℕ, [], false, slice_get, Option, Some, None}
+use Rattle.dn_demo.specs.declared.recorder.Stage.TheVariants.{Blank}
+use Rattle.dn_machine.specs.declared.answers.Phase.TheVariants.{Listening}
+use Rattle.dn_lockstep.specs.Contents as lockstep
+use Rattle.dn_lockstep.specs.Marks.{slot}
+use Rattle.dn_lockstep.specs.Peers.{peer_at}
+use Rattle.dn_lockstep.specs.Rings.{ring_at}
 use Rattle.dn_node.specs.declared.node.Node.{Node}
 use Rattle.dn_node.specs.Contents as node
+use Rattle.dn_node.specs.Contents.{locked}
 use Rattle.dn_game.specs.Contents.{Contents}
 
 -- a game has this node in this place
 abbrev pub HasNode : {W : Type 0} → Contents W → ℕ → node.Contents W → Type 0
 HasNode {W} g place n = (one : Node W) × (slice_get g.nodes place ≡ Some one) × (n ≡ node.contents one)
 
--- a node that has started has a demo
-abbrev pub HasStarted : {W : Type 0} → node.Contents W → Type 0
-HasStarted n = n.demo.bytes ≢ []
+-- a lockstep of no game: what stands where a game has no node
+abbrev pub no_lockstep : lockstep.Contents
+no_lockstep =
+    record {
+      players = 0;
+      me = 0;
+      extra = false;
+      capacity = 0;
+      phase = Listening;
+      played = false;
+      settings = None;
+      gather = record { players = 0; noted = [] };
+      hold = 0;
+      ran = 0;
+      rings = ring_at [];
+      peers = peer_at [];
+      marks = slot [];
+      demo = record { limit = 0; stage = Blank; bytes = [] };
+    }
 
--- how many commands a node has of a player, and how many it made
-abbrev pub got : {W : Type 0} → node.Contents W → ℕ → ℕ
-got n player = count_of n.rings player
+abbrev pub lockstep_in : {W : Type 0} → Option (Node W) → lockstep.Contents
+lockstep_in None = no_lockstep
+lockstep_in (Some one) = locked (node.contents one)
 
-abbrev pub made : {W : Type 0} → node.Contents W → ℕ
-made n = count_of n.rings n.me
+-- the lockstep of the node in each place
+abbrev pub lockstep_at : {W : Type 0} → Contents W → ℕ → lockstep.Contents
+lockstep_at g place = lockstep_in (slice_get g.nodes place)

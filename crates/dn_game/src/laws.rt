@@ -6,7 +6,7 @@ ghost use Rattle.dn_machine.specs.declared.events.Done.{Done};
 ghost use Rattle.dn_machine.specs.declared.events.Event.{Event};
 ghost use Rattle.dn_machine.specs.declared.events.Refusal.{Refusal};
 ghost use Rattle.dn_machine.specs.Game.{applied};
-ghost use Rattle.dn_machine.specs.Promise.{keys_of};
+ghost use Rattle.dn_machine.specs.Promise.{inputs_of};
 ghost use Rattle.dn_machine.specs.Worlds.{rules_of};
 ghost use Rattle.dn_game.specs.Agreed.{AreAgreed};
 ghost use Rattle.dn_game.specs.Contents.{Contents};
@@ -34,7 +34,7 @@ pub fn reached_games_agree<W: World>()
     ensures agreed { (players : ℕ) (extra : Bool) (capacity : ℕ) (settings : Settings) (events : List Event)
         (g : Contents W)
         → (reached : IsReached W.state (rules_of W.physics players extra capacity) settings events g)
-        → AreAgreed W.state (rules_of W.physics players extra capacity) settings (keys_of reached.last) g }
+        → AreAgreed W.state (rules_of W.physics players extra capacity) settings (inputs_of reached.last) g }
     // No further event is answered by a failed check.
     ensures steady { (players : ℕ) (extra : Bool) (capacity : ℕ) (settings : Settings) (events : List Event)
         (g : Contents W)

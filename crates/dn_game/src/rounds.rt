@@ -1,16 +1,17 @@
 //! Rounds in which the packets arrive.
 
-ghost use Rattle.std.specs.Prelude.{◌≡◌, ◌↔◌, true, Err};
+ghost use Rattle.std.specs.Prelude.{◌≡◌, ◌↔◌, true, map, Err};
+ghost use Rattle.dn_tic.specs.declared.input.Input.TheVariants.{Pressed};
 ghost use Rattle.dn_machine.specs.declared.events.Refusal.{Refusal};
-ghost use Rattle.dn_machine.specs.Progress.{exchange, turn, good_round, good_rounds};
+ghost use Rattle.dn_machine.specs.Progress.{build_of, exchange, turn, good_round, good_rounds};
 ghost use Rattle.dn_game.specs.Applied.{Tells};
 ghost use Rattle.dn_game.specs.Contents.{contents};
-ghost use Rattle.dn_game.specs.Room.{KeepsLimits};
-ghost use Rattle.dn_game.specs.Rounds.{keys_of, IsCarriedOut};
+ghost use Rattle.dn_game.specs.Room.{KeepsWhose};
+ghost use Rattle.dn_game.specs.Rounds.{input_of, pressed_by, IsCarriedOut};
 
 use crate::game::Game;
 use dn_machine::{Done, Event, Refusal};
-use dn_tic::Keys;
+use dn_tic::{Input, Keys};
 use dn_world::World;
 
 /// Whether a send failed because memory was refused.
@@ -20,13 +21,36 @@ fn is_left_out(answer: Result<Done, Refusal>) -> bool
     matches!(answer, Err(Refusal::Memory))
 }
 
-/// The keys of a node; no keys for a number past the fourth.
-fn keys_at(keys: &[Keys; 4], node: u32) -> Keys
-    ensures { result ≡ keys_of keys.now node }
+/// The input of a node; no key for a number past the fourth.
+fn input_at(inputs: &[Input; 4], node: u32) -> Input
+    ensures { result ≡ input_of inputs.now node }
 {
-    match keys.get(node as usize) {
-        Some(keys) => *keys,
-        None => Keys::from_bits(0),
+    match inputs.get(node as usize) {
+        Some(input) => *input,
+        None => Input::Pressed(Keys::from_bits(0)),
+    }
+}
+
+/// The inputs in which these keys are down.
+pub(crate) fn pressed(keys: [Keys; 4]) -> [Input; 4]
+    ensures { result ≡ map Pressed keys }
+{
+    let [first, second, third, fourth] = keys;
+    [
+        Input::Pressed(first),
+        Input::Pressed(second),
+        Input::Pressed(third),
+        Input::Pressed(fourth),
+    ]
+}
+
+/// The event in which a node builds the command of an input.
+fn build_of(node: u32, input: Input) -> Event
+    ensures { result ≡ build_of node input }
+{
+    match input {
+        Input::Pressed(keys) => Event::Build { node, keys },
+        Input::Given(command) => Event::Give { node, command },
     }
 }
 
@@ -35,7 +59,7 @@ impl<W: World> Game<W> {
     fn exchange(&mut self, node: u32, to: u32) -> Result<(), Refusal>
         ensures good { Tells W.state W.physics (contents self.old) (λ rules m.
             IsCarriedOut W.state rules m (exchange rules node m to) (contents self.new) result) }
-        ensures limits { KeepsLimits (contents self.old) (contents self.new) }
+        ensures whose { KeepsWhose (contents self.old) (contents self.new) }
     {
         let Ok(which) = u32::try_from(self.flights()) else {
             return Err(Refusal::NoPacket);
@@ -48,12 +72,12 @@ impl<W: World> Game<W> {
     }
 
     /// A node's turn: it builds a command, exchanges packets with each player, and runs a tic.
-    fn turn(&mut self, node: u32, keys: Keys) -> Result<(), Refusal>
+    fn turn(&mut self, node: u32, input: Input) -> Result<(), Refusal>
         ensures good { Tells W.state W.physics (contents self.old) (λ rules m.
-            IsCarriedOut W.state rules m (turn rules (λ me. keys) m node) (contents self.new) result) }
-        ensures limits { KeepsLimits (contents self.old) (contents self.new) }
+            IsCarriedOut W.state rules m (turn rules (λ me. input) m node) (contents self.new) result) }
+        ensures whose { KeepsWhose (contents self.old) (contents self.new) }
     {
-        let _ = self.apply(Event::Build { node, keys });
+        let _ = self.apply(build_of(node, input));
         for to in 0..self.players() {
             self.exchange(node, to)?;
         }
@@ -61,17 +85,39 @@ impl<W: World> Game<W> {
         Ok(())
     }
 
-    /// A round in which every packet arrives: each node in turn builds a command with its keys, sends
-    /// each other node a packet, which is delivered, and runs a tic.
+    /// A round in which every packet arrives: each node in turn builds the command of its input, or takes the
+    /// one that is given, sends each other node a packet, which is delivered, and runs a tic.
     ///
     /// It stops where there is no memory for a packet, or where 2^32 packets were sent already.
-    pub fn good_round(&mut self, keys: [Keys; 4]) -> Result<(), Refusal>
+    pub fn good_round_with(&mut self, inputs: &[Input; 4]) -> Result<(), Refusal>
         ensures good { Tells W.state W.physics (contents self.old) (λ rules m.
-            IsCarriedOut W.state rules m (good_round rules (keys_of keys) m) (contents self.new) result) }
-        ensures limits { KeepsLimits (contents self.old) (contents self.new) }
+            IsCarriedOut W.state rules m (good_round rules (input_of inputs.now) m) (contents self.new) result) }
+        ensures whose { KeepsWhose (contents self.old) (contents self.new) }
     {
         for node in 0..self.players() {
-            self.turn(node, keys_at(&keys, node))?;
+            self.turn(node, input_at(inputs, node))?;
+        }
+        Ok(())
+    }
+
+    /// Such a round in which each node builds a command with its keys.
+    pub fn good_round(&mut self, keys: [Keys; 4]) -> Result<(), Refusal>
+        ensures good { Tells W.state W.physics (contents self.old) (λ rules m.
+            IsCarriedOut W.state rules m (good_round rules (pressed_by keys) m) (contents self.new) result) }
+        ensures whose { KeepsWhose (contents self.old) (contents self.new) }
+    {
+        self.good_round_with(&pressed(keys))
+    }
+
+    /// Plays `count` rounds in which every packet arrives, with the same inputs in each.
+    pub fn good_rounds_with(&mut self, inputs: &[Input; 4], count: u32) -> Result<(), Refusal>
+        ensures good { Tells W.state W.physics (contents self.old) (λ rules m.
+            IsCarriedOut W.state rules m (good_rounds rules (λ round. input_of inputs.now) count m)
+            (contents self.new) result) }
+        ensures whose { KeepsWhose (contents self.old) (contents self.new) }
+    {
+        for _ in 0..count {
+            self.good_round_with(inputs)?;
         }
         Ok(())
     }
@@ -79,13 +125,10 @@ impl<W: World> Game<W> {
     /// Plays `count` rounds in which every packet arrives, with the same keys in each.
     pub fn good_rounds(&mut self, keys: [Keys; 4], count: u32) -> Result<(), Refusal>
         ensures good { Tells W.state W.physics (contents self.old) (λ rules m.
-            IsCarriedOut W.state rules m (good_rounds rules (λ round. keys_of keys) count m)
+            IsCarriedOut W.state rules m (good_rounds rules (λ round. pressed_by keys) count m)
             (contents self.new) result) }
-        ensures limits { KeepsLimits (contents self.old) (contents self.new) }
+        ensures whose { KeepsWhose (contents self.old) (contents self.new) }
     {
-        for _ in 0..count {
-            self.good_round(keys)?;
-        }
-        Ok(())
+        self.good_rounds_with(&pressed(keys), count)
     }
 }

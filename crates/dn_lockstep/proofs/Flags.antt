@@ -11,7 +11,7 @@ use Rattle.dn_machine.specs.declared.answers.Heard.{Heard}
 use Rattle.dn_machine.specs.declared.answers.Phase.{Phase}
 use Rattle.dn_machine.specs.declared.answers.Phase.TheVariants.{Listening, Gathering, Playing, Ended}
 use Rattle.dn_machine.specs.Drops as drops
-use Rattle.dn_machine.specs.Worlds.{Rules}
+use Rattle.dn_machine.specs.Limits.{Limits}
 use Rattle.dn_machine.specs.Flight.{Kind, Play, Exit}
 use Rattle.dn_machine.specs.Node as machine
 use Rattle.dn_machine.specs.Node.{with_peer, made}
@@ -25,23 +25,23 @@ pub kind_flagged : (packet : Packet) (set : Bool) → has_flag packet flag.exit 
     → kind_in packet ≡ (if set then Exit else Play)
 kind_flagged packet set e = ap (λ (b : Bool). if b then Exit else Play) e
 
-module _ {S : Type 0} (rules : Rules S) (me : ℕ) (m : machine.Node) (from : ℕ)
+module _ (limits : Limits) (me : ℕ) (m : machine.Node) (from : ℕ)
     (told : Result Settings SetupFault) (packet : Packet) where
   abbrev on_other : Phase → machine.Node × Heard
-  on_other phase = heard_as rules me m phase (other_flight from me (made me m) packet phase)
+  on_other phase = heard_as limits me m phase (other_flight from me (made me m) packet phase)
 
   pub read_set_up : has_flag packet flag.set_up ≡ true
-      → ◌≡◌ {A = machine.Node × Heard} (on_read rules me m from told (Ok packet))
-      (on_set_up rules me m from told m.phase)
+      → ◌≡◌ {A = machine.Node × Heard} (on_read limits me m from told (Ok packet))
+      (on_set_up limits me m from told m.phase)
   read_set_up set = rw set refl
 
   pub read_other : has_flag packet flag.set_up ≡ false
-      → ◌≡◌ {A = machine.Node × Heard} (on_read rules me m from told (Ok packet)) (on_other m.phase)
+      → ◌≡◌ {A = machine.Node × Heard} (on_read limits me m from told (Ok packet)) (on_other m.phase)
   read_other plain = rw plain refl
 
   -- a node that listens
   pub read_unheard : has_flag packet flag.set_up ≡ false → m.phase ≡ Listening
-      → ◌≡◌ {A = machine.Node × Heard} (on_read rules me m from told (Ok packet))
+      → ◌≡◌ {A = machine.Node × Heard} (on_read limits me m from told (Ok packet))
       (m, Heard.Dropped drops.not_playing)
   read_unheard plain at = read_other plain ∙ ap on_other at
 
@@ -55,7 +55,7 @@ module _ {S : Type 0} (rules : Rules S) (me : ℕ) (m : machine.Node) (from : �
   module _ (plain : has_flag packet flag.set_up ≡ false) (heard : m.phase ≢ Listening) where
     -- the player's byte is not the sender's
     pub read_strange : packet.player ≢ from
-        → ◌≡◌ {A = machine.Node × Heard} (on_read rules me m from told (Ok packet))
+        → ◌≡◌ {A = machine.Node × Heard} (on_read limits me m from told (Ok packet))
         (m, Heard.Dropped drops.stranger)
     read_strange other =
         let on = listens m.phase heard in
@@ -63,7 +63,7 @@ module _ {S : Type 0} (rules : Rules S) (me : ℕ) (m : machine.Node) (from : �
         read_other plain ∙ rw (on, off) refl
 
     pub read_killed : packet.player ≡ from → has_flag packet flag.kill ≡ true
-        → ◌≡◌ {A = machine.Node × Heard} (on_read rules me m from told (Ok packet))
+        → ◌≡◌ {A = machine.Node × Heard} (on_read limits me m from told (Ok packet))
         (m, Heard.Dropped drops.killed)
     read_killed own kills =
         let on = listens m.phase heard in
@@ -71,20 +71,20 @@ module _ {S : Type 0} (rules : Rules S) (me : ℕ) (m : machine.Node) (from : �
         read_other plain ∙ rw (on, same, kills) refl
 
     pub read_player : packet.player ≡ from → has_flag packet flag.kill ≡ false
-        → ◌≡◌ {A = machine.Node × Heard} (on_read rules me m from told (Ok packet))
-        (on_player rules me m from packet m.phase)
+        → ◌≡◌ {A = machine.Node × Heard} (on_read limits me m from told (Ok packet))
+        (on_player limits me m from packet m.phase)
     read_player own alive =
         let on = listens m.phase heard in
         let same = eq-eqb packet.player from own in
         read_other plain ∙ rw (on, same, alive) refl
 
-module _ {S : Type 0} (rules : Rules S) (me : ℕ) (m : machine.Node) (from : ℕ) (packet : Packet) where
+module _ (limits : Limits) (me : ℕ) (m : machine.Node) (from : ℕ) (packet : Packet) where
   abbrev pub on_start : Phase → Result ℕ ℕ → machine.Node × Heard
-  on_start phase start = heard_as rules me m phase (flight_at from me (made me m) packet start)
+  on_start phase start = heard_as limits me m phase (flight_at from me (made me m) packet start)
 
   -- where the machine looks at its numbers
   pub counted : (phase : Phase) (kind : Kind) → kind_in packet ≡ kind → is_counted phase kind ≡ true
-      → ◌≡◌ {A = machine.Node × Heard} (on_player rules me m from packet phase)
+      → ◌≡◌ {A = machine.Node × Heard} (on_player limits me m from packet phase)
       (on_start phase (start_in (made me m) packet))
   counted phase kind is some = let test = ap (is_counted phase) is ∙ some in rw test refl
 
@@ -98,43 +98,43 @@ module _ {S : Type 0} (rules : Rules S) (me : ℕ) (m : machine.Node) (from : �
       go true = leaves
       go false = plays
 
-  pub player_unheard : ◌≡◌ {A = machine.Node × Heard} (on_player rules me m from packet Listening)
+  pub player_unheard : ◌≡◌ {A = machine.Node × Heard} (on_player limits me m from packet Listening)
       (m, Heard.Dropped drops.not_playing)
-  player_unheard = either (on_packet_in rules me m (flight_in from me (made me m) packet 0) Listening) _ refl
+  player_unheard = either (on_packet_in limits me m (flight_in from me (made me m) packet 0) Listening) _ refl
       refl
 
-  pub player_gathers : ◌≡◌ {A = machine.Node × Heard} (on_player rules me m from packet Gathering)
-      (on_gathering rules m from)
-  player_gathers = either (on_packet_in rules me m (flight_in from me (made me m) packet 0) Gathering) _ refl
+  pub player_gathers : ◌≡◌ {A = machine.Node × Heard} (on_player limits me m from packet Gathering)
+      (on_gathering limits m from)
+  player_gathers = either (on_packet_in limits me m (flight_in from me (made me m) packet 0) Gathering) _ refl
       refl
 
   -- a node that plays takes the commands of either kind
   pub player_takes : (start : ℕ) → start_in (made me m) packet ≡ Ok start
-      → ◌≡◌ {A = machine.Node × Heard} (on_player rules me m from packet Playing)
+      → ◌≡◌ {A = machine.Node × Heard} (on_player limits me m from packet Playing)
       (on_commands me m (flight_in from me (made me m) packet start))
   player_takes start is =
       ap (on_start Playing) is
-      ∙ either (on_packet_in rules me m (flight_in from me (made me m) packet start) Playing) _ refl refl
+      ∙ either (on_packet_in limits me m (flight_in from me (made me m) packet start) Playing) _ refl refl
 
   -- a node that has played and ended hears the requests of those who play on
   module _ (cause : Cause) (has : m.played ≡ true) where
     pub left_leaves : has_flag packet flag.exit ≡ true
-        → ◌≡◌ {A = machine.Node × Heard} (on_player rules me m from packet (Ended cause))
+        → ◌≡◌ {A = machine.Node × Heard} (on_player limits me m from packet (Ended cause))
         (m, Heard.Dropped drops.not_playing)
     left_leaves e =
         let kind = kind_flagged packet true e in
         let test = ap (is_counted (Ended cause)) kind in
         rw test
-        (ap (on_packet_in rules me m (flight_in from me (made me m) packet 0) (Ended cause)) kind
+        (ap (on_packet_in limits me m (flight_in from me (made me m) packet 0) (Ended cause)) kind
         ∙ ap (λ (b : Bool). on_ended b me m (flight_in from me (made me m) packet 0) Exit) has)
 
     pub left_asked : (start : ℕ) → has_flag packet flag.exit ≡ false → start_in (made me m) packet ≡ Ok start
-        → ◌≡◌ {A = machine.Node × Heard} (on_player rules me m from packet (Ended cause)) (
+        → ◌≡◌ {A = machine.Node × Heard} (on_player limits me m from packet (Ended cause)) (
           with_peer m from (after_request (made me m) (m.peers from) (request_in (made me m) packet)),
           Heard.Noted,
         )
     left_asked start e is =
         let kind = kind_flagged packet false e in
         counted (Ended cause) Play kind refl ∙ ap (on_start (Ended cause)) is
-        ∙ ap (on_packet_in rules me m (flight_in from me (made me m) packet start) (Ended cause)) kind
+        ∙ ap (on_packet_in limits me m (flight_in from me (made me m) packet start) (Ended cause)) kind
         ∙ ap (λ (b : Bool). on_ended b me m (flight_in from me (made me m) packet start) Play) has

@@ -8,7 +8,7 @@ use Rattle.dn_setup.specs.Settings.{Settings}
 use Rattle.dn_setup.specs.Gathered.{Gathered, is_noted, is_peer, all_noted}
 use Rattle.dn_machine.specs.declared.answers.Heard.{Heard}
 use Rattle.dn_machine.specs.declared.answers.Phase.TheVariants.{Playing}
-use Rattle.dn_machine.specs.Worlds.{Rules}
+use Rattle.dn_machine.specs.Limits.{Limits}
 use Rattle.dn_machine.specs.Node as machine
 use Rattle.dn_machine.specs.Node.{put}
 use Rattle.dn_machine.specs.Hearing.{started, on_gathering}
@@ -37,12 +37,12 @@ noted_same players one other same =
     let below : p < players = omega arith in
     same p (and_from _ _ (lt-ltb 0 p some) (lt-ltb p players below)))
 
-module _ {S : Type 0} (rules : Rules S) (me : ℕ) (n : Contents) (m : machine.Node)
-    (r : Represents rules me n m)
+module _ (limits : Limits) (me : ℕ) (n : Contents) (m : machine.Node)
+    (r : Represents limits me n m)
     (from : ℕ) (gather : Gathered) (players : gather.players ≡ n.gather.players)
     (heard : (p : ℕ) → is_noted gather p ≡ (is_noted n.gather p || (p == from && is_peer n.gather.players p)))
   where
-    now_noted : (p : ℕ) → is_peer rules.players p ≡ true → is_noted gather p ≡ put m.noted from true p
+    now_noted : (p : ℕ) → is_peer limits.players p ≡ true → is_noted gather p ≡ put m.noted from true p
     now_noted p peer =
         let counted : is_peer n.gather.players p ≡ true = ap (λ (k : ℕ). is_peer k p) r.whose.gathers
         ∙ peer in
@@ -57,7 +57,7 @@ module _ {S : Type 0} (rules : Rules S) (me : ℕ) (n : Contents) (m : machine.N
               ∙ sym (put_off m.noted from p true other)
         ]
 
-    pub shows_noted : Represents rules me (record n { gather = gather })
+    pub shows_noted : Represents limits me (record n { gather = gather })
         (record m { noted = put m.noted from true })
     shows_noted =
         record {
@@ -79,13 +79,13 @@ module _ {S : Type 0} (rules : Rules S) (me : ℕ) (n : Contents) (m : machine.N
         }
 
     all_heard : (complete : Bool) → complete ≡ all_noted gather.players (is_noted gather)
-        → all_noted rules.players (put m.noted from true) ≡ complete
+        → all_noted limits.players (put m.noted from true) ≡ complete
     all_heard complete is =
         sym (is ∙ ap (λ (k : ℕ). all_noted k (is_noted gather)) (players ∙ r.whose.gathers)
-        ∙ noted_same rules.players (is_noted gather) (put m.noted from true) now_noted)
+        ∙ noted_same limits.players (is_noted gather) (put m.noted from true) now_noted)
 
     pub noted_shows : false ≡ all_noted gather.players (is_noted gather)
-        → IsAfter rules me (record n { gather = gather }) (on_gathering rules m from)
+        → IsAfter limits me (record n { gather = gather }) (on_gathering limits m from)
         (λ answer. Heard.Noted ≡ answer)
     noted_shows some =
         let more = all_heard false some in
@@ -93,12 +93,12 @@ module _ {S : Type 0} (rules : Rules S) (me : ℕ) (n : Contents) (m : machine.N
 
     pub started_shows : (settings : Settings) (started_as : Contents)
         → true ≡ all_noted gather.players (is_noted gather) → n.settings ≡ Some settings
-        → Represents rules me started_as (started (record m { noted = put m.noted from true }) settings)
-        → IsAfter rules me started_as (on_gathering rules m from) (λ answer. Heard.Started ≡ answer)
+        → Represents limits me started_as (started (record m { noted = put m.noted from true }) settings)
+        → IsAfter limits me started_as (on_gathering limits m from) (λ answer. Heard.Started ≡ answer)
     started_shows settings started_as every known shows =
         let none = all_heard true every in
         let P : Option Settings → Type 0 = λ s.
-        Represents rules me started_as
+        Represents limits me started_as
         (record m { phase = Playing; played = true; settings = s; noted = put m.noted from true }) in
         after (record m { phase = Playing; played = true; noted = put m.noted from true }) Heard.Started
         (rw none refl)

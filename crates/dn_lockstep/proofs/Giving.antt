@@ -5,7 +5,7 @@ use Rattle.std.proofs.lemmas.Bool.{cases_lt, cases_eq, cond_both}
 use Rattle.std.proofs.lemmas.Option.{same_Some}
 use Rattle.dn_machine.specs.declared.answers.Phase.{Phase}
 use Rattle.dn_machine.specs.declared.answers.Phase.TheVariants.{Listening, Gathering, Playing, Ended}
-use Rattle.dn_machine.specs.Worlds.{Rules}
+use Rattle.dn_machine.specs.Limits.{Limits}
 use Rattle.dn_machine.specs.Flight.{Flight, packet_of}
 use Rattle.dn_machine.specs.Sending.{on_send_in, after_sent}
 use Rattle.dn_machine.specs.Node as machine
@@ -21,9 +21,9 @@ use Rattle.dn_lockstep.proofs.After.{along}
 use Rattle.dn_lockstep.proofs.Sending.{to_itself, to_nobody, to_peer, sends_in}
 
 -- the machine's node once it was asked for a packet: as it was where it gave none, and else as noted
-module _ {S : Type 0} (rules : Rules S) (me : ℕ) (m : machine.Node) (to : ℕ) where
-  none_in : (phase : Phase) → (on_send_in rules me m to phase).1 ≡ None
-      → (on_send_in rules me m to phase).0 ≡ m
+module _ (limits : Limits) (me : ℕ) (m : machine.Node) (to : ℕ) where
+  none_in : (phase : Phase) → (on_send_in limits me m to phase).1 ≡ None
+      → (on_send_in limits me m to phase).0 ≡ m
   none_in Listening e = refl
   none_in Gathering e = refl
   none_in Playing e = absurd (cc)
@@ -31,29 +31,29 @@ module _ {S : Type 0} (rules : Rules S) (me : ℕ) (m : machine.Node) (to : ℕ)
       cond_both m.played _ _ (λ (x : machine.Node × Option Flight). x.1 ≡ None → x.0 ≡ m)
       (λ has e. absurd (cc)) (λ never e. refl) e
 
-  some_in : (phase : Phase) (given : Flight) → (on_send_in rules me m to phase).1 ≡ Some given
-      → (on_send_in rules me m to phase).0 ≡ after_giving rules me m to phase
+  some_in : (phase : Phase) (given : Flight) → (on_send_in limits me m to phase).1 ≡ Some given
+      → (on_send_in limits me m to phase).0 ≡ after_giving limits me m to phase
   some_in Listening given e = refl
   some_in Gathering given e = refl
   some_in Playing given e = refl
   some_in (Ended cause) given e =
       cond_both m.played _ _
-      (λ (x : machine.Node × Option Flight). x.1 ≡ Some given → x.0 ≡ after_sent rules me m to)
+      (λ (x : machine.Node × Option Flight). x.1 ≡ Some given → x.0 ≡ after_sent limits me m to)
       (λ has e. refl) (λ never e. absurd (cc)) e
 
-  through : (next : machine.Node × Option Flight) → sent_to to rules me m ≡ next
+  through : (next : machine.Node × Option Flight) → sent_to to limits me m ≡ next
       → (next.1 ≡ None → next.0 ≡ m)
-      → (sent_to to rules me m).1 ≡ None → (sent_to to rules me m).0 ≡ m
+      → (sent_to to limits me m).1 ≡ None → (sent_to to limits me m).0 ≡ m
   through next e known none =
       ap (λ (x : machine.Node × Option Flight). x.0) e
       ∙ known (sym (ap (λ (x : machine.Node × Option Flight). x.1) e) ∙ none)
 
-  pub none_sent : (sent_to to rules me m).1 ≡ None → (sent_to to rules me m).0 ≡ m
-  none_sent = elim (cases_lt to rules.players) [
-    | inr past ↦ through (m, None) (to_nobody rules me m to past) (λ e. refl)
+  pub none_sent : (sent_to to limits me m).1 ≡ None → (sent_to to limits me m).0 ≡ m
+  none_sent = elim (cases_lt to limits.players) [
+    | inr past ↦ through (m, None) (to_nobody limits me m to past) (λ e. refl)
     | inl below ↦ elim (cases_eq me to) [
-      | inl same ↦ through (m, None) (to_itself rules me m to same) (λ e. refl)
-      | inr apart ↦ through _ (to_peer rules me m to below apart) (none_in m.phase)
+      | inl same ↦ through (m, None) (to_itself limits me m to same) (λ e. refl)
+      | inr apart ↦ through _ (to_peer limits me m to below apart) (none_in m.phase)
     ]
   ]
 
@@ -70,16 +70,16 @@ some_flight view a None e = absurd (cc)
 some_flight view a (Some flight) e = (flight, refl, same_Some _ _ e)
 
 -- a node that gave a packet, and noted it
-pub given_shows : {S : Type 0} (rules : Rules S) (me : ℕ) (n new : Contents) (m : machine.Node) (to : ℕ)
+pub given_shows : (limits : Limits) (me : ℕ) (n new : Contents) (m : machine.Node) (to : ℕ)
     (packet : Packet)
-    → Represents rules me n m → Gives n to → Some packet ≡ option_map packet_of (sent_to to rules me m).1
-    → Represents rules me new (after_giving rules me m to m.phase)
-    → Represents rules me new (sent_to to rules me m).0
-given_shows rules me n new m to packet r given is shows =
+    → Represents limits me n m → Gives n to → Some packet ≡ option_map packet_of (sent_to to limits me m).1
+    → Represents limits me new (after_giving limits me m to m.phase)
+    → Represents limits me new (sent_to to limits me m).0
+given_shows limits me n new m to packet r given is shows =
     let some = some_flight packet_of packet _ is in
-    let sends = sends_in rules me n m to _ r given.below given.other r.stands.phase in
+    let sends = sends_in limits me n m to _ r given.below given.other r.stands.phase in
     along (ap (λ (x : machine.Node × Option Flight). x.0) sends
-    ∙ some_in rules me m to m.phase some.0 (sym (ap (λ (x : machine.Node × Option Flight). x.1) sends)
+    ∙ some_in limits me m to m.phase some.0 (sym (ap (λ (x : machine.Node × Option Flight). x.1) sends)
     ∙ some.1)) shows
 
 -- the bytes of a flight are the text of its packet

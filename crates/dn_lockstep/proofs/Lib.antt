@@ -29,3 +29,9 @@ pub mod Taking
 pub mod Gone
 pub mod Telling
 pub mod Marked
+pub mod OneGame
+pub mod Shown
+pub mod DemoTexts
+pub mod RowsMade
+pub mod DemosAgreeing
+pub mod Agreeing

@@ -1,8 +1,8 @@
 -- What a node represents after a tic.
-use Rattle.std.proofs.Common.{◌≡◌, ◌≢◌, ◌<◌, ◌≤◌, ◌+◌, ◌-◌, ◌%◌, ℕ, ℤ, Bool, true, false, not, cond, ◌||◌, List, [], ◌∷◌, ◌++◌, length, refl, ap, sym, ◌∙◌, subst, arith, inl, inr, Option, Some, None, fold}
-use Rattle.std.specs.Prelude.{nat_lt, ◌⊎◌, All, IfSome}
+use Rattle.std.proofs.Common.{◌≡◌, ◌≢◌, ◌<◌, ◌+◌, ◌-◌, ◌%◌, ℕ, ℤ, Bool, true, false, not, cond, ◌||◌, List, [], ◌∷◌, ◌++◌, length, refl, ap, sym, ◌∙◌, subst, arith, inl, inr, Option, Some, None}
+use Rattle.std.specs.Prelude.{nat_lt, ◌⊎◌, All, IfSome, if◌then◌else◌, pos}
 use Rattle.std.proofs.lemmas.Bool.{cases_lt, cases_eq, cases_Bool, le-ltb, lt-ltb, ltb-false, cond-false}
-use Rattle.std.proofs.lemmas.List.{length_push, take-append-le}
+use Rattle.std.proofs.lemmas.List.{length_push}
 use Rattle.dn_tic.specs.declared.command.Move.{Move}
 use Rattle.dn_setup.specs.Settings.{Settings}
 use Rattle.dn_setup.specs.Starts.{start_of}
@@ -14,128 +14,104 @@ use Rattle.dn_demo.specs.declared.recorder.Stage.{Stage}
 use Rattle.dn_demo.specs.declared.recorder.Stage.TheVariants.{Blank, Open, Closed}
 use Rattle.dn_machine.specs.declared.answers.Phase.{Phase}
 use Rattle.dn_machine.specs.Running.{is_over}
+use Rattle.dn_machine.proofs.Put.{put_at, put_off}
 use Rattle.dn_machine.proofs.Demos.{front_stops, front_goes_on, front_short}
 use Rattle.std.proofs.lemmas.List.Elements.{All-push}
 use Rattle.dn_machine.specs.declared.answers.Phase.TheVariants.{Playing}
-use Rattle.dn_machine.specs.Worlds.{Rules, mark_in, opening}
+use Rattle.dn_machine.specs.Limits.{Limits}
 use Rattle.dn_machine.specs.Node as machine
-use Rattle.dn_machine.specs.Node.{ends_of, own_mark, own_world, world_after, is_ended, is_whole, demo_rows}
+use Rattle.dn_machine.specs.Node.{put, ends_of, own_mark, is_ended, is_whole, demo_rows}
 use Rattle.dn_lockstep.specs.Contents.{Contents}
 use Rattle.dn_lockstep.specs.Represents.{Represents, CanBeWritten, is_demo_closed, marked_to}
 use Rattle.dn_lockstep.specs.Rows.{seats_of}
-use Rattle.dn_lockstep.proofs.Replaying.{own_world_is, all_recorded, demo_is}
+use Rattle.dn_lockstep.proofs.Replaying.{all_recorded, demo_is}
 use Rattle.dn_lockstep.proofs.Starting.{early_mark}
 use Rattle.dn_lockstep.proofs.Marked.{marked_low, marked_here, marked_next, marked_gone}
 
--- the machine's node after one row more
-abbrev pub moved : machine.Node → List (Option Move) → machine.Node
-moved m row = record m { rows = m.rows ++ row ∷ [] }
+-- the machine's node after one row more, with these marks
+abbrev pub moved : machine.Node → List (Option Move) → (ℕ → ℤ) → machine.Node
+moved m row kept = record m { rows = m.rows ++ row ∷ []; marks = put m.marks (machine.ran m) kept }
 
-module _ {S : Type 0} (rules : Rules S) (settings : Settings) (rows : List (List (Option Move)))
-    (row : List (Option Move)) where
-  -- an earlier world
-  world_before : (tic : ℕ) → tic ≤ length rows → world_after rules settings (rows ++ row ∷ []) tic
-      ≡ world_after rules settings rows tic
-  unfolding world_after
-  world_before tic low = ap (fold rules.physics.step (opening rules settings))
-      (take-append-le tic rows (row ∷ []) low)
-
-module _ {S : Type 0} (rules : Rules S) (m : machine.Node) (settings : Settings)
-    (known : m.settings ≡ Some settings) (row : List (Option Move)) where
-  own_world_before : (tic : ℕ) → tic ≤ machine.ran m
-      → own_world rules (moved m row) tic ≡ own_world rules m tic
-  own_world_before tic low =
-      own_world_is rules (moved m row) settings known tic
-      ∙ ap (λ (w : S). Some w) (world_before rules settings m.rows row tic low)
-      ∙ sym (own_world_is rules m settings known tic)
-
-  -- up to twelve tics on the marks are as before
-  own_mark_before : (p tic : ℕ) → tic ≤ machine.ran m + 12
-      → own_mark rules (moved m row) p tic ≡ own_mark rules m p tic
+module _ (m : machine.Node) (row : List (Option Move)) (kept : ℕ → ℤ) where
+  -- short of twelve tics on the marks are as before
+  own_mark_before : (p tic : ℕ) → tic < machine.ran m + 12 → own_mark (moved m row kept) p tic ≡ own_mark m p tic
   own_mark_before p tic low = elim (cases_lt tic 12) [
-    | inl early ↦ early_mark rules (moved m row) m p tic early
-    | inr late ↦
-        cond-false (nat_lt tic 12) _ _ (le-ltb tic 12 late)
-        ∙ ap (λ (w : Option S). mark_in rules.physics w p) (own_world_before (tic - 12) (omega arith))
-        ∙ sym (cond-false (nat_lt tic 12) _ _ (le-ltb tic 12 late))
+    | inl early ↦ early_mark (moved m row kept) m p tic early
+    | inr late ↦ ap (λ (mark : ℤ). if nat_lt tic 12 then pos 0 else mark)
+        (ap (λ (f : ℕ → ℤ). f p) (put_off m.marks (machine.ran m) (tic - 12) kept (λ e. absurd (omega arith))))
   ]
 
-  -- and twelve tics on there are those of the world now
-  own_mark_now : (p : ℕ) → own_mark rules (moved m row) p (machine.ran m + 12)
-      ≡ rules.physics.mark (world_after rules settings m.rows (machine.ran m)) p
-  own_mark_now p =
-      let back : machine.ran m + 12 - 12 ≡ machine.ran m = omega arith in
-      cond-false (nat_lt (machine.ran m + 12) 12) _ _ (le-ltb (machine.ran m + 12) 12 (omega arith))
-      ∙ ap (λ (tic : ℕ). mark_in rules.physics (own_world rules (moved m row) tic) p) back
-      ∙ ap (λ (w : Option S). mark_in rules.physics w p)
-      (own_world_before (machine.ran m) (omega arith)
-      ∙ own_world_is rules m settings known (machine.ran m))
+  -- and twelve tics on there are those that were kept
+  own_mark_now : (p tic : ℕ) → tic ≡ machine.ran m + 12 → own_mark (moved m row kept) p tic ≡ kept p
+  own_mark_now p tic e =
+      cond-false (nat_lt tic 12) _ _ (le-ltb tic 12 (omega arith))
+      ∙ ap (λ (f : ℕ → ℤ). f p) (put_at m.marks (machine.ran m) (tic - 12) kept (omega arith))
 
 -- what is written of a row: itself at the end of an open demo where it is whole, and else the marker, if it
 -- is not there
-pub record IsWritten {S : Type 0} (rules : Rules S) (old new : Recorded) (row : List (Option Move)) : Type 0
+pub record IsWritten (limits : Limits) (old new : Recorded) (row : List (Option Move)) : Type 0
   where
     pub begun : old.stage ≢ Blank
-    pub open_while : is_whole rules.players row ≡ true → old.stage ≡ Open
-    pub stage : new.stage ≡ cond (is_whole rules.players row) Open Closed
-    pub added : is_whole rules.players row ≡ true → AddsRow old.bytes new.bytes row
-    pub closes : is_whole rules.players row ≡ false → old.stage ≡ Open → Closes old.bytes new.bytes
-    pub stays : is_whole rules.players row ≡ false → old.stage ≡ Closed → new.bytes ≡ old.bytes
-    pub fits : is_whole rules.players row ≡ true → IsRow (seats_of rules.players) row
+    pub open_while : is_whole limits.players row ≡ true → old.stage ≡ Open
+    pub stage : new.stage ≡ cond (is_whole limits.players row) Open Closed
+    pub added : is_whole limits.players row ≡ true → AddsRow old.bytes new.bytes row
+    pub closes : is_whole limits.players row ≡ false → old.stage ≡ Open → Closes old.bytes new.bytes
+    pub stays : is_whole limits.players row ≡ false → old.stage ≡ Closed → new.bytes ≡ old.bytes
+    pub fits : is_whole limits.players row ≡ true → IsRow (seats_of limits.players) row
     pub ranged : All (λ step. IfSome step IsMove) row
 
-module _ {S : Type 0} {rules : Rules S} (m : machine.Node) {row : List (Option Move)}
-    (playing : m.phase ≡ Playing) {old new : Recorded} (written : IsWritten rules old new row)
-    (told : is_closed old.stage ≡ is_demo_closed rules m) where
+module _ {limits : Limits} (m : machine.Node) {row : List (Option Move)} (kept : ℕ → ℤ)
+    (playing : m.phase ≡ Playing) {old new : Recorded} (written : IsWritten limits old new row)
+    (told : is_closed old.stage ≡ is_demo_closed limits m) where
   -- while a node plays its demo is closed where not all rows are whole
   closed_so : (x : machine.Node) → x.phase ≡ Playing
-      → is_demo_closed rules x ≡ nat_lt (length (demo_rows rules x)) (machine.ran x)
-  closed_so x on = ap (λ (p : Phase). is_ended p || nat_lt (length (demo_rows rules x)) (machine.ran x)) on
+      → is_demo_closed limits x ≡ nat_lt (length (demo_rows limits.players x)) (machine.ran x)
+  closed_so x on = ap (λ (p : Phase). is_ended p || nat_lt (length (demo_rows limits.players x)) (machine.ran x)) on
 
-  all_rows : old.stage ≡ Open → demo_rows rules m ≡ m.rows
+  all_rows : old.stage ≡ Open → demo_rows limits.players m ≡ m.rows
   all_rows at =
-      all_recorded rules m (ltb-false (length (demo_rows rules m)) (machine.ran m)
+      all_recorded limits m (ltb-false (length (demo_rows limits.players m)) (machine.ran m)
       (sym (closed_so m playing) ∙ sym told ∙ ap is_closed at))
 
-  more_rows : is_whole rules.players row ≡ true → demo_rows rules (moved m row) ≡ m.rows ++ row ∷ []
-  more_rows each = front_goes_on (is_whole rules.players) m.rows row (all_rows (written.open_while each)) each
+  more_rows : is_whole limits.players row ≡ true → demo_rows limits.players (moved m row kept) ≡ m.rows ++ row ∷ []
+  more_rows each = front_goes_on (is_whole limits.players) m.rows row (all_rows (written.open_while each)) each
 
-  same_rows : is_whole rules.players row ≡ false → demo_rows rules (moved m row) ≡ demo_rows rules m
-  same_rows lacks = front_stops (is_whole rules.players) m.rows row lacks
+  same_rows : is_whole limits.players row ≡ false → demo_rows limits.players (moved m row kept) ≡ demo_rows limits.players m
+  same_rows lacks = front_stops (is_whole limits.players) m.rows row lacks
 
-  closed_now : is_demo_closed rules (moved m row) ≡ not (is_whole rules.players row)
-  closed_now = elim (cases_Bool (is_whole rules.players row)) [
+  closed_now : is_demo_closed limits (moved m row kept) ≡ not (is_whole limits.players row)
+  closed_now = elim (cases_Bool (is_whole limits.players row)) [
     | inl each ↦
         let long = ap (length {A = List (Option Move)}) (more_rows each) in
-        closed_so (moved m row) playing ∙ le-ltb (length (demo_rows rules (moved m row)))
-        (machine.ran (moved m row)) (omega arith) ∙ sym (ap not each)
+        closed_so (moved m row kept) playing ∙ le-ltb (length (demo_rows limits.players (moved m row kept)))
+        (machine.ran (moved m row kept)) (omega arith) ∙ sym (ap not each)
     | inr lacks ↦
         let long = ap (length {A = List (Option Move)}) (same_rows lacks) in
-        let short = front_short (is_whole rules.players) m.rows in
+        let short = front_short (is_whole limits.players) m.rows in
         let count = length_push m.rows row in
-        closed_so (moved m row) playing ∙ lt-ltb (length (demo_rows rules (moved m row)))
-        (machine.ran (moved m row)) (omega arith) ∙ sym (ap not lacks)
+        closed_so (moved m row kept) playing ∙ lt-ltb (length (demo_rows limits.players (moved m row kept)))
+        (machine.ran (moved m row kept)) (omega arith) ∙ sym (ap not lacks)
   ]
 
   stage_now : (b : Bool) → is_closed (cond b Open Closed) ≡ not b
   stage_now true = refl
   stage_now false = refl
 
-  pub closed_moved : is_closed new.stage ≡ is_demo_closed rules (moved m row)
-  closed_moved = ap is_closed written.stage ∙ stage_now (is_whole rules.players row) ∙ sym closed_now
+  pub closed_moved : is_closed new.stage ≡ is_demo_closed limits (moved m row kept)
+  closed_moved = ap is_closed written.stage ∙ stage_now (is_whole limits.players row) ∙ sym closed_now
 
-  pub writable_moved : CanBeWritten rules.players (demo_rows rules m)
-      → CanBeWritten rules.players (demo_rows rules (moved m row))
+  pub writable_moved : CanBeWritten limits.players (demo_rows limits.players m)
+      → CanBeWritten limits.players (demo_rows limits.players (moved m row kept))
   unfolding CanBeWritten
   writable_moved before =
-      let Fits : List (List (Option Move)) → Type 0 = AreWritable (seats_of rules.players) in
-      elim (cases_Bool (is_whole rules.players row)) [
+      let Fits : List (List (Option Move)) → Type 0 = AreWritable (seats_of limits.players) in
+      elim (cases_Bool (is_whole limits.players row)) [
         | inl each ↦
             let kept = subst Fits (all_rows (written.open_while each)) before in
             subst Fits (sym (more_rows each)) (record {
               four = kept.four;
               somebody = kept.somebody;
-              recordable = All-push (IsRow (seats_of rules.players)) m.rows row kept.recordable
+              recordable = All-push (IsRow (seats_of limits.players)) m.rows row kept.recordable
                   (written.fits each);
               moves = All-push (All (λ step. IfSome step IsMove)) m.rows row kept.moves written.ranged;
             })
@@ -149,31 +125,31 @@ module _ {S : Type 0} {rules : Rules S} (m : machine.Node) {row : List (Option M
 
   module _ (me : ℕ) (settings : Settings) where
     abbrev text_with : List (List (Option Move)) → Bool → List ℕ
-    text_with rows closed = demo_text long_tics (start_of settings) me (seats_of rules.players) rows closed
+    text_with rows closed = demo_text long_tics (start_of settings) me (seats_of limits.players) rows closed
 
-    pub demo_moved : old.bytes ≡ text_with (demo_rows rules m) (is_demo_closed rules m)
-        → new.bytes ≡ text_with (demo_rows rules (moved m row)) (is_demo_closed rules (moved m row))
+    pub demo_moved : old.bytes ≡ text_with (demo_rows limits.players m) (is_demo_closed limits m)
+        → new.bytes ≡ text_with (demo_rows limits.players (moved m row kept)) (is_demo_closed limits (moved m row kept))
     demo_moved text =
-        elim (cases_Bool (is_whole rules.players row)) [
+        elim (cases_Bool (is_whole limits.players row)) [
           | inl each ↦
               let at = written.open_while each in
               let before : old.bytes ≡ text_with m.rows false =
-              text ∙ ap (λ (rs : List (List (Option Move))). text_with rs (is_demo_closed rules m))
+              text ∙ ap (λ (rs : List (List (Option Move))). text_with rs (is_demo_closed limits m))
               (all_rows at) ∙ ap (text_with m.rows) (sym told ∙ ap is_closed at) in
-              written.added each (start_of settings) me (seats_of rules.players) m.rows before
+              written.added each (start_of settings) me (seats_of limits.players) m.rows before
               ∙ ap (λ (rs : List (List (Option Move))). text_with rs false) (sym (more_rows each))
-              ∙ ap (text_with (demo_rows rules (moved m row))) (sym (closed_now ∙ ap not each))
+              ∙ ap (text_with (demo_rows limits.players (moved m row kept))) (sym (closed_now ∙ ap not each))
           | inr lacks ↦
-              let after : text_with (demo_rows rules m) true
-              ≡ text_with (demo_rows rules (moved m row)) (is_demo_closed rules (moved m row)) =
+              let after : text_with (demo_rows limits.players m) true
+              ≡ text_with (demo_rows limits.players (moved m row kept)) (is_demo_closed limits (moved m row kept)) =
               ap (λ (rs : List (List (Option Move))). text_with rs true) (sym (same_rows lacks))
-              ∙ ap (text_with (demo_rows rules (moved m row))) (sym (closed_now ∙ ap not lacks)) in
+              ∙ ap (text_with (demo_rows limits.players (moved m row kept))) (sym (closed_now ∙ ap not lacks)) in
               elim (stages old.stage written.begun) [
-                | inl at ↦ written.closes lacks at (start_of settings) me (seats_of rules.players)
-                    (demo_rows rules m)
-                    (text ∙ ap (text_with (demo_rows rules m)) (sym told ∙ ap is_closed at)) ∙ after
+                | inl at ↦ written.closes lacks at (start_of settings) me (seats_of limits.players)
+                    (demo_rows limits.players m)
+                    (text ∙ ap (text_with (demo_rows limits.players m)) (sym told ∙ ap is_closed at)) ∙ after
                 | inr at ↦ written.stays lacks at ∙ text
-                    ∙ ap (text_with (demo_rows rules m)) (sym told ∙ ap is_closed at) ∙ after
+                    ∙ ap (text_with (demo_rows limits.players m)) (sym told ∙ ap is_closed at) ∙ after
               ]
         ]
 
@@ -181,22 +157,22 @@ pub known_by : (settings : Option Settings) → settings ≢ None → (s : Setti
 known_by None n = absurd (n refl)
 known_by (Some s) n = (s, refl)
 
-pub shows_moved : {S : Type 0} (rules : Rules S) (me : ℕ) (n : Contents) (m : machine.Node)
-    (row : List (Option Move)) (marks : ℕ → ℕ → ℤ) (demo : Recorded)
-    → Represents rules me n m → n.phase ≡ Playing → n.played ≡ true → n.settings ≢ None
+pub shows_moved : (limits : Limits) (me : ℕ) (n : Contents) (m : machine.Node)
+    (row : List (Option Move)) (kept : ℕ → ℤ) (marks : ℕ → ℕ → ℤ) (demo : Recorded)
+    → Represents limits me n m → n.phase ≡ Playing → n.played ≡ true → n.settings ≢ None
     → ((p : ℕ) → p < n.players → is_over (ends_of m p) (machine.ran m) ≡ false
-    → marks p (n.ran % 12) ≡ mark_in rules.physics (own_world rules m (machine.ran m)) p)
+    → marks p (n.ran % 12) ≡ kept p)
     → ((p j : ℕ) → p < n.players → is_over (ends_of m p) (machine.ran m) ≡ true → marks p j ≡ n.marks p j)
     → ((p j : ℕ) → j ≢ n.ran % 12 → marks p j ≡ n.marks p j)
-    → IsWritten rules n.demo demo row
-    → Represents rules me (record n { ran = n.ran + 1; marks = marks; demo = demo }) (moved m row)
-shows_moved {S} rules me n m row marks demo r on has_played has_settings new absent others written =
+    → IsWritten limits n.demo demo row
+    → Represents limits me (record n { ran = n.ran + 1; marks = marks; demo = demo }) (moved m row kept)
+shows_moved limits me n m row kept marks demo r on has_played has_settings new absent others written =
     let playing : m.phase ≡ Playing = sym r.stands.phase ∙ on in
     let played : m.played ≡ true = sym r.stands.played ∙ has_played in
     let s = known_by m.settings (λ e. has_settings (r.stands.settings ∙ e)) in
     let settings : Settings = s.0 in
     let known : m.settings ≡ Some settings = s.1 in
-    let count : machine.ran (moved m row) ≡ machine.ran m + 1 = length_push m.rows row in
+    let count : machine.ran (moved m row kept) ≡ machine.ran m + 1 = length_push m.rows row in
     let ran : n.ran ≡ machine.ran m = r.table.ran in
     record {
       whose = r.whose;
@@ -210,39 +186,35 @@ shows_moved {S} rules me n m row marks demo r on has_played has_settings new abs
             let end = ends_of m p in
             elim (cases_Bool (is_over end (machine.ran m))) [
               | inl gone ↦
-                  let same : marked_to (machine.ran (moved m row)) end ≡ marked_to (machine.ran m) end =
+                  let same : marked_to (machine.ran (moved m row kept)) end ≡ marked_to (machine.ran m) end =
                   ap (λ (k : ℕ). marked_to k end) count ∙ marked_gone (machine.ran m) end gone in
                   let few = marked_low (machine.ran m) end in
                   absent p (tic % 12) mine gone
                   ∙ r.table.marks p tic below (omega (arith, low, same)) (omega (arith, high, same))
-                  ∙ sym (own_mark_before rules m settings known row p tic (omega (arith, high, same, few)))
+                  ∙ sym (own_mark_before m row kept p tic (omega (arith, high, same, few)))
               | inr present ↦
                   let all = marked_here (machine.ran m) end present in
-                  let next : marked_to (machine.ran (moved m row)) end ≡ machine.ran m + 1 =
+                  let next : marked_to (machine.ran (moved m row kept)) end ≡ machine.ran m + 1 =
                   ap (λ (k : ℕ). marked_to k end) count ∙ marked_next (machine.ran m) end present in
                   elim (cases_eq tic (machine.ran m + 12)) [
                     | inl e ↦
                         let place : tic % 12 ≡ n.ran % 12 = omega (arith, e, ran) in
-                        ap (marks p) place ∙ new p mine present
-                        ∙ ap (λ (w : Option S). mark_in rules.physics w p)
-                        (own_world_is rules m settings known (machine.ran m))
-                        ∙ sym (own_mark_now rules m settings known row p)
-                        ∙ ap (own_mark rules (moved m row) p) (sym e)
+                        ap (marks p) place ∙ new p mine present ∙ sym (own_mark_now m row kept p tic e)
                     | inr other ↦
                         let apart : tic % 12 ≢ n.ran % 12 =
                         λ h. absurd (omega (arith, h, ran, low, high, next, other)) in
                         others p (tic % 12) apart
                         ∙ r.table.marks p tic below (omega (arith, low, next, all))
                         (omega (arith, high, next, all, other))
-                        ∙ sym (own_mark_before rules m settings known row p tic (omega (arith, high, next)))
+                        ∙ sym (own_mark_before m row kept p tic (omega (arith, high, next, other)))
                   ]
             ];
       };
       demo = record {
-        bytes = demo_moved m playing written (r.demo.closed played) me settings
-            (r.demo.bytes ∙ demo_is rules m settings known me played)
-            ∙ sym (demo_is rules (moved m row) settings known me played);
-        closed = λ e. closed_moved m playing written (r.demo.closed played);
-        writable = writable_moved m playing written (r.demo.closed played) r.demo.writable;
+        bytes = demo_moved m kept playing written (r.demo.closed played) me settings
+            (r.demo.bytes ∙ demo_is limits m settings known me played)
+            ∙ sym (demo_is limits (moved m row kept) settings known me played);
+        closed = λ e. closed_moved m kept playing written (r.demo.closed played);
+        writable = writable_moved m kept playing written (r.demo.closed played) r.demo.writable;
       };
     }

@@ -16,7 +16,7 @@ use Rattle.dn_machine.specs.declared.answers.Heard.{Heard}
 use Rattle.dn_machine.specs.declared.answers.Phase.{Phase}
 use Rattle.dn_machine.specs.declared.answers.Phase.TheVariants.{Listening, Gathering, Playing, Ended}
 use Rattle.dn_machine.specs.Drops as drops
-use Rattle.dn_machine.specs.Worlds.{Rules, rules_of}
+use Rattle.dn_machine.specs.Limits.{Limits}
 use Rattle.dn_machine.specs.Flight.{Kind, SetUp, Play, Exit, Flight, packet_of, commands_packet, is_close, is_request_close, is_near}
 use Rattle.dn_machine.specs.Node as machine
 use Rattle.dn_machine.specs.Node.{made}
@@ -28,8 +28,7 @@ use Rattle.dn_lockstep.specs.Reading.{has_flag, kind_in, start_at, start_in, req
 use Rattle.dn_lockstep.specs.Received.{received, on_read, on_set_up, on_player, is_counted}
 use Rattle.dn_lockstep.specs.Rings.{is_stop}
 use Rattle.dn_lockstep.specs.Contents.{Contents}
-use Rattle.dn_lockstep.specs.Marking.{free}
-use Rattle.dn_lockstep.proofs.After.{after}
+use Rattle.dn_lockstep.proofs.After.{after, steps}
 use Rattle.dn_lockstep.proofs.Flags.{on_start, kind_flagged, read_unheard, read_player, counted, player_gathers, left_leaves}
 use Rattle.dn_lockstep.proofs.Counting.{made_is}
 
@@ -71,7 +70,7 @@ flag_of packet e = go (has_flag packet flag.exit) e
     go false e = absurd (cc)
 
 -- what a kind tells as a set-up packet
-abbrev told_by : Kind → Result Settings SetupFault
+abbrev pub told_by : Kind → Result Settings SetupFault
 told_by (SetUp settings) = Ok settings
 told_by Play = Err NotSetup
 told_by Exit = Err NotSetup
@@ -80,14 +79,14 @@ told_by Exit = Err NotSetup
 no_bit : (packet : Packet) → has_flag packet flag.set_up ≡ false → IsSetupReadAs packet (Err NotSetup)
 no_bit packet off set = set (eqb-true (bit_and packet.flags 2) 0 (not-false _ off))
 
-told_is : (flight : Flight) (kind : Kind) → IsFairKind flight kind
+pub told_is : (flight : Flight) (kind : Kind) → IsFairKind flight kind
     → IsSetupReadAs (packet_of (record flight { kind = kind })) (told_by kind)
 told_is flight (SetUp settings) fair =
     (λ e. absurd (omega arith), refl, record { in_range = fair.1; ask = refl; start = refl })
 told_is flight Play fair = no_bit (commands_packet 0 flight) (flag_is flight 0 2 false refl refl)
 told_is flight Exit fair = no_bit (commands_packet 8 flight) (flag_is flight 8 2 false refl refl)
 
-module _ {S : Type 0} (rules : Rules S) (me : ℕ) (m : machine.Node) (flight : Flight) where
+module _ (limits : Limits) (me : ℕ) (m : machine.Node) (flight : Flight) where
   -- what has ended and hears has played
   has_played : (cause : Cause) → m.phase ≡ Ended cause → hears_none m.phase m.played ≡ false → m.played ≡ true
   has_played cause at on = not-false m.played (sym (ap (λ (p : Phase). hears_none p m.played) at) ∙ on)
@@ -95,8 +94,8 @@ module _ {S : Type 0} (rules : Rules S) (me : ℕ) (m : machine.Node) (flight : 
   -- a set-up packet
   set_up_heard : (settings : Settings) (phase : Phase) → m.phase ≡ phase → flight.from ≡ 0
       → hears_none m.phase m.played ≡ false
-      → ◌≡◌ {A = machine.Node × Heard} (on_set_up rules me m flight.from (Ok settings) phase)
-      (on_packet_in rules me m flight phase (SetUp settings))
+      → ◌≡◌ {A = machine.Node × Heard} (on_set_up limits me m flight.from (Ok settings) phase)
+      (on_packet_in limits me m flight phase (SetUp settings))
   set_up_heard settings Listening at key on = let first = eq-eqb flight.from 0 key in rw first refl
   set_up_heard settings Gathering at key on = refl
   set_up_heard settings Playing at key on = refl
@@ -117,12 +116,12 @@ module _ {S : Type 0} (rules : Rules S) (me : ℕ) (m : machine.Node) (flight : 
   module _ {packet : Packet} {kind : Kind} (spelt : IsSpelt packet kind) where
     -- where its numbers are looked at they are the flight's
     numbers_heard : (phase : Phase) → is_counted phase kind ≡ true
-        → ◌≡◌ {A = machine.Node × Heard} (on_player rules me m flight.from packet phase)
-        (on_packet_in rules me m (record flight { to = me }) phase kind)
+        → ◌≡◌ {A = machine.Node × Heard} (on_player limits me m flight.from packet phase)
+        (on_packet_in limits me m (record flight { to = me }) phase kind)
     numbers_heard phase looks =
-        counted rules me m flight.from packet phase kind spelt.kinded looks
-        ∙ ap (on_start rules me m flight.from packet phase) spelt.begins
-        ∙ (λ i. on_packet_in rules me m
+        counted limits me m flight.from packet phase kind spelt.kinded looks
+        ∙ ap (on_start limits me m flight.from packet phase) spelt.begins
+        ∙ (λ i. on_packet_in limits me m
         (record {
           from = flight.from;
           to = me;
@@ -133,21 +132,21 @@ module _ {S : Type 0} (rules : Rules S) (me : ℕ) (m : machine.Node) (flight : 
         }) phase (spelt.kinded i))
 
     read_heard : (phase : Phase) → m.phase ≡ phase → phase ≢ Listening
-        → ◌≡◌ {A = machine.Node × Heard} (on_read rules me m flight.from (Err NotSetup) (Ok packet))
-        (on_player rules me m flight.from packet phase)
+        → ◌≡◌ {A = machine.Node × Heard} (on_read limits me m flight.from (Err NotSetup) (Ok packet))
+        (on_player limits me m flight.from packet phase)
     read_heard phase at heard =
-        read_player rules me m flight.from (Err NotSetup) packet spelt.plain (λ e. heard (sym at ∙ e))
+        read_player limits me m flight.from (Err NotSetup) packet spelt.plain (λ e. heard (sym at ∙ e))
         spelt.player spelt.alive
-        ∙ ap (on_player rules me m flight.from packet) at
+        ∙ ap (on_player limits me m flight.from packet) at
 
   play_heard : {packet : Packet} → IsSpelt packet Play → (phase : Phase) → m.phase ≡ phase
       → hears_none m.phase m.played ≡ false
-      → ◌≡◌ {A = machine.Node × Heard} (on_read rules me m flight.from (Err NotSetup) (Ok packet))
-      (on_packet_in rules me m flight phase Play)
-  play_heard {packet} spelt Listening at on = read_unheard rules me m flight.from (Err NotSetup) packet
+      → ◌≡◌ {A = machine.Node × Heard} (on_read limits me m flight.from (Err NotSetup) (Ok packet))
+      (on_packet_in limits me m flight phase Play)
+  play_heard {packet} spelt Listening at on = read_unheard limits me m flight.from (Err NotSetup) packet
       spelt.plain at
   play_heard {packet} spelt Gathering at on = read_heard spelt Gathering at (λ e. cc)
-      ∙ player_gathers rules me m flight.from packet
+      ∙ player_gathers limits me m flight.from packet
   play_heard spelt Playing at on = read_heard spelt Playing at (λ e. cc) ∙ numbers_heard spelt Playing refl
   play_heard spelt (Ended cause) at on =
       let has = has_played cause at on in
@@ -157,17 +156,17 @@ module _ {S : Type 0} (rules : Rules S) (me : ℕ) (m : machine.Node) (flight : 
 
   exit_heard : {packet : Packet} → IsSpelt packet Exit → (phase : Phase) → m.phase ≡ phase
       → hears_none m.phase m.played ≡ false
-      → ◌≡◌ {A = machine.Node × Heard} (on_read rules me m flight.from (Err NotSetup) (Ok packet))
-      (on_packet_in rules me m flight phase Exit)
-  exit_heard {packet} spelt Listening at on = read_unheard rules me m flight.from (Err NotSetup) packet
+      → ◌≡◌ {A = machine.Node × Heard} (on_read limits me m flight.from (Err NotSetup) (Ok packet))
+      (on_packet_in limits me m flight phase Exit)
+  exit_heard {packet} spelt Listening at on = read_unheard limits me m flight.from (Err NotSetup) packet
       spelt.plain at
   exit_heard {packet} spelt Gathering at on = read_heard spelt Gathering at (λ e. cc)
-      ∙ player_gathers rules me m flight.from packet
+      ∙ player_gathers limits me m flight.from packet
   exit_heard spelt Playing at on = read_heard spelt Playing at (λ e. cc) ∙ numbers_heard spelt Playing refl
   exit_heard {packet} spelt (Ended cause) at on =
       let has = has_played cause at on in
       read_heard spelt (Ended cause) at (λ e. cc)
-      ∙ left_leaves rules me m flight.from packet cause has (flag_of packet spelt.kinded)
+      ∙ left_leaves limits me m flight.from packet cause has (flag_of packet spelt.kinded)
       ∙ sym (ap (λ (b : Bool). on_ended b me m flight Exit) has)
 
   -- a close flight's packet is spelt so
@@ -193,8 +192,8 @@ module _ {S : Type 0} (rules : Rules S) (me : ℕ) (m : machine.Node) (flight : 
   near_read : (kind : Kind) → flight.kind ≡ kind → IsFairKind flight kind
       → is_near (made me m) (record flight { kind = kind }) ≡ true → hears_none m.phase m.played ≡ false
       → ◌≡◌ {A = machine.Node × Heard}
-      (on_read rules me m flight.from (told_by kind) (Ok (packet_of (record flight { kind = kind }))))
-      (on_packet_in rules me m flight m.phase kind)
+      (on_read limits me m flight.from (told_by kind) (Ok (packet_of (record flight { kind = kind }))))
+      (on_packet_in limits me m flight m.phase kind)
   near_read (SetUp settings) is fair near on = set_up_heard settings m.phase refl fair.0 on
   near_read Play is fair near on =
       let close = and_parts _ _ near in
@@ -212,23 +211,23 @@ module _ {S : Type 0} (rules : Rules S) (me : ℕ) (m : machine.Node) (flight : 
   ended_heard : (phase : Phase) (played : Bool) (kind : Kind) → m.played ≡ played
       → hears_none phase played ≡ true
       → ◌≡◌ {A = machine.Node × Heard} (m, Heard.Dropped drops.not_playing)
-      (on_packet_in rules me m flight phase kind)
+      (on_packet_in limits me m flight phase kind)
   ended_heard (Ended cause) false kind at done = ap (λ (b : Bool). on_ended b me m flight kind) (sym at)
   ended_heard (Ended cause) true kind at done = absurd (cc)
   ended_heard Listening played kind at done = absurd (cc)
   ended_heard Gathering played kind at done = absurd (cc)
   ended_heard Playing played kind at done = absurd (cc)
 
-  pub near_received : IsFair flight → flight.from < rules.players → flight.from ≢ me
+  pub near_received : IsFair flight → flight.from < limits.players → flight.from ≢ me
       → is_near (made me m) flight ≡ true
       → ◌≡◌ {A = machine.Node × Heard}
-      (received rules me m flight.from (told_by flight.kind) (Ok (packet_of flight)))
-      (on_packet rules me m flight)
+      (received limits me m flight.from (told_by flight.kind) (Ok (packet_of flight)))
+      (on_packet limits me m flight)
   unfolding on_packet
   near_received fair below other near = elim (cases_Bool (hears_none m.phase m.played)) [
     | inl done ↦ rw done (ended_heard m.phase m.played flight.kind refl done)
     | inr on ↦
-        let there = lt-ltb flight.from rules.players below in
+        let there = lt-ltb flight.from limits.players below in
         let apart = ne_eqb flight.from me other in
         rw (on, there, apart) (near_read flight.kind refl fair.kind near on)
   ]
@@ -236,15 +235,13 @@ module _ {S : Type 0} (rules : Rules S) (me : ℕ) (m : machine.Node) (flight : 
 -- hence who hears any bytes by the tests hears a near flight as the machine does
 pub near_from_any : (old new : Contents) (from : ℕ) (bytes : List ℕ) (answer : Heard)
     → HearsAny from bytes old new answer → old.me < old.players → HearsNear from bytes old new answer
-near_from_any old new from bytes answer any own flight fair spelled sent below other near marking players
-    extra capacity me m r =
-    let rules = rules_of (free marking) players extra capacity in
-    let peer : flight.from < players = omega (arith, sent, below, r.whose.players) in
+near_from_any old new from bytes answer any own flight fair spelled sent below other near = steps any.same (λ limits me m r.
+    let peer : flight.from < limits.players = omega (arith, sent, below, r.whose.players) in
     let apart : flight.from ≢ me = λ e. other (sym sent ∙ e ∙ sym r.whose.number) in
     let close : is_near (made me m) flight ≡ true =
-    ap (λ (k : ℕ). is_near k flight) (sym (made_is rules me old m r own)) ∙ near in
-    let step = ap (λ (k : ℕ). received rules me m k (told_by flight.kind) (Ok (packet_of flight))) (sym sent)
-    ∙ near_received rules me m flight fair peer apart close in
-    let heard = any (Ok (packet_of flight)) (told_by flight.kind) (fair.packet, spelled)
-    (told_is flight flight.kind fair.kind) marking players extra capacity me m r in
-    after _ _ (sym step) heard.node heard.answer
+    ap (λ (k : ℕ). is_near k flight) (sym (made_is limits me old m r own)) ∙ near in
+    let step = ap (λ (k : ℕ). received limits me m k (told_by flight.kind) (Ok (packet_of flight))) (sym sent)
+    ∙ near_received limits me m flight fair peer apart close in
+    let heard = any.step (Ok (packet_of flight)) (told_by flight.kind) (fair.packet, spelled)
+    (told_is flight flight.kind fair.kind) limits me m r in
+    after _ _ (sym step) heard.node heard.answer)

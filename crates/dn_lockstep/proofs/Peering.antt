@@ -1,7 +1,7 @@
 -- A node that keeps something else of a peer.
 use Rattle.std.proofs.Common.{◌≡◌, ◌≢◌, ℕ, arith, ap, sym, ◌∙◌, inl, inr}
 use Rattle.std.proofs.lemmas.Bool.{cases_eq}
-use Rattle.dn_machine.specs.Worlds.{Rules}
+use Rattle.dn_machine.specs.Limits.{Limits}
 use Rattle.dn_machine.specs.Node as machine
 use Rattle.dn_machine.specs.Node.{with_peer, ends_of}
 use Rattle.dn_machine.proofs.Put.{put_at, put_off}
@@ -9,11 +9,11 @@ use Rattle.dn_machine.specs.declared.peer.Peer.{Peer}
 use Rattle.dn_lockstep.specs.Contents.{Contents}
 use Rattle.dn_lockstep.specs.Represents.{Represents, marked_to}
 
-pub shows_peer : {S : Type 0} {rules : Rules S} {me : ℕ} {n : Contents} {m : machine.Node}
-    (r : Represents rules me n m) (player : ℕ) {peer : Peer} (peers : ℕ → Peer)
+pub shows_peer : {limits : Limits} {me : ℕ} {n : Contents} {m : machine.Node}
+    (r : Represents limits me n m) (player : ℕ) {peer : Peer} (peers : ℕ → Peer)
     → marked_to (machine.ran m) peer.end ≡ marked_to (machine.ran m) (ends_of m player)
     → peers player ≡ peer → ((p : ℕ) → p ≢ player → peers p ≡ n.peers p)
-    → Represents rules me (record n { peers = peers }) (with_peer m player peer)
+    → Represents limits me (record n { peers = peers }) (with_peer m player peer)
 shows_peer {m = m} r player {peer} peers marked new others =
     let tics = machine.ran m in
     let kept : (p : ℕ) → marked_to tics (ends_of (with_peer m player peer) p)

@@ -5,7 +5,7 @@ use Rattle.dn_machine.specs.declared.answers.Phase.TheVariants.{Listening, Gathe
 use Rattle.dn_machine.specs.declared.answers.Cause.TheVariants.{Quit}
 use Rattle.dn_machine.specs.declared.answers.Cause.{Cause}
 use Rattle.dn_machine.specs.Node.{Node}
-use Rattle.dn_machine.specs.Worlds.{Rules}
+use Rattle.dn_machine.specs.Limits.{Limits}
 use Rattle.dn_machine.specs.Running.{on_quit, on_quit_in}
 use Rattle.dn_lockstep.specs.Contents.{Contents}
 use Rattle.dn_lockstep.specs.Represents.{Represents, demo_with}
@@ -27,10 +27,10 @@ module _ (m : Node) where
   quit_waiting (inr e) = ap (on_quit_in m) e
 
 -- a node that has not played has no demo to close
-pub shows_unplayed : {S : Type 0} (rules : Rules S) (me : ℕ) (n : Contents) (m : Node) (cause : Cause)
-    → Represents rules me n m → n.played ≡ false
-    → Represents rules me (record n { phase = Ended cause }) (record m { phase = Ended cause })
-shows_unplayed rules me n m cause r unplayed =
+pub shows_unplayed : (limits : Limits) (me : ℕ) (n : Contents) (m : Node) (cause : Cause)
+    → Represents limits me n m → n.played ≡ false
+    → Represents limits me (record n { phase = Ended cause }) (record m { phase = Ended cause })
+shows_unplayed limits me n m cause r unplayed =
     let not : m.played ≡ false = sym r.stands.played ∙ unplayed in
     record {
       whose = r.whose;
@@ -44,8 +44,8 @@ shows_unplayed rules me n m cause r unplayed =
       table = r.table;
       demo = record {
         bytes = r.demo.bytes
-            ∙ ap (λ (b : Bool). if b then demo_with rules me m m.settings else []) not
-            ∙ sym (ap (λ (b : Bool). if b then demo_with rules me (record m { phase = Ended cause })
+            ∙ ap (λ (b : Bool). if b then demo_with limits me m m.settings else []) not
+            ∙ sym (ap (λ (b : Bool). if b then demo_with limits me (record m { phase = Ended cause })
             m.settings else []) not);
         closed = λ e. absurd (true≢false (sym e ∙ not));
         writable = r.demo.writable;

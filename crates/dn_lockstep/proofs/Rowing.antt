@@ -1,5 +1,5 @@
 -- The row of a tic, filled in seat by seat.
-use Rattle.std.proofs.Common.{◌≡◌, ◌<◌, ◌+◌, ℕ, zero, suc, Bool, true, false, List, [], ◌∷◌, length, get_or, map, set, ltb, Option, Some, None, is_some, refl, ap, sym, ◌∙◌, arith, inl, inr}
+use Rattle.std.proofs.Common.{◌≡◌, ◌<◌, ◌+◌, ℕ, zero, suc, Bool, true, false, List, [], ◌∷◌, length, get_or, map, set, Option, Some, None, is_some, refl, ap, sym, ◌∙◌, arith, inl, inr}
 use Rattle.std.specs.Prelude.{if◌then◌else◌}
 use Rattle.std.proofs.lemmas.Bool.{cases_eq}
 use Rattle.std.proofs.lemmas.List.{get_or-set_same, get_or-set_other, set-get_or}
@@ -8,12 +8,12 @@ use Rattle.dn_tic.specs.declared.command.TicCmd.{TicCmd}
 use Rattle.dn_tic.specs.declared.command.Move.{Move}
 use Rattle.dn_tic.specs.Command.{used}
 use Rattle.dn_ring.specs.Ring.{Ring, get}
-use Rattle.dn_machine.specs.Worlds.{four}
 use Rattle.dn_machine.specs.Node.{lacks, is_whole}
 use Rattle.dn_machine.proofs.Demos.{none_is}
 use Rattle.dn_lockstep.specs.Rows.{is_gone, move_held, seats_of}
-use Rattle.dn_lockstep.proofs.Seats.{whole_seat, whole_each}
+use Rattle.dn_lockstep.proofs.Seats.{seats_whole}
 use Rattle.dn_machine.specs.declared.peer.Peer.{Peer}
+use Rattle.dn_machine.specs.Limits.{four, row_of}
 
 module _ (rings : ℕ → Ring) (peers : ℕ → Peer) (tic : ℕ) where
   -- the move of a player of the game
@@ -59,14 +59,11 @@ module _ (rings : ℕ → Ring) (peers : ℕ → Peer) (tic : ℕ) where
   own_gone player gone = rw gone refl
 
   -- the seats of a whole row are those of the players
-  pub seats_whole : (players : ℕ) → is_whole players (seats_below players) ≡ true
+  pub whole_below : (players : ℕ) → is_whole players (seats_below players) ≡ true
       → map is_some (seats_below players) ≡ seats_of players
-  seats_whole players whole =
-      let each = whole_each players (seats_below players) whole in
-      let seat : (p : ℕ) → (ltb p players ≡ true → is_none (move_held rings peers players tic p) ≡ false)
-      → is_some (move_held rings peers players tic p) ≡ ltb p players =
-      λ p here. whole_seat (ltb p players) (move_held rings peers players tic p) (own p) refl here in
-      λ i. seat 0 (each 0) i ∷ seat 1 (each 1) i ∷ seat 2 (each 2) i ∷ seat 3 (each 3) i ∷ []
+  unfolding row_of
+  whole_below players whole =
+      seats_whole players (λ p. if is_gone peers tic p then None else get (rings p) tic) whole
 
 -- one seat more that is empty where its player is gone
 pub seats_more : (row : List (Option Move)) (gone : ℕ → Bool) (player : ℕ) → lacks row player ≡ gone player

@@ -11,7 +11,7 @@ use Rattle.dn_setup.specs.Settings.{Settings, IsSettings}
 use Rattle.dn_setup.specs.Setup.{setup_packet}
 use Rattle.dn_machine.specs.declared.answers.Phase.{Phase}
 use Rattle.dn_machine.specs.declared.answers.Phase.TheVariants.{Listening, Gathering, Playing, Ended}
-use Rattle.dn_machine.specs.Worlds.{Rules}
+use Rattle.dn_machine.specs.Limits.{Limits}
 use Rattle.dn_machine.specs.Node as machine
 use Rattle.dn_machine.specs.Flight.{Kind, SetUp, Play, Exit, Flight, request_byte, packet_of, packet_of_kind}
 use Rattle.dn_machine.specs.Sending.{on_send_in, set_up_flight}
@@ -34,8 +34,8 @@ pub record IsOwn (m : machine.Node) (me : ℕ) (flight : Flight) : Type 0 where
   pub commands : flight.commands ≡ drop flight.start (m.held me)
 
 -- only a gathering node sends anything but its own commands
-module _ {S : Type 0} (rules : Rules S) (me : ℕ) (m : machine.Node) (to : ℕ) where
-  sends_own : (phase : Phase) → phase ≢ Gathering → IfSome (on_send_in rules me m to phase).1 (IsOwn m me)
+module _ (limits : Limits) (me : ℕ) (m : machine.Node) (to : ℕ) where
+  sends_own : (phase : Phase) → phase ≢ Gathering → IfSome (on_send_in limits me m to phase).1 (IsOwn m me)
   sends_own Listening n = tt
   sends_own Gathering n = absurd (n refl)
   sends_own Playing n = record { from = refl; kind = inl refl; commands = refl }
@@ -44,13 +44,13 @@ module _ {S : Type 0} (rules : Rules S) (me : ℕ) (m : machine.Node) (to : ℕ)
       (λ has. record { from = refl; kind = inr refl; commands = refl }) (λ never. tt)
 
 -- so does a node that represents it
-own_sent : {S : Type 0} (rules : Rules S) (me : ℕ) (n : Contents) (m : machine.Node) (to : ℕ)
-    → Represents rules me n m → Gives n to → n.phase ≢ Gathering
-    → IfSome (sent_to to rules me m).1 (IsOwn m me)
-own_sent rules me n m to r given on =
+own_sent : (limits : Limits) (me : ℕ) (n : Contents) (m : machine.Node) (to : ℕ)
+    → Represents limits me n m → Gives n to → n.phase ≢ Gathering
+    → IfSome (sent_to to limits me m).1 (IsOwn m me)
+own_sent limits me n m to r given on =
     let P : machine.Node × Option Flight → Type 0 = λ x. IfSome x.1 (IsOwn m me) in
-    subst P (sym (sends_in rules me n m to _ r given.below given.other r.stands.phase))
-    (sends_own rules me m to m.phase (λ e. on (r.stands.phase ∙ e)))
+    subst P (sym (sends_in limits me n m to _ r given.below given.other r.stands.phase))
+    (sends_own limits me m to m.phase (λ e. on (r.stands.phase ∙ e)))
 
 -- a packet of commands is its numbers and its commands
 whole_packet : (flight : Flight) (kind : Kind) → (kind ≡ Play) ⊎ (kind ≡ Exit)
@@ -79,14 +79,14 @@ pub record IsGivenAs (packet : Packet) (sent : Option Flight) : Type 0 where
   pub same : Some packet ≡ option_map packet_of sent
   pub fair : IfSome sent IsFair
 
-module _ {S : Type 0} {rules : Rules S} {me : ℕ} {n : Contents} {m : machine.Node}
-    (r : Represents rules me n m) (inside : n.me < n.players) where
+module _ {limits : Limits} {me : ℕ} {n : Contents} {m : machine.Node}
+    (r : Represents limits me n m) (inside : n.me < n.players) where
   -- the packet of a flight's numbers is the flight's
   own_spelled : (aim : Aim) → Reaches n aim → (flight : Flight) → IsOwn m me flight → aim ≡ aim_of flight
       → packet_of_aim n aim ≡ packet_of flight
   own_spelled aim reach flight own e =
       let ring : n.rings n.me ≡ ring_of (m.held n.me) =
-      r.commands.rings n.me (below rules me n m r n.me inside) in
+      r.commands.rings n.me (below limits me n m r n.me inside) in
       let count : count_of n.rings n.me ≡ length (m.held n.me) = ap (λ (x : Ring). x.count) ring in
       let near = reach.high in
       let start : aim.start ≡ flight.start = ap (λ (x : Aim). x.start) e in
@@ -123,18 +123,18 @@ module _ {S : Type 0} {rules : Rules S} {me : ℕ} {n : Contents} {m : machine.N
 
     -- a node that gives its own commands
     pub own_given : {to : ℕ} → Gives n to → n.phase ≢ Gathering
-        → ◌≡◌ {A = Option Aim} (Some aim) (option_map aim_of (sent_to to rules me m).1)
-        → IsGivenAs packet (sent_to to rules me m).1
-    own_given {to} given on = own_as _ (own_sent rules me n m to r given on)
+        → ◌≡◌ {A = Option Aim} (Some aim) (option_map aim_of (sent_to to limits me m).1)
+        → IsGivenAs packet (sent_to to limits me m).1
+    own_given {to} given on = own_as _ (own_sent limits me n m to r given on)
 
   -- and one that gives its settings, as player 0 does
   pub set_up_given : {to : ℕ} {settings : Settings} {packet : Packet} → Gives n to → n.phase ≡ Gathering
       → n.me ≡ 0 → n.settings ≡ Some settings
       → packet ≡ setup_packet settings → IsPacket packet → IsSettings settings
-      → IsGivenAs packet (sent_to to rules me m).1
+      → IsGivenAs packet (sent_to to limits me m).1
   set_up_given {to} {settings} {packet} given on key known is valid range =
       let P : Option Flight → Type 0 = IsGivenAs packet in
-      let sends = sends_in rules me n m to _ r given.below given.other on in
+      let sends = sends_in limits me n m to _ r given.below given.other on in
       subst P (sym (ap (λ (x : machine.Node × Option Flight). x.1) sends
       ∙ ap (set_up_flight me to) (sym r.stands.settings ∙ known)))
       (record {

@@ -1,5 +1,5 @@
 -- What a node represents once it has started.
-use Rattle.std.proofs.Common.{◌≡◌, ◌<◌, ℕ, true, false, List, [], length, refl, ap, sym, ◌∙◌, arith, Option, Some}
+use Rattle.std.proofs.Common.{◌≡◌, ◌<◌, ℕ, true, false, List, [], length, refl, ap, sym, ◌∙◌, Option, Some}
 use Rattle.dn_tic.specs.declared.command.Move.{Move}
 use Rattle.dn_setup.specs.Settings.{Settings}
 use Rattle.dn_setup.specs.Starts.{start_of}
@@ -11,31 +11,29 @@ use Rattle.std.specs.Prelude.{nat_lt}
 use Rattle.dn_demo.specs.Layout.{long_tics}
 use Rattle.dn_demo.specs.Text.{demo_text}
 use Rattle.dn_machine.specs.declared.answers.Phase.TheVariants.{Playing}
-use Rattle.dn_machine.specs.Worlds.{Rules}
+use Rattle.dn_machine.specs.Limits.{Limits}
 use Rattle.dn_machine.specs.Node as machine
-use Rattle.dn_machine.specs.Node.{own_mark, is_whole, ends_of}
+use Rattle.dn_machine.specs.Node.{own_mark, is_whole}
 use Rattle.dn_machine.specs.Hearing.{started}
 use Rattle.dn_lockstep.specs.Contents.{Contents}
 use Rattle.dn_lockstep.specs.Represents.{Represents}
 use Rattle.dn_lockstep.specs.Rows.{seats_of}
 use Rattle.dn_lockstep.proofs.Opening.{first_marks}
-use Rattle.dn_lockstep.proofs.Marked.{marked_low}
 
 -- the mark of an early tic is 0 by any node
-pub early_mark : {S : Type 0} (rules : Rules S) (m other : machine.Node) (p tic : ℕ) → tic < 12
-    → own_mark rules m p tic ≡ own_mark rules other p tic
-early_mark rules m other p tic low = sym (first_marks rules m p tic low) ∙ first_marks rules other p tic low
+pub early_mark : (m other : machine.Node) (p tic : ℕ) → tic < 12
+    → own_mark m p tic ≡ own_mark other p tic
+early_mark m other p tic low = sym (first_marks m p tic low) ∙ first_marks other p tic low
 
-pub shows_start : {S : Type 0} (rules : Rules S) (me : ℕ) (n : Contents) (m : machine.Node)
+pub shows_start : (limits : Limits) (me : ℕ) (n : Contents) (m : machine.Node)
     (settings : Settings) (demo : Recorded)
-    → Represents rules me n m → n.ran ≡ 0
-    → demo.stage ≡ Open → demo.bytes ≡ demo_text long_tics (start_of settings) me (seats_of rules.players) []
+    → Represents limits me n m → n.ran ≡ 0
+    → demo.stage ≡ Open → demo.bytes ≡ demo_text long_tics (start_of settings) me (seats_of limits.players) []
     false
-    → Represents rules me (record n { phase = Playing; played = true; settings = Some settings; demo = demo })
+    → Represents limits me (record n { phase = Playing; played = true; settings = Some settings; demo = demo })
     (started m settings)
-shows_start {S} rules me n m settings demo r unrun is_open written =
+shows_start limits me n m settings demo r unrun is_open written =
     let none : m.rows ≡ [] = nil_from_length m.rows (sym r.table.ran ∙ unrun) in
-    let zero : length m.rows ≡ 0 = sym r.table.ran ∙ unrun in
     record {
       whose = r.whose;
       stands = record {
@@ -47,18 +45,15 @@ shows_start {S} rules me n m settings demo r unrun is_open written =
       peers = r.peers;
       table = record {
         ran = r.table.ran;
-        marks = λ p tic below low high.
-            let few = marked_low (machine.ran m) (ends_of m p) in
-            r.table.marks p tic below low high
-            ∙ early_mark rules m (started m settings) p tic (omega (arith, zero, high, few));
+        marks = r.table.marks;
       };
       demo = record {
         bytes = written
             ∙ ap (λ (rs : List (List (Option Move))). demo_text long_tics (start_of settings) me
-            (seats_of rules.players) (take_while (is_whole rules.players) rs)
-            (nat_lt (length (take_while (is_whole rules.players) rs)) (length rs))) (sym none);
+            (seats_of limits.players) (take_while (is_whole limits.players) rs)
+            (nat_lt (length (take_while (is_whole limits.players) rs)) (length rs))) (sym none);
         closed = λ e. ap is_closed is_open
-            ∙ ap (λ (rs : List (List (Option Move))). nat_lt (length (take_while (is_whole rules.players) rs))
+            ∙ ap (λ (rs : List (List (Option Move))). nat_lt (length (take_while (is_whole limits.players) rs))
             (length rs)) (sym none);
         writable = r.demo.writable;
       };

@@ -9,7 +9,7 @@ use Rattle.dn_packet.specs.Flags as flag
 use Rattle.dn_ring.specs.Ring.{Ring, ring_of}
 use Rattle.dn_machine.specs.declared.answers.Heard.{Heard}
 use Rattle.dn_machine.specs.Drops as drops
-use Rattle.dn_machine.specs.Worlds.{Rules}
+use Rattle.dn_machine.specs.Limits.{Limits}
 use Rattle.dn_machine.specs.Flight.{Play, Exit, Flight, is_exit, end_of}
 use Rattle.dn_machine.specs.Node as machine
 use Rattle.dn_machine.specs.Node.{put, with_peer, ends_of}
@@ -102,25 +102,25 @@ kind_is : (set : Bool) → is_exit (if set then Exit else Play) ≡ set
 kind_is true = refl
 kind_is false = refl
 
-module _ {S : Type 0} {rules : Rules S} {me : ℕ} {n : Contents} {m : machine.Node}
-    (r : Represents rules me n m)
+module _ {limits : Limits} {me : ℕ} {n : Contents} {m : machine.Node}
+    (r : Represents limits me n m)
     {from : ℕ} {packet : Packet} {made start : ℕ} (read : IsRead n from packet made start)
   where
     same_made : made ≡ machine.made me m
-    same_made = read.count ∙ made_is rules me n m r read.own
+    same_made = read.count ∙ made_is limits me n m r read.own
 
     same_start : start_in (machine.made me m) packet ≡ Ok start
     same_start = ap (λ (k : ℕ). start_in k packet) (sym same_made) ∙ read.told
 
     same_peer : n.peers from ≡ m.peers from
-    same_peer = r.peers.known from (below rules me n m r from read.peer)
+    same_peer = r.peers.known from (below limits me n m r from read.peer)
 
     -- at a node that has played and ended
     pub leaver_asked : (cause : Cause) (peers : ℕ → Peer) → n.played ≡ true
         → has_flag packet flag.exit ≡ false
         → peers from ≡ after_request made (n.peers from) (request_in made packet)
         → ((p : ℕ) → p ≢ from → peers p ≡ n.peers p)
-        → IsAfter rules me (record n { peers = peers }) (on_player rules me m from packet (Ended cause))
+        → IsAfter limits me (record n { peers = peers }) (on_player limits me m from packet (Ended cause))
         (λ heard. Heard.Noted ≡ heard)
     leaver_asked cause peers played stays is others =
         let asks = request_in (machine.made me m) packet in
@@ -128,7 +128,7 @@ module _ {S : Type 0} {rules : Rules S} {me : ℕ} {n : Contents} {m : machine.N
         ≡ after_request (machine.made me m) (m.peers from) asks =
         λ i. after_request (same_made i) (same_peer i) (request_in (same_made i) packet) in
         after (with_peer m from (after_request (machine.made me m) (m.peers from) asks)) Heard.Noted
-        (left_asked rules me m from packet cause (sym r.stands.played ∙ played) start stays same_start)
+        (left_asked limits me m from packet cause (sym r.stands.played ∙ played) start stays same_start)
         (shows_peer r from peers
         (ap (marked_to (machine.ran m)) (asked_end (machine.made me m) (m.peers from) asks)) (is ∙ same)
         others)
@@ -141,11 +141,11 @@ module _ {S : Type 0} {rules : Rules S} {me : ℕ} {n : Contents} {m : machine.N
       same_length : length commands ≡ length packet.cmds.items
       same_length = ap (length {A = TicCmd}) items
 
-      step : ◌≡◌ {A = machine.Node × Heard} (on_player rules me m from packet Playing) (on_commands me m f)
-      step = player_takes rules me m from packet start same_start
+      step : ◌≡◌ {A = machine.Node × Heard} (on_player limits me m from packet Playing) (on_commands me m f)
+      step = player_takes limits me m from packet start same_start
 
       pub over_shows : n.ran + 12 < start + length commands
-          → IsAfter rules me n (on_player rules me m from packet Playing)
+          → IsAfter limits me n (on_player limits me m from packet Playing)
           (λ heard. Heard.Dropped drops.overrun ≡ heard)
       over_shows past = after m (Heard.Dropped drops.overrun)
           (step ∙ over me m f (omega (arith, past, r.table.ran, same_length))) r refl
@@ -159,7 +159,7 @@ module _ {S : Type 0} {rules : Rules S} {me : ℕ} {n : Contents} {m : machine.N
         fits = le-ltb (machine.ran m + 12) (end_of f) (omega (arith, room, r.table.ran, same_length))
 
         had : got ≡ machine.got m from
-        had = counted ∙ got_is rules me n m r from read.peer
+        had = counted ∙ got_is limits me n m r from read.peer
 
         same_end_of : start + length commands ≡ end_of f
         same_end_of = ap (λ (k : ℕ). start + k) same_length
@@ -169,7 +169,7 @@ module _ {S : Type 0} {rules : Rules S} {me : ℕ} {n : Contents} {m : machine.N
         odd_is = λ i. is_strange_end (exits_is i) (had i) (same_peer i).end (same_end_of i)
 
         pub odd_shows : is_strange_end exit got (n.peers from).end (start + length commands) ≡ true
-            → IsAfter rules me n (on_player rules me m from packet Playing)
+            → IsAfter limits me n (on_player limits me m from packet Playing)
             (λ heard. Heard.Dropped drops.strange_end ≡ heard)
         odd_shows strange = after m (Heard.Dropped drops.strange_end)
             (step ∙ odd me m f fits (sym odd_is ∙ strange)) r refl
@@ -195,7 +195,7 @@ module _ {S : Type 0} {rules : Rules S} {me : ℕ} {n : Contents} {m : machine.N
               (request_in (same_made i) packet)) (exits_is i) (same_end_of i))
 
           pub stale_shows : start + length commands ≤ got → peers from ≡ q
-              → IsAfter rules me (record n { peers = peers }) (on_player rules me m from packet Playing)
+              → IsAfter limits me (record n { peers = peers }) (on_player limits me m from packet Playing)
               (λ heard. left_or exit Heard.Stale ≡ heard)
           stale_shows old is =
               after (with_peer m from (asked me m f)) (left_or (is_exit f.kind) Heard.Stale)
@@ -204,7 +204,7 @@ module _ {S : Type 0} {rules : Rules S} {me : ℕ} {n : Contents} {m : machine.N
               (ap (λ (b : Bool). left_or b Heard.Stale) exits_is)
 
           pub gap_shows : got < start + length commands → got < start → peers from ≡ record q { want = true }
-              → IsAfter rules me (record n { peers = peers }) (on_player rules me m from packet Playing)
+              → IsAfter limits me (record n { peers = peers }) (on_player limits me m from packet Playing)
               (λ heard. Heard.Gap ≡ heard)
           gap_shows new far is =
               after (with_peer m from (record (asked me m f) { want = true })) Heard.Gap
@@ -218,14 +218,14 @@ module _ {S : Type 0} {rules : Rules S} {me : ℕ} {n : Contents} {m : machine.N
               → rings from ≡ ring_of
               (held ++ take (length commands - (got - start)) (drop (got - start) commands)))
               → ((p : ℕ) → p ≢ from → rings p ≡ n.rings p)
-              → IsAfter rules me (record n { peers = peers; rings = rings })
-              (on_player rules me m from packet Playing)
+              → IsAfter limits me (record n { peers = peers; rings = rings })
+              (on_player limits me m from packet Playing)
               (λ heard. left_or exit (Heard.Taken (start + length commands - got)) ≡ heard)
           taken_shows rings new near is kept apart =
               let held = m.held from in
               let skip : ℕ = machine.got m from - start in
               let rest : rings from ≡ ring_of (held ++ drop skip packet.cmds.items) =
-              kept held (r.commands.rings from (below rules me n m r from read.peer))
+              kept held (r.commands.rings from (below limits me n m r from read.peer))
               ∙ ap (λ (xs : List TicCmd). ring_of (held ++ xs)) (take_rest commands (got - start))
               ∙ (λ i. ring_of (held ++ drop (had i - start) (items i))) in
               let counts : start + length commands - got
@@ -237,6 +237,6 @@ module _ {S : Type 0} {rules : Rules S} {me : ℕ} {n : Contents} {m : machine.N
               (step ∙ taken me m f fits fine (omega (arith, new, had, same_length))
               (omega (arith, near, had)))
               (shows_commands (shows_peer r from peers (flight_marked me m f fine caught_up)
-              (is ∙ ap (λ (x : Peer). record x { want = false }) same_asked) others) from n.hold m.keys _
+              (is ∙ ap (λ (x : Peer). record x { want = false }) same_asked) others) from n.hold m.inputs _
               rings r.commands.hold rest apart)
               (λ i. left_or (exits_is i) (Heard.Taken (counts i)))

@@ -7,6 +7,7 @@ use Rattle.dn_demo.specs.Recorded.{Recorded}
 use Rattle.dn_machine.specs.declared.answers.Phase.{Phase}
 use Rattle.dn_lockstep.specs.declared.lockstep.Lockstep.{Lockstep}
 use Rattle.dn_machine.specs.declared.peer.Peer.{Peer}
+use Rattle.dn_machine.specs.Limits.{Limits}
 use Rattle.dn_machine.specs.Node.{is_ended}
 use Rattle.dn_lockstep.specs.Rings.{ring_at, count_of}
 use Rattle.dn_lockstep.specs.Peers.{peer_at}
@@ -51,6 +52,20 @@ contents lockstep =
       marks = slot lockstep.marks;
       demo = lockstep.demo;
     }
+
+-- the limits of its game
+abbrev pub limits_of : Contents → Limits
+limits_of n = record { players = n.players; extra = n.extra; capacity = n.capacity }
+
+-- whose a lockstep is, and of what game
+pub record Whose : Type 0 where
+  pub limits : Limits
+  pub me : ℕ
+  -- how many bytes its demo may have
+  pub limit : ℕ
+
+abbrev pub whose : Contents → Whose
+whose n = record { limits = limits_of n; me = n.me; limit = n.demo.limit }
 
 -- a player's end as it knows it: its own once it has played and ended, another's once it was told
 abbrev pub end_in : Contents → ℕ → Option ℕ

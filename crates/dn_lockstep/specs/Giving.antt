@@ -50,7 +50,7 @@ gives n to = nat_lt to n.players && (not (to == n.me) && is_giving n.phase n.pla
 abbrev pub IsSentTo : ℕ → Contents → Contents → List ℕ → List ℕ → ℕ → Type 0
 IsSentTo to old new room written count =
     (given : Option (List ℕ)) × IsGiven given room written count
-    × Steps old new (λ rules me m. sent_to to rules me m) (λ flight. given ≡ option_map bytes_of flight)
+    × Steps old new (λ limits me m. sent_to to limits me m) (λ flight. given ≡ option_map bytes_of flight)
 
 -- nothing is written where none is given, and the node stays as it is; and else at least the eight bytes of a
 -- packet's head

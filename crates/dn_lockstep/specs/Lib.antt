@@ -6,10 +6,15 @@ pub mod Reading
 pub mod Phases
 pub mod Contents
 pub mod Represents
+pub mod Commands
 pub mod Marking
 pub mod Steps
 pub mod Runs
+pub mod Session
 pub mod OneGame
+pub mod Told
+pub mod Demos
+pub mod Agreed
 pub mod Opening
 pub mod Sent
 pub mod Giving

@@ -1,48 +1,58 @@
--- The locksteps of one game, and what is promised of them.
-use Rattle.std.specs.Prelude.{◌≡◌, ◌≢◌, ◌<◌, ℕ, ℤ, true, List, Some}
+-- The locksteps of one game.
+use Rattle.std.specs.Prelude.{◌≡◌, ◌<◌, ℕ, false, List, Option, Some, IfSome, slice_get}
+use Rattle.std.specs.Option.{option_map}
+use Rattle.dn_tic.specs.declared.command.Move.{Move}
 use Rattle.dn_setup.specs.Settings.{Settings}
 use Rattle.dn_setup.specs.Starts.{start_of}
-use Rattle.dn_demo.specs.Layout.{long_tics}
-use Rattle.dn_demo.specs.Text.{demo_text}
-use Rattle.dn_machine.specs.declared.answers.Cause.TheVariants as Cause
-use Rattle.dn_machine.specs.declared.answers.Phase.TheVariants.{Ended}
 use Rattle.dn_machine.specs.declared.events.Event.{Event}
+use Rattle.dn_machine.specs.Flight.{Flight}
 use Rattle.dn_machine.specs.Game.{Game}
-use Rattle.dn_machine.specs.Node as machine
-use Rattle.dn_machine.specs.Node.{demo_rows}
-use Rattle.dn_machine.specs.Promise.{Agree, Fits, Steady}
+use Rattle.dn_machine.specs.Limits.{Limits}
 use Rattle.dn_machine.specs.Runs.{Runs}
 use Rattle.dn_machine.specs.Worlds.{Rules}
 use Rattle.dn_lockstep.specs.Contents.{Contents}
-use Rattle.dn_lockstep.specs.Represents.{Represents, is_demo_closed}
+use Rattle.dn_lockstep.specs.Marking.{History, Marking, free}
+use Rattle.dn_lockstep.specs.Near.{IsFair}
+use Rattle.dn_lockstep.specs.Represents.{Represents}
 use Rattle.dn_lockstep.specs.Rows.{seats_of}
+use Rattle.dn_lockstep.specs.declared.lockstep.aiming.Aim.{Aim}
+use Rattle.dn_lockstep.specs.Sent.{sent_to, aim_of, bytes_of}
+use Rattle.dn_lockstep.specs.Steps.{Tells}
+use Rattle.dn_lockstep.specs.Session.{Session}
 
--- each player's lockstep represents the player's node of one game of the machine, to which these events lead.
--- The contracts of the calls keep this true, as long as every call is one of the events and every caller
--- hands in its own world's marks
-pub record AreOneGame {S : Type 0} (rules : Rules S) (settings : Settings) (events : List Event)
-    (locksteps : ℕ → Contents) : Type 0 where
-  pub last : Game
-  pub runs : Runs rules settings events last
-  pub nodes : (player : ℕ) → player < rules.players
-      → Represents rules player (locksteps player) (last.nodes player)
+-- the rules of a game whose callers step worlds with these marks
+abbrev pub beside : Marking → Limits → Rules History
+beside marking limits = record { physics = free marking; limits = limits }
 
--- what is promised of them: all that is promised of nodes with worlds
-pub record ArePromised {S : Type 0} (rules : Rules S) (settings : Settings) (game : Game)
-    (locksteps : ℕ → Contents) : Type 0 where
-  -- the rows told for a tic are the same at all of them, and those of the key states of all builds
-  pub agree : Agree rules settings game
-  pub ran : (p : ℕ) → p < rules.players → (locksteps p).ran ≡ machine.ran (game.nodes p)
-  -- no ring overwrites a command that is still needed
-  pub fits : Fits rules game
-  -- no packet that was truly sent is taken for wrong, and no check failed
-  pub steady : Steady rules game
-  pub consistent : (p player : ℕ) (was should : ℤ) → p < rules.players
-      → (locksteps p).phase ≢ Ended (Cause.Inconsistent player was should)
-  -- whoever has started has the key player's settings, and as its demo the rows before the first that lacks a
-  -- player
-  pub settings_same : (p : ℕ) → p < rules.players → (locksteps p).played ≡ true
-      → (locksteps p).settings ≡ Some settings
-  pub demos : (p : ℕ) → p < rules.players → (locksteps p).played ≡ true
-      → (locksteps p).demo.bytes ≡ demo_text long_tics (start_of settings) p (seats_of rules.players)
-      (demo_rows rules (game.nodes p)) (is_demo_closed rules (game.nodes p))
+-- a caller's world: it was begun with the settings' start and the taken seats, and stepped by the rows that
+-- the caller was told
+abbrev pub world_told : Limits → Settings → List (List (Option Move)) → History
+world_told limits settings rows =
+    record { start = start_of settings; present = seats_of limits.players; rows = rows }
+
+-- each player's lockstep represents the player's node of one game of the machine, in which these inputs were
+-- taken, these packets given, and these rows told
+pub record AreOneGame (marking : Marking) (limits : Limits) (settings : Settings) (session : Session) : Type 0
+  where
+    pub events : List Event
+    pub last : Game
+    pub runs : Runs (beside marking limits) settings events last
+    pub nodes : (player : ℕ) → player < limits.players
+        → Represents limits player (session.locksteps player) (last.nodes player)
+    pub inputs : (player : ℕ) → (last.nodes player).inputs ≡ session.inputs player
+    pub flights : last.flights ≡ session.given
+    pub rows : (player : ℕ) → (last.nodes player).rows ≡ session.told player
+    -- a packet that was given is one that a datagram can carry
+    pub fair : (which : ℕ) (flight : Flight) → slice_get session.given which ≡ Some flight → IsFair flight
+    -- nobody was stopped
+    pub going : (player : ℕ) → last.stopped player ≡ false
+
+-- what a caller has of the packet that a lockstep gave it, if there is one: who it is from and goes to, its
+-- bytes, and its exact numbers, if the caller asked for them before
+pub record IsGivenAs (n : Contents) (sender receiver : ℕ) (spelling : Option (List ℕ)) (flight : Option Flight)
+    : Type 0 where
+  pub players : IfSome flight (λ flight. (flight.from ≡ sender) × (flight.to ≡ receiver))
+  pub bytes : spelling ≡ option_map bytes_of flight
+  pub aim : (numbers : Option Aim)
+      → Tells n (λ limits me m. numbers ≡ option_map aim_of (sent_to receiver limits me m).1)
+      → numbers ≡ option_map aim_of flight

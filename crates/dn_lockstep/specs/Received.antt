@@ -13,7 +13,7 @@ use Rattle.dn_machine.specs.declared.answers.Phase.{Phase}
 use Rattle.dn_machine.specs.declared.answers.Phase.TheVariants.{Listening, Gathering, Playing, Ended}
 use Rattle.dn_machine.specs.declared.answers.Heard.{Heard}
 use Rattle.dn_machine.specs.Drops as drops
-use Rattle.dn_machine.specs.Worlds.{Rules}
+use Rattle.dn_machine.specs.Limits.{Limits}
 use Rattle.dn_machine.specs.Node as machine
 use Rattle.dn_machine.specs.Node.{made}
 use Rattle.dn_machine.specs.Flight.{Kind, SetUp, Flight, is_exit}
@@ -22,10 +22,10 @@ use Rattle.dn_lockstep.specs.Phases.{is_listening, hears_none}
 use Rattle.dn_lockstep.specs.Reading.{has_flag, kind_in, start_in, flight_in}
 
 -- what passed the tests is heard as the machine hears it, and what failed one is dropped
-abbrev pub heard_as : {S : Type 0} → Rules S → ℕ → machine.Node → Phase → Result Flight ℕ
+abbrev pub heard_as : Limits → ℕ → machine.Node → Phase → Result Flight ℕ
     → machine.Node × Heard
-heard_as rules me m phase (Err number) = (m, Heard.Dropped number)
-heard_as rules me m phase (Ok flight) = on_packet_in rules me m flight phase flight.kind
+heard_as limits me m phase (Err number) = (m, Heard.Dropped number)
+heard_as limits me m phase (Ok flight) = on_packet_in limits me m flight phase flight.kind
 
 -- a packet of commands that start at this tic, if they do at any
 abbrev pub flight_at : ℕ → ℕ → ℕ → Packet → Result ℕ ℕ → Result Flight ℕ
@@ -103,26 +103,26 @@ flight_from players from me made played told read phase =
     else read_flight from me made told read phase)
 
 -- a datagram of this number that is read so, and tells these settings if it is a set-up packet
-abbrev pub received : {S : Type 0} → Rules S → ℕ → machine.Node → ℕ → Result Settings SetupFault
+abbrev pub received : Limits → ℕ → machine.Node → ℕ → Result Settings SetupFault
     → Result Packet PacketFault → machine.Node × Heard
-received rules me m from told read = heard_as rules me m m.phase
-    (flight_from rules.players from me (made me m) m.played told read m.phase)
+received limits me m from told read = heard_as limits me m m.phase
+    (flight_from limits.players from me (made me m) m.played told read m.phase)
 
 -- the same of a peer's datagram
-abbrev pub on_read : {S : Type 0} → Rules S → ℕ → machine.Node → ℕ → Result Settings SetupFault
+abbrev pub on_read : Limits → ℕ → machine.Node → ℕ → Result Settings SetupFault
     → Result Packet PacketFault → machine.Node × Heard
-on_read rules me m from told read = heard_as rules me m m.phase
+on_read limits me m from told read = heard_as limits me m m.phase
     (read_flight from me (made me m) told read m.phase)
 
 -- of its set-up packet
-abbrev pub on_set_up : {S : Type 0} → Rules S → ℕ → machine.Node → ℕ → Result Settings SetupFault → Phase
+abbrev pub on_set_up : Limits → ℕ → machine.Node → ℕ → Result Settings SetupFault → Phase
     → machine.Node × Heard
-on_set_up rules me m from told phase = heard_as rules me m phase (setup_flight from me told phase)
+on_set_up limits me m from told phase = heard_as limits me m phase (setup_flight from me told phase)
 
 -- and of its packet of commands
-abbrev pub on_player : {S : Type 0} → Rules S → ℕ → machine.Node → ℕ → Packet → Phase → machine.Node × Heard
-on_player rules me m from packet phase =
-    heard_as rules me m phase (player_flight from me (made me m) packet phase)
+abbrev pub on_player : Limits → ℕ → machine.Node → ℕ → Packet → Phase → machine.Node × Heard
+on_player limits me m from packet phase =
+    heard_as limits me m phase (player_flight from me (made me m) packet phase)
 
 -- what a packet tells as a set-up packet
 abbrev pub IsTold : Result Packet PacketFault → Result Settings SetupFault → Type 0

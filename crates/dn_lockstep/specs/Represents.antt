@@ -1,6 +1,7 @@
 -- When a lockstep represents a node of the machine.
 use Rattle.std.specs.Prelude.{◌≡◌, ℕ, ◌+◌, ◌%◌, ◌<◌, ◌≤◌, min, ℤ, Bool, true, ◌||◌, nat_lt, List, [], length, Option, Some, None, if◌then◌else◌}
-use Rattle.dn_tic.specs.Pressed.{turn_hold}
+use Rattle.dn_tic.specs.declared.input.Input.{Input}
+use Rattle.dn_tic.specs.Inputs.{hold_of}
 use Rattle.dn_tic.specs.declared.command.Move.{Move}
 use Rattle.dn_tic.specs.declared.command.TicCmd.{TicCmd}
 use Rattle.dn_ring.specs.Ring.{Ring, ring_of}
@@ -12,7 +13,7 @@ use Rattle.dn_demo.specs.Text.{demo_text}
 use Rattle.dn_demo.specs.Recorded.{Recorded, is_closed}
 use Rattle.dn_demo.specs.Rows.{AreWritable}
 use Rattle.dn_machine.specs.declared.answers.Phase.{Phase}
-use Rattle.dn_machine.specs.Worlds.{Rules}
+use Rattle.dn_machine.specs.Limits.{Limits}
 use Rattle.dn_machine.specs.Node as machine
 use Rattle.dn_machine.specs.Node.{own_mark, ends_of, is_ended, demo_rows}
 use Rattle.dn_machine.specs.declared.peer.Peer.{Peer}
@@ -20,32 +21,32 @@ use Rattle.dn_lockstep.specs.Contents.{Contents}
 use Rattle.dn_lockstep.specs.Rows.{seats_of}
 
 -- the demo is closed once a row that lacks a player was run, or the node has ended
-abbrev pub is_demo_closed : {S : Type 0} → Rules S → machine.Node → Bool
-is_demo_closed rules m = is_ended m.phase || nat_lt (length (demo_rows rules m)) (machine.ran m)
+abbrev pub is_demo_closed : Limits → machine.Node → Bool
+is_demo_closed limits m = is_ended m.phase || nat_lt (length (demo_rows limits.players m)) (machine.ran m)
 
 -- the demo of a node that has played with these settings: the rows before the first that lacks a player
-abbrev pub demo_with : {S : Type 0} → Rules S → ℕ → machine.Node → Option Settings → List ℕ
-demo_with rules me m None = []
-demo_with rules me m (Some settings) =
-    demo_text long_tics (start_of settings) me (seats_of rules.players) (demo_rows rules m)
-    (is_demo_closed rules m)
+abbrev pub demo_with : Limits → ℕ → machine.Node → Option Settings → List ℕ
+demo_with limits me m None = []
+demo_with limits me m (Some settings) =
+    demo_text long_tics (start_of settings) me (seats_of limits.players) (demo_rows limits.players m)
+    (is_demo_closed limits m)
 
 -- nothing before the start
-abbrev pub demo_of : {S : Type 0} → Rules S → ℕ → machine.Node → List ℕ
-demo_of rules me m = if m.played then demo_with rules me m m.settings else []
+abbrev pub demo_of : Limits → ℕ → machine.Node → List ℕ
+demo_of limits me m = if m.played then demo_with limits me m m.settings else []
 
 -- rows that a demo of the game can have
 unfoldable pub CanBeWritten : ℕ → List (List (Option Move)) → Type 0
 CanBeWritten players rows = AreWritable (seats_of players) rows
 
 -- whose it is, and of what game
-pub record BelongsTo {S : Type 0} (rules : Rules S) (me count own : ℕ) (repeats : Bool)
+pub record BelongsTo (limits : Limits) (me count own : ℕ) (repeats : Bool)
     (tics gathered : ℕ) : Type 0 where
-  pub players : count ≡ rules.players
+  pub players : count ≡ limits.players
   pub number : own ≡ me
-  pub extra : repeats ≡ rules.extra
-  pub capacity : tics ≡ rules.capacity
-  pub gathers : gathered ≡ rules.players
+  pub extra : repeats ≡ limits.extra
+  pub capacity : tics ≡ limits.capacity
+  pub gathers : gathered ≡ limits.players
 
 -- where it stands, and where the machine's does
 pub record StandsAs (here there : Phase) (has_played played_there : Bool)
@@ -55,10 +56,10 @@ pub record StandsAs (here there : Phase) (has_played played_there : Bool)
   pub settings : chosen ≡ chosen_there
 
 -- what it has of the players' commands
-pub record HasCommands (players turned : ℕ) (kept : ℕ → Ring) (keys : List ℕ)
+pub record HasCommands (players turned : ℕ) (kept : ℕ → Ring) (inputs : List Input)
     (held : ℕ → List TicCmd) : Type 0 where
-  -- the turn hold is that of the key states of its builds
-  pub hold : turned ≡ turn_hold keys
+  -- the turn hold is that of the inputs of its builds
+  pub hold : turned ≡ hold_of inputs
   -- each ring counts the commands held of its player and keeps the last twelve
   pub rings : (p : ℕ) → p < players → kept p ≡ ring_of (held p)
 
@@ -72,13 +73,13 @@ abbrev pub marked_to : ℕ → Option ℕ → ℕ
 marked_to tics None = tics
 marked_to tics (Some end) = min tics end
 
--- what it keeps of its world
+-- which marks it keeps
 pub record HasTable (players count : ℕ) (table : ℕ → ℕ → ℤ) (tics : ℕ) (own : ℕ → ℕ → ℤ)
     (ends : ℕ → Option ℕ) : Type 0 where
   -- it ran as many tics
   pub ran : count ≡ tics
   -- a player's slot has the mark of the last tic up to there whose remainder by twelve is the slot's, and 0
-  -- where there is none: that is, for each of the twelve tics from there on, the mark of the own world twelve
+  -- where there is none: that is, for each of the twelve tics from there on, the mark that it was told twelve
   -- tics before, and 0 below tic 12. So the slots of a player who is gone stay as they are
   pub marks : (p tic : ℕ) → p < players → marked_to tics (ends p) ≤ tic → tic < marked_to tics (ends p) + 12
       → table p (tic % 12) ≡ own p tic
@@ -93,11 +94,11 @@ pub record HasRecorded (players : ℕ) (recorded : Recorded) (played : Bool) (te
   pub writable : CanBeWritten players rows
 
 -- the parts; each speaks only of the fields that it names, so a step that does not change those keeps it
-pub record Represents {S : Type 0} (rules : Rules S) (me : ℕ) (n : Contents) (m : machine.Node) : Type 0 where
-  pub whose : BelongsTo rules me n.players n.me n.extra n.capacity n.gather.players
+pub record Represents (limits : Limits) (me : ℕ) (n : Contents) (m : machine.Node) : Type 0 where
+  pub whose : BelongsTo limits me n.players n.me n.extra n.capacity n.gather.players
   pub stands : StandsAs n.phase m.phase n.played m.played n.settings m.settings
-  pub commands : HasCommands rules.players n.hold n.rings m.keys m.held
-  pub peers : KnowsPeers rules.players n.peers m.peers (is_noted n.gather) m.noted
-  pub table : HasTable rules.players n.ran n.marks (machine.ran m) (own_mark rules m) (ends_of m)
-  pub demo : HasRecorded rules.players n.demo m.played (demo_of rules me m) (is_demo_closed rules m)
-      (demo_rows rules m)
+  pub commands : HasCommands limits.players n.hold n.rings m.inputs m.held
+  pub peers : KnowsPeers limits.players n.peers m.peers (is_noted n.gather) m.noted
+  pub table : HasTable limits.players n.ran n.marks (machine.ran m) (own_mark m) (ends_of m)
+  pub demo : HasRecorded limits.players n.demo m.played (demo_of limits me m) (is_demo_closed limits m)
+      (demo_rows limits.players m)

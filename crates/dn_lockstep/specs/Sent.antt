@@ -1,7 +1,7 @@
 -- The packet that a node gives to a peer.
 use Rattle.std.specs.Prelude.{ℕ, nat_lt, if◌then◌else◌, List, length, Option, None}
 use Rattle.dn_packet.specs.Text.{text}
-use Rattle.dn_machine.specs.Worlds.{Rules}
+use Rattle.dn_machine.specs.Limits.{Limits}
 use Rattle.dn_machine.specs.Flight.{Flight, packet_of}
 use Rattle.dn_machine.specs.Node as machine
 use Rattle.dn_machine.specs.declared.answers.Phase.{Phase}
@@ -10,15 +10,15 @@ use Rattle.dn_machine.specs.Sending.{on_send, after_sent}
 use Rattle.dn_lockstep.specs.declared.lockstep.aiming.Aim.{Aim}
 
 -- as the machine sends; to a number that is no player's there is none
-abbrev pub sent_to : {S : Type 0} → ℕ → Rules S → ℕ → machine.Node → machine.Node × Option Flight
-sent_to to rules me m = if nat_lt to rules.players then on_send rules me m to else (m, None)
+abbrev pub sent_to : ℕ → Limits → ℕ → machine.Node → machine.Node × Option Flight
+sent_to to limits me m = if nat_lt to limits.players then on_send limits me m to else (m, None)
 
 -- the node once a packet was given, by its phase
-abbrev pub after_giving : {S : Type 0} → Rules S → ℕ → machine.Node → ℕ → Phase → machine.Node
-after_giving rules me m to Listening = m
-after_giving rules me m to Gathering = m
-after_giving rules me m to Playing = after_sent rules me m to
-after_giving rules me m to (Ended cause) = after_sent rules me m to
+abbrev pub after_giving : Limits → ℕ → machine.Node → ℕ → Phase → machine.Node
+after_giving limits me m to Listening = m
+after_giving limits me m to Gathering = m
+after_giving limits me m to Playing = after_sent limits me m to
+after_giving limits me m to (Ended cause) = after_sent limits me m to
 
 -- the exact numbers of a flight
 abbrev pub aim_of : Flight → Aim

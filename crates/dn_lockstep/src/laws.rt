@@ -1,39 +1,144 @@
 //! What holds of the locksteps of every game, whatever worlds their callers step.
 
-ghost use Rattle.std.specs.Prelude.{◌≡◌, ℕ, Bool, List, true, Some, Ok};
+ghost use Rattle.std.specs.Prelude.{◌≡◌, ◌<◌, ℕ, ℤ, Bool, List, [], true, false, Option, Some, Ok, IfSome, ◌⊎◌, get_or, length, pos, slice_get};
+ghost use Rattle.std.specs.Option.{option_map};
+ghost use Rattle.dn_machine.specs.Drops as drops;
+ghost use Rattle.dn_tic.specs.declared.command.Move.{Move};
+ghost use Rattle.dn_tic.specs.declared.input.Input.{Input};
 ghost use Rattle.dn_setup.specs.Settings.{Settings};
 ghost use Rattle.dn_setup.specs.Starts.{start_of};
 ghost use Rattle.dn_demo.specs.Layout.{long_tics};
 ghost use Rattle.dn_demo.specs.Reading.{IsReadAs, written_demo};
 ghost use Rattle.dn_machine.specs.declared.answers.Cause.{Cause};
+ghost use Rattle.dn_machine.specs.declared.answers.Heard.{Heard};
+ghost use Rattle.dn_machine.specs.declared.answers.Made.{Made};
 ghost use Rattle.dn_machine.specs.declared.answers.Phase.TheVariants.{Ended};
-ghost use Rattle.dn_machine.specs.declared.events.Event.{Event};
+ghost use Rattle.dn_machine.specs.declared.answers.Ran.{Ran};
+ghost use Rattle.dn_machine.specs.Building.{on_build};
+ghost use Rattle.dn_machine.specs.Flight.{Flight, is_near};
+ghost use Rattle.dn_machine.specs.Game.{fresh};
+ghost use Rattle.dn_machine.specs.Limits.{Limits};
 ghost use Rattle.dn_machine.specs.Node as machine;
 ghost use Rattle.dn_machine.specs.Node.{demo_rows};
-ghost use Rattle.dn_machine.specs.Worlds.{rules_of};
+ghost use Rattle.dn_machine.specs.Promise.{Agree, Fits, Steady};
+ghost use Rattle.dn_machine.specs.Running.{on_run, on_quit};
+ghost use Rattle.dn_machine.specs.Worlds.{command};
+ghost use Rattle.dn_tic.specs.declared.command.TicCmd.{TicCmd};
+ghost use Rattle.dn_lockstep.specs.Told.{command_told};
 ghost use Rattle.dn_lockstep.specs.Contents.{Contents};
-ghost use Rattle.dn_lockstep.specs.Marking.{Marking, free};
-ghost use Rattle.dn_lockstep.specs.OneGame.{AreOneGame, ArePromised};
+ghost use Rattle.dn_lockstep.specs.Hearing.{HearsNear};
+ghost use Rattle.dn_lockstep.specs.Marking.{Marking};
+ghost use Rattle.dn_lockstep.specs.Near.{IsFair};
+ghost use Rattle.dn_lockstep.specs.OneGame.{beside, world_told, AreOneGame, IsGivenAs};
+ghost use Rattle.dn_lockstep.specs.Agreed.{AreAgreed};
+ghost use Rattle.dn_lockstep.specs.Demos.{rows_to};
 ghost use Rattle.dn_lockstep.specs.Represents.{Represents};
-ghost use Rattle.dn_lockstep.specs.Rows.{seats_of};
+ghost use Rattle.dn_lockstep.specs.Rings.{count_of};
+ghost use Rattle.dn_lockstep.specs.Rows.{is_gone, seats_of};
+ghost use Rattle.dn_lockstep.specs.Runs.{marks_in, RunsBy};
+ghost use Rattle.dn_lockstep.specs.Sent.{sent_to, bytes_of};
+ghost use Rattle.dn_lockstep.specs.Session.{Session, opening_session, with_lockstep, after_build, after_packet, after_run};
+ghost use Rattle.dn_lockstep.specs.Steps.{Steps, Tells};
 
-/// The locksteps of one game, whose callers step worlds of one law and hand in their marks, are promised what
-/// nodes with such a world are.
+/// New locksteps of the same limits, one for each player, of which player 0's has these settings, are those of
+/// one game.
+pub fn one_game_opens()
+    ensures { (marking : Marking) (limits : Limits) (settings : Settings) (locksteps : ℕ → Contents)
+        → ((player : ℕ) → player < limits.players
+        → Represents limits player (locksteps player) (fresh settings player))
+        → AreOneGame marking limits settings (opening_session locksteps) }
+{}
+
+/// And so they stay after each call on one of them whose caller keeps the duty: it hands in datagrams as they
+/// were given, to whom they were given, from no more than 64 tics away, and at a run the marks of a world
+/// that moved on by the rows that it was told. Each clause takes what the call's own contract says. `kept` is for a call that changes
+/// nothing: a datagram that is dropped, whatever its bytes are, a run that waits, a build that is full.
+pub fn one_game_goes_on()
+    ensures built { (marking : Marking) (limits : Limits) (settings : Settings) (session : Session) (player : ℕ)
+        (new : Contents) (input : Input) (made : Made)
+        → AreOneGame marking limits settings session → player < limits.players
+        → Steps (session.locksteps player) new (λ limits me m. on_build me m input) (λ answer. made ≡ answer)
+        → AreOneGame marking limits settings (after_build session player input made new) }
+    ensures gave { (marking : Marking) (limits : Limits) (settings : Settings) (session : Session)
+        (player to : ℕ) (new : Contents) (bytes : Option (List ℕ))
+        → AreOneGame marking limits settings session → player < limits.players
+        → Tells (session.locksteps player) (λ limits me m. IfSome (sent_to to limits me m).1 IsFair)
+        → Steps (session.locksteps player) new (λ limits me m. sent_to to limits me m)
+        (λ flight. bytes ≡ option_map bytes_of flight)
+        → (flight : Option Flight) × IsGivenAs (session.locksteps player) player to bytes flight
+        × AreOneGame marking limits settings (after_packet session player flight new) }
+    ensures heard { (marking : Marking) (limits : Limits) (settings : Settings) (session : Session) (which : ℕ)
+        (flight : Flight) (new : Contents) (heard : Heard)
+        → AreOneGame marking limits settings session → slice_get session.given which ≡ Some flight
+        → is_near (count_of (session.locksteps flight.to).rings flight.to) flight ≡ true
+        → HearsNear flight.from (bytes_of flight) (session.locksteps flight.to) new heard
+        → AreOneGame marking limits settings (with_lockstep session flight.to new) }
+    ensures ran { (marking : Marking) (limits : Limits) (settings : Settings) (session : Session) (player : ℕ)
+        (new : Contents) (marks : List ℤ) (ran : Ran) (row : Option (List (Option Move)))
+        → AreOneGame marking limits settings session → player < limits.players
+        → ((tic : ℕ) (other : ℕ) → ran ≡ Ran.Ran tic → other < limits.players
+        → is_gone (session.locksteps player).peers (session.locksteps player).ran other ≡ false
+        → get_or marks other (pos 0) ≡ marking (world_told limits settings (session.told player)) other)
+        → RunsBy marks (session.locksteps player) new (λ limits m marks. on_run limits m marks)
+        (λ answer told. (ran ≡ answer) × (row ≡ told))
+        → AreOneGame marking limits settings (after_run session player row new) }
+    ensures quit { (marking : Marking) (limits : Limits) (settings : Settings) (session : Session) (player : ℕ)
+        (new : Contents) (quit : Bool)
+        → AreOneGame marking limits settings session → player < limits.players
+        → Steps (session.locksteps player) new (λ limits me m. on_quit m) (λ answer. quit ≡ answer)
+        → AreOneGame marking limits settings (with_lockstep session player new) }
+    ensures kept { (marking : Marking) (limits : Limits) (settings : Settings) (session : Session) (player : ℕ)
+        (new : Contents)
+        → AreOneGame marking limits settings session → new ≡ session.locksteps player
+        → AreOneGame marking limits settings (with_lockstep session player new) }
+{}
+
+/// The locksteps of one game agree in what they tell of themselves. The rows that each caller was told are those
+/// of the inputs that the players' builds took, one for each tic that the lockstep ran, and a command that one
+/// tells is the one that its player's inputs make, with its mark. The machine's game that they represent
+/// agrees, fits and is steady.
 pub fn locksteps_agree()
-    ensures { (marking : Marking) (players : ℕ) (extra : Bool) (capacity : ℕ) (settings : Settings)
-        (events : List Event)
-        (locksteps : ℕ → Contents)
-        → (game : AreOneGame (rules_of (free marking) players extra capacity) settings events locksteps)
-        → ArePromised (rules_of (free marking) players extra capacity) settings game.last locksteps }
+    ensures agreed { (marking : Marking) (limits : Limits) (settings : Settings) (session : Session)
+        → AreOneGame marking limits settings session
+        → AreAgreed limits settings session.inputs session.locksteps }
+    ensures told { (marking : Marking) (limits : Limits) (settings : Settings) (session : Session) (player : ℕ)
+        → AreOneGame marking limits settings session → player < limits.players
+        → session.told player ≡ rows_to limits.players session.inputs (session.locksteps player).ran }
+    ensures ran { (marking : Marking) (limits : Limits) (settings : Settings) (session : Session) (player : ℕ)
+        → AreOneGame marking limits settings session → player < limits.players
+        → (session.locksteps player).ran ≡ length (session.told player) }
+    ensures commands { (marking : Marking) (limits : Limits) (settings : Settings) (session : Session)
+        (here player tic : ℕ) (one : TicCmd)
+        → AreOneGame marking limits settings session → here < limits.players
+        → command_told (session.locksteps here) player tic ≡ Some one
+        → one ≡ command (beside marking limits) settings session.inputs player tic }
+    ensures game_agrees { (marking : Marking) (limits : Limits) (settings : Settings) (session : Session)
+        → (game : AreOneGame marking limits settings session) → Agree (beside marking limits) settings game.last }
+    ensures game_fits { (marking : Marking) (limits : Limits) (settings : Settings) (session : Session)
+        → (game : AreOneGame marking limits settings session) → Fits (beside marking limits) game.last }
+    ensures game_steady { (marking : Marking) (limits : Limits) (settings : Settings) (session : Session)
+        → (game : AreOneGame marking limits settings session) → Steady (beside marking limits) game.last }
+{}
+
+/// A packet that one of them gave, and that comes as it was given from no more than 64 tics away, is dropped
+/// only as set-up out of place, or by a lockstep that does not play.
+pub fn given_packets_are_heard()
+    ensures { (marking : Marking) (limits : Limits) (settings : Settings) (session : Session) (which : ℕ)
+        (flight : Flight) (new : Contents) (heard : Heard) (number : ℕ)
+        → AreOneGame marking limits settings session
+        → slice_get session.given which ≡ Some flight
+        → is_near (count_of (session.locksteps flight.to).rings flight.to) flight ≡ true
+        → HearsNear flight.from (bytes_of flight) (session.locksteps flight.to) new heard
+        → heard ≡ Heard.Dropped number → (number ≡ drops.out_of_place) ⊎ (number ≡ drops.not_playing) }
 {}
 
 /// The demo of a lockstep that has played and ended is read back to what it was played from, with its own
 /// number as view, to its players and to the rows that it told before the first that lacks a player.
 pub fn ended_demos_are_read()
-    ensures { (marking : Marking) (players : ℕ) (extra : Bool) (capacity me : ℕ) (n : Contents)
+    ensures { (limits : Limits) (me : ℕ) (n : Contents)
         (m : machine.Node) (settings : Settings) (cause : Cause)
-        → Represents (rules_of (free marking) players extra capacity) me n m
+        → Represents limits me n m
         → m.played ≡ true → m.phase ≡ Ended cause → m.settings ≡ Some settings
-        → IsReadAs n.demo.bytes (Ok (written_demo long_tics (start_of settings) me (seats_of players)
-        (demo_rows (rules_of (free marking) players extra capacity) m))) }
+        → IsReadAs n.demo.bytes (Ok (written_demo long_tics (start_of settings) me (seats_of limits.players)
+        (demo_rows limits.players m))) }
 {}

@@ -1,6 +1,6 @@
-//! One player's node without a world, for an engine that steps its own. It builds commands from keys, gives
-//! and takes datagrams, says when a tic is run and by which moves, checks the marks of the engine's world,
-//! and records a demo. Each call is a step of the machine of `dn_machine`.
+//! One player's node without a world, for an engine that steps its own. It builds commands from keys or takes
+//! them whole, gives and takes datagrams, says when a tic is run and by which moves, checks the marks of the
+//! engine's world, and records a demo. Each call is a step of the machine of `dn_machine`.
 //!
 //! The engine begins its world when `receive` answers `Started`, with `settings()`'s start and the seats of
 //! `present()`. It hands each player's mark in that world to `run`, and where a row is told, it steps the
@@ -12,6 +12,7 @@ mod drops;
 mod laws;
 mod lockstep;
 mod marks;
+mod near;
 mod peers;
 mod reading;
 mod recording;
@@ -20,7 +21,12 @@ mod rows;
 
 pub use config::{Config, NodeFault};
 pub use dn_machine::{Cause, Heard, Made, Phase, Ran};
-pub use laws::{ended_demos_are_read, locksteps_agree};
+pub use laws::{
+    ended_demos_are_read, given_packets_are_heard, locksteps_agree, one_game_goes_on,
+    one_game_opens,
+};
 pub use lockstep::Lockstep;
 pub use lockstep::aiming::Aim;
+pub use lockstep::building::MOST_AHEAD;
 pub use lockstep::opening::is_game;
+pub use near::are_tics_near;

@@ -1,6 +1,6 @@
 //! One player's lockstep, and what it tells of itself.
 
-ghost use Rattle.std.specs.Prelude.{◌≡◌, ◌≢◌, ℕ, ◌+◌, ◌*◌, ◌<◌, ◌≤◌, true, false, nat_lt, if◌then◌else◌, length, Some, None};
+ghost use Rattle.std.specs.Prelude.{◌≡◌, ◌≢◌, ℕ, ◌+◌, ◌*◌, ◌<◌, ◌≤◌, true, false, nat_lt, if◌then◌else◌, length, Some, None, is_some};
 ghost use Rattle.dn_demo.specs.Layout.{long_tics};
 ghost use Rattle.dn_demo.specs.Places.{place, seats_in};
 ghost use Rattle.dn_demo.specs.Recorded.{recorded_size};
@@ -13,7 +13,7 @@ ghost use Rattle.dn_lockstep.specs.Peers.{peer_at};
 ghost use Rattle.dn_lockstep.specs.Rows.{seats_of, is_gone, has_gone};
 
 pub(crate) mod aiming;
-mod building;
+pub(crate) mod building;
 mod ending;
 mod hearing;
 pub(crate) mod opening;
@@ -29,7 +29,7 @@ use crate::rows::seats;
 use dn_demo::Recorder;
 use dn_machine::Phase;
 use dn_setup::{Gather, Settings};
-use dn_tic::Builder;
+use dn_tic::{Builder, TicCmd};
 
 /// One player's node without a world. A contract sees its contents, and the node of the machine that these
 /// represent.
@@ -86,6 +86,8 @@ pub struct Lockstep {
 impl Lockstep {
     ghost use Rattle.dn_machine.specs.Node.{known_end};
     ghost use Rattle.dn_lockstep.specs.Contents.{contents, end_in};
+    ghost use Rattle.dn_lockstep.specs.Commands.{last_held};
+    ghost use Rattle.dn_lockstep.specs.Told.{command_told};
     ghost use Rattle.dn_lockstep.specs.Steps.{Tells};
 
     /// The number of its player.
@@ -142,6 +144,22 @@ impl Lockstep {
         }
     }
 
+    /// A player's command for a tic, with its letter of chat, which a move lacks: one of the last twelve that it
+    /// has of the player, so that of the next tic to be run is told as soon as it is there. None for another tic,
+    /// and for a number that is no player's.
+    pub fn command(&self, player: u8, tic: u32) -> Option<TicCmd>
+        ensures value { result ≡ command_told (contents self.now) player tic }
+        ensures told { Tells (contents self.now) (λ limits me m. result ≡ last_held limits.players m player tic) }
+        ensures next { player < (contents self.now).players → tic ≡ (contents self.now).ran
+            → tic < count_of (contents self.now).rings player → is_some result ≡ true }
+    {
+        if player < self.players {
+            self.rings.get(player, tic)
+        } else {
+            None
+        }
+    }
+
     /// The choice of game: the key player's own from the beginning, another's from the start on.
     pub fn settings(&self) -> Option<Settings>
         ensures { result ≡ (contents self.now).settings }
@@ -156,7 +174,7 @@ impl Lockstep {
             ≡ (if nat_lt player (contents self.now).players then end_in (contents self.now) player
             else None) }
         ensures told { Tells (contents self.now)
-            (λ rules me m. result ≡ (if nat_lt player rules.players then known_end me m player else None)) }
+            (λ limits me m. result ≡ (if nat_lt player limits.players then known_end me m player else None)) }
     {
         if player >= self.players {
             return None;

@@ -5,7 +5,7 @@ ghost use Rattle.std.specs.Ordering.{int_eq};
 ghost use Rattle.dn_demo.specs.Rows.{IsMove, IsRow, IsRecordable};
 ghost use Rattle.dn_machine.specs.Node.{lowest, is_whole};
 ghost use Rattle.dn_machine.specs.Running.{tic_limit};
-ghost use Rattle.dn_machine.specs.Worlds.{four};
+ghost use Rattle.dn_machine.specs.Limits.{four};
 ghost use Rattle.dn_lockstep.specs.Rings.{ring_at};
 ghost use Rattle.dn_lockstep.specs.Marks.{slot};
 ghost use Rattle.dn_lockstep.specs.Peers.{peer_at};

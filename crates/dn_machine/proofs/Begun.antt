@@ -6,12 +6,11 @@ use Rattle.std.proofs.lemmas.Bool.{cases_eq}
 use Rattle.dn_setup.specs.Settings.{Settings}
 use Rattle.dn_machine.specs.declared.answers.Phase.TheVariants.{Playing}
 use Rattle.dn_machine.specs.declared.events.Event.{Event}
-use Rattle.dn_machine.specs.declared.events.Event.TheVariants.{Build, Send, Deliver, Run}
+use Rattle.dn_machine.specs.declared.events.Event.TheVariants.{Send, Deliver, Run}
 use Rattle.dn_machine.specs.Worlds.{Rules}
 use Rattle.dn_machine.specs.Node.{Node, ran, is_ended, has_left}
-use Rattle.dn_machine.specs.Running.{on_run}
-use Rattle.dn_machine.specs.Game.{Game}
-use Rattle.dn_machine.specs.Progress.{after, is_of_round, exchange, turn}
+use Rattle.dn_machine.specs.Game.{Game, on_own_run}
+use Rattle.dn_machine.specs.Progress.{after, is_of_round, exchange, turn, build_of}
 use Rattle.dn_machine.proofs.RunKeeps
 use Rattle.dn_machine.proofs.Pairs.{accepted}
 use Rattle.dn_machine.proofs.Pairs
@@ -20,6 +19,8 @@ use Rattle.dn_machine.proofs.InOrder.{each_of}
 use Rattle.dn_machine.proofs.Roomy.{IsRoomy, roomy_after, row_fits}
 use Rattle.dn_machine.proofs.Openings.{Stands, Gathers, Listens, Plays, HasGone, IsOpen, applied_open}
 use Rattle.dn_machine.proofs.Gentle.{Gentle, gentle_same, AllGentle, placed_gentle, build_gentle, send_gentle, deliver_gentle, exchange_gentle}
+use Rattle.dn_tic.specs.declared.input.Input.{Input}
+use Rattle.dn_machine.proofs.EachEvent.{build_round}
 
 module _ {S : Type 0} (rules : Rules S) (settings : Settings) (cap : ℕ) (stay : ℕ → Bool) (tic : ℕ) where
   -- a game before or after its start, of which some may have left
@@ -81,7 +82,7 @@ module _ {S : Type 0} (rules : Rules S) (settings : Settings) (cap : ℕ) (stay 
     far_of : cap ≤ ran (game.nodes r) → IsFar rules cap stay game
     far_of = full_far rules settings cap stay game begun.live begun.there r mine
 
-    runs : RunsGently (on_run rules (game.nodes r)).0
+    runs : RunsGently (on_own_run rules (game.nodes r)).0
     runs = RunKeeps.cases rules settings game begun.live.kept r mine (λ (new : Node). RunsGently new)
         (λ waits. inr (gentle_same (game.nodes r)))
         (λ plays there full.
@@ -111,10 +112,10 @@ module _ {S : Type 0} (rules : Rules S) (settings : Settings) (cap : ℕ) (stay 
   with_exchange Y Z i j g leads (WithSo begun y) = WithSo (exchange_begun i j g begun) (leads begun y)
 
   module _ (Y : Game → Type 0) (stable : (old new : Game) → AllGentle old new → Y old → Y new) where
-    pub keep_build : (i state : ℕ) (g : Game) → With Y g → With Y (after rules (Build i state) g)
-    keep_build i state g (WithFar far) = WithFar (far_after rules cap stay (Build i state) g far)
-    keep_build i state g (WithSo begun y) = let gentle = build_gentle rules g i state in
-        WithSo (gentle_begun (Build i state) g refl gentle begun) (stable g _ gentle y)
+    pub keep_build : (i : ℕ) (input : Input) (g : Game) → With Y g → With Y (after rules (build_of i input) g)
+    keep_build i input g (WithFar far) = WithFar (far_after rules cap stay (build_of i input) g far)
+    keep_build i input g (WithSo begun y) = let gentle = build_gentle rules g i input in
+        WithSo (gentle_begun (build_of i input) g (build_round i input) gentle begun) (stable g _ gentle y)
 
     pub keep_exchange : (i j : ℕ) (g : Game) → With Y g → With Y (exchange rules i g j)
     keep_exchange i j g = with_exchange Y Y i j g
@@ -128,9 +129,9 @@ module _ {S : Type 0} (rules : Rules S) (settings : Settings) (cap : ℕ) (stay 
           (stable g (after rules (Run i) g) gentle y)
     ]
 
-    pub keep_turn : (keys : ℕ → ℕ) (i : ℕ) → i < rules.players → (g : Game) → With Y g
-        → With Y (turn rules keys g i)
+    pub keep_turn : (inputs : ℕ → Input) (i : ℕ) → i < rules.players → (g : Game) → With Y g
+        → With Y (turn rules inputs g i)
     unfolding turn
-    keep_turn keys i l g y =
-        keep_run i l _ (each_of (With Y) (exchange rules i) rules.players (after rules (Build i (keys i)) g)
-        (λ j h k x. keep_exchange i j h x) (keep_build i (keys i) g y))
+    keep_turn inputs i l g y =
+        keep_run i l _ (each_of (With Y) (exchange rules i) rules.players (after rules (build_of i (inputs i)) g)
+        (λ j h k x. keep_exchange i j h x) (keep_build i (inputs i) g y))

@@ -1,11 +1,11 @@
 -- The cases of each call on a node: what is so of each node that a call may leave, with its answer where that
 -- tells, is so of the one that it leaves.
-use Rattle.std.proofs.Common.{◌≡◌, ℕ, ◌+◌, ◌-◌, ◌<◌, ◌≤◌, ◌≢◌, Bool, true, false, [], ◌∷◌, ◌++◌, drop, refl, ap, arith, Option, Some, None, inl, inr, ltb, leb, eqb}
+use Rattle.std.proofs.Common.{◌≡◌, ℕ, ◌+◌, ◌-◌, ◌<◌, ◌≤◌, ◌≢◌, Bool, true, false, [], ◌∷◌, ◌++◌, drop, refl, ap, arith, Option, Some, None, inl, inr, ltb, leb, eqb, ℤ}
 use Rattle.std.specs.Prelude.{◌⊎◌}
 use Rattle.std.proofs.lemmas.Bool.{cond_both, leb-true, leb-false, ltb-true, ltb-false, eqb-true, eqb-false, and_from}
 use Rattle.dn_setup.specs.Settings.{Settings}
 use Rattle.dn_setup.specs.Gathered.{all_noted}
-use Rattle.dn_tic.specs.Pressed.{pressed}
+use Rattle.dn_tic.specs.Inputs.{made_by}
 use Rattle.dn_machine.specs.declared.answers.Cause.{Cause}
 use Rattle.dn_machine.specs.declared.answers.Phase.{Phase}
 use Rattle.dn_machine.specs.declared.answers.Phase.TheVariants.{Listening, Gathering, Playing, Ended}
@@ -14,38 +14,39 @@ use Rattle.dn_machine.specs.declared.answers.Heard.{Heard}
 use Rattle.dn_machine.specs.declared.answers.Ran.{Ran}
 use Rattle.dn_machine.specs.declared.peer.Peer.{Peer}
 use Rattle.dn_machine.specs.Drops as drops
-use Rattle.dn_machine.specs.Worlds.{Rules}
+use Rattle.dn_machine.specs.Limits.{Limits}
 use Rattle.dn_machine.specs.Flight.{Kind, SetUp, Play, Exit, Flight, is_exit, end_of}
 use Rattle.dn_machine.specs.Node.{Node, put, with_peer, ends_of, got, made, ran, held_at, own_mark, lowest, is_ended, has_left}
 use Rattle.dn_machine.specs.Building.{on_build, on_build_in}
 use Rattle.dn_machine.specs.Sending.{set_up_flight, commands_flight, request_to, after_sent, on_send, on_send_in}
 use Rattle.dn_machine.specs.Hearing.{started, on_gathering, after_request, after_flight, is_strange_end, left_or, on_commands, on_ended, on_packet, on_packet_in}
-use Rattle.dn_machine.specs.Running.{full_at, is_awaited, first_off, row_held, on_run_playing, on_run_in, on_run, on_quit, on_quit_in}
+use Rattle.dn_machine.specs.Running.{marks_kept, full_at, is_awaited, first_off, row_held, on_run_playing, on_run_in, on_run, on_quit, on_quit_in}
+use Rattle.dn_tic.specs.declared.input.Input.{Input}
 
 -- the packet is not set-up
 abbrev pub IsWord : Kind → Type 0
 IsWord kind = (s : Settings) → kind ≢ SetUp s
 
-module _ {S : Type 0} (rules : Rules S) (me : ℕ) (node : Node) where
+module _ (limits : Limits) (me : ℕ) (node : Node) where
   abbrev pub ended_by : Cause → Node
   ended_by cause = record node { phase = Ended cause }
 
   -- build
-  abbrev pub built : ℕ → Node
-  built state = record node {
-    keys = node.keys ++ state ∷ [];
+  abbrev pub built : Input → Node
+  built input = record node {
+    inputs = node.inputs ++ input ∷ [];
     held = put node.held me
-        (node.held me ++ pressed (node.keys ++ state ∷ []) (own_mark rules node me (made me node)) ∷ []);
+        (node.held me ++ made_by (node.inputs ++ input ∷ []) (own_mark node me (made me node)) ∷ []);
   }
 
-  pub build_cases : (P : Node → Type 0) (state : ℕ)
+  pub build_cases : (P : Node → Type 0) (input : Input)
       → ((node.phase ≡ Playing → ran node + 5 ≤ made me node) → P node)
-      → (node.phase ≡ Playing → made me node < ran node + 5 → P (built state))
-      → P (on_build rules me node state).0
+      → (node.phase ≡ Playing → made me node < ran node + 5 → P (built input))
+      → P (on_build me node input).0
   unfolding on_build
-  build_cases P state same builds = go node.phase refl
+  build_cases P input same builds = go node.phase refl
     where
-      go : (phase : Phase) → node.phase ≡ phase → P (on_build_in rules me node state phase).0
+      go : (phase : Phase) → node.phase ≡ phase → P (on_build_in me node input phase).0
       go Listening e = same (λ plays. absurd (cc))
       go Gathering e = same (λ plays. absurd (cc))
       go (Ended cause) e = same (λ plays. absurd (cc))
@@ -57,15 +58,15 @@ module _ {S : Type 0} (rules : Rules S) (me : ℕ) (node : Node) where
   pub send_cases : (P : Node × Option Flight → Type 0) (to : ℕ) → P (node, None)
       → (me ≢ to → node.phase ≡ Gathering → P (node, set_up_flight me to node.settings))
       → (me ≢ to → node.phase ≡ Playing
-      → P (after_sent rules me node to, Some (commands_flight rules me node to Play (request_to node to))))
+      → P (after_sent limits me node to, Some (commands_flight limits me node to Play (request_to node to))))
       → (me ≢ to → has_left node ≡ true
-      → P (after_sent rules me node to, Some (commands_flight rules me node to Exit None)))
-      → P (on_send rules me node to)
+      → P (after_sent limits me node to, Some (commands_flight limits me node to Exit None)))
+      → P (on_send limits me node to)
   unfolding on_send
   send_cases P to none sets_up plays left =
       cond_both (eqb me to) _ _ P (λ own. none) (λ other. go (eqb-false me to other) node.phase refl)
     where
-      go : me ≢ to → (phase : Phase) → node.phase ≡ phase → P (on_send_in rules me node to phase)
+      go : me ≢ to → (phase : Phase) → node.phase ≡ phase → P (on_send_in limits me node to phase)
       go other Listening e = none
       go other Gathering e = sets_up other e
       go other Playing e = plays other e
@@ -73,37 +74,43 @@ module _ {S : Type 0} (rules : Rules S) (me : ℕ) (node : Node) where
           (λ played. left other (and_from node.played (is_ended node.phase) played (ap is_ended e)))
           (λ never. none)
 
-  -- run
-  pub run_cases : (P : Node → Type 0)
-      → ((node.phase ≡ Playing → lowest rules.players (is_awaited node) ≢ None) → P node)
-      → ((player : ℕ) → node.phase ≡ Playing → lowest rules.players (is_awaited node) ≡ None
-      → first_off rules node ≡ Some player
+  -- run: the node after one more row, with the marks that it was told
+  abbrev pub ran_on : (ℕ → ℤ) → Node
+  ran_on marks = record node {
+    rows = node.rows ++ row_held limits node ∷ [];
+    marks = put node.marks (ran node) (marks_kept limits node marks);
+  }
+
+  pub run_cases : (marks : ℕ → ℤ) (P : Node → Type 0)
+      → ((node.phase ≡ Playing → lowest limits.players (is_awaited node) ≢ None) → P node)
+      → ((player : ℕ) → node.phase ≡ Playing → lowest limits.players (is_awaited node) ≡ None
+      → first_off limits node ≡ Some player
       → P (ended_by (Cause.Inconsistent player (held_at node player (ran node)).mark
-      (own_mark rules node player (ran node)))))
-      → (node.phase ≡ Playing → lowest rules.players (is_awaited node) ≡ None
-      → ran node ≡ full_at rules (row_held rules node) → P (ended_by Cause.Full))
-      → (node.phase ≡ Playing → lowest rules.players (is_awaited node) ≡ None
-      → ran node ≢ full_at rules (row_held rules node)
-      → P (record node { rows = node.rows ++ row_held rules node ∷ [] }))
-      → P (on_run rules node).0
+      (own_mark node player (ran node)))))
+      → (node.phase ≡ Playing → lowest limits.players (is_awaited node) ≡ None
+      → ran node ≡ full_at limits (row_held limits node) → P (ended_by Cause.Full))
+      → (node.phase ≡ Playing → lowest limits.players (is_awaited node) ≡ None
+      → ran node ≢ full_at limits (row_held limits node)
+      → P (ran_on marks))
+      → P (on_run limits node marks).0
   unfolding on_run
-  run_cases P same off full runs = go node.phase refl
+  run_cases marks P same off full runs = go node.phase refl
     where
       by : node.phase ≡ Playing → (awaited off_mark : Option ℕ)
-          → lowest rules.players (is_awaited node) ≡ awaited → first_off rules node ≡ off_mark
-          → P (on_run_playing rules node awaited off_mark).0
+          → lowest limits.players (is_awaited node) ≡ awaited → first_off limits node ≡ off_mark
+          → P (on_run_playing limits node marks awaited off_mark).0
       by plays (Some player) o a f = same (λ e none. absurd (cc))
       by plays None (Some player) a f = off player plays a f
-      by plays None None a f = cond_both (eqb (ran node) (full_at rules (row_held rules node))) _ _
+      by plays None None a f = cond_both (eqb (ran node) (full_at limits (row_held limits node))) _ _
           (λ (r : Node × Ran). P r.0)
-          (λ at. full plays a (eqb-true (ran node) (full_at rules (row_held rules node)) at))
-          (λ free. runs plays a (eqb-false (ran node) (full_at rules (row_held rules node)) free))
+          (λ at. full plays a (eqb-true (ran node) (full_at limits (row_held limits node)) at))
+          (λ free. runs plays a (eqb-false (ran node) (full_at limits (row_held limits node)) free))
 
-      go : (phase : Phase) → node.phase ≡ phase → P (on_run_in rules node phase).0
+      go : (phase : Phase) → node.phase ≡ phase → P (on_run_in limits node marks phase).0
       go Listening e = same (λ plays. absurd (cc))
       go Gathering e = same (λ plays. absurd (cc))
       go (Ended cause) e = same (λ plays. absurd (cc))
-      go Playing e = by e (lowest rules.players (is_awaited node)) (first_off rules node) refl refl
+      go Playing e = by e (lowest limits.players (is_awaited node)) (first_off limits node) refl refl
 
   -- quit
   pub quit_cases : (P : Node → Type 0) → P node → (is_ended node.phase ≡ false → P (ended_by Cause.Quit))
@@ -167,13 +174,13 @@ module _ {S : Type 0} (rules : Rules S) (me : ℕ) (node : Node) where
       pub starts : (settings : Settings) → node.phase ≡ Listening → flight.kind ≡ SetUp settings
           → P (started node settings, Heard.Started)
       pub completes : IsWord flight.kind → node.phase ≡ Gathering
-          → all_noted rules.players (put node.noted flight.from true) ≡ true
+          → all_noted limits.players (put node.noted flight.from true) ≡ true
           → P (
             record node { phase = Playing; played = true; noted = put node.noted flight.from true },
             Heard.Started,
           )
       pub notes : IsWord flight.kind → node.phase ≡ Gathering
-          → all_noted rules.players (put node.noted flight.from true) ≡ false
+          → all_noted limits.players (put node.noted flight.from true) ≡ false
           → P (record node { noted = put node.noted flight.from true }, Heard.Noted)
       pub commands : node.phase ≡ Playing → Commands P
       pub requests : is_ended node.phase ≡ true
@@ -183,7 +190,7 @@ module _ {S : Type 0} (rules : Rules S) (me : ℕ) (node : Node) where
             Heard.Noted,
           )
 
-    pub packet_cases : (P : Node × Heard → Type 0) → Packet P → P (on_packet rules me node flight)
+    pub packet_cases : (P : Node × Heard → Type 0) → Packet P → P (on_packet limits me node flight)
     unfolding on_packet
     packet_cases P cases = go node.phase flight.kind refl refl
       where
@@ -193,8 +200,8 @@ module _ {S : Type 0} (rules : Rules S) (me : ℕ) (node : Node) where
         early : P (node, Heard.Dropped drops.not_playing)
         early = cases.dropped drops.not_playing (inr refl)
 
-        gathers : IsWord flight.kind → node.phase ≡ Gathering → P (on_gathering rules node flight.from)
-        gathers word e = cond_both (all_noted rules.players (put node.noted flight.from true)) _ _ P
+        gathers : IsWord flight.kind → node.phase ≡ Gathering → P (on_gathering limits node flight.from)
+        gathers word e = cond_both (all_noted limits.players (put node.noted flight.from true)) _ _ P
             (cases.completes word e) (cases.notes word e)
 
         ended : (played : Bool) (kind : Kind) → is_ended node.phase ≡ true
@@ -205,7 +212,7 @@ module _ {S : Type 0} (rules : Rules S) (me : ℕ) (node : Node) where
         ended true Play e = cases.requests e
 
         go : (phase : Phase) (kind : Kind) → node.phase ≡ phase → flight.kind ≡ kind
-            → P (on_packet_in rules me node flight phase kind)
+            → P (on_packet_in limits me node flight phase kind)
         go (Ended cause) kind e k = ended node.played kind (ap is_ended e)
         go Listening (SetUp s) e k = cases.starts s e k
         go Gathering (SetUp s) e k = misplaced

@@ -1,5 +1,5 @@
 -- What each call on a node does to its phase and to whom it has noted.
-use Rattle.std.proofs.Common.{◌≡◌, ℕ, zero, suc, ◌+◌, ◌-◌, ◌<◌, ◌≤◌, Bool, true, false, true≢false, length, get_or, refl, sym, ◌∙◌, ap, arith, Option, inl, inr}
+use Rattle.std.proofs.Common.{ℤ, ◌≡◌, ℕ, zero, suc, ◌+◌, ◌-◌, ◌<◌, ◌≤◌, Bool, true, false, true≢false, length, get_or, refl, sym, ◌∙◌, ap, arith, Option, inl, inr}
 use Rattle.std.specs.Prelude.{◌⊎◌}
 use Rattle.std.specs.List.{list_all, range_with_len}
 use Rattle.std.proofs.lemmas.Bool.{cases_Bool, and_from}
@@ -8,7 +8,7 @@ use Rattle.std.proofs.lemmas.List.FromFn.{length-range_with_len, get_or-range_wi
 use Rattle.dn_setup.specs.Gathered.{all_noted}
 use Rattle.dn_machine.specs.declared.answers.Phase.TheVariants.{Listening, Gathering, Playing}
 use Rattle.dn_machine.specs.declared.answers.Heard.{Heard}
-use Rattle.dn_machine.specs.Worlds.{Rules}
+use Rattle.dn_machine.specs.Limits.{Limits}
 use Rattle.dn_machine.specs.Flight.{Flight}
 use Rattle.dn_machine.specs.Node.{Node, put, is_ended}
 use Rattle.dn_machine.specs.Building.{on_build}
@@ -16,6 +16,7 @@ use Rattle.dn_machine.specs.Sending.{on_send}
 use Rattle.dn_machine.specs.Hearing.{on_packet}
 use Rattle.dn_machine.specs.Running.{on_run, on_quit}
 use Rattle.dn_machine.proofs.Calls.{IsWord, build_cases, send_cases, run_cases, quit_cases, packet_cases}
+use Rattle.dn_tic.specs.declared.input.Input.{Input}
 
 -- all are noted: each from 1 on
 passes_list : (test : ℕ → Bool) (low count : ℕ) → ((k : ℕ) → low ≤ k → k < low + count → test k ≡ true)
@@ -56,30 +57,30 @@ pub data Change (players : ℕ) (from : ℕ) (spoke ends : Type 0) (old new : No
   Gone : ends → is_ended new.phase ≡ true → new.played ≡ old.played → new.noted ≡ old.noted
       → Change players from spoke ends old new
 
-module _ {S : Type 0} (rules : Rules S) (i : ℕ) (node : Node) where
-  pub build_change : (state : ℕ) → Change rules.players 0 ⊥ ⊥ node (on_build rules i node state).0
-  build_change state = build_cases rules i node (λ (new : Node). Change rules.players 0 ⊥ ⊥ node new) state
+module _ (limits : Limits) (i : ℕ) (node : Node) where
+  pub build_change : (input : Input) → Change limits.players 0 ⊥ ⊥ node (on_build i node input).0
+  build_change input = build_cases limits i node (λ (new : Node). Change limits.players 0 ⊥ ⊥ node new) input
       (λ full. Same refl refl refl (λ e. refl)) (λ plays free. Same refl refl refl (λ e. refl))
 
-  pub send_change : (to : ℕ) → Change rules.players 0 ⊥ ⊥ node (on_send rules i node to).0
+  pub send_change : (to : ℕ) → Change limits.players 0 ⊥ ⊥ node (on_send limits i node to).0
   send_change to =
-      send_cases rules i node (λ (r : Node × Option Flight). Change rules.players 0 ⊥ ⊥ node r.0) to
+      send_cases limits i node (λ (r : Node × Option Flight). Change limits.players 0 ⊥ ⊥ node r.0) to
       (Same refl refl refl (λ e. refl)) (λ other g. Same refl refl refl (λ e. refl))
       (λ other plays. Same refl refl refl (λ e. refl)) (λ other left. Same refl refl refl (λ e. refl))
 
-  pub run_change : Change rules.players 0 ⊥ (Unit {0}) node (on_run rules node).0
-  run_change = run_cases rules i node (λ (new : Node). Change rules.players 0 ⊥ (Unit {0}) node new)
+  pub run_change : (marks : ℕ → ℤ) → Change limits.players 0 ⊥ (Unit {0}) node (on_run limits node marks).0
+  run_change marks = run_cases limits i node marks (λ (new : Node). Change limits.players 0 ⊥ (Unit {0}) node new)
       (λ waits. Same refl refl refl (λ e. refl)) (λ player plays none off. Gone tt refl refl refl)
       (λ plays none full. Gone tt refl refl refl) (λ plays none free. Same refl refl refl (λ g. absurd (cc)))
 
-  pub quit_change : Change rules.players 0 ⊥ (Unit {0}) node (on_quit node).0
-  quit_change = quit_cases rules i node (λ (new : Node). Change rules.players 0 ⊥ (Unit {0}) node new)
+  pub quit_change : Change limits.players 0 ⊥ (Unit {0}) node (on_quit node).0
+  quit_change = quit_cases limits i node (λ (new : Node). Change limits.players 0 ⊥ (Unit {0}) node new)
       (Same refl refl refl (λ e. refl)) (λ goes_on. Gone tt refl refl refl)
 
-  pub hear_change : (flight : Flight) → Change rules.players flight.from (IsWord flight.kind) ⊥ node
-      (on_packet rules i node flight).0
-  hear_change flight = packet_cases rules i node flight
-      (λ (r : Node × Heard). Change rules.players flight.from (IsWord flight.kind) ⊥ node r.0) (record {
+  pub hear_change : (flight : Flight) → Change limits.players flight.from (IsWord flight.kind) ⊥ node
+      (on_packet limits i node flight).0
+  hear_change flight = packet_cases limits i node flight
+      (λ (r : Node × Heard). Change limits.players flight.from (IsWord flight.kind) ⊥ node r.0) (record {
         dropped = λ number why. Same refl refl refl (λ e. refl);
         starts = λ s e k. Starts e refl refl refl;
         completes = λ word e all. Completes word e refl refl refl all;

@@ -8,11 +8,13 @@ use Rattle.std.proofs.lemmas.List.Sums.{take_while-cons, prefix_len_passes, pref
 use Rattle.std.proofs.lemmas.List.Folds.{length-prefix_len}
 use Rattle.dn_tic.specs.declared.command.TicCmd.{TicCmd}
 use Rattle.dn_tic.specs.Command.{used}
-use Rattle.dn_machine.specs.Worlds.{Rules, row_of, if_made}
+use Rattle.dn_machine.specs.Worlds.{if_made}
 use Rattle.dn_machine.specs.Node.{Node, ran, held_at, lacks, is_whole}
 use Rattle.dn_machine.specs.Running.{is_absent, row_held}
 use Rattle.dn_machine.specs.Promise.{IsPrefixOf}
 use Rattle.dn_machine.proofs.Marks.{lowest_none, lowest_none_each}
+use Rattle.dn_machine.specs.Limits.{Limits, row_of}
+use Rattle.dn_tic.specs.declared.input.Input.{Input}
 
 -- the front of a longer list
 
@@ -119,13 +121,13 @@ whole_more players f g h e =
     (λ p l. let taken = seat_taken players f p l (each p l) in
     seat_is players g p l taken.0 ∙ h p l taken.1))
 
-pub if_made_is : (keys : List ℕ) (tic : ℕ) (command : TicCmd)
-    → is_none (if_made keys tic command) ≡ leb (length keys) tic
-if_made_is keys tic command = elim (cases_lt tic (length keys)) [
-  | inl made ↦ ap (λ (b : Bool). is_none (cond b (Some command) None)) (lt-ltb tic (length keys) made)
-      ∙ sym (lt-leb (length keys) tic made)
-  | inr past ↦ ap (λ (b : Bool). is_none (cond b (Some command) None)) (le-ltb tic (length keys) past)
-      ∙ sym (le-leb (length keys) tic past)
+pub if_made_is : (inputs : List Input) (tic : ℕ) (command : TicCmd)
+    → is_none (if_made inputs tic command) ≡ leb (length inputs) tic
+if_made_is inputs tic command = elim (cases_lt tic (length inputs)) [
+  | inl made ↦ ap (λ (b : Bool). is_none (cond b (Some command) None)) (lt-ltb tic (length inputs) made)
+      ∙ sym (lt-leb (length inputs) tic made)
+  | inr past ↦ ap (λ (b : Bool). is_none (cond b (Some command) None)) (le-ltb tic (length inputs) past)
+      ∙ sym (le-leb (length inputs) tic past)
 ]
 
 pub whole_has : (players : ℕ) (f : ℕ → Option TicCmd) → is_whole players (row_of players f) ≡ true → (p : ℕ)
@@ -140,10 +142,10 @@ absent_none false c = refl
 
 -- the next row of a node is whole where that of another is, and whoever is absent at the one is absent at the
 -- other
-pub whole_held : {S : Type 0} (rules : Rules S) (new old : Node)
-    → ((p : ℕ) → p < rules.players → is_absent new p ≡ false → is_absent old p ≡ false)
-    → is_whole rules.players (row_held rules new) ≡ true → is_whole rules.players (row_held rules old) ≡ true
-whole_held rules new old h e =
-    whole_more rules.players _ _ (λ p l s.
+pub whole_held : (limits : Limits) (new old : Node)
+    → ((p : ℕ) → p < limits.players → is_absent new p ≡ false → is_absent old p ≡ false)
+    → is_whole limits.players (row_held limits new) ≡ true → is_whole limits.players (row_held limits old) ≡ true
+whole_held limits new old h e =
+    whole_more limits.players _ _ (λ p l s.
     absent_none (is_absent old p) (held_at old p (ran old))
     ∙ h p l (sym (absent_none (is_absent new p) (held_at new p (ran new))) ∙ s)) e

@@ -1,10 +1,10 @@
 -- A relation between a node before and after that each call on a node keeps to: at every node each event
 -- does. And what each event keeps, every list of events keeps.
-use Rattle.std.proofs.Common.{ℕ, List, [], ◌∷◌, Option, Some, None, sym, subst, inl, inr}
+use Rattle.std.proofs.Common.{ℤ, ℕ, List, [], ◌∷◌, Option, Some, None, sym, subst, inl, inr, ◌≡◌, true, refl}
 use Rattle.std.specs.Prelude.{slice_get}
 use Rattle.std.proofs.lemmas.Bool.{cases_eq}
 use Rattle.dn_machine.specs.declared.events.Event.{Event}
-use Rattle.dn_machine.specs.declared.events.Event.TheVariants.{Build, Send, Deliver, Run, Quit, Stop}
+use Rattle.dn_machine.specs.declared.events.Event.TheVariants.{Build, Send, Deliver, Run, Quit, Stop, Give}
 use Rattle.dn_machine.specs.declared.events.Refusal.{Refusal}
 use Rattle.dn_machine.specs.Worlds.{Rules}
 use Rattle.dn_machine.specs.Flight.{Flight}
@@ -13,9 +13,17 @@ use Rattle.dn_machine.specs.Building.{on_build}
 use Rattle.dn_machine.specs.Sending.{on_send}
 use Rattle.dn_machine.specs.Hearing.{on_packet}
 use Rattle.dn_machine.specs.Running.{on_run, on_quit}
-use Rattle.dn_machine.specs.Game.{Game, posted, refused, delivered, on_event, applied_if, applied}
+use Rattle.dn_machine.specs.Game.{Game, own_marks, posted, refused, delivered, on_event, applied_if, applied}
 use Rattle.dn_machine.specs.Runs.{Next, Leads}
 use Rattle.dn_machine.proofs.Put.{put_at, put_off}
+use Rattle.dn_tic.specs.declared.input.Input.{Input}
+use Rattle.dn_tic.specs.declared.input.Input.TheVariants.{Pressed, Given}
+use Rattle.dn_machine.specs.Progress.{build_of, is_of_round}
+
+-- a build is an event of a round
+pub build_round : (i : ℕ) (input : Input) → is_of_round (build_of i input) ≡ true
+build_round i (Pressed keys) = refl
+build_round i (Given command) = refl
 
 module _ {S : Type 0} (rules : Rules S) (R : Node → Node → Type 0) (same : (node : Node) → R node node)
     (game : Game) (q : ℕ) where
@@ -31,7 +39,7 @@ module _ {S : Type 0} (rules : Rules S) (R : Node → Node → Type 0) (same : (
   ]
 
   -- a refused event changes nothing
-  by_refusal : (event : Event) → R (game.nodes q) ((on_event rules game event).0.nodes q) → After event
+  pub by_refusal : (event : Event) → R (game.nodes q) ((on_event rules game event).0.nodes q) → After event
   unfolding applied
   by_refusal event related = go (refused rules.players game event)
     where
@@ -39,13 +47,14 @@ module _ {S : Type 0} (rules : Rules S) (R : Node → Node → Type 0) (same : (
       go (Some refusal) = same (game.nodes q)
       go None = related
 
-  pub after_build : (i state : ℕ) → R (game.nodes i) (on_build rules i (game.nodes i) state).0
-      → After (Build i state)
-  after_build i state related = by_refusal (Build i state) (placed i _ related)
+  pub after_build : (i : ℕ) (input : Input) → R (game.nodes i) (on_build i (game.nodes i) input).0
+      → After (build_of i input)
+  after_build i (Pressed keys) related = by_refusal (Build i keys) (placed i _ related)
+  after_build i (Given command) related = by_refusal (Give i command) (placed i _ related)
 
-  pub after_send : (i to : ℕ) → R (game.nodes i) (on_send rules i (game.nodes i) to).0 → After (Send i to)
+  pub after_send : (i to : ℕ) → R (game.nodes i) (on_send rules.limits i (game.nodes i) to).0 → After (Send i to)
   after_send i to related = by_refusal (Send i to)
-      (go _ (on_send rules i (game.nodes i) to).1 (placed i _ related))
+      (go _ (on_send rules.limits i (game.nodes i) to).1 (placed i _ related))
     where
       go : (base : Game) (o : Option Flight) → R (game.nodes q) (base.nodes q)
           → R (game.nodes q) ((posted base o).0.nodes q)
@@ -54,7 +63,7 @@ module _ {S : Type 0} (rules : Rules S) (R : Node → Node → Type 0) (same : (
 
   pub after_deliver : (which : ℕ)
       → ((flight : Flight)
-      → R (game.nodes flight.to) (on_packet rules flight.to (game.nodes flight.to) flight).0)
+      → R (game.nodes flight.to) (on_packet rules.limits flight.to (game.nodes flight.to) flight).0)
       → After (Deliver which)
   after_deliver which related = by_refusal (Deliver which) (go (slice_get game.flights which))
     where
@@ -62,17 +71,18 @@ module _ {S : Type 0} (rules : Rules S) (R : Node → Node → Type 0) (same : (
       go None = same (game.nodes q)
       go (Some flight) = placed flight.to _ (related flight)
 
-  module _ (builds : (i state : ℕ) (node : Node) → R node (on_build rules i node state).0)
-      (sends : (i to : ℕ) (node : Node) → R node (on_send rules i node to).0)
-      (hears : (i : ℕ) (flight : Flight) (node : Node) → R node (on_packet rules i node flight).0)
-      (runs : (node : Node) → R node (on_run rules node).0)
+  module _ (builds : (i : ℕ) (input : Input) (node : Node) → R node (on_build i node input).0)
+      (sends : (i to : ℕ) (node : Node) → R node (on_send rules.limits i node to).0)
+      (hears : (i : ℕ) (flight : Flight) (node : Node) → R node (on_packet rules.limits i node flight).0)
+      (runs : (node : Node) (marks : ℕ → ℤ) → R node (on_run rules.limits node marks).0)
       (quits : (node : Node) → R node (on_quit node).0) where
     pub after_event : (event : Event) → After event
-    after_event (Build i state) = after_build i state (builds i state (game.nodes i))
+    after_event (Build i keys) = after_build i (Pressed keys) (builds i (Pressed keys) (game.nodes i))
+    after_event (Give i command) = after_build i (Given command) (builds i (Given command) (game.nodes i))
     after_event (Send i to) = after_send i to (sends i to (game.nodes i))
     after_event (Deliver which) =
         after_deliver which (λ flight. hears flight.to flight (game.nodes flight.to))
-    after_event (Run i) = by_refusal (Run i) (placed i _ (runs (game.nodes i)))
+    after_event (Run i) = by_refusal (Run i) (placed i _ (runs (game.nodes i) (own_marks rules (game.nodes i))))
     after_event (Quit i) = by_refusal (Quit i) (placed i _ (quits (game.nodes i)))
     after_event (Stop i) = by_refusal (Stop i) (same (game.nodes q))
 

@@ -8,19 +8,20 @@ use Rattle.dn_machine.specs.declared.answers.Ran.{Ran}
 use Rattle.dn_machine.specs.declared.events.Done.{Done}
 use Rattle.dn_machine.specs.declared.events.Event.TheVariants.{Send, Deliver, Run, Quit, Stop}
 use Rattle.dn_machine.specs.declared.events.Refusal.{Refusal}
-use Rattle.dn_machine.specs.Worlds.{Rules, row_of, opening}
+use Rattle.dn_machine.specs.Limits.{row_of}
+use Rattle.dn_machine.specs.Worlds.{Rules, opening, world_after}
 use Rattle.dn_machine.specs.Flight.{SetUp, Play, Exit, Flight, is_exit, packet_of}
-use Rattle.dn_machine.specs.Node.{Node, no_peer, ends_of, blank, is_ended, known_end, lowest, world_after, demo_rows}
-use Rattle.dn_machine.specs.Game.{fresh, opening_game, refused, applied}
+use Rattle.dn_machine.specs.Node.{Node, no_peer, ends_of, blank, is_ended, known_end, lowest, demo_rows}
+use Rattle.dn_machine.specs.Game.{on_own_run, fresh, opening_game, refused, applied}
 use Rattle.dn_machine.specs.Sending.{on_send}
 use Rattle.dn_machine.specs.Hearing.{on_packet}
 use Rattle.dn_machine.specs.Running.{full_at, row_held, on_run, on_quit}
-use Rattle.dn_machine.proofs.TwoPlayers.{settings, counting, answers}
+use Rattle.dn_machine.proofs.TwoPlayers.{settings, counting, counting_with, answers}
 use Rattle.dn_machine.proofs.SingleNodes.{playing, packet}
 use Rattle.dn_tic.specs.Command.{used}
 
 -- of several players that are waited for the lowest is answered
-lowest_awaited : (on_run counting (record (playing 3 0) { held = λ p. [] })).1 ≡ Ran.Waiting 0
+lowest_awaited : (on_own_run counting (record (playing 3 0) { held = λ p. [] })).1 ≡ Ran.Waiting 0
 unfolding playing on_run lowest
 lowest_awaited = refl
 
@@ -28,9 +29,9 @@ lowest_awaited = refl
 off : ℕ → Node
 off ran = record (playing 20 ran) { held = λ p. replicate 20 (record blank { mark = pos 5 }) }
 
-mark_off : ((on_run counting (off 12)).1 ≡ Ran.Ran 12)
-    × ((on_run counting (off 13)).1 ≡ Ran.Inconsistent 0 (pos 5) (pos 1))
-    × ((on_run counting (off 13)).0.phase ≡ Ended (Cause.Inconsistent 0 (pos 5) (pos 1)))
+mark_off : ((on_own_run counting (off 12)).1 ≡ Ran.Ran 12)
+    × ((on_own_run counting (off 13)).1 ≡ Ran.Inconsistent 0 (pos 5) (pos 1))
+    × ((on_own_run counting (off 13)).0.phase ≡ Ended (Cause.Inconsistent 0 (pos 5) (pos 1)))
 unfolding off playing on_run lowest world_after row_of used
 mark_off = (refl, refl, refl)
 
@@ -38,16 +39,16 @@ mark_off = (refl, refl, refl)
 at_the_end : Node
 at_the_end = record (playing 103 102) { held = λ p. replicate 103 (record blank { mark = pos 90 }) }
 
-full : ((on_run (record counting { capacity = 102 }) at_the_end).1 ≡ Ran.DemoFull)
-    × ((on_run (record counting { capacity = 102 }) at_the_end).0.phase ≡ Ended Cause.Full)
-    × ((on_run (record counting { capacity = 103 }) at_the_end).1 ≡ Ran.Ran 102)
+full : ((on_own_run (counting_with 2 102) at_the_end).1 ≡ Ran.DemoFull)
+    × ((on_own_run (counting_with 2 102) at_the_end).0.phase ≡ Ended Cause.Full)
+    × ((on_own_run (counting_with 2 103) at_the_end).1 ≡ Ran.Ran 102)
 unfolding at_the_end playing on_run lowest world_after row_of used
 full = (refl, refl, refl)
 
 -- a node of three that has ended gives its last commands, from the peer's resend on, and asks for nothing;
 -- one that never played gives nothing
 three : Rules ℕ
-three = record counting { players = 3 }
+three = counting_with 3 13105
 
 ended : Cause → Node
 ended cause = record (playing 35 30) {
@@ -60,10 +61,10 @@ starts_of None = []
 starts_of (Some flight) = flight.start ∷ length flight.commands ∷ (if is_exit flight.kind then 1 else 0)
     ∷ (if is_none flight.request then 0 else 1) ∷ []
 
-exits : let a = on_send three 0 (ended Cause.Quit) 1 in let b = on_send three 0 a.0 1 in
+exits : let a = on_send three.limits 0 (ended Cause.Quit) 1 in let b = on_send three.limits 0 a.0 1 in
     map starts_of
-    (a.1 ∷ b.1 ∷ (on_send three 0 b.0 2).1 ∷ (on_send three 0 (record b.0 { played = false }) 1).1
-    ∷ (on_send three 0 b.0 0).1 ∷ [])
+    (a.1 ∷ b.1 ∷ (on_send three.limits 0 b.0 2).1 ∷ (on_send three.limits 0 (record b.0 { played = false }) 1).1
+    ∷ (on_send three.limits 0 b.0 0).1 ∷ [])
     ≡ (33 ∷ 2 ∷ 1 ∷ 0 ∷ []) ∷ (35 ∷ 0 ∷ 1 ∷ 0 ∷ []) ∷ (35 ∷ 0 ∷ 1 ∷ 0 ∷ []) ∷ [] ∷ [] ∷ []
 unfolding three ended playing on_send starts_of
 exits = refl
@@ -75,7 +76,7 @@ exit start count = record (packet start None count) { kind = Exit }
 
 -- the answer; the sender's end, its commands, and whether more are wanted; and whether the node has ended
 heard : Flight → Heard × Option ℕ × ℕ × Bool × Bool
-heard f = let after = on_packet counting 0 (playing 5 3) f in
+heard f = let after = on_packet counting.limits 0 (playing 5 3) f in
     (after.1, ends_of after.0 1, length (after.0.held 1), (after.0.peers 1).want, is_ended after.0.phase)
 
 left : map heard (exit 5 0 ∷ exit 3 2 ∷ exit 4 3 ∷ exit 6 0 ∷ [])
@@ -86,13 +87,13 @@ left = refl
 
 -- a strange end: an EXIT packet that ends before what is there, and with the end 5 known commands past it or
 -- another end
-strange : map (λ (f : Flight). (on_packet counting 0 (playing 5 3) f).1)
+strange : map (λ (f : Flight). (on_packet counting.limits 0 (playing 5 3) f).1)
     (exit 4 0 ∷ exit 5 0 ∷ packet 4 None 0 ∷ []) ≡ Heard.Dropped 14 ∷ Heard.Left ∷ Heard.Stale ∷ []
 unfolding playing exit packet on_packet
 strange = refl
 
 strange_known :
-    map (λ (f : Flight). (on_packet counting 0
+    map (λ (f : Flight). (on_packet counting.limits 0
     (record (playing 5 3) { peers = λ p. record no_peer { end = Some 5 } }) f).1)
     (packet 5 None 1 ∷ exit 6 0 ∷ exit 5 0 ∷ packet 4 None 1 ∷ [])
     ≡ Heard.Dropped 14 ∷ Heard.Dropped 14 ∷ Heard.Left ∷ Heard.Stale ∷ []
@@ -101,7 +102,7 @@ strange_known = refl
 
 -- and with the end 7 known, of which two commands are missing, an EXIT packet that ends at 6
 strange_other :
-    map (λ (f : Flight). (on_packet counting 0
+    map (λ (f : Flight). (on_packet counting.limits 0
     (record (playing 5 3) { peers = λ p. record no_peer { end = Some 7 } }) f).1)
     (exit 6 0 ∷ packet 6 None 0 ∷ exit 5 2 ∷ packet 5 None 3 ∷ [])
     ≡ Heard.Dropped 14 ∷ Heard.Gap ∷ Heard.Left ∷ Heard.Dropped 14 ∷ []
@@ -114,7 +115,7 @@ set_up = record (packet 0 None 0) { kind = SetUp settings }
 
 -- the answer; the sender's resend, its pause and its commands
 asked : Flight → Heard × ℕ × ℕ × ℕ
-asked f = let after = on_packet counting 0 (record (playing 35 30) { phase = Ended Cause.Quit }) f in
+asked f = let after = on_packet counting.limits 0 (record (playing 35 30) { phase = Ended Cause.Quit }) f in
     (after.1, (after.0.peers 1).resend, (after.0.peers 1).pause, length (after.0.held 1))
 
 after_end : map asked (packet 35 (Some 33) 5 ∷ packet 90 None 12 ∷ exit 35 0 ∷ set_up ∷ [])
@@ -124,7 +125,7 @@ unfolding asked playing exit packet on_packet set_up
 after_end = refl
 
 never_played :
-    map (λ (f : Flight). (on_packet counting 0
+    map (λ (f : Flight). (on_packet counting.limits 0
     (record (playing 0 0) { phase = Ended Cause.Quit; played = false }) f).1)
     (packet 0 None 0 ∷ exit 0 0 ∷ set_up ∷ []) ≡ Heard.Dropped 13 ∷ Heard.Dropped 13 ∷ Heard.Dropped 13 ∷ []
 unfolding playing exit packet on_packet set_up
@@ -141,8 +142,8 @@ alone made ran = record (playing made ran) {
 }
 
 moves : ℕ → ℕ → Ran × List Bool × ℕ
-moves made ran = let after = on_run counting (alone made ran) in
-    (after.1, map is_some (get_or after.0.rows ran []), length (demo_rows counting after.0))
+moves made ran = let after = on_own_run counting (alone made ran) in
+    (after.1, map is_some (get_or after.0.rows ran []), length (demo_rows 2 after.0))
 
 without : moves 5 2 ∷ moves 5 3 ∷ moves 5 4 ∷ moves 5 5 ∷ []
     ≡ (Ran.Ran 2, true ∷ true ∷ false ∷ false ∷ [], 3) ∷ (Ran.Ran 3, true ∷ false ∷ false ∷ false ∷ [], 3)
@@ -151,10 +152,10 @@ unfolding moves alone playing on_run lowest world_after row_of used
 without = refl
 
 -- where a row lacks a player no room in the demo is asked for, and at most 2097150 tics are run
-at_most : (full_at counting (row_held counting (alone 5 2)) ≡ counting.capacity)
-    × (full_at counting (row_held counting (alone 5 3)) ≡ 2097150)
-    × ((on_run (record counting { capacity = 3 }) (alone 5 3)).1 ≡ Ran.Ran 3)
-    × ((on_run (record counting { capacity = 2 }) (alone 5 2)).1 ≡ Ran.DemoFull)
+at_most : (full_at counting.limits (row_held counting.limits (alone 5 2)) ≡ counting.capacity)
+    × (full_at counting.limits (row_held counting.limits (alone 5 3)) ≡ 2097150)
+    × ((on_own_run (counting_with 2 3) (alone 5 3)).1 ≡ Ran.Ran 3)
+    × ((on_own_run (counting_with 2 2) (alone 5 2)).1 ≡ Ran.DemoFull)
 unfolding alone playing on_run lowest world_after row_of used
 at_most = (refl, refl, refl, refl)
 
@@ -169,23 +170,23 @@ unfolding alone playing
 own_end = (refl, refl)
 
 -- a gap is asked for from the first command that is missing, until it is closed
-asks : ((on_send counting 0
+asks : ((on_send counting.limits 0
     (record (playing 20 15) {
       peers = λ p. record no_peer { want = true };
       held = λ p. replicate (if nat_lt p 1 then 20 else 17) blank;
     }) 1).1
     ≡ Some (record { from = 0; to = 1; kind = Play; start = 20; request = Some 17; commands = [] }))
-    × (((on_packet counting 0 (record (playing 20 18) { peers = λ p. record no_peer { want = true } })
+    × (((on_packet counting.limits 0 (record (playing 20 18) { peers = λ p. record no_peer { want = true } })
     (packet 18 None 5)).0.peers 1).want ≡ false)
-    × (((on_packet counting 0 (record (playing 20 18) { peers = λ p. record no_peer { want = true } })
+    × (((on_packet counting.limits 0 (record (playing 20 18) { peers = λ p. record no_peer { want = true } })
     (packet 18 None 1)).0.peers 1).want ≡ true)
 unfolding playing packet on_send on_packet
 asks = (refl, refl, refl)
 
 -- a packet that is dropped shortens no pause, and a stale one does
-holds : (((on_packet counting 0 (record (playing 0 0) { peers = λ p. record no_peer { pause = 3 } })
+holds : (((on_packet counting.limits 0 (record (playing 0 0) { peers = λ p. record no_peer { pause = 3 } })
     (packet 1 None 12)).0.peers 1).pause ≡ 3)
-    × (((on_packet counting 0 (record (playing 0 0) { peers = λ p. record no_peer { pause = 3 } })
+    × (((on_packet counting.limits 0 (record (playing 0 0) { peers = λ p. record no_peer { pause = 3 } })
     (packet 0 None 0)).0.peers 1).pause ≡ 2)
 unfolding playing packet on_packet
 holds = (refl, refl)
@@ -208,13 +209,13 @@ from_player : ℕ → Flight
 from_player p = record (packet 0 None 0) { from = p }
 
 -- an EXIT packet is heard as any other, and its end is not noted
-heard_exit : let a = on_packet three 0 (fresh settings 0) (record (from_player 2) { kind = Exit }) in
+heard_exit : let a = on_packet three.limits 0 (fresh settings 0) (record (from_player 2) { kind = Exit }) in
     (a.1 ≡ Heard.Noted) × (ends_of a.0 2 ≡ None)
 unfolding three from_player packet on_packet
 heard_exit = (refl, refl)
 
-gathers : let a = on_packet three 0 (fresh settings 0) (from_player 2) in
-    let b = on_packet three 0 a.0 (from_player 2) in let c = on_packet three 0 b.0 (from_player 1) in
+gathers : let a = on_packet three.limits 0 (fresh settings 0) (from_player 2) in
+    let b = on_packet three.limits 0 a.0 (from_player 2) in let c = on_packet three.limits 0 b.0 (from_player 1) in
     a.1 ∷ b.1 ∷ c.1 ∷ [] ≡ Heard.Noted ∷ Heard.Noted ∷ Heard.Started ∷ []
 unfolding three from_player packet on_packet
 gathers = refl
@@ -242,9 +243,7 @@ far_first = refl
 seats : (opening (record {
   physics =
       record { begin = λ start present. present; step = λ world row. world; mark = λ world player. pos 0 };
-  players = 3;
-  extra = false;
-  capacity = 13105;
+  limits = record { players = 3; extra = false; capacity = 13105 };
 }) settings ≡ true ∷ true ∷ true ∷ false ∷ [])
     × (map is_some (row_of 3 (λ p. Some blank)) ≡ true ∷ true ∷ true ∷ false ∷ [])
 unfolding row_of

@@ -85,7 +85,7 @@ module _ {S : Type 0} (rules : Rules S) (settings : Settings) (cap : ℕ) (stay 
           let a = f.close i j mine its (there j its s) in
           let b = f.ahead j its in
           let c = f.held j i its mine in
-          elim (on.live.kept.from_keys.run j i its mine) [
+          elim (on.live.kept.from_inputs.run j i its mine) [
             | inl le ↦
                 inl (Pairs.near rules settings game on.live i j mine its apart gone asks_it sends a
                 (omega arith) asked_within)
@@ -100,7 +100,7 @@ module _ {S : Type 0} (rules : Rules S) (settings : Settings) (cap : ℕ) (stay 
         let a = f.close j i its mine (there i mine s) in
         let b = f.ahead i mine in
         let c = f.held i j mine its in
-        elim (on.live.kept.from_keys.run i j mine its) [
+        elim (on.live.kept.from_inputs.run i j mine its) [
           | inl le ↦
               inl (Pairs.near rules settings game on.live i j mine its apart gone asks_it sends (omega arith)
               a asked_within)
@@ -182,7 +182,7 @@ module _ {S : Type 0} (rules : Rules S) (settings : Settings) (cap : ℕ) (stay 
           (sym (Pairs.exchanged rules settings game on.live i j mine its apart gone asks_it sends near))
           (placed _ h.phase h.played h.other h.taken
           (λ u. inr (subst (λ (w : Bool). Asked (got I j) w (J.peers i)
-          ((on_packet rules j J flight).0.peers i)) (sym (same_want u)) (h.asked u))))
+          ((on_packet rules.limits j J flight).0.peers i)) (sym (same_want u)) (h.asked u))))
       | inr far ↦
           subst (λ (g : Game). IsExchanged stay tic flight.start i j game g)
           (sym (Pairs.not_exchanged rules settings game on.live i j mine its apart gone asks_it sends far

@@ -7,7 +7,7 @@ use Rattle.dn_setup.specs.Settings.{Settings}
 use Rattle.dn_machine.specs.declared.answers.Cause.TheVariants as Cause
 use Rattle.dn_machine.specs.declared.answers.Phase.TheVariants.{Listening, Gathering, Playing, Ended}
 use Rattle.dn_machine.specs.declared.events.Event.{Event}
-use Rattle.dn_machine.specs.declared.events.Event.TheVariants.{Build, Send, Deliver, Run, Quit, Stop}
+use Rattle.dn_machine.specs.declared.events.Event.TheVariants.{Build, Send, Deliver, Run, Quit, Stop, Give}
 use Rattle.dn_machine.specs.declared.events.Refusal.{Refusal}
 use Rattle.dn_machine.specs.Worlds.{Rules}
 use Rattle.dn_machine.specs.Flight.{Flight}
@@ -19,6 +19,7 @@ use Rattle.dn_machine.proofs.HearKeeps.{hears}
 use Rattle.dn_machine.proofs.RunKeeps.{runs, quits}
 use Rattle.dn_machine.proofs.EachEvent.{leads_keep}
 use Rattle.dn_machine.specs.Runs.{Next, Leads, Runs}
+use Rattle.dn_tic.specs.declared.input.Input.TheVariants.{Pressed, Given}
 
 -- the phases and the settings of the nodes as a game opens
 opening_phase : (settings : Settings) (b : Bool) → (cond b Gathering Listening ≢ Playing)
@@ -37,7 +38,7 @@ module _ {S : Type 0} (rules : Rules S) (settings : Settings) where
   pub opens : IsKept rules settings (opening_game settings)
   unfolding opening_game
   opens = record {
-    from_keys = record {
+    from_inputs = record {
       counted = λ p l. refl;
       run = λ q p l m. inl (omega arith);
       got = λ q p l m. omega arith;
@@ -58,6 +59,7 @@ module _ {S : Type 0} (rules : Rules S) (settings : Settings) where
       whole = λ e. refl;
       most = λ cap. omega arith;
     };
+    marks = λ q l p tic m ran made. absurd (omega arith);
   }
 
   module _ (game : Game) (kept : IsKept rules settings game) where
@@ -69,12 +71,14 @@ module _ {S : Type 0} (rules : Rules S) (settings : Settings) where
         → IsKept rules settings (delivered rules game o).0
     delivers None which h = kept
     delivers (Some flight) which h =
-        let piece = kept.from_keys.pieces which flight h in
+        let piece = kept.from_inputs.pieces which flight h in
         hears rules settings game kept flight.to piece.receiver flight piece refl
 
     pub happens_keeps : (event : Event) → refused rules.players game event ≡ None
         → IsKept rules settings (on_event rules game event).0
-    happens_keeps (Build node keys) h = builds rules settings game kept node (named node h) keys
+    happens_keeps (Build node keys) h = builds rules settings game kept node (named node h) (Pressed keys)
+    happens_keeps (Give node command) h =
+        builds rules settings game kept node (named node h) (Given command)
     happens_keeps (Send node to) h =
         let both = and_parts (ltb node rules.players) (ltb to rules.players)
         (passes (ltb node rules.players && ltb to rules.players) _ _ h) in
@@ -83,7 +87,7 @@ module _ {S : Type 0} (rules : Rules S) (settings : Settings) where
     happens_keeps (Deliver which) h = delivers (slice_get game.flights which) which refl
     happens_keeps (Run node) h = runs rules settings game kept node (named node h)
     happens_keeps (Quit node) h = quits rules settings game kept node (named node h)
-    happens_keeps (Stop node) h = record { from_keys = kept.from_keys; sound = kept.sound }
+    happens_keeps (Stop node) h = record { from_inputs = kept.from_inputs; sound = kept.sound; marks = kept.marks }
 
     pub applied_keeps : (event : Event) → IsKept rules settings (applied rules game event).0
     unfolding applied

@@ -3,15 +3,16 @@ use Rattle.std.proofs.Common.{◌≡◌, ℕ, Bool, true, false, true≢false, �
 use Rattle.std.proofs.lemmas.Bool.{cases_eq}
 use Rattle.dn_machine.specs.declared.answers.Phase.{Phase}
 use Rattle.dn_machine.specs.declared.answers.Phase.TheVariants.{Listening, Gathering, Playing}
-use Rattle.dn_machine.specs.declared.events.Event.TheVariants.{Build, Send, Deliver}
+use Rattle.dn_machine.specs.declared.events.Event.TheVariants.{Send, Deliver}
 use Rattle.dn_machine.specs.Worlds.{Rules}
 use Rattle.dn_machine.specs.Node.{Node, is_ended, has_left}
 use Rattle.dn_machine.specs.Game.{Game, with_node}
-use Rattle.dn_machine.specs.Progress.{after, exchange}
+use Rattle.dn_machine.specs.Progress.{after, exchange, build_of}
 use Rattle.dn_machine.proofs.Put.{put_at, put_off}
 use Rattle.dn_machine.proofs.EachEvent.{placed, after_build, after_send, after_deliver}
 use Rattle.dn_machine.proofs.GoingOn.{left_ended}
 use Rattle.dn_machine.proofs.Changes.{Change, Same, Starts, Notes, Completes, Gone, build_change, send_change, hear_change, noted_of}
+use Rattle.dn_tic.specs.declared.input.Input.{Input}
 
 -- a node that ends no more, and forgets nobody
 pub record Gentle (old new : Node) : Type 0 where
@@ -85,17 +86,17 @@ placed_gentle rules game i new gentle q =
     placed rules (λ (old now : Node). Gentle old now) gentle_same game q i new gentle
 
 module _ {S : Type 0} (rules : Rules S) (game : Game) where
-  pub build_gentle : (i state : ℕ) → AllGentle game (after rules (Build i state) game)
-  build_gentle i state q = after_build rules (λ (old new : Node). Gentle old new) gentle_same game q i state
-      (change_gentle _ _ _ _ _ (build_change rules i (game.nodes i) state))
+  pub build_gentle : (i : ℕ) (input : Input) → AllGentle game (after rules (build_of i input) game)
+  build_gentle i input q = after_build rules (λ (old new : Node). Gentle old new) gentle_same game q i input
+      (change_gentle _ _ _ _ _ (build_change rules.limits i (game.nodes i) input))
 
   pub send_gentle : (i j : ℕ) → AllGentle game (after rules (Send i j) game)
   send_gentle i j q = after_send rules (λ (old new : Node). Gentle old new) gentle_same game q i j
-      (change_gentle _ _ _ _ _ (send_change rules i (game.nodes i) j))
+      (change_gentle _ _ _ _ _ (send_change rules.limits i (game.nodes i) j))
 
   pub deliver_gentle : (which : ℕ) → AllGentle game (after rules (Deliver which) game)
   deliver_gentle which q = after_deliver rules (λ (old new : Node). Gentle old new) gentle_same game q which
-      (λ flight. change_gentle _ _ _ _ _ (hear_change rules flight.to (game.nodes flight.to) flight))
+      (λ flight. change_gentle _ _ _ _ _ (hear_change rules.limits flight.to (game.nodes flight.to) flight))
 
 pub exchange_gentle : {S : Type 0} (rules : Rules S) (game : Game) (i j : ℕ)
     → AllGentle game (exchange rules i game j)

@@ -6,7 +6,7 @@ use Rattle.dn_setup.specs.Settings.{Settings}
 use Rattle.dn_machine.specs.declared.answers.Phase.{Phase}
 use Rattle.dn_machine.specs.declared.answers.Phase.TheVariants.{Playing}
 use Rattle.dn_machine.specs.declared.events.Event.{Event}
-use Rattle.dn_machine.specs.declared.events.Event.TheVariants.{Build, Send, Deliver, Run, Quit, Stop}
+use Rattle.dn_machine.specs.declared.events.Event.TheVariants.{Build, Send, Deliver, Run, Quit, Stop, Give}
 use Rattle.dn_machine.specs.declared.events.Refusal.{Refusal}
 use Rattle.dn_machine.specs.Worlds.{Rules}
 use Rattle.dn_machine.specs.Flight.{Flight}
@@ -69,9 +69,10 @@ stopped_after rules event game round = go (refused rules.players game event)
     delivers (Some flight) = refl
 
     happens : (e : Event) → is_of_round e ≡ true → (on_event rules game e).0.stopped ≡ game.stopped
-    happens (Build i state) r = refl
-    happens (Send i j) r = posts (with_node game i (on_send rules i (game.nodes i) j).0)
-        (on_send rules i (game.nodes i) j).1
+    happens (Build i keys) r = refl
+    happens (Give i command) r = refl
+    happens (Send i j) r = posts (with_node game i (on_send rules.limits i (game.nodes i) j).0)
+        (on_send rules.limits i (game.nodes i) j).1
     happens (Deliver which) r = delivers (slice_get game.flights which)
     happens (Run i) r = refl
     happens (Quit i) r = refl
@@ -127,7 +128,7 @@ pub full_far : {S : Type 0} (rules : Rules S) (settings : Settings) (cap : ℕ) 
     → ((q : ℕ) → q < rules.players → stay q ≡ true → is_ended (game.nodes q).phase ≡ false)
     → (r : ℕ) → r < rules.players → cap ≤ ran (game.nodes r) → IsFar rules cap stay game
 full_far rules settings cap stay game live there r mine full q l s =
-    let a = Lists.ran_below rules settings (history_of game) game.flights live.kept.from_keys r q mine l
+    let a = Lists.ran_below rules settings (history_of game) game.flights live.kept.from_inputs r q mine l
     (and_right (game.nodes q).played (is_ended (game.nodes q).phase) (there q l s)) in
-    let b = live.kept.from_keys.ahead q l in
+    let b = live.kept.from_inputs.ahead q l in
     omega arith

@@ -1,6 +1,6 @@
 -- What no event takes back: the rows that a node ran, that it has played, and that it pauses for no more than
 -- ten packets.
-use Rattle.std.proofs.Common.{◌≡◌, ℕ, ◌≤◌, Bool, true, false, ◌&&◌, List, length, refl, ap, subst, arith, Option, inl, inr, eqb}
+use Rattle.std.proofs.Common.{ℤ, ◌≡◌, ℕ, ◌≤◌, Bool, true, false, ◌&&◌, List, length, refl, ap, subst, arith, Option, inl, inr, eqb}
 use Rattle.std.proofs.lemmas.Bool.{cases_eq, cond_both}
 use Rattle.std.proofs.lemmas.List.{length_push}
 use Rattle.dn_tic.specs.declared.command.TicCmd.{TicCmd}
@@ -8,7 +8,8 @@ use Rattle.dn_setup.specs.Settings.{Settings}
 use Rattle.dn_machine.specs.declared.answers.Heard.{Heard}
 use Rattle.dn_machine.specs.declared.events.Event.{Event}
 use Rattle.dn_machine.specs.declared.peer.Peer.{Peer}
-use Rattle.dn_machine.specs.declared.events.Event.TheVariants.{Build, Send, Deliver, Run}
+use Rattle.dn_machine.specs.declared.events.Event.TheVariants.{Send, Deliver, Run}
+use Rattle.dn_machine.specs.Limits.{Limits}
 use Rattle.dn_machine.specs.Worlds.{Rules}
 use Rattle.dn_machine.specs.Flight.{Flight, is_exit, end_of}
 use Rattle.dn_machine.specs.Node.{Node, put, with_peer, made, ran}
@@ -20,9 +21,10 @@ use Rattle.dn_machine.specs.Game.{Game, opening_game, applied}
 use Rattle.dn_machine.specs.Runs.{Runs}
 use Rattle.dn_machine.proofs.Put.{put_at, put_off}
 use Rattle.dn_machine.proofs.Calls.{build_cases, send_cases, run_cases, quit_cases, packet_cases, sender_after}
-use Rattle.dn_machine.specs.Progress.{after, in_order, exchange, turn, good_round, good_rounds}
+use Rattle.dn_machine.specs.Progress.{after, in_order, exchange, turn, good_round, good_rounds, build_of}
 use Rattle.dn_machine.proofs.InOrder.{each_of}
 use Rattle.dn_machine.proofs.EachEvent.{placed, after_event, leads_keep}
+use Rattle.dn_tic.specs.declared.input.Input.{Input}
 
 pub record Grows (old new : Node) : Type 0 where
   pub rows : length old.rows ≤ length new.rows
@@ -32,7 +34,7 @@ pub record Grows (old new : Node) : Type 0 where
 pub grows_same : (node : Node) → Grows node node
 grows_same node = record { rows = omega arith; pause = λ peer h. h; played = λ h. h }
 
-module _ {S : Type 0} (rules : Rules S) (i : ℕ) (node : Node) where
+module _ (limits : Limits) (i : ℕ) (node : Node) where
   -- other things kept of a peer, and other commands held
   peer_grows : (player : ℕ) (peer : Peer) (held : ℕ → List TicCmd)
       → ((node.peers player).pause ≤ 10 → peer.pause ≤ 10)
@@ -49,28 +51,28 @@ module _ {S : Type 0} (rules : Rules S) (i : ℕ) (node : Node) where
     played = λ h. h;
   }
 
-  pub build_grows : (state : ℕ) → Grows node (on_build rules i node state).0
-  build_grows state = build_cases rules i node (λ (new : Node). Grows node new) state
+  pub build_grows : (input : Input) → Grows node (on_build i node input).0
+  build_grows input = build_cases limits i node (λ (new : Node). Grows node new) input
       (λ full. grows_same node)
       (λ plays free. record { rows = omega arith; pause = λ peer h. h; played = λ h. h })
 
-  pub send_grows : (to : ℕ) → Grows node (on_send rules i node to).0
-  send_grows to = send_cases rules i node (λ (r : Node × Option Flight). Grows node r.0) to
+  pub send_grows : (to : ℕ) → Grows node (on_send limits i node to).0
+  send_grows to = send_cases limits i node (λ (r : Node × Option Flight). Grows node r.0) to
       (grows_same node) (λ other e. grows_same node) (λ other e. sent) (λ other left. sent)
     where
-      sent : Grows node (after_sent rules i node to)
+      sent : Grows node (after_sent limits i node to)
       sent = peer_grows to _ node.held (λ h. h)
 
-  pub run_grows : Grows node (on_run rules node).0
-  run_grows = run_cases rules i node (λ (new : Node). Grows node new)
+  pub run_grows : (marks : ℕ → ℤ) → Grows node (on_run limits node marks).0
+  run_grows marks = run_cases limits i node marks (λ (new : Node). Grows node new)
       (λ waits. grows_same node)
       (λ player plays none off. record { rows = omega arith; pause = λ peer h. h; played = λ h. h })
       (λ plays none full. record { rows = omega arith; pause = λ peer h. h; played = λ h. h })
-      (λ plays none free. let count = length_push node.rows (row_held rules node) in
+      (λ plays none free. let count = length_push node.rows (row_held limits node) in
       record { rows = omega arith; pause = λ peer h. h; played = λ h. h })
 
   pub quit_grows : Grows node (on_quit node).0
-  quit_grows = quit_cases rules i node (λ (new : Node). Grows node new) (grows_same node)
+  quit_grows = quit_cases limits i node (λ (new : Node). Grows node new) (grows_same node)
       (λ goes_on. record { rows = omega arith; pause = λ peer h. h; played = λ h. h })
 
   request_low : (peer : Peer) (request : Option ℕ) → peer.pause ≤ 10
@@ -82,12 +84,12 @@ module _ {S : Type 0} (rules : Rules S) (i : ℕ) (node : Node) where
   exit_low peer true end low = low
   exit_low peer false end low = low
 
-  pub hear_grows : (flight : Flight) → Grows node (on_packet rules i node flight).0
+  pub hear_grows : (flight : Flight) → Grows node (on_packet limits i node flight).0
   hear_grows flight =
-      let low : (node.peers flight.from).pause ≤ 10 → (sender_after rules i node flight).pause ≤ 10 =
+      let low : (node.peers flight.from).pause ≤ 10 → (sender_after limits i node flight).pause ≤ 10 =
       λ h. exit_low _ (is_exit flight.kind) (end_of flight)
       (request_low (node.peers flight.from) flight.request h) in
-      packet_cases rules i node flight (λ (r : Node × Heard). Grows node r.0) (record {
+      packet_cases limits i node flight (λ (r : Node × Heard). Grows node r.0) (record {
         dropped = λ number why. grows_same node;
         starts = λ s e k. record { rows = omega arith; pause = λ peer h. h; played = λ h. refl };
         completes = λ word e all. record { rows = omega arith; pause = λ peer h. h; played = λ h. refl };
@@ -109,9 +111,9 @@ module _ {S : Type 0} (rules : Rules S) (game : Game) (q : ℕ) where
 
   pub applied_grows : (event : Event) → Grows (game.nodes q) ((applied rules game event).0.nodes q)
   applied_grows event = after_event rules (λ (old new : Node). Grows old new) grows_same game q
-      (λ i state node. build_grows rules i node state) (λ i to node. send_grows rules i node to)
-      (λ i flight node. hear_grows rules i node flight) (λ node. run_grows rules 0 node)
-      (λ node. quit_grows rules 0 node) event
+      (λ i input node. build_grows rules.limits i node input) (λ i to node. send_grows rules.limits i node to)
+      (λ i flight node. hear_grows rules.limits i node flight) (λ node marks. run_grows rules.limits 0 node marks)
+      (λ node. quit_grows rules.limits 0 node) event
 
 -- no node holds off more than ten packets
 abbrev pub IsPatient : Game → Type 0
@@ -135,26 +137,26 @@ module _ {S : Type 0} (rules : Rules S) where
       let b = (applied_grows rules mid q (Deliver (length g.flights))).rows in
       omega arith
 
-  pub turn_ran : (keys : ℕ → ℕ) (q n : ℕ) (g : Game) (i : ℕ) → n ≤ ran (g.nodes q)
-      → n ≤ ran ((turn rules keys g i).nodes q)
+  pub turn_ran : (inputs : ℕ → Input) (q n : ℕ) (g : Game) (i : ℕ) → n ≤ ran (g.nodes q)
+      → n ≤ ran ((turn rules inputs g i).nodes q)
   unfolding turn
-  turn_ran keys q n g i l =
-      let built : Game = after rules (Build i (keys i)) g in
-      let a = (applied_grows rules g q (Build i (keys i))).rows in
+  turn_ran inputs q n g i l =
+      let built : Game = after rules (build_of i (inputs i)) g in
+      let a = (applied_grows rules g q (build_of i (inputs i))).rows in
       let sent : Game = in_order (exchange rules i) rules.players built in
       let b : n ≤ ran (sent.nodes q) = each_of (λ (h : Game). n ≤ ran (h.nodes q)) (exchange rules i)
       rules.players built (λ j h m x. exchange_ran q n i h j x) (omega arith) in
       let c = (applied_grows rules sent q (Run i)).rows in
       omega arith
 
-  pub round_ran : (keys : ℕ → ℕ) (q n : ℕ) (g : Game) → n ≤ ran (g.nodes q)
-      → n ≤ ran ((good_round rules keys g).nodes q)
+  pub round_ran : (inputs : ℕ → Input) (q n : ℕ) (g : Game) → n ≤ ran (g.nodes q)
+      → n ≤ ran ((good_round rules inputs g).nodes q)
   unfolding good_round
-  round_ran keys q n g l = each_of (λ (h : Game). n ≤ ran (h.nodes q)) (turn rules keys) rules.players g
-      (λ i h m x. turn_ran keys q n h i x) l
+  round_ran inputs q n g l = each_of (λ (h : Game). n ≤ ran (h.nodes q)) (turn rules inputs) rules.players g
+      (λ i h m x. turn_ran inputs q n h i x) l
 
-  pub rounds_ran : (keys : ℕ → ℕ → ℕ) (count q n : ℕ) (g : Game) → n ≤ ran (g.nodes q)
-      → n ≤ ran ((good_rounds rules keys count g).nodes q)
+  pub rounds_ran : (inputs : ℕ → ℕ → Input) (count q n : ℕ) (g : Game) → n ≤ ran (g.nodes q)
+      → n ≤ ran ((good_rounds rules inputs count g).nodes q)
   unfolding good_rounds
-  rounds_ran keys count q n g l = each_of (λ (h : Game). n ≤ ran (h.nodes q))
-      (λ before round. good_round rules (keys round) before) count g (λ i h m x. round_ran (keys i) q n h x) l
+  rounds_ran inputs count q n g l = each_of (λ (h : Game). n ≤ ran (h.nodes q))
+      (λ before round. good_round rules (inputs round) before) count g (λ i h m x. round_ran (inputs i) q n h x) l

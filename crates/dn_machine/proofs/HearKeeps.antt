@@ -5,10 +5,10 @@ use Rattle.std.proofs.lemmas.Bool.{cases_lt, le-leb, and_parts}
 use Rattle.std.proofs.lemmas.List.{length-append, length-drop, get_or_append_left, get_or-append_right, get_or-drop}
 use Rattle.dn_tic.specs.declared.command.TicCmd.{TicCmd}
 use Rattle.dn_setup.specs.Settings.{Settings}
-use Rattle.dn_machine.specs.Worlds.{Rules, command}
+use Rattle.dn_machine.specs.Worlds.{Inputs, Rules, command}
 use Rattle.dn_machine.specs.Flight.{Flight, end_of, Kind, SetUp, Play, Exit, is_exit}
 use Rattle.dn_machine.specs.Node.{put, blank, Node, with_peer, ends_of, got, made, is_ended, has_left}
-use Rattle.dn_machine.proofs.Invariant.{History, IsPiece, ComesFromKeys, IsKept, history_of}
+use Rattle.dn_machine.proofs.Invariant.{History, IsPiece, ComesFromInputs, IsKept, history_of}
 use Rattle.dn_machine.proofs.Put.{put_two_at, put_two_off, both_or_not, put_off, view_put, view_kept}
 use Rattle.dn_machine.proofs.Lists
 use Rattle.dn_machine.specs.declared.answers.Phase.{Phase}
@@ -24,10 +24,10 @@ use Rattle.dn_machine.specs.Hearing.{on_packet}
 use Rattle.dn_machine.specs.Running.{is_over}
 
 module _ {S : Type 0} (rules : Rules S) (settings : Settings) (history : History) (flights : List Flight)
-    (from_keys : ComesFromKeys rules settings history flights) where
+    (from_inputs : ComesFromInputs rules settings history flights) where
   -- commands of a peer that are taken from a packet, by a player who has not left
   module _ (me : ℕ) (mine : me < rules.players) (stays : history.left me ≡ false) (flight : Flight)
-      (piece : IsPiece rules settings history.keys history.left flight) (other : me ≢ flight.from)
+      (piece : IsPiece rules settings history.inputs history.left flight) (other : me ≢ flight.from)
       (low : flight.start ≤ length (history.held me flight.from))
       (high : length (history.held me flight.from) ≤ end_of flight) where
     length_new : length (history.held me flight.from
@@ -40,12 +40,12 @@ module _ {S : Type 0} (rules : Rules S) (settings : Settings) (history : History
 
     true_new : (t : ℕ) → t < end_of flight
         → get_or (history.held me flight.from ++ drop (length (history.held me flight.from) - flight.start)
-        flight.commands) t blank ≡ command rules settings history.keys flight.from t
+        flight.commands) t blank ≡ command rules settings history.inputs flight.from t
     true_new t l =
         elim (cases_lt t (length (history.held me flight.from))) [
           | inl before ↦ get_or_append_left (history.held me flight.from)
               (drop (length (history.held me flight.from) - flight.start) flight.commands) blank t before
-              ∙ from_keys.commands me flight.from t mine piece.sender before
+              ∙ from_inputs.commands me flight.from t mine piece.sender before
           | inr after ↦
               let skip = length (history.held me flight.from) - flight.start in
               let at : skip + (t - length (history.held me flight.from)) ≡ t - flight.start = omega arith in
@@ -55,7 +55,7 @@ module _ {S : Type 0} (rules : Rules S) (settings : Settings) (history : History
               ∙ (get_or-drop skip flight.commands (t - length (history.held me flight.from)) blank
               ∙ (ap (λ (k : ℕ). get_or flight.commands k blank) at
               ∙ (piece.commands (t - flight.start) (omega arith)
-              ∙ ap (command rules settings history.keys flight.from) whole)))
+              ∙ ap (command rules settings history.inputs flight.from) whole)))
         ]
 
     abbrev held_after : ℕ → ℕ → List TicCmd
@@ -68,58 +68,58 @@ module _ {S : Type 0} (rules : Rules S) (settings : Settings) (history : History
     counts : (q p : ℕ)
         → ((length (held_after q p) ≡ end_of flight)
         × (length (history.held q p) ≡ length (history.held me flight.from))
-        × (length (history.keys p) ≡ length (history.keys flight.from))
+        × (length (history.inputs p) ≡ length (history.inputs flight.from))
         × (length (history.rows q) ≡ length (history.rows me)))
         ⊎ (length (held_after q p) ≡ length (history.held q p))
     counts q p = elim (both_or_not q me p flight.from) [
       | inl h ↦ inl (
         ap (length {A = TicCmd}) (put_two_at history.held me flight.from q p _ h.0 h.1) ∙ length_new,
         ap (λ (r : ℕ). length (history.held r p)) h.0 ∙ ap (λ (r : ℕ). length (history.held me r)) h.1,
-        ap (λ (r : ℕ). length (history.keys r)) h.1,
+        ap (λ (r : ℕ). length (history.inputs r)) h.1,
         ap (λ (r : ℕ). length (history.rows r)) h.0,
       )
       | inr n ↦ inr (ap (length {A = TicCmd}) (put_two_off history.held me flight.from q p _ n))
     ]
 
-    pub lists_taken : ComesFromKeys rules settings (record history { held = held_after }) flights
+    pub lists_taken : ComesFromInputs rules settings (record history { held = held_after }) flights
     lists_taken = record {
       counted = λ p l. ap (length {A = TicCmd})
-          (put_two_off history.held me flight.from p p _ (λ e d. other (sym e ∙ d))) ∙ from_keys.counted p l;
+          (put_two_off history.held me flight.from p p _ (λ e d. other (sym e ∙ d))) ∙ from_inputs.counted p l;
       run = λ q p l m.
           let now = counts q p in
-          elim (from_keys.run q p l m) [
+          elim (from_inputs.run q p l m) [
             | inl le ↦ inl (omega arith)
             | inr all ↦ let low = all.2 in inr (all.0, all.1, omega arith)
           ];
       got = λ q p l m.
           let now = counts q p in
-          let old = from_keys.got q p l m in
+          let old = from_inputs.got q p l m in
           let reached = piece.reached in
           omega arith;
-      ahead = from_keys.ahead;
+      ahead = from_inputs.ahead;
       unread = λ q p l m.
           let now = counts q p in
-          let old = from_keys.unread q p l m in
+          let old = from_inputs.unread q p l m in
           let reached = piece.reached in
-          let near = Lists.close rules settings history flights from_keys flight.from me piece.sender mine
+          let near = Lists.close rules settings history flights from_inputs flight.from me piece.sender mine
           stays in
-          let own = from_keys.ahead me mine in
+          let own = from_inputs.ahead me mine in
           omega arith;
       commands = λ q p tic l m t. elim (both_or_not q me p flight.from) [
         | inl h ↦
             let same = put_two_at history.held me flight.from q p _ h.0 h.1 in
             let count = ap (length {A = TicCmd}) same ∙ length_new in
             ap (λ (cs : List TicCmd). get_or cs tic blank) same
-            ∙ (true_new tic (omega arith) ∙ ap (λ (r : ℕ). command rules settings history.keys r tic)
+            ∙ (true_new tic (omega arith) ∙ ap (λ (r : ℕ). command rules settings history.inputs r tic)
             (sym h.1))
         | inr n ↦
             let same = put_two_off history.held me flight.from q p _ n in
             ap (λ (cs : List TicCmd). get_or cs tic blank) same
-            ∙ from_keys.commands q p tic l m (subst (λ (cs : List TicCmd). tic < length cs) same t)
+            ∙ from_inputs.commands q p tic l m (subst (λ (cs : List TicCmd). tic < length cs) same t)
       ];
-      moves = from_keys.moves;
-      ended = from_keys.ended;
-      pieces = from_keys.pieces;
+      moves = from_inputs.moves;
+      ended = from_inputs.ended;
+      pieces = from_inputs.pieces;
     }
 
 -- a packet that tells an end is an EXIT packet
@@ -130,8 +130,8 @@ exit_is Exit e = refl
 
 module _ {S : Type 0} (rules : Rules S) (settings : Settings) (game : Game)
     (kept : IsKept rules settings game) (i : ℕ) (mine : i < rules.players) where
-  abbrev keys_now : ℕ → List ℕ
-  keys_now q = (game.nodes q).keys
+  abbrev inputs_now : Inputs
+  inputs_now q = (game.nodes q).inputs
 
   -- whoever had left still has, where the phase is not one of an end
   in_play_left : {A : Type 0} (phase : Phase) → (game.nodes i).phase ≡ phase → is_ended phase ≡ false
@@ -141,7 +141,7 @@ module _ {S : Type 0} (rules : Rules S) (settings : Settings) (game : Game)
       ∙ (ap is_ended e ∙ f)))
 
   -- a packet of commands: its sender's end is told or not, and its commands are taken or not
-  module _ (flight : Flight) (piece : IsPiece rules settings keys_now (λ q. has_left (game.nodes q)) flight)
+  module _ (flight : Flight) (piece : IsPiece rules settings inputs_now (λ q. has_left (game.nodes q)) flight)
       (here : i ≡ flight.to) where
     -- the node that keeps this of the sender, and these commands
     abbrev after_peer : Peer → (ℕ → List TicCmd) → Node
@@ -160,11 +160,11 @@ module _ {S : Type 0} (rules : Rules S) (settings : Settings) (game : Game)
               (λ q. ends_of (game.nodes q));
         }
 
-    end_from_keys : (exit : Bool) → (exit ≡ true → flight.kind ≡ Exit)
-        → ComesFromKeys rules settings (history_with_end exit) game.flights
-    end_from_keys true leaving = Lists.learns rules settings (history_of game) game.flights kept.from_keys i
+    end_from_inputs : (exit : Bool) → (exit ≡ true → flight.kind ≡ Exit)
+        → ComesFromInputs rules settings (history_with_end exit) game.flights
+    end_from_inputs true leaving = Lists.learns rules settings (history_of game) game.flights kept.from_inputs i
         mine flight piece (leaving refl)
-    end_from_keys false leaving = kept.from_keys
+    end_from_inputs false leaving = kept.from_inputs
 
     end_over : (exit : Bool) → (exit ≡ true → flight.kind ≡ Exit) → (tic : ℕ)
         → is_over (ends_of (game.nodes i) flight.from) tic ≡ true → is_over (end_after exit) tic ≡ true
@@ -172,7 +172,7 @@ module _ {S : Type 0} (rules : Rules S) (settings : Settings) (game : Game)
     end_over true leaving tic h =
         let old = over (ends_of (game.nodes i) flight.from) tic h in
         let low = old.2 in
-        let tip = (kept.from_keys.ended i flight.from old.0 mine piece.sender old.1).1 in
+        let tip = (kept.from_inputs.ended i flight.from old.0 mine piece.sender old.1).1 in
         let end = (piece.exit (leaving refl)).1 in
         le-leb (end_of flight) tic (omega arith)
 
@@ -206,15 +206,17 @@ module _ {S : Type 0} (rules : Rules S) (settings : Settings) (game : Game)
       hears_only =
           Placing.placed rules settings game kept i mine
           (with_peer (game.nodes i) flight.from peer) game.stopped game.flights (history_with_end exit)
-          (view_kept (λ (n : Node). n.keys) game.nodes i _ refl)
+          (view_kept (λ (n : Node). n.inputs) game.nodes i _ refl)
           (view_kept (λ (n : Node). n.held) game.nodes i _ refl)
           (view_kept (λ (n : Node). n.rows) game.nodes i _ refl)
           (ends_view (game.nodes i).held)
           (Placing.left_placed rules settings game kept i mine (with_peer (game.nodes i) flight.from peer)
           (λ h. h))
-          (end_from_keys exit leaving)
+          (end_from_inputs exit leaving)
           (Placing.peer_sound rules settings game kept i mine flight.from peer
           (game.nodes i).held low still refl)
+          (Placing.marks_kept rules settings game kept i mine (with_peer (game.nodes i) flight.from peer) refl
+          refl)
 
       abbrev taken : ℕ → List TicCmd
       taken = put (game.nodes i).held flight.from
@@ -229,43 +231,44 @@ module _ {S : Type 0} (rules : Rules S) (settings : Settings) (game : Game)
           let apart : i ≢ flight.from = λ e. piece.apart (sym e ∙ here) in
           let next : Node = after_peer peer taken in
           Placing.placed rules settings game kept i mine next game.stopped game.flights _
-          (view_kept (λ (n : Node). n.keys) game.nodes i next refl)
+          (view_kept (λ (n : Node). n.inputs) game.nodes i next refl)
           (view_put (λ (n : Node). n.held) game.nodes i next)
           (view_kept (λ (n : Node). n.rows) game.nodes i next refl)
           (ends_view taken)
           (Placing.left_placed rules settings game kept i mine next (λ h. h))
-          (lists_taken rules settings (history_with_end exit) game.flights (end_from_keys exit leaving) i mine
+          (lists_taken rules settings (history_with_end exit) game.flights (end_from_inputs exit leaving) i mine
           (Placing.playing_stays rules settings game kept i mine plays) flight piece apart first
           (omega arith))
           (Placing.peer_sound rules settings game kept i mine flight.from peer taken low still
           (put_off (game.nodes i).held flight.from i _ apart))
+          (Placing.marks_kept rules settings game kept i mine next refl refl)
 
     -- hear
-    pub hears : IsKept rules settings (with_node game i (on_packet rules i (game.nodes i) flight).0)
+    pub hears : IsKept rules settings (with_node game i (on_packet rules.limits i (game.nodes i) flight).0)
     hears =
         let node : Node = game.nodes i in
         let sound = kept.sound i mine in
         let same = Placing.same_node rules settings game kept i mine in
         let leaving : is_exit flight.kind ≡ true → flight.kind ≡ Exit = exit_is flight.kind in
-        let peer : Peer = sender_after rules i (game.nodes i) flight in
+        let peer : Peer = sender_after rules.limits i (game.nodes i) flight in
         let told : peer.end ≡ end_after (is_exit flight.kind) =
         flight_end (made i (game.nodes i)) ((game.nodes i).peers flight.from) flight in
         let low : peer.resend ≤ made i (game.nodes i) =
         flight_low (made i (game.nodes i)) ((game.nodes i).peers flight.from) flight
         (sound.resend flight.from) in
-        packet_cases rules i (game.nodes i) flight
+        packet_cases rules.limits i (game.nodes i) flight
         (λ (r : Node × Heard). IsKept rules settings (with_node game i r.0)) (record {
           dropped = λ number why. same;
-          starts = λ s e k. Placing.quiet rules settings game kept i mine _ refl refl refl refl
+          starts = λ s e k. Placing.quiet rules settings game kept i mine _ refl refl refl refl refl
               (in_play_left Listening e refl)
               (Placing.restated rules settings game kept i mine Playing true (Some s) node.noted
               (λ h. ap (λ (z : Settings). Some z) (piece.set_up s k)) (λ h. refl)
               (λ h. ap (λ (z : Settings). Some z) (piece.set_up s k)) (λ p w z h. cc));
-          completes = λ word e all. Placing.quiet rules settings game kept i mine _ refl refl refl refl
+          completes = λ word e all. Placing.quiet rules settings game kept i mine _ refl refl refl refl refl
               (in_play_left Gathering e refl)
               (Placing.restated rules settings game kept i mine Playing true node.settings _
               (λ h. sound.gathering e) (λ h. refl) (λ h. sound.gathering e) (λ p w s h. cc));
-          notes = λ word e some. Placing.quiet rules settings game kept i mine _ refl refl refl refl (λ h. h)
+          notes = λ word e some. Placing.quiet rules settings game kept i mine _ refl refl refl refl refl (λ h. h)
               (Placing.restated rules settings game kept i mine node.phase node.played node.settings _
               sound.played sound.playing sound.gathering sound.consistent);
           commands = λ plays. record {

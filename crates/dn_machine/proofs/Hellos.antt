@@ -53,16 +53,16 @@ module _ {S : Type 0} (rules : Rules S) (settings : Settings) (cap : ℕ) (stay 
       back : 0 ≢ j
       back e = other (sym e)
 
-      gives : on_send rules 0 (game.nodes 0) j ≡ (game.nodes 0, Some set_up)
+      gives : on_send rules.limits 0 (game.nodes 0) j ≡ (game.nodes 0, Some set_up)
       unfolding on_send
       gives =
           cond-false (eqb 0 j) _ _ (ne_eqb 0 j back)
-          ∙ (ap (on_send_in rules 0 (game.nodes 0) j) key
+          ∙ (ap (on_send_in rules.limits 0 (game.nodes 0) j) key
           ∙ ap (λ (o : Option Settings). (game.nodes 0, set_up_flight 0 j o))
           ((begun.live.kept.sound 0 some).gathering key))
 
       abbrev started_one : Node
-      started_one = (on_packet rules j (game.nodes j) set_up).0
+      started_one = (on_packet rules.limits j (game.nodes j) set_up).0
 
       exchange_is : exchange rules 0 game j
           ≡ with_node (Pairs.under_way rules settings game begun.live 0 j some its back (game.nodes 0)
@@ -75,13 +75,13 @@ module _ {S : Type 0} (rules : Rules S) (settings : Settings) (cap : ℕ) (stay 
       started_plays in_play = go (begun.is_open.stands j)
         where
           go : Stands j (game.nodes j)
-              → (on_packet_in rules j (game.nodes j) set_up (game.nodes j).phase (SetUp settings)).0.phase
+              → (on_packet_in rules.limits j (game.nodes j) set_up (game.nodes j).phase (SetUp settings)).0.phase
               ≡ Playing
           go (Gathers z e f k) = absurd (other z)
           go (Listens z e f) = ap (λ (ph : Phase).
-              (on_packet_in rules j (game.nodes j) set_up ph (SetUp settings)).0.phase) e
+              (on_packet_in rules.limits j (game.nodes j) set_up ph (SetUp settings)).0.phase) e
           go (Plays e) = ap (λ (ph : Phase).
-              (on_packet_in rules j (game.nodes j) set_up ph (SetUp settings)).0.phase) e ∙ e
+              (on_packet_in rules.limits j (game.nodes j) set_up ph (SetUp settings)).0.phase) e ∙ e
           go (HasGone e) = absurd (true≢false (sym e ∙ in_play))
 
       pub starts : IsIn j (exchange rules 0 game j)
@@ -113,13 +113,13 @@ module _ {S : Type 0} (rules : Rules S) (settings : Settings) (cap : ℕ) (stay 
           (f.close j 0 its some (begun.there 0 some key_stays)) (omega arith)
           (λ w. (f.held j 0 its some, f.unheard j 0 its some (asker w)))
 
-      noted_so : (on_gathering rules (game.nodes 0) j).0.noted j ≡ true
+      noted_so : (on_gathering rules.limits (game.nodes 0) j).0.noted j ≡ true
       noted_so = cond_both (all_noted rules.players (put (game.nodes 0).noted j true)) _ _
           (λ (r : Node × Heard). r.0.noted j ≡ true) (λ all. put_at (game.nodes 0).noted j j true refl)
           (λ not_all. put_at (game.nodes 0).noted j j true refl)
 
       noted_in : (b : Bool)
-          → (on_packet_in rules 0 (game.nodes 0) F Gathering
+          → (on_packet_in rules.limits 0 (game.nodes 0) F Gathering
           (kind_of b)).0.noted j ≡ true
       noted_in true = noted_so
       noted_in false = noted_so
@@ -140,7 +140,7 @@ module _ {S : Type 0} (rules : Rules S) (settings : Settings) (cap : ℕ) (stay 
               (put_at (Pairs.sent rules settings game begun.live j 0 its some other gone asks_it
               sends).nodes 0 0
               (Pairs.receiver rules settings game begun.live j 0 its some other gone asks_it sends) refl)
-              ∙ (ap (λ (ph : Phase). (on_packet_in rules 0 (game.nodes 0) F ph F.kind).0.noted j) e
+              ∙ (ap (λ (ph : Phase). (on_packet_in rules.limits 0 (game.nodes 0) F ph F.kind).0.noted j) e
               ∙ noted_in gone)))
 
     pub knows : (j : ℕ) → j < rules.players → j ≢ 0 → (game : Game)

@@ -5,33 +5,33 @@ use Rattle.dn_tic.specs.declared.command.Move.{Move}
 use Rattle.dn_setup.specs.Settings.{Settings}
 use Rattle.dn_machine.specs.declared.answers.Phase.TheVariants.{Playing, Gathering, Ended}
 use Rattle.dn_machine.specs.declared.answers.Cause.TheVariants as Cause
-use Rattle.dn_machine.specs.Worlds.{Rules, command, row}
+use Rattle.dn_machine.specs.Worlds.{Inputs, Rules, command, row, world}
 use Rattle.dn_machine.specs.Flight.{SetUp, Exit, Flight, end_of}
 use Rattle.dn_machine.specs.Node.{Node, ends_of, blank, has_left, is_whole, demo_rows}
 use Rattle.dn_machine.specs.Running.{tic_limit, row_held}
 use Rattle.dn_machine.specs.Game.{Game}
 
 -- A packet that was sent is a piece of what its sender has.
-pub record IsPiece {S : Type 0} (rules : Rules S) (settings : Settings) (keys : ℕ → List ℕ) (left : ℕ → Bool)
+pub record IsPiece {S : Type 0} (rules : Rules S) (settings : Settings) (inputs : Inputs) (left : ℕ → Bool)
     (flight : Flight) : Type 0 where
   pub sender : flight.from < rules.players
   pub receiver : flight.to < rules.players
   pub apart : flight.from ≢ flight.to
   -- it carries commands that its sender has made, each at its own tic
-  pub reached : end_of flight ≤ length (keys flight.from)
+  pub reached : end_of flight ≤ length (inputs flight.from)
   pub commands : (j : ℕ) → j < length flight.commands
-      → get_or flight.commands j blank ≡ command rules settings keys flight.from (flight.start + j)
+      → get_or flight.commands j blank ≡ command rules settings inputs flight.from (flight.start + j)
   -- a set-up packet carries the key player's settings
   pub set_up : (s : Settings) → flight.kind ≡ SetUp s → s ≡ settings
   -- a request is for a tic that the receiver has reached
-  pub request : (tic : ℕ) → flight.request ≡ Some tic → tic ≤ length (keys flight.to)
+  pub request : (tic : ℕ) → flight.request ≡ Some tic → tic ≤ length (inputs flight.to)
   -- an EXIT packet ends with the last command of one who has left
-  pub exit : flight.kind ≡ Exit → (left flight.from ≡ true) × (end_of flight ≡ length (keys flight.from))
+  pub exit : flight.kind ≡ Exit → (left flight.from ≡ true) × (end_of flight ≡ length (inputs flight.from))
 
--- What all nodes together have done: the key states, the commands held, the rows run, the ends known, and who
+-- What all nodes together have done: the inputs, the commands held, the rows run, the ends known, and who
 -- has left.
 pub record History : Type 0 where
-  pub keys : ℕ → List ℕ
+  pub inputs : Inputs
   pub held : ℕ → ℕ → List TicCmd
   pub rows : ℕ → List (List (Option Move))
   pub ends : ℕ → ℕ → Option ℕ
@@ -41,32 +41,32 @@ pub record History : Type 0 where
 abbrev pub HoldsAll : History → ℕ → ℕ → Type 0
 HoldsAll history q p = (end : ℕ) × (history.ends q p ≡ Some end) × (end ≤ length (history.held q p))
 
--- All that was held, run and sent is what the players' keys make, and no node is ahead of what it has been
+-- All that was held, run and sent is what the players' inputs make, and no node is ahead of what it has been
 -- sent.
-pub record ComesFromKeys {S : Type 0} (rules : Rules S) (settings : Settings) (history : History)
+pub record ComesFromInputs {S : Type 0} (rules : Rules S) (settings : Settings) (history : History)
     (flights : List Flight) : Type 0 where
-  -- a node has as many own commands as key states
-  pub counted : (p : ℕ) → p < rules.players → length (history.held p p) ≡ length (history.keys p)
+  -- a node has as many own commands as inputs
+  pub counted : (p : ℕ) → p < rules.players → length (history.held p p) ≡ length (history.inputs p)
   -- tics run, commands held, commands made: each at most the next, and the last at most five ahead of its own
   -- first; but the tics run go on past the commands of a player all of whose commands are held
   pub run : (q p : ℕ) → q < rules.players → p < rules.players
       → (length (history.rows q) ≤ length (history.held q p)) ⊎ HoldsAll history q p
   pub got : (q p : ℕ) → q < rules.players → p < rules.players
-      → length (history.held q p) ≤ length (history.keys p)
-  pub ahead : (p : ℕ) → p < rules.players → length (history.keys p) ≤ length (history.rows p) + 5
+      → length (history.held q p) ≤ length (history.inputs p)
+  pub ahead : (p : ℕ) → p < rules.players → length (history.inputs p) ≤ length (history.rows p) + 5
   -- a node has at most ten commands of a player that it has not run yet
   pub unread : (q p : ℕ) → q < rules.players → p < rules.players
       → length (history.held q p) ≤ length (history.rows q) + 10
   -- what was held and run is true
   pub commands : (q p tic : ℕ) → q < rules.players → p < rules.players → tic < length (history.held q p)
-      → get_or (history.held q p) tic blank ≡ command rules settings history.keys p tic
+      → get_or (history.held q p) tic blank ≡ command rules settings history.inputs p tic
   pub moves : (q tic : ℕ) → q < rules.players → tic < length (history.rows q)
-      → get_or (history.rows q) tic [] ≡ row rules settings history.keys tic
+      → get_or (history.rows q) tic [] ≡ row rules settings history.inputs tic
   -- a known end is that of one who has left, and comes right after the last command
   pub ended : (q p end : ℕ) → q < rules.players → p < rules.players → history.ends q p ≡ Some end
-      → (history.left p ≡ true) × (end ≡ length (history.keys p))
+      → (history.left p ≡ true) × (end ≡ length (history.inputs p))
   pub pieces : (which : ℕ) (flight : Flight) → slice_get flights which ≡ Some flight
-      → IsPiece rules settings history.keys history.left flight
+      → IsPiece rules settings history.inputs history.left flight
 
 -- One node by itself.
 pub record IsSound {S : Type 0} (rules : Rules S) (settings : Settings) (me : ℕ) (node : Node) : Type 0 where
@@ -79,21 +79,30 @@ pub record IsSound {S : Type 0} (rules : Rules S) (settings : Settings) (me : �
   -- no resend starts past what was built
   pub resend : (to : ℕ) → (node.peers to).resend ≤ length (node.held me)
   -- the demo's rows fit into it, and they are all rows while the next lacks nobody
-  pub room : length (demo_rows rules node) ≤ rules.capacity
-  pub whole : is_whole rules.players (row_held rules node) ≡ true → demo_rows rules node ≡ node.rows
+  pub room : length (demo_rows rules.players node) ≤ rules.capacity
+  pub whole : is_whole rules.players (row_held rules.limits node) ≡ true → demo_rows rules.players node ≡ node.rows
   pub most : rules.capacity ≤ tic_limit → length node.rows ≤ tic_limit
 
 abbrev pub history_of : Game → History
 history_of game =
     record {
-      keys = λ q. (game.nodes q).keys;
+      inputs = λ q. (game.nodes q).inputs;
       held = λ q. (game.nodes q).held;
       rows = λ q. (game.nodes q).rows;
       ends = λ q. ends_of (game.nodes q);
       left = λ q. has_left (game.nodes q);
     }
 
+-- the marks that a node kept are those of the worlds of the players' inputs, for each player who has made a
+-- command for the tic
+abbrev pub HasTrueMarks : {S : Type 0} → Rules S → Settings → Inputs → Node → Type 0
+HasTrueMarks rules settings inputs node =
+    (p tic : ℕ) → p < rules.players → tic < length node.rows → tic < length (inputs p)
+    → node.marks tic p ≡ rules.physics.mark (world rules settings inputs tic) p
+
 -- The whole game.
 pub record IsKept {S : Type 0} (rules : Rules S) (settings : Settings) (game : Game) : Type 0 where
-  pub from_keys : ComesFromKeys rules settings (history_of game) game.flights
+  pub from_inputs : ComesFromInputs rules settings (history_of game) game.flights
   pub sound : (q : ℕ) → q < rules.players → IsSound rules settings q (game.nodes q)
+  pub marks : (q : ℕ) → q < rules.players
+      → HasTrueMarks rules settings (λ p. (game.nodes p).inputs) (game.nodes q)

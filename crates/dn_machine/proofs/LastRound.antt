@@ -15,6 +15,7 @@ use Rattle.dn_machine.proofs.InOrder.{one_of}
 use Rattle.dn_machine.proofs.Turns
 use Rattle.dn_machine.proofs.Growth.{applied_grows, turn_ran}
 use Rattle.dn_machine.proofs.Rounds.{At, In, InFar, InOn, turn_hears, turn_keeps, has_after}
+use Rattle.dn_tic.specs.declared.input.Input.{Input}
 
 -- of several players another than this one
 pub other_player : (players q : ℕ) → 2 ≤ players → (p : ℕ) × (p < players) × (p ≢ q)
@@ -81,24 +82,24 @@ module _ {S : Type 0} (rules : Rules S) (settings : Settings) (cap : ℕ) (stay 
               | inr done ↦ let more = done.more stays (has low least (built stays)) in omega arith
             ]
 
-    turn_runs : (keys : ℕ → ℕ) (g : Game) → HasAll g → tic < ran ((turn rules keys g q).nodes q)
+    turn_runs : (inputs : ℕ → Input) (g : Game) → HasAll g → tic < ran ((turn rules inputs g q).nodes q)
     unfolding turn
-    turn_runs keys g all =
-        runs_it _ (λ p l apart. turn_hears rules settings cap stay tic p q l m stays apart keys 0 0
+    turn_runs inputs g all =
+        runs_it _ (λ p l apart. turn_hears rules settings cap stay tic p q l m stays apart inputs 0 0
         (omega arith) g (all p l apart))
 
-    pub round_runs : (keys : ℕ → ℕ) (g : Game) → HasAll g → tic < ran ((good_round rules keys g).nodes q)
+    pub round_runs : (inputs : ℕ → Input) (g : Game) → HasAll g → tic < ran ((good_round rules inputs g).nodes q)
     unfolding good_round
-    round_runs keys g all =
-        one_of HasAll (λ (h : Game). tic < ran (h.nodes q)) (turn rules keys) rules.players q
-        (λ i h o n x p l apart. turn_keeps rules settings cap stay tic p q l m stays apart keys i o h
+    round_runs inputs g all =
+        one_of HasAll (λ (h : Game). tic < ran (h.nodes q)) (turn rules inputs) rules.players q
+        (λ i h o n x p l apart. turn_keeps rules settings cap stay tic p q l m stays apart inputs i o h
         (x p l apart))
-        (λ i h o n x. let more = turn_ran rules keys q (suc tic) h i (omega arith) in omega arith)
-        (λ h x. turn_runs keys h x)
+        (λ i h o n x. let more = turn_ran rules inputs q (suc tic) h i (omega arith) in omega arith)
+        (λ h x. turn_runs inputs h x)
         g m all
 
-    pub thirteen : (keys : ℕ → ℕ → ℕ) (g : Game) → IsOn rules settings cap stay tic g
-        → tic < ran ((good_rounds rules keys 13 g).nodes q)
+    pub thirteen : (inputs : ℕ → ℕ → Input) (g : Game) → IsOn rules settings cap stay tic g
+        → tic < ran ((good_rounds rules inputs 13 g).nodes q)
     unfolding good_rounds in_order
-    thirteen keys g on = round_runs (keys 12) (good_rounds rules keys 12 g)
-        (λ p l apart. has_after rules settings cap stay tic p q l m stays apart keys g on)
+    thirteen inputs g on = round_runs (inputs 12) (good_rounds rules inputs 12 g)
+        (λ p l apart. has_after rules settings cap stay tic p q l m stays apart inputs g on)

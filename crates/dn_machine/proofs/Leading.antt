@@ -4,11 +4,13 @@ use Rattle.std.specs.List.{list_all}
 use Rattle.std.proofs.lemmas.Bool.{and_from}
 use Rattle.std.proofs.lemmas.List.Folds.{list_all-append}
 use Rattle.dn_machine.specs.declared.events.Event.{Event}
-use Rattle.dn_machine.specs.declared.events.Event.TheVariants.{Build, Send, Deliver, Run}
+use Rattle.dn_machine.specs.declared.events.Event.TheVariants.{Send, Deliver, Run}
 use Rattle.dn_machine.specs.Worlds.{Rules}
 use Rattle.dn_machine.specs.Game.{Game}
 use Rattle.dn_machine.specs.Runs.{Leads}
-use Rattle.dn_machine.specs.Progress.{after, in_order, is_of_round, exchange, turn, good_round, good_rounds}
+use Rattle.dn_machine.specs.Progress.{after, in_order, is_of_round, exchange, turn, good_round, good_rounds, build_of}
+use Rattle.dn_tic.specs.declared.input.Input.{Input}
+use Rattle.dn_machine.proofs.EachEvent.{build_round}
 
 -- what holds of each of two lists holds of each of both
 pub all_more : {A : Type 0} (test : A → Bool) (xs ys : List A) → list_all test xs ≡ true
@@ -59,21 +61,21 @@ module _ {S : Type 0} (rules : Rules S) where
       led_on game (after rules (Send i j) game) _ (led_event (Send i j) game refl)
       (led_event (Deliver (length game.flights)) (after rules (Send i j) game) refl)
 
-  pub led_turn : (keys : ℕ → ℕ) (game : Game) (i : ℕ) → IsLed game (turn rules keys game i)
+  pub led_turn : (inputs : ℕ → Input) (game : Game) (i : ℕ) → IsLed game (turn rules inputs game i)
   unfolding turn
-  led_turn keys game i =
-      let built : Game = after rules (Build i (keys i)) game in
+  led_turn inputs game i =
+      let built : Game = after rules (build_of i (inputs i)) game in
       let sent : Game = in_order (exchange rules i) rules.players built in
-      led_on game built _ (led_event (Build i (keys i)) game refl) (
+      led_on game built _ (led_event (build_of i (inputs i)) game (build_round i (inputs i))) (
       led_on built sent _ (led_in_order (exchange rules i) (led_exchange i) rules.players built)
       (led_event (Run i) sent refl))
 
-  pub led_round : (keys : ℕ → ℕ) (game : Game) → IsLed game (good_round rules keys game)
+  pub led_round : (inputs : ℕ → Input) (game : Game) → IsLed game (good_round rules inputs game)
   unfolding good_round
-  led_round keys game = led_in_order (turn rules keys) (led_turn keys) rules.players game
+  led_round inputs game = led_in_order (turn rules inputs) (led_turn inputs) rules.players game
 
-  pub led_rounds : (keys : ℕ → ℕ → ℕ) (count : ℕ) (game : Game)
-      → IsLed game (good_rounds rules keys count game)
+  pub led_rounds : (inputs : ℕ → ℕ → Input) (count : ℕ) (game : Game)
+      → IsLed game (good_rounds rules inputs count game)
   unfolding good_rounds
-  led_rounds keys count game = led_in_order (λ before round. good_round rules (keys round) before)
-      (λ before round. led_round (keys round) before) count game
+  led_rounds inputs count game = led_in_order (λ before round. good_round rules (inputs round) before)
+      (λ before round. led_round (inputs round) before) count game

@@ -8,9 +8,10 @@ use Rattle.dn_machine.specs.declared.events.Event.{Event}
 use Rattle.dn_machine.specs.declared.events.Event.TheVariants.{Build, Send, Deliver, Run, Quit, Stop}
 use Rattle.dn_machine.specs.declared.events.Done.{Done}
 use Rattle.dn_machine.specs.declared.events.Refusal.{Refusal}
-use Rattle.dn_machine.specs.Worlds.{Rules, row_of}
+use Rattle.dn_machine.specs.Limits.{row_of}
+use Rattle.dn_machine.specs.Worlds.{Rules, world_after}
 use Rattle.dn_machine.specs.Flight.{Flight, is_exit}
-use Rattle.dn_machine.specs.Node.{Node, no_peer, blank, ran, got, lowest, world_after, known_end, demo_rows}
+use Rattle.dn_machine.specs.Node.{Node, no_peer, blank, ran, got, lowest, known_end, demo_rows}
 use Rattle.dn_machine.specs.Game.{Game, fresh, applied, opening_game}
 use Rattle.dn_machine.specs.Building.{on_build}
 use Rattle.dn_machine.specs.Sending.{on_send}
@@ -19,11 +20,13 @@ use Rattle.dn_machine.specs.Running.{on_run, on_quit}
 use Rattle.std.specs.Int.{int_wrap}
 use Rattle.dn_world.specs.Plane.{Spots, walking}
 use Rattle.dn_tic.specs.Pressed.{pressed}
+use Rattle.dn_tic.specs.Inputs.{made_by}
 use Rattle.dn_tic.specs.Command.{used}
 use Rattle.dn_machine.proofs.TwoPlayers.{counting, settings, answers}
+use Rattle.dn_tic.specs.declared.input.Input.TheVariants.{Pressed}
 
 rules : Rules Spots
-rules = record { physics = walking; players = 3; extra = false; capacity = 8738 }
+rules = record { physics = walking; limits = record { players = 3; extra = false; capacity = 8738 } }
 
 -- each node has made 35 commands and run 30 tics; the others hold 33 of player 2, who is to send from there
 -- on
@@ -32,7 +35,7 @@ before me = record (fresh settings me) {
   phase = Playing;
   played = true;
   settings = Some settings;
-  keys = replicate 35 0;
+  inputs = replicate 35 (Pressed 0);
   held = λ p. replicate (if p == 2 then (if me == 2 then 35 else 33) else 35) blank;
   rows = replicate 30 (row_of 3 (λ p. Some blank));
   peers = λ peer. record no_peer { resend = if me == 2 then 33 else 35 };
@@ -91,7 +94,7 @@ goes_past =
 demo_of : Game → ℕ → ℕ × ℕ × List Bool
 demo_of game me = (
   ran (game.nodes me),
-  length (demo_rows rules (game.nodes me)),
+  length (demo_rows rules.players (game.nodes me)),
   map is_some (get_or (game.nodes me).rows (ran (game.nodes me) - 1) []),
 )
 
@@ -103,14 +106,14 @@ goes_past_so : (answers rules start goes_past).0 ≡ (answers rules start goes_o
     ∷ Ok (Done.Heard (Heard.Taken 1)) ∷ Ok (Done.Ran (Ran.Ran 35)) ∷ Ok (Done.Ran (Ran.Ran 35))
     ∷ Ok (Done.Ran (Ran.Waiting 0)) ∷ [])
 unfolding answers start before told goes_on goes_past rules applied on_build on_send on_packet on_quit on_run
-    row_of used lowest world_after int_wrap pressed
+    row_of used lowest world_after int_wrap made_by pressed
 goes_past_so = refl
 
 demos_so : map (demo_of (answers rules start goes_past).1) (0 ∷ 1 ∷ 2 ∷ [])
     ≡ (36, 35, true ∷ true ∷ false ∷ false ∷ []) ∷ (36, 35, true ∷ true ∷ false ∷ false ∷ [])
     ∷ (30, 30, true ∷ true ∷ true ∷ false ∷ []) ∷ []
 unfolding answers start before told goes_on goes_past rules applied on_build on_send on_packet on_quit on_run
-    row_of used lowest world_after int_wrap pressed demo_of
+    row_of used lowest world_after int_wrap made_by pressed demo_of
 demos_so = refl
 
 -- had node 2 stopped instead, the others would wait once its commands are used up
@@ -134,6 +137,6 @@ alone : (answers counting (opening_game settings)
     ∷ Ok (Done.Ran (Ran.Waiting 1)) ∷ Ok (Done.Sent 2) ∷ Ok (Done.Heard Heard.Left)
     ∷ Ok (Done.Ran (Ran.Ran 0)) ∷ Ok (Done.Ran (Ran.Ran 1)) ∷ Ok (Done.Ran (Ran.Ran 2))
     ∷ Ok (Done.Ran (Ran.Waiting 0)) ∷ Ok (Done.Built Made.NotPlaying) ∷ Ok (Done.Ran Ran.NotPlaying) ∷ []
-unfolding answers opening_game applied on_build on_send on_packet on_run on_quit pressed row_of
+unfolding answers opening_game applied on_build on_send on_packet on_run on_quit made_by pressed row_of
     lowest world_after used
 alone = refl

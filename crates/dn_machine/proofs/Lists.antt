@@ -1,4 +1,4 @@
--- The commands held, the rows run, the known ends and the packets sent stay pieces of what the players' keys
+-- The commands held, the rows run, the known ends and the packets sent stay pieces of what the players' inputs
 -- make: when a node learns an end, leaves, runs a tic or sends.
 use Rattle.std.proofs.Common.{◌≡◌, ℕ, ◌+◌, ◌<◌, ◌≤◌, ◌≢◌, Bool, true, false, true≢false, List, [], ◌∷◌, ◌++◌, length, sym, ◌∙◌, ap, subst, arith, Option, Some, inl, inr}
 use Rattle.std.specs.Prelude.{◌⊎◌}
@@ -8,66 +8,66 @@ use Rattle.dn_setup.specs.Settings.{Settings}
 use Rattle.dn_machine.specs.Worlds.{Rules, row}
 use Rattle.dn_machine.specs.Flight.{Exit, Flight, end_of}
 use Rattle.dn_machine.specs.Node.{put}
-use Rattle.dn_machine.proofs.Invariant.{History, IsPiece, HoldsAll, ComesFromKeys}
+use Rattle.dn_machine.proofs.Invariant.{History, IsPiece, HoldsAll, ComesFromInputs}
 use Rattle.dn_machine.proofs.Put.{put_two_at, put_two_off, both_or_not, slice_get_push, longer, pushed}
 
 module _ {S : Type 0} (rules : Rules S) (settings : Settings) (history : History) (flights : List Flight)
-    (from_keys : ComesFromKeys rules settings history flights) where
+    (from_inputs : ComesFromInputs rules settings history flights) where
   -- no node knows an end of a player who has not left
   not_over : (q p : ℕ) → q < rules.players → p < rules.players → history.left p ≡ false → HoldsAll history q p
       → ⊥
-  not_over q p l m stays h = true≢false (sym (from_keys.ended q p h.0 l m h.1).0 ∙ stays)
+  not_over q p l m stays h = true≢false (sym (from_inputs.ended q p h.0 l m h.1).0 ∙ stays)
 
   -- a player who has not left holds back all others
   pub ran_below : (q p : ℕ) → q < rules.players → p < rules.players → history.left p ≡ false
-      → length (history.rows q) ≤ length (history.keys p)
+      → length (history.rows q) ≤ length (history.inputs p)
   ran_below q p l m stays =
-      let bound = from_keys.got q p l m in
-      elim (from_keys.run q p l m) [
+      let bound = from_inputs.got q p l m in
+      elim (from_inputs.run q p l m) [
         | inl le ↦ omega arith
         | inr h ↦ absurd (not_over q p l m stays h)
       ]
 
   -- made counts are at most five above that of a player who has not left
   pub close : (p q : ℕ) → p < rules.players → q < rules.players → history.left q ≡ false
-      → length (history.keys p) ≤ length (history.keys q) + 5
+      → length (history.inputs p) ≤ length (history.inputs q) + 5
   close p q l m stays =
-      let a = from_keys.ahead p l in
+      let a = from_inputs.ahead p l in
       let b = ran_below p q l m stays in
       omega arith
 
   -- a packet that is sent
-  pub sends : (flight : Flight) → IsPiece rules settings history.keys history.left flight
-      → ComesFromKeys rules settings history (flights ++ flight ∷ [])
+  pub sends : (flight : Flight) → IsPiece rules settings history.inputs history.left flight
+      → ComesFromInputs rules settings history (flights ++ flight ∷ [])
   sends flight piece = record {
-    counted = from_keys.counted;
-    run = from_keys.run;
-    got = from_keys.got;
-    ahead = from_keys.ahead;
-    unread = from_keys.unread;
-    commands = from_keys.commands;
-    moves = from_keys.moves;
-    ended = from_keys.ended;
+    counted = from_inputs.counted;
+    run = from_inputs.run;
+    got = from_inputs.got;
+    ahead = from_inputs.ahead;
+    unread = from_inputs.unread;
+    commands = from_inputs.commands;
+    moves = from_inputs.moves;
+    ended = from_inputs.ended;
     pieces = λ which other h. elim (slice_get_push flights flight which other h) [
-      | inl before ↦ from_keys.pieces which other before
-      | inr last ↦ subst (λ (f : Flight). IsPiece rules settings history.keys history.left f) (sym last) piece
+      | inl before ↦ from_inputs.pieces which other before
+      | inr last ↦ subst (λ (f : Flight). IsPiece rules settings history.inputs history.left f) (sym last) piece
     ];
   }
 
   -- more players who have left
   pub leaves : (left : ℕ → Bool) → ((q : ℕ) → history.left q ≡ true → left q ≡ true)
-      → ComesFromKeys rules settings (record history { left = left }) flights
+      → ComesFromInputs rules settings (record history { left = left }) flights
   leaves left more = record {
-    counted = from_keys.counted;
-    run = from_keys.run;
-    got = from_keys.got;
-    ahead = from_keys.ahead;
-    unread = from_keys.unread;
-    commands = from_keys.commands;
-    moves = from_keys.moves;
-    ended = λ q p end l m h. let old = from_keys.ended q p end l m h in (more p old.0, old.1);
+    counted = from_inputs.counted;
+    run = from_inputs.run;
+    got = from_inputs.got;
+    ahead = from_inputs.ahead;
+    unread = from_inputs.unread;
+    commands = from_inputs.commands;
+    moves = from_inputs.moves;
+    ended = λ q p end l m h. let old = from_inputs.ended q p end l m h in (more p old.0, old.1);
     pieces = λ which flight h.
-        let piece = from_keys.pieces which flight h in
+        let piece = from_inputs.pieces which flight h in
         record {
           sender = piece.sender;
           receiver = piece.receiver;
@@ -82,8 +82,8 @@ module _ {S : Type 0} (rules : Rules S) (settings : Settings) (history : History
 
   -- an end that an EXIT packet tells
   module _ (me : ℕ) (mine : me < rules.players) (flight : Flight)
-      (piece : IsPiece rules settings history.keys history.left flight) (leaving : flight.kind ≡ Exit) where
-    pub learns : ComesFromKeys rules settings
+      (piece : IsPiece rules settings history.inputs history.left flight) (leaving : flight.kind ≡ Exit) where
+    pub learns : ComesFromInputs rules settings
         (record history
         { ends = put history.ends me (put (history.ends me) flight.from (Some (end_of flight))) }) flights
     learns =
@@ -93,58 +93,58 @@ module _ {S : Type 0} (rules : Rules S) (settings : Settings) (history : History
         let at = λ (q p : ℕ) (e : q ≡ me) (d : p ≡ flight.from). put_two_at history.ends me flight.from q p X
         e d in
         record {
-          counted = from_keys.counted;
-          run = λ q p l m. elim (from_keys.run q p l m) [
+          counted = from_inputs.counted;
+          run = λ q p l m. elim (from_inputs.run q p l m) [
             | inl le ↦ inl le
             | inr h ↦ elim (both_or_not q me p flight.from) [
               | inl b ↦
-                  let old = (from_keys.ended q p h.0 l m h.1).1 in
+                  let old = (from_inputs.ended q p h.0 l m h.1).1 in
                   let tip = (piece.exit leaving).1 in
-                  let here : length (history.keys p) ≡ length (history.keys flight.from) =
-                  ap (λ (r : ℕ). length (history.keys r)) b.1 in
+                  let here : length (history.inputs p) ≡ length (history.inputs flight.from) =
+                  ap (λ (r : ℕ). length (history.inputs r)) b.1 in
                   let low = h.2 in
                   inr (end_of flight, at q p b.0 b.1, omega arith)
               | inr n ↦ inr (h.0, off q p n ∙ h.1, h.2)
             ]
           ];
-          got = from_keys.got;
-          ahead = from_keys.ahead;
-          unread = from_keys.unread;
-          commands = from_keys.commands;
-          moves = from_keys.moves;
+          got = from_inputs.got;
+          ahead = from_inputs.ahead;
+          unread = from_inputs.unread;
+          commands = from_inputs.commands;
+          moves = from_inputs.moves;
           ended = λ q p end l m h. elim (both_or_not q me p flight.from) [
             | inl b ↦
                 let tip = piece.exit leaving in
                 let same : end_of flight ≡ end = same_Some (end_of flight) end (sym (at q p b.0 b.1) ∙ h) in
-                let here : length (history.keys p) ≡ length (history.keys flight.from) =
-                ap (λ (r : ℕ). length (history.keys r)) b.1 in
+                let here : length (history.inputs p) ≡ length (history.inputs flight.from) =
+                ap (λ (r : ℕ). length (history.inputs r)) b.1 in
                 (ap history.left b.1 ∙ tip.0, sym same ∙ (tip.1 ∙ sym here))
-            | inr n ↦ from_keys.ended q p end l m (sym (off q p n) ∙ h)
+            | inr n ↦ from_inputs.ended q p end l m (sym (off q p n) ∙ h)
           ];
-          pieces = from_keys.pieces;
+          pieces = from_inputs.pieces;
         }
 
   -- a tic that is run
   module _ (me : ℕ) (mine : me < rules.players) (there : (p : ℕ) → p < rules.players
       → (length (history.rows me) < length (history.held me p))
       ⊎ ((end : ℕ) × (history.ends me p ≡ Some end) × (end ≤ length (history.rows me))))
-      (new : List (Option Move)) (true_row : new ≡ row rules settings history.keys (length (history.rows me)))
+      (new : List (Option Move)) (true_row : new ≡ row rules settings history.inputs (length (history.rows me)))
     where
       -- where the commands ran out, all were held
       held_all : (p : ℕ) → p < rules.players → (length (history.rows me) < length (history.held me p))
           ⊎ HoldsAll history me p
       held_all p m = elim (there p m) [
         | inl l ↦ inl l
-        | inr h ↦ elim (from_keys.run me p mine m) [
+        | inr h ↦ elim (from_inputs.run me p mine m) [
           | inl le ↦ let low = h.2 in inr (h.0, h.1, omega arith)
           | inr old ↦ inr old
         ]
       ]
 
-      pub runs : ComesFromKeys rules settings
+      pub runs : ComesFromInputs rules settings
           (record history { rows = put history.rows me (history.rows me ++ new ∷ []) }) flights
       runs = record {
-        counted = from_keys.counted;
+        counted = from_inputs.counted;
         run = λ q p l m. elim (longer history.rows me new q) [
           | inl h ↦ elim (held_all p m) [
             | inl here ↦
@@ -155,25 +155,25 @@ module _ {S : Type 0} (rules : Rules S) (settings : Settings) (history : History
                 inl (omega arith)
             | inr all ↦ inr (subst (λ (r : ℕ). HoldsAll history r p) (sym h.0) all)
           ]
-          | inr h ↦ elim (from_keys.run q p l m) [
+          | inr h ↦ elim (from_inputs.run q p l m) [
             | inl old ↦ inl (omega arith)
             | inr all ↦ inr all
           ]
         ];
-        got = from_keys.got;
+        got = from_inputs.got;
         ahead = λ p l.
             let now = longer history.rows me new p in
-            let old = from_keys.ahead p l in
+            let old = from_inputs.ahead p l in
             omega arith;
         unread = λ q p l m.
             let now = longer history.rows me new q in
-            let old = from_keys.unread q p l m in
+            let old = from_inputs.unread q p l m in
             omega arith;
-        commands = from_keys.commands;
+        commands = from_inputs.commands;
         moves = λ q tic l m. elim (pushed history.rows me new [] q tic m) [
-          | inl old ↦ old.1 ∙ from_keys.moves q tic l old.0
-          | inr last ↦ last.2 ∙ (true_row ∙ ap (row rules settings history.keys) last.1)
+          | inl old ↦ old.1 ∙ from_inputs.moves q tic l old.0
+          | inr last ↦ last.2 ∙ (true_row ∙ ap (row rules settings history.inputs) last.1)
         ];
-        ended = from_keys.ended;
-        pieces = from_keys.pieces;
+        ended = from_inputs.ended;
+        pieces = from_inputs.pieces;
       }

@@ -8,13 +8,13 @@ use Rattle.dn_setup.specs.Settings.{Settings}
 use Rattle.dn_setup.specs.Gathered.{all_noted}
 use Rattle.dn_machine.specs.declared.answers.Phase.TheVariants.{Listening, Gathering, Playing}
 use Rattle.dn_machine.specs.declared.events.Event.{Event}
-use Rattle.dn_machine.specs.declared.events.Event.TheVariants.{Build, Send, Deliver, Run, Quit, Stop}
+use Rattle.dn_machine.specs.declared.events.Event.TheVariants.{Build, Send, Deliver, Run, Quit, Stop, Give}
 use Rattle.dn_machine.specs.declared.events.Refusal.{Refusal}
 use Rattle.dn_machine.specs.Worlds.{Rules}
 use Rattle.dn_machine.specs.Flight.{Flight}
 use Rattle.dn_machine.specs.Node.{Node, put, is_ended}
 use Rattle.dn_machine.specs.Sending.{on_send, set_up_flight}
-use Rattle.dn_machine.specs.Game.{Game, fresh, opening_game, with_node, posted, refused, delivered, on_event, applied_if, applied}
+use Rattle.dn_machine.specs.Game.{Game, fresh, opening_game, with_node, posted, refused, delivered, on_event, applied_if, applied, own_marks, built}
 use Rattle.dn_machine.proofs.Invariant.{IsKept}
 use Rattle.dn_machine.specs.Runs.{Runs}
 use Rattle.dn_machine.proofs.Put.{put_at, put_off, slice_get_push}
@@ -23,6 +23,8 @@ use Rattle.dn_machine.proofs.EachEvent.{leads_keep}
 use Rattle.dn_machine.proofs.Calls.{IsWord, send_cases}
 use Rattle.dn_machine.proofs.Growth.{Grows, build_grows, send_grows, run_grows, quit_grows, hear_grows, placed_grows}
 use Rattle.dn_machine.proofs.Changes.{each_noted, Change, Same, Starts, Notes, Completes, Gone, build_change, send_change, run_change, quit_change, hear_change, noted_of}
+use Rattle.dn_tic.specs.declared.input.Input.{Input}
+use Rattle.dn_tic.specs.declared.input.Input.TheVariants.{Pressed, Given}
 
 -- Where a node stands: the key player gathers, any other listens, until it plays; and then it may end.
 pub data Stands (i : ℕ) (node : Node) : Type 0 where
@@ -153,10 +155,10 @@ module _ {S : Type 0} (rules : Rules S) (settings : Settings) (game : Game)
     (kept : IsKept rules settings game) (is_open : IsOpen rules game) where
   -- whoever sends commands has played
   send_played : (i : ℕ) → i < rules.players → (to : ℕ) (flight : Flight)
-      → (on_send rules i (game.nodes i) to).1 ≡ Some flight → IsWord flight.kind
+      → (on_send rules.limits i (game.nodes i) to).1 ≡ Some flight → IsWord flight.kind
       → (game.nodes flight.from).played ≡ true
   send_played i l to flight e w =
-      send_cases rules i (game.nodes i)
+      send_cases rules.limits i (game.nodes i)
       (λ (r : Node × Option Flight). r.1 ≡ Some flight → (game.nodes flight.from).played ≡ true) to
       (λ h. absurd (none-some flight h))
       (λ other g h. set_up (game.nodes i).settings h)
@@ -178,34 +180,38 @@ module _ {S : Type 0} (rules : Rules S) (settings : Settings) (game : Game)
   delivers_open None which h = is_open
   delivers_open (Some flight) which h =
       placed_open rules game is_open flight.to flight.from (IsWord flight.kind) ⊥ _
-      (hear_change rules flight.to (game.nodes flight.to) flight) (is_open.sent which flight h)
-      (λ q. placed_grows rules game q flight.to _ (hear_grows rules flight.to (game.nodes flight.to) flight))
+      (hear_change rules.limits flight.to (game.nodes flight.to) flight) (is_open.sent which flight h)
+      (λ q. placed_grows rules game q flight.to _ (hear_grows rules.limits flight.to (game.nodes flight.to) flight))
+
+  built_open : (node : ℕ) (input : Input) → IsOpen rules (built rules game node input).0
+  built_open node input = placed_open rules game is_open node 0 ⊥ ⊥ _
+      (build_change rules.limits node (game.nodes node) input) (λ x. absurd x)
+      (λ q. placed_grows rules game q node _ (build_grows rules.limits node (game.nodes node) input))
 
   -- an event that is not refused
   happens_open : (event : Event) → refused rules.players game event ≡ None
       → IsOpen rules (on_event rules game event).0
-  happens_open (Build node keys) h = placed_open rules game is_open node 0 ⊥ ⊥ _
-      (build_change rules node (game.nodes node) keys) (λ x. absurd x)
-      (λ q. placed_grows rules game q node _ (build_grows rules node (game.nodes node) keys))
+  happens_open (Build node keys) h = built_open node (Pressed keys)
+  happens_open (Give node command) h = built_open node (Given command)
   happens_open (Send node to) h =
       let both = and_parts (ltb node rules.players) (ltb to rules.players)
       (passes (ltb node rules.players && ltb to rules.players) _ _ h) in
       let grows : (q : ℕ)
-      → Grows (game.nodes q) (put game.nodes node (on_send rules node (game.nodes node) to).0 q) =
-      λ q. placed_grows rules game q node _ (send_grows rules node (game.nodes node) to) in
-      posted_open rules game is_open (with_node game node (on_send rules node (game.nodes node) to).0)
-      (on_send rules node (game.nodes node) to).1
-      (placed_open rules game is_open node 0 ⊥ ⊥ _ (send_change rules node (game.nodes node) to)
+      → Grows (game.nodes q) (put game.nodes node (on_send rules.limits node (game.nodes node) to).0 q) =
+      λ q. placed_grows rules game q node _ (send_grows rules.limits node (game.nodes node) to) in
+      posted_open rules game is_open (with_node game node (on_send rules.limits node (game.nodes node) to).0)
+      (on_send rules.limits node (game.nodes node) to).1
+      (placed_open rules game is_open node 0 ⊥ ⊥ _ (send_change rules.limits node (game.nodes node) to)
       (λ x. absurd x) grows)
       (λ flight e w. (grows flight.from).played
       (send_played node (ltb-true node rules.players both.0) to flight e w))
   happens_open (Deliver which) h = delivers_open (slice_get game.flights which) which refl
   happens_open (Run node) h = placed_open rules game is_open node 0 ⊥ (Unit {0}) _
-      (run_change rules node (game.nodes node)) (λ x. absurd x)
-      (λ q. placed_grows rules game q node _ (run_grows rules node (game.nodes node)))
+      (run_change rules.limits node (game.nodes node) (own_marks rules (game.nodes node))) (λ x. absurd x)
+      (λ q. placed_grows rules game q node _ (run_grows rules.limits node (game.nodes node) (own_marks rules (game.nodes node))))
   happens_open (Quit node) h = placed_open rules game is_open node 0 ⊥ (Unit {0}) _
-      (quit_change rules node (game.nodes node)) (λ x. absurd x)
-      (λ q. placed_grows rules game q node _ (quit_grows rules node (game.nodes node)))
+      (quit_change rules.limits node (game.nodes node)) (λ x. absurd x)
+      (λ q. placed_grows rules game q node _ (quit_grows rules.limits node (game.nodes node)))
   happens_open (Stop node) h = record {
     stands = is_open.stands;
     noted = is_open.noted;

@@ -9,11 +9,11 @@ use Rattle.dn_machine.specs.declared.answers.Cause.{Cause}
 use Rattle.dn_machine.specs.declared.answers.Phase.{Phase}
 use Rattle.dn_machine.specs.declared.answers.Phase.TheVariants.{Gathering, Playing, Ended}
 use Rattle.dn_machine.specs.declared.peer.Peer.{Peer}
-use Rattle.dn_machine.specs.Worlds.{Rules, mark_in, worlds_to}
+use Rattle.dn_machine.specs.Worlds.{Inputs, Rules, mark_in, worlds_to}
 use Rattle.dn_machine.specs.Flight.{Flight}
 use Rattle.dn_machine.specs.Node.{Node, put, with_peer, ends_of, made, ran, own_mark, is_ended, has_left}
 use Rattle.dn_machine.specs.Game.{Game, with_node}
-use Rattle.dn_machine.proofs.Invariant.{History, ComesFromKeys, IsSound, IsKept, history_of}
+use Rattle.dn_machine.proofs.Invariant.{History, ComesFromInputs, IsSound, HasTrueMarks, IsKept, history_of}
 use Rattle.dn_machine.proofs.Put.{put_at, put_off, view_kept}
 use Rattle.dn_machine.proofs.Peers.{resends_put}
 use Rattle.dn_machine.proofs.Lists
@@ -23,16 +23,16 @@ use Rattle.dn_machine.specs.Running.{is_over, is_absent}
 
 -- equal lists tell the same
 along : {S : Type 0} (rules : Rules S) (settings : Settings) (a b : History) (flights : List Flight)
-    → b.keys ≡ a.keys → b.held ≡ a.held → b.rows ≡ a.rows → b.ends ≡ a.ends → b.left ≡ a.left
-    → ComesFromKeys rules settings a flights → ComesFromKeys rules settings b flights
-along rules settings a b flights k h r e l from_keys =
-    let same : b ≡ a = λ j. record { keys = k j; held = h j; rows = r j; ends = e j; left = l j } in
-    subst (λ (t : History). ComesFromKeys rules settings t flights) (sym same) from_keys
+    → b.inputs ≡ a.inputs → b.held ≡ a.held → b.rows ≡ a.rows → b.ends ≡ a.ends → b.left ≡ a.left
+    → ComesFromInputs rules settings a flights → ComesFromInputs rules settings b flights
+along rules settings a b flights k h r e l from_inputs =
+    let same : b ≡ a = λ j. record { inputs = k j; held = h j; rows = r j; ends = e j; left = l j } in
+    subst (λ (t : History). ComesFromInputs rules settings t flights) (sym same) from_inputs
 
 module _ {S : Type 0} (rules : Rules S) (settings : Settings) (game : Game)
     (kept : IsKept rules settings game) (i : ℕ) (mine : i < rules.players) where
-  abbrev pub keys_now : ℕ → List ℕ
-  keys_now q = (game.nodes q).keys
+  abbrev pub inputs_now : Inputs
+  inputs_now q = (game.nodes q).inputs
 
   -- another node that is sound leaves all sound
   sound_placed : (new : Node) → IsSound rules settings i new → (q : ℕ) → q < rules.players
@@ -53,44 +53,65 @@ module _ {S : Type 0} (rules : Rules S) (settings : Settings) (game : Game)
     | inr n ↦ ap has_left (put_off game.nodes i q new n) ∙ gone
   ]
 
+  -- marks that are true at the new node and the others are true at all
+  pub marks_placed : (new : Node) (inputs : Inputs) → HasTrueMarks rules settings inputs new
+      → ((q : ℕ) → q < rules.players → q ≢ i → HasTrueMarks rules settings inputs (game.nodes q))
+      → (q : ℕ) → q < rules.players → HasTrueMarks rules settings inputs (put game.nodes i new q)
+  marks_placed new inputs own others q l = elim (cases_eq q i) [
+    | inl e ↦ subst (λ (n : Node). HasTrueMarks rules settings inputs n) (sym (put_at game.nodes i q new e)) own
+    | inr n ↦ subst (λ (m : Node). HasTrueMarks rules settings inputs m) (sym (put_off game.nodes i q new n))
+        (others q l n)
+  ]
+
+  -- where no tic is run they are those of before
+  pub marks_kept : (new : Node) → new.rows ≡ (game.nodes i).rows → new.marks ≡ (game.nodes i).marks
+      → (q : ℕ) → q < rules.players → HasTrueMarks rules settings inputs_now (put game.nodes i new q)
+  marks_kept new rows marks = marks_placed new inputs_now
+      (λ p tic l m n. ap (λ (table : ℕ → ℕ → ℤ). table tic p) marks
+      ∙ kept.marks i mine p tic l (subst (λ (rs : List (List (Option Move))). tic < length rs) rows m) n)
+      (λ q l n. kept.marks q l)
+
   -- a node and the flights after a change that keeps what is so
   pub placed : (new : Node) (stopped : ℕ → Bool) (flights : List Flight) (history : History)
-      → ◌≡◌ {A = ℕ → List ℕ} (λ q. (put game.nodes i new q).keys) history.keys
+      → ◌≡◌ {A = Inputs} (λ q. (put game.nodes i new q).inputs) history.inputs
       → ◌≡◌ {A = ℕ → ℕ → List TicCmd} (λ q. (put game.nodes i new q).held) history.held
       → ◌≡◌ {A = ℕ → List (List (Option Move))} (λ q. (put game.nodes i new q).rows) history.rows
       → ◌≡◌ {A = ℕ → ℕ → Option ℕ} (λ q. ends_of (put game.nodes i new q)) history.ends
       → ((q : ℕ) → history.left q ≡ true → has_left (put game.nodes i new q) ≡ true)
-      → ComesFromKeys rules settings history flights → IsSound rules settings i new
+      → ComesFromInputs rules settings history flights → IsSound rules settings i new
+      → ((q : ℕ) → q < rules.players → HasTrueMarks rules settings history.inputs (put game.nodes i new q))
       → IsKept rules settings (record { nodes = put game.nodes i new; stopped = stopped; flights = flights })
-  placed new stopped flights history k h r e more from_keys sound =
+  placed new stopped flights history k h r e more from_inputs sound marks =
       record {
-        from_keys = along rules settings (record history { left = λ q. has_left (put game.nodes i new q) }) _
+        from_inputs = along rules settings (record history { left = λ q. has_left (put game.nodes i new q) }) _
             flights k h r e refl
-            (Lists.leaves rules settings history flights from_keys (λ q. has_left (put game.nodes i new q))
+            (Lists.leaves rules settings history flights from_inputs (λ q. has_left (put game.nodes i new q))
             more);
         sound = sound_placed new sound;
+        marks = λ q l. subst (λ (inputs : Inputs). HasTrueMarks rules settings inputs
+            (put game.nodes i new q)) (sym k) (marks q l);
       }
 
   -- a node whose lists are as they were, and other flights
-  pub quiet_with : (new : Node) (stopped : ℕ → Bool) (flights : List Flight) → new.keys ≡ (game.nodes i).keys
+  pub quiet_with : (new : Node) (stopped : ℕ → Bool) (flights : List Flight) → new.inputs ≡ (game.nodes i).inputs
       → new.held ≡ (game.nodes i).held → new.rows ≡ (game.nodes i).rows → ends_of new ≡ ends_of (game.nodes i)
-      → (has_left (game.nodes i) ≡ true → has_left new ≡ true)
-      → ComesFromKeys rules settings (history_of game) flights → IsSound rules settings i new
+      → new.marks ≡ (game.nodes i).marks → (has_left (game.nodes i) ≡ true → has_left new ≡ true)
+      → ComesFromInputs rules settings (history_of game) flights → IsSound rules settings i new
       → IsKept rules settings (record { nodes = put game.nodes i new; stopped = stopped; flights = flights })
-  quiet_with new stopped flights a b c d more from_keys sound =
-      placed new stopped flights (history_of game) (view_kept (λ (n : Node). n.keys) game.nodes i new a)
+  quiet_with new stopped flights a b c d t more from_inputs sound =
+      placed new stopped flights (history_of game) (view_kept (λ (n : Node). n.inputs) game.nodes i new a)
       (view_kept (λ (n : Node). n.held) game.nodes i new b)
       (view_kept (λ (n : Node). n.rows) game.nodes i new c) (view_kept ends_of game.nodes i new d)
-      (left_placed new more) from_keys sound
+      (left_placed new more) from_inputs sound (marks_kept new c t)
 
-  pub quiet : (new : Node) → new.keys ≡ (game.nodes i).keys → new.held ≡ (game.nodes i).held
+  pub quiet : (new : Node) → new.inputs ≡ (game.nodes i).inputs → new.held ≡ (game.nodes i).held
       → new.rows ≡ (game.nodes i).rows → ends_of new ≡ ends_of (game.nodes i)
-      → (has_left (game.nodes i) ≡ true → has_left new ≡ true) → IsSound rules settings i new
-      → IsKept rules settings (with_node game i new)
-  quiet new a b c d more sound = quiet_with new game.stopped game.flights a b c d more kept.from_keys sound
+      → new.marks ≡ (game.nodes i).marks → (has_left (game.nodes i) ≡ true → has_left new ≡ true)
+      → IsSound rules settings i new → IsKept rules settings (with_node game i new)
+  quiet new a b c d t more sound = quiet_with new game.stopped game.flights a b c d t more kept.from_inputs sound
 
   pub same_node : IsKept rules settings (with_node game i (game.nodes i))
-  same_node = quiet (game.nodes i) refl refl refl refl (λ h. h) (kept.sound i mine)
+  same_node = quiet (game.nodes i) refl refl refl refl refl (λ h. h) (kept.sound i mine)
 
   -- a node that differs in its phase and in whom it has heard
   pub restated : (phase : Phase) (played : Bool) (chosen : Option Settings) (noted : ℕ → Bool)
@@ -116,15 +137,14 @@ module _ {S : Type 0} (rules : Rules S) (settings : Settings) (game : Game)
       ∙ and_right (game.nodes i).played false refl
 
   -- a playing node has the key's settings
-  playing_settings : (game.nodes i).phase ≡ Playing → (game.nodes i).settings ≡ Some settings
+  pub playing_settings : (game.nodes i).phase ≡ Playing → (game.nodes i).settings ≡ Some settings
   playing_settings e = (kept.sound i mine).played ((kept.sound i mine).playing e)
 
-  -- its own mark is the true one, of any tic up to twelve past those that it ran
-  pub own_mark_kept : (p t : ℕ) → (game.nodes i).phase ≡ Playing → t ≤ length (game.nodes i).rows + 12
-      → own_mark rules (game.nodes i) p t ≡ mark_in
-      rules.physics (slice_get (worlds_to rules settings keys_now t) 12) p
-  own_mark_kept p t e l = own_mark_true rules settings keys_now (game.nodes i) p t (playing_settings e)
-      (λ k m. kept.from_keys.moves i k mine m) l
+  -- its own mark is the true one, of any tic up to twelve past those that it ran and that the player made
+  pub own_mark_kept : (p t : ℕ) → p < rules.players → t < length (game.nodes i).rows + 12
+      → t < length (inputs_now p) + 12 → own_mark (game.nodes i) p t ≡ mark_in
+      rules.physics (slice_get (worlds_to rules settings inputs_now t) 12) p
+  own_mark_kept p t = own_mark_true rules settings inputs_now (game.nodes i) p t (kept.marks i mine)
 
   -- another thing kept of a peer, with whatever commands of others: whoever was absent is
   module _ (from : ℕ) (peer : Peer) (held : ℕ → List TicCmd) (low : peer.resend ≤ made i (game.nodes i))
@@ -153,7 +173,7 @@ module _ {S : Type 0} (rules : Rules S) (settings : Settings) (game : Game)
             resend = λ to. subst (λ (cs : List TicCmd). (kept_peer.peers to).resend ≤ length cs) (sym own)
                 (resends_put (game.nodes i).peers from peer (made i (game.nodes i)) sound.resend low to);
             room = sound.room;
-            whole = λ e. sound.whole (whole_held rules kept_peer (game.nodes i)
+            whole = λ e. sound.whole (whole_held rules.limits kept_peer (game.nodes i)
                 (λ p l present. elim (cases_Bool (is_absent (game.nodes i) p)) [
                   | inl gone ↦ absurd (true≢false (sym (still_over p (ran (game.nodes i)) gone) ∙ present))
                   | inr here ↦ here

@@ -22,26 +22,27 @@ use Rattle.dn_machine.proofs.Roomy.{IsRoomy, InDemos, Without, roomy_on}
 use Rattle.dn_machine.proofs.Openings.{Stands, Gathers, Listens, Plays, HasGone, always_open}
 use Rattle.dn_machine.proofs.Begun.{IsBegun, all_play}
 use Rattle.dn_machine.proofs.StartUp.{round_starts}
+use Rattle.dn_tic.specs.declared.input.Input.{Input}
 
 module _ {S : Type 0} (rules : Rules S) where
   -- some rounds and then more
-  rounds_add : (keys : ℕ → ℕ → ℕ) (game : Game) (first more all : ℕ) → all ≡ more + first
-      → good_rounds rules keys all game ≡ good_rounds rules (λ round. keys (round + first)) more
-      (good_rounds rules keys first game)
+  rounds_add : (inputs : ℕ → ℕ → Input) (game : Game) (first more all : ℕ) → all ≡ more + first
+      → good_rounds rules inputs all game ≡ good_rounds rules (λ round. inputs (round + first)) more
+      (good_rounds rules inputs first game)
   unfolding good_rounds in_order
-  rounds_add keys game first zero all e = let same : all ≡ first = omega arith in
-      ap (λ (n : ℕ). in_order (λ before round. good_round rules (keys round) before) n game) same
-  rounds_add keys game first (suc more) zero e = absurd (omega arith)
-  rounds_add keys game first (suc more) (suc all) e =
+  rounds_add inputs game first zero all e = let same : all ≡ first = omega arith in
+      ap (λ (n : ℕ). in_order (λ before round. good_round rules (inputs round) before) n game) same
+  rounds_add inputs game first (suc more) zero e = absurd (omega arith)
+  rounds_add inputs game first (suc more) (suc all) e =
       let same : all ≡ more + first = omega arith in
-      ap (good_round rules (keys all)) (rounds_add keys game first more all same)
-      ∙ ap (λ (n : ℕ). good_round rules (keys n)
-      (good_rounds rules (λ round. keys (round + first)) more (good_rounds rules keys first game))) same
+      ap (good_round rules (inputs all)) (rounds_add inputs game first more all same)
+      ∙ ap (λ (n : ℕ). good_round rules (inputs n)
+      (good_rounds rules (λ round. inputs (round + first)) more (good_rounds rules inputs first game))) same
 
-  rounds_far : (cap : ℕ) (stay : ℕ → Bool) (keys : ℕ → ℕ → ℕ) (count : ℕ) (game : Game)
-      → IsFar rules cap stay game → IsFar rules cap stay (good_rounds rules keys count game)
-  rounds_far cap stay keys count game far q l s = let old = far q l s in
-      let more = rounds_ran rules keys count q (ran (game.nodes q)) game (omega arith) in omega arith
+  rounds_far : (cap : ℕ) (stay : ℕ → Bool) (inputs : ℕ → ℕ → Input) (count : ℕ) (game : Game)
+      → IsFar rules cap stay game → IsFar rules cap stay (good_rounds rules inputs count game)
+  rounds_far cap stay inputs count game far q l s = let old = far q l s in
+      let more = rounds_ran rules inputs count q (ran (game.nodes q)) game (omega arith) in omega arith
 
 module _ {S : Type 0} (rules : Rules S) (settings : Settings) (cap : ℕ) (several : 2 ≤ rules.players) where
   module _ (stay : ℕ → Bool) (one : ℕ) (in_game : one < rules.players) (stays : stay one ≡ true) where
@@ -62,55 +63,55 @@ module _ {S : Type 0} (rules : Rules S) (settings : Settings) (cap : ℕ) (sever
     settled tic rounds game (AtOn on stage) = inr on
 
     -- one good round
-    settled_round : (tic : ℕ) (keys : ℕ → ℕ) (game : Game) → IsOn rules settings cap stay tic game
-        → Settled tic (good_round rules keys game)
-    settled_round tic keys game on = settled tic 12 (good_round rules keys game)
-        (round_nearer rules settings cap stay tic another.0 one another.1 in_game stays another.2 keys 12
+    settled_round : (tic : ℕ) (inputs : ℕ → Input) (game : Game) → IsOn rules settings cap stay tic game
+        → Settled tic (good_round rules inputs game)
+    settled_round tic inputs game on = settled tic 12 (good_round rules inputs game)
+        (round_nearer rules settings cap stay tic another.0 one another.1 in_game stays another.2 inputs 12
         (omega arith) game (AtOn on (Unknown (omega arith))))
 
-    settled_thirteen : (tic : ℕ) (keys : ℕ → ℕ → ℕ) (game : Game) → IsOn rules settings cap stay tic game
-        → Settled tic (good_rounds rules keys 13 game)
+    settled_thirteen : (tic : ℕ) (inputs : ℕ → ℕ → Input) (game : Game) → IsOn rules settings cap stay tic game
+        → Settled tic (good_rounds rules inputs 13 game)
     unfolding good_rounds good_round in_order
-    settled_thirteen tic keys game on =
-        settled tic 0 (good_rounds rules keys 13 game)
-        (each_of (AtPair tic 0) (turn rules (keys 12)) rules.players (good_rounds rules keys 12 game)
+    settled_thirteen tic inputs game on =
+        settled tic 0 (good_rounds rules inputs 13 game)
+        (each_of (AtPair tic 0) (turn rules (inputs 12)) rules.players (good_rounds rules inputs 12 game)
         (λ i g l at. turn_keeps rules settings cap stay tic another.0 one another.1 in_game stays another.2
-        (keys 12) i l g at)
-        (has_after rules settings cap stay tic another.0 one another.1 in_game stays another.2 keys game on))
+        (inputs 12) i l g at)
+        (has_after rules settings cap stay tic another.0 one another.1 in_game stays another.2 inputs game on))
 
     -- a tic more after thirteen good rounds
-    next_tic : (tic : ℕ) → tic + 6 ≤ cap → (keys : ℕ → ℕ → ℕ) (game : Game) → Settled tic game
-        → Settled (suc tic) (good_rounds rules keys 13 game)
-    next_tic tic room keys game (inl far) = inl (rounds_far rules cap stay keys 13 game far)
-    next_tic tic room keys game (inr on) = elim (settled_thirteen tic keys game on) [
+    next_tic : (tic : ℕ) → tic + 6 ≤ cap → (inputs : ℕ → ℕ → Input) (game : Game) → Settled tic game
+        → Settled (suc tic) (good_rounds rules inputs 13 game)
+    next_tic tic room inputs game (inl far) = inl (rounds_far rules cap stay inputs 13 game far)
+    next_tic tic room inputs game (inr on) = elim (settled_thirteen tic inputs game on) [
       | inl far ↦ inl far
       | inr more ↦ inr (record {
         live = more.live;
         plays = more.plays;
         left = more.left;
-        ran = λ q l s. let past = thirteen rules settings cap stay tic room several q l s keys game on in
+        ran = λ q l s. let past = thirteen rules settings cap stay tic room several q l s inputs game on in
             omega arith;
-        room = roomy_on rules cap tic (good_rounds rules keys 13 game) more.room;
+        room = roomy_on rules cap tic (good_rounds rules inputs 13 game) more.room;
       })
     ]
 
     pub tics : (tic count last rounds : ℕ) → last ≡ tic + count → last + 5 ≤ cap → rounds ≡ 13 * count
-        → (keys : ℕ → ℕ → ℕ) (game : Game) → Settled tic game
-        → Settled last (good_rounds rules keys rounds game)
+        → (inputs : ℕ → ℕ → Input) (game : Game) → Settled tic game
+        → Settled last (good_rounds rules inputs rounds game)
     unfolding good_rounds in_order
-    tics tic zero last rounds e room f keys game at =
+    tics tic zero last rounds e room f inputs game at =
         let none : rounds ≡ 0 = omega arith in
         let same : tic ≡ last = omega arith in
         subst (λ (n : ℕ). Settled last
-        (in_order (λ before round. good_round rules (keys round) before) n game)) (sym none)
+        (in_order (λ before round. good_round rules (inputs round) before) n game)) (sym none)
         (subst (λ (n : ℕ). Settled n game) same at)
-    tics tic (suc count) zero rounds e room f keys game at = absurd (omega arith)
-    tics tic (suc count) (suc last) rounds e room f keys game at =
+    tics tic (suc count) zero rounds e room f inputs game at = absurd (omega arith)
+    tics tic (suc count) (suc last) rounds e room f inputs game at =
         let first : ℕ = 13 * count in
         subst (λ (g : Game). Settled (suc last) g)
-        (sym (rounds_add rules keys game first 13 rounds (omega arith)))
-        (next_tic last (omega arith) (λ round. keys (round + first)) (good_rounds rules keys first game)
-        (tics tic count last first (omega arith) (omega arith) refl keys game at))
+        (sym (rounds_add rules inputs game first 13 rounds (omega arith)))
+        (next_tic last (omega arith) (λ round. inputs (round + first)) (good_rounds rules inputs first game)
+        (tics tic count last first (omega arith) (omega arith) refl inputs game at))
 
     -- and so the one has run this many
     pub one_ran : (tic : ℕ) (game : Game) → tic + 5 ≤ cap → Settled tic game → tic ≤ ran (game.nodes one)
@@ -144,55 +145,55 @@ module _ {S : Type 0} (rules : Rules S) (settings : Settings) (cap : ℕ) (sever
 
     -- one good round for the start
     starts : (q : ℕ) → q < rules.players → staying q ≡ true → (tic : ℕ) → AllRan rules game game tic
-        → IsRoomy rules cap tic game → (keys : ℕ → ℕ) → IsFar rules cap staying (good_round rules keys game)
-        ⊎ IsOn rules settings cap staying tic (good_round rules keys game)
-    starts q l s tic far roomy keys = go ((begun tic far roomy).is_open.stands 0)
+        → IsRoomy rules cap tic game → (inputs : ℕ → Input) → IsFar rules cap staying (good_round rules inputs game)
+        ⊎ IsOn rules settings cap staying tic (good_round rules inputs game)
+    starts q l s tic far roomy inputs = go ((begun tic far roomy).is_open.stands 0)
       where
-        go : Stands 0 (game.nodes 0) → IsFar rules cap staying (good_round rules keys game)
-            ⊎ IsOn rules settings cap staying tic (good_round rules keys game)
+        go : Stands 0 (game.nodes 0) → IsFar rules cap staying (good_round rules inputs game)
+            ⊎ IsOn rules settings cap staying tic (good_round rules inputs game)
         go (Gathers z e f k) = round_starts rules settings cap staying tic first
-            (ap (λ (p : Phase). not (is_ended p)) e) keys several game (begun tic far roomy) e
+            (ap (λ (p : Phase). not (is_ended p)) e) inputs several game (begun tic far roomy) e
         go (Listens z e f) = absurd (z refl)
-        go (Plays e) = settled_round staying q l s tic keys game
+        go (Plays e) = settled_round staying q l s tic inputs game
             (all_play rules settings cap staying tic game (begun tic far roomy)
             (((begun tic far roomy).live.kept.sound 0 first).playing e))
-        go (HasGone e) = settled_round staying q l s tic keys game
+        go (HasGone e) = settled_round staying q l s tic inputs game
             (all_play rules settings cap staying tic game (begun tic far roomy) ((none_lost 0 first).0 e))
 
     -- in exactly this many rounds
-    goes_on_in : (keys : ℕ → ℕ → ℕ) (tic count : ℕ) → AllRan rules game game tic → IsRoomy rules cap tic game
-        → tic + count + 5 ≤ cap → AllRan rules game (good_rounds rules keys (13 * count + 1) game)
+    goes_on_in : (inputs : ℕ → ℕ → Input) (tic count : ℕ) → AllRan rules game game tic → IsRoomy rules cap tic game
+        → tic + count + 5 ≤ cap → AllRan rules game (good_rounds rules inputs (13 * count + 1) game)
         (tic + count)
     unfolding good_rounds in_order
-    goes_on_in keys tic count far roomy room q l in_play =
+    goes_on_in inputs tic count far roomy room q l in_play =
         let s : staying q ≡ true = ap not in_play in
-        one_ran staying q l s (tic + count) (good_rounds rules keys (13 * count + 1) game) room
+        one_ran staying q l s (tic + count) (good_rounds rules inputs (13 * count + 1) game) room
         (subst (λ (g : Game). IsFar rules cap staying g ⊎ IsOn rules settings cap staying (tic + count) g)
-        (sym (rounds_add rules keys game 1 (13 * count) (13 * count + 1) refl))
-        (tics staying q l s tic count (tic + count) (13 * count) refl room refl (λ round. keys (round + 1))
-        (good_round rules (keys 0) game) (starts q l s tic far roomy (keys 0))))
+        (sym (rounds_add rules inputs game 1 (13 * count) (13 * count + 1) refl))
+        (tics staying q l s tic count (tic + count) (13 * count) refl room refl (λ round. inputs (round + 1))
+        (good_round rules (inputs 0) game) (starts q l s tic far roomy (inputs 0))))
 
-    pub goes_on_by : (keys : ℕ → ℕ → ℕ) (tic count rounds : ℕ) → AllRan rules game game tic
+    pub goes_on_by : (inputs : ℕ → ℕ → Input) (tic count rounds : ℕ) → AllRan rules game game tic
         → IsRoomy rules cap tic game → tic + count + 5 ≤ cap → 13 * count < rounds
-        → AllRan rules game (good_rounds rules keys rounds game) (tic + count)
-    goes_on_by keys tic count rounds far roomy room enough q l in_play =
+        → AllRan rules game (good_rounds rules inputs rounds game) (tic + count)
+    goes_on_by inputs tic count rounds far roomy room enough q l in_play =
         let first : ℕ = 13 * count + 1 in
         let rest : ℕ = rounds - first in
         let whole : rounds ≡ rest + first = omega arith in
         subst (λ (g : Game). tic + count ≤ ran (g.nodes q))
-        (sym (rounds_add rules keys game first rest rounds whole))
-        (rounds_ran rules (λ round. keys (round + first)) rest q (tic + count)
-        (good_rounds rules keys first game) (goes_on_in keys tic count far roomy room q l in_play))
+        (sym (rounds_add rules inputs game first rest rounds whole))
+        (rounds_ran rules (λ round. inputs (round + first)) rest q (tic + count)
+        (good_rounds rules inputs first game) (goes_on_in inputs tic count far roomy room q l in_play))
 
 module _ {S : Type 0} (rules : Rules S) (settings : Settings) (fits : rules.capacity ≤ tic_limit)
     (several : 2 ≤ rules.players) (events : List Event) (game : Game) (run : Runs rules settings events game)
     (none_lost : NoneLost rules game) where
-  pub goes_on_with : (keys : ℕ → ℕ → ℕ) (tic count rounds : ℕ) → HasRoom rules game tic (tic + count + 5)
+  pub goes_on_with : (inputs : ℕ → ℕ → Input) (tic count rounds : ℕ) → HasRoom rules game tic (tic + count + 5)
       → 13 * count < rounds → AllRan rules game game tic
-      → AllRan rules game (good_rounds rules keys rounds game) (tic + count)
-  goes_on_with keys tic count rounds (inl demos) enough far =
-      goes_on_by rules settings rules.capacity several events game run none_lost keys tic count rounds far
+      → AllRan rules game (good_rounds rules inputs rounds game) (tic + count)
+  goes_on_with inputs tic count rounds (inl demos) enough far =
+      goes_on_by rules settings rules.capacity several events game run none_lost inputs tic count rounds far
       (InDemos (omega arith) fits) demos enough
-  goes_on_with keys tic count rounds (inr (p, l, left, few, most)) enough far =
-      goes_on_by rules settings tic_limit several events game run none_lost keys tic count rounds far
+  goes_on_with inputs tic count rounds (inr (p, l, left, few, most)) enough far =
+      goes_on_by rules settings tic_limit several events game run none_lost inputs tic count rounds far
       (Without p l left few (omega arith)) most enough

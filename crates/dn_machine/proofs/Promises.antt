@@ -14,7 +14,7 @@ use Rattle.dn_machine.specs.Flight.{Flight, is_exit, end_of}
 use Rattle.dn_machine.specs.Node.{Node, ends_of, blank, got, made, ran, is_ended, has_left, known_end, lacks, is_whole, demo_rows}
 use Rattle.dn_machine.specs.Game.{Game}
 use Rattle.dn_machine.proofs.Invariant.{IsKept, history_of}
-use Rattle.dn_machine.specs.Promise.{IsPrefixOf, keys_of, Agree, Fits, Steady, end_or}
+use Rattle.dn_machine.specs.Promise.{IsPrefixOf, inputs_of, Agree, Fits, Steady, end_or}
 use Rattle.dn_machine.proofs.Truth.{world_after_true, length-commands_to, get_or-commands_to}
 use Rattle.dn_machine.proofs.Lists
 use Rattle.dn_machine.proofs.Demos.{front_prefix, front_passes, front_each, front_short, none_is, seat_is, if_made_is, whole_has}
@@ -32,40 +32,40 @@ prefix_from_reads d xs ys l h = (drop (length xs) ys, sym (front_from_reads d ys
 module _ {S : Type 0} (rules : Rules S) (settings : Settings) (game : Game)
     (kept : IsKept rules settings game) where
   row_at : (q tic : ℕ) → q < rules.players → tic < ran (game.nodes q)
-      → slice_get (game.nodes q).rows tic ≡ Some (row rules settings (keys_of game) tic)
+      → slice_get (game.nodes q).rows tic ≡ Some (row rules settings (inputs_of game) tic)
   row_at q tic l m = slice_get-get_or (game.nodes q).rows tic [] m
-      ∙ ap (λ (r : List (Option Move)). Some r) (kept.from_keys.moves q tic l m)
+      ∙ ap (λ (r : List (Option Move)). Some r) (kept.from_inputs.moves q tic l m)
 
   begins : (q r : ℕ) → q < rules.players → r < rules.players → ran (game.nodes q) ≤ ran (game.nodes r)
-      → IsPrefixOf (demo_rows rules (game.nodes q)) (demo_rows rules (game.nodes r))
+      → IsPrefixOf (demo_rows rules.players (game.nodes q)) (demo_rows rules.players (game.nodes r))
   begins q r l m le = front_prefix (is_whole rules.players) (game.nodes q).rows (game.nodes r).rows
       (prefix_from_reads [] (game.nodes q).rows (game.nodes r).rows le
-      (λ k n. kept.from_keys.moves r k m (omega arith) ∙ sym (kept.from_keys.moves q k l n)))
+      (λ k n. kept.from_inputs.moves r k m (omega arith) ∙ sym (kept.from_inputs.moves q k l n)))
 
   -- a player who has not left has made a command for every tic that was run
   whole : (q p tic : ℕ) → q < rules.players → p < rules.players → tic < ran (game.nodes q)
-      → has_left (game.nodes p) ≡ false → tic < length (keys_of game p)
+      → has_left (game.nodes p) ≡ false → tic < length (inputs_of game p)
   whole q p tic l m n stays = let below = Lists.ran_below rules settings (history_of game) game.flights
-      kept.from_keys q p l m stays in omega arith
+      kept.from_inputs q p l m stays in omega arith
 
   -- the row of a tic lacks a player where the player has made no command for it
   row_lacks : (p tic : ℕ) → p < rules.players → p < 4
-      → lacks (row rules settings (keys_of game) tic) p ≡ nat_le (length (keys_of game p)) tic
+      → lacks (row rules settings (inputs_of game) tic) p ≡ nat_le (length (inputs_of game p)) tic
   unfolding row
   row_lacks p tic m s =
-      seat_is rules.players (λ r. if_made (keys_of game r) tic (command rules settings (keys_of game) r tic))
-      p m s ∙ if_made_is (keys_of game p) tic (command rules settings (keys_of game) p tic)
+      seat_is rules.players (λ r. if_made (inputs_of game r) tic (command rules settings (inputs_of game) r tic))
+      p m s ∙ if_made_is (inputs_of game p) tic (command rules settings (inputs_of game) p tic)
 
   without : (q p tic : ℕ) → q < rules.players → p < rules.players → p < 4 → tic < ran (game.nodes q)
       → lacks (get_or (game.nodes q).rows tic []) p
       ≡ (has_left (game.nodes p) && nat_le (made p (game.nodes p)) tic)
   without q p tic l m s n =
-      let count = kept.from_keys.counted p m in
-      ap (λ (r : List (Option Move)). lacks r p) (kept.from_keys.moves q tic l n) ∙ row_lacks p tic m s
+      let count = kept.from_inputs.counted p m in
+      ap (λ (r : List (Option Move)). lacks r p) (kept.from_inputs.moves q tic l n) ∙ row_lacks p tic m s
       ∙ elim (cases_Bool (has_left (game.nodes p))) [
         | inl gone ↦ ap (λ (k : ℕ). nat_le k tic) (sym count)
             ∙ sym (ap (λ (b : Bool). b && nat_le (made p (game.nodes p)) tic) gone)
-        | inr stays ↦ lt-leb (length (keys_of game p)) tic (whole q p tic l m n stays)
+        | inr stays ↦ lt-leb (length (inputs_of game p)) tic (whole q p tic l m n stays)
             ∙ sym (ap (λ (b : Bool). b && nat_le (made p (game.nodes p)) tic) stays)
       ]
 
@@ -80,8 +80,8 @@ module _ {S : Type 0} (rules : Rules S) (settings : Settings) (game : Game)
           sym own.1 ∙ ap (λ (r : ℕ). made r (game.nodes r)) (sym e),
         )
     | inr n ↦
-        let told = kept.from_keys.ended q p end l m (sym (cond-false (eqb p q) _ _ (ne_eqb p q n)) ∙ h) in
-        (told.0, told.1 ∙ sym (kept.from_keys.counted p m))
+        let told = kept.from_inputs.ended q p end l m (sym (cond-false (eqb p q) _ _ (ne_eqb p q n)) ∙ h) in
+        (told.0, told.1 ∙ sym (kept.from_inputs.counted p m))
   ]
 
   pub agree : Agree rules settings game
@@ -93,22 +93,26 @@ module _ {S : Type 0} (rules : Rules S) (settings : Settings) (game : Game)
     ends = known;
     ends_same = λ q r p a b l m n g h. (known q p a l n g).1 ∙ sym (known r p b m n h).1;
     demo_whole = λ q p tic m l.
-        lowest_none_each rules.players (lacks (get_or (demo_rows rules (game.nodes q)) tic []))
+        lowest_none_each rules.players (lacks (get_or (demo_rows rules.players (game.nodes q)) tic []))
         (none_is _ (front_each (is_whole rules.players) (game.nodes q).rows tic [] l)) p m;
-    held = λ q p tic l m n. kept.from_keys.commands q p tic l m n;
+    held = λ q p tic l m n. kept.from_inputs.commands q p tic l m n;
     begins = λ q p l m. prefix_from_reads blank ((game.nodes q).held p) _
-        (let a = kept.from_keys.got q p l m in
-        let b = length-commands_to rules settings (keys_of game) p (length (keys_of game p)) in
-        omega arith) (λ k n. let a = kept.from_keys.got q p l m in
-        get_or-commands_to rules settings (keys_of game) p (length (keys_of game p)) k blank (omega arith)
-        ∙ sym (kept.from_keys.commands q p k l m n));
+        (let a = kept.from_inputs.got q p l m in
+        let b = length-commands_to rules settings (inputs_of game) p (length (inputs_of game p)) in
+        omega arith) (λ k n. let a = kept.from_inputs.got q p l m in
+        get_or-commands_to rules settings (inputs_of game) p (length (inputs_of game p)) k blank (omega arith)
+        ∙ sym (kept.from_inputs.commands q p k l m n));
     settings_same = λ q l e. (kept.sound q l).played e;
     demos = λ q r l m. elim (cases_lt (ran (game.nodes q)) (ran (game.nodes r))) [
       | inl less ↦ inl (begins q r l m (omega arith))
       | inr more ↦ inr (begins r q m l more)
     ];
-    worlds = λ q l. world_after_true rules settings (keys_of game) (game.nodes q).rows (ran (game.nodes q))
-        (omega arith) (λ k m. kept.from_keys.moves q k l m);
+    marks = λ q p tic l m n made. kept.marks q l p tic m n made
+        ∙ ap (λ (w : S). rules.physics.mark w p)
+        (sym (world_after_true rules settings (inputs_of game) (game.nodes q).rows tic (omega arith)
+        (λ k o. kept.from_inputs.moves q k l (omega arith))));
+    worlds = λ q l. world_after_true rules settings (inputs_of game) (game.nodes q).rows (ran (game.nodes q))
+        (omega arith) (λ k m. kept.from_inputs.moves q k l m);
   }
 
   -- a node that has not ended has not left
@@ -116,64 +120,64 @@ module _ {S : Type 0} (rules : Rules S) (settings : Settings) (game : Game)
   stays_in q goes_on = and_right (game.nodes q).played (is_ended (game.nodes q).phase) goes_on
 
   -- no row of a demo is past any player's last command
-  not_whole : (p tic : ℕ) → p < rules.players → length (keys_of game p) ≤ tic
-      → is_whole rules.players (row rules settings (keys_of game) tic) ≡ true → ⊥
+  not_whole : (p tic : ℕ) → p < rules.players → length (inputs_of game p) ≤ tic
+      → is_whole rules.players (row rules settings (inputs_of game) tic) ≡ true → ⊥
   unfolding row
   not_whole p tic l m e =
       true≢false
-      (sym (ap (λ (b : Bool). is_none (cond b (Some (command rules settings (keys_of game) p tic)) None))
-      (le-ltb tic (length (keys_of game p)) m))
+      (sym (ap (λ (b : Bool). is_none (cond b (Some (command rules settings (inputs_of game) p tic)) None))
+      (le-ltb tic (length (inputs_of game p)) m))
       ∙ whole_has rules.players
-      (λ r. if_made (keys_of game r) tic (command rules settings (keys_of game) r tic)) e p l)
+      (λ r. if_made (inputs_of game r) tic (command rules settings (inputs_of game) r tic)) e p l)
 
   least : (q p : ℕ) → q < rules.players → p < rules.players
-      → length (demo_rows rules (game.nodes q)) ≤ made p (game.nodes p)
+      → length (demo_rows rules.players (game.nodes q)) ≤ made p (game.nodes p)
   least q p l m =
-      let count = kept.from_keys.counted p m in
+      let count = kept.from_inputs.counted p m in
       let short = front_short (is_whole rules.players) (game.nodes q).rows in
-      elim (cases_lt (length (keys_of game p)) (length (demo_rows rules (game.nodes q)))) [
+      elim (cases_lt (length (inputs_of game p)) (length (demo_rows rules.players (game.nodes q)))) [
         | inr fits ↦ omega arith
         | inl past ↦
-            let passes = front_passes (is_whole rules.players) (game.nodes q).rows (length (keys_of game p))
+            let passes = front_passes (is_whole rules.players) (game.nodes q).rows (length (inputs_of game p))
             [] past in
-            let true_row = kept.from_keys.moves q (length (keys_of game p)) l (omega arith) in
-            absurd (not_whole p (length (keys_of game p)) m (omega arith)
+            let true_row = kept.from_inputs.moves q (length (inputs_of game p)) l (omega arith) in
+            absurd (not_whole p (length (inputs_of game p)) m (omega arith)
             (sym (ap (is_whole rules.players) true_row) ∙ passes))
       ]
 
   pub fits : Fits rules game
   fits = record {
-    run = λ q p l m. elim (kept.from_keys.run q p l m) [
+    run = λ q p l m. elim (kept.from_inputs.run q p l m) [
       | inl le ↦ omega arith
       | inr h ↦
-          let end = kept.from_keys.ended q p h.0 l m h.1 in
-          let count = kept.from_keys.counted p m in
+          let end = kept.from_inputs.ended q p h.0 l m h.1 in
+          let count = kept.from_inputs.counted p m in
           let low = h.2 in
           let tip = end.1 in
           let at : end_or game p (ran (game.nodes q)) ≡ made p (game.nodes p) =
           cond-true (has_left (game.nodes p)) (made p (game.nodes p)) (ran (game.nodes q)) end.0 in
           omega arith
     ];
-    unread = λ q p l m. kept.from_keys.unread q p l m;
-    held = λ q p l m. let a = kept.from_keys.got q p l m in let b = kept.from_keys.counted p m in omega arith;
+    unread = λ q p l m. kept.from_inputs.unread q p l m;
+    held = λ q p l m. let a = kept.from_inputs.got q p l m in let b = kept.from_inputs.counted p m in omega arith;
     unheard = λ q p l m goes_on.
         let stays = stays_in q goes_on in
-        let a = kept.from_keys.counted p m in
-        let b = Lists.close rules settings (history_of game) game.flights kept.from_keys p q m l stays in
-        let c = kept.from_keys.ahead q l in
-        elim (kept.from_keys.run q p l m) [
+        let a = kept.from_inputs.counted p m in
+        let b = Lists.close rules settings (history_of game) game.flights kept.from_inputs p q m l stays in
+        let c = kept.from_inputs.ahead q l in
+        elim (kept.from_inputs.run q p l m) [
           | inl le ↦ omega arith
           | inr h ↦
-              let tip = (kept.from_keys.ended q p h.0 l m h.1).1 in
+              let tip = (kept.from_inputs.ended q p h.0 l m h.1).1 in
               let low = h.2 in
               omega arith
         ];
-    ahead = λ p l. let a = kept.from_keys.ahead p l in let b = kept.from_keys.counted p l in omega arith;
+    ahead = λ p l. let a = kept.from_inputs.ahead p l in let b = kept.from_inputs.counted p l in omega arith;
     close = λ p q l m goes_on.
         let stays = stays_in q goes_on in
-        let a = kept.from_keys.counted p l in
-        let b = Lists.close rules settings (history_of game) game.flights kept.from_keys p q l m stays in
-        let c = kept.from_keys.counted q m in
+        let a = kept.from_inputs.counted p l in
+        let b = Lists.close rules settings (history_of game) game.flights kept.from_inputs p q l m stays in
+        let c = kept.from_inputs.counted q m in
         omega arith;
     room = λ q l. (kept.sound q l).room;
     least = least;
@@ -188,33 +192,33 @@ module _ {S : Type 0} (rules : Rules S) (settings : Settings) (game : Game)
       -- no packet reaches further than ten past what a playing receiver ran
       within : (game.nodes flight.to).phase ≡ Playing → end_of flight ≤ ran (game.nodes flight.to) + 10
       within e =
-          let piece = kept.from_keys.pieces which flight posted in
+          let piece = kept.from_inputs.pieces which flight posted in
           let a = piece.reached in
-          let b = Lists.close rules settings (history_of game) game.flights kept.from_keys flight.from
+          let b = Lists.close rules settings (history_of game) game.flights kept.from_inputs flight.from
           flight.to
           piece.sender piece.receiver (stays_in flight.to (ap is_ended e)) in
-          let c = kept.from_keys.ahead flight.to piece.receiver in
+          let c = kept.from_inputs.ahead flight.to piece.receiver in
           omega arith
 
       -- no end is strange
       no_strange : is_strange_end (is_exit flight.kind) (got (game.nodes flight.to) flight.from)
           (ends_of (game.nodes flight.to) flight.from) (end_of flight) ≡ true → ⊥
       no_strange =
-          let piece = kept.from_keys.pieces which flight posted in
+          let piece = kept.from_inputs.pieces which flight posted in
           let reached = piece.reached in
-          let bound = kept.from_keys.got flight.to flight.from piece.receiver piece.sender in
+          let bound = kept.from_inputs.got flight.to flight.from piece.receiver piece.sender in
           no_strange_end (is_exit flight.kind) _ _ (end_of flight)
           (λ e. let tip = (piece.exit (exit_is flight.kind e)).1 in omega arith)
           (λ k e.
-          let end = (kept.from_keys.ended flight.to flight.from k piece.receiver piece.sender e).1 in
+          let end = (kept.from_inputs.ended flight.to flight.from k piece.receiver piece.sender e).1 in
           (omega arith, λ x. (piece.exit (exit_is flight.kind x)).1 ∙ sym end))
 
       -- an answer for an EXIT packet or another
       left_fine : (answer : Heard) → Fine answer → Fine (left_or (is_exit flight.kind) answer)
       left_fine answer fine = cond_both (is_exit flight.kind) _ _ Fine (λ exit e. absurd (cc)) (λ other. fine)
 
-      pub drops : Fine (on_packet rules flight.to (game.nodes flight.to) flight).1
-      drops = packet_cases rules flight.to (game.nodes flight.to) flight (λ (r : Node × Heard). Fine r.1)
+      pub drops : Fine (on_packet rules.limits flight.to (game.nodes flight.to) flight).1
+      drops = packet_cases rules.limits flight.to (game.nodes flight.to) flight (λ (r : Node × Heard). Fine r.1)
           (record {
             dropped = λ reason why e. let same : reason ≡ number = cc in
                 elim why [ inl x ↦ inl (cc) | inr x ↦ inr (cc) ];

@@ -68,8 +68,8 @@ module _ {S : Type 0} (rules : Rules S) (settings : Settings) (cap : ℕ) (stay 
 
     -- an end that is known is that of all that were made
     known : (e : ℕ) → ends_of J i ≡ Some e → e ≡ made i I
-    known e h = (on.live.kept.from_keys.ended j i e its mine h).1
-        ∙ sym (on.live.kept.from_keys.counted i mine)
+    known e h = (on.live.kept.from_inputs.ended j i e its mine h).1
+        ∙ sym (on.live.kept.from_inputs.counted i mine)
 
     no_strange : (exit : Bool) → is_strange_end exit (got J i) (ends_of J i) (end_of flight) ≡ true → ⊥
     no_strange exit h =
@@ -138,13 +138,13 @@ module _ {S : Type 0} (rules : Rules S) (settings : Settings) (cap : ℕ) (stay 
         let a = f.close i j mine its (in_play j its s) in
         let b = f.ahead j its in
         let mid : Peer = after_request (made j J) (J.peers i) flight.request in
-        let base : Peer = sender_after rules j J flight in
+        let base : Peer = sender_after rules.limits j J flight in
         let asked : Asked (got I j) asks_it (J.peers i) base =
         still_asked (is_exit flight.kind) asks_it (got I j) (end_of flight) (J.peers i) mid
         (asks (made j J) (J.peers i) asks_it (got I j) within) in
         let told : is_exit flight.kind ≡ true → base.end ≡ Some (end_of flight) =
         λ e. ap (λ (x : Bool). (after_exit mid x (end_of flight)).end) e in
-        commands_cases rules j J flight (λ (r : Node × Heard). Heard_so r.0) (record {
+        commands_cases rules.limits j J flight (λ (r : Node × Heard). Heard_so r.0) (record {
           dropped = λ number why. elim why [
             | inl over ↦ let far = over.1 in absurd (omega arith)
             | inr strange ↦ absurd (no_strange (is_exit flight.kind) strange.1)
@@ -169,7 +169,7 @@ module _ {S : Type 0} (rules : Rules S) (settings : Settings) (cap : ℕ) (stay 
               ]);
         })
 
-    receives : (b : Bool) → (on_packet_in rules j J flight Playing
+    receives : (b : Bool) → (on_packet_in rules.limits j J flight Playing
         (kind_of b)).0 ≡ (on_commands j J flight).0
     receives true = refl
     receives false = refl
@@ -188,16 +188,16 @@ module _ {S : Type 0} (rules : Rules S) (settings : Settings) (cap : ℕ) (stay 
         heard_as (after_request (made j J) (J.peers i) flight.request) J.held (λ k n. refl)
         (asks (made j J) (J.peers i) asks_it (got I j) within) (λ u. absurd (true≢false (sym u ∙ s)))
 
-    pub hears : Heard_so (on_packet rules j J flight).0
+    pub hears : Heard_so (on_packet rules.limits j J flight).0
     unfolding on_packet
     hears = elim (cases_Bool (stay j)) [
-      | inl s ↦ subst (λ (ph : Phase). Heard_so (on_packet_in rules j J flight ph flight.kind).0)
+      | inl s ↦ subst (λ (ph : Phase). Heard_so (on_packet_in rules.limits j J flight ph flight.kind).0)
           (sym (on.plays j its s))
           (subst (λ (n : Node). Heard_so n) (sym (receives gone)) (heard s))
       | inr s ↦
           let both = and_parts J.played (is_ended J.phase) (on.left j its s) in
           let cause = ended_cause J.phase both.1 in
-          subst (λ (ph : Phase). Heard_so (on_packet_in rules j J flight ph flight.kind).0) (sym cause.1)
+          subst (λ (ph : Phase). Heard_so (on_packet_in rules.limits j J flight ph flight.kind).0) (sym cause.1)
           (subst (λ (b : Bool). Heard_so (on_ended b j J flight flight.kind).0) (sym both.0)
           (left_hears gone refl s))
     ]

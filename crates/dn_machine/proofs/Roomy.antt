@@ -1,6 +1,6 @@
 -- How much room a game has: that of its demos; or, once every tic to come lacks a player who has left, as
 -- many tics as a node runs. No event takes it back.
-use Rattle.std.proofs.Common.{◌≡◌, ℕ, suc, ◌<◌, ◌≤◌, Bool, true, false, true≢false, cond, List, length, refl, sym, ◌∙◌, ap, arith, Option, Some, None, inl, inr}
+use Rattle.std.proofs.Common.{ℤ, ◌≡◌, ℕ, suc, ◌<◌, ◌≤◌, Bool, true, false, true≢false, cond, List, length, refl, sym, ◌∙◌, ap, arith, Option, Some, None, inl, inr}
 use Rattle.std.proofs.lemmas.Bool.{cond_both, and_parts, and_from, le-leb}
 use Rattle.dn_tic.specs.declared.command.TicCmd.{TicCmd}
 use Rattle.std.specs.Option.{is_none}
@@ -9,6 +9,7 @@ use Rattle.dn_machine.specs.declared.answers.Cause.{Cause}
 use Rattle.dn_machine.specs.declared.answers.Phase.{Phase}
 use Rattle.dn_machine.specs.declared.answers.Phase.TheVariants.{Listening, Gathering, Playing, Ended}
 use Rattle.dn_machine.specs.declared.events.Event.{Event}
+use Rattle.dn_machine.specs.Limits.{Limits}
 use Rattle.dn_machine.specs.Worlds.{Rules}
 use Rattle.dn_machine.specs.Flight.{Flight}
 use Rattle.dn_machine.specs.Node.{Node, made, ran, held_at, is_ended, has_left, is_whole}
@@ -24,6 +25,7 @@ use Rattle.dn_machine.proofs.Calls.{build_cases, send_cases, run_cases, quit_cas
 use Rattle.dn_machine.proofs.EachEvent.{after_event}
 use Rattle.dn_machine.proofs.Demos.{whole_has}
 use Rattle.dn_machine.proofs.RunKeeps
+use Rattle.dn_tic.specs.declared.input.Input.{Input}
 
 -- who has left is as it was, and has made no more
 record Stays (old new : Node) : Type 0 where
@@ -40,32 +42,32 @@ ended_cause Gathering e = absurd (true≢false (sym e))
 ended_cause Playing e = absurd (true≢false (sym e))
 ended_cause (Ended cause) e = (cause, refl)
 
-module _ {S : Type 0} (rules : Rules S) (i : ℕ) (node : Node) (ended : is_ended node.phase ≡ true) where
+module _ (limits : Limits) (i : ℕ) (node : Node) (ended : is_ended node.phase ≡ true) where
   not_in : (phase : Phase) → is_ended phase ≡ false → node.phase ≡ phase → ⊥
   not_in phase f e = true≢false (sym ended ∙ (ap is_ended e ∙ f))
 
-  build_stays : (state : ℕ) → Stays node (on_build rules i node state).0
-  build_stays state = build_cases rules i node (λ (new : Node). Stays node new) state
+  build_stays : (input : Input) → Stays node (on_build i node input).0
+  build_stays input = build_cases limits i node (λ (new : Node). Stays node new) input
       (λ full. stays_same node) (λ plays free. absurd (not_in Playing refl plays))
 
-  send_stays : (to : ℕ) → Stays node (on_send rules i node to).0
-  send_stays to = send_cases rules i node (λ (r : Node × Option Flight). Stays node r.0) to
+  send_stays : (to : ℕ) → Stays node (on_send limits i node to).0
+  send_stays to = send_cases limits i node (λ (r : Node × Option Flight). Stays node r.0) to
       (stays_same node) (λ other e. stays_same node)
       (λ other plays. record { phase = refl; played = refl; held = refl })
       (λ other left. record { phase = refl; played = refl; held = refl })
 
-  run_stays : Stays node (on_run rules node).0
-  run_stays = run_cases rules i node (λ (new : Node). Stays node new) (λ waits. stays_same node)
+  run_stays : (marks : ℕ → ℤ) → Stays node (on_run limits node marks).0
+  run_stays marks = run_cases limits i node marks (λ (new : Node). Stays node new) (λ waits. stays_same node)
       (λ player plays none off. absurd (not_in Playing refl plays))
       (λ plays none full. absurd (not_in Playing refl plays))
       (λ plays none free. absurd (not_in Playing refl plays))
 
   quit_stays : Stays node (on_quit node).0
-  quit_stays = quit_cases rules i node (λ (new : Node). Stays node new) (stays_same node)
+  quit_stays = quit_cases limits i node (λ (new : Node). Stays node new) (stays_same node)
       (λ goes_on. absurd (true≢false (sym ended ∙ goes_on)))
 
-  hear_stays : (flight : Flight) → Stays node (on_packet rules i node flight).0
-  hear_stays flight = packet_cases rules i node flight (λ (r : Node × Heard). Stays node r.0) (record {
+  hear_stays : (flight : Flight) → Stays node (on_packet limits i node flight).0
+  hear_stays flight = packet_cases limits i node flight (λ (r : Node × Heard). Stays node r.0) (record {
     dropped = λ number why. stays_same node;
     starts = λ s e k. absurd (not_in Listening refl e);
     completes = λ word e all. absurd (not_in Gathering refl e);
@@ -78,9 +80,9 @@ event_stays : {S : Type 0} (rules : Rules S) (game : Game) (q : ℕ) → is_ende
     → (event : Event) → Stays (game.nodes q) ((applied rules game event).0.nodes q)
 event_stays rules game q ended event =
     after_event rules (λ (old new : Node). is_ended old.phase ≡ true → Stays old new)
-    (λ node e. stays_same node) game q (λ i state node e. build_stays rules i node e state)
-    (λ i to node e. send_stays rules i node e to) (λ i flight node e. hear_stays rules i node e flight)
-    (λ node e. run_stays rules 0 node e) (λ node e. quit_stays rules 0 node e) event ended
+    (λ node e. stays_same node) game q (λ i input node e. build_stays rules.limits i node e input)
+    (λ i to node e. send_stays rules.limits i node e to) (λ i flight node e. hear_stays rules.limits i node e flight)
+    (λ node marks e. run_stays rules.limits 0 node e marks) (λ node e. quit_stays rules.limits 0 node e) event ended
 
 -- room for `cap` tics, where all who stay have run the first `tic`
 pub data IsRoomy {S : Type 0} (rules : Rules S) (cap tic : ℕ) (game : Game) : Type 0 where
@@ -106,12 +108,12 @@ module _ {S : Type 0} (rules : Rules S) (cap tic : ℕ) (game : Game) where
   pub row_fits : (settings : Settings) (kept : IsKept rules settings game) (r : ℕ) (mine : r < rules.players)
       → tic ≤ ran (game.nodes r)
       → RunKeeps.IsThere rules settings game kept r mine → IsRoomy rules cap tic game
-      → cap ≤ full_at rules (row_held rules (game.nodes r))
+      → cap ≤ full_at rules.limits (row_held rules.limits (game.nodes r))
   row_fits settings kept r mine far there (InDemos a b) =
-      cond_both (is_whole rules.players (row_held rules (game.nodes r))) rules.capacity tic_limit
+      cond_both (is_whole rules.players (row_held rules.limits (game.nodes r))) rules.capacity tic_limit
       (λ (n : ℕ). cap ≤ n) (λ whole. a) (λ lacks. b)
   row_fits settings kept r mine far there (Without p l left few b) =
-      cond_both (is_whole rules.players (row_held rules (game.nodes r))) rules.capacity tic_limit
+      cond_both (is_whole rules.players (row_held rules.limits (game.nodes r))) rules.capacity tic_limit
       (λ (n : ℕ). cap ≤ n)
       (λ whole.
       absurd (true≢false
@@ -123,8 +125,8 @@ module _ {S : Type 0} (rules : Rules S) (cap tic : ℕ) (game : Game) where
       absent : is_absent (game.nodes r) p ≡ true
       absent = elim (there p l) [
         | inl held ↦
-            let known = kept.from_keys.got r p mine l in
-            let count = kept.from_keys.counted p l in
+            let known = kept.from_inputs.got r p mine l in
+            let count = kept.from_inputs.counted p l in
             absurd (omega arith)
         | inr h ↦ ap (λ (o : Option ℕ). is_over o (ran (game.nodes r))) h.1
             ∙ le-leb h.0 (ran (game.nodes r)) h.2

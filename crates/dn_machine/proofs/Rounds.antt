@@ -2,11 +2,11 @@
 use Rattle.std.proofs.Common.{◌≡◌, ℕ, zero, suc, min, ◌+◌, ◌<◌, ◌≤◌, ◌≢◌, Bool, true, refl, sym, ap, subst, arith, inl, inr}
 use Rattle.std.proofs.lemmas.Bool.{cases_eq, cases_lt}
 use Rattle.dn_setup.specs.Settings.{Settings}
-use Rattle.dn_machine.specs.declared.events.Event.TheVariants.{Build, Run}
+use Rattle.dn_machine.specs.declared.events.Event.TheVariants.{Run}
 use Rattle.dn_machine.specs.Worlds.{Rules}
 use Rattle.dn_machine.specs.Node.{made, ran}
 use Rattle.dn_machine.specs.Game.{Game}
-use Rattle.dn_machine.specs.Progress.{after, in_order, exchange, turn, good_round, good_rounds}
+use Rattle.dn_machine.specs.Progress.{after, in_order, exchange, turn, good_round, good_rounds, build_of}
 use Rattle.dn_machine.proofs.Stages.{AfterSent, AfterHeard, Side, side, Stage, Unknown, sent_stage, asked_stage}
 use Rattle.dn_machine.proofs.Pairs
 use Rattle.dn_machine.proofs.Exchanges.{IsExchanged}
@@ -14,6 +14,7 @@ use Rattle.dn_machine.proofs.GoingOn.{IsFar, IsOn, far_after, exchange_far}
 use Rattle.dn_machine.proofs.Exchanges
 use Rattle.dn_machine.proofs.InOrder.{each_of, two_of, one_of}
 use Rattle.dn_machine.proofs.Turns
+use Rattle.dn_tic.specs.declared.input.Input.{Input}
 
 module _ {S : Type 0} (rules : Rules S) (settings : Settings) (cap : ℕ) (stay : ℕ → Bool) (tic : ℕ) where
   module _ (p q : ℕ) (l : p < rules.players) (m : q < rules.players) (stays : stay q ≡ true) (apart : p ≢ q)
@@ -37,14 +38,14 @@ module _ {S : Type 0} (rules : Rules S) (settings : Settings) (cap : ℕ) (stay 
       stage_kept rounds g h a b stage = subst (λ (x : Side). Stage tic rounds x (side (h.nodes q) p)) (sym a)
           (subst (λ (y : Side). Stage tic rounds (side (g.nodes p) q) y) (sym b) stage)
 
-      built_in : (r : ℕ) → r < rules.players → (state rounds : ℕ) (g : Game) → At rounds g
-          → In r rounds (after rules (Build r state) g)
-      built_in r o state rounds g (AtFar far) = InFar (far_after rules cap stay (Build r state) g far)
-      built_in r o state rounds g (AtOn on stage) =
-          let quiet = Turns.build_quiet rules settings cap stay tic g on r o state in
-          InOn (Turns.build_on rules settings cap stay tic g on r o state)
-          (Turns.build_made rules settings cap stay tic g on r o state)
-          (stage_kept rounds g (after rules (Build r state) g) (quiet p q apart)
+      built_in : (r : ℕ) → r < rules.players → (input : Input) (rounds : ℕ) (g : Game) → At rounds g
+          → In r rounds (after rules (build_of r input) g)
+      built_in r o input rounds g (AtFar far) = InFar (far_after rules cap stay (build_of r input) g far)
+      built_in r o input rounds g (AtOn on stage) =
+          let quiet = Turns.build_quiet rules settings cap stay tic g on r o input in
+          InOn (Turns.build_on rules settings cap stay tic g on r o input)
+          (Turns.build_made rules settings cap stay tic g on r o input)
+          (stage_kept rounds g (after rules (build_of r input) g) (quiet p q apart)
           (quiet q p (λ e. apart (sym e))) stage)
 
       run_at : (r : ℕ) → r < rules.players → (rounds : ℕ) (g : Game) → In r rounds g
@@ -111,54 +112,54 @@ module _ {S : Type 0} (rules : Rules S) (settings : Settings) (cap : ℕ) (stay 
           (side (g.nodes q) p) (side ((exchange rules q g p).nodes q) p) stage x.mine_got x.mine_want
           x.mine_end (x.asked stays) fit)
 
-      module _ (keys : ℕ → ℕ) where
+      module _ (inputs : ℕ → Input) where
         -- the turn of another
         turn_other : (r rounds : ℕ) → r < rules.players → r ≢ p → r ≢ q → (g : Game) → At rounds g
-            → At rounds (turn rules keys g r)
+            → At rounds (turn rules inputs g r)
         unfolding turn
         turn_other r rounds o a b g at =
             run_at r o rounds _
-            (each_of (In r rounds) (exchange rules r) rules.players (after rules (Build r (keys r)) g)
+            (each_of (In r rounds) (exchange rules r) rules.players (after rules (build_of r (inputs r)) g)
             (λ j h k x. passes r j rounds o k h (λ e. absurd (a e)) (λ e. absurd (b e)) x)
-            (built_in r o (keys r) rounds g at))
+            (built_in r o (inputs r) rounds g at))
 
         -- the turn of the player, up to the run
         turn_gives : (rounds later : ℕ) → AfterSent rounds later → (g : Game) → At rounds g
-            → In p later (in_order (exchange rules p) rules.players (after rules (Build p (keys p)) g))
+            → In p later (in_order (exchange rules p) rules.players (after rules (build_of p (inputs p)) g))
         turn_gives rounds later fit g at =
             one_of (In p rounds) (In p later) (exchange rules p) rules.players q
             (λ j h k n x. passes p j rounds l k h (λ e. n) (λ e. absurd (apart e)) x)
             (λ j h k n x. passes p j later l k h (λ e. n) (λ e. absurd (apart e)) x)
             (λ h x. gives rounds later fit h x)
-            (after rules (Build p (keys p)) g) m (built_in p l (keys p) rounds g at)
+            (after rules (build_of p (inputs p)) g) m (built_in p l (inputs p) rounds g at)
 
         turn_sender : (rounds later : ℕ) → AfterSent rounds later → (g : Game) → At rounds g
-            → At later (turn rules keys g p)
+            → At later (turn rules inputs g p)
         unfolding turn
         turn_sender rounds later fit g at = run_at p l later _ (turn_gives rounds later fit g at)
 
         -- the turn of the other, up to the run
         pub turn_hears : (rounds later : ℕ) → AfterHeard rounds later → (g : Game) → At rounds g
-            → In q later (in_order (exchange rules q) rules.players (after rules (Build q (keys q)) g))
+            → In q later (in_order (exchange rules q) rules.players (after rules (build_of q (inputs q)) g))
         turn_hears rounds later fit g at =
             one_of (In q rounds) (In q later) (exchange rules q) rules.players p
             (λ j h k n x. passes q j rounds m k h (λ e. absurd (apart (sym e))) (λ e. n) x)
             (λ j h k n x. passes q j later m k h (λ e. absurd (apart (sym e))) (λ e. n) x)
             (λ h x. hears rounds later fit h x)
-            (after rules (Build q (keys q)) g) l (built_in q m (keys q) rounds g at)
+            (after rules (build_of q (inputs q)) g) l (built_in q m (inputs q) rounds g at)
 
         turn_receiver : (rounds later : ℕ) → AfterHeard rounds later → (g : Game) → At rounds g
-            → At later (turn rules keys g q)
+            → At later (turn rules inputs g q)
         unfolding turn
         turn_receiver rounds later fit g at = run_at q m later _ (turn_hears rounds later fit g at)
 
         -- once the other has the command, it stays so
-        pub turn_keeps : (r : ℕ) → r < rules.players → (g : Game) → At 0 g → At 0 (turn rules keys g r)
+        pub turn_keeps : (r : ℕ) → r < rules.players → (g : Game) → At 0 g → At 0 (turn rules inputs g r)
         turn_keeps r o g at = elim (cases_eq r p) [
-          | inl e ↦ subst (λ (s : ℕ). At 0 (turn rules keys g s)) (sym e)
+          | inl e ↦ subst (λ (s : ℕ). At 0 (turn rules inputs g s)) (sym e)
               (turn_sender 0 0 (omega arith) g at)
           | inr a ↦ elim (cases_eq r q) [
-            | inl e ↦ subst (λ (s : ℕ). At 0 (turn rules keys g s)) (sym e)
+            | inl e ↦ subst (λ (s : ℕ). At 0 (turn rules inputs g s)) (sym e)
                 (turn_receiver 0 0 (omega arith) g at)
             | inr b ↦ turn_other r 0 o a b g at
           ]
@@ -166,10 +167,10 @@ module _ {S : Type 0} (rules : Rules S) (settings : Settings) (cap : ℕ) (stay 
 
         -- a good round in which the player has its turn first
         round_up : (rounds mid later : ℕ) → AfterSent rounds mid → AfterHeard mid later → p < q → (g : Game)
-            → At rounds g → At later (good_round rules keys g)
+            → At rounds g → At later (good_round rules inputs g)
         unfolding good_round
         round_up rounds mid later first next less g at =
-            two_of (At rounds) (At mid) (At later) (turn rules keys) rules.players p q less
+            two_of (At rounds) (At mid) (At later) (turn rules inputs) rules.players p q less
             (λ i h o s at. turn_other i rounds o (λ e. omega arith) (λ e. omega arith) h at)
             (λ i h o x y at. turn_other i mid o x y h at)
             (λ i h o x y at. turn_other i later o x y h at)
@@ -179,10 +180,10 @@ module _ {S : Type 0} (rules : Rules S) (settings : Settings) (cap : ℕ) (stay 
 
         -- and one in which the other has
         round_down : (rounds mid later : ℕ) → AfterHeard rounds mid → AfterSent mid later → q < p
-            → (g : Game) → At rounds g → At later (good_round rules keys g)
+            → (g : Game) → At rounds g → At later (good_round rules inputs g)
         unfolding good_round
         round_down rounds mid later first next less g at =
-            two_of (At rounds) (At mid) (At later) (turn rules keys) rules.players q p less
+            two_of (At rounds) (At mid) (At later) (turn rules inputs) rules.players q p less
             (λ i h o s at. turn_other i rounds o (λ e. omega arith) (λ e. omega arith) h at)
             (λ i h o x y at. turn_other i mid o y x h at)
             (λ i h o x y at. turn_other i later o y x h at)
@@ -192,49 +193,49 @@ module _ {S : Type 0} (rules : Rules S) (settings : Settings) (cap : ℕ) (stay 
 
         -- each good round brings it nearer
         pub round_nearer : (rounds : ℕ) → rounds ≤ 12 → (g : Game) → At (suc rounds) g
-            → At rounds (good_round rules keys g)
+            → At rounds (good_round rules inputs g)
         round_nearer rounds low g at = elim (cases_lt p q) [
           | inl less ↦ up rounds low less g at
           | inr more ↦ down rounds low (omega arith) g at
         ]
           where
-            up : (k : ℕ) → k ≤ 12 → p < q → (h : Game) → At (suc k) h → At k (good_round rules keys h)
+            up : (k : ℕ) → k ≤ 12 → p < q → (h : Game) → At (suc k) h → At k (good_round rules inputs h)
             up zero b less h at = round_up 1 0 0 (omega arith) (omega arith) less h at
             up (suc k) b less h at = round_up (suc (suc k)) (min (suc (suc k)) 12) (suc k) (omega arith)
                 (omega arith) less h at
 
-            down : (k : ℕ) → k ≤ 12 → q < p → (h : Game) → At (suc k) h → At k (good_round rules keys h)
+            down : (k : ℕ) → k ≤ 12 → q < p → (h : Game) → At (suc k) h → At k (good_round rules inputs h)
             down zero b less h at = round_down 1 1 0 (omega arith) (omega arith) less h at
             down (suc k) b less h at = elim (cases_lt k 11) [
               | inl s ↦ round_down (suc (suc k)) (suc k) (suc k) (omega arith) (omega arith) less h at
               | inr t ↦ round_down (suc (suc k)) 13 (suc k) (omega arith) (omega arith) less h at
             ]
 
-      rounds_nearer : (keys : ℕ → ℕ → ℕ) (count left : ℕ) → count + left ≡ 13 → (g : Game) → At 13 g
-          → At left (in_order (λ before round. good_round rules (keys round) before) count g)
+      rounds_nearer : (inputs : ℕ → ℕ → Input) (count left : ℕ) → count + left ≡ 13 → (g : Game) → At 13 g
+          → At left (in_order (λ before round. good_round rules (inputs round) before) count g)
       unfolding in_order
-      rounds_nearer keys zero left sum g at = subst (λ (n : ℕ). At n g) (omega arith) at
-      rounds_nearer keys (suc count) left sum g at =
-          round_nearer (keys count) left (omega arith) _
-          (rounds_nearer keys count (suc left) (omega arith) g at)
+      rounds_nearer inputs zero left sum g at = subst (λ (n : ℕ). At n g) (omega arith) at
+      rounds_nearer inputs (suc count) left sum g at =
+          round_nearer (inputs count) left (omega arith) _
+          (rounds_nearer inputs count (suc left) (omega arith) g at)
 
       -- where the player has its turn first, the first round counts for two
-      rounds_up : (keys : ℕ → ℕ → ℕ) → p < q → (count left : ℕ) → count + left ≡ 11 → (g : Game) → At 13 g
-          → At left (in_order (λ before round. good_round rules (keys round) before) (suc count) g)
+      rounds_up : (inputs : ℕ → ℕ → Input) → p < q → (count left : ℕ) → count + left ≡ 11 → (g : Game) → At 13 g
+          → At left (in_order (λ before round. good_round rules (inputs round) before) (suc count) g)
       unfolding in_order
-      rounds_up keys less zero left sum g at =
-          subst (λ (n : ℕ). At n (good_round rules (keys 0) g)) (omega arith)
-          (round_up (keys 0) 13 12 11 (omega arith) (omega arith) less g at)
-      rounds_up keys less (suc count) left sum g at =
-          round_nearer (keys (suc count)) left (omega arith) _
-          (rounds_up keys less count (suc left) (omega arith) g at)
+      rounds_up inputs less zero left sum g at =
+          subst (λ (n : ℕ). At n (good_round rules (inputs 0) g)) (omega arith)
+          (round_up (inputs 0) 13 12 11 (omega arith) (omega arith) less g at)
+      rounds_up inputs less (suc count) left sum g at =
+          round_nearer (inputs (suc count)) left (omega arith) _
+          (rounds_up inputs less count (suc left) (omega arith) g at)
 
       -- after twelve the other has it: where the other has its turn first, the last round counts for two
-      pub has_after : (keys : ℕ → ℕ → ℕ) (g : Game) → IsOn rules settings cap stay tic g
-          → At 0 (good_rounds rules keys 12 g)
+      pub has_after : (inputs : ℕ → ℕ → Input) (g : Game) → IsOn rules settings cap stay tic g
+          → At 0 (good_rounds rules inputs 12 g)
       unfolding good_rounds in_order
-      has_after keys g on = elim (cases_lt p q) [
-        | inl less ↦ rounds_up keys less 11 0 refl g (AtOn on (Unknown (omega arith)))
-        | inr more ↦ round_down (keys 11) 2 1 0 (omega arith) (omega arith) (omega arith) _
-            (rounds_nearer keys 11 2 refl g (AtOn on (Unknown (omega arith))))
+      has_after inputs g on = elim (cases_lt p q) [
+        | inl less ↦ rounds_up inputs less 11 0 refl g (AtOn on (Unknown (omega arith)))
+        | inr more ↦ round_down (inputs 11) 2 1 0 (omega arith) (omega arith) (omega arith) _
+            (rounds_nearer inputs 11 2 refl g (AtOn on (Unknown (omega arith))))
       ]

@@ -1,7 +1,8 @@
 -- A run and a quit keep what every event keeps.
-use Rattle.std.proofs.Common.{◌≡◌, ℕ, ◌<◌, ◌≤◌, ◌≢◌, true, false, true≢false, not, cond, List, [], ◌∷◌, ◌++◌, length, refl, sym, ◌∙◌, ap, arith, Option, Some, None, inl, inr, ltb, leb, ℤ}
-use Rattle.std.specs.Prelude.{◌⊎◌}
-use Rattle.std.proofs.lemmas.Bool.{cases_Bool, cond_both, cond-true, cond-false, leb-true, leb-false, le-leb, lt-ltb, le-ltb, and_parts, and_from, and_left, and_right, and_cases, not-false}
+use Rattle.std.proofs.Common.{◌≡◌, ℕ, ◌<◌, ◌≤◌, ◌≢◌, true, false, true≢false, not, cond, List, length, refl, sym, ◌∙◌, ap, arith, Option, Some, None, inl, inr, ltb, leb, ℤ}
+use Rattle.std.specs.Prelude.{◌⊎◌, ◌&&◌}
+use Rattle.std.specs.Option.{option_map}
+use Rattle.std.proofs.lemmas.Bool.{cases_eq, cases_Bool, cond_both, cond-true, cond-false, leb-true, leb-false, le-leb, lt-ltb, le-ltb, and_parts, and_from, and_left, and_right, and_cases, not-false}
 use Rattle.std.proofs.lemmas.List.{length_push}
 use Rattle.std.proofs.lemmas.Option.{none-some}
 use Rattle.dn_tic.specs.declared.command.TicCmd.{TicCmd}
@@ -9,18 +10,19 @@ use Rattle.dn_tic.specs.declared.command.Move.{Move}
 use Rattle.dn_setup.specs.Settings.{Settings}
 use Rattle.dn_machine.specs.declared.answers.Cause.{Cause}
 use Rattle.dn_machine.specs.declared.answers.Phase.TheVariants.{Playing, Ended}
-use Rattle.dn_machine.specs.Worlds.{Rules, if_made, command, row}
+use Rattle.dn_machine.specs.Worlds.{Inputs, Rules, if_made, command, row, world, world_after, mark_in}
 use Rattle.dn_machine.specs.Node.{Node, lowest, ends_of, got, ran, held_at, lowest, is_ended, is_whole}
-use Rattle.dn_machine.specs.Game.{Game, with_node}
-use Rattle.dn_machine.proofs.Invariant.{IsSound, IsKept, history_of}
-use Rattle.dn_machine.proofs.Truth.{row_of_same}
-use Rattle.dn_machine.proofs.Put.{view_put, view_kept}
+use Rattle.dn_machine.specs.Game.{Game, with_node, own_marks, on_own_run}
+use Rattle.dn_machine.proofs.Invariant.{IsSound, HasTrueMarks, IsKept, history_of}
+use Rattle.dn_machine.proofs.Truth.{row_of_same, world_after_true}
+use Rattle.dn_machine.proofs.Put.{put_at, put_off, view_put, view_kept}
 use Rattle.dn_machine.proofs.Lists
+use Rattle.dn_machine.proofs.Calls
 use Rattle.dn_machine.proofs.Calls.{run_cases, quit_cases}
 use Rattle.dn_machine.proofs.Placing
 use Rattle.dn_machine.proofs.Marks.{lowest_none, lowest_none_each, command_mark, same_passes}
 use Rattle.dn_machine.proofs.Demos.{front_stops, front_goes_on, whole_held}
-use Rattle.dn_machine.specs.Running.{is_over, is_absent, is_awaited, is_off, first_off, row_held, tic_limit, full_at, on_run, on_quit}
+use Rattle.dn_machine.specs.Running.{is_over, is_absent, is_awaited, is_off, first_off, row_held, marks_kept, tic_limit, full_at, on_quit}
 
 -- a known end that is not past a tic
 pub over : (o : Option ℕ) (tic : ℕ) → is_over o tic ≡ true → (end : ℕ) × (o ≡ Some end) × (end ≤ tic)
@@ -33,13 +35,13 @@ over_later (Some end) tic later l h = let low = leb-true end tic h in le-leb end
 
 module _ {S : Type 0} (rules : Rules S) (settings : Settings) (game : Game)
     (kept : IsKept rules settings game) (i : ℕ) (mine : i < rules.players) where
-  abbrev keys_now : ℕ → List ℕ
-  keys_now q = (game.nodes q).keys
+  abbrev inputs_now : Inputs
+  inputs_now q = (game.nodes q).inputs
 
   -- whoever had left still has after another end
   ends : (cause : Cause) → ((player : ℕ) (was should : ℤ) → cause ≢ Cause.Inconsistent player was should)
       → IsKept rules settings (with_node game i (record (game.nodes i) { phase = Ended cause }))
-  ends cause other = Placing.quiet rules settings game kept i mine _ refl refl refl refl
+  ends cause other = Placing.quiet rules settings game kept i mine _ refl refl refl refl refl
       (λ h. and_from (game.nodes i).played true
       (and_parts (game.nodes i).played (is_ended (game.nodes i).phase) h).0 refl)
       (Placing.restated rules settings game kept i mine (Ended cause) (game.nodes i).played
@@ -48,7 +50,7 @@ module _ {S : Type 0} (rules : Rules S) (settings : Settings) (game : Game)
 
   -- quit
   pub quits : IsKept rules settings (with_node game i (on_quit (game.nodes i)).0)
-  quits = quit_cases rules i (game.nodes i) (λ (new : Node). IsKept rules settings (with_node game i new))
+  quits = quit_cases rules.limits i (game.nodes i) (λ (new : Node). IsKept rules settings (with_node game i new))
       (Placing.same_node rules settings game kept i mine)
       (λ goes_on. ends Cause.Quit (λ p w s e. cc))
 
@@ -78,76 +80,78 @@ module _ {S : Type 0} (rules : Rules S) (settings : Settings) (game : Game)
   ]
 
   -- no mark of a command that a playing node holds for its next tic is off
-  pub none_off : (game.nodes i).phase ≡ Playing → IsThere → first_off rules (game.nodes i) ≡ None
+  pub none_off : (game.nodes i).phase ≡ Playing → IsThere → first_off rules.limits (game.nodes i) ≡ None
   none_off e there =
       cond_both (ltb 12 (ran (game.nodes i))) _ _ (λ (o : Option ℕ). o ≡ None)
-      (λ late. lowest_none rules.players (is_off rules (game.nodes i)) (λ p l.
+      (λ late. lowest_none rules.players (is_off rules.limits (game.nodes i)) (λ p l.
       elim (cases_Bool (is_absent (game.nodes i) p)) [
         | inl gone ↦ and_left (not (is_absent (game.nodes i) p)) _ (ap not gone)
         | inr present ↦ and_right (not (is_absent (game.nodes i) p)) _ (same_passes _ _ (
             ap (λ (c : TicCmd). c.mark)
-            (kept.from_keys.commands i p (ran (game.nodes i)) mine l (present_held there p l present))
-            ∙ (command_mark rules settings keys_now p (ran (game.nodes i))
-            ∙ sym (Placing.own_mark_kept rules settings game kept i mine p (ran (game.nodes i)) e
-            (omega arith)))))
+            (kept.from_inputs.commands i p (ran (game.nodes i)) mine l (present_held there p l present))
+            ∙ (command_mark rules settings inputs_now p (ran (game.nodes i))
+            ∙ sym (Placing.own_mark_kept rules settings game kept i mine p (ran (game.nodes i)) l
+            (omega arith)
+            (let held = present_held there p l present in let bound = kept.from_inputs.got i p mine l in
+            omega arith)))))
       ]))
       (λ early. refl)
 
   -- the row that it holds for its next tic is the true one
   seat_true : IsThere → (p : ℕ) → p < rules.players
       → cond (is_absent (game.nodes i) p) None (Some (held_at (game.nodes i) p (ran (game.nodes i))))
-      ≡ if_made (keys_now p) (ran (game.nodes i)) (command rules settings keys_now p (ran (game.nodes i)))
+      ≡ if_made (inputs_now p) (ran (game.nodes i)) (command rules settings inputs_now p (ran (game.nodes i)))
   seat_true there p l =
       elim (cases_Bool (is_absent (game.nodes i) p)) [
         | inl gone ↦
             let end = over (ends_of (game.nodes i) p) (ran (game.nodes i)) gone in
-            let tip = (kept.from_keys.ended i p end.0 mine l end.1).1 in
+            let tip = (kept.from_inputs.ended i p end.0 mine l end.1).1 in
             let low = end.2 in
             cond-true (is_absent (game.nodes i) p) _ _ gone
-            ∙ sym (cond-false (ltb (ran (game.nodes i)) (length (keys_now p))) _ _
-            (le-ltb (ran (game.nodes i)) (length (keys_now p)) (omega arith)))
+            ∙ sym (cond-false (ltb (ran (game.nodes i)) (length (inputs_now p))) _ _
+            (le-ltb (ran (game.nodes i)) (length (inputs_now p)) (omega arith)))
         | inr present ↦
             let held = present_held there p l present in
-            let bound = kept.from_keys.got i p mine l in
+            let bound = kept.from_inputs.got i p mine l in
             cond-false (is_absent (game.nodes i) p) _ _ present
-            ∙ (ap (λ (c : TicCmd). Some c) (kept.from_keys.commands i p (ran (game.nodes i)) mine l held)
-            ∙ sym (cond-true (ltb (ran (game.nodes i)) (length (keys_now p))) _ _
-            (lt-ltb (ran (game.nodes i)) (length (keys_now p)) (omega arith))))
+            ∙ (ap (λ (c : TicCmd). Some c) (kept.from_inputs.commands i p (ran (game.nodes i)) mine l held)
+            ∙ sym (cond-true (ltb (ran (game.nodes i)) (length (inputs_now p))) _ _
+            (lt-ltb (ran (game.nodes i)) (length (inputs_now p)) (omega arith))))
       ]
 
-  row_true : IsThere → row_held rules (game.nodes i) ≡ row rules settings keys_now
+  row_true : IsThere → row_held rules.limits (game.nodes i) ≡ row rules settings inputs_now
       (length (game.nodes i).rows)
   unfolding row
   row_true there = row_of_same rules.players _ _ (seat_true there)
 
   -- the node after one more row, which fits
   abbrev pub ran_on : Node
-  ran_on = record (game.nodes i) { rows = (game.nodes i).rows ++ row_held rules (game.nodes i) ∷ [] }
+  ran_on = Calls.ran_on rules.limits i (game.nodes i) (own_marks rules (game.nodes i))
 
   -- whoever is present after the tic was so before
-  ran_whole : is_whole rules.players (row_held rules ran_on) ≡ true
-      → is_whole rules.players (row_held rules (game.nodes i)) ≡ true
+  ran_whole : is_whole rules.players (row_held rules.limits ran_on) ≡ true
+      → is_whole rules.players (row_held rules.limits (game.nodes i)) ≡ true
   ran_whole =
-      let count = length_push (game.nodes i).rows (row_held rules (game.nodes i)) in
-      whole_held rules ran_on (game.nodes i) (λ p l present. elim (cases_Bool (is_absent (game.nodes i) p)) [
+      let count = length_push (game.nodes i).rows (row_held rules.limits (game.nodes i)) in
+      whole_held rules.limits ran_on (game.nodes i) (λ p l present. elim (cases_Bool (is_absent (game.nodes i) p)) [
         | inl gone ↦
             absurd (true≢false (sym (over_later (ends_of (game.nodes i) p) (ran (game.nodes i)) (ran ran_on)
             (omega arith) gone) ∙ present))
         | inr here ↦ here
       ])
 
-  ran_sound : ran (game.nodes i) ≢ full_at rules (row_held rules (game.nodes i))
+  ran_sound : ran (game.nodes i) ≢ full_at rules.limits (row_held rules.limits (game.nodes i))
       → IsSound rules settings i ran_on
   ran_sound other =
       let sound = kept.sound i mine in
       let rows = (game.nodes i).rows in
-      let new : List (Option Move) = row_held rules (game.nodes i) in
+      let new : List (Option Move) = row_held rules.limits (game.nodes i) in
       let count = length_push rows new in
       elim (cases_Bool (is_whole rules.players new)) [
         | inl each ↦
             let all = sound.whole each in
             let front = front_goes_on (is_whole rules.players) rows new all each in
-            let most : full_at rules new ≡ rules.capacity = cond-true (is_whole rules.players new) _ _ each in
+            let most : full_at rules.limits new ≡ rules.capacity = cond-true (is_whole rules.players new) _ _ each in
             let old = sound.room in
             let before = ap (length {A = List (Option Move)}) all in
             let after = ap (length {A = List (Option Move)}) front in
@@ -163,7 +167,7 @@ module _ {S : Type 0} (rules : Rules S) (settings : Settings) (game : Game)
             }
         | inr lacks ↦
             let front = front_stops (is_whole rules.players) rows new lacks in
-            let most : full_at rules new ≡ tic_limit = cond-false (is_whole rules.players new) _ _ lacks in
+            let most : full_at rules.limits new ≡ tic_limit = cond-false (is_whole rules.players new) _ _ lacks in
             let old = sound.room in
             let after = ap (length {A = List (Option Move)}) front in
             record {
@@ -183,27 +187,70 @@ module _ {S : Type 0} (rules : Rules S) (settings : Settings) (game : Game)
       → (((game.nodes i).phase ≡ Playing → lowest rules.players (is_awaited (game.nodes i)) ≢ None)
       → P (game.nodes i))
       → ((game.nodes i).phase ≡ Playing → IsThere
-      → ran (game.nodes i) ≡ full_at rules (row_held rules (game.nodes i))
+      → ran (game.nodes i) ≡ full_at rules.limits (row_held rules.limits (game.nodes i))
       → P (record (game.nodes i) { phase = Ended Cause.Full }))
       → ((game.nodes i).phase ≡ Playing → IsThere
-      → ran (game.nodes i) ≢ full_at rules (row_held rules (game.nodes i)) → P ran_on)
-      → P (on_run rules (game.nodes i)).0
-  cases P same full free = run_cases rules i (game.nodes i) P same
+      → ran (game.nodes i) ≢ full_at rules.limits (row_held rules.limits (game.nodes i)) → P ran_on)
+      → P (on_own_run rules (game.nodes i)).0
+  cases P same full free = run_cases rules.limits i (game.nodes i) (own_marks rules (game.nodes i)) P same
       (λ player plays none off. absurd (none-some player (sym (none_off plays (all_there none)) ∙ off)))
       (λ plays none at. full plays (all_there none) at)
       (λ plays none more. free plays (all_there none) more)
 
-  pub runs : IsKept rules settings (with_node game i (on_run rules (game.nodes i)).0)
+  -- the world before the tic is the true one
+  world_true : (game.nodes i).phase ≡ Playing → (p : ℕ) → own_marks rules (game.nodes i) p
+      ≡ rules.physics.mark (world rules settings inputs_now (ran (game.nodes i))) p
+  world_true plays p =
+      ap (λ (o : Option Settings). mark_in rules.physics
+      (option_map (λ s. world_after rules s (game.nodes i).rows (ran (game.nodes i))) o) p)
+      (Placing.playing_settings rules settings game kept i mine plays)
+      ∙ ap (λ (w : S). rules.physics.mark w p)
+      (world_after_true rules settings inputs_now (game.nodes i).rows (ran (game.nodes i)) (omega arith)
+      (λ k l. kept.from_inputs.moves i k mine l))
+
+  -- so the marks that it is told are the true ones, of those who made a command for the tic
+  told_true : (game.nodes i).phase ≡ Playing → HasTrueMarks rules settings inputs_now ran_on
+  told_true plays p tic l high made =
+      let rows = (game.nodes i).rows in
+      let new : List (Option Move) = row_held rules.limits (game.nodes i) in
+      let count = length_push rows new in
+      let told : ℕ → ℤ = marks_kept rules.limits (game.nodes i) (own_marks rules (game.nodes i)) in
+      elim (cases_eq tic (ran (game.nodes i))) [
+        | inr other ↦ ap (λ (f : ℕ → ℤ). f p) (put_off (game.nodes i).marks (ran (game.nodes i)) tic told other)
+            ∙ kept.marks i mine p tic l (omega arith) made
+        | inl now ↦
+            ap (λ (f : ℕ → ℤ). f p) (put_at (game.nodes i).marks (ran (game.nodes i)) tic told now)
+            ∙ (cond-true (ltb p rules.players && not (is_absent (game.nodes i) p)) _ _
+            (and_from (ltb p rules.players) (not (is_absent (game.nodes i) p)) (lt-ltb p rules.players l)
+            (ap not (here p l (omega arith))))
+            ∙ (world_true plays p
+            ∙ ap (λ (g : ℕ). rules.physics.mark (world rules settings inputs_now g) p) (sym now)))
+      ]
+    where
+      here : (p : ℕ) → p < rules.players → ran (game.nodes i) < length (inputs_now p)
+          → is_absent (game.nodes i) p ≡ false
+      here p l more = elim (cases_Bool (is_absent (game.nodes i) p)) [
+        | inr present ↦ present
+        | inl gone ↦
+            let end = over (ends_of (game.nodes i) p) (ran (game.nodes i)) gone in
+            let tip = (kept.from_inputs.ended i p end.0 mine l end.1).1 in
+            let low = end.2 in
+            absurd (omega arith)
+      ]
+
+  pub runs : IsKept rules settings (with_node game i (on_own_run rules (game.nodes i)).0)
   runs = cases (λ (new : Node). IsKept rules settings (with_node game i new))
       (λ waits. Placing.same_node rules settings game kept i mine)
       (λ plays there full. ends Cause.Full (λ p w s h. cc))
       (λ plays there free.
       Placing.placed rules settings game kept i mine ran_on game.stopped game.flights _
-      (view_kept (λ (n : Node). n.keys) game.nodes i ran_on refl)
+      (view_kept (λ (n : Node). n.inputs) game.nodes i ran_on refl)
       (view_kept (λ (n : Node). n.held) game.nodes i ran_on refl)
       (view_put (λ (n : Node). n.rows) game.nodes i ran_on)
       (view_kept ends_of game.nodes i ran_on refl)
       (Placing.left_placed rules settings game kept i mine ran_on (λ h. h))
-      (Lists.runs rules settings (history_of game) game.flights kept.from_keys i mine there
-      (row_held rules (game.nodes i)) (row_true there))
-      (ran_sound free))
+      (Lists.runs rules settings (history_of game) game.flights kept.from_inputs i mine there
+      (row_held rules.limits (game.nodes i)) (row_true there))
+      (ran_sound free)
+      (Placing.marks_placed rules settings game kept i mine ran_on inputs_now (told_true plays)
+      (λ q l n. kept.marks q l)))

@@ -1,10 +1,10 @@
 -- A send keeps what every event keeps.
-use Rattle.std.proofs.Common.{◌≡◌, ℕ, ◌+◌, ◌-◌, ◌<◌, ◌≤◌, ◌≢◌, true, List, [], ◌∷◌, ◌++◌, refl, sym, ◌∙◌, subst, arith, Option, Some, None, ltb}
+use Rattle.std.proofs.Common.{◌≡◌, ℕ, ◌+◌, ◌-◌, ◌<◌, ◌≤◌, ◌≢◌, true, [], ◌∷◌, ◌++◌, refl, sym, ◌∙◌, subst, arith, Option, Some, None, ltb}
 use Rattle.std.proofs.lemmas.Bool.{cond_both}
 use Rattle.std.proofs.lemmas.List.{length-drop, get_or-drop}
 use Rattle.std.proofs.lemmas.Option.{none-some, same_Some, cond_some}
 use Rattle.dn_setup.specs.Settings.{Settings}
-use Rattle.dn_machine.specs.Worlds.{Rules}
+use Rattle.dn_machine.specs.Worlds.{Inputs, Rules}
 use Rattle.dn_machine.specs.Flight.{Kind, SetUp, Play, Exit, Flight}
 use Rattle.dn_machine.specs.Node.{Node, ends_of, blank, got, made, has_left}
 use Rattle.dn_machine.specs.Game.{Game, with_node, posted}
@@ -17,23 +17,23 @@ use Rattle.dn_machine.specs.Sending.{lag, first_sent, set_up_flight, commands_fl
 
 module _ {S : Type 0} (rules : Rules S) (settings : Settings) (game : Game)
     (kept : IsKept rules settings game) (i : ℕ) (mine : i < rules.players) where
-  abbrev keys_now : ℕ → List ℕ
-  keys_now q = (game.nodes q).keys
+  abbrev inputs_now : Inputs
+  inputs_now q = (game.nodes q).inputs
 
   -- A packet joins those that were sent, from a node whose lists are as they were.
-  posts : (new : Node) (flight : Flight) → new.keys ≡ (game.nodes i).keys → new.held ≡ (game.nodes i).held
+  posts : (new : Node) (flight : Flight) → new.inputs ≡ (game.nodes i).inputs → new.held ≡ (game.nodes i).held
       → new.rows ≡ (game.nodes i).rows → ends_of new ≡ ends_of (game.nodes i)
-      → (has_left (game.nodes i) ≡ true → has_left new ≡ true) → IsSound rules settings i new
-      → IsPiece rules settings keys_now (λ q. has_left (game.nodes q)) flight
+      → new.marks ≡ (game.nodes i).marks → (has_left (game.nodes i) ≡ true → has_left new ≡ true)
+      → IsSound rules settings i new → IsPiece rules settings inputs_now (λ q. has_left (game.nodes q)) flight
       → IsKept rules settings (posted (with_node game i new) (Some flight)).0
-  posts new flight a b c d more sound piece =
+  posts new flight a b c d t more sound piece =
       Placing.quiet_with rules settings game kept i mine new game.stopped
-      (game.flights ++ flight ∷ []) a b c d more
-      (Lists.sends rules settings (history_of game) game.flights kept.from_keys flight piece) sound
+      (game.flights ++ flight ∷ []) a b c d t more
+      (Lists.sends rules settings (history_of game) game.flights kept.from_inputs flight piece) sound
 
   -- a set-up packet
   set_up_piece : (to : ℕ) → to < rules.players → i ≢ to
-      → IsPiece rules settings keys_now (λ q. has_left (game.nodes q))
+      → IsPiece rules settings inputs_now (λ q. has_left (game.nodes q))
       (record { from = i; to = to; kind = SetUp settings; start = 0; request = None; commands = [] })
   set_up_piece to l apart =
       record {
@@ -48,7 +48,7 @@ module _ {S : Type 0} (rules : Rules S) (settings : Settings) (game : Game)
       }
 
   -- a packet starts at no tic past what was built
-  pub first_reached : (to : ℕ) → first_sent rules i (game.nodes i) to ≤ made i (game.nodes i)
+  pub first_reached : (to : ℕ) → first_sent rules.limits i (game.nodes i) to ≤ made i (game.nodes i)
   first_reached to =
       let sound = (kept.sound i mine).resend to in
       cond_both (ltb ((game.nodes i).peers to).resend (made i (game.nodes i) - 12)) _ _
@@ -58,11 +58,11 @@ module _ {S : Type 0} (rules : Rules S) (settings : Settings) (game : Game)
   commands_piece : (to : ℕ) (kind : Kind) (request : Option ℕ) → to < rules.players → i ≢ to
       → ((s : Settings) → kind ≢ SetUp s) → ((tic : ℕ) → request ≡ Some tic → tic ≤ got (game.nodes i) to)
       → (kind ≡ Exit → has_left (game.nodes i) ≡ true)
-      → IsPiece rules settings keys_now (λ q. has_left (game.nodes q))
-      (commands_flight rules i (game.nodes i) to kind request)
+      → IsPiece rules settings inputs_now (λ q. has_left (game.nodes q))
+      (commands_flight rules.limits i (game.nodes i) to kind request)
   commands_piece to kind request l apart no_set_up asks leaving =
-      let count = kept.from_keys.counted i mine in
-      let first = first_sent rules i (game.nodes i) to in
+      let count = kept.from_inputs.counted i mine in
+      let first = first_sent rules.limits i (game.nodes i) to in
       let reached = first_reached to in
       let long = length-drop first ((game.nodes i).held i) in
       record {
@@ -71,33 +71,33 @@ module _ {S : Type 0} (rules : Rules S) (settings : Settings) (game : Game)
         apart = apart;
         reached = omega arith;
         commands = λ j m. get_or-drop first ((game.nodes i).held i) j blank
-            ∙ kept.from_keys.commands i i (first + j) mine mine (omega arith);
+            ∙ kept.from_inputs.commands i i (first + j) mine mine (omega arith);
         set_up = λ s e. absurd (no_set_up s e);
         request = λ tic e.
             let low = asks tic e in
-            let old = kept.from_keys.got i to mine l in
+            let old = kept.from_inputs.got i to mine l in
             omega arith;
         exit = λ e. (leaving e, omega arith);
       }
 
   -- a node that gave a packet is sound
-  sent_sound : (to : ℕ) → IsSound rules settings i (after_sent rules i (game.nodes i) to)
+  sent_sound : (to : ℕ) → IsSound rules settings i (after_sent rules.limits i (game.nodes i) to)
   sent_sound to = Placing.peer_sound rules settings game kept i mine to
-      (record ((game.nodes i).peers to) { resend = made i (game.nodes i) - lag rules })
+      (record ((game.nodes i).peers to) { resend = made i (game.nodes i) - lag rules.limits })
       (game.nodes i).held (omega arith) (λ tic h. h) refl
 
   pub sends : (to : ℕ) → to < rules.players
-      → IsKept rules settings (posted (with_node game i (on_send rules i (game.nodes i) to).0)
-      (on_send rules i (game.nodes i) to).1).0
+      → IsKept rules settings (posted (with_node game i (on_send rules.limits i (game.nodes i) to).0)
+      (on_send rules.limits i (game.nodes i) to).1).0
   sends to l =
-      send_cases rules i (game.nodes i)
+      send_cases rules.limits i (game.nodes i)
       (λ (r : Node × Option Flight). IsKept rules settings (posted (with_node game i r.0) r.1).0) to
       (Placing.same_node rules settings game kept i mine)
       (λ other e. gathers other (game.nodes i).settings ((kept.sound i mine).gathering e))
-      (λ other plays. posts _ _ refl refl refl (same_ends (game.nodes i) to _ refl) (λ h. h)
+      (λ other plays. posts _ _ refl refl refl (same_ends (game.nodes i) to _ refl) refl (λ h. h)
       (sent_sound to) (commands_piece to Play (request_to (game.nodes i) to) l other (λ s h. cc) asks
       (λ h. absurd (cc))))
-      (λ other left. posts _ _ refl refl refl (same_ends (game.nodes i) to _ refl) (λ h. h)
+      (λ other left. posts _ _ refl refl refl (same_ends (game.nodes i) to _ refl) refl (λ h. h)
       (sent_sound to) (commands_piece to Exit None l other (λ s h. cc)
       (λ tic h. absurd (none-some tic h)) (λ h. left)))
     where
@@ -108,7 +108,7 @@ module _ {S : Type 0} (rules : Rules S) (settings : Settings) (game : Game)
           subst (λ (z : Settings). IsKept rules settings
           (posted (with_node game i (game.nodes i)) (set_up_flight i to (Some z))).0)
           (sym (same_Some s settings e))
-          (posts (game.nodes i) _ refl refl refl refl (λ h. h) (kept.sound i mine) (set_up_piece to l apart))
+          (posts (game.nodes i) _ refl refl refl refl refl (λ h. h) (kept.sound i mine) (set_up_piece to l apart))
 
       asks : (tic : ℕ) → request_to (game.nodes i) to ≡ Some tic → tic ≤ got (game.nodes i) to
       asks tic e = let same = (cond_some ((game.nodes i).peers to).want (got (game.nodes i) to) tic e).1 in

@@ -5,14 +5,13 @@ use Rattle.std.proofs.lemmas.Bool.{cases_eq}
 use Rattle.dn_setup.specs.Settings.{Settings}
 use Rattle.dn_machine.specs.declared.answers.Phase.{Phase}
 use Rattle.dn_machine.specs.declared.answers.Phase.TheVariants.{Gathering}
-use Rattle.dn_machine.specs.declared.events.Event.TheVariants.{Build}
 use Rattle.dn_machine.specs.Worlds.{Rules}
 use Rattle.dn_machine.specs.Node.{Node}
 use Rattle.dn_machine.specs.Building.{on_build, on_build_in}
 use Rattle.dn_machine.specs.Game.{Game}
-use Rattle.dn_machine.specs.Progress.{after, exchange, turn, good_round}
+use Rattle.dn_machine.specs.Progress.{after, exchange, turn, good_round, build_of}
 use Rattle.dn_machine.proofs.Put.{put_at}
-use Rattle.dn_machine.proofs.Pairs.{accepted}
+use Rattle.dn_machine.proofs.Pairs.{accepted_build}
 use Rattle.dn_machine.proofs.Pairs
 use Rattle.dn_machine.proofs.GoingOn.{IsFar, IsOn, far_after, exchange_far}
 use Rattle.dn_machine.proofs.InOrder.{two_of, one_of}
@@ -21,6 +20,8 @@ use Rattle.dn_machine.proofs.Openings.{Stands, Gathers, Listens, Plays, HasGone}
 use Rattle.dn_machine.proofs.Gentle.{build_gentle}
 use Rattle.dn_machine.proofs.Begun.{with_exchange, IsBegun, With, WithFar, WithSo, gentle_begun, all_play, keep_build, keep_exchange, keep_run, keep_turn}
 use Rattle.dn_machine.proofs.Hellos.{KeyGathers, IsIn, KnowsOf, in_stable, knows_stable, starts, still_gathers, knows}
+use Rattle.dn_tic.specs.declared.input.Input.{Input}
+use Rattle.dn_machine.proofs.EachEvent.{build_round}
 
 -- each of a bounded number of facts, or what stands beside each
 all_or : (A : Type 0) (P : ℕ → Type 0) (bound : ℕ) → ((j : ℕ) → j < bound → A ⊎ P j)
@@ -43,13 +44,13 @@ module _ {S : Type 0} (rules : Rules S) (settings : Settings) (cap : ℕ) (stay 
   So = With rules settings cap stay tic
 
   -- who gathers builds nothing
-  builds_none : (g : Game) → (g.nodes 0).phase ≡ Gathering → (state : ℕ)
-      → (on_build rules 0 (g.nodes 0) state).0.phase ≡ (g.nodes 0).phase
+  builds_none : (g : Game) → (g.nodes 0).phase ≡ Gathering → (input : Input)
+      → (on_build 0 (g.nodes 0) input).0.phase ≡ (g.nodes 0).phase
   unfolding on_build
-  builds_none g key state = ap (λ (ph : Phase). (on_build_in rules 0 (g.nodes 0) state ph).0.phase) key
+  builds_none g key state = ap (λ (ph : Phase). (on_build_in 0 (g.nodes 0) state ph).0.phase) key
 
   module _ (some : 0 < rules.players) (key_stays : stay 0 ≡ true) where
-    module _ (keys : ℕ → ℕ) where
+    module _ (inputs : ℕ → Input) where
       -- the key player's turn starts each other
       module _ (j : ℕ) (its : j < rules.players) (other : j ≢ 0) where
         gathers_on : (i : ℕ) (g : Game) → i < rules.players → i ≢ j → So KeyGathers g
@@ -72,87 +73,87 @@ module _ {S : Type 0} (rules : Rules S) (settings : Settings) (cap : ℕ) (stay 
         starts_one g = with_exchange rules settings cap stay tic KeyGathers (IsIn j) 0 j g
             (λ begun key. starts rules settings cap stay tic some key_stays j its other g begun key)
 
-        key_built : (g : Game) → So KeyGathers g → So KeyGathers (after rules (Build 0 (keys 0)) g)
-        key_built g (WithFar far) = WithFar (far_after rules cap stay (Build 0 (keys 0)) g far)
+        key_built : (g : Game) → So KeyGathers g → So KeyGathers (after rules (build_of 0 (inputs 0)) g)
+        key_built g (WithFar far) = WithFar (far_after rules cap stay (build_of 0 (inputs 0)) g far)
         key_built g (WithSo begun key) =
-            WithSo (gentle_begun rules settings cap stay tic (Build 0 (keys 0)) g refl
-            (build_gentle rules g 0 (keys 0)) begun)
+            WithSo (gentle_begun rules settings cap stay tic (build_of 0 (inputs 0)) g (build_round 0 (inputs 0))
+            (build_gentle rules g 0 (inputs 0)) begun)
             (ap (λ (h : Game). (h.nodes 0).phase)
-            (accepted rules g (Build 0 (keys 0)) (Pairs.accepts rules settings g begun.live 0 some))
-            ∙ (ap (λ (n : Node). n.phase) (put_at g.nodes 0 0 (on_build rules 0 (g.nodes 0) (keys 0)).0 refl)
-            ∙ (builds_none g key (keys 0) ∙ key)))
+            (accepted_build rules g 0 (inputs 0) (Pairs.accepts rules settings g begun.live 0 some))
+            ∙ (ap (λ (n : Node). n.phase) (put_at g.nodes 0 0 (on_build 0 (g.nodes 0) (inputs 0)).0 refl)
+            ∙ (builds_none g key (inputs 0) ∙ key)))
 
-        key_turn : (g : Game) → So KeyGathers g → So (IsIn j) (turn rules keys g 0)
+        key_turn : (g : Game) → So KeyGathers g → So (IsIn j) (turn rules inputs g 0)
         unfolding turn
         key_turn g key = keep_run rules settings cap stay tic (IsIn j) (in_stable j) 0 some _ (
             one_of (So KeyGathers) (So (IsIn j)) (exchange rules 0) rules.players j
             (λ i h l n x. gathers_on i h l n x)
             (λ i h l n x. keep_exchange rules settings cap stay tic (IsIn j) (in_stable j) 0 i h x)
             (λ h x. starts_one h x)
-            (after rules (Build 0 (keys 0)) g) its (key_built g key))
+            (after rules (build_of 0 (inputs 0)) g) its (key_built g key))
 
         notes_one : (g : Game) → So (IsIn j) g → So (KnowsOf j) (exchange rules j g 0)
         notes_one g = with_exchange rules settings cap stay tic (IsIn j) (KnowsOf j) j 0 g
             (λ begun plays. knows rules settings cap stay tic some key_stays j its other g begun plays)
 
-        other_turn : (g : Game) → So (IsIn j) g → So (KnowsOf j) (turn rules keys g j)
+        other_turn : (g : Game) → So (IsIn j) g → So (KnowsOf j) (turn rules inputs g j)
         unfolding turn
         other_turn g plays = keep_run rules settings cap stay tic (KnowsOf j) (knows_stable j) j its _ (
             one_of (So (IsIn j)) (So (KnowsOf j)) (exchange rules j) rules.players 0
             (λ i h l n x. keep_exchange rules settings cap stay tic (IsIn j) (in_stable j) j i h x)
             (λ i h l n x. keep_exchange rules settings cap stay tic (KnowsOf j) (knows_stable j) j i h x)
             (λ h x. notes_one h x)
-            (after rules (Build j (keys j)) g) some
-            (keep_build rules settings cap stay tic (IsIn j) (in_stable j) j (keys j) g plays))
+            (after rules (build_of j (inputs j)) g) some
+            (keep_build rules settings cap stay tic (IsIn j) (in_stable j) j (inputs j) g plays))
 
-        round_notes : (g : Game) → So KeyGathers g → So (KnowsOf j) (good_round rules keys g)
+        round_notes : (g : Game) → So KeyGathers g → So (KnowsOf j) (good_round rules inputs g)
         unfolding good_round
-        round_notes g key = two_of (So KeyGathers) (So (IsIn j)) (So (KnowsOf j)) (turn rules keys)
+        round_notes g key = two_of (So KeyGathers) (So (IsIn j)) (So (KnowsOf j)) (turn rules inputs)
             rules.players 0 j (omega arith)
             (λ i h l less x. absurd (omega arith))
-            (λ i h l a b x. keep_turn rules settings cap stay tic (IsIn j) (in_stable j) keys i l h x)
-            (λ i h l a b x. keep_turn rules settings cap stay tic (KnowsOf j) (knows_stable j) keys i l h x)
+            (λ i h l a b x. keep_turn rules settings cap stay tic (IsIn j) (in_stable j) inputs i l h x)
+            (λ i h l a b x. keep_turn rules settings cap stay tic (KnowsOf j) (knows_stable j) inputs i l h x)
             (λ h x. key_turn h x)
             (λ h x. other_turn h x)
             g its key
 
       pub round_starts : 2 ≤ rules.players → (g : Game) → IsBegun rules settings cap stay tic g
-          → (g.nodes 0).phase ≡ Gathering → IsFar rules cap stay (good_round rules keys g)
-          ⊎ IsOn rules settings cap stay tic (good_round rules keys g)
+          → (g.nodes 0).phase ≡ Gathering → IsFar rules cap stay (good_round rules inputs g)
+          ⊎ IsOn rules settings cap stay tic (good_round rules inputs g)
       round_starts several g begun key =
-          elim (all_or (IsFar rules cap stay (good_round rules keys g))
-          (λ (j : ℕ). 0 < j → KnowsOf j (good_round rules keys g)) rules.players one) [
+          elim (all_or (IsFar rules cap stay (good_round rules inputs g))
+          (λ (j : ℕ). 0 < j → KnowsOf j (good_round rules inputs g)) rules.players one) [
             | inl far ↦ inl far
             | inr each ↦ with_begun each (round_notes 1 (omega arith) (λ e. omega arith) g (WithSo begun key))
           ]
         where
-          one : (j : ℕ) → j < rules.players → IsFar rules cap stay (good_round rules keys g)
-              ⊎ (0 < j → KnowsOf j (good_round rules keys g))
+          one : (j : ℕ) → j < rules.players → IsFar rules cap stay (good_round rules inputs g)
+              ⊎ (0 < j → KnowsOf j (good_round rules inputs g))
           one j l = elim (cases_eq j 0) [
             | inl e ↦ inr (λ low. absurd (omega arith))
             | inr n ↦ known (round_notes j l n g (WithSo begun key))
           ]
             where
-              known : So (KnowsOf j) (good_round rules keys g)
-                  → IsFar rules cap stay (good_round rules keys g)
-                  ⊎ (0 < j → KnowsOf j (good_round rules keys g))
+              known : So (KnowsOf j) (good_round rules inputs g)
+                  → IsFar rules cap stay (good_round rules inputs g)
+                  ⊎ (0 < j → KnowsOf j (good_round rules inputs g))
               known (WithFar far) = inl far
               known (WithSo now y) = inr (λ low. y)
 
-          with_begun : ((j : ℕ) → j < rules.players → 0 < j → KnowsOf j (good_round rules keys g))
-              → So (KnowsOf 1) (good_round rules keys g) → IsFar rules cap stay (good_round rules keys g)
-              ⊎ IsOn rules settings cap stay tic (good_round rules keys g)
+          with_begun : ((j : ℕ) → j < rules.players → 0 < j → KnowsOf j (good_round rules inputs g))
+              → So (KnowsOf 1) (good_round rules inputs g) → IsFar rules cap stay (good_round rules inputs g)
+              ⊎ IsOn rules settings cap stay tic (good_round rules inputs g)
           with_begun each (WithFar far) = inl far
           with_begun each (WithSo now y) = inr (go (now.is_open.stands 0))
             where
-              go : Stands 0 ((good_round rules keys g).nodes 0)
-                  → IsOn rules settings cap stay tic (good_round rules keys g)
-              go (Plays e) = all_play rules settings cap stay tic (good_round rules keys g) now
+              go : Stands 0 ((good_round rules inputs g).nodes 0)
+                  → IsOn rules settings cap stay tic (good_round rules inputs g)
+              go (Plays e) = all_play rules settings cap stay tic (good_round rules inputs g) now
                   ((now.live.kept.sound 0 some).playing e)
               go (Listens z e f) = absurd (z refl)
               go (HasGone e) = absurd (true≢false (sym e ∙ now.there 0 some key_stays))
               go (Gathers z e f k) =
-                  let all = noted_all rules.players ((good_round rules keys g).nodes 0).noted
+                  let all = noted_all rules.players ((good_round rules inputs g).nodes 0).noted
                   (λ k a b. elim (each k b a) [
                     | inl plays ↦ absurd (cc)
                     | inr noted ↦ noted

@@ -5,28 +5,30 @@ use Rattle.std.proofs.lemmas.Bool.{cases_eq, lt-leb, and_left, and_right}
 use Rattle.std.proofs.lemmas.List.{length_push}
 use Rattle.dn_tic.specs.declared.command.TicCmd.{TicCmd}
 use Rattle.dn_setup.specs.Settings.{Settings}
-use Rattle.dn_tic.specs.Pressed.{pressed}
+use Rattle.dn_tic.specs.Inputs.{made_by}
 use Rattle.dn_machine.specs.declared.events.Event.{Event}
-use Rattle.dn_machine.specs.declared.events.Event.TheVariants.{Build, Run}
+use Rattle.dn_machine.specs.declared.events.Event.TheVariants.{Run}
 use Rattle.dn_machine.specs.Worlds.{Rules}
 use Rattle.dn_machine.specs.Node.{Node, got, made, ran, own_mark}
 use Rattle.dn_machine.specs.Building.{on_build}
-use Rattle.dn_machine.specs.Running.{is_absent, is_awaited, row_held, on_run}
-use Rattle.dn_machine.specs.Game.{Game, with_node}
+use Rattle.dn_machine.specs.Running.{is_absent, is_awaited, row_held}
+use Rattle.dn_machine.specs.Game.{Game, with_node, on_own_run}
 use Rattle.dn_machine.proofs.Invariant.{history_of}
-use Rattle.dn_machine.specs.Progress.{after, is_of_round}
+use Rattle.dn_machine.specs.Progress.{after, is_of_round, build_of}
 use Rattle.dn_machine.proofs.Put.{put_at, put_off, view_kept}
 use Rattle.dn_machine.proofs.Lists
 use Rattle.dn_machine.proofs.RunKeeps
 use Rattle.dn_machine.proofs.Marks.{lowest_none}
 use Rattle.dn_machine.proofs.Stages.{side, same_side}
 use Rattle.dn_machine.proofs.Calls.{build_cases}
-use Rattle.dn_machine.proofs.Pairs.{accepted}
+use Rattle.dn_machine.proofs.Pairs.{accepted, accepted_build}
 use Rattle.dn_machine.proofs.Pairs
 use Rattle.dn_machine.proofs.Exchanges.{IsQuiet}
 use Rattle.dn_machine.proofs.GoingOn.{IsFar, IsOn, full_far, ran_after, live_after, on_alike, stays_in}
 use Rattle.dn_machine.proofs.Receivers.{in_play}
 use Rattle.dn_machine.proofs.Roomy.{roomy_after, row_fits}
+use Rattle.dn_tic.specs.declared.input.Input.{Input}
+use Rattle.dn_machine.proofs.EachEvent.{build_round}
 
 module _ {S : Type 0} (rules : Rules S) (settings : Settings) (cap : ℕ) (stay : ℕ → Bool) (tic : ℕ) where
   module _ (game : Game) (on : IsOn rules settings cap stay tic game) where
@@ -61,10 +63,10 @@ module _ {S : Type 0} (rules : Rules S) (settings : Settings) (cap : ℕ) (stay 
     pub ran_made : (q p : ℕ) → q < rules.players → p < rules.players → stay p ≡ true
         → ran (game.nodes q) ≤ made p (game.nodes p)
     ran_made q p l m s =
-        let a = Lists.ran_below rules settings (history_of game) game.flights on.live.kept.from_keys q p l m
+        let a = Lists.ran_below rules settings (history_of game) game.flights on.live.kept.from_inputs q p l m
         (Pairs.stays rules settings game on.live p
         (in_play rules settings cap stay tic game on p m s)) in
-        let b = on.live.kept.from_keys.counted p m in
+        let b = on.live.kept.from_inputs.counted p m in
         omega arith
 
     module _ (r : ℕ) (mine : r < rules.players) where
@@ -74,8 +76,8 @@ module _ {S : Type 0} (rules : Rules S) (settings : Settings) (cap : ℕ) (stay 
         quiet : (s : ℕ) → s ≢ r → side new s ≡ side (game.nodes r) s
         built : stay r ≡ true → tic < made r new
 
-      builds : (state : ℕ) → IsBuilt (on_build rules r (game.nodes r) state).0
-      builds state = build_cases rules r (game.nodes r) (λ (new : Node). IsBuilt new) state
+      builds : (input : Input) → IsBuilt (on_build r (game.nodes r) input).0
+      builds input = build_cases rules.limits r (game.nodes r) (λ (new : Node). IsBuilt new) input
           (λ full. record {
             phase = refl;
             played = refl;
@@ -86,8 +88,8 @@ module _ {S : Type 0} (rules : Rules S) (settings : Settings) (cap : ℕ) (stay 
                 omega arith;
           })
           (λ plays free.
-          let new = pressed ((game.nodes r).keys ++ state ∷ [])
-          (own_mark rules (game.nodes r) r (made r (game.nodes r))) in
+          let new = made_by ((game.nodes r).inputs ++ input ∷ [])
+          (own_mark (game.nodes r) r (made r (game.nodes r))) in
           let at = ap (length {A = TicCmd})
           (put_at (game.nodes r).held r r ((game.nodes r).held r ++ new ∷ []) refl)
           ∙ length_push ((game.nodes r).held r) new in
@@ -103,23 +105,23 @@ module _ {S : Type 0} (rules : Rules S) (settings : Settings) (cap : ℕ) (stay 
                 omega arith;
           })
 
-      built_is : (state : ℕ) → after rules (Build r state) game
-          ≡ with_node game r (on_build rules r (game.nodes r) state).0
-      built_is state = accepted rules game (Build r state) (Pairs.accepts rules settings game on.live r mine)
+      built_is : (input : Input) → after rules (build_of r input) game
+          ≡ with_node game r (on_build r (game.nodes r) input).0
+      built_is input = accepted_build rules game r input (Pairs.accepts rules settings game on.live r mine)
 
-      pub build_on : (state : ℕ) → IsOn rules settings cap stay tic (after rules (Build r state) game)
-      build_on state = placed_on (Build r state) refl r _ (built_is state) (builds state).phase
-          (builds state).played
+      pub build_on : (input : Input) → IsOn rules settings cap stay tic (after rules (build_of r input) game)
+      build_on input = placed_on (build_of r input) (build_round r input) r _ (built_is input) (builds input).phase
+          (builds input).played
 
-      pub build_quiet : (state : ℕ) → IsQuiet game (after rules (Build r state) game)
-      build_quiet state = placed_quiet (Build r state) r _ (built_is state) (builds state).quiet
+      pub build_quiet : (input : Input) → IsQuiet game (after rules (build_of r input) game)
+      build_quiet input = placed_quiet (build_of r input) r _ (built_is input) (builds input).quiet
 
-      pub build_made : (state : ℕ) → stay r ≡ true → tic < made r ((after rules (Build r state) game).nodes r)
-      build_made state s =
-          let new = (on_build rules r (game.nodes r) state).0 in
-          let same = ap (λ (g : Game). made r (g.nodes r)) (built_is state)
+      pub build_made : (input : Input) → stay r ≡ true → tic < made r ((after rules (build_of r input) game).nodes r)
+      build_made input s =
+          let new = (on_build r (game.nodes r) input).0 in
+          let same = ap (λ (g : Game). made r (g.nodes r)) (built_is input)
           ∙ ap (made r) (put_at game.nodes r r new refl) in
-          let more = (builds state).built s in
+          let more = (builds input).built s in
           omega arith
 
       -- a player holds nobody back: its command is there, or its known end is not past the next tic
@@ -139,7 +141,7 @@ module _ {S : Type 0} (rules : Rules S) (settings : Settings) (cap : ℕ) (stay 
           (lt-leb (got (game.nodes r) p) (ran (game.nodes r)) l)
       not_awaited p (inr gone) = and_left (not (is_absent (game.nodes r) p)) _ (ap not gone)
 
-      runs : IsRun (on_run rules (game.nodes r)).0
+      runs : IsRun (on_own_run rules (game.nodes r)).0
       runs = RunKeeps.cases rules settings game on.live.kept r mine (λ (new : Node). IsRun new)
           (λ waits. Runs refl refl (λ s n. refl) (λ u have. absurd (waits (on.plays r mine u)
           (lowest_none rules.players (is_awaited (game.nodes r)) (λ p l. not_awaited p (have p l))))))
@@ -147,10 +149,10 @@ module _ {S : Type 0} (rules : Rules S) (settings : Settings) (cap : ℕ) (stay 
           let most = row_fits rules cap tic game settings on.live.kept r mine
           (on.ran r mine (stays_in (game.nodes r) (stay r) (on.left r mine) plays)) there on.room in
           Full (omega arith))
-          (λ plays there free. let count = length_push (game.nodes r).rows (row_held rules (game.nodes r)) in
+          (λ plays there free. let count = length_push (game.nodes r).rows (row_held rules.limits (game.nodes r)) in
           Runs refl refl (λ s n. refl) (λ u h. omega arith))
 
-      run_is : after rules (Run r) game ≡ with_node game r (on_run rules (game.nodes r)).0
+      run_is : after rules (Run r) game ≡ with_node game r (on_own_run rules (game.nodes r)).0
       run_is = accepted rules game (Run r) (Pairs.accepts rules settings game on.live r mine)
 
       -- where one demo is full, every demo is as good as full
@@ -166,7 +168,7 @@ module _ {S : Type 0} (rules : Rules S) (settings : Settings) (cap : ℕ) (stay 
             → ran (game.nodes r) < ran (new.nodes r)
 
       pub run_on : IsFar rules cap stay game ⊎ HasRun (after rules (Run r) game)
-      run_on = go (on_run rules (game.nodes r)).0 runs run_is
+      run_on = go (on_own_run rules (game.nodes r)).0 runs run_is
         where
           go : (x : Node) → IsRun x → after rules (Run r) game ≡ with_node game r x
               → IsFar rules cap stay game ⊎ HasRun (after rules (Run r) game)

@@ -9,7 +9,7 @@ use Rattle.dn_machine.specs.declared.answers.Phase.TheVariants.{Listening, Gathe
 use Rattle.dn_machine.specs.declared.answers.Heard.{Heard}
 use Rattle.dn_machine.specs.declared.peer.Peer.{Peer}
 use Rattle.dn_machine.specs.Drops as drops
-use Rattle.dn_machine.specs.Worlds.{Rules}
+use Rattle.dn_machine.specs.Limits.{Limits}
 use Rattle.dn_machine.specs.Flight.{Kind, SetUp, Play, Exit, Flight, is_exit, end_of}
 use Rattle.dn_machine.specs.Node.{Node, put, with_peer, ends_of, got, made, ran}
 
@@ -18,10 +18,10 @@ abbrev pub started : Node → Settings → Node
 started node settings = record node { phase = Playing; played = true; settings = Some settings }
 
 -- a gathering node has heard a player, and starts if that was the last
-abbrev pub on_gathering : {S : Type 0} → Rules S → Node → ℕ → Node × Heard
-on_gathering rules node player =
+abbrev pub on_gathering : Limits → Node → ℕ → Node × Heard
+on_gathering limits node player =
     let noted = put node.noted player true in
-    if all_noted rules.players noted
+    if all_noted limits.players noted
     then (record node { phase = Playing; played = true; noted = noted }, Heard.Started)
     else (record node { noted = noted }, Heard.Noted)
 
@@ -101,18 +101,18 @@ on_ended true me node flight Play = (
 )
 
 -- by the phase and the packet's kind
-abbrev pub on_packet_in : {S : Type 0} → Rules S → ℕ → Node → Flight → Phase → Kind → Node × Heard
-on_packet_in rules me node flight (Ended cause) kind = on_ended node.played me node flight kind
-on_packet_in rules me node flight Listening (SetUp settings) = (started node settings, Heard.Started)
-on_packet_in rules me node flight Gathering (SetUp settings) = (node, Heard.Dropped drops.out_of_place)
-on_packet_in rules me node flight Playing (SetUp settings) = (node, Heard.Dropped drops.out_of_place)
-on_packet_in rules me node flight Listening Play = (node, Heard.Dropped drops.not_playing)
-on_packet_in rules me node flight Listening Exit = (node, Heard.Dropped drops.not_playing)
-on_packet_in rules me node flight Gathering Play = on_gathering rules node flight.from
-on_packet_in rules me node flight Gathering Exit = on_gathering rules node flight.from
-on_packet_in rules me node flight Playing Exit = on_commands me node flight
-on_packet_in rules me node flight Playing Play = on_commands me node flight
+abbrev pub on_packet_in : Limits → ℕ → Node → Flight → Phase → Kind → Node × Heard
+on_packet_in limits me node flight (Ended cause) kind = on_ended node.played me node flight kind
+on_packet_in limits me node flight Listening (SetUp settings) = (started node settings, Heard.Started)
+on_packet_in limits me node flight Gathering (SetUp settings) = (node, Heard.Dropped drops.out_of_place)
+on_packet_in limits me node flight Playing (SetUp settings) = (node, Heard.Dropped drops.out_of_place)
+on_packet_in limits me node flight Listening Play = (node, Heard.Dropped drops.not_playing)
+on_packet_in limits me node flight Listening Exit = (node, Heard.Dropped drops.not_playing)
+on_packet_in limits me node flight Gathering Play = on_gathering limits node flight.from
+on_packet_in limits me node flight Gathering Exit = on_gathering limits node flight.from
+on_packet_in limits me node flight Playing Exit = on_commands me node flight
+on_packet_in limits me node flight Playing Play = on_commands me node flight
 
 -- node `me` hears a packet: the node after it, and the answer
-unfoldable pub on_packet : {S : Type 0} → Rules S → ℕ → Node → Flight → Node × Heard
-on_packet rules me node flight = on_packet_in rules me node flight node.phase flight.kind
+unfoldable pub on_packet : Limits → ℕ → Node → Flight → Node × Heard
+on_packet limits me node flight = on_packet_in limits me node flight node.phase flight.kind

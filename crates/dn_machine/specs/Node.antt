@@ -1,26 +1,29 @@
 -- What one node keeps, and what is read off it.
-use Rattle.std.specs.Prelude.{ℕ, zero, suc, ◌-◌, Bool, true, false, ◌&&◌, List, nat_lt, ◌==◌, ℤ, pos, if◌then◌else◌, get_or, take, length, Option, Some, None, fold}
+use Rattle.std.specs.Prelude.{ℕ, zero, suc, ◌-◌, Bool, true, false, ◌&&◌, List, nat_lt, ◌==◌, ℤ, pos, if◌then◌else◌, get_or, length, Option, Some, None}
 use Rattle.std.specs.List.{take_while}
-use Rattle.std.specs.Option.{option_or, option_map, is_none}
+use Rattle.std.specs.Option.{option_or, is_none}
 use Rattle.dn_tic.specs.declared.command.TicCmd.{TicCmd}
 use Rattle.dn_tic.specs.declared.command.Move.{Move}
 use Rattle.dn_setup.specs.Settings.{Settings}
 use Rattle.dn_machine.specs.declared.answers.Phase.{Phase}
 use Rattle.dn_machine.specs.declared.answers.Phase.TheVariants.{Listening, Gathering, Playing, Ended}
 use Rattle.dn_machine.specs.declared.peer.Peer.{Peer}
-use Rattle.dn_machine.specs.Worlds.{Rules, opening, mark_in}
+use Rattle.dn_tic.specs.declared.input.Input.{Input}
 
 pub record Node : Type 0 where
   pub phase : Phase
   -- whether it is or was playing
   pub played : Bool
   pub settings : Option Settings
-  -- the key states of the builds that made a command
-  pub keys : List ℕ
+  -- the inputs of the builds that made a command
+  pub inputs : List Input
   -- the commands that it has of each player, from tic 0 on; of itself those that it made
   pub held : ℕ → List TicCmd
   -- the rows that it ran
   pub rows : List (List (Option Move))
+  -- by the tic and the player: the marks that it was told at its runs (g_game.c, the table of G_Ticker), of the
+  -- players who took part, and 0 for all others
+  pub marks : ℕ → ℕ → ℤ
   -- what it keeps of each peer
   pub peers : ℕ → Peer
   -- by number, which players it has heard while it gathered
@@ -79,19 +82,10 @@ abbrev pub known_end : ℕ → Node → ℕ → Option ℕ
 known_end me node player =
     if player == me then (if has_left node then Some (made me node) else None) else ends_of node player
 
--- the world after the first `tic` of these rows
-unfoldable pub world_after : {S : Type 0} → Rules S → Settings → List (List (Option Move)) → ℕ → S
-world_after rules settings rows tic = fold rules.physics.step (opening rules settings) (take tic rows)
-
--- a node's own world before a tic, once it has settings
-abbrev pub own_world : {S : Type 0} → Rules S → Node → ℕ → Option S
-own_world rules node tic = option_map (λ settings. world_after rules settings node.rows tic) node.settings
-
--- the consistency mark for a tic by a node's own world: the player's mark before the tic twelve back, and 0
--- below tic 12
-abbrev pub own_mark : {S : Type 0} → Rules S → Node → ℕ → ℕ → ℤ
-own_mark rules node player tic =
-    if nat_lt tic 12 then pos 0 else mark_in rules.physics (own_world rules node (tic - 12)) player
+-- the consistency mark for a tic, by what a node was told: the player's mark at the tic twelve back, and 0
+-- below tic 12. In a game it is the mark of the node's own world at that tic (`Agree`, `marks`)
+abbrev pub own_mark : Node → ℕ → ℕ → ℤ
+own_mark node player tic = if nat_lt tic 12 then pos 0 else node.marks (tic - 12) player
 
 -- the lowest number below the bound that passes, if one does
 unfoldable pub lowest : ℕ → (ℕ → Bool) → Option ℕ
@@ -107,5 +101,5 @@ abbrev pub is_whole : ℕ → List (Option Move) → Bool
 is_whole players row = is_none (lowest players (lacks row))
 
 -- the rows of a node's demo: those before the first that lacks a player
-abbrev pub demo_rows : {S : Type 0} → Rules S → Node → List (List (Option Move))
-demo_rows rules node = take_while (is_whole rules.players) node.rows
+abbrev pub demo_rows : ℕ → Node → List (List (Option Move))
+demo_rows players node = take_while (is_whole players) node.rows

@@ -7,7 +7,7 @@ use Rattle.dn_game.specs.Applied.{Tells}
 use Rattle.dn_game.specs.Contents.{contents}
 use Rattle.dn_game.specs.GoingOn.{IsCalmed}
 use Rattle.dn_game.specs.Opening.{rules_in}
-use Rattle.dn_game.specs.Rounds.{keys_of}
+use Rattle.dn_game.specs.Rounds.{pressed_by}
 use Rattle.dn_game.specs.Stormed.{IsStormed}
 use Rattle.dn_netgame.specs.GameShown.{IsGameShown}
 
@@ -20,7 +20,7 @@ no_keys = 0 ∷ 0 ∷ 0 ∷ 0 ∷ []
 abbrev pub Calms : ℕ → Played Spots → Played Spots → Type 0
 Calms calm before played =
     Tells (λ spots. spots) walking (contents before.game)
-    (λ rules m. IsCalmed (λ spots. spots) rules (keys_of no_keys) calm m before played)
+    (λ rules m. IsCalmed (λ spots. spots) rules (pressed_by no_keys) calm m before played)
 
 -- a game of this many walkers has played this many events of the seed's schedule, and then this many good
 -- rounds in which nobody presses a key
@@ -28,7 +28,7 @@ abbrev pub WalksOn : GameConfig → ℕ → (seed count calm : ℕ) → Played S
 WalksOn config players seed count calm played =
     (before : Played Spots)
     × (s : IsStormed (λ spots. spots) (rules_in walking config players) config.settings seed count before)
-    × IsCalmed (λ spots. spots) (rules_in walking config players) (keys_of no_keys) calm s.last before played
+    × IsCalmed (λ spots. spots) (rules_in walking config players) (pressed_by no_keys) calm s.last before played
 
 -- the lines and the exit status are those of such a game
 abbrev pub IsCalm : GameConfig → ℕ → (seed count calm : ℕ) → List ℕ → ℕ → Type 0

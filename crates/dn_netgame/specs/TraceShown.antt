@@ -8,7 +8,7 @@ use Rattle.dn_game.specs.declared.config.GameConfig.{GameConfig}
 use Rattle.dn_game.specs.declared.played.Played.{Played}
 use Rattle.dn_game.specs.GoingOn.{IsCalmed}
 use Rattle.dn_game.specs.Opening.{rules_in}
-use Rattle.dn_game.specs.Rounds.{keys_of}
+use Rattle.dn_game.specs.Rounds.{pressed_by}
 use Rattle.dn_script.specs.Script.{IsReadAs}
 use Rattle.dn_script.specs.declared.script.ScriptFault.{ScriptFault}
 use Rattle.dn_script.specs.Written.{script_text}
@@ -37,7 +37,7 @@ IsSimTraced config players bytes lines status =
 abbrev pub IsStormTraced : GameConfig → ℕ → (seed count calm : ℕ) → List ℕ → ℕ → Type 0
 IsStormTraced config players seed count calm lines status =
     (before : Played Spots) × (s : WalksUnder config players seed count before)
-    × ((played : Played Spots) × IsCalmed (λ spots. spots) (rules_in walking config players) (keys_of no_keys)
+    × ((played : Played Spots) × IsCalmed (λ spots. spots) (rules_in walking config players) (pressed_by no_keys)
     calm s.last before played
     × (lines ≡ trace_lines 0 s.events s.answers ++ game_lines played) × (status ≡ 0))
 

@@ -1,6 +1,6 @@
 -- A node that hears starts and begins its world, or leaves its world as it is.
-use Rattle.std.proofs.Common.{◌≡◌, ◌≢◌, ℕ, Bool, true, false, List, length, Option, Some, None, ap, sym, ◌∙◌, subst}
-use Rattle.std.specs.Prelude.{Result}
+use Rattle.std.proofs.Common.{arith, ◌≡◌, ◌≢◌, ℕ, true, false, List, length, Option, Some, None, ap, sym, ◌∙◌, subst}
+use Rattle.std.specs.Prelude.{Result, Ok}
 use Rattle.std.specs.Option.{option_map}
 use Rattle.dn_tic.specs.declared.command.Move.{Move}
 use Rattle.dn_setup.specs.Settings.{Settings}
@@ -8,23 +8,31 @@ use Rattle.dn_setup.specs.Starts.{start_of}
 use Rattle.dn_world.specs.Physics.{Physics}
 use Rattle.dn_machine.specs.declared.answers.Heard.{Heard}
 use Rattle.dn_machine.specs.Flight.{Flight}
-use Rattle.dn_machine.specs.Worlds.{Rules, rules_of, opening}
+use Rattle.dn_machine.specs.Hearing.{on_packet}
+use Rattle.dn_machine.specs.Calls as call
+use Rattle.dn_machine.specs.Limits.{Limits}
+use Rattle.dn_machine.specs.Worlds.{Rules, opening}
 use Rattle.dn_machine.specs.Node as machine
-use Rattle.dn_machine.specs.Node.{own_world, world_after}
+use Rattle.dn_machine.specs.Game.{own_world}
+use Rattle.dn_machine.specs.Worlds.{world_after}
+use Rattle.dn_lockstep.specs.Contents as lockstep_of_contents
 use Rattle.dn_lockstep.specs.Contents.{Contents as Lockstep}
+use Rattle.dn_lockstep.specs.Hearing as lockstep_hears
 use Rattle.dn_lockstep.specs.Phases.{is_waiting}
-use Rattle.dn_lockstep.specs.Received.{heard_as}
+use Rattle.dn_lockstep.specs.Received.{heard_as, flight_from}
 use Rattle.dn_lockstep.specs.Represents as lockstep_of
 use Rattle.dn_lockstep.specs.Rows.{seats_of}
 use Rattle.dn_lockstep.specs.Steps as lockstep
 use Rattle.dn_lockstep.proofs.Moving.{known_by}
 use Rattle.std.proofs.lemmas.List.{nil_from_length}
-use Rattle.dn_node.specs.Contents.{Contents, locked}
+use Rattle.dn_node.specs.Contents.{Contents, locked, whose}
 use Rattle.dn_node.specs.Represents.{Represents}
-use Rattle.dn_node.specs.Steps.{Steps}
+use Rattle.dn_node.specs.Steps.{under, Shows, IsAfter, HearsAny, HearsNear}
 use Rattle.dn_node.proofs.Beside.{Hears, GoesOn, Starts, is_start, heard_beside}
-use Rattle.dn_node.proofs.Stepping.{beside_world, steps}
-use Rattle.dn_node.proofs.Transfer.{heard_same}
+use Rattle.dn_node.proofs.Stepping.{beside_world, beside_marks}
+use Rattle.dn_machine.specs.Node.{ends_of}
+use Rattle.dn_lockstep.proofs.Marked.{marked_low}
+use Rattle.dn_node.proofs.Ends.{KeepsEnds, heard_keeps}
 
 -- the world before any row, of a node that has just started
 pub first_world : {S : Type 0} (rules : Rules S) (m : machine.Node) (settings : Settings)
@@ -49,39 +57,70 @@ pub record HasHeard {W S : Type 0} (state : W → S) (physics : Physics S) (old 
 module _ {W S : Type 0} {state : W → S} {physics : Physics S} {old new : Contents W} {after : Lockstep}
     {answer : Heard} (has : HasHeard state physics old new after answer) where
   -- the world of a node that starts begins, and that of another goes on
-  world_heard : (players : ℕ) (extra : Bool) (capacity me : ℕ) (m : machine.Node)
-      → Represents state (rules_of physics players extra capacity) me old m
-      → (next : machine.Node × Heard) → Hears m m.phase next
-      → lockstep_of.Represents (rules_of physics players extra capacity) me (locked new) next.0
-      → answer ≡ next.1 → next.0.played ≡ true
-      → Some (state new.world) ≡ own_world (rules_of physics players extra capacity) next.0
-      (machine.ran next.0)
-  world_heard players extra capacity me m r next (GoesOn left quiet) shows is played =
+  heard_so : (limits : Limits) (me : ℕ) (m : machine.Node) → Represents state (under physics limits) me old m
+      → (next : machine.Node × Heard) → Hears m next → KeepsEnds m next.0
+      → lockstep_of.Represents limits me (locked new) next.0
+      → answer ≡ next.1 → IsAfter state (under physics limits) me new next (λ heard. answer ≡ heard)
+  heard_so limits me m r next (GoesOn is quiet) keeps shows told =
+      let rules = under physics limits in
       let other : answer ≢ Heard.Started =
-      λ e. absurd (let not : is_start Heard.Started ≡ false = ap is_start (sym e ∙ is) ∙ quiet in cc) in
-      beside_world state (rules_of physics players extra capacity) me old m r new.world (has.kept other)
-      next.0 left played
-  world_heard players extra capacity me m r next (Starts rows waits starts) shows is played =
-      let s = known_by new.settings (has.known (shows.stands.played ∙ played)) in
-      let none = has.unrun (ap is_waiting r.lockstep.stands.phase ∙ waits) in
-      ap (λ (w : S). Some w) (has.begun (is ∙ starts) s.0 s.1
-      ∙ ap (λ (k : ℕ). physics.begin (start_of s.0) (seats_of k)) shows.whose.players)
-      ∙ first_world (rules_of physics players extra capacity) next.0 s.0 m.rows
-      (sym shows.stands.settings ∙ s.1) rows (sym r.lockstep.table.ran ∙ none)
+      λ e. absurd (let not : is_start Heard.Started ≡ false = ap is_start (sym e ∙ told) ∙ quiet in cc) in
+      record {
+        node = record {
+          lockstep = shows;
+          world = beside_world state rules me old m r next.0 is new.world (has.kept other);
+          marks = beside_marks state rules me old m r next.0 is keeps;
+        };
+        answer = told;
+      }
+  heard_so limits me m r next (Starts rows waits starts) keeps shows told =
+      let rules = under physics limits in
+      let none : machine.ran m ≡ 0 =
+      sym r.lockstep.table.ran ∙ has.unrun (ap is_waiting r.lockstep.stands.phase ∙ waits) in
+      record {
+        node = record {
+          lockstep = shows;
+          world = λ played.
+              let s = known_by new.settings (has.known (shows.stands.played ∙ played)) in
+              ap (λ (w : S). Some w) (has.begun (told ∙ starts) s.0 s.1
+              ∙ ap (λ (k : ℕ). physics.begin (start_of s.0) (seats_of k)) shows.whose.players)
+              ∙ first_world rules next.0 s.0 m.rows (sym shows.stands.settings ∙ s.1) rows none;
+          marks = λ p tic below low.
+              let count = ap (length {A = List (Option Move)}) rows in
+              let most = marked_low (machine.ran next.0) (ends_of next.0 p) in
+              absurd (omega arith);
+        };
+        answer = told;
+      }
 
-  pub heard : (flight : ℕ → ℕ → machine.Node → Result Flight ℕ)
-      → lockstep.Steps (locked old) after
-      (λ rules me m. heard_as rules me m m.phase (flight rules.players me m)) (λ heard. answer ≡ heard)
-      → Steps state physics old new
-      (λ rules me m. heard_as rules me m m.phase (flight rules.players me m)) (λ heard. answer ≡ heard)
-  heard flight locks =
-      let P : Lockstep → Type 0 = λ x. lockstep.Steps (locked old) x
-      (λ rules me m. heard_as rules me m m.phase (flight rules.players me m)) (λ heard. answer ≡ heard) in
-      steps state physics old new (λ rules me m. heard_as rules me m m.phase (flight rules.players me m))
-      (λ rules me m. heard_as rules me m m.phase (flight rules.players me m)) (λ heard. answer ≡ heard)
-      (subst P (sym has.rest) locks)
-      (λ players extra capacity me m. heard_same physics players extra capacity m me m.phase
-      (flight players me m))
-      (λ players extra capacity me m r shows is played. world_heard players extra capacity me m r _
-      (heard_beside (rules_of physics players extra capacity) me m m.phase (flight players me m)) shows is
-      played)
+  heard : (flight : ℕ → ℕ → machine.Node → Result Flight ℕ)
+      → lockstep.Simulates (locked old) after
+      (λ limits me m. heard_as limits me m m.phase (flight limits.players me m)) (λ heard. answer ≡ heard)
+      → call.Simulates (Shows state physics) old new
+      (λ limits me m. heard_as limits me m m.phase (flight limits.players me m)) (λ heard. answer ≡ heard)
+  heard flight locks limits me m r =
+      let step = locks limits me m r.lockstep in
+      heard_so limits me m r _ (heard_beside limits me m (flight limits.players me m))
+      (heard_keeps limits me m (flight limits.players me m))
+      (subst (λ (x : Lockstep). lockstep_of.Represents limits me x
+      (heard_as limits me m m.phase (flight limits.players me m)).0) (sym has.rest) step.node) step.answer
+
+  same_whose : lockstep_of_contents.whose after ≡ whose old → whose new ≡ whose old
+  same_whose same = ap lockstep_of_contents.whose has.rest ∙ same
+
+  module _ {from : ℕ} {bytes : List ℕ} where
+    pub heard_any : lockstep_hears.HearsAny from bytes (locked old) after answer
+        → HearsAny state physics from bytes old new answer
+    heard_any any = record {
+      same = same_whose any.same;
+      step = λ read told is tells.
+          heard (λ players me m. flight_from players from me (machine.made me m) m.played told read m.phase)
+          (any.step read told is tells);
+    }
+
+    pub heard_near : lockstep_hears.HearsNear from bytes (locked old) after answer
+        → HearsNear state physics from bytes old new answer
+    unfolding on_packet
+    heard_near near flight fair spelled sent below other close =
+        let steps = near flight fair spelled sent below other close in
+        record { same = same_whose steps.same; step = heard (λ players me m. Ok flight) steps.step }

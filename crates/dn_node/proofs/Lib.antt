@@ -1,7 +1,7 @@
-pub mod Transfer
+pub mod Ends
 pub mod Beside
 pub mod Stepping
-pub mod Sending
+pub mod Building
 pub mod Hearing
 pub mod Running
 pub mod Replaying

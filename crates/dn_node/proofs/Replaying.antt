@@ -5,10 +5,11 @@ use Rattle.std.proofs.Math.Seq.{take-length}
 use Rattle.dn_tic.specs.declared.command.Move.{Move}
 use Rattle.dn_setup.specs.Settings.{Settings}
 use Rattle.std.specs.Prelude.{ℕ, Some}
-use Rattle.dn_machine.specs.Worlds.{Rules, opening}
+use Rattle.std.specs.Option.{option_map}
+use Rattle.dn_machine.specs.Worlds.{Rules, opening, world_after}
 use Rattle.dn_machine.specs.Node as machine
-use Rattle.dn_machine.specs.Node.{world_after, demo_rows}
-use Rattle.dn_lockstep.proofs.Replaying.{own_world_is, all_recorded}
+use Rattle.dn_machine.specs.Node.{demo_rows}
+use Rattle.dn_lockstep.proofs.Replaying.{all_recorded}
 use Rattle.dn_node.specs.Contents.{Contents}
 use Rattle.dn_node.specs.Represents.{Represents}
 
@@ -22,10 +23,10 @@ module _ {W S : Type 0} (state : W → S) (rules : Rules S) (me : ℕ) (n : Cont
     (settings : Settings)
     (r : Represents state rules me n m) (played : m.played ≡ true) (known : m.settings ≡ Some settings) where
   pub world_played : state n.world ≡ fold rules.physics.step (opening rules settings) m.rows
-  world_played = same_Some _ _ (r.world played ∙ own_world_is rules m settings known (machine.ran m))
+  world_played = same_Some _ _ (r.world played ∙ ap (option_map (λ (s : Settings). world_after rules s m.rows (machine.ran m))) known)
       ∙ world_of rules settings m.rows
 
-  pub world_recorded : n.ran ≡ length (demo_rows rules m)
-      → state n.world ≡ fold rules.physics.step (opening rules settings) (demo_rows rules m)
+  pub world_recorded : n.ran ≡ length (demo_rows rules.players m)
+      → state n.world ≡ fold rules.physics.step (opening rules settings) (demo_rows rules.players m)
   world_recorded e = world_played ∙ ap (fold rules.physics.step (opening rules settings))
-      (sym (all_recorded rules m (omega (arith, e, r.lockstep.table.ran))))
+      (sym (all_recorded rules.limits m (omega (arith, e, r.lockstep.table.ran))))

@@ -19,6 +19,10 @@ with_world n world = record { lockstep = n; world = world }
 abbrev pub contents : {W : Type 0} → Node W → Contents W
 contents node = with_world (lockstep_of.contents node.lockstep) node.world
 
+-- whose a node is
+abbrev pub whose : {W : Type 0} → Contents W → lockstep_of.Whose
+whose n = lockstep_of.whose (locked n)
+
 -- a player's end as the node knows it
 abbrev pub end_in : {W : Type 0} → Contents W → ℕ → Option ℕ
 end_in n = lockstep_of.end_in (locked n)

@@ -1,30 +1,46 @@
 -- A call on a node is a step of the machine, or tells of its node.
-use Rattle.std.specs.Prelude.{ℕ, Bool}
+use Rattle.std.specs.Prelude.{ℕ, List}
 use Rattle.dn_world.specs.Physics.{Physics}
-use Rattle.dn_machine.specs.Worlds.{Rules, rules_of}
+use Rattle.dn_machine.specs.declared.answers.Heard.{Heard}
+use Rattle.dn_machine.specs.Calls as call
+use Rattle.dn_machine.specs.Limits.{Limits}
+use Rattle.dn_machine.specs.Worlds.{Rules}
 use Rattle.dn_machine.specs.Node as machine
-use Rattle.dn_node.specs.Contents.{Contents}
+use Rattle.dn_lockstep.specs.Hearing as lockstep
+use Rattle.dn_node.specs.Contents.{Contents, locked, whose}
 use Rattle.dn_node.specs.Represents.{Represents}
 
--- the node represents the machine's node after a step, and answers as the step does
-pub record IsAfter {W S A : Type 0} (state : W → S) (rules : Rules S) (me : ℕ) (n : Contents W)
-    (after : machine.Node × A) (IsAnswer : A → Type 0) : Type 0 where
-  pub node : Represents state rules me n after.0
-  pub answer : IsAnswer after.1
+-- the rules of a game of these limits
+abbrev pub under : {S : Type 0} → Physics S → Limits → Rules S
+under physics limits = record { physics = physics; limits = limits }
 
--- whatever node of the machine it represented, it represents afterwards what the step makes of that one
+-- what a node of a world of these physics represents
+abbrev pub Shows : {W S : Type 0} → (W → S) → Physics S → Limits → ℕ → Contents W → machine.Node → Type 0
+Shows state physics limits me n m = Represents state (under physics limits) me n m
+
+-- it represents the node after a step, and answers as the step does
+abbrev pub IsAfter : {W S A : Type 0} → (W → S) → Rules S → ℕ → Contents W → machine.Node × A → (A → Type 0)
+    → Type 0
+IsAfter state rules me n after IsAnswer = call.IsAfter (Represents state rules me) n after IsAnswer
+
+-- whatever node it represented, it represents afterwards what the step makes of that one, and it stays whose
+-- it is
 abbrev pub Steps : {W S A : Type 0} → (W → S) → Physics S → Contents W → Contents W
     → (Rules S → ℕ → machine.Node → machine.Node × A) → (A → Type 0) → Type 0
-Steps {W} {S} {A} state physics old new step IsAnswer =
-    (players : ℕ) (extra : Bool) (capacity me : ℕ) (m : machine.Node)
-    → Represents state (rules_of physics players extra capacity) me old m
-    → IsAfter state (rules_of physics players extra capacity) me new
-    (step (rules_of physics players extra capacity) me m) IsAnswer
+Steps state physics old new by IsAnswer =
+    call.Steps (Shows state physics) whose old new (λ limits. by (under physics limits)) IsAnswer
 
--- whatever node of the machine it represents, this holds of that one
+-- whatever node it represents, this holds of that one
 abbrev pub Tells : {W S : Type 0} → (W → S) → Physics S → Contents W → (Rules S → ℕ → machine.Node → Type 0)
     → Type 0
-Tells {W} {S} state physics n Fact =
-    (players : ℕ) (extra : Bool) (capacity me : ℕ) (m : machine.Node)
-    → Represents state (rules_of physics players extra capacity) me n m
-    → Fact (rules_of physics players extra capacity) me m
+Tells state physics n Fact = call.Tells (Shows state physics) n (λ limits. Fact (under physics limits))
+
+-- whatever the bytes are, they are heard as what they are read as
+abbrev pub HearsAny : {W S : Type 0} → (W → S) → Physics S → ℕ → List ℕ → Contents W → Contents W → Heard
+    → Type 0
+HearsAny state physics = lockstep.HearsAnyIn (Shows state physics) locked
+
+-- a flight from no more than 64 tics away is heard as itself
+abbrev pub HearsNear : {W S : Type 0} → (W → S) → Physics S → ℕ → List ℕ → Contents W → Contents W → Heard
+    → Type 0
+HearsNear state physics = lockstep.HearsNearIn (Shows state physics) locked

@@ -25,7 +25,7 @@ pub fn ended_demos_replay<W: World>()
         → Represents W.state (rules_of W.physics players extra capacity) me n m
         → m.played ≡ true → m.phase ≡ Ended cause → m.settings ≡ Some settings
         → IsReadAs n.demo.bytes (Ok (written_demo long_tics (start_of settings) me (seats_of players)
-        (demo_rows (rules_of W.physics players extra capacity) m))) }
+        (demo_rows players m))) }
     ensures world { (players : ℕ) (extra : Bool) (capacity me : ℕ) (n : Contents W) (m : machine.Node)
         (settings : Settings)
         → Represents W.state (rules_of W.physics players extra capacity) me n m
@@ -36,8 +36,8 @@ pub fn ended_demos_replay<W: World>()
         (settings : Settings)
         → Represents W.state (rules_of W.physics players extra capacity) me n m
         → m.played ≡ true → m.settings ≡ Some settings
-        → n.ran ≡ length (demo_rows (rules_of W.physics players extra capacity) m)
+        → n.ran ≡ length (demo_rows players m)
         → W.state n.world ≡ state_after W.physics (written_demo long_tics (start_of settings) me
         (seats_of players)
-        (demo_rows (rules_of W.physics players extra capacity) m)) }
+        (demo_rows players m)) }
 {}

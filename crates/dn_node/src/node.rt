@@ -1,7 +1,7 @@
 //! One player's node, and what it tells of itself.
 
-ghost use Rattle.std.specs.Prelude.{◌≡◌, nat_lt, if◌then◌else◌, Some, None, IfOk};
-ghost use Rattle.dn_lockstep.specs.Opening.{IsAdmitted};
+ghost use Rattle.std.specs.Prelude.{◌≡◌, ◌<◌, true, is_some, nat_lt, if◌then◌else◌, Some, None, IfOk};
+ghost use Rattle.dn_lockstep.specs.Opening.{IsAdmitted, whose_in};
 ghost use Rattle.dn_lockstep.specs.Rings.{count_of};
 
 mod stepping;
@@ -9,6 +9,7 @@ mod stepping;
 use dn_lockstep::{Config, Lockstep, NodeFault};
 use dn_machine::Phase;
 use dn_setup::Settings;
+use dn_tic::TicCmd;
 use dn_world::World;
 use std::alloc::Global;
 
@@ -25,7 +26,9 @@ impl<W: World> Node<W> {
     ghost use Rattle.dn_machine.specs.Game.{fresh};
     ghost use Rattle.dn_machine.specs.Node.{known_end};
     ghost use Rattle.dn_machine.specs.Worlds.{rules_of};
-    ghost use Rattle.dn_node.specs.Contents.{contents, end_in};
+    ghost use Rattle.dn_lockstep.specs.Commands.{last_held};
+    ghost use Rattle.dn_lockstep.specs.Told.{command_told};
+    ghost use Rattle.dn_node.specs.Contents.{contents, locked, whose, end_in};
     ghost use Rattle.dn_node.specs.Represents.{Represents};
     ghost use Rattle.dn_node.specs.Steps.{Tells};
 
@@ -39,7 +42,7 @@ impl<W: World> Node<W> {
             (capacity config.limit config.players)) config.me
             (contents node) (fresh settings config.me)) }
         ensures given { IfOk result (λ node. (contents node).world ≡ world) }
-        ensures room { IfOk result (λ node. (contents node).demo.limit ≡ config.limit) }
+        ensures whose { IfOk result (λ node. whose (contents node) ≡ whose_in config) }
     {
         let lockstep = Lockstep::new(alloc, config)?;
         Ok(Node { lockstep, world })
@@ -86,6 +89,19 @@ impl<W: World> Node<W> {
             then Some (count_of (contents self.now).rings player) else None) }
     {
         self.lockstep.got(player)
+    }
+
+    /// A player's command for a tic, with its letter of chat, which a move lacks: one of the last twelve that it
+    /// has of the player, so that of the next tic to be run is told as soon as it is there. None for another tic,
+    /// and for a number that is no player's.
+    pub fn command(&self, player: u8, tic: u32) -> Option<TicCmd>
+        ensures value { result ≡ command_told (locked (contents self.now)) player tic }
+        ensures told { Tells W.state W.physics (contents self.now)
+            (λ rules me m. result ≡ last_held rules.players m player tic) }
+        ensures next { player < (contents self.now).players → tic ≡ (contents self.now).ran
+            → tic < count_of (contents self.now).rings player → is_some result ≡ true }
+    {
+        self.lockstep.command(player, tic)
     }
 
     /// The choice of game: the key player's own from the beginning, another's from the start on.

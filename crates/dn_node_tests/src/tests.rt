@@ -36,6 +36,7 @@ mod lockstep;
 mod node;
 mod packet;
 mod ring;
+mod sealed;
 mod setup;
 mod tic;
 mod world;

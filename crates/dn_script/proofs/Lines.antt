@@ -5,7 +5,7 @@ use Rattle.std.proofs.lemmas.Bool.{eqb-false}
 use Rattle.std.proofs.lemmas.List.{append_cancel_left}
 use Rattle.std.proofs.lemmas.List.Elements.{All-head, All-tail}
 use Rattle.dn_machine.specs.declared.events.Event.{Event}
-use Rattle.dn_machine.specs.declared.events.Event.TheVariants.{Build, Send, Deliver, Run, Quit, Stop}
+use Rattle.dn_machine.specs.declared.events.Event.TheVariants.{Build, Give, Send, Deliver, Run, Quit, Stop}
 use Rattle.dn_script.specs.Words.{IsNumber, AreKeys}
 use Rattle.dn_script.specs.Lines.{HasNoSpace, IsLineOf}
 use Rattle.dn_script.proofs.Lacking.{is_lacking, lacks, number_lacks}
@@ -58,6 +58,7 @@ module _ (text a b : List ℕ) (cut : HasNoSpace a) (whole : text ≡ (a ++ code
       let words = one_way text a b n m cut (number_lacks 32 n node (omega arith) sender) whole (cc) in
       (node, to, subst (λ w. IsNumber w node) words.0 sender, subst (λ w. IsNumber w to) words.1 receiver)
   sent (Build node keys) (_, _, _, _, line) = absurd (heads_differ refl line)
+  sent (Give node command) never = absurd never
   sent (Deliver flight) (_, _, line) = absurd (heads_differ refl line)
   sent (Run node) (_, _, line) = absurd (heads_differ refl line)
   sent (Quit node) (_, _, line) = absurd (heads_differ refl line)
@@ -68,6 +69,7 @@ module _ (text a b : List ℕ) (cut : HasNoSpace a) (whole : text ≡ (a ++ code
   built (Build node keys) (n, k, number, held, line) =
       let words = one_way text a b n k cut (number_lacks 32 n node (omega arith) number) whole (cc) in
       (node, keys, subst (λ w. IsNumber w node) words.0 number, subst (λ w. AreKeys w keys) words.1 held)
+  built (Give node command) never = absurd never
   built (Send node to) (_, _, _, _, line) = absurd (heads_differ refl line)
   built (Deliver flight) (_, _, line) = absurd (heads_differ refl line)
   built (Run node) (_, _, line) = absurd (heads_differ refl line)
@@ -91,6 +93,7 @@ no_number verb word line p build send whole bad = go
 
     go : (e : Event) → ¬ IsLineOf e line
     go (Build node keys) (n, k, _, _, same) = build (cut (codes "build") _ refl same)
+    go (Give node command) never = never
     go (Send node to) (n, m, _, _, same) = send (cut (codes "send") _ refl same)
     go (Deliver flight) (n, number, same) = told (codes "deliver") n flight refl same number
     go (Run node) (n, number, same) = told (codes "run") n node refl same number

@@ -6,7 +6,7 @@ use Rattle.std.specs.Str.{bytes_eq}
 use Rattle.std.specs.Str.Parse.{digits_value}
 use Rattle.std.proofs.lemmas.List.Splits.{slice_split_at, slice_split_none}
 use Rattle.dn_machine.specs.declared.events.Event.{Event}
-use Rattle.dn_machine.specs.declared.events.Event.TheVariants.{Build, Send, Deliver, Run, Quit, Stop}
+use Rattle.dn_machine.specs.declared.events.Event.TheVariants.{Build, Give, Send, Deliver, Run, Quit, Stop}
 use Rattle.dn_script.specs.Words.{IsNumber, AreKeys}
 use Rattle.dn_script.specs.Lines.{HasNoSpace, IsLineOf}
 use Rattle.dn_script.proofs.Keys.{one_keys}
@@ -66,6 +66,7 @@ told_event others line (Quit node) (word, number, same) =
     told_number (codes "quit") word line others node (λ n. Quit n) number (ap words same) refl
 told_event others line (Stop node) (word, number, same) =
     told_number (codes "stop") word line others node (λ n. Stop n) number (ap words same) refl
+told_event others line (Give node command) never = absurd never
 told_event others line (Send node to) (n, m, number, other, same) =
     ap (λ l. event_of others (words l)) same
     ∙ ap (λ w. event_of others (codes "send" ∷ w))
@@ -85,11 +86,13 @@ agreed_keys line (Build node keys) (Build other down) (n, k, number, held, same)
     let text : (n ++ codes " ") ++ k ≡ (m ++ codes " ") ++ l = cc in
     let words = one_way _ n k m l (number_no_space n node number) (number_no_space m other third) refl text in
     one_keys k down keys (subst (λ w. AreKeys w down) words.1 pressed) held
+agreed_keys line (Build node keys) (Give other command) p q = refl
 agreed_keys line (Build node keys) (Send other to) p q = refl
 agreed_keys line (Build node keys) (Deliver flight) p q = refl
 agreed_keys line (Build node keys) (Run other) p q = refl
 agreed_keys line (Build node keys) (Quit other) p q = refl
 agreed_keys line (Build node keys) (Stop other) p q = refl
+agreed_keys line (Give node command) b p q = refl
 agreed_keys line (Send node to) b p q = refl
 agreed_keys line (Deliver flight) b p q = refl
 agreed_keys line (Run node) b p q = refl

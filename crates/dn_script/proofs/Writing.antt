@@ -12,7 +12,7 @@ use Rattle.std.proofs.lemmas.List.Splits.{slice_split_at, slice_split_none}
 use Rattle.std.proofs.lemmas.Nat.Bits.{bit_at-zero, bit_at-lt, same_from_bits_below}
 use Rattle.dn_tic.specs.Keys.{place_of}
 use Rattle.dn_machine.specs.declared.events.Event.{Event}
-use Rattle.dn_machine.specs.declared.events.Event.TheVariants.{Build, Send, Deliver, Run, Quit, Stop}
+use Rattle.dn_machine.specs.declared.events.Event.TheVariants.{Build, Give, Send, Deliver, Run, Quit, Stop}
 use Rattle.dn_script.specs.Words.{IsNumber, AreKeys, AreLetters, letters, place_in_letters}
 use Rattle.dn_script.specs.Lines.{lines, IsLineOf}
 use Rattle.dn_script.specs.Script.{size_limit, AreEventsOf, skipped, told, none, IsReadAs}
@@ -98,6 +98,7 @@ module _ (keys : ℕ) where
 words_read : (event : Event) → HasScriptLine event → IsLineOf event (event_words event)
 words_read (Build node keys) can =
     (decimal node, keys_word keys, number_written node can.0, keys_written keys can.1, refl)
+words_read (Give node command) can = can
 words_read (Send node to) can = (
   decimal node,
   decimal to,
@@ -128,6 +129,7 @@ words_no_feed : (event : Event) → HasScriptLine event → Lacks 10 (event_word
 words_no_feed (Build node keys) can =
     two_behind (codes "build ") (decimal node) (keys_word keys) refl (number_no_feed node can.0)
     (keys_lack 10 (keys_word keys) keys refl refl (keys_written keys can.1))
+words_no_feed (Give node command) can = absurd can
 words_no_feed (Send node to) can =
     two_behind (codes "send ") (decimal node) (decimal to) refl (number_no_feed node can.0)
     (number_no_feed to can.1)

@@ -2,7 +2,7 @@
 use Rattle.std.specs.Prelude.{◌≡◌, ◌⊎◌, ℕ, ◌==◌, false, List, [], ◌++◌, Option, Some, None, codes}
 use Rattle.std.specs.List.{slice_split, All}
 use Rattle.dn_machine.specs.declared.events.Event.{Event}
-use Rattle.dn_machine.specs.declared.events.Event.TheVariants.{Build, Send, Deliver, Run, Quit, Stop}
+use Rattle.dn_machine.specs.declared.events.Event.TheVariants.{Build, Give, Send, Deliver, Run, Quit, Stop}
 use Rattle.dn_script.specs.Words.{IsNumber, AreKeys}
 
 -- the lines of a text, without their line feeds. What follows the last line feed counts as a line too: where
@@ -33,10 +33,11 @@ quit_line node = codes "quit " ++ node
 abbrev pub stop_line : List ℕ → List ℕ
 stop_line node = codes "stop " ++ node
 
--- the line of an event
+-- the line of an event; a command that is given has none
 abbrev pub IsLineOf : Event → List ℕ → Type 0
 IsLineOf (Build node keys) line =
     (n : List ℕ) × (k : List ℕ) × IsNumber n node × AreKeys k keys × (line ≡ build_line n k)
+IsLineOf (Give node command) line = ⊥
 IsLineOf (Send node to) line =
     (n : List ℕ) × (m : List ℕ) × IsNumber n node × IsNumber m to × (line ≡ send_line n m)
 IsLineOf (Deliver flight) line = (n : List ℕ) × IsNumber n flight × (line ≡ deliver_line n)

@@ -6,8 +6,8 @@ ghost use Rattle.dn_machine.specs.declared.events.Event.{Event};
 ghost use Rattle.dn_script.specs.Script.{IsReadAs, size_limit};
 ghost use Rattle.dn_script.specs.Written.{HasScriptLine, script_text};
 
-/// What is written for a list of events is read as these events, if their numbers have at most nine digits
-/// and the text is not too long.
+/// What is written for a list of events is read as these events, if none of them gives a command, their
+/// numbers have at most nine digits, and the text is not too long.
 pub fn written_scripts_are_read()
     ensures { (events : List Event) → All HasScriptLine events → length (script_text events) ≤ size_limit
         → IsReadAs (script_text events) (Ok events) }

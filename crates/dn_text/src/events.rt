@@ -4,11 +4,11 @@ ghost use Rattle.std.specs.Prelude.{◌≡◌, ◌<◌, ℕ, ◌++◌, [], ◌�
 ghost use Rattle.std.specs.String.{string_bytes};
 ghost use Rattle.dn_script.specs.Words.{letters};
 ghost use Rattle.dn_script.specs.Written.{letters_down, keys_word, event_words, event_line};
-ghost use Rattle.dn_machine.specs.declared.events.Event.TheVariants.{Build, Send};
+ghost use Rattle.dn_machine.specs.declared.events.Event.TheVariants.{Build, Give, Send};
 
-use crate::fields::push_number;
+use crate::fields::{push_fields, push_number};
 use dn_game::Event;
-use dn_tic::Keys;
+use dn_tic::{Command, Keys};
 use std::alloc::AllocError;
 
 /// How many keys there are.
@@ -73,6 +73,21 @@ fn push_build(text: &mut String, node: u32, keys: Keys) -> Result<(), AllocError
     push_keys(text, keys)
 }
 
+/// A given command: its node and its fields.
+fn push_give(text: &mut String, node: u32, command: Command) -> Result<(), AllocError>
+    ensures { OnOk result (string_bytes text.new ≡ string_bytes text.old ++ event_words (Give node command)) }
+{
+    let fields = [
+        ("give ", node as i128),
+        (" forward ", command.forward as i128),
+        (" side ", command.side as i128),
+        (" turn ", command.turn as i128),
+        (" chat ", command.chat as i128),
+        (" buttons ", command.buttons as i128),
+    ];
+    push_fields(text, &fields)
+}
+
 /// A send in the words of a script.
 fn push_send(text: &mut String, node: u32, to: u32) -> Result<(), AllocError>
     ensures { OnOk result (string_bytes text.new ≡ string_bytes text.old ++ event_words (Send node to)) }
@@ -81,12 +96,13 @@ fn push_send(text: &mut String, node: u32, to: u32) -> Result<(), AllocError>
     push_number(text, " ", to)
 }
 
-/// An event in the words of a script.
+/// An event in the words of a script, or in those of a given command.
 pub(crate) fn push_event(text: &mut String, event: Event) -> Result<(), AllocError>
     ensures { OnOk result (string_bytes text.new ≡ string_bytes text.old ++ event_words event) }
 {
     match event {
         Event::Build { node, keys } => push_build(text, node, keys),
+        Event::Give { node, command } => push_give(text, node, command),
         Event::Send { node, to } => push_send(text, node, to),
         Event::Deliver(which) => push_number(text, "deliver ", which),
         Event::Run(node) => push_number(text, "run ", node),

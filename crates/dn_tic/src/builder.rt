@@ -1,9 +1,13 @@
-//! The command that a list of key states makes.
+//! The command that a list of inputs makes.
 
 ghost use Rattle.std.specs.Prelude.{◌≡◌, ◌≤◌, ◌≤ℤ◌, pos, negsuc, List, ℕ, [], ◌∷◌, ◌++◌};
-ghost use Rattle.dn_tic.specs.Pressed.{turn_hold, pressed};
+ghost use Rattle.dn_tic.specs.declared.input.Input.{Input};
+ghost use Rattle.dn_tic.specs.declared.input.Input.TheVariants.{Pressed, Given};
+ghost use Rattle.dn_tic.specs.Pressed.{turn_hold};
+ghost use Rattle.dn_tic.specs.Inputs.{hold_of, made_by};
 
 use crate::command::TicCmd;
+use crate::input::{Command, Input, marked};
 use crate::keys::{Key, Keys};
 use crate::moves::{FAST_TURNS, buttons, forward_move, side_move, turn};
 use std::marker::Model;
@@ -43,14 +47,15 @@ impl Model for Builder {
 impl Builder {
     /// A builder that has built nothing.
     pub fn new() -> Builder
-        ensures { result ≡ turn_hold [] }
+        ensures { result ≡ hold_of [] }
     {
         Builder { hold: 0 }
     }
 
     /// For how many builds in succession a turn key was down, six at the most.
     pub fn held(&self) -> u8
-        ensures { result ≡ self.now }
+        ensures value { result ≡ self.now }
+        ensures most { result ≤ 6 }
     {
         let Builder { hold } = *self;
         hold
@@ -58,12 +63,12 @@ impl Builder {
 
     /// The command of these keys, with this consistency mark.
     pub fn build(&mut self, keys: Keys, mark: i16) -> TicCmd
-        ensures command { (states : List ℕ) → self.old ≡ turn_hold states
-            → result ≡ pressed (states ++ keys ∷ []) mark }
+        ensures command { (inputs : List Input) → self.old ≡ hold_of inputs
+            → result ≡ made_by (inputs ++ Pressed keys ∷ []) mark }
         ensures least { negsuc 49 ≤ℤ result.forward }
         ensures most { result.forward ≤ℤ pos 50 }
-        ensures hold { (states : List ℕ) → self.old ≡ turn_hold states
-            → self.new ≡ turn_hold (states ++ keys ∷ []) }
+        ensures hold { (inputs : List Input) → self.old ≡ hold_of inputs
+            → self.new ≡ hold_of (inputs ++ Pressed keys ∷ []) }
     {
         self.hold = next_hold(self.hold, keys);
         TicCmd {
@@ -73,6 +78,32 @@ impl Builder {
             mark,
             chat: 0,
             buttons: buttons(keys),
+        }
+    }
+
+    /// The given command, with this consistency mark. It counts as a build in which no key was down.
+    pub fn give(&mut self, command: Command, mark: i16) -> TicCmd
+        ensures command { (inputs : List Input) → result ≡ made_by (inputs ++ Given command ∷ []) mark }
+        ensures least { negsuc 126 ≤ℤ result.forward }
+        ensures hold { (inputs : List Input) → self.old ≡ hold_of inputs
+            → self.new ≡ hold_of (inputs ++ Given command ∷ []) }
+    {
+        self.hold = next_hold(self.hold, Keys::default());
+        marked(command, mark)
+    }
+
+    /// The command of this input, with this consistency mark.
+    #[inline(always)]
+    pub fn make(&mut self, input: Input, mark: i16) -> TicCmd
+        ensures command { (inputs : List Input) → self.old ≡ hold_of inputs
+            → result ≡ made_by (inputs ++ input ∷ []) mark }
+        ensures least { negsuc 126 ≤ℤ result.forward }
+        ensures hold { (inputs : List Input) → self.old ≡ hold_of inputs
+            → self.new ≡ hold_of (inputs ++ input ∷ []) }
+    {
+        match input {
+            Input::Pressed(keys) => self.build(keys, mark),
+            Input::Given(command) => self.give(command, mark),
         }
     }
 }

@@ -87,7 +87,8 @@ impl Keys {
 
     /// The bits of the keys that are down.
     pub fn bits(&self) -> u32
-        ensures { result ≡ self.now }
+        ensures value { result ≡ self.now }
+        ensures below { result < 2 ^ 18 }
     {
         self.bits
     }

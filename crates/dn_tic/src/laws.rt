@@ -1,9 +1,12 @@
 //! What holds of all commands and tics.
 
-ghost use Rattle.std.specs.Prelude.{◌≡◌, ◌≤◌, ◌+◌, ◌%◌, ◌≤ℤ◌, ℕ, ℤ, pos, negsuc, List, Some};
+ghost use Rattle.std.specs.Prelude.{◌≡◌, ◌≤◌, ◌+◌, ◌%◌, ◌≤ℤ◌, ℕ, ℤ, pos, negsuc, List, map, Some};
 ghost use Rattle.dn_tic.specs.declared.command.TicCmd.{TicCmd};
 ghost use Rattle.dn_tic.specs.Command.{command_bytes, IsCommand};
-ghost use Rattle.dn_tic.specs.Pressed.{pressed};
+ghost use Rattle.dn_tic.specs.declared.input.Input.{Input};
+ghost use Rattle.dn_tic.specs.declared.input.Input.TheVariants.{Pressed};
+ghost use Rattle.dn_tic.specs.Pressed.{turn_hold, pressed};
+ghost use Rattle.dn_tic.specs.Inputs.{hold_of, made_by};
 ghost use Rattle.dn_tic.specs.Tics.{exact_tic};
 
 /// Eight bytes are those of one command.
@@ -20,4 +23,15 @@ pub fn near_tics()
 pub fn pressed_forward()
     ensures low { (states : List ℕ) (mark : ℤ) → negsuc 49 ≤ℤ (pressed states mark).forward }
     ensures high { (states : List ℕ) (mark : ℤ) → (pressed states mark).forward ≤ℤ pos 50 }
+{}
+
+/// A command of any inputs goes forward by -127 at least, so none reads as the end of a demo.
+pub fn made_forward()
+    ensures { (inputs : List Input) (mark : ℤ) → negsuc 126 ≤ℤ (made_by inputs mark).forward }
+{}
+
+/// Where no command is given, inputs make what their key states press, and hold the turn keys as these do.
+pub fn pressed_alone()
+    ensures command { (states : List ℕ) (mark : ℤ) → made_by (map Pressed states) mark ≡ pressed states mark }
+    ensures hold { (states : List ℕ) → hold_of (map Pressed states) ≡ turn_hold states }
 {}

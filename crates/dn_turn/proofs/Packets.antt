@@ -30,7 +30,7 @@ spoken sends me to (Some flight) bytes answer old new e s =
 
 -- below the number of players a packet is the machine's own
 pub as_sent : {S : Type 0} (rules : Rules S) (me to : ℕ) (m : machine.Node) → nat_lt to rules.players ≡ true
-    → sent_to to rules me m ≡ on_send rules me m to
+    → sent_to to rules.limits me m ≡ on_send rules.limits me m to
 as_sent rules me to m below = rw below refl
 
 -- what a send adds to the counts
@@ -47,12 +47,12 @@ pub given_more : {S L : Type 0} (sends : Sends L) (rules : Rules S) (me to : ℕ
     (answer : Option (Result Done LineFault)) (start : Giving L) (m : machine.Node) (old new : L)
     (before after : Given)
     → to < rules.players → Gives sends rules me to start (giving m old before)
-    → SendsOne sends me to (sent_to to rules me m).1 answer old new → IsCounted answer before after
-    → Gives sends rules me (to + 1) start (giving (sent_to to rules me m).0 new after)
+    → SendsOne sends me to (sent_to to rules.limits me m).1 answer old new → IsCounted answer before after
+    → Gives sends rules me (to + 1) start (giving (sent_to to rules.limits me m).0 new after)
 given_more {S} {L} sends rules me to answer start m old new before after below so_far line counted =
     let same = as_sent rules me to m (lt-ltb _ _ below) in
     let Line : machine.Node × Option Flight → Type 0 = λ s. SendsOne sends me to s.1 answer old new in
-    let P : ℕ → Type 0 = λ k. Gives sends rules me k start (giving (sent_to to rules me m).0 new after) in
+    let P : ℕ → Type 0 = λ k. Gives sends rules me k start (giving (sent_to to rules.limits me m).0 new after) in
     let next : suc to ≡ to + 1 = omega arith in
     subst P next (
       giving m old before,

@@ -1,5 +1,5 @@
 -- A turn at one place.
-use Rattle.std.proofs.Common.{◌<◌, ℕ, List, length, set}
+use Rattle.std.proofs.Common.{arith, ◌<◌, ℕ, List, length, set}
 use Rattle.dn_world.specs.Physics.{Physics}
 use Rattle.dn_machine.specs.Node.{put}
 use Rattle.dn_machine.proofs.Put.{set_and_put}
@@ -17,3 +17,7 @@ pub seated_with : {W S : Type 0} (state : W → S) (physics : Physics S) (nodes 
 seated_with {W} {S} state physics nodes seats place n seat before below is =
     set_and_put (λ (i : ℕ) (x : Node W) (s : Seat). Represents state (rules_at physics s) s.me (contents x) s.node)
     nodes seats place n seat before below is
+
+-- a node's number is that of one of four players
+pub one_of_four : {W : Type 0} (n : Node W) → (contents n).me < 4
+one_of_four n = omega (arith, n.lockstep.me_below, n.lockstep.few)

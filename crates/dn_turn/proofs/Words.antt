@@ -1,5 +1,7 @@
 -- One word after another.
-use Rattle.std.proofs.Common.{◌≡◌, ◌+◌, ℕ, zero, suc, refl, ap, ◌∙◌, arith}
+use Rattle.std.proofs.Common.{◌≡◌, [], ◌∷◌, ◌+◌, ℕ, zero, suc, refl, ap, ◌∙◌, arith}
+use Rattle.dn_tic.specs.declared.input.Input.{Input}
+use Rattle.dn_turn.specs.Rounds.{AreOf}
 use Rattle.rand_pcg.specs.Lcg.{Lcg, next, advance, next_state, state_after}
 
 after_one : (w m increment n state : ℕ) → next_state w m increment (state_after w m increment n state)
@@ -18,3 +20,12 @@ one_more w m n g =
 pub no_more : (w m : ℕ) (g : Lcg) → g ≡ advance w m 0 g
 unfolding state_after
 no_more w m g = refl
+
+-- four inputs, each of which is that of its player
+pub of_four : (by : ℕ → Input) (a b c d : Input) → a ≡ by 0 → b ≡ by 1 → c ≡ by 2 → d ≡ by 3
+    → AreOf by (a ∷ b ∷ c ∷ d ∷ [])
+of_four by a b c d zeroth first second third zero below = zeroth
+of_four by a b c d zeroth first second third (suc zero) below = first
+of_four by a b c d zeroth first second third (suc (suc zero)) below = second
+of_four by a b c d zeroth first second third (suc (suc (suc zero))) below = third
+of_four by a b c d zeroth first second third (suc (suc (suc (suc n)))) below = absurd (omega (arith, below))

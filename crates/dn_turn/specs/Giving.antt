@@ -44,8 +44,8 @@ pub record Giving (L : Type 0) : Type 0 where
 pub record GivesOne {S L : Type 0} (sends : Sends L) (rules : Rules S) (me to : ℕ)
     (old new : Giving L) : Type 0 where
   pub answer : Option (Result Done LineFault)
-  pub line : SendsOne sends me to (on_send rules me old.node to).1 answer old.line new.line
-  pub node : new.node ≡ (on_send rules me old.node to).0
+  pub line : SendsOne sends me to (on_send rules.limits me old.node to).1 answer old.line new.line
+  pub node : new.node ≡ (on_send rules.limits me old.node to).0
   pub sent : new.sent ≡ old.sent + sent_by answer
   pub failed : new.failed ≡ old.failed + failed_by answer
 

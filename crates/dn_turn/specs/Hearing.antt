@@ -27,7 +27,7 @@ pub record Reading (bytes : List ℕ) : Type 0 where
 pub record Receives {S : Type 0} (rules : Rules S) (me : ℕ) (old : machine.Node) (datagram : Datagram)
     (new : machine.Node) : Type 0 where
   pub reading : Reading datagram.bytes.items
-  pub after : new ≡ (received rules me old datagram.from reading.told reading.read).0
+  pub after : new ≡ (received rules.limits me old datagram.from reading.told reading.read).0
 
 -- a poll finds a datagram, which is received
 pub record HearsOne {S L : Type 0} (polls : Polls L) (rules : Rules S) (me : ℕ)

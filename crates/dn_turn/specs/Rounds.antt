@@ -1,7 +1,9 @@
 -- Rounds: turns of all nodes, one after another.
-use Rattle.std.specs.Prelude.{◌≡◌, ℕ, zero, suc, ◌%◌, ◌^◌, Bool, List, Some, slice_get}
+use Rattle.std.specs.Prelude.{◌≡◌, ◌<◌, ℕ, zero, suc, ◌%◌, ◌^◌, Bool, List, Some, slice_get, slice_index_or}
 use Rattle.rand_pcg.specs.Lcg.{started, advance, increment_of}
 use Rattle.rand_pcg.specs.Pcg.{multiplier_64, pcg32}
+use Rattle.dn_tic.specs.declared.input.Input.{Input}
+use Rattle.dn_tic.specs.declared.input.Input.TheVariants.{Pressed}
 use Rattle.dn_world.specs.Physics.{Physics}
 use Rattle.dn_machine.specs.Worlds.{Rules, rules_of}
 use Rattle.dn_machine.specs.Node as machine
@@ -19,6 +21,18 @@ abbrev pub keys_in : ℕ → ℕ → ℕ → ℕ
 keys_in seed round player =
     (pcg32 (advance 64 multiplier_64 round (started 64 multiplier_64 seed (increment_of 64 player)))).0 % 2 ^
     18
+
+-- each player presses these keys of the round
+abbrev pub drawn_in : ℕ → ℕ → ℕ → Input
+drawn_in seed round player = Pressed (keys_in seed round player)
+
+-- the input that is a player's own among these, and no key for one who has none
+abbrev pub input_of : List Input → ℕ → Input
+input_of inputs player = slice_index_or inputs player (Pressed 0)
+
+-- the inputs of four players, by their numbers
+abbrev pub AreOf : (ℕ → Input) → List Input → Type 0
+AreOf by inputs = (player : ℕ) → player < 4 → input_of inputs player ≡ by player
 
 -- a node of the machine in its game: the number of players, whether packets repeat the last command, how
 -- many tics fit into a demo, and the node's number
@@ -42,31 +56,31 @@ AreSeated {W} state physics nodes seats =
 abbrev pub Table : Type 0 → Type 0
 Table L = (ℕ → Seat) × L
 
--- the node at one place takes a turn with its player's keys, and all others stay
-pub record TakesTurn {S L : Type 0} (sends : Sends L) (polls : Polls L) (physics : Physics S) (keys : ℕ → ℕ)
+-- the node at one place takes a turn with its player's input, and all others stay
+pub record TakesTurn {S L : Type 0} (sends : Sends L) (polls : Polls L) (physics : Physics S) (inputs : ℕ → Input)
     (place : ℕ) (old new : Table L) : Type 0 where
   pub after : machine.Node
   pub turned : Turned
   pub turn : let seat = old.0 place in
-      IsTurn sends polls (rules_at physics seat) seat.me (keys seat.me) (seat.node, old.1) (after, new.1)
+      IsTurn sends polls (rules_at physics seat) seat.me (inputs seat.me) (seat.node, old.1) (after, new.1)
       turned
   pub seats : new.0 ≡ put old.0 place (record (old.0 place) { node = after })
 
 -- each node up to this place takes a turn, in the order of the places
-abbrev pub TakeTurns : {S L : Type 0} → Sends L → Polls L → Physics S → (ℕ → ℕ) → ℕ → Table L → Table L
+abbrev pub TakeTurns : {S L : Type 0} → Sends L → Polls L → Physics S → (ℕ → Input) → ℕ → Table L → Table L
     → Type 0
-TakeTurns sends polls physics keys zero old new = new ≡ old
-TakeTurns {S} {L} sends polls physics keys (suc place) old new =
-    (mid : Table L) × TakeTurns sends polls physics keys place old mid
-    × TakesTurn sends polls physics keys place mid new
+TakeTurns sends polls physics inputs zero old new = new ≡ old
+TakeTurns {S} {L} sends polls physics inputs (suc place) old new =
+    (mid : Table L) × TakeTurns sends polls physics inputs place old mid
+    × TakesTurn sends polls physics inputs place mid new
 
--- this many rounds of turns of this many nodes
+-- this many rounds of turns of this many nodes, with keys drawn from the seed
 abbrev pub TakeRounds : {S L : Type 0} → Sends L → Polls L → Physics S → ℕ → ℕ → ℕ → Table L → Table L
     → Type 0
 TakeRounds sends polls physics seed nodes zero old new = new ≡ old
 TakeRounds {S} {L} sends polls physics seed nodes (suc round) old new =
     (mid : Table L) × TakeRounds sends polls physics seed nodes round old mid
-    × TakeTurns sends polls physics (keys_in seed round) nodes mid new
+    × TakeTurns sends polls physics (drawn_in seed round) nodes mid new
 
 -- whatever seats the nodes have, they have afterwards ones that this leads to, and so has the line
 pub record AreLed {W S : Type 0} (state : W → S) (physics : Physics S) (new : List (Node W))

@@ -2,9 +2,7 @@
 use Rattle.std.specs.Prelude.{◌≡◌, ℕ}
 use Rattle.rand_pcg.specs.Lcg.{Lcg, started, advance, increment_of}
 use Rattle.rand_pcg.specs.Pcg.{multiplier_64}
-use Rattle.dn_turn.specs.Rounds.{keys_in}
 use Rattle.dn_turn.specs.declared.streams.Streams.{Streams}
-use Rattle.dn_turn.specs.declared.streams.RoundKeys.{RoundKeys}
 
 -- a player's generator before a round
 abbrev pub stream_at : (seed round player : ℕ) → Lcg
@@ -17,10 +15,3 @@ pub record AreAt (seed round : ℕ) (streams : Streams) : Type 0 where
   pub one : streams.one ≡ stream_at seed round 1
   pub two : streams.two ≡ stream_at seed round 2
   pub three : streams.three ≡ stream_at seed round 3
-
--- each player's keys in this round
-pub record AreKeys (seed round : ℕ) (keys : RoundKeys) : Type 0 where
-  pub zero : keys.zero ≡ keys_in seed round 0
-  pub one : keys.one ≡ keys_in seed round 1
-  pub two : keys.two ≡ keys_in seed round 2
-  pub three : keys.three ≡ keys_in seed round 3

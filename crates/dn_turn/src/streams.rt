@@ -1,10 +1,10 @@
 //! The words that the players' keys are drawn from.
 
-ghost use Rattle.std.specs.Prelude.{◌≡◌, ◌<◌, ◌+◌, ℕ, ◌%◌, ◌^◌};
+ghost use Rattle.std.specs.Prelude.{◌≡◌, ◌+◌, ℕ, ◌%◌, ◌^◌};
 ghost use Rattle.rand_pcg.specs.Pcg.{pcg32};
-ghost use Rattle.dn_turn.specs.Rounds.{keys_in};
+ghost use Rattle.dn_turn.specs.Rounds.{AreOf, drawn_in};
 
-use dn_tic::Keys;
+use dn_tic::{Input, Keys};
 use rand_core::utils::NextWord;
 use rand_pcg::Lcg64Xsh32;
 
@@ -17,15 +17,6 @@ pub(crate) struct Streams {
     three: Lcg64Xsh32,
 }
 
-/// The keys of four players in a round.
-#[derive(Drop)]
-pub(crate) struct RoundKeys {
-    zero: Keys,
-    one: Keys,
-    two: Keys,
-    three: Keys,
-}
-
 /// The keys of the next word.
 fn drawn(stream: &mut Lcg64Xsh32) -> Keys
     ensures keys { result ≡ (pcg32 stream.old).0 % 2 ^ 18 }
@@ -35,7 +26,7 @@ fn drawn(stream: &mut Lcg64Xsh32) -> Keys
 }
 
 impl Streams {
-    ghost use Rattle.dn_turn.specs.Streams.{AreAt, AreKeys};
+    ghost use Rattle.dn_turn.specs.Streams.{AreAt};
 
     /// The generators before the first round.
     pub(crate) fn new(seed: u64) -> Streams
@@ -49,33 +40,16 @@ impl Streams {
         }
     }
 
-    /// The players' keys in the next round.
-    pub(crate) fn draw(&mut self) -> RoundKeys
-        ensures keys { (seed round : ℕ) → AreAt seed round self.old → AreKeys seed round result }
+    /// What the players press in the next round.
+    pub(crate) fn draw(&mut self) -> [Input; 4]
+        ensures keys { (seed round : ℕ) → AreAt seed round self.old → AreOf (drawn_in seed round) result }
         ensures next { (seed round : ℕ) → AreAt seed round self.old → AreAt seed (round + 1) self.new }
     {
-        RoundKeys {
-            zero: drawn(&mut self.zero),
-            one: drawn(&mut self.one),
-            two: drawn(&mut self.two),
-            three: drawn(&mut self.three),
-        }
-    }
-}
-
-impl RoundKeys {
-    ghost use Rattle.dn_turn.specs.Streams.{AreKeys};
-
-    /// A player's keys.
-    pub(crate) fn of(&self, player: u8) -> Keys
-        requires { player < 4 }
-        ensures { (seed round : ℕ) → AreKeys seed round self.now → result ≡ keys_in seed round player }
-    {
-        match player {
-            0 => self.zero,
-            1 => self.one,
-            2 => self.two,
-            _ => self.three,
-        }
+        [
+            Input::Pressed(drawn(&mut self.zero)),
+            Input::Pressed(drawn(&mut self.one)),
+            Input::Pressed(drawn(&mut self.two)),
+            Input::Pressed(drawn(&mut self.three)),
+        ]
     }
 }

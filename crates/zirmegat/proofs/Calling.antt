@@ -1,7 +1,8 @@
 -- What a call does to a handle, by what it does to what the handle held.
 use Rattle.std.proofs.Common.{◌≡◌, sym, ap, subst}
-use Rattle.std.specs.Prelude.{ℕ, Bool, true, Option, Some, None, if◌then◌else◌}
+use Rattle.std.specs.Prelude.{Bool, true, Option, Some, None, if◌then◌else◌}
 use Rattle.dn_machine.specs.declared.answers.Made.{Made}
+use Rattle.dn_tic.specs.declared.input.Input.{Input}
 use Rattle.dn_machine.specs.Building.{on_build}
 use Rattle.dn_lockstep.specs.declared.lockstep.Lockstep.{Lockstep}
 use Rattle.dn_lockstep.specs.Contents.{Contents, contents}
@@ -27,11 +28,11 @@ calls_lent h n m Step Empty live held step =
     ap (λ (b : Bool). if b then Some (contents m) else None) live in
     calls_held Step Empty (contents n) (contents m) held left step
 
--- the same keys are built the same
-pub builds_same : {old new : Contents} {made : Made} {keys down : ℕ} → keys ≡ down
-    → Steps old new (λ rules me m. on_build rules me m keys) (λ answer. made ≡ answer)
-    → Steps old new (λ rules me m. on_build rules me m down) (λ answer. made ≡ answer)
+-- the same input is built the same
+pub builds_same : {old new : Contents} {made : Made} {input other : Input} → input ≡ other
+    → Steps old new (λ limits me m. on_build me m input) (λ answer. made ≡ answer)
+    → Steps old new (λ limits me m. on_build me m other) (λ answer. made ≡ answer)
 builds_same {old} {new} {made} same steps =
-    let P : ℕ → Type 0 = λ keys. Steps old new (λ rules me m. on_build rules me m keys)
+    let P : Input → Type 0 = λ input. Steps old new (λ limits me m. on_build me m input)
     (λ answer. made ≡ answer) in
     subst P same steps

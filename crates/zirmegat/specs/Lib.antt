@@ -5,5 +5,6 @@ pub mod Answers
 pub mod Opening
 pub mod Going
 pub mod Fields
+pub mod Commands
 pub mod Upgrading
 pub mod Demos

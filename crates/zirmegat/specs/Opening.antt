@@ -2,14 +2,11 @@
 use Rattle.std.specs.Prelude.{◌≡◌, ◌≢◌, ℕ, ◌==◌, Bool, not, Option, Some, None, Result, Ok, Err}
 use Rattle.dn_setup.specs.Settings.{Settings, choice, IsCheckedAs}
 use Rattle.dn_setup.specs.declared.settings.SettingsFault.{SettingsFault}
-use Rattle.dn_demo.specs.Recorded.{capacity}
 use Rattle.dn_machine.specs.Game.{fresh}
-use Rattle.dn_machine.specs.Worlds.{rules_of}
 use Rattle.dn_lockstep.specs.declared.config.Config.{Config}
 use Rattle.dn_lockstep.specs.declared.config.NodeFault.{NodeFault}
-use Rattle.dn_lockstep.specs.Contents.{Contents}
-use Rattle.dn_lockstep.specs.Marking.{Marking, free}
-use Rattle.dn_lockstep.specs.Opening.{IsAdmitted}
+use Rattle.dn_lockstep.specs.Contents.{Contents, whose}
+use Rattle.dn_lockstep.specs.Opening.{IsAdmitted, limits_in, whose_in}
 use Rattle.dn_lockstep.specs.Represents.{Represents}
 use Rattle.zirmegat.specs.declared.config.NodeConfig.{NodeConfig}
 use Rattle.zirmegat.specs.declared.config.GameSettings.{GameSettings}
@@ -47,16 +44,13 @@ fault_code NodeFault.Memory = 5
 
 -- a node with no history
 abbrev pub IsFresh : Config → Contents → Type 0
-IsFresh config n = (marking : Marking) (settings : Settings)
-    → (config.me ≡ 0 → config.settings ≡ Some settings)
-    → Represents (rules_of (free marking) config.players config.extra (capacity config.limit config.players))
-    config.me n
-    (fresh settings config.me)
+IsFresh config n = (settings : Settings) → (config.me ≡ 0 → config.settings ≡ Some settings)
+    → Represents (limits_in config) config.me n (fresh settings config.me)
 
--- 0 and the node that was made, whose demo has the room that it may have, or why there is none
+-- 0 and the node that was made, of the player and the game that the configuration says, or why there is none
 abbrev pub IsMade : Config → Result Contents NodeFault → ℕ → Option Contents → Type 0
 IsMade config (Ok made) code node = (code ≡ 0) × (node ≡ Some made) × IsFresh config made
-    × (made.demo.limit ≡ config.limit)
+    × (whose made ≡ whose_in config)
 IsMade config (Err fault) code node = (code ≡ fault_code fault) × (node ≡ None)
 
 abbrev pub OpensBy : NodeConfig → Result (Option Settings) SettingsFault → ℕ → Option Contents → Type 0

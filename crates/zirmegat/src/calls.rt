@@ -3,6 +3,7 @@
 ghost use Rattle.std.specs.Prelude.{◌≡◌, ◌<◌, ◌≤◌, ℕ, ◌%◌, ◌^◌, Bool, List, length, map, Option, None, is_some};
 ghost use Rattle.std.specs.Option.{option_map};
 ghost use Rattle.dn_tic.specs.declared.command.Move.{Move as Step};
+ghost use Rattle.dn_tic.specs.declared.input.Input.TheVariants.{Pressed};
 ghost use Rattle.dn_setup.specs.Starts.{bit};
 ghost use Rattle.dn_machine.specs.declared.answers.Made.{Made as Built};
 ghost use Rattle.dn_machine.specs.declared.answers.Heard.{Heard as Hearing};
@@ -33,7 +34,7 @@ const NOT_PLAYING: u8 = 13;
 pub extern "C" fn zmg_node_build(node: &mut NodeHandle, keys: u32) -> BuildAnswer
     ensures { Calls (node_of node.old) (node_of node.new)
         (λ n k. (made : Built) × (result ≡ made_told made)
-        × Builds (keys % 2 ^ 18) n k made)
+        × Builds (Pressed (keys % 2 ^ 18)) n k made)
         (result ≡ made_told Made.NotPlaying) }
 {
     match node.held() {
@@ -47,7 +48,7 @@ pub extern "C" fn zmg_node_build(node: &mut NodeHandle, keys: u32) -> BuildAnswe
 pub extern "C" fn zmg_node_aim(node: &mut NodeHandle, to: u8) -> AimAnswer
     ensures { Reads (node_of node.old) (node_of node.new)
         (λ n. (aim : Option Aimed) × (result ≡ aim_told aim)
-        × Steps n n (λ rules me m. (m, (sent_to to rules me m).1)) (λ flight. aim ≡ option_map aim_of flight)
+        × Steps n n (λ limits me m. (m, (sent_to to limits me m).1)) (λ flight. aim ≡ option_map aim_of flight)
         × (is_some aim ≡ gives n to))
         (result ≡ aim_told None) }
 {

@@ -2,13 +2,14 @@
 //! what needs no node: datagrams as fields, and demos.
 //!
 //! The header is bindings/c/zirmegat.h. Every number is tested here, and a handle that holds nothing
-//! answers as a node that does not play. A caller owes valid pointers, the use of a handle on its own thread
-//! alone, and the marks of its own world.
+//! answers as a node that does not play. A caller owes valid pointers, the use of a handle by one thread at a
+//! time, and the marks of its own world.
 #![tactic(auto)]
 
 mod answers;
 mod bytes;
 mod calls;
+mod commands;
 mod config;
 mod demo_answers;
 mod demo_handle;

@@ -1,8 +1,8 @@
 //! Making nodes, and giving them up.
 
 ghost use Rattle.std.specs.Prelude.{◌≡◌, None, IfOk};
-ghost use Rattle.dn_lockstep.specs.Contents.{contents};
-ghost use Rattle.dn_lockstep.specs.Opening.{IsAdmitted};
+ghost use Rattle.dn_lockstep.specs.Contents.{contents, whose};
+ghost use Rattle.dn_lockstep.specs.Opening.{IsAdmitted, whose_in};
 ghost use Rattle.zirmegat.specs.Calls.{node_of};
 ghost use Rattle.zirmegat.specs.Opening.{IsFresh, Opens};
 
@@ -15,7 +15,7 @@ use std::alloc::Global;
 fn boxed(alloc: Global, config: Config) -> Result<Box<Lockstep>, NodeFault>
     ensures admitted { IsAdmitted config result }
     ensures fresh { IfOk result (λ made. IsFresh config (contents made.value)) }
-    ensures room { IfOk result (λ made. (contents made.value).demo.limit ≡ config.limit) }
+    ensures whose { IfOk result (λ made. whose (contents made.value) ≡ whose_in config) }
 {
     let made = Lockstep::new(alloc, config)?;
     match Box::new(alloc, made) {

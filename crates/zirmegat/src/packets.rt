@@ -33,7 +33,7 @@ pub struct CommandFields {
 
 impl CommandFields {
     /// A command, and all 0 for none.
-    fn of(command: Option<TicCmd>) -> CommandFields
+    pub(crate) fn of(command: Option<TicCmd>) -> CommandFields
         ensures { result ≡ command_told command }
     {
         match command {

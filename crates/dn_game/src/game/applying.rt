@@ -8,7 +8,6 @@ ghost use Rattle.dn_machine.specs.Runs.{is_send};
 ghost use Rattle.dn_game.specs.Pool.{HasGrown};
 
 use super::Game;
-use crate::flight::is_far;
 use arrayvec::ArrayVec;
 use dn_machine::{Done, Event, Heard, Refusal};
 use dn_world::World;
@@ -17,7 +16,7 @@ impl<W: World> Game<W> {
     ghost use Rattle.dn_game.specs.Contents.{contents};
     ghost use Rattle.dn_game.specs.Applied.{Tells, IsAfter, IsLeftOut, IsApplied, IsAddressed};
     ghost use Rattle.dn_game.specs.Promised.{IsCarriedOn};
-    ghost use Rattle.dn_game.specs.Room.{room_of, KeepsLimits};
+    ghost use Rattle.dn_game.specs.Room.{room_of, KeepsWhose};
 
     /// Whether this is the number of a player.
     fn is_player(&self, node: u32) -> bool
@@ -53,7 +52,7 @@ impl<W: World> Game<W> {
         }
         let flight = self.pool.record(which);
         let receiver = &self.nodes[usize::from(flight.to)];
-        if is_far(&flight.aim, receiver.made()) {
+        if !flight.aim.is_near(receiver.made()) {
             Some(Refusal::Far)
         } else if self.stopped(u32::from(flight.to)) {
             Some(Refusal::Stopped)
@@ -69,8 +68,11 @@ impl<W: World> Game<W> {
         ensures there { result ≡ None → IsAddressed (contents self.now) event }
     {
         match event {
-            Event::Build { node, .. } | Event::Run(node) | Event::Quit(node) | Event::Stop(node) =>
-                { self.refused_at(node) }
+            Event::Build { node, .. }
+            | Event::Give { node, .. }
+            | Event::Run(node)
+            | Event::Quit(node)
+            | Event::Stop(node) => self.refused_at(node),
             Event::Send { to, .. } if !self.is_player(to) => Some(Refusal::NoNode),
             Event::Send { node, .. } => self.refused_at(node),
             Event::Deliver(which) => self.refused_flight(which),
@@ -87,7 +89,7 @@ impl<W: World> Game<W> {
             ⊎ IsLeftOut (contents self.old) (contents self.new) (Send node to) result) }
         ensures unchanged { OnErr result (contents self.new ≡ contents self.old) }
         ensures grown { HasGrown (contents self.old).flights (room_of self.old) (room_of self.new) }
-        ensures limits { KeepsLimits (contents self.old) (contents self.new) }
+        ensures whose { KeepsWhose (contents self.old) (contents self.new) }
     {
         let Ok(()) = self.pool.reserve() else {
             return Err(Refusal::Memory);
@@ -115,7 +117,7 @@ impl<W: World> Game<W> {
             → IsAfter W.state rules (contents self.new) (on_event rules m (Deliver which))
             (Done.Heard result)) }
         ensures room { room_of self.new ≡ room_of self.old }
-        ensures limits { KeepsLimits (contents self.old) (contents self.new) }
+        ensures whose { KeepsWhose (contents self.old) (contents self.new) }
     {
         let which = which as usize;
         let flight = self.pool.record(which);
@@ -135,13 +137,14 @@ impl<W: World> Game<W> {
         // rooms are their limits, which stay.
         ensures room { is_send event ≡ false → room_of self.new ≡ room_of self.old }
         ensures grown { HasGrown (contents self.old).flights (room_of self.old) (room_of self.new) }
-        ensures limits { KeepsLimits (contents self.old) (contents self.new) }
+        ensures whose { KeepsWhose (contents self.old) (contents self.new) }
     {
         if let Some(refusal) = self.refused(event) {
             return Err(refusal);
         }
         Ok(match event {
             Event::Build { node, keys } => Done::Built(self.nodes[node as usize].build(keys)),
+            Event::Give { node, command } => Done::Built(self.nodes[node as usize].give(command)),
             Event::Send { node, to } => return self.send(node, to),
             Event::Deliver(which) => Done::Heard(self.deliver(which)),
             Event::Run(node) => Done::Ran(self.nodes[node as usize].run()),

@@ -4,6 +4,7 @@ mod agreeing;
 mod applying;
 mod belts;
 mod far;
+mod given;
 mod leaving;
 mod memory;
 mod old_packets;
@@ -17,7 +18,7 @@ mod told;
 
 use dn_game::{Done, Event, Game, GameConfig, Refusal};
 use dn_setup::{Settings, SettingsFault};
-use dn_tic::Keys;
+use dn_tic::{Command, Keys};
 use dn_world::Walk;
 use std::alloc::{AllocError, Global};
 use std::process::Abort;
@@ -56,6 +57,14 @@ fn opened(alloc: Global, players: usize) -> Result<Game<Walk>, Fail> {
 fn build(node: u32, bits: u32) -> Event {
     let keys = Keys::from_bits(bits);
     Event::Build { node, keys }
+}
+
+fn give(node: u32, forward: i8) -> Event {
+    let command = Command {
+        forward,
+        ..Command::default()
+    };
+    Event::Give { node, command }
 }
 
 fn send(node: u32, to: u32) -> Event {

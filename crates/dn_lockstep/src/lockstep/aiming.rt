@@ -56,7 +56,7 @@ impl Lockstep {
     /// The exact numbers of the packet that `packet` would give now.
     pub fn aim(&self, to: u8) -> Option<Aim>
         ensures told { Tells (contents self.now)
-            (λ rules me m. result ≡ option_map aim_of (sent_to to rules me m).1) }
+            (λ limits me m. result ≡ option_map aim_of (sent_to to limits me m).1) }
         ensures reach { IfSome result (λ aim. Reaches (contents self.now) aim
             × Gives (contents self.now) to) }
         ensures known { is_some result ≡ gives (contents self.now) to }
@@ -80,7 +80,7 @@ impl Lockstep {
     /// The first tic of the next packet to a peer, never more than twelve behind.
     fn first_sent(&self, to: u8) -> u32
         requires { to < (contents self.now).players }
-        ensures told { Tells (contents self.now) (λ rules me m. result ≡ first_sent rules me m to) }
+        ensures told { Tells (contents self.now) (λ limits me m. result ≡ first_sent limits me m to) }
         ensures low { result ≤ count_of (contents self.now).rings (contents self.now).me }
         ensures high { count_of (contents self.now).rings (contents self.now).me ≤ result + 12 }
     {
@@ -96,7 +96,7 @@ impl Lockstep {
     /// The tic that the peer is asked for, if commands of it are missing.
     fn request_to(&self, to: u8) -> Option<u32>
         requires { to < (contents self.now).players }
-        ensures { Tells (contents self.now) (λ rules me m. result ≡ request_to m to) }
+        ensures { Tells (contents self.now) (λ limits me m. result ≡ request_to m to) }
     {
         if self.peers.get(to).want {
             Some(self.rings.count(to))
@@ -109,7 +109,7 @@ impl Lockstep {
     fn aim_of_commands(&self, to: u8) -> Aim
         requires { to < (contents self.now).players }
         ensures told { Tells (contents self.now)
-            (λ rules me m. result ≡ aim_of (commands_flight rules me m to Play (request_to m to))) }
+            (λ limits me m. result ≡ aim_of (commands_flight limits me m to Play (request_to m to))) }
         ensures reach { Reaches (contents self.now) result }
     {
         let start = self.first_sent(to);
@@ -127,7 +127,7 @@ impl Lockstep {
     fn aim_of_exit(&self, to: u8) -> Option<Aim>
         requires below { to < (contents self.now).players }
         ensures told { (cause : Cause) → Tells (contents self.now)
-            (λ rules me m. result ≡ option_map aim_of (on_send_in rules me m to (Ended cause)).1) }
+            (λ limits me m. result ≡ option_map aim_of (on_send_in limits me m to (Ended cause)).1) }
         ensures reach { IfSome result (Reaches (contents self.now)) }
         ensures known { is_some result ≡ (contents self.now).played }
     {

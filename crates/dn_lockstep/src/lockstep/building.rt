@@ -1,37 +1,75 @@
-//! How a node builds a command.
+//! How a node builds a command, of keys or of one that is given.
 
 ghost use Rattle.std.specs.Prelude.{◌≡◌};
 ghost use Rattle.dn_machine.specs.declared.answers.Made.TheVariants.{Full, NotPlaying};
+ghost use Rattle.dn_tic.specs.declared.input.Input.{Input as AnyInput};
+ghost use Rattle.dn_tic.specs.declared.input.Input.TheVariants.{Pressed, Given};
 
 use super::Lockstep;
 use dn_machine::{Made, Phase};
-use dn_tic::Keys;
+use dn_tic::{Command, Input, Keys};
 
 /// Most commands built but not yet run (`d_net.c`, NetUpdate).
-const AHEAD: u32 = 5;
+pub const MOST_AHEAD: u32 = 5;
 
 impl Lockstep {
     ghost use Rattle.dn_machine.specs.Building.{on_build};
     ghost use Rattle.dn_lockstep.specs.Contents.{contents};
-    ghost use Rattle.dn_lockstep.specs.Steps.{Steps};
+    ghost use Rattle.dn_lockstep.specs.Commands.{makes, can_make};
+    ghost use Rattle.dn_lockstep.specs.Steps.{Steps, Tells};
+
+    /// Whether [`Lockstep::build`] and [`Lockstep::give`] would make a command now: it plays, and fewer than
+    /// [`MOST_AHEAD`] of its commands wait to be run.
+    pub fn can_build(&self) -> bool
+        ensures value { result ≡ can_make (contents self.now) }
+        ensures told { Tells (contents self.now)
+            (λ limits me m. (input : AnyInput) → result ≡ makes me m input) }
+    {
+        match self.phase {
+            Phase::Playing => self.made() - self.ran < MOST_AHEAD,
+            _ => false,
+        }
+    }
 
     /// Builds the command of these keys for the next tic. A node that builds none stays as it is.
     pub fn build(&mut self, keys: Keys) -> Made
         ensures step { Steps (contents self.old) (contents self.new)
-            (λ rules me m. on_build rules me m keys) (λ made. result ≡ made) }
+            (λ limits me m. on_build me m (Pressed keys)) (λ made. result ≡ made) }
         ensures full { result ≡ Full → contents self.new ≡ contents self.old }
         ensures idle { result ≡ NotPlaying → contents self.new ≡ contents self.old }
-        ensures room { (contents self.new).demo.limit ≡ (contents self.old).demo.limit }
+    {
+        self.make(Input::Pressed(keys))
+    }
+
+    /// Takes the given command for the next tic, where [`Lockstep::build`] would build one. A forward of -128
+    /// counts as -127. A node that takes none stays as it is.
+    pub fn give(&mut self, command: Command) -> Made
+        ensures step { Steps (contents self.old) (contents self.new)
+            (λ limits me m. on_build me m (Given command)) (λ made. result ≡ made) }
+        ensures full { result ≡ Full → contents self.new ≡ contents self.old }
+        ensures idle { result ≡ NotPlaying → contents self.new ≡ contents self.old }
+    {
+        self.make(Input::Given(command))
+    }
+
+    /// Makes the command of this input for the next tic. In each of the two calls the compiler knows which input
+    /// it is.
+    #[inline(always)]
+    fn make(&mut self, input: Input) -> Made
+        ensures step { Steps (contents self.old) (contents self.new)
+            (λ limits me m. on_build me m input) (λ made. result ≡ made) }
+        ensures full { result ≡ Full → contents self.new ≡ contents self.old }
+        ensures idle { result ≡ NotPlaying → contents self.new ≡ contents self.old }
     {
         let Phase::Playing = self.phase else {
             return Made::NotPlaying;
         };
         let tic = self.made();
-        if tic - self.ran >= AHEAD {
+        if tic - self.ran >= MOST_AHEAD {
             return Made::Full;
         }
         let mark = self.marks.get(self.me, tic);
-        let command = self.builder.build(keys, mark);
+        let command = self.builder.make(input, mark);
         self.rings.put(self.me, command);
         Made::Made(tic)
     }

@@ -15,9 +15,8 @@ impl Lockstep {
     /// Ends a node that plays, and closes its demo where it is open.
     pub(super) fn finish(&mut self, cause: Cause)
         requires { (contents self.old).phase ≡ Playing }
-        ensures step { Becomes (contents self.old) (contents self.new)
-            (λ rules me m. record m { phase = Ended cause }) }
-        ensures room { (contents self.new).demo.limit ≡ (contents self.old).demo.limit }
+        ensures { Becomes (contents self.old) (contents self.new)
+            (λ limits me m. record m { phase = Ended cause }) }
     {
         self.phase = Phase::Ended(cause);
         close(&mut self.demo);
@@ -26,9 +25,8 @@ impl Lockstep {
     /// Ends the node, and answers whether it had not ended.
     pub fn quit(&mut self) -> bool
         ensures step { Steps (contents self.old) (contents self.new)
-            (λ rules me m. on_quit m) (λ quit. result ≡ quit) }
+            (λ limits me m. on_quit m) (λ quit. result ≡ quit) }
         ensures idle { result ≡ false → contents self.new ≡ contents self.old }
-        ensures room { (contents self.new).demo.limit ≡ (contents self.old).demo.limit }
     {
         match self.phase {
             Phase::Ended(_) => return false,

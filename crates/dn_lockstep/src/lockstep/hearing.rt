@@ -20,9 +20,9 @@ use dn_setup::from_packet;
 const KEY: u8 = 0;
 
 impl Lockstep {
-    ghost use Rattle.dn_lockstep.specs.Contents.{contents};
+    ghost use Rattle.dn_lockstep.specs.Contents.{contents, whose};
     ghost use Rattle.dn_lockstep.specs.Hearing.{HearsAny, HearsNear, Spares};
-    ghost use Rattle.dn_lockstep.specs.Steps.{Steps};
+    ghost use Rattle.dn_lockstep.specs.Steps.{Simulates, Steps};
 
     /// Whether it has ended without having played.
     fn hears_none(&self) -> bool
@@ -40,7 +40,6 @@ impl Lockstep {
         ensures any { HearsAny from bytes.now (contents self.old) (contents self.new) result }
         ensures near { HearsNear from bytes.now (contents self.old) (contents self.new) result }
         ensures dropped { Spares (contents self.old) (contents self.new) result }
-        ensures room { (contents self.new).demo.limit ≡ (contents self.old).demo.limit }
     {
         if self.hears_none() {
             return Heard::Dropped(NOT_PLAYING);
@@ -60,11 +59,11 @@ impl Lockstep {
         requires peer { from < (contents self.old).players }
         requires other { from ≢ (contents self.old).me }
         requires hears { hears_none (contents self.old).phase (contents self.old).played ≡ false }
+        ensures same { whose (contents self.new) ≡ whose (contents self.old) }
         ensures step { (told : Result Settings SetupFault) → IsSetupReadAs packet.now told
-            → Steps (contents self.old) (contents self.new)
-            (λ rules me m. on_read rules me m from told (Ok packet.now)) (λ heard. result ≡ heard) }
+            → Simulates (contents self.old) (contents self.new)
+            (λ limits me m. on_read limits me m from told (Ok packet.now)) (λ heard. result ≡ heard) }
         ensures dropped { Spares (contents self.old) (contents self.new) result }
-        ensures room { (contents self.new).demo.limit ≡ (contents self.old).demo.limit }
     {
         if has_flag(packet, SETUP) {
             return self.hear_set_up(from, packet);
@@ -87,9 +86,8 @@ impl Lockstep {
         requires other { from ≢ (contents self.old).me }
         requires hears { hears_none (contents self.old).phase (contents self.old).played ≡ false }
         ensures step { Steps (contents self.old) (contents self.new)
-            (λ rules me m. on_player rules me m from packet.now m.phase) (λ heard. result ≡ heard) }
+            (λ limits me m. on_player limits me m from packet.now m.phase) (λ heard. result ≡ heard) }
         ensures dropped { Spares (contents self.old) (contents self.new) result }
-        ensures room { (contents self.new).demo.limit ≡ (contents self.old).demo.limit }
     {
         match self.phase {
             Phase::Listening => Heard::Dropped(NOT_PLAYING),
@@ -101,11 +99,11 @@ impl Lockstep {
 
     /// Hears a set-up packet, which only a listener takes, and only from the key player.
     fn hear_set_up(&mut self, from: u8, packet: &Packet) -> Heard
+        ensures same { whose (contents self.new) ≡ whose (contents self.old) }
         ensures step { (told : Result Settings SetupFault) → IsSetupReadAs packet.now told
-            → Steps (contents self.old) (contents self.new)
-            (λ rules me m. on_set_up rules me m from told m.phase) (λ heard. result ≡ heard) }
+            → Simulates (contents self.old) (contents self.new)
+            (λ limits me m. on_set_up limits me m from told m.phase) (λ heard. result ≡ heard) }
         ensures dropped { Spares (contents self.old) (contents self.new) result }
-        ensures room { (contents self.new).demo.limit ≡ (contents self.old).demo.limit }
     {
         let Phase::Listening = self.phase else {
             return Heard::Dropped(OUT_OF_PLACE);
@@ -128,9 +126,8 @@ impl Lockstep {
         requires gathers { (contents self.old).phase ≡ Gathering }
         requires peer { from < (contents self.old).players }
         ensures step { Steps (contents self.old) (contents self.new)
-            (λ rules me m. on_gathering rules m from) (λ heard. result ≡ heard) }
+            (λ limits me m. on_gathering limits m from) (λ heard. result ≡ heard) }
         ensures dropped { Spares (contents self.old) (contents self.new) result }
-        ensures room { (contents self.new).demo.limit ≡ (contents self.old).demo.limit }
     {
         if !self.gather.hear(from) {
             return Heard::Noted;

@@ -37,23 +37,19 @@ fn first_phase(me: u8) -> Phase
 
 impl Lockstep {
     ghost use Rattle.dn_setup.specs.Settings.{Settings as Choice};
-    ghost use Rattle.dn_demo.specs.Recorded.{capacity};
     ghost use Rattle.dn_machine.specs.Game.{fresh};
-    ghost use Rattle.dn_machine.specs.Worlds.{rules_of};
-    ghost use Rattle.dn_lockstep.specs.Contents.{contents};
-    ghost use Rattle.dn_lockstep.specs.Marking.{Marking, free};
+    ghost use Rattle.dn_lockstep.specs.Contents.{contents, whose};
+    ghost use Rattle.dn_lockstep.specs.Opening.{limits_in, whose_in};
     ghost use Rattle.dn_lockstep.specs.Represents.{Represents};
 
     /// A lockstep with no history: player 0 gathers, the others listen. All memory that it needs is taken
     /// here.
     pub fn new(alloc: Global, config: Config) -> Result<Lockstep, NodeFault>
         ensures admitted { IsAdmitted config result }
-        ensures opened { IfOk result (λ lockstep. (marking : Marking) (settings : Choice)
+        ensures opened { IfOk result (λ lockstep. (settings : Choice)
             → (config.me ≡ 0 → config.settings ≡ Some settings)
-            → Represents (rules_of (free marking) config.players config.extra
-            (capacity config.limit config.players)) config.me
-            (contents lockstep) (fresh settings config.me)) }
-        ensures room { IfOk result (λ lockstep. (contents lockstep).demo.limit ≡ config.limit) }
+            → Represents (limits_in config) config.me (contents lockstep) (fresh settings config.me)) }
+        ensures whose { IfOk result (λ lockstep. whose (contents lockstep) ≡ whose_in config) }
     {
         if !is_game(usize::from(config.players)) {
             return Err(NodeFault::Players);

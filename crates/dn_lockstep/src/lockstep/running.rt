@@ -32,13 +32,12 @@ impl Lockstep {
     /// Runs the next tic, as `run_into` does. The row of moves is told where the tic was run, and else none.
     pub fn run(&mut self, marks: &[i16; 4]) -> (Ran, Option<[Option<Move>; 4]>)
         ensures step { RunsBy marks.now (contents self.old) (contents self.new)
-            (λ rules m. on_run rules m) (λ ran row. (result.0 ≡ ran) × (result.1 ≡ row)) }
+            (λ limits m marks. on_run limits m marks) (λ ran row. (result.0 ≡ ran) × (result.1 ≡ row)) }
         ensures further { (tic : ℕ) → result.0 ≡ Ran.Ran tic
             → (contents self.new).ran ≡ (contents self.old).ran + 1 }
         ensures waits { (player : ℕ) → result.0 ≡ Waiting player
             → (contents self.new ≡ contents self.old) × (result.1 ≡ None) }
         ensures idle { result.0 ≡ NotPlaying → (contents self.new ≡ contents self.old) × (result.1 ≡ None) }
-        ensures room { (contents self.new).demo.limit ≡ (contents self.old).demo.limit }
     {
         let mut row = [None; 4];
         let ran = self.run_into(marks, &mut row);
@@ -52,13 +51,12 @@ impl Lockstep {
     /// `Inconsistent` the row means nothing.
     pub fn run_into(&mut self, marks: &[i16; 4], row: &mut [Option<Move>; 4]) -> Ran
         ensures step { RunsBy marks.now (contents self.old) (contents self.new)
-            (λ rules m. on_run rules m) (λ ran told. (result ≡ ran) × (told_by result row.new ≡ told)) }
+            (λ limits m marks. on_run limits m marks) (λ ran told. (result ≡ ran) × (told_by result row.new ≡ told)) }
         ensures further { (tic : ℕ) → result ≡ Ran.Ran tic
             → (contents self.new).ran ≡ (contents self.old).ran + 1 }
         ensures waits { (player : ℕ) → result ≡ Waiting player
             → (contents self.new ≡ contents self.old) × (row.new ≡ row.old) }
         ensures idle { result ≡ NotPlaying → (contents self.new ≡ contents self.old) × (row.new ≡ row.old) }
-        ensures room { (contents self.new).demo.limit ≡ (contents self.old).demo.limit }
     {
         let Phase::Playing = self.phase else {
             return Ran::NotPlaying;
@@ -91,13 +89,12 @@ impl Lockstep {
         requires there { lowest (contents self.old).players
             (is_missing (contents self.old).rings (contents self.old).peers (contents self.old).ran) ≡ None }
         ensures step { RunsBy marks.now (contents self.old) (contents self.new)
-            (λ rules m. on_run_playing rules m None None) (λ ran told. (result ≡ ran)
+            (λ limits m marks. on_run_playing limits m marks None None) (λ ran told. (result ≡ ran)
             × (told_by result row.new ≡ told)) }
         ensures further { (tic : ℕ) → result ≡ Ran.Ran tic
             → (contents self.new).ran ≡ (contents self.old).ran + 1 }
         ensures waits { (player : ℕ) → result ≢ Waiting player }
         ensures idle { result ≢ NotPlaying }
-        ensures room { (contents self.new).demo.limit ≡ (contents self.old).demo.limit }
     {
         let tic = self.ran;
         *row = [None; 4];

@@ -45,7 +45,7 @@ impl Lockstep {
     fn note_sent(&mut self, to: u8)
         requires { Gives (contents self.old) to }
         ensures step { Becomes (contents self.old) (contents self.new)
-            (λ rules me m. after_giving rules me m to m.phase) }
+            (λ limits me m. after_giving limits me m to m.phase) }
         ensures kept { contents self.new ≡ record (contents self.old) { peers = (contents self.new).peers } }
     {
         match self.phase {
@@ -63,12 +63,11 @@ impl Lockstep {
     pub fn packet_into(&mut self, to: u8, bytes: &mut ArrayVec<u8, 104>) -> bool
         requires { bytes.old.items ≡ [] }
         ensures step { Steps (contents self.old) (contents self.new)
-            (λ rules me m. sent_to to rules me m)
+            (λ limits me m. sent_to to limits me m)
             (λ flight. then_some result bytes.new.items ≡ option_map bytes_of flight) }
-        ensures fair { Tells (contents self.old) (λ rules me m. IfSome (sent_to to rules me m).1 IsFair) }
+        ensures fair { Tells (contents self.old) (λ limits me m. IfSome (sent_to to limits me m).1 IsFair) }
         ensures idle { result ≡ false → contents self.new ≡ contents self.old }
         ensures unwritten { result ≡ false → bytes.new ≡ bytes.old }
-        ensures room { (contents self.new).demo.limit ≡ (contents self.old).demo.limit }
     {
         let mut room = [0; MAX_DATAGRAM];
         let size = self.packet_to(to, &mut room);
@@ -84,9 +83,8 @@ impl Lockstep {
     pub fn packet_to(&mut self, to: u8, room: &mut [u8]) -> usize
         requires { 104 ≤ length room.old }
         ensures sent { IsSentTo to (contents self.old) (contents self.new) room.old room.new result }
-        ensures fair { Tells (contents self.old) (λ rules me m. IfSome (sent_to to rules me m).1 IsFair) }
+        ensures fair { Tells (contents self.old) (λ limits me m. IfSome (sent_to to limits me m).1 IsFair) }
         ensures silent { IsSilent to (contents self.old) (contents self.new) room.old room.new result }
-        ensures room { (contents self.new).demo.limit ≡ (contents self.old).demo.limit }
     {
         let Some(aim) = self.aim(to) else {
             return 0;
@@ -105,11 +103,10 @@ impl Lockstep {
     /// the node has nothing to give. A node that has played and ended gives one whenever it is asked.
     pub fn packet(&mut self, to: u8) -> Option<ArrayVec<u8, 104>>
         ensures step { Steps (contents self.old) (contents self.new)
-            (λ rules me m. sent_to to rules me m)
+            (λ limits me m. sent_to to limits me m)
             (λ flight. option_map (λ bytes. bytes.items) result ≡ option_map bytes_of flight) }
-        ensures fair { Tells (contents self.old) (λ rules me m. IfSome (sent_to to rules me m).1 IsFair) }
+        ensures fair { Tells (contents self.old) (λ limits me m. IfSome (sent_to to limits me m).1 IsFair) }
         ensures idle { result ≡ None → contents self.new ≡ contents self.old }
-        ensures room { (contents self.new).demo.limit ≡ (contents self.old).demo.limit }
     {
         let mut bytes = ArrayVec::new();
         if self.packet_into(to, &mut bytes) {

@@ -16,8 +16,7 @@ impl Lockstep {
     /// Begins to play a game of these settings.
     pub(super) fn start(&mut self, settings: Settings)
         requires { is_waiting (contents self.old).phase ≡ true }
-        ensures step { Becomes (contents self.old) (contents self.new) (λ rules me m. started m settings) }
-        ensures room { (contents self.new).demo.limit ≡ (contents self.old).demo.limit }
+        ensures { Becomes (contents self.old) (contents self.new) (λ limits me m. started m settings) }
     {
         let start = settings.start();
         let present = seats(self.players);

@@ -33,9 +33,8 @@ impl Lockstep {
         requires peer { from < (contents self.old).players }
         requires other { from ≢ (contents self.old).me }
         ensures step { Steps (contents self.old) (contents self.new)
-            (λ rules me m. on_player rules me m from packet.now Playing) (λ heard. result ≡ heard) }
+            (λ limits me m. on_player limits me m from packet.now Playing) (λ heard. result ≡ heard) }
         ensures dropped { Spares (contents self.old) (contents self.new) result }
-        ensures room { (contents self.new).demo.limit ≡ (contents self.old).demo.limit }
     {
         let made = self.made();
         let start = match start(made, packet) {
@@ -73,9 +72,8 @@ impl Lockstep {
         requires other { from ≢ (contents self.old).me }
         requires played { (contents self.old).played ≡ true }
         ensures step { (cause : Cause) → Steps (contents self.old) (contents self.new)
-            (λ rules me m. on_player rules me m from packet.now (Ended cause)) (λ heard. result ≡ heard) }
+            (λ limits me m. on_player limits me m from packet.now (Ended cause)) (λ heard. result ≡ heard) }
         ensures dropped { Spares (contents self.old) (contents self.new) result }
-        ensures room { (contents self.new).demo.limit ≡ (contents self.old).demo.limit }
     {
         if has_flag(packet, EXIT) {
             return Heard::Dropped(NOT_PLAYING);

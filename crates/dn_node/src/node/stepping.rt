@@ -1,23 +1,16 @@
 //! What a node does.
 
-ghost use Rattle.std.specs.Prelude.{◌≡◌, ◌≢◌, ◌<◌, ℕ, ◌+◌, [], pos, true, false, get_or, Result, Some, None, IfSome};
+ghost use Rattle.std.specs.Prelude.{◌≡◌, ◌≢◌, ◌<◌, ℕ, ◌+◌, [], pos, false, get_or, Some, None, IfSome};
 ghost use Rattle.std.specs.Bool.{then_some};
 ghost use Rattle.std.specs.Option.{option_map};
-ghost use Rattle.dn_packet.specs.declared.packet.Packet.{Packet};
-ghost use Rattle.dn_packet.specs.declared.packet.PacketFault.{PacketFault};
-ghost use Rattle.dn_packet.specs.Read.{IsReadAs};
-ghost use Rattle.dn_packet.specs.Text.{text};
+ghost use Rattle.dn_tic.specs.declared.input.Input.{Input as AnyInput};
+ghost use Rattle.dn_tic.specs.declared.input.Input.TheVariants.{Pressed, Given};
 ghost use Rattle.dn_setup.specs.Settings.{Settings};
 ghost use Rattle.dn_setup.specs.Starts.{start_of};
-ghost use Rattle.dn_setup.specs.declared.setup.SetupFault.{SetupFault};
 ghost use Rattle.dn_machine.specs.declared.answers.Heard.TheVariants.{Started};
 ghost use Rattle.dn_machine.specs.declared.answers.Made.TheVariants as Made;
 ghost use Rattle.dn_machine.specs.declared.answers.Ran.TheVariants as Ran;
-ghost use Rattle.dn_machine.specs.Flight.{Flight, packet_of, is_near};
-ghost use Rattle.dn_machine.specs.Hearing.{on_packet};
 ghost use Rattle.dn_lockstep.specs.Near.{IsFair};
-ghost use Rattle.dn_lockstep.specs.Received.{received, IsTold};
-ghost use Rattle.dn_lockstep.specs.Rings.{count_of};
 ghost use Rattle.dn_lockstep.specs.Rows.{seats_of};
 ghost use Rattle.dn_lockstep.specs.Sent.{sent_to, aim_of, bytes_of};
 
@@ -25,33 +18,55 @@ use super::Node;
 use arrayvec::ArrayVec;
 use dn_lockstep::Aim;
 use dn_machine::{Heard, Made, Ran};
-use dn_tic::Keys;
+use dn_tic::{Command, Keys};
 use dn_world::World;
 
 impl<W: World> Node<W> {
     ghost use Rattle.dn_machine.specs.Building.{on_build};
-    ghost use Rattle.dn_machine.specs.Running.{on_run, on_quit};
+    ghost use Rattle.dn_machine.specs.Game.{on_own_run};
+    ghost use Rattle.dn_machine.specs.Running.{on_quit};
     ghost use Rattle.dn_node.specs.Contents.{contents, locked};
     ghost use Rattle.dn_node.specs.Giving.{Reaches, Gives};
+    ghost use Rattle.dn_lockstep.specs.Commands.{makes, can_make};
     ghost use Rattle.dn_lockstep.specs.Hearing.{Spares};
-    ghost use Rattle.dn_node.specs.Steps.{Steps, Tells};
+    ghost use Rattle.dn_node.specs.Steps.{Steps, Tells, HearsAny, HearsNear};
+
+    /// Whether [`Node::build`] and [`Node::give`] would make a command now.
+    pub fn can_build(&self) -> bool
+        ensures value { result ≡ can_make (locked (contents self.now)) }
+        ensures told { Tells W.state W.physics (contents self.now)
+            (λ rules me m. (input : AnyInput) → result ≡ makes me m input) }
+    {
+        self.lockstep.can_build()
+    }
 
     /// Builds the command of these keys for the next tic. A node that builds none stays as it is.
     pub fn build(&mut self, keys: Keys) -> Made
         ensures step { Steps W.state W.physics (contents self.old) (contents self.new)
-            (λ rules me m. on_build rules me m keys) (λ made. result ≡ made) }
+            (λ rules me m. on_build me m (Pressed keys)) (λ made. result ≡ made) }
         ensures full { result ≡ Made.Full → contents self.new ≡ contents self.old }
         ensures idle { result ≡ Made.NotPlaying → contents self.new ≡ contents self.old }
         ensures world { (contents self.new).world ≡ (contents self.old).world }
-        ensures room { (contents self.new).demo.limit ≡ (contents self.old).demo.limit }
     {
         self.lockstep.build(keys)
+    }
+
+    /// Takes the given command for the next tic, where [`Node::build`] would build one. A forward of -128 counts
+    /// as -127. A node that takes none stays as it is.
+    pub fn give(&mut self, command: Command) -> Made
+        ensures step { Steps W.state W.physics (contents self.old) (contents self.new)
+            (λ rules me m. on_build me m (Given command)) (λ made. result ≡ made) }
+        ensures full { result ≡ Made.Full → contents self.new ≡ contents self.old }
+        ensures idle { result ≡ Made.NotPlaying → contents self.new ≡ contents self.old }
+        ensures world { (contents self.new).world ≡ (contents self.old).world }
+    {
+        self.lockstep.give(command)
     }
 
     /// The exact numbers of the packet that `packet` would give now.
     pub fn aim(&self, to: u8) -> Option<Aim>
         ensures told { Tells W.state W.physics (contents self.now)
-            (λ rules me m. result ≡ option_map aim_of (sent_to to rules me m).1) }
+            (λ rules me m. result ≡ option_map aim_of (sent_to to rules.limits me m).1) }
         ensures reach { IfSome result (λ aim. Reaches (contents self.now) aim
             × Gives (contents self.now) to) }
     {
@@ -64,14 +79,13 @@ impl<W: World> Node<W> {
     pub fn packet_into(&mut self, to: u8, bytes: &mut ArrayVec<u8, 104>) -> bool
         requires { bytes.old.items ≡ [] }
         ensures step { Steps W.state W.physics (contents self.old) (contents self.new)
-            (λ rules me m. sent_to to rules me m)
+            (λ rules me m. sent_to to rules.limits me m)
             (λ flight. then_some result bytes.new.items ≡ option_map bytes_of flight) }
         ensures fair { Tells W.state W.physics (contents self.old)
-            (λ rules me m. IfSome (sent_to to rules me m).1 IsFair) }
+            (λ rules me m. IfSome (sent_to to rules.limits me m).1 IsFair) }
         ensures idle { result ≡ false → contents self.new ≡ contents self.old }
         ensures unwritten { result ≡ false → bytes.new ≡ bytes.old }
         ensures world { (contents self.new).world ≡ (contents self.old).world }
-        ensures room { (contents self.new).demo.limit ≡ (contents self.old).demo.limit }
     {
         self.lockstep.packet_into(to, bytes)
     }
@@ -80,32 +94,22 @@ impl<W: World> Node<W> {
     /// the node has nothing to give. A node that has played and ended gives one whenever it is asked.
     pub fn packet(&mut self, to: u8) -> Option<ArrayVec<u8, 104>>
         ensures step { Steps W.state W.physics (contents self.old) (contents self.new)
-            (λ rules me m. sent_to to rules me m)
+            (λ rules me m. sent_to to rules.limits me m)
             (λ flight. option_map (λ bytes. bytes.items) result ≡ option_map bytes_of flight) }
         ensures fair { Tells W.state W.physics (contents self.old)
-            (λ rules me m. IfSome (sent_to to rules me m).1 IsFair) }
+            (λ rules me m. IfSome (sent_to to rules.limits me m).1 IsFair) }
         ensures idle { result ≡ None → contents self.new ≡ contents self.old }
         ensures world { (contents self.new).world ≡ (contents self.old).world }
-        ensures room { (contents self.new).demo.limit ≡ (contents self.old).demo.limit }
     {
         self.lockstep.packet(to)
     }
 
     /// Hears a datagram that came from player `from`. A datagram that is dropped changes nothing.
     pub fn receive(&mut self, from: u8, bytes: &[u8]) -> Heard
-        ensures any { (read : Result Packet PacketFault) (told : Result Settings SetupFault)
-            → IsReadAs bytes.now read → IsTold read told
-            → Steps W.state W.physics (contents self.old) (contents self.new)
-            (λ rules me m. received rules me m from told read) (λ heard. result ≡ heard) }
-        ensures near { (flight : Flight) → IsFair flight → bytes.now ≡ text (packet_of flight)
-            → flight.from ≡ from
-            → from < (contents self.old).players → from ≢ (contents self.old).me
-            → is_near (count_of (contents self.old).rings (contents self.old).me) flight ≡ true
-            → Steps W.state W.physics (contents self.old) (contents self.new)
-            (λ rules me m. on_packet rules me m flight) (λ heard. result ≡ heard) }
+        ensures any { HearsAny W.state W.physics from bytes.now (contents self.old) (contents self.new) result }
+        ensures near { HearsNear W.state W.physics from bytes.now (contents self.old) (contents self.new) result }
         ensures dropped { Spares (contents self.old) (contents self.new) result }
         ensures world { result ≢ Started → (contents self.new).world ≡ (contents self.old).world }
-        ensures room { (contents self.new).demo.limit ≡ (contents self.old).demo.limit }
     {
         let heard = self.lockstep.receive(from, bytes);
         if let Heard::Started = heard {
@@ -131,12 +135,11 @@ impl<W: World> Node<W> {
     /// of every player who has not left by then is there. A node that waits stays as it is.
     pub fn run(&mut self) -> Ran
         ensures step { Steps W.state W.physics (contents self.old) (contents self.new)
-            (λ rules me m. on_run rules m) (λ ran. result ≡ ran) }
+            (λ rules me m. on_own_run rules m) (λ ran. result ≡ ran) }
         ensures further { (tic : ℕ) → result ≡ Ran.Ran tic
             → (contents self.new).ran ≡ (contents self.old).ran + 1 }
         ensures waits { (player : ℕ) → result ≡ Ran.Waiting player → contents self.new ≡ contents self.old }
         ensures idle { result ≡ Ran.NotPlaying → contents self.new ≡ contents self.old }
-        ensures room { (contents self.new).demo.limit ≡ (contents self.old).demo.limit }
     {
         let marks = self.marks();
         let (ran, row) = self.lockstep.run(&marks);
@@ -165,7 +168,6 @@ impl<W: World> Node<W> {
             (λ rules me m. on_quit m) (λ quit. result ≡ quit) }
         ensures idle { result ≡ false → contents self.new ≡ contents self.old }
         ensures world { (contents self.new).world ≡ (contents self.old).world }
-        ensures room { (contents self.new).demo.limit ≡ (contents self.old).demo.limit }
     {
         self.lockstep.quit()
     }

@@ -2,7 +2,7 @@
 //! low bytes stand for.
 
 use super::{FORWARD, LEFT, RIGHT, SPEED, STILL, STRAFE, WEAPONS, built};
-use dn_tic::{Builder, Key, Keys, Move, TicCmd, expand, round};
+use dn_tic::{Builder, Command, Input, Key, Keys, Move, TicCmd, expand, round};
 use std::process::Abort;
 
 #[test]
@@ -83,6 +83,46 @@ fn letting_go_forgets_the_count(rt: HostRuntime) {
     same!(rt; builder.held(), 6);
     let _ = builder.build(Keys::from_bits(STRAFE), 0);
     same!(rt; builder.held(), 0);
+    same!(rt; builder.build(Keys::from_bits(LEFT), 0).turn, 320);
+}
+
+/// A command as an engine may give it, with this forward.
+fn whole(forward: i8) -> Command {
+    Command {
+        forward,
+        side: 127,
+        turn: -32768,
+        chat: 65,
+        buttons: 129,
+    }
+}
+
+#[test]
+fn commands_are_given_whole(rt: HostRuntime) {
+    for (forward, made) in [(0, 0), (127, 127), (-126, -126), (-127, -127), (-128, -127)] {
+        let command = Builder::new().give(whole(forward), -9);
+        let wanted = TicCmd {
+            forward: made,
+            side: 127,
+            turn: -32768,
+            mark: -9,
+            chat: 65,
+            buttons: 129,
+        };
+        same!(&rt; command, wanted, forward);
+    }
+}
+
+#[test]
+fn a_given_command_forgets_the_count(rt: HostRuntime) {
+    let rt = &rt;
+    let mut builder = Builder::new();
+    for _ in 0..6 {
+        let _ = builder.make(Input::Pressed(Keys::from_bits(LEFT)), 0);
+    }
+    same!(rt; builder.held(), 6);
+    let given = builder.make(Input::Given(whole(1)), 7);
+    same!(rt; (given.forward, given.mark, builder.held()), (1, 7, 0));
     same!(rt; builder.build(Keys::from_bits(LEFT), 0).turn, 320);
 }
 

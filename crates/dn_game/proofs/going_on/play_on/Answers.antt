@@ -1,33 +1,14 @@
-use Rattle.std.proofs.Common.{length, refl}
-use Rattle.dn_demo.specs.Recorded.{capacity}
-use Rattle.dn_game.specs.GoingOn.{IsPlayedOn}
+use Rattle.std.proofs.Common.{ℕ, length, subst}
+use Rattle.std.specs.Prelude.{IfOk}
+use Rattle.dn_tic.specs.declared.input.Input.{Input}
+use Rattle.dn_game.specs.GoingOn.{HasPlayedOn}
 use Rattle.dn_game.specs.Opening.{rules_in}
-use Rattle.dn_game.specs.Rounds.{keys_of}
-use Rattle.dn_game.proofs.Continuing.{played_on_promised}
+use Rattle.dn_game.proofs.Arriving.{keys_as_inputs}
 use Rattle.dn_game.proofs.going_on.play_on.Goals as goal
 
--- the rounds led on from the game that the events left
-played_on : (g : _) (c : goal.In-Ok g)
-    → IsPlayedOn g.W.World.state (rules_in g.W.World.physics c.args.config (length c.args.worlds.items))
-    c.args.config.settings c.args.events.now (keys_of c.args.keys) c.args.rounds
-    (record c.in_ok-played.played { game = c.good_rounds.new.self })
-played_on g c =
-    let config = c.args.config in
-    let players = length c.args.worlds.items in
-    let played = c.in_ok-played.ensures.promised.events_played in
-    record {
-      before = c.in_ok-played.played;
-      events_played = played;
-      calmed = record {
-        game = c.in-Ok.ensures.good players config.extra (capacity config.limit players) played.last
-            played.game;
-        done = refl;
-        refused = refl;
-      };
-    }
-
-pub returns-in-Ok-clause-promised : goal.returns-in-Ok-clause-promised
-returns-in-Ok-clause-promised g c =
-    let rules = rules_in g.W.World.physics c.args.config (length c.args.worlds.items) in
-    played_on_promised _ rules c.args.config.settings c.args.events.now (keys_of c.args.keys) c.args.rounds _
-    (played_on g c) c.in_ok-played.ensures.admitted.0.0
+pub returns-clause-promised : goal.returns-clause-promised
+returns-clause-promised g c =
+    let P : (ℕ → Input) → Type 0 = λ by. IfOk c.play_on_with.result (λ played. HasPlayedOn g.W.World.state
+    (rules_in g.W.World.physics c.args.config (length c.args.worlds.items)) c.args.config.settings
+    c.args.events.now by c.args.rounds played) in
+    subst P (keys_as_inputs c.args.keys c.pressed.result c.pressed.ensures) c.play_on_with.ensures.promised

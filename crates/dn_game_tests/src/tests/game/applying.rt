@@ -1,7 +1,7 @@
 //! Tests of single events: what they answer, and why they are refused.
 
 use super::told::all_told;
-use super::{applies, build, opened, send};
+use super::{applies, build, give, opened, send};
 use dn_game::{Done, Event, Refusal};
 use dn_node::{Heard, Made, Ran};
 
@@ -20,6 +20,7 @@ fn events_are_refused_in_order(rt: HostRuntime) {
         (send(5, 0), NO_NODE),
         (send(2, 2), NO_NODE),
         (build(2, 1), NO_NODE),
+        (give(2, 1), NO_NODE),
         (Event::Run(2), NO_NODE),
         (Event::Quit(256), NO_NODE),
         (Event::Stop(u32::MAX), NO_NODE),
@@ -28,6 +29,7 @@ fn events_are_refused_in_order(rt: HostRuntime) {
         (Event::Stop(1), Ok(Done::Stopped)),
         (Event::Stop(1), STOPPED),
         (build(1, 1), STOPPED),
+        (give(1, 1), STOPPED),
         (Event::Run(1), STOPPED),
         (Event::Quit(1), STOPPED),
         (send(1, 0), STOPPED),
@@ -58,17 +60,19 @@ fn events_answer_what_nodes_do(rt: HostRuntime) {
         (send(0, 0), Done::Silent),
         (send(1, 0), Done::Silent),
         (build(0, 1), Done::Built(Made::NotPlaying)),
+        (give(0, 1), Done::Built(Made::NotPlaying)),
         (Event::Run(1), Done::Ran(Ran::NotPlaying)),
         (send(0, 1), Done::Sent(0)),
         (Event::Deliver(0), Done::Heard(Heard::Started)),
         (Event::Deliver(0), Done::Heard(Heard::Dropped(6))),
         (Event::Run(1), Done::Ran(Ran::Waiting(0))),
         (build(1, 1), Done::Built(Made::Made(0))),
-        (build(1, 1), Done::Built(Made::Made(1))),
+        (give(1, -128), Done::Built(Made::Made(1))),
         (build(1, 1), Done::Built(Made::Made(2))),
         (build(1, 1), Done::Built(Made::Made(3))),
         (build(1, 1), Done::Built(Made::Made(4))),
         (build(1, 1), Done::Built(Made::Full)),
+        (give(1, 1), Done::Built(Made::Full)),
         (Event::Quit(1), Done::Quit(true)),
         (Event::Quit(1), Done::Quit(false)),
         (build(1, 1), Done::Built(Made::NotPlaying)),

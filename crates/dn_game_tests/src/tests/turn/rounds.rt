@@ -5,8 +5,8 @@ use crate::tests::free_line;
 use dn_line::MemoryHub;
 use dn_machine::Made;
 use dn_node::Node;
-use dn_tic::Keys;
-use dn_turn::{Turned, rounds, turn};
+use dn_tic::{Command, Input, Keys};
+use dn_turn::{Turned, round_with, rounds, turn, turn_with};
 use dn_world::Walk;
 use std::process::Abort;
 
@@ -68,6 +68,74 @@ fn turns_are_told(rt: HostRuntime) {
         };
         same!(rt; turned, told, place);
     }
+}
+
+/// The commands that both nodes are given.
+const COMMANDS: [Command; 2] = [
+    Command {
+        forward: 50,
+        side: -24,
+        turn: 640,
+        chat: 104,
+        buttons: 2,
+    },
+    Command {
+        forward: -128,
+        side: 1,
+        turn: -1,
+        chat: 105,
+        buttons: 1,
+    },
+];
+
+/// Their moves in a demo.
+const MOVES: [u8; 10] = [50, 0xE8, 0x80, 2, 2, 0x81, 1, 0xFF, 0xFF, 1];
+
+/// The two commands, and no key of others.
+fn input_of(player: u8) -> Input {
+    match player {
+        0 => Input::Given(COMMANDS[0]),
+        1 => Input::Given(COMMANDS[1]),
+        _ => Input::Pressed(Keys::from_bits(0)),
+    }
+}
+
+/// Seven rounds of given commands lead to the same counts, and are recorded and told by both nodes.
+#[test]
+fn rounds_take_given_commands(rt: HostRuntime) {
+    let rt = &rt;
+    let mut nodes = must!(rt; pair(rt.alloc()));
+    let mut hub = must!(rt; MemoryHub::new(rt.alloc(), 2));
+    let inputs = [0, 1, 2, 3].map(input_of);
+    for _ in 0..7 {
+        round_with(&mut nodes, &mut hub, &inputs);
+    }
+    counts(rt, &nodes);
+    for node in &nodes {
+        for tic in 0..4 {
+            let first = 13 + 10 * tic;
+            let row = node.demo().get(first..first + 10);
+            same!(rt; row, Some(MOVES.as_slice()), (node.me(), tic));
+        }
+        let letters = [0, 1].map(|player| node.command(player, 3).map(|command| command.chat));
+        same!(rt; letters, [Some(104), Some(105)], node.me());
+    }
+}
+
+/// A turn with a command that is given takes it, once the node plays.
+#[test]
+fn a_turn_takes_a_given_command(rt: HostRuntime) {
+    let rt = &rt;
+    let mut nodes = must!(rt; pair(rt.alloc()));
+    let mut hub = must!(rt; MemoryHub::new(rt.alloc(), 2));
+    same!(rt; turn_with(&mut nodes[0], &mut hub, input_of(1)).made, Made::NotPlaying);
+    same!(rt; turn_with(&mut nodes[1], &mut hub, input_of(1)).made, Made::NotPlaying);
+    same!(rt; turn_with(&mut nodes[1], &mut hub, input_of(1)).made, Made::Made(0));
+    same!(rt; turn(&mut nodes[1], &mut hub, Keys::from_bits(1)).made, Made::Made(1));
+    same!(rt; nodes[1].command(1, 0).map(|command| command.forward), Some(-127));
+    same!(rt; nodes[1].command(1, 0).map(|command| command.chat), Some(105));
+    same!(rt; nodes[1].command(1, 1).map(|command| command.forward), Some(25));
+    same!(rt; nodes[0].command(1, 0), None);
 }
 
 /// No node takes no turn, and no round leaves nodes as they are.

@@ -1,29 +1,50 @@
-use Rattle.std.proofs.Common.{sym, ◌∙◌}
-use Rattle.dn_machine.specs.Worlds.{rules_of}
-use Rattle.dn_machine.proofs.Games.{always}
+use Rattle.dn_tic.specs.declared.command.Move.{Move}
+use Rattle.dn_machine.specs.Worlds.{command}
+use Rattle.std.proofs.Common.{Option, length, ℕ, List, ap, sym, ◌∙◌, subst}
 use Rattle.dn_machine.proofs.Promises
-use Rattle.dn_lockstep.specs.Marking.{free}
-use Rattle.dn_lockstep.proofs.Replaying.{demo_is}
+use Rattle.dn_machine.proofs.Put.{same_functions}
+use Rattle.dn_tic.specs.declared.input.Input.{Input}
+use Rattle.dn_lockstep.specs.Agreed.{AreAgreed}
+use Rattle.dn_lockstep.specs.Demos.{rows_to}
+use Rattle.dn_lockstep.specs.OneGame.{beside}
+use Rattle.dn_lockstep.proofs.Agreeing.{agreed, rows_are, told_is}
+use Rattle.dn_lockstep.proofs.OneGame.{kept}
 use Rattle.dn_lockstep.proofs.laws.locksteps_agree.Goals as goal
 
-pub returns : goal.returns
-returns c marking players extra capacity settings events locksteps game =
-    let rules = rules_of (free marking) players extra capacity in
-    let kept = always rules settings events game.last game.runs in
-    let agree = Promises.agree rules settings game.last kept in
-    let steady = Promises.steady rules settings game.last kept in
-    record {
-      agree = agree;
-      ran = λ p below. (game.nodes p below).table.ran;
-      fits = Promises.fits rules settings game.last kept;
-      steady = steady;
-      consistent = λ p player was should below e. steady.consistent p player was should below
-          (sym (game.nodes p below).stands.phase ∙ e);
-      settings_same = λ p below played. (game.nodes p below).stands.settings
-          ∙ agree.settings_same p below (sym (game.nodes p below).stands.played ∙ played);
-      demos = λ p below played.
-          let r = game.nodes p below in
-          let plays = sym r.stands.played ∙ played in
-          r.demo.bytes ∙ demo_is rules (game.last.nodes p) settings (agree.settings_same p below plays) p
-          plays;
-    }
+pub returns-clause-agreed : goal.returns-clause-agreed
+returns-clause-agreed c marking limits settings session game =
+    subst (λ (inputs : ℕ → List Input). AreAgreed limits settings inputs session.locksteps)
+    (same_functions game.inputs)
+    (agreed (beside marking limits) settings game.last (kept marking limits settings game) session.locksteps
+    game.nodes)
+
+pub returns-clause-told : goal.returns-clause-told
+returns-clause-told c marking limits settings session player game mine =
+    sym (game.rows player)
+    ∙ rows_are (beside marking limits) settings game.last (kept marking limits settings game) session.locksteps
+    game.nodes player mine
+    ∙ ap (λ (inputs : ℕ → List Input). rows_to limits.players inputs (session.locksteps player).ran)
+    (same_functions game.inputs)
+
+pub returns-clause-game_agrees : goal.returns-clause-game_agrees
+returns-clause-game_agrees c marking limits settings session game =
+    Promises.agree (beside marking limits) settings game.last (kept marking limits settings game)
+
+pub returns-clause-game_fits : goal.returns-clause-game_fits
+returns-clause-game_fits c marking limits settings session game =
+    Promises.fits (beside marking limits) settings game.last (kept marking limits settings game)
+
+pub returns-clause-game_steady : goal.returns-clause-game_steady
+returns-clause-game_steady c marking limits settings session game =
+    Promises.steady (beside marking limits) settings game.last (kept marking limits settings game)
+
+pub returns-clause-ran : goal.returns-clause-ran
+returns-clause-ran c marking limits settings session player game mine =
+    (game.nodes player mine).table.ran ∙ ap (length {A = List (Option Move)}) (game.rows player)
+
+pub returns-clause-commands : goal.returns-clause-commands
+returns-clause-commands c marking limits settings session here player tic one game mine tells =
+    told_is (beside marking limits) settings game.last (kept marking limits settings game) session.locksteps
+    game.nodes here mine player tic one tells
+    ∙ ap (λ (inputs : ℕ → List Input). command (beside marking limits) settings inputs player tic)
+    (same_functions game.inputs)

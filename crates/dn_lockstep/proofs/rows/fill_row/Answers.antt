@@ -8,7 +8,7 @@ use Rattle.dn_lockstep.specs.Peers.{peer_at}
 use Rattle.dn_lockstep.specs.Rings.{ring_at}
 use Rattle.dn_lockstep.specs.Rows.{is_gone, has_gone}
 use Rattle.dn_lockstep.proofs.Lowest.{lowest_zero, some_found, some_past}
-use Rattle.dn_lockstep.proofs.Rowing.{seats_below, seat_more, seat_none, seat_free, own_here, own_gone, seats_whole, seats_more, seats_set}
+use Rattle.dn_lockstep.proofs.Rowing.{seats_below, seat_more, seat_none, seat_free, own_here, own_gone, whole_below, seats_more, seats_set}
 use Rattle.dn_lockstep.proofs.Seats.{whole_gone, here_all}
 use Rattle.dn_lockstep.proofs.Telling.{used_recordable}
 use Rattle.dn_lockstep.proofs.rows.fill_row.Goals.{then-gone, else-gone}
@@ -94,7 +94,7 @@ returns-clause-whole c =
 pub returns-clause-recordable : goal.returns-clause-recordable
 returns-clause-recordable c whole = record {
   seats = ap (map is_some) (returns-clause-row c)
-      ∙ seats_whole (ring_at c.args.rings.now) (peer_at c.args.peers.now) c.args.tic c.args.players
+      ∙ whole_below (ring_at c.args.rings.now) (peer_at c.args.peers.now) c.args.tic c.args.players
       (ap (is_whole c.args.players) (sym (returns-clause-row c)) ∙ whole);
   moves = c.loop-player.invariant.able;
 }

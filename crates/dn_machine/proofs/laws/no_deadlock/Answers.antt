@@ -8,11 +8,11 @@ use Rattle.dn_machine.proofs.Progress.{goes_on_with}
 use Rattle.dn_machine.proofs.laws.no_deadlock.Goals as goal
 
 pub returns-clause-goes_on : goal.returns-clause-goes_on
-returns-clause-goes_on g c players extra capacity settings events game run none_lost several fits keys tics
+returns-clause-goes_on g c players extra capacity settings events game run none_lost several fits inputs tics
     room =
     let rules = rules_of g.W.World.physics players extra capacity in
     let same : tics + 6 ≡ tics + 1 + 5 = omega arith in
-    goes_on_with rules settings fits several events game run none_lost keys tics 1 14
+    goes_on_with rules settings fits several events game run none_lost inputs tics 1 14
     (subst (λ (most : ℕ). HasRoom rules game tics most) same room) (omega arith)
 
 pub returns-clause-keeps_on : goal.returns-clause-keeps_on
@@ -21,6 +21,6 @@ returns-clause-keeps_on g c players extra capacity settings events game run none
     none_lost
 
 pub returns-clause-by_events : goal.returns-clause-by_events
-returns-clause-by_events g c players extra capacity game keys rounds =
-    let led = led_rounds (rules_of g.W.World.physics players extra capacity) keys rounds game in
+returns-clause-by_events g c players extra capacity game inputs rounds =
+    let led = led_rounds (rules_of g.W.World.physics players extra capacity) inputs rounds game in
     (led.0, led.1)

@@ -3,7 +3,7 @@ use Rattle.dn_machine.specs.Progress.{good_rounds}
 use Rattle.dn_machine.specs.Worlds.{rules_of}
 use Rattle.dn_game.specs.Contents.{contents}
 use Rattle.dn_game.specs.Represents.{Represents}
-use Rattle.dn_game.specs.Rounds.{keys_of}
+use Rattle.dn_game.specs.Rounds.{pressed_by}
 use Rattle.dn_world.specs.Plane.{walking}
 use Rattle.dn_netgame.proofs.calm.calm_down.Goals as goal
 
@@ -11,7 +11,7 @@ pub returns-in-Ok : goal.returns-in-Ok
 returns-in-Ok c players extra capacity m r =
     let Calm : List ℕ → Type 0 = λ keys. Represents (λ spots. spots) (rules_of walking players extra capacity)
     (contents c.good_rounds.new.self)
-    (good_rounds (rules_of walking players extra capacity) (λ round. keys_of keys) c.args.calm m) in
+    (good_rounds (rules_of walking players extra capacity) (λ round. pressed_by keys) c.args.calm m) in
     record {
       game = subst Calm c.no_keys.ensures (c.in-Ok.ensures.good players extra capacity m r);
       done =

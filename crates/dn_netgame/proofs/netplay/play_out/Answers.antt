@@ -26,7 +26,7 @@ returns g c =
           let shown = subst Shown c.index-nodes-0.is
           (first.seated 0 c.index-nodes-0.result
           (slice_get_read nodes (length nodes) 0 c.index-nodes-0.result same below c.index-nodes-0.is)) in
-          let ended = c.quit.ensures.step seat.players seat.extra seat.capacity seat.me seat.node shown in
+          let ended = c.quit.ensures.step.step _ seat.me seat.node shown in
           let left : Seat = record seat { node = (on_quit seat.node).0 } in
           let last = c.rounds-2.ensures.rounds (put first.after 0 left)
           (seated_with g.W.World.state g.W.World.physics nodes first.after 0 c.quit.new.self left first.seated

@@ -1,3 +1,5 @@
+use Rattle.std.proofs.Common.{ap}
+use Rattle.dn_machine.specs.Node.{is_ended}
 use Rattle.dn_machine.specs.Worlds.{rules_of}
 use Rattle.dn_lockstep.proofs.Replaying.{read_back}
 use Rattle.dn_node.specs.Contents.{locked}
@@ -6,8 +8,8 @@ use Rattle.dn_node.proofs.laws.ended_demos_replay.Goals as goal
 
 pub returns-clause-read : goal.returns-clause-read
 returns-clause-read g c players extra capacity me n m settings cause r played ended known =
-    read_back (rules_of g.W.World.physics players extra capacity) me (locked n) m settings r.lockstep played
-    known cause ended
+    read_back (rules_of g.W.World.physics players extra capacity).limits me (locked n) m settings r.lockstep played
+    known (ap is_ended ended)
 
 pub returns-clause-world : goal.returns-clause-world
 returns-clause-world g c players extra capacity me n m settings r played known =

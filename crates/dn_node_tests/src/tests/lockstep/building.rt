@@ -1,12 +1,12 @@
-//! Tests of the commands that a node builds from keys.
+//! Tests of the commands that a node builds from keys, or is given.
 
 use super::{
     FORWARD, IDLE, LEFT, NO_KEYS, RIGHT, SPEED, STILL, build, given, hears, pair, pass, quit,
     received, run, tic,
 };
 use crate::tests::{STRAFE, built};
-use dn_lockstep::{Heard, Lockstep, Made, Ran};
-use dn_tic::Move;
+use dn_lockstep::{Heard, Lockstep, MOST_AHEAD, Made, Ran};
+use dn_tic::{Command, Move, TicCmd};
 use std::alloc::Global;
 use std::process::Abort;
 use std::test::Fail;
@@ -52,6 +52,93 @@ fn keys_make_commands(rt: HostRuntime) {
         same!(rt; build(&mut key, keys), Made::Made(0));
         same!(rt; must!(rt; carried(rt, &mut key)), bytes, keys);
     }
+}
+
+/// Gives this command. Without a contract, as `build` is.
+fn give(node: &mut Lockstep, command: Command) -> Made {
+    node.give(command)
+}
+
+/// Whether a command would be made.
+fn can_build(node: &Lockstep) -> bool {
+    node.can_build()
+}
+
+/// A player's command, as a node tells it.
+fn told(node: &Lockstep, player: u8, tic: u32) -> Option<TicCmd> {
+    node.command(player, tic)
+}
+
+/// What an engine gives in a tic: the letter of chat tells the tic, and the forward would end a demo.
+fn typed(tic: u8) -> Command {
+    Command {
+        forward: -128,
+        side: 1,
+        turn: 300,
+        chat: tic,
+        buttons: 129,
+    }
+}
+
+#[test]
+fn given_commands_are_told_by_both(rt: HostRuntime) {
+    let rt = &rt;
+    let (mut key, mut other) = must!(rt; pair(rt.alloc(), false));
+    for tic in 0..15 {
+        same!(rt; give(&mut key, typed(tic)), Made::Made(u32::from(tic)));
+        let _ = build(&mut other, NO_KEYS);
+        let _ = pass(&mut key, &mut other);
+        let _ = pass(&mut other, &mut key);
+        same!(rt; (run(&mut key), run(&mut other)), (Ran::Ran(u32::from(tic)), Ran::Ran(u32::from(tic))));
+    }
+    for tic in 0..16 {
+        let wanted = if tic < 3 || tic > 14 {
+            None
+        } else {
+            Some(TicCmd {
+                forward: -127,
+                side: 1,
+                turn: 300,
+                mark: 0,
+                chat: tic,
+                buttons: 129,
+            })
+        };
+        same!(rt; told(&key, 0, u32::from(tic)), wanted, tic);
+        same!(rt; told(&other, 0, u32::from(tic)), wanted, tic);
+    }
+    same!(rt; told(&key, 1, 14), Some(STILL));
+    same!(rt; told(&key, 2, 14), None);
+}
+
+#[test]
+fn five_given_commands_may_wait(rt: HostRuntime) {
+    let rt = &rt;
+    let (mut key, _) = must!(rt; pair(rt.alloc(), false));
+    for tic in 0..MOST_AHEAD as u8 {
+        holds!(rt; can_build(&key), tic);
+        same!(rt; give(&mut key, typed(tic)), Made::Made(u32::from(tic)));
+    }
+    holds!(rt; !can_build(&key));
+    same!(rt; give(&mut key, typed(5)), Made::Full);
+    same!(rt; build(&mut key, NO_KEYS), Made::Full);
+    holds!(rt; quit(&mut key));
+    holds!(rt; !can_build(&key));
+    same!(rt; give(&mut key, typed(5)), Made::NotPlaying);
+}
+
+#[test]
+fn a_command_can_be_built_once_a_tic_was_run(rt: HostRuntime) {
+    let rt = &rt;
+    let (mut key, mut other) = must!(rt; pair(rt.alloc(), false));
+    fills(rt, &mut key);
+    fills(rt, &mut other);
+    holds!(rt; !can_build(&key));
+    let _ = pass(&mut other, &mut key);
+    same!(rt; run(&mut key), Ran::Ran(0));
+    holds!(rt; can_build(&key));
+    same!(rt; build(&mut key, NO_KEYS), Made::Made(5));
+    holds!(rt; !can_build(&key));
 }
 
 /// Builds with these keys, hears of player 1 who stands still, and runs the tic. The answer is the

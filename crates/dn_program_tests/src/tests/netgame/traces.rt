@@ -3,9 +3,11 @@
 use super::games::{DEFAULT_LIMIT, rules};
 use super::printed::{calm, prints, sim, storm};
 use super::scripts::{QUIT, QUIT_SHOWN, STARTED, joined};
-use dn_game::{Done, Refusal};
+use dn_game::{Done, Event, Refusal};
 use dn_netgame::{push_answer, storm_script, trace_sim, trace_storm};
 use dn_node::{Heard, Made, Ran};
+use dn_text::push_trace_line;
+use dn_tic::Command;
 use std::alloc::Global;
 use std::test::Fail;
 
@@ -117,6 +119,46 @@ fn answers_are_told_in_words(rt: HostRuntime) {
     ];
     for (answer, text) in rows {
         same!(rt; must!(rt; words(rt.alloc(), answer)).as_str(), text);
+    }
+}
+
+/// The line of an event in a trace.
+fn trace(alloc: Global, number: usize, event: Event, made: Made) -> Result<String, Fail> {
+    let mut text = String::new(alloc);
+    push_trace_line(&mut text, number, event, Ok(Done::Built(made)))?;
+    Ok(text)
+}
+
+#[test]
+fn given_commands_are_told_whole(rt: HostRuntime) {
+    let rt = &rt;
+    let least = Command {
+        forward: -128,
+        side: -1,
+        turn: -32_768,
+        chat: 0,
+        buttons: 129,
+    };
+    let most = Command {
+        forward: 127,
+        side: 24,
+        turn: 640,
+        chat: 255,
+        buttons: 4,
+    };
+    let rows = [
+        (
+            (0, 1, least, Made::Made(7)),
+            "event 0 give 1 forward -128 side -1 turn -32768 chat 0 buttons 129: built 7\n",
+        ),
+        (
+            (12, 0, most, Made::Full),
+            "event 12 give 0 forward 127 side 24 turn 640 chat 255 buttons 4: full\n",
+        ),
+    ];
+    for ((number, node, command, made), line) in rows {
+        let event = Event::Give { node, command };
+        same!(rt; must!(rt; trace(rt.alloc(), number, event, made)).as_str(), line);
     }
 }
 

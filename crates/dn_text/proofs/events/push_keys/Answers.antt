@@ -12,7 +12,7 @@ returns c =
     let new = string_bytes c.push_letters.new.text in
     let bits = c.bits-bits.result in
     let same : letters_down bits letters ≡ keys_word c.args.keys =
-    sym (cond-false _ _ _ (ne_eqb _ _ c.if-bits-eq0.false)) ∙ ap keys_word c.bits-bits.ensures in
+    sym (cond-false _ _ _ (ne_eqb _ _ c.if-bits-eq0.false)) ∙ ap keys_word c.bits-bits.ensures.value in
     IfOk-weaker c.push_letters.result (λ _. new ≡ old ++ letters_down bits letters)
     (λ _. new ≡ old ++ keys_word c.args.keys)
     (λ _ so. so ∙ ap (λ (t : List ℕ). old ++ t) same) c.push_letters.ensures

@@ -18,7 +18,7 @@ loop-to-preserved-in_default g c =
       before.2,
       λ players extra capacity me m r.
           let so_far = before.3 players extra capacity me m r in
-          let step = c.packet.ensures.step players extra capacity me so_far.after so_far.node in
+          let step = c.packet.ensures.step.step _ me so_far.after so_far.node in
           let below : c.loop-to.to < players =
           omega (arith, c.loop-to-test.true, c.players-to-end.ensures, r.lockstep.whose.players) in
           let none : None ≡ _ = ap (option_map (λ bytes. bytes.items)) (sym c.in_default.is) ∙ step.answer in
@@ -55,7 +55,7 @@ loop-to-preserved g c =
       c.send.ensures.sends_counted ∙ count_more answer given new _ _ counted before.2,
       λ players extra capacity me m r.
           let so_far = before.3 players extra capacity me m r in
-          let step = c.packet.ensures.step players extra capacity me so_far.after so_far.node in
+          let step = c.packet.ensures.step.step _ me so_far.after so_far.node in
           let below : c.loop-to.to < players =
           omega (arith, c.loop-to-test.true, c.players-to-end.ensures, r.lockstep.whose.players) in
           let M : ℕ → Type 0 = λ p. g.L.Line.sends c.loop-to.line p c.loop-to.to c.in-Some.bytes.items answer

@@ -6,7 +6,7 @@ use Rattle.dn_turn.proofs.hearing.hear.Goals as goal
 pub returns : goal.returns
 returns g c players extra capacity me m r =
     let t = c.are_read.ensures in
-    let s = c.receive.ensures.any t.read t.told t.is_read t.is_told players extra capacity me m r in
+    let s = c.receive.ensures.any.step t.read t.told t.is_read t.is_told _ me m r in
     let P : List ℕ → Type 0 = λ bytes. IsReadAs bytes t.read in
     let here : Reading c.args.datagram.now.bytes.items =
     record {

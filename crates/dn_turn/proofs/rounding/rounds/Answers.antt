@@ -1,19 +1,19 @@
 use Rattle.std.proofs.Common.{◌≡◌, ◌+◌, ℕ, suc, length, ◌∙◌, subst, arith}
-use Rattle.dn_turn.specs.Rounds.{TakeTurns, TakeRounds, keys_in}
+use Rattle.dn_turn.specs.Rounds.{TakeTurns, TakeRounds, drawn_in}
 use Rattle.dn_turn.proofs.rounding.rounds.Goals as goal
 
 pub loop-preserved : goal.loop-preserved
 loop-preserved g c =
     let before = c.loop.invariant in
     let round = c.loop.counter in
-    let keys = c.draw-keys.ensures.keys c.args.seed round before.1 in (
-      c.take_turns.auto.nodes ∙ before.0,
-      c.draw-keys.ensures.next c.args.seed round before.1,
+    let drawn = c.draw-inputs.ensures.keys c.args.seed round before.1 in (
+      c.take_turns.ensures.nodes ∙ before.0,
+      c.draw-inputs.ensures.next c.args.seed round before.1,
       λ seats seated.
           let so_far = before.2 seats seated in
-          let one = c.take_turns.ensures.turns c.args.seed round keys so_far.after so_far.seated in
+          let one = c.take_turns.ensures.turns (drawn_in c.args.seed round) drawn so_far.after so_far.seated in
           let N : ℕ → Type 0 = λ n. TakeTurns g.L.Line.sends g.L.Line.polls g.W.World.physics
-          (keys_in c.args.seed round) n (so_far.after, c.loop.line) (one.after, c.take_turns.new.line) in
+          (drawn_in c.args.seed round) n (so_far.after, c.loop.line) (one.after, c.take_turns.new.line) in
           let P : ℕ → Type 0 = λ k. TakeRounds g.L.Line.sends g.L.Line.polls g.W.World.physics c.args.seed
           (length c.args.nodes.now) k (seats, c.args.line.now) (one.after, c.take_turns.new.line) in
           let next : suc round ≡ round + 1 = omega arith in

@@ -1,12 +1,12 @@
 use Rattle.std.proofs.Common.{◌≡◌, ℕ, length}
-use Rattle.dn_turn.specs.Rounds.{keys_in, LeadAll, TakeTurns}
-use Rattle.dn_turn.specs.Streams.{AreKeys}
+use Rattle.dn_tic.specs.declared.input.Input.{Input}
+use Rattle.dn_turn.specs.Rounds.{AreOf, LeadAll, TakeTurns}
 use Rattle.dn_turn.proofs.rounding.take_turns.Given as goal
 
 abbrev pub invariant-loop-place : goal.invariant-loop-place
 invariant-loop-place g l =
     (length l.nodes ≡ length l.fn.nodes)
-    × ((seed round : ℕ) → AreKeys seed round l.keys
+    × ((by : ℕ → Input) → AreOf by l.inputs
     → LeadAll g.W.World.state g.W.World.physics l.fn.nodes l.nodes
-    (λ seats after. TakeTurns g.L.Line.sends g.L.Line.polls g.W.World.physics (keys_in seed round) l.place
-    (seats, l.fn.line) (after, l.line)))
+    (λ seats after. TakeTurns g.L.Line.sends g.L.Line.polls g.W.World.physics by l.place (seats, l.fn.line)
+    (after, l.line)))

@@ -11,7 +11,7 @@ loop-ran-preserved g c =
       omega (arith, before.0, one),
       λ players extra capacity me m r.
           let so_far = before.1 players extra capacity me m r in
-          let step = c.run.ensures.step players extra capacity me so_far.after so_far.node in
+          let step = c.run.ensures.step.step _ me so_far.after so_far.node in
           record {
             after = _;
             node = step.node;
@@ -23,7 +23,7 @@ loop-ran-preserved g c =
 pub returns : goal.returns
 returns g c players extra capacity me m r =
     let so_far = c.loop-ran.invariant.1 players extra capacity me m r in
-    let step = c.run.ensures.step players extra capacity me so_far.after so_far.node in
+    let step = c.run.ensures.step.step _ me so_far.after so_far.node in
     record {
       after = _;
       node = step.node;

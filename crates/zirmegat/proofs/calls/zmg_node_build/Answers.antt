@@ -1,3 +1,5 @@
+use Rattle.std.proofs.Common.{ap}
+use Rattle.dn_tic.specs.declared.input.Input.TheVariants.{Pressed}
 use Rattle.zirmegat.proofs.Calling.{calls_lent, builds_same}
 use Rattle.zirmegat.proofs.calls.zmg_node_build.Goals as goal
 
@@ -8,9 +10,8 @@ returns-in-Some c =
       c.build.result,
       c.of.ensures,
       (
-        builds_same c.from_bits.ensures c.build.ensures.step,
+        builds_same (ap Pressed c.from_bits.ensures) c.build.ensures.step,
         c.build.ensures.full,
         c.build.ensures.idle,
-        c.build.ensures.room,
       ),
     )

@@ -7,5 +7,5 @@ returns-in-Some c =
     c.in-Some.ensures.live c.in-Some.ensures.value (
       c.quit.result,
       c.flag.ensures,
-      (c.quit.ensures.step, c.quit.ensures.idle, c.quit.ensures.room),
+      (c.quit.ensures.step, c.quit.ensures.idle),
     )

@@ -14,6 +14,5 @@ returns-in-Some c =
         c.run_into-ran.ensures.further,
         λ player e. (c.run_into-ran.ensures.waits player e).0,
         λ e. (c.run_into-ran.ensures.idle e).0,
-        c.run_into-ran.ensures.room,
       ),
     )

@@ -17,7 +17,7 @@ returns-in-Ok-boxed c =
       subst P c.with.ensures (
         Ok (contents c.in-Ok-boxed.made.value),
         c.in-Ok-boxed.ensures.admitted,
-        (refl, c.of.ensures, c.in-Ok-boxed.ensures.fresh, c.in-Ok-boxed.ensures.room),
+        (refl, c.of.ensures, c.in-Ok-boxed.ensures.fresh, c.in-Ok-boxed.ensures.whose),
       ),
     )
 

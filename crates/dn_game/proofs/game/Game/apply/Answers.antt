@@ -6,7 +6,7 @@ use Rattle.dn_game.specs.Contents.{contents}
 use Rattle.dn_game.specs.Applied.{IsAddressed}
 use Rattle.dn_game.proofs.Answering.{carries}
 use Rattle.dn_game.proofs.Applying.{after_refused, after_event, after_send, after_step, stops}
-use Rattle.dn_game.proofs.Limits.{limits_step}
+use Rattle.dn_game.proofs.Whose.{whose_step}
 use Rattle.dn_game.proofs.game.Game.apply.Goals as goal
 
 pub returns-in-Some-clause-applied : goal.returns-in-Some-clause-applied
@@ -24,7 +24,13 @@ pub returns-in-Build-clause-applied : goal.returns-in-Build-clause-applied
 returns-in-Build-clause-applied g c players extra capacity m r =
     inl (after_step _ (rules_of g.W.World.physics players extra capacity) _ m _ _ _ _ _ _ _ Done.Built r
     (c.in_default.ensures.told players extra capacity m r) (c.in_default.ensures.there refl) c.in-Build.is
-    (λ h. h) c.index_mut.ensures.value (c.build.ensures.step players extra capacity _ _) refl)
+    (λ h. h) c.index_mut.ensures.value (c.build.ensures.step.step _ _ _) refl)
+
+pub returns-in-Give-clause-applied : goal.returns-in-Give-clause-applied
+returns-in-Give-clause-applied g c players extra capacity m r =
+    inl (after_step _ (rules_of g.W.World.physics players extra capacity) _ m _ _ _ _ _ _ _ Done.Built r
+    (c.in_default.ensures.told players extra capacity m r) (c.in_default.ensures.there refl) c.in-Give.is
+    (λ h. h) c.index_mut-in-Give.ensures.value (c.give.ensures.step.step _ _ _) refl)
 
 pub returns-in-Deliver-clause-applied : goal.returns-in-Deliver-clause-applied
 returns-in-Deliver-clause-applied g c players extra capacity m r =
@@ -38,13 +44,13 @@ pub returns-in-Run-clause-applied : goal.returns-in-Run-clause-applied
 returns-in-Run-clause-applied g c players extra capacity m r =
     inl (after_step _ (rules_of g.W.World.physics players extra capacity) _ m _ _ _ _ _ _ _ Done.Ran r
     (c.in_default.ensures.told players extra capacity m r) (c.in_default.ensures.there refl) c.in-Run.is
-    (λ h. h) c.index_mut-in-Run.ensures.value (c.run.ensures.step players extra capacity _ _) refl)
+    (λ h. h) c.index_mut-in-Run.ensures.value (c.run.ensures.step.step _ _ _) refl)
 
 pub returns-in-Quit-clause-applied : goal.returns-in-Quit-clause-applied
 returns-in-Quit-clause-applied g c players extra capacity m r =
     inl (after_step _ (rules_of g.W.World.physics players extra capacity) _ m _ _ _ _ _ _ _ Done.Quit r
     (c.in_default.ensures.told players extra capacity m r) (c.in_default.ensures.there refl) c.in-Quit.is
-    (λ h. h) c.index_mut-in-Quit.ensures.value (c.quit.ensures.step players extra capacity _ _) refl)
+    (λ h. h) c.index_mut-in-Quit.ensures.value (c.quit.ensures.step.step _ _ _) refl)
 
 pub returns-in-Stop-clause-applied : goal.returns-in-Stop-clause-applied
 returns-in-Stop-clause-applied g c players extra capacity m r =
@@ -65,6 +71,9 @@ returns-in-Send-clause-carried g c = carries _ _ _ _ _ _ (returns-in-Send-clause
 pub returns-in-Build-clause-carried : goal.returns-in-Build-clause-carried
 returns-in-Build-clause-carried g c = carries _ _ _ _ _ _ (returns-in-Build-clause-applied g c)
 
+pub returns-in-Give-clause-carried : goal.returns-in-Give-clause-carried
+returns-in-Give-clause-carried g c = carries _ _ _ _ _ _ (returns-in-Give-clause-applied g c)
+
 pub returns-in-Deliver-clause-carried : goal.returns-in-Deliver-clause-carried
 returns-in-Deliver-clause-carried g c = carries _ _ _ _ _ _ (returns-in-Deliver-clause-applied g c)
 
@@ -77,26 +86,30 @@ returns-in-Quit-clause-carried g c = carries _ _ _ _ _ _ (returns-in-Quit-clause
 pub returns-in-Stop-clause-carried : goal.returns-in-Stop-clause-carried
 returns-in-Stop-clause-carried g c = carries _ _ _ _ _ _ (returns-in-Stop-clause-applied g c)
 
-pub returns-in-Some-clause-limits : goal.returns-in-Some-clause-limits
-returns-in-Some-clause-limits g c = refl
+pub returns-in-Some-clause-whose : goal.returns-in-Some-clause-whose
+returns-in-Some-clause-whose g c = refl
 
-pub returns-in-Send-clause-limits : goal.returns-in-Send-clause-limits
-returns-in-Send-clause-limits g c = c.send.ensures.limits
+pub returns-in-Send-clause-whose : goal.returns-in-Send-clause-whose
+returns-in-Send-clause-whose g c = c.send.ensures.whose
 
-pub returns-in-Build-clause-limits : goal.returns-in-Build-clause-limits
-returns-in-Build-clause-limits g c =
-    limits_step _ _ _ _ c.index_mut.ensures.value c.build.ensures.room
+pub returns-in-Build-clause-whose : goal.returns-in-Build-clause-whose
+returns-in-Build-clause-whose g c =
+    whose_step _ _ _ _ c.index_mut.ensures.value c.build.ensures.step.same
 
-pub returns-in-Deliver-clause-limits : goal.returns-in-Deliver-clause-limits
-returns-in-Deliver-clause-limits g c = c.deliver.ensures.limits
+pub returns-in-Give-clause-whose : goal.returns-in-Give-clause-whose
+returns-in-Give-clause-whose g c =
+    whose_step _ _ _ _ c.index_mut-in-Give.ensures.value c.give.ensures.step.same
 
-pub returns-in-Run-clause-limits : goal.returns-in-Run-clause-limits
-returns-in-Run-clause-limits g c =
-    limits_step _ _ _ _ c.index_mut-in-Run.ensures.value c.run.ensures.room
+pub returns-in-Deliver-clause-whose : goal.returns-in-Deliver-clause-whose
+returns-in-Deliver-clause-whose g c = c.deliver.ensures.whose
 
-pub returns-in-Quit-clause-limits : goal.returns-in-Quit-clause-limits
-returns-in-Quit-clause-limits g c =
-    limits_step _ _ _ _ c.index_mut-in-Quit.ensures.value c.quit.ensures.room
+pub returns-in-Run-clause-whose : goal.returns-in-Run-clause-whose
+returns-in-Run-clause-whose g c =
+    whose_step _ _ _ _ c.index_mut-in-Run.ensures.value c.run.ensures.step.same
 
-pub returns-in-Stop-clause-limits : goal.returns-in-Stop-clause-limits
-returns-in-Stop-clause-limits g c = refl
+pub returns-in-Quit-clause-whose : goal.returns-in-Quit-clause-whose
+returns-in-Quit-clause-whose g c =
+    whose_step _ _ _ _ c.index_mut-in-Quit.ensures.value c.quit.ensures.step.same
+
+pub returns-in-Stop-clause-whose : goal.returns-in-Stop-clause-whose
+returns-in-Stop-clause-whose g c = refl

@@ -1,6 +1,6 @@
 use Rattle.std.proofs.Common.{length, arith}
 use Rattle.dn_game.proofs.Delivering.{delivers}
-use Rattle.dn_game.proofs.Limits.{limits_step}
+use Rattle.dn_game.proofs.Whose.{whose_step}
 use Rattle.dn_game.proofs.Packing.{receiver_below}
 use Rattle.dn_game.proofs.game.Game.deliver.Goals as goal
 
@@ -17,5 +17,5 @@ returns-clause-heard g c players extra capacity m r free =
     c.from.ensures c.index_mut.ensures.value
     c.datagram.ensures.bytes c.receive.ensures.near
 
-pub returns-clause-limits : goal.returns-clause-limits
-returns-clause-limits g c = limits_step _ _ _ _ c.index_mut.ensures.value c.receive.ensures.room
+pub returns-clause-whose : goal.returns-clause-whose
+returns-clause-whose g c = whose_step _ _ _ _ c.index_mut.ensures.value c.receive.ensures.any.same

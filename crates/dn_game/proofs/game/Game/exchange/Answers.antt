@@ -13,8 +13,8 @@ returns-clause-good g c players extra capacity m r =
     (c.apply.ensures.applied players extra capacity m r)
     (c.apply-2.ensures.applied players extra capacity _)
 
-pub returns-clause-limits : goal.returns-clause-limits
-returns-clause-limits g c = c.apply-2.ensures.limits ∙ c.apply.ensures.limits
+pub returns-clause-whose : goal.returns-clause-whose
+returns-clause-whose g c = c.apply-2.ensures.whose ∙ c.apply.ensures.whose
 
 pub returns-then-is_left_out-clause-good : goal.returns-then-is_left_out-clause-good
 returns-then-is_left_out-clause-good g c = search rules

@@ -3,7 +3,7 @@ use Rattle.std.specs.Prelude.{nat_lt}
 use Rattle.dn_machine.specs.Game.{refused}
 use Rattle.dn_game.proofs.Refusing.{refused_send, refused_own}
 use Rattle.dn_game.proofs.game.Game.refused.Goals as goal
-use Rattle.dn_game.proofs.game.Game.refused.Goals.{in-Build, in-Build-2, in-Build-3, in-Build-4}
+use Rattle.dn_game.proofs.game.Game.refused.Goals.{in-Build, in-Build-2, in-Build-3, in-Build-4, in-Build-5}
 
 pub returns-in-Send-2-clause-told : goal.returns-in-Send-2-clause-told
 returns-in-Send-2-clause-told g c players extra capacity m r =
@@ -26,4 +26,5 @@ returns-in-Build-clause-told g c players extra capacity m r =
       | in-Build-2 w ↦ told ∙ refused_own players m _ _ _ w.node-is w.in-Build.is
       | in-Build-3 w ↦ told ∙ refused_own players m _ _ _ w.node-is w.in-Build.is
       | in-Build-4 w ↦ told ∙ refused_own players m _ _ _ w.node-is w.in-Build.is
+      | in-Build-5 w ↦ told ∙ refused_own players m _ _ _ w.node-is w.in-Build.is
     ]

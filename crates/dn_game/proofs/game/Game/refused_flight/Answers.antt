@@ -11,22 +11,22 @@ index-receiver-requires g c =
     below n.receivers c.record-flight.ensures in
     omega (arith, small, c.from.ensures, n.nodes.ok.0)
 
-pub returns-then-is_far-clause-told : goal.returns-then-is_far-clause-told
-returns-then-is_far-clause-told g c players extra capacity m r =
+pub returns-then-not-is_near-clause-told : goal.returns-then-not-is_near-clause-told
+returns-then-not-is_near-clause-told g c players extra capacity m r =
     let below : c.args.which < length c.args.self.now.pool.flights = search rules in
     told_far _ _ _ m r _ below _ c.record-flight.ensures _ _ c.from.ensures c.index-receiver.ensures
-    _ c.made.ensures _ c.is_far.ensures c.if-is_far.true
+    _ c.made.ensures _ c.is_near.ensures.near c.if-not-is_near.true
 
 pub returns-then-stopped-clause-told : goal.returns-then-stopped-clause-told
 returns-then-stopped-clause-told g c players extra capacity m r =
     let below : c.args.which < length c.args.self.now.pool.flights = search rules in
     told_near _ _ _ m r _ below _ c.record-flight.ensures _ _ c.from.ensures c.index-receiver.ensures
-    _ c.made.ensures _ c.is_far.ensures c.if-is_far.false _ true c.from-else-is_far.ensures
+    _ c.made.ensures _ c.is_near.ensures.near c.if-not-is_near.false _ true c.from-else-not-is_near.ensures
     (sym c.if-stopped.true ∙ c.stopped.ensures)
 
 pub returns-else-stopped-clause-told : goal.returns-else-stopped-clause-told
 returns-else-stopped-clause-told g c players extra capacity m r =
     let below : c.args.which < length c.args.self.now.pool.flights = search rules in
     told_near _ _ _ m r _ below _ c.record-flight.ensures _ _ c.from.ensures c.index-receiver.ensures
-    _ c.made.ensures _ c.is_far.ensures c.if-is_far.false _ false c.from-else-is_far.ensures
+    _ c.made.ensures _ c.is_near.ensures.near c.if-not-is_near.false _ false c.from-else-not-is_near.ensures
     (sym c.if-stopped.false ∙ c.stopped.ensures)

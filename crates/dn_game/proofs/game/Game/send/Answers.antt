@@ -6,7 +6,7 @@ use Rattle.dn_machine.specs.Worlds.{rules_of}
 use Rattle.dn_lockstep.specs.Sent.{aim_of, bytes_of}
 use Rattle.dn_node.proofs.Stepping.{along}
 use Rattle.dn_lockstep.proofs.Giving.{none_sent, no_flight}
-use Rattle.dn_game.proofs.Limits.{limits_step}
+use Rattle.dn_game.proofs.Whose.{whose_step}
 use Rattle.dn_game.proofs.Sending.{sends_none, sends_packet, joins, still_below}
 use Rattle.dn_game.proofs.Standing.{node_at}
 use Rattle.dn_game.proofs.game.Game.send.Goals as goal
@@ -15,19 +15,19 @@ pub returns-in_default-aim-clause-sent : goal.returns-in_default-aim-clause-sent
 returns-in_default-aim-clause-sent g c players extra capacity m r =
     let rules = rules_of g.W.World.physics players extra capacity in
     let shown = node_at _ rules _ m r _ _ c.requires.node c.index_mut-sender.ensures.value in
-    let none = no_flight aim_of _ (c.in_default-aim.ensures.told players extra capacity _ _ shown) in
+    let none = no_flight aim_of _ (c.in_default-aim.ensures.told _ _ _ shown) in
     inl (
       Done.Silent,
       refl,
       sends_none _ rules _ m r _ _ c.requires.node c.requires.to _ _
-          (along (none_sent rules _ _ c.args.to none) shown) none c.in-Ok.ensures.kept,
+          (along (none_sent rules.limits _ _ c.args.to none) shown) none c.in-Ok.ensures.kept,
     )
 
 pub returns-else-packet_into-clause-sent : goal.returns-else-packet_into-clause-sent
 returns-else-packet_into-clause-sent g c players extra capacity m r =
     let rules = rules_of g.W.World.physics players extra capacity in
     let shown = node_at _ rules _ m r _ _ c.requires.node c.index_mut-sender.ensures.value in
-    let after = c.packet_into.ensures.step players extra capacity _ _ shown in
+    let after = c.packet_into.ensures.step.step _ _ _ shown in
     let silent = sym (ap (λ (b : Bool). then_some b c.packet_into.new.bytes.items) c.if-packet_into.false)
     ∙ after.answer in
     inl (
@@ -54,28 +54,28 @@ pub returns-then-packet_into-clause-sent : goal.returns-then-packet_into-clause-
 returns-then-packet_into-clause-sent g c players extra capacity m r =
     let rules = rules_of g.W.World.physics players extra capacity in
     let shown = node_at _ rules _ m r _ _ c.requires.node c.index_mut-sender.ensures.value in
-    let step = c.packet_into.ensures.step players extra capacity _ _ shown in
+    let step = c.packet_into.ensures.step.step _ _ _ shown in
     let sent = sym (ap (λ (b : Bool). then_some b c.packet_into.new.bytes.items) c.if-packet_into.true)
     ∙ step.answer in
     inl (
       Done.Sent c.len-which.result,
       refl,
       sends_packet _ rules _ m r _ _ c.requires.node c.requires.to _ _ _ _ _ _ shown c.in-Some.ensures.reach.1
-          (c.in-Some.ensures.told players extra capacity _ _ shown)
+          (c.in-Some.ensures.told _ _ _ shown)
           (record { node = step.node; answer = sent })
-          (c.packet_into.ensures.fair players extra capacity _ _ shown)
+          (c.packet_into.ensures.fair _ _ _ shown)
           (joins _ _ _ _ c.push.ensures.flights c.in-Ok.ensures.kept)
           (c.len-which.ensures ∙ ap length c.in-Ok.ensures.kept),
     )
 
-pub returns-in_default-aim-clause-limits : goal.returns-in_default-aim-clause-limits
-returns-in_default-aim-clause-limits g c =
-    limits_step _ _ _ _ c.index_mut-sender.ensures.value refl
+pub returns-in_default-aim-clause-whose : goal.returns-in_default-aim-clause-whose
+returns-in_default-aim-clause-whose g c =
+    whose_step _ _ _ _ c.index_mut-sender.ensures.value refl
 
-pub returns-else-packet_into-clause-limits : goal.returns-else-packet_into-clause-limits
-returns-else-packet_into-clause-limits g c =
-    limits_step _ _ _ _ c.index_mut-sender.ensures.value c.packet_into.ensures.room
+pub returns-else-packet_into-clause-whose : goal.returns-else-packet_into-clause-whose
+returns-else-packet_into-clause-whose g c =
+    whose_step _ _ _ _ c.index_mut-sender.ensures.value c.packet_into.ensures.step.same
 
-pub returns-then-packet_into-clause-limits : goal.returns-then-packet_into-clause-limits
-returns-then-packet_into-clause-limits g c =
-    limits_step _ _ _ _ c.index_mut-sender.ensures.value c.packet_into.ensures.room
+pub returns-then-packet_into-clause-whose : goal.returns-then-packet_into-clause-whose
+returns-then-packet_into-clause-whose g c =
+    whose_step _ _ _ _ c.index_mut-sender.ensures.value c.packet_into.ensures.step.same

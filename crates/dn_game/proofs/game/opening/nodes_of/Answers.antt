@@ -2,6 +2,7 @@ use Rattle.std.proofs.Common.{rules, ◌≡◌, [], ◌∷◌, ◌++◌, length,
 use Rattle.std.specs.Prelude.{◌==◌}
 use Rattle.std.proofs.lemmas.Bool.{cond-true, eq-eqb}
 use Rattle.dn_lockstep.specs.declared.config.Config.{Config}
+use Rattle.dn_lockstep.specs.Contents.{Whose}
 use Rattle.dn_game.proofs.Freshening.{fresh_more, given_more, given_all, limited_more}
 use Rattle.dn_game.proofs.game.opening.nodes_of.Goals as goal
 
@@ -16,7 +17,7 @@ loop-world-preserved g c =
     let me : c.len-in-loop-world.result ≡ length c.loop-world.nodes.items = search rules in
     let opened = (rw c.config_of-own.ensures at c.in-Ok.ensures.opened) config.settings
     (λ zero. cond-true (c.len-in-loop-world.result == 0) _ _ (eq-eqb _ 0 zero)) in
-    let limit = c.in-Ok.ensures.room ∙ ap (λ (own : Config). own.limit) c.config_of-own.ensures in (
+    let limit = ap (λ (w : Whose). w.limit) c.in-Ok.ensures.whose ∙ ap (λ (own : Config). own.limit) c.config_of-own.ensures in (
       before.0,
       before.1,
       omega (arith, longer, before.2, c.in-Some.ensures.steps.1),

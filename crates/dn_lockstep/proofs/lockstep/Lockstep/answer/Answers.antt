@@ -1,8 +1,9 @@
-use Rattle.std.proofs.Common.{◌≡◌, sym, ap, ◌∙◌, arith}
+use Rattle.std.proofs.Common.{refl, ◌≡◌, sym, ap, ◌∙◌, arith}
 use Rattle.dn_machine.specs.Hearing.{after_request}
 use Rattle.dn_lockstep.specs.Contents.{contents}
 use Rattle.dn_lockstep.specs.Peers.{peer_at}
 use Rattle.dn_lockstep.specs.Reading.{request_in}
+use Rattle.dn_lockstep.proofs.After.{steps}
 use Rattle.dn_lockstep.proofs.Kept.{AreKept, kept_asked, same_end, gone_still, stays_gone, resends_low}
 use Rattle.dn_lockstep.proofs.Taking.{IsRead, leaver_asked}
 use Rattle.dn_lockstep.proofs.lockstep.Lockstep.answer.Goals.{After-ask}
@@ -44,7 +45,7 @@ invariant_of-self-clause-resends c =
     c.args.self.now.resends
 
 pub returns-clause-step : goal.returns-clause-step
-returns-clause-step c cause marking players extra capacity me m r =
+returns-clause-step c cause = steps refl (λ limits me m r.
     let read : IsRead (contents c.args.self.now) c.args.from c.args.packet.now c.made-made.result
     c.in_default.field-0 =
     record {
@@ -55,4 +56,4 @@ returns-clause-step c cause marking players extra capacity me m r =
     } in
     leaver_asked r read cause (peer_at c.ask.new.self) c.requires.played
     (sym c.has_flag.ensures ∙ c.if-has_flag.false) (asked (goal.at.returns-clause-step c).After-ask)
-    c.ask.ensures.others
+    c.ask.ensures.others)

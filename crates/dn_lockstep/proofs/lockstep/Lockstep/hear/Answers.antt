@@ -1,37 +1,35 @@
 use Rattle.std.proofs.Common.{refl, sym, ◌∙◌}
-use Rattle.dn_machine.specs.Worlds.{rules_of}
-use Rattle.dn_lockstep.specs.Marking.{free}
 use Rattle.dn_lockstep.proofs.After.{after}
 use Rattle.dn_lockstep.proofs.Flags.{read_set_up, read_strange, read_killed, read_player}
 use Rattle.dn_lockstep.proofs.lockstep.Lockstep.hear.Goals as goal
 
 pub returns-then-has_flag-clause-step : goal.returns-then-has_flag-clause-step
-returns-then-has_flag-clause-step c told is marking players extra capacity me m r =
-    let step = read_set_up (rules_of (free marking) players extra capacity) me m c.args.from told
+returns-then-has_flag-clause-step c told is limits me m r =
+    let step = read_set_up limits me m c.args.from told
     c.args.packet.now (sym c.has_flag.ensures ∙ c.if-has_flag.true) in
-    let heard = c.hear_set_up.ensures.step told is marking players extra capacity me m r in
+    let heard = c.hear_set_up.ensures.step told is limits me m r in
     after _ _ step heard.node heard.answer
 
 pub returns-then-packet-from-clause-step : goal.returns-then-packet-from-clause-step
-returns-then-packet-from-clause-step c told is marking players extra capacity me m r =
-    let step = read_strange (rules_of (free marking) players extra capacity) me m c.args.from told
+returns-then-packet-from-clause-step c told is limits me m r =
+    let step = read_strange limits me m c.args.from told
     c.args.packet.now (sym c.has_flag.ensures ∙ c.if-has_flag.false)
     (λ e. c.in_default.not-Listening (r.stands.phase ∙ e)) c.if-packet-from.true in
     after m _ step r refl
 
 pub returns-then-has_flag-2-clause-step : goal.returns-then-has_flag-2-clause-step
-returns-then-has_flag-2-clause-step c told is marking players extra capacity me m r =
-    let step = read_killed (rules_of (free marking) players extra capacity) me m c.args.from told
+returns-then-has_flag-2-clause-step c told is limits me m r =
+    let step = read_killed limits me m c.args.from told
     c.args.packet.now (sym c.has_flag.ensures ∙ c.if-has_flag.false)
     (λ e. c.in_default.not-Listening (r.stands.phase ∙ e)) c.if-packet-from.false
     (sym c.has_flag-2.ensures ∙ c.if-has_flag-2.true) in
     after m _ step r refl
 
 pub returns-clause-step : goal.returns-clause-step
-returns-clause-step c told is marking players extra capacity me m r =
-    let step = read_player (rules_of (free marking) players extra capacity) me m c.args.from told
+returns-clause-step c told is limits me m r =
+    let step = read_player limits me m c.args.from told
     c.args.packet.now (sym c.has_flag.ensures ∙ c.if-has_flag.false)
     (λ e. c.in_default.not-Listening (r.stands.phase ∙ e)) c.if-packet-from.false
     (sym c.has_flag-2.ensures ∙ c.if-has_flag-2.false) in
-    let heard = c.hear_player.ensures.step marking players extra capacity me m r in
+    let heard = c.hear_player.ensures.step.step limits me m r in
     after _ _ step heard.node heard.answer

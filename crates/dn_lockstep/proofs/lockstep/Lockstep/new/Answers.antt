@@ -1,15 +1,12 @@
 use Rattle.std.proofs.Common.{rules, refl, ap, ◌∙◌, arith}
-use Rattle.dn_demo.specs.Recorded.{Recorded, capacity}
-use Rattle.dn_machine.specs.Worlds.{rules_of}
+use Rattle.dn_demo.specs.Recorded.{Recorded}
 use Rattle.dn_machine.specs.Game.{fresh}
-use Rattle.dn_lockstep.specs.Marking.{free}
 use Rattle.dn_lockstep.proofs.Opening.{settings_fresh, first_marks, nothing_written}
 use Rattle.dn_lockstep.proofs.lockstep.Lockstep.new.Goals as goal
 
 pub returns-clause-opened : goal.returns-clause-opened
-returns-clause-opened c marking settings key =
+returns-clause-opened c settings key =
     let config = c.args.config in
-    let rule = rules_of (free marking) config.players config.extra (capacity config.limit config.players) in
     record {
       whose = record {
         players = refl;
@@ -34,7 +31,7 @@ returns-clause-opened c marking settings key =
       table = record {
         ran = refl;
         marks = λ p tic below low high. c.new-6.ensures p _
-            ∙ first_marks rule (fresh settings config.me) p tic high;
+            ∙ first_marks (fresh settings config.me) p tic high;
       };
       demo = record {
         bytes = ap (λ (d : Recorded). d.bytes) c.in_ok-demo.ensures.1;
@@ -55,5 +52,5 @@ invariant_of-result c = search rules
 pub returns-clause-admitted : goal.returns-clause-admitted
 returns-clause-admitted c = search rules
 
-pub returns-clause-room : goal.returns-clause-room
-returns-clause-room c = search rules
+pub returns-clause-whose : goal.returns-clause-whose
+returns-clause-whose c = search rules

@@ -1,16 +1,15 @@
 use Rattle.std.proofs.Common.{◌≡◌, ◌-◌, ℕ, refl, ap, sym, ◌∙◌, inl, inr, arith}
 use Rattle.dn_setup.specs.Starts.{bit}
 use Rattle.dn_machine.specs.Node as machine
-use Rattle.dn_machine.specs.Worlds.{Rules, rules_of}
+use Rattle.dn_machine.specs.Limits.{Limits}
 use Rattle.dn_machine.specs.declared.answers.Cause.{Cause}
 use Rattle.dn_machine.specs.declared.answers.Phase.{Phase}
 use Rattle.dn_machine.specs.declared.answers.Phase.TheVariants.{Playing, Ended}
 use Rattle.std.specs.Prelude.{◌⊎◌}
 use Rattle.dn_machine.specs.Sending.{lag, after_sent}
-use Rattle.dn_lockstep.specs.Marking.{free}
 use Rattle.dn_machine.specs.declared.peer.Peer.{Peer}
 use Rattle.dn_lockstep.specs.Sent.{after_giving}
-use Rattle.dn_lockstep.proofs.After.{along}
+use Rattle.dn_lockstep.proofs.After.{along, becomes}
 use Rattle.dn_lockstep.proofs.Counting.{made_is, below}
 use Rattle.dn_lockstep.proofs.Kept.{AreKept, same_end, gone_still, stays_gone, resends_low}
 use Rattle.dn_lockstep.proofs.Peering.{shows_peer}
@@ -20,20 +19,19 @@ use Rattle.dn_lockstep.proofs.lockstep.Lockstep.note_sent.Goals.{After-resend_fr
 use Rattle.dn_lockstep.proofs.lockstep.Lockstep.note_sent.Goals as goal
 
 -- a node that plays or has ended keeps from where on it sends next
-gives : {S : Type 0} (rules : Rules S) (me : ℕ) (m : machine.Node) (to : ℕ) (phase : Phase)
+gives : (limits : Limits) (me : ℕ) (m : machine.Node) (to : ℕ) (phase : Phase)
     → (phase ≡ Playing) ⊎ ((cause : Cause) × (phase ≡ Ended cause))
-    → after_giving rules me m to phase ≡ after_sent rules me m to
-gives rules me m to phase (inl is) = ap (after_giving rules me m to) is
-gives rules me m to phase (inr is) = ap (after_giving rules me m to) is.1
+    → after_giving limits me m to phase ≡ after_sent limits me m to
+gives limits me m to phase (inl is) = ap (after_giving limits me m to) is
+gives limits me m to phase (inr is) = ap (after_giving limits me m to) is.1
 
 pub returns-in-Playing-clause-step : goal.returns-in-Playing-clause-step
-returns-in-Playing-clause-step c marking players extra capacity me m r =
+returns-in-Playing-clause-step c = becomes refl (λ limits me m r.
     let n = c.args.self.now in
-    let rules = rules_of (free marking) players extra capacity in
     let kept = r.peers.known c.args.to (below _ me _ m r c.args.to c.requires.below) in
     let made = c.made.ensures ∙ made_is _ me _ m r n.me_below in
-    let lags : c.lag.result ≡ lag rules = c.lag.ensures ∙ ap bit r.whose.extra in
-    let tic : c.saturating_sub-resend.result ≡ machine.made me m - lag rules =
+    let lags : c.lag.result ≡ lag limits = c.lag.ensures ∙ ap bit r.whose.extra in
+    let tic : c.saturating_sub-resend.result ≡ machine.made me m - lag limits =
     c.saturating_sub-resend.ensures ∙ ap (λ (k : ℕ). k - c.lag.result) made
     ∙ ap (λ (k : ℕ). machine.made me m - k) lags in
     let peer = c.resend_from.ensures.put ∙ ap (λ (x : Peer). record x {
@@ -41,10 +39,10 @@ returns-in-Playing-clause-step c marking players extra capacity me m r =
           c.saturating_sub-resend.result;
     })
     kept in
-    let step = ap (after_giving rules me m c.args.to) (sym r.stands.phase)
-    ∙ gives rules me m c.args.to n.phase c.in-Playing.is
+    let step = ap (after_giving limits me m c.args.to) (sym r.stands.phase)
+    ∙ gives limits me m c.args.to n.phase c.in-Playing.is
     ∙ ap (λ (k : ℕ). machine.with_peer m c.args.to (record (m.peers c.args.to) { resend = k })) (sym tic) in
-    along step (shows_peer r c.args.to _ refl peer c.resend_from.ensures.others)
+    along step (shows_peer r c.args.to _ refl peer c.resend_from.ensures.others))
 
 -- nothing but where its resends start is kept otherwise
 kept : (c : After-resend_from)

@@ -1,5 +1,6 @@
 use Rattle.std.proofs.Common.{rules, ◌≡◌, ◌≤◌, ◌+◌, take, length, ap, ◌∙◌, Some, arith}
 use Rattle.std.proofs.lemmas.List.{length-take}
+use Rattle.dn_lockstep.proofs.After.{steps}
 use Rattle.dn_lockstep.proofs.Giving.{none_given, some_given}
 use Rattle.dn_lockstep.proofs.lockstep.Lockstep.packet_into.Goals.{After-try_extend_from_slice}
 use Rattle.dn_lockstep.proofs.lockstep.Lockstep.packet_into.Goals as goal
@@ -17,19 +18,19 @@ items c =
     search (rules, ok)
 
 pub returns-then-size-eq0-clause-step : goal.returns-then-size-eq0-clause-step
-returns-then-size-eq0-clause-step c marking players extra capacity me m r =
+returns-then-size-eq0-clause-step c = steps c.packet_to-size.ensures.sent.2.same (λ limits me m r.
     let sent = c.packet_to-size.ensures.sent in
-    let after = sent.2 marking players extra capacity me m r in
+    let after = sent.2.step limits me m r in
     record {
       node = after.node;
       answer = none_given sent.0 _ _ _ sent.1 _ after.answer (omega arith);
-    }
+    })
 
 pub returns-clause-step : goal.returns-clause-step
-returns-clause-step c marking players extra capacity me m r =
+returns-clause-step c = steps c.packet_to-size.ensures.sent.2.same (λ limits me m r.
     let sent = c.packet_to-size.ensures.sent in
-    let after = sent.2 marking players extra capacity me m r in
+    let after = sent.2.step limits me m r in
     record {
       node = after.node;
       answer = ap Some (items c) ∙ some_given sent.0 _ _ _ sent.1 _ after.answer c.if-size-eq0.false;
-    }
+    })

@@ -1,13 +1,11 @@
 use Rattle.std.proofs.Common.{Some, None, refl, ap, sym, ◌∙◌, subst}
 use Rattle.std.specs.Option.{option_map}
 use Rattle.dn_packet.specs.Text.{text}
-use Rattle.dn_machine.specs.Worlds.{rules_of}
 use Rattle.dn_lockstep.specs.Contents.{Contents, contents}
 use Rattle.dn_lockstep.specs.Giving.{Reaches, packet_of_aim}
-use Rattle.dn_lockstep.specs.Marking.{free}
 use Rattle.dn_lockstep.specs.Sent.{sent_to, after_giving, aim_of, bytes_of}
 use Rattle.dn_lockstep.specs.Steps.{Tells}
-use Rattle.dn_lockstep.proofs.After.{along}
+use Rattle.dn_lockstep.proofs.After.{along, steps}
 use Rattle.dn_lockstep.proofs.Giving.{none_sent, no_flight, given_shows, spelled}
 use Rattle.dn_lockstep.proofs.Spelling.{IsGivenAs, own_given, set_up_given}
 use Rattle.dn_lockstep.proofs.lockstep.Lockstep.packet_to.Goals.{After-write_own, After-to_packet}
@@ -23,49 +21,46 @@ pub returns-in_default-clause-sent : goal.returns-in_default-clause-sent
 returns-in_default-clause-sent c = (
   None,
   (refl, refl),
-  λ marking players extra capacity me m r.
-      let game = rules_of (free marking) players extra capacity in
-      let none = no_flight aim_of _ (sym c.in_default.is
-      ∙ c.aim.ensures.told marking players extra capacity me m r) in
+  steps refl (λ limits me m r.
+      let none = no_flight aim_of _ (sym c.in_default.is ∙ c.aim.ensures.told limits me m r) in
       record {
-        node = along (none_sent game me m c.args.to none) r;
+        node = along (none_sent limits me m c.args.to none) r;
         answer = sym (ap (option_map bytes_of) none);
-      },
+      }),
 )
 
 -- the own commands that are written are those of the flight that is sent
 own_so : (c : After-write_own) → Tells (contents c.args.self.now)
-    (λ rules me m. IsGivenAs (packet_of_aim (contents c.note_sent.new.self) c.in-Some.aim)
-    (sent_to c.args.to rules me m).1)
-own_so c marking players extra capacity me m r =
+    (λ limits me m. IsGivenAs (packet_of_aim (contents c.note_sent.new.self) c.in-Some.aim)
+    (sent_to c.args.to limits me m).1)
+own_so c limits me m r =
     own_given r c.args.self.now.me_below c.in-Some.aim c.in-Some.ensures.reach.0
     (ap (λ (x : Contents). packet_of_aim x c.in-Some.aim) c.note_sent.ensures.kept)
     c.write_own.ensures.valid c.write_own.ensures.no_stop c.in-Some.ensures.reach.1
-    c.in_default-phase.not-Gathering (c.in-Some.ensures.told marking players extra capacity me m r)
+    c.in_default-phase.not-Gathering (c.in-Some.ensures.told limits me m r)
 
 pub returns-in_default-phase-clause-sent : goal.returns-in_default-phase-clause-sent
 returns-in_default-phase-clause-sent c = (
   Some (text (packet_of_aim (contents c.note_sent.new.self) c.in-Some.aim)),
   c.write_own.ensures.written,
-  λ marking players extra capacity me m r.
-      let sent = (own_so (goal.at.returns-in_default-phase-clause-sent c).After-write_own marking players
-      extra capacity me m r).same in
+  steps c.note_sent.ensures.step.same (λ limits me m r.
+      let sent = (own_so (goal.at.returns-in_default-phase-clause-sent c).After-write_own limits me m r).same in
       record {
         node = given_shows _ me _ _ m c.args.to _ r c.in-Some.ensures.reach.1 sent
-            (c.note_sent.ensures.step marking players extra capacity me m r);
+            (c.note_sent.ensures.step.step limits me m r).node;
         answer = ap (option_map text) sent ∙ spelled _;
-      },
+      }),
 )
 
 pub returns-in_default-phase-clause-fair : goal.returns-in_default-phase-clause-fair
-returns-in_default-phase-clause-fair c marking players extra capacity me m r =
-    (own_so (goal.at.returns-in_default-phase-clause-fair c).After-write_own marking players extra capacity me
+returns-in_default-phase-clause-fair c limits me m r =
+    (own_so (goal.at.returns-in_default-phase-clause-fair c).After-write_own limits me
     m r).fair
 
 -- and so are the settings
 set_up_so : (c : After-to_packet) → Tells (contents c.args.self.now)
-    (λ rules me m. IsGivenAs c.to_packet.result (sent_to c.args.to rules me m).1)
-set_up_so c marking players extra capacity me m r =
+    (λ limits me m. IsGivenAs c.to_packet.result (sent_to c.args.to limits me m).1)
+set_up_so c limits me m r =
     set_up_given r c.args.self.now.me_below c.in-Some.ensures.reach.1 c.in-Gathering.is
     (c.args.self.now.key c.in-Gathering.is) c.in-Some-settings.is c.to_packet.ensures.packet
     c.to_packet.ensures.valid c.to_packet.ensures.in_range
@@ -74,18 +69,18 @@ pub returns-clause-sent : goal.returns-clause-sent
 returns-clause-sent c = (
   Some (text c.to_packet.result),
   c.encode_to.ensures,
-  λ marking players extra capacity me m r.
-      let sent = (set_up_so (goal.at.returns-clause-sent c).After-to_packet marking players extra capacity me
+  steps refl (λ limits me m r.
+      let sent = (set_up_so (goal.at.returns-clause-sent c).After-to_packet limits me
       m r).same in
-      let after = ap (after_giving (rules_of (free marking) players extra capacity) me m c.args.to)
+      let after = ap (after_giving limits me m c.args.to)
       (sym r.stands.phase ∙ c.in-Gathering.is) in
       record {
         node = given_shows _ me _ _ m c.args.to c.to_packet.result r c.in-Some.ensures.reach.1 sent
             (along after r);
         answer = ap (option_map text) sent ∙ spelled _;
-      },
+      }),
 )
 
 pub returns-clause-fair : goal.returns-clause-fair
-returns-clause-fair c marking players extra capacity me m r =
-    (set_up_so (goal.at.returns-clause-fair c).After-to_packet marking players extra capacity me m r).fair
+returns-clause-fair c limits me m r =
+    (set_up_so (goal.at.returns-clause-fair c).After-to_packet limits me m r).fair

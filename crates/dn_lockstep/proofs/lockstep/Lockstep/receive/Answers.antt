@@ -30,13 +30,12 @@ returns-in-Ok c =
     let any = any_read (contents c.args.self.now) c.args.from c.args.bytes.now
     (sym c.hears_none.ensures ∙ c.if-hears_none.false)
     (contents c.hear.new.self) c.hear.result _ c.if-from-self.false c.if-from-self-2.false
-    c.in-Ok.ensures.only c.hear.ensures.step in
+    c.in-Ok.ensures.only c.hear.ensures.same c.hear.ensures.step in
     record {
       any = any;
       near = near_from_any (contents c.args.self.now) (contents c.hear.new.self) c.args.from c.args.bytes.now
           c.hear.result any c.args.self.now.me_below;
       dropped = c.hear.ensures.dropped;
-      room = c.hear.ensures.room;
     }
 
 pub returns-in-Err : goal.returns-in-Err
@@ -50,5 +49,4 @@ returns-in-Err c =
       any = any;
       near = near_from_any n n c.args.from c.args.bytes.now _ any c.args.self.now.me_below;
       dropped = λ number e. refl;
-      room = refl;
     }

@@ -8,20 +8,19 @@ use Rattle.dn_demo.specs.Rows.{IsMove, IsRow}
 use Rattle.dn_demo.specs.declared.recorder.Stage.{Stage}
 use Rattle.dn_demo.specs.declared.recorder.Stage.TheVariants.{Blank, Open, Closed}
 use Rattle.dn_machine.specs.declared.answers.Ran.{Ran}
-use Rattle.dn_machine.specs.Node as machine
 use Rattle.dn_machine.specs.Node.{is_whole, lacks}
-use Rattle.dn_machine.specs.Running.{row_held, tic_limit}
-use Rattle.dn_machine.specs.Worlds.{rules_of}
-use Rattle.dn_lockstep.specs.Marking.{free}
+use Rattle.dn_machine.specs.Running.{row_held, marks_kept, tic_limit}
+use Rattle.dn_lockstep.specs.Contents.{contents, whose}
 use Rattle.dn_lockstep.specs.Peers.{peer_at}
 use Rattle.dn_lockstep.specs.Rings.{ring_at}
 use Rattle.dn_lockstep.specs.Rows.{has_gone, seats_of}
-use Rattle.dn_lockstep.proofs.After.{after}
+use Rattle.dn_lockstep.proofs.After.{after, steps}
 use Rattle.dn_lockstep.proofs.Finding.{row_is, seat_held, seat_empty, full_is}
 use Rattle.dn_lockstep.proofs.Gone.{over_later, gone_later}
 use Rattle.dn_lockstep.proofs.Moving.{IsWritten, shows_moved}
 use Rattle.dn_lockstep.proofs.Room.{row_length, size_more, row_fits}
-use Rattle.dn_lockstep.proofs.Running.{row_full, row_moves}
+use Rattle.dn_lockstep.proofs.Running.{row_full, row_moves, kept_here}
+use Rattle.dn_lockstep.specs.Runs.{marks_in, with_row}
 use Rattle.dn_lockstep.proofs.Seats.{here_all}
 use Rattle.dn_lockstep.proofs.lockstep.Lockstep.run_row.Goals.{After-stamp}
 use Rattle.dn_lockstep.proofs.lockstep.Lockstep.run_row.Goals as goal
@@ -58,13 +57,12 @@ below c e =
     omega arith
 
 pub returns-then-tic-full_at-clause-step : goal.returns-then-tic-full_at-clause-step
-returns-then-tic-full_at-clause-step c marking players extra capacity me m r own =
+returns-then-tic-full_at-clause-step c = steps c.finish.ensures.same (λ limits me m r.
     let n = c.args.self.now in
-    let rules = rules_of (free marking) players extra capacity in
     let row = c.fill_row-whole.ensures.row ∙ row_is r n.window c.requires.there in
     let full = full_is r n.window c.requires.there c.full_at.ensures c.fill_row-whole.ensures.whole row in
-    after _ _ (row_full rules m (sym r.table.ran ∙ c.if-tic-full_at.true ∙ full))
-    (c.finish.ensures.step marking players extra capacity me m r) (refl, refl)
+    after _ _ (ap (with_row limits m) (row_full limits m _ (sym r.table.ran ∙ c.if-tic-full_at.true ∙ full)))
+    (c.finish.ensures.step limits me m r).node (refl, refl))
 
 pub write-requires-clause-room : goal.write-requires-clause-room
 write-requires-clause-room c e =
@@ -149,16 +147,15 @@ invariant_of-self-2-clause-ahead c p inside stays =
     omega arith
 
 pub returns-clause-step : goal.returns-clause-step
-returns-clause-step c marking players extra capacity me m r own =
+returns-clause-step c = steps (ap (λ (k : ℕ). record (whose (contents c.args.self.now)) { limit = k }) c.write.ensures.limit) (λ limits me m r.
     let n = c.args.self.now in
-    let rules = rules_of (free marking) players extra capacity in
     let on = c.requires.plays in
     let row = c.fill_row-whole.ensures.row ∙ row_is r n.window c.requires.there in
     let full = full_is r n.window c.requires.there c.full_at.ensures c.fill_row-whole.ensures.whole row in
-    let whole : c.fill_row-whole.result ≡ is_whole players (row_held rules m) =
+    let whole : c.fill_row-whole.result ≡ is_whole limits.players (row_held limits m) =
     c.fill_row-whole.ensures.whole ∙ (λ i. is_whole (r.whose.players i) (row i)) in
     let opens = opened (goal.at.returns-clause-step c).After-stamp in
-    let written : IsWritten rules n.demo c.write.new.demo (row_held rules m) = record {
+    let written : IsWritten limits n.demo c.write.new.demo (row_held limits m) = record {
       begun = n.begun on;
       open_while = λ e. opens (whole ∙ e);
       stage = c.write.ensures.stage ∙ ap (λ (b : Bool). if b then Open else Closed) whole;
@@ -169,16 +166,15 @@ returns-clause-step c marking players extra capacity me m r own =
           (c.fill_row-whole.ensures.recordable (sym c.fill_row-whole.ensures.whole ∙ whole ∙ e));
       ranged = subst (All (λ step. IfSome step IsMove)) row c.fill_row-whole.ensures.ranged;
     } in
-    let moves = row_moves rules m (λ e. c.if-tic-full_at.false (r.table.ran ∙ e ∙ sym full)) in
-    after _ _ moves
-    (shows_moved rules me _ m (row_held rules m) _ _ r on (n.plays on) (n.known (n.plays on))
+    let moves = row_moves limits m (marks_in c.args.marks.now) (λ e. c.if-tic-full_at.false (r.table.ran ∙ e ∙ sym full)) in
+    after _ _ (ap (with_row limits m) moves)
+    (shows_moved limits me _ m (row_held limits m) (marks_kept limits m (marks_in c.args.marks.now)) _ _ r on (n.plays on) (n.known (n.plays on))
     (λ p inside present. c.stamp.ensures.marks p (omega (arith, inside, n.few))
     (ap (λ (x : List (Option Move)). lacks x p) row
     ∙ seat_held r n.window c.requires.there p inside (omega (arith, inside, n.few)) present)
-    ∙ own _ (ap (λ (x : machine.Node × Ran). x.1) moves) (sym r.stands.phase ∙ on) p
-    (omega (arith, inside, r.whose.players)) present)
+    ∙ sym (kept_here limits m (marks_in c.args.marks.now) p (omega (arith, inside, r.whose.players)) present))
     (λ p j inside gone. c.stamp.ensures.absent p j (omega (arith, inside, n.few))
     (ap (λ (x : List (Option Move)). lacks x p) row
     ∙ seat_empty r n.window c.requires.there p inside (omega (arith, inside, n.few)) gone))
     c.stamp.ensures.others written)
-    (ap Ran.Ran r.table.ran, ap (λ (x : List (Option Move)). Some x) row)
+    (ap Ran.Ran r.table.ran, ap (λ (x : List (Option Move)). Some x) row))

@@ -3,10 +3,9 @@ use Rattle.dn_demo.specs.Recorded.{Recorded}
 use Rattle.dn_demo.specs.Layout.{long_tics}
 use Rattle.dn_demo.specs.Text.{demo_text}
 use Rattle.dn_demo.proofs.RecordedAnew.{length-none}
-use Rattle.dn_machine.specs.Worlds.{rules_of}
-use Rattle.dn_lockstep.specs.Marking.{free}
-use Rattle.dn_lockstep.specs.Contents.{contents}
+use Rattle.dn_lockstep.specs.Contents.{contents, whose}
 use Rattle.dn_lockstep.specs.Rows.{seats_of}
+use Rattle.dn_lockstep.proofs.After.{becomes}
 use Rattle.dn_lockstep.proofs.Starting.{shows_start}
 use Rattle.dn_lockstep.proofs.lockstep.Lockstep.start.Goals as goal
 
@@ -20,12 +19,13 @@ invariant_of-self-clause-size c plays =
     (ap (length {A = Bool}) c.seats-present.ensures) in
     omega arith
 
-pub returns-clause-step : goal.returns-clause-step
-returns-clause-step c marking players extra capacity me m r =
-    shows_start (rules_of (free marking) players extra capacity) me (contents c.args.self.now) m
+pub returns : goal.returns
+returns c = becomes (ap (λ (d : Recorded). record (whose (contents c.args.self.now)) { limit = d.limit })
+    c.head.ensures.written) (λ limits me m r.
+    shows_start limits me (contents c.args.self.now) m
     c.args.settings c.head.new.self r
     (c.args.self.now.unrun (c.args.self.now.waits c.requires))
     (ap (λ (d : Recorded). d.stage) c.head.ensures.written)
     (ap (λ (d : Recorded). d.bytes) c.head.ensures.written
     ∙ (let seats = c.seats-present.ensures ∙ ap seats_of r.whose.players in
-    λ i. demo_text long_tics (c.start-start.ensures.value i) (r.whose.number i) (seats i) [] false))
+    λ i. demo_text long_tics (c.start-start.ensures.value i) (r.whose.number i) (seats i) [] false)))

@@ -8,6 +8,7 @@ use Rattle.dn_lockstep.specs.Contents.{contents}
 use Rattle.dn_lockstep.specs.Peers.{peer_at}
 use Rattle.dn_lockstep.specs.Reading.{request_in}
 use Rattle.dn_lockstep.specs.Rings.{ring_at, is_stop}
+use Rattle.dn_lockstep.proofs.After.{steps}
 use Rattle.dn_lockstep.proofs.Counting.{changed}
 use Rattle.dn_lockstep.proofs.Kept.{AreKept, kept_asked, kept_told, kept_wanted, same_end, gone_still, stays_gone, resends_low}
 use Rattle.dn_lockstep.proofs.Rests.{rest_length, none_behind}
@@ -68,17 +69,17 @@ kept c =
     c.tell.ensures.others
 
 pub returns-then-end-self-clause-step : goal.returns-then-end-self-clause-step
-returns-then-end-self-clause-step c marking players extra capacity me m r =
+returns-then-end-self-clause-step c = steps refl (λ limits me m r.
     over_shows r (read (goal.at.returns-then-end-self-clause-step c).After-as_slice-commands)
-    c.as_slice-commands.ensures.value c.if-end-self.true
+    c.as_slice-commands.ensures.value c.if-end-self.true)
 
 pub returns-then-is_strange_end-clause-step : goal.returns-then-is_strange_end-clause-step
-returns-then-is_strange_end-clause-step c marking players extra capacity me m r =
+returns-then-is_strange_end-clause-step c = steps refl (λ limits me m r.
     odd_shows r (read (goal.at.returns-then-is_strange_end-clause-step c).After-as_slice-commands)
     c.as_slice-commands.ensures.value c.if-end-self.false c.has_flag-exit.ensures c.count-got.ensures
     (ap (λ (q : Peer). is_strange_end c.has_flag-exit.result c.count-got.result q.end
     (c.in-Ok.start + length c.as_slice-commands.result.now)) (sym c.get.ensures)
-    ∙ sym c.is_strange_end.ensures ∙ c.if-is_strange_end.true)
+    ∙ sym c.is_strange_end.ensures ∙ c.if-is_strange_end.true))
 
 -- old commands
 
@@ -103,13 +104,13 @@ invariant_of-self-clause-resends c =
     c.args.self.now.resends
 
 pub returns-then-end-got-clause-step : goal.returns-then-end-got-clause-step
-returns-then-end-got-clause-step c marking players extra capacity me m r =
+returns-then-end-got-clause-step c = steps refl (λ limits me m r.
     let at = goal.at.returns-then-end-got-clause-step c in
     let stale = stale_shows r (read at.After-as_slice-commands) c.as_slice-commands.ensures.value
     c.if-end-self.false c.has_flag-exit.ensures c.count-got.ensures (usual at.After-tell)
     (asked at.After-tell) (ahead at.After-tell) (peer_at c.tell.new.self) (kept at.After-tell).others
     c.if-end-got.true refl in
-    record { node = stale.node; answer = c.left_or.ensures ∙ stale.answer }
+    record { node = stale.node; answer = c.left_or.ensures ∙ stale.answer })
 
 -- a gap
 
@@ -138,13 +139,13 @@ invariant_of-self-then-start-got-clause-resends c =
     c.args.self.now.resends
 
 pub returns-then-start-got-clause-step : goal.returns-then-start-got-clause-step
-returns-then-start-got-clause-step c marking players extra capacity me m r =
+returns-then-start-got-clause-step c = steps refl (λ limits me m r.
     let at = goal.at.returns-then-start-got-clause-step c in
     gap_shows r (read at.After-as_slice-commands) c.as_slice-commands.ensures.value c.if-end-self.false
     c.has_flag-exit.ensures c.count-got.ensures (usual at.After-tell) (asked at.After-tell)
     (ahead at.After-tell) (peer_at c.want.new.self)
     (λ p e. c.want.ensures.others p e ∙ (kept at.After-tell).others p e)
-    c.if-end-got.false c.if-start-got.true c.want.ensures.put
+    c.if-end-got.false c.if-start-got.true c.want.ensures.put)
 
 -- new commands
 
@@ -209,7 +210,7 @@ invariant_of-self-2-clause-resends c p below =
     omega (arith, low, own)
 
 pub returns-clause-step : goal.returns-clause-step
-returns-clause-step c marking players extra capacity me m r =
+returns-clause-step c = steps refl (λ limits me m r.
     let at = goal.at.returns-clause-step c in
     let taken = taken_shows r (read at.After-as_slice-commands) c.as_slice-commands.ensures.value
     c.if-end-self.false c.has_flag-exit.ensures c.count-got.ensures (usual at.After-tell)
@@ -217,7 +218,7 @@ returns-clause-step c marking players extra capacity me m r =
     (λ p e. c.want-2.ensures.others p e ∙ (kept at.After-tell).others p e) (ring_at c.put_all.new.self)
     c.if-end-got.false c.if-start-got.false c.want-2.ensures.put c.put_all.ensures.kept
     c.put_all.ensures.others in
-    record { node = taken.node; answer = c.left_or-2.ensures ∙ taken.answer }
+    record { node = taken.node; answer = c.left_or-2.ensures ∙ taken.answer })
 
 -- a packet that is dropped changes nothing
 

@@ -8,11 +8,9 @@ use Rattle.dn_node.proofs.node.Node.end.Goals as goal
 pub returns-clause-told : goal.returns-clause-told
 returns-clause-told g c =
     tells g.W.World.state g.W.World.physics (contents c.args.self.now)
-    (λ rules me m. c.end.result
-    ≡ (if nat_lt c.args.player rules.players then known_end me m c.args.player else None))
-    (λ rules me m. c.end.result
-    ≡ (if nat_lt c.args.player rules.players then known_end me m c.args.player else None))
-    c.end.ensures.told (λ players extra capacity me m is. is)
+    (λ limits me m. c.end.result
+    ≡ (if nat_lt c.args.player limits.players then known_end me m c.args.player else None))
+    c.end.ensures.told
 
 pub returns-clause-value : goal.returns-clause-value
 returns-clause-value g c = search rules

@@ -1,6 +1,5 @@
 use Rattle.std.proofs.Common.{◌≡◌, refl}
 use Rattle.dn_machine.specs.Running.{on_quit}
-use Rattle.dn_machine.specs.Worlds.{rules_of}
 use Rattle.dn_lockstep.specs.Contents as lockstep
 use Rattle.dn_node.specs.Contents.{contents, with_world}
 use Rattle.dn_node.proofs.Beside.{quit_beside}
@@ -10,7 +9,5 @@ use Rattle.dn_node.proofs.node.Node.quit.Goals as goal
 pub returns-clause-step : goal.returns-clause-step
 returns-clause-step g c =
     steps_beside g.W.World.state g.W.World.physics (contents c.args.self.now)
-    (with_world (lockstep.contents c.quit.new.self) c.args.self.now.world) (λ rules me m. on_quit m)
-    (λ rules me m. on_quit m) (λ quit. c.quit.result ≡ quit) c.quit.ensures.step
-    (λ players extra capacity me m. refl) refl
-    (λ players extra capacity me m. quit_beside (rules_of g.W.World.physics players extra capacity) me m)
+    (with_world (lockstep.contents c.quit.new.self) c.args.self.now.world) (λ limits me m. on_quit m)
+    (λ quit. c.quit.result ≡ quit) c.quit.ensures.step refl (λ limits me m. quit_beside limits me m)

@@ -1,14 +1,10 @@
 use Rattle.std.proofs.Common.{◌≢◌, ℕ, refl, ap, sym, ◌∙◌}
-use Rattle.std.specs.Prelude.{Ok}
 use Rattle.dn_setup.specs.Starts.{start_of}
 use Rattle.dn_machine.specs.declared.answers.Heard.{Heard}
-use Rattle.dn_machine.specs.Hearing.{on_packet}
-use Rattle.dn_machine.specs.Node as machine
 use Rattle.dn_lockstep.specs.Contents as lockstep
-use Rattle.dn_lockstep.specs.Received.{flight_from}
 use Rattle.dn_lockstep.specs.Rows.{seats_of}
 use Rattle.dn_node.specs.Contents.{contents, with_world}
-use Rattle.dn_node.proofs.Hearing.{HasHeard, heard}
+use Rattle.dn_node.proofs.Hearing.{HasHeard, heard_any, heard_near}
 use Rattle.dn_node.proofs.node.Node.receive.Given.{Over}
 use Rattle.dn_node.proofs.node.Node.receive.Goals.{After-begin, After-receive-heard}
 use Rattle.dn_node.proofs.node.Node.receive.Goals as goal
@@ -31,16 +27,12 @@ started g c =
     }
 
 pub returns-in-Started-clause-any : goal.returns-in-Started-clause-any
-returns-in-Started-clause-any g c read told is tells =
-    heard (started g (goal.at.returns-in-Started-clause-any g c).After-begin)
-    (λ players me m. flight_from players c.args.from me (machine.made me m) m.played told read m.phase)
-    (c.receive-heard.ensures.any read told is tells)
+returns-in-Started-clause-any g c =
+    heard_any (started g (goal.at.returns-in-Started-clause-any g c).After-begin) c.receive-heard.ensures.any
 
 pub returns-in-Started-clause-near : goal.returns-in-Started-clause-near
-unfolding on_packet
-returns-in-Started-clause-near g c flight fair spelled sent below other near =
-    heard (started g (goal.at.returns-in-Started-clause-near g c).After-begin) (λ players me m. Ok flight)
-    (c.receive-heard.ensures.near flight fair spelled sent below other near)
+returns-in-Started-clause-near g c =
+    heard_near (started g (goal.at.returns-in-Started-clause-near g c).After-begin) c.receive-heard.ensures.near
 
 -- who has not has the world that it had
 went_on : (g : Over) (c : After-receive-heard g) → c.receive-heard.result ≢ Heard.Started
@@ -58,17 +50,12 @@ went_on g c other =
     }
 
 pub returns-in_default-clause-any : goal.returns-in_default-clause-any
-returns-in_default-clause-any g c read told is tells =
-    heard (went_on g (goal.at.returns-in_default-clause-any g c).After-receive-heard c.in_default.not-Started)
-    (λ players me m. flight_from players c.args.from me (machine.made me m) m.played told read m.phase)
-    (c.receive-heard.ensures.any read told is tells)
+returns-in_default-clause-any g c =
+    heard_any (went_on g (goal.at.returns-in_default-clause-any g c).After-receive-heard c.in_default.not-Started) c.receive-heard.ensures.any
 
 pub returns-in_default-clause-near : goal.returns-in_default-clause-near
-unfolding on_packet
-returns-in_default-clause-near g c flight fair spelled sent below other near =
-    heard
-    (went_on g (goal.at.returns-in_default-clause-near g c).After-receive-heard c.in_default.not-Started)
-    (λ players me m. Ok flight) (c.receive-heard.ensures.near flight fair spelled sent below other near)
+returns-in_default-clause-near g c =
+    heard_near (went_on g (goal.at.returns-in_default-clause-near g c).After-receive-heard c.in_default.not-Started) c.receive-heard.ensures.near
 
 pub returns-in_default-clause-dropped : goal.returns-in_default-clause-dropped
 returns-in_default-clause-dropped g c number e =

@@ -1,0 +1,8 @@
+use Rattle.std.proofs.Common.{refl}
+use Rattle.dn_engine_tests.proofs.Staying.{first_moves, second_moves}
+use Rattle.dn_engine_tests.proofs.pairs.Pair.run.Goals as goal
+
+pub returns : goal.returns
+returns c settings one =
+    let first = first_moves settings _ one c.run.new.lockstep _ c.run.ensures (λ s p. (refl, refl)) in
+    second_moves settings _ first c.run-2.new.lockstep _ c.run-2.ensures (λ s p. (refl, refl))

@@ -1,0 +1,129 @@
+//! A whole game of two.
+
+ghost use Rattle.std.specs.Prelude.{IfOk};
+ghost use Rattle.dn_lockstep.specs.Contents.{contents};
+ghost use Rattle.dn_engine_tests.specs.Pairs.{IsOneGame, Stays, HaveAgreed};
+
+use crate::calls::{give, quit, run};
+use crate::parcel::Parcel;
+use crate::passing::pass;
+use dn_lockstep::{Config, Lockstep, NodeFault, locksteps_agree, one_game_opens};
+use dn_setup::Settings;
+use dn_tic::Command;
+use std::alloc::Global;
+
+/// Two locksteps, and the last packet of each, which comes late once more.
+#[derive(Drop)]
+pub struct Pair {
+    /// Player 0's.
+    pub first: Lockstep,
+    /// Player 1's.
+    pub second: Lockstep,
+    /// Of player 0.
+    pub from_first: Option<Parcel>,
+    /// Of player 1.
+    pub from_second: Option<Parcel>,
+}
+
+/// The two locksteps of a new game.
+pub fn open(alloc: Global, settings: Settings, limit: u32) -> Result<Pair, NodeFault>
+    ensures { IfOk result (λ pair. IsOneGame settings pair) }
+{
+    one_game_opens();
+    let host = Config {
+        players: 2,
+        me: 0,
+        extra: false,
+        limit,
+        settings: Some(settings),
+    };
+    let guest = Config {
+        me: 1,
+        settings: None,
+        ..host
+    };
+    let first = Lockstep::new(alloc, host)?;
+    let second = Lockstep::new(alloc, guest)?;
+    Ok(Pair {
+        first,
+        second,
+        from_first: None,
+        from_second: None,
+    })
+}
+
+impl Pair {
+    /// Both take a command.
+    fn give(&mut self, commands: [Command; 2])
+        ensures { Stays self.old self.new }
+    {
+        let [one, other] = commands;
+        give(&mut self.first, one);
+        give(&mut self.second, other);
+    }
+
+    /// Each hands the other its packets.
+    fn exchange(&mut self)
+        ensures { Stays self.old self.new }
+    {
+        pass(
+            0,
+            &mut self.first,
+            1,
+            &mut self.second,
+            &mut self.from_first,
+        );
+        pass(
+            1,
+            &mut self.second,
+            0,
+            &mut self.first,
+            &mut self.from_second,
+        );
+    }
+
+    /// Both run a tic if they can.
+    fn run(&mut self)
+        ensures { Stays self.old self.new }
+    {
+        run(&mut self.first);
+        run(&mut self.second);
+    }
+
+    /// A command of each, their packets, and a tic of each.
+    fn round(&mut self, commands: [Command; 2])
+        ensures { Stays self.old self.new }
+    {
+        self.give(commands);
+        self.exchange();
+        self.run();
+    }
+
+    /// The second player leaves, and the first hears of it.
+    fn leave(&mut self)
+        ensures { Stays self.old self.new }
+    {
+        quit(&mut self.second);
+        self.exchange();
+        run(&mut self.first);
+    }
+}
+
+/// A game of as many rounds as there are pairs of commands, which the second player leaves at the end.
+pub fn play(
+    alloc: Global,
+    settings: Settings,
+    limit: u32,
+    commands: &[[Command; 2]],
+) -> Result<Pair, NodeFault>
+    ensures one_game { IfOk result (λ pair. IsOneGame settings pair) }
+    ensures agree { IfOk result (λ pair. HaveAgreed (contents pair.first) (contents pair.second)) }
+{
+    locksteps_agree();
+    let mut pair = open(alloc, settings, limit)?;
+    for &both in commands {
+        pair.round(both);
+    }
+    pair.leave();
+    Ok(pair)
+}

@@ -1,0 +1,56 @@
+use Rattle.std.proofs.Common.{refl, ◌∙◌, rules, ◌≡◌, Err, arith}
+use Rattle.dn_machine.specs.Progress.{in_order, turn, good_round}
+use Rattle.dn_machine.specs.Worlds.{rules_of}
+use Rattle.dn_machine.proofs.Leading.{led_none, led_turn}
+use Rattle.dn_game.specs.Contents.{contents}
+use Rattle.dn_game.specs.Rounds.{input_of}
+use Rattle.dn_game.proofs.Arriving.{by_own_input, goes_on, ends}
+use Rattle.dn_game.proofs.game.Game.good_round_with.Goals as goal
+
+pub loop-node-init : goal.loop-node-init
+unfolding in_order
+loop-node-init g c = (λ players extra capacity m r. r, refl)
+
+pub loop-node-preserved : goal.loop-node-preserved
+loop-node-preserved g c = (
+  λ players extra capacity m r.
+      let rules = rules_of g.W.World.physics players extra capacity in
+      let inputs = input_of c.args.inputs.now in
+      goes_on _ rules (turn rules inputs) (led_turn rules inputs) m (contents c.turn.new.self) c.loop-node.node
+      c.turn.result
+      (by_own_input _ rules _ inputs _ c.loop-node.node (contents c.turn.new.self) c.turn.result
+      c.input_at.ensures
+      (c.turn.ensures.good players extra capacity _ (c.loop-node.invariant.0 players extra capacity m r))) _
+      c.in_ok-turn.was,
+  c.turn.ensures.whose ∙ c.loop-node.invariant.1,
+)
+
+pub returns-in_err-turn-clause-good : goal.returns-in_err-turn-clause-good
+returns-in_err-turn-clause-good g c players extra capacity m r =
+    let same : c.from_residual.result ≡ Err c.in_err-turn.field-0.0 = search rules in
+    let rules = rules_of g.W.World.physics players extra capacity in
+    let inputs = input_of c.args.inputs.now in
+    ends _ rules (turn rules inputs) (led_turn rules inputs) m (contents c.turn.new.self) c.loop-node.node
+    c.turn.result
+    (by_own_input _ rules _ inputs _ c.loop-node.node (contents c.turn.new.self) c.turn.result c.input_at.ensures
+    (c.turn.ensures.good players extra capacity _ (c.loop-node.invariant.0 players extra capacity m r))) m _ _
+    _ c.in_err-turn.was same
+    (led_none rules m)
+
+pub returns-clause-good : goal.returns-clause-good
+unfolding good_round
+returns-clause-good g c players extra capacity m r =
+    let all : c.loop-node.node ≡ players = omega (
+      arith,
+      c.loop-node-test.false,
+      c.loop-node.auto.node-end,
+      c.players-node-end.ensures.value,
+      r.players,
+    ) in
+    rw all at (c.loop-node.invariant.0 players extra capacity m r)
+
+pub returns-in_err-turn-clause-whose : goal.returns-in_err-turn-clause-whose
+returns-in_err-turn-clause-whose g c = c.turn.ensures.whose ∙ c.loop-node.invariant.1
+
+pub returns-clause-whose : goal.returns-clause-whose
+returns-clause-whose g c = c.loop-node.invariant.1

@@ -1,0 +1,49 @@
+use Rattle.std.proofs.Common.{refl, ◌∙◌, rules, ◌≡◌, Err, arith}
+use Rattle.dn_machine.specs.Progress.{in_order, good_round, good_rounds}
+use Rattle.dn_machine.specs.Worlds.{rules_of}
+use Rattle.dn_machine.proofs.Leading.{led_none, led_round}
+use Rattle.dn_game.specs.Contents.{contents}
+use Rattle.dn_game.specs.Rounds.{input_of}
+use Rattle.dn_game.proofs.Arriving.{goes_on, ends}
+use Rattle.dn_game.proofs.game.Game.good_rounds_with.Goals as goal
+
+pub loop-init : goal.loop-init
+unfolding in_order
+loop-init g c = (λ players extra capacity m r. r, refl)
+
+pub loop-preserved : goal.loop-preserved
+loop-preserved g c = (
+  λ players extra capacity m r.
+      let rules = rules_of g.W.World.physics players extra capacity in
+      let inputs = input_of c.args.inputs.now in
+      goes_on _ rules (λ before round. good_round rules inputs before)
+      (λ before round. led_round rules inputs before) m (contents c.good_round_with.new.self)
+      c.loop.counter c.good_round_with.result
+      (c.good_round_with.ensures.good players extra capacity _ (c.loop.invariant.0 players extra capacity m r))
+      _ c.in_ok-good_round_with.was,
+  c.good_round_with.ensures.whose ∙ c.loop.invariant.1,
+)
+
+pub returns-in_err-good_round_with-clause-good : goal.returns-in_err-good_round_with-clause-good
+returns-in_err-good_round_with-clause-good g c players extra capacity m r =
+    let same : c.from_residual.result ≡ Err c.in_err-good_round_with.field-0.0 = search rules in
+    let rules = rules_of g.W.World.physics players extra capacity in
+    let inputs = input_of c.args.inputs.now in
+    ends _ rules (λ before round. good_round rules inputs before) (λ before round. led_round rules inputs before)
+    m (contents c.good_round_with.new.self)
+    c.loop.counter c.good_round_with.result
+    (c.good_round_with.ensures.good players extra capacity _ (c.loop.invariant.0 players extra capacity m r)) m
+    _ _ _ c.in_err-good_round_with.was same
+    (led_none rules m)
+
+pub returns-clause-good : goal.returns-clause-good
+unfolding good_rounds
+returns-clause-good g c players extra capacity m r =
+    let all : c.loop.counter ≡ c.args.count = omega (arith, c.loop-test.false, c.loop.auto.counter-end) in
+    rw all at (c.loop.invariant.0 players extra capacity m r)
+
+pub returns-in_err-good_round_with-clause-whose : goal.returns-in_err-good_round_with-clause-whose
+returns-in_err-good_round_with-clause-whose g c = c.good_round_with.ensures.whose ∙ c.loop.invariant.1
+
+pub returns-clause-whose : goal.returns-clause-whose
+returns-clause-whose g c = c.loop.invariant.1

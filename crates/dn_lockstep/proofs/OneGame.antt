@@ -1,0 +1,444 @@
+-- The locksteps of one game stay those of one game, call by call.
+use Rattle.std.proofs.Common.{◌≡◌, ◌<◌, ℕ, ℤ, pos, Bool, true, false, List, [], ◌∷◌, ◌++◌, fold, Option, Some, None, refl, ap, sym, ◌∙◌, subst, arith, inl, inr, append_assoc, append-nil}
+use Rattle.std.specs.Prelude.{◌⊎◌, nat_lt, get_or, slice_get, IfSome}
+use Rattle.std.specs.Option.{option_map}
+use Rattle.std.proofs.lemmas.Bool.{cases_eq, cases_lt, lt-ltb, le-ltb, cond_both}
+use Rattle.std.proofs.lemmas.Option.{none-some}
+use Rattle.std.proofs.Math.Seq.{take-length}
+use Rattle.dn_tic.specs.declared.command.Move.{Move}
+use Rattle.dn_setup.specs.Settings.{Settings}
+use Rattle.dn_machine.specs.declared.answers.Heard.{Heard}
+use Rattle.dn_machine.specs.declared.answers.Made.{Made}
+use Rattle.dn_machine.specs.declared.answers.Ran.{Ran}
+use Rattle.dn_machine.specs.declared.events.Event.{Event}
+use Rattle.dn_machine.specs.declared.events.Event.TheVariants.{Send, Deliver, Run, Quit}
+use Rattle.dn_machine.specs.declared.events.Refusal.{Refusal}
+use Rattle.dn_machine.specs.declared.peer.Peer.{Peer}
+use Rattle.dn_machine.specs.Building.{on_build}
+use Rattle.dn_machine.specs.Flight.{Flight, is_near}
+use Rattle.dn_machine.specs.Game.{fresh, opening_game, own_marks, with_node, posted, delivered, refused_at, refused_flight, refused, applied_if, applied, on_event}
+use Rattle.dn_machine.specs.Hearing.{on_packet}
+use Rattle.dn_machine.specs.Limits.{Limits}
+use Rattle.dn_machine.specs.Node as machine
+use Rattle.dn_machine.specs.Node.{put}
+use Rattle.dn_machine.specs.Running.{is_over, on_run, on_quit}
+use Rattle.dn_machine.specs.Sending.{on_send}
+use Rattle.dn_machine.specs.Worlds.{Rules, opening, mark_in, world_after}
+use Rattle.dn_machine.proofs.Calls.{built, build_cases, send_cases, packet_cases, run_cases, quit_cases}
+use Rattle.dn_machine.proofs.Games
+use Rattle.dn_machine.proofs.Promises
+use Rattle.dn_machine.specs.Drops as drops
+use Rattle.dn_machine.proofs.Invariant.{IsKept}
+use Rattle.dn_machine.proofs.Put.{put_at, put_off, same_functions, slice_get_push}
+use Rattle.dn_lockstep.specs.Contents.{Contents}
+use Rattle.dn_lockstep.specs.Hearing.{HearsNear}
+use Rattle.dn_lockstep.specs.Marking.{History, Marking, free}
+use Rattle.dn_lockstep.specs.Near.{IsFair}
+use Rattle.dn_lockstep.specs.OneGame.{beside, world_told, AreOneGame, IsGivenAs}
+use Rattle.dn_lockstep.specs.Session.{Session, opening_session, with_lockstep, taken_on, after_build, given_on, after_packet, told_on, after_run}
+use Rattle.dn_machine.specs.declared.answers.Phase.{Phase}
+use Rattle.dn_machine.specs.declared.answers.Phase.TheVariants.{Listening, Gathering, Playing, Ended}
+use Rattle.dn_machine.specs.Building.{on_build_in}
+use Rattle.dn_machine.specs.Sending.{set_up_flight}
+use Rattle.std.proofs.Common.{leb, ◌-◌}
+use Rattle.dn_lockstep.specs.Represents.{Represents}
+use Rattle.dn_lockstep.specs.Rings.{count_of}
+use Rattle.dn_lockstep.specs.Rows.{is_gone}
+use Rattle.dn_lockstep.specs.Runs.{marks_in, row_told, RunsBy}
+use Rattle.dn_lockstep.specs.Sent.{sent_to, bytes_of}
+use Rattle.dn_lockstep.specs.Steps.{Steps, Tells, IsAfter}
+use Rattle.dn_lockstep.proofs.Counting.{got_is}
+use Rattle.dn_lockstep.proofs.Running.{kept_same, run_same, run_tells}
+use Rattle.dn_tic.specs.declared.input.Input.{Input}
+use Rattle.dn_machine.specs.Progress.{build_of}
+use Rattle.dn_machine.proofs.Pairs.{accepted_build}
+
+abbrev Rows : Type 0
+Rows = List (List (Option Move))
+
+-- no call but a run changes the rows, and none but a build the inputs
+abbrev pub IsQuiet : machine.Node → machine.Node → Type 0
+IsQuiet m after = (after.rows ≡ m.rows) × (after.inputs ≡ m.inputs)
+
+build_rows : (me : ℕ) (m : machine.Node) (input : Input) → (on_build me m input).0.rows ≡ m.rows
+build_rows me m input = build_cases (record { players = 0; extra = false; capacity = 0 }) me m
+    (λ (x : machine.Node). x.rows ≡ m.rows) input (λ full. refl) (λ plays free. refl)
+
+send_quiet : (limits : Limits) (me : ℕ) (m : machine.Node) (to : ℕ) → IsQuiet m (sent_to to limits me m).0
+send_quiet limits me m to =
+    let P : machine.Node × Option Flight → Type 0 = λ x. IsQuiet m x.0 in
+    cond_both (nat_lt to limits.players) _ _ P
+    (λ below. send_cases limits me m P to (refl, refl) (λ other e. (refl, refl)) (λ other e. (refl, refl))
+    (λ other e. (refl, refl)))
+    (λ past. (refl, refl))
+
+pub hear_quiet : (limits : Limits) (me : ℕ) (m : machine.Node) (flight : Flight)
+    → IsQuiet m (on_packet limits me m flight).0
+hear_quiet limits me m flight = packet_cases limits me m flight
+    (λ (x : machine.Node × Heard). IsQuiet m x.0) (record {
+      dropped = λ number why. (refl, refl);
+      starts = λ s e k. (refl, refl);
+      completes = λ word e all. (refl, refl);
+      notes = λ word e some. (refl, refl);
+      commands = λ plays. record {
+        dropped = λ number why. (refl, refl);
+        stale = λ l. (refl, refl);
+        gap = λ l. (refl, refl);
+        takes = λ l n. (refl, refl);
+      };
+      requests = λ ended. (refl, refl);
+    })
+
+quit_quiet : (m : machine.Node) → IsQuiet m (on_quit m).0
+quit_quiet m = quit_cases (record { players = 0; extra = false; capacity = 0 }) 0 m (IsQuiet m) (refl, refl)
+    (λ goes_on. (refl, refl))
+
+run_inputs : (limits : Limits) (m : machine.Node) (marks : ℕ → ℤ) → (on_run limits m marks).0.inputs ≡ m.inputs
+run_inputs limits m marks = run_cases limits 0 m marks (λ (x : machine.Node). x.inputs ≡ m.inputs)
+    (λ waits. refl) (λ player plays none off. refl) (λ plays none full. refl) (λ plays none room. refl)
+
+build_inputs_in : (me : ℕ) (m : machine.Node) (input : Input) (phase : Phase)
+    → (on_build_in me m input phase).0.inputs ≡ taken_on m.inputs input (on_build_in me m input phase).1
+build_inputs_in me m input Listening = refl
+build_inputs_in me m input Gathering = refl
+build_inputs_in me m input (Ended cause) = refl
+build_inputs_in me m input Playing =
+    cond_both (leb 5 (machine.made me m - machine.ran m)) (m, Made.Full)
+    (built (record { players = 0; extra = false; capacity = 0 }) me m input, Made.Made (machine.made me m))
+    (λ (r : machine.Node × Made). r.0.inputs ≡ taken_on m.inputs input r.1) (λ full. refl) (λ free. refl)
+
+build_inputs : (me : ℕ) (m : machine.Node) (input : Input)
+    → (on_build me m input).0.inputs ≡ taken_on m.inputs input (on_build me m input).1
+unfolding on_build
+build_inputs me m input = build_inputs_in me m input m.phase
+
+-- a packet goes from the node that is asked to the one that it is asked for
+abbrev GoesBetween : ℕ → ℕ → Option Flight → Type 0
+GoesBetween from to flight = IfSome flight (λ flight. (flight.from ≡ from) × (flight.to ≡ to))
+
+set_up_between : (me to : ℕ) (settings : Option Settings) → GoesBetween me to (set_up_flight me to settings)
+set_up_between me to None = tt
+set_up_between me to (Some settings) = (refl, refl)
+
+sent_between : (limits : Limits) (me : ℕ) (m : machine.Node) (to : ℕ)
+    → GoesBetween me to (sent_to to limits me m).1
+sent_between limits me m to =
+    let P : machine.Node × Option Flight → Type 0 = λ x. GoesBetween me to x.1 in
+    cond_both (nat_lt to limits.players) _ _ P
+    (λ below. send_cases limits me m P to tt (λ other e. set_up_between me to m.settings)
+    (λ other e. (refl, refl)) (λ other e. (refl, refl)))
+    (λ past. tt)
+
+-- a node in its own place
+put_same : {A : Type 0} (f : ℕ → A) (i : ℕ) → put f i (f i) ≡ f
+put_same f i = same_functions (λ j. elim (cases_eq j i) [
+  | inl e ↦ put_at f i j (f i) e ∙ ap f (sym e)
+  | inr n ↦ put_off f i j (f i) n
+])
+
+module _ (marking : Marking) (limits : Limits) (settings : Settings) where
+  abbrev pub rules : Rules History
+  rules = beside marking limits
+
+  -- a world that is a history is begun and stepped as its caller is told
+  folds : (history : History) (rows : Rows) → fold (free marking).step history rows
+      ≡ record history { rows = history.rows ++ rows }
+  folds history [] = λ i. record history { rows = sym (append-nil history.rows) i }
+  folds history (row ∷ rows) = folds (record history { rows = history.rows ++ row ∷ [] }) rows
+      ∙ (λ i. record history { rows = append_assoc history.rows (row ∷ []) rows i })
+
+  own_is : (m : machine.Node) (p : ℕ) → m.settings ≡ Some settings
+      → own_marks rules m p ≡ marking (world_told limits settings m.rows) p
+  unfolding world_after
+  own_is m p known =
+      ap (λ (s : Option Settings). mark_in (free marking)
+      (option_map (λ s. world_after rules s m.rows (machine.ran m)) s) p) known
+      ∙ ap (λ (h : History). marking h p)
+      (ap (λ (rows : Rows). fold (free marking).step (opening rules settings) rows) (take-length m.rows)
+      ∙ folds (opening rules settings) m.rows)
+
+  pub opens : (locksteps : ℕ → Contents)
+      → ((p : ℕ) → p < limits.players → Represents limits p (locksteps p) (fresh settings p))
+      → AreOneGame marking limits settings (opening_session locksteps)
+  unfolding opening_game
+  opens locksteps each = record {
+    events = [];
+    last = opening_game settings;
+    runs = refl;
+    nodes = each;
+    inputs = λ p. refl;
+    flights = refl;
+    rows = λ p. refl;
+    fair = λ which flight h. absurd (none-some flight h);
+    going = λ p. refl;
+  }
+
+  module _ {session : Session} (game : AreOneGame marking limits settings session) where
+    abbrev pub node : ℕ → machine.Node
+    node = game.last.nodes
+
+    pub kept : IsKept rules settings game.last
+    kept = Games.always rules settings game.events game.last game.runs
+
+    -- a lockstep that is what it was
+    pub keeps : (i : ℕ) (new : Contents) → new ≡ session.locksteps i
+        → AreOneGame marking limits settings (with_lockstep session i new)
+    keeps i new same =
+        subst (λ (locksteps : ℕ → Contents). AreOneGame marking limits settings
+        (record session { locksteps = locksteps })) (sym (ap (put session.locksteps i) same
+        ∙ put_same session.locksteps i)) game
+
+    -- what is read off the nodes, where one of them is another now
+    read_on : {A : Type 0} (f : machine.Node → A) (values : ℕ → A) (i : ℕ) (m : machine.Node) (value : A)
+        → ((p : ℕ) → f (node p) ≡ values p) → f m ≡ value → (p : ℕ) → f (put node i m p) ≡ put values i value p
+    read_on f values i m value each same p = elim (cases_eq p i) [
+      | inl e ↦ ap f (put_at node i p m e) ∙ same ∙ sym (put_at values i p value e)
+      | inr n ↦ ap f (put_off node i p m n) ∙ each p ∙ sym (put_off values i p value n)
+    ]
+
+    pub read_same : {A : Type 0} (f : machine.Node → A) (values : ℕ → A) (i : ℕ) (m : machine.Node)
+        → ((p : ℕ) → f (node p) ≡ values p) → f m ≡ f (node i) → (p : ℕ) → f (put node i m p) ≡ values p
+    read_same {A = A} f values i m each same p =
+        read_on f values i m (values i) each (same ∙ each i) p ∙ ap (λ (g : ℕ → A). g p) (put_same values i)
+
+    pub rows_stay : (i : ℕ) (m : machine.Node) → m.rows ≡ (node i).rows → (p : ℕ)
+        → (put node i m p).rows ≡ session.told p
+    rows_stay i m = read_same (λ (x : machine.Node). x.rows) session.told i m game.rows
+
+    pub inputs_stay : (i : ℕ) (m : machine.Node) → m.inputs ≡ (node i).inputs → (p : ℕ)
+        → (put node i m p).inputs ≡ session.inputs p
+    inputs_stay i m = read_same (λ (x : machine.Node). x.inputs) session.inputs i m game.inputs
+
+    module _ (i : ℕ) (mine : i < limits.players) where
+      accepts : refused_at limits.players game.last i ≡ None
+      accepts = rw (lt-ltb i limits.players mine, game.going i) refl
+
+      -- after an event that changes this node alone, and adds to the packets
+      pub changes : (event : Event) (m : machine.Node) (flights more : List Flight) (inputs : ℕ → List Input)
+          (rows : ℕ → Rows) (new : Contents)
+          → (applied rules game.last event).0
+          ≡ record { nodes = put node i m; stopped = game.last.stopped; flights = flights }
+          → Represents limits i new m → ((p : ℕ) → (put node i m p).inputs ≡ inputs p) → flights ≡ more
+          → ((which : ℕ) (flight : Flight) → slice_get more which ≡ Some flight → IsFair flight)
+          → ((p : ℕ) → (put node i m p).rows ≡ rows p)
+          → AreOneGame marking limits settings
+          (record { inputs = inputs; given = more; told = rows; locksteps = put session.locksteps i new })
+      changes event m flights more inputs rows new is shows takes same fair tells = record {
+        events = game.events ++ event ∷ [];
+        last = record { nodes = put node i m; stopped = game.last.stopped; flights = flights };
+        runs = Games.goes_on rules settings game.events event (opening_game settings) game.last _ game.runs
+            (inl (sym is));
+        nodes = λ p below. elim (cases_eq p i) [
+          | inl e ↦ rw (put_at session.locksteps i p new e, put_at node i p m e, e) shows
+          | inr n ↦ rw (put_off session.locksteps i p new n, put_off node i p m n) (game.nodes p below)
+        ];
+        inputs = takes;
+        flights = same;
+        rows = tells;
+        fair = fair;
+        going = game.going;
+      }
+
+      -- where neither packets nor rows nor inputs join the session
+      pub moves : (event : Event) (m : machine.Node) (new : Contents)
+          → (applied rules game.last event).0
+          ≡ record { nodes = put node i m; stopped = game.last.stopped; flights = game.last.flights }
+          → Represents limits i new m → IsQuiet (node i) m
+          → AreOneGame marking limits settings (with_lockstep session i new)
+      moves event m new is shows quiet =
+          changes event m game.last.flights session.given session.inputs session.told new is shows
+          (inputs_stay i m quiet.1) game.flights game.fair (rows_stay i m quiet.0)
+
+      -- and after a call that changes nothing of what is represented
+      pub stays : (new : Contents) → Represents limits i new (node i)
+          → AreOneGame marking limits settings (with_lockstep session i new)
+      stays new shows = record {
+        events = game.events;
+        last = game.last;
+        runs = game.runs;
+        nodes = λ p below. elim (cases_eq p i) [
+          | inl e ↦ rw (put_at session.locksteps i p new e, e) shows
+          | inr n ↦ rw (put_off session.locksteps i p new n) (game.nodes p below)
+        ];
+        inputs = game.inputs;
+        flights = game.flights;
+        rows = game.rows;
+        fair = game.fair;
+        going = game.going;
+      }
+
+      by_event : (event : Event) → refused limits.players game.last event ≡ None
+          → (applied rules game.last event).0 ≡ (on_event rules game.last event).0
+      unfolding applied
+      by_event event none = ap (λ (o : Option Refusal). (applied_if rules game.last event o).0) none
+
+      pub builds : (new : Contents) (input : Input) (made : Made)
+          → Steps (session.locksteps i) new (λ limits me m. on_build me m input) (λ answer. made ≡ answer)
+          → AreOneGame marking limits settings (after_build session i input made new)
+      builds new input made steps =
+          let after = steps.step limits i (node i) (game.nodes i mine) in
+          let taken : (on_build i (node i) input).0.inputs ≡ taken_on (session.inputs i) input made =
+          build_inputs i (node i) input
+          ∙ ap (λ (answer : Made). taken_on (node i).inputs input answer) (sym after.answer)
+          ∙ ap (λ (inputs : List Input). taken_on inputs input made) (game.inputs i) in
+          changes (build_of i input) (on_build i (node i) input).0 game.last.flights session.given
+          (put session.inputs i (taken_on (session.inputs i) input made)) session.told new
+          (accepted_build rules game.last i input accepts) after.node
+          (read_on (λ (x : machine.Node). x.inputs) session.inputs i _ _ game.inputs taken)
+          game.flights game.fair (rows_stay i _ (build_rows i (node i) input))
+
+      pub quits : (new : Contents) (quit : Bool)
+          → Steps (session.locksteps i) new (λ limits me m. on_quit m) (λ answer. quit ≡ answer)
+          → AreOneGame marking limits settings (with_lockstep session i new)
+      quits new quit steps =
+          moves (Quit i) (on_quit (node i)).0 new (by_event (Quit i) accepts)
+          (steps.step limits i (node i) (game.nodes i mine)).node (quit_quiet (node i))
+
+      -- run: the marks of the caller's world are those of the node's own
+      pub runs : (new : Contents) (marks : List ℤ) (ran : Ran) (row : Option (List (Option Move)))
+          → ((tic other : ℕ) → ran ≡ Ran.Ran tic → other < limits.players
+          → is_gone (session.locksteps i).peers (session.locksteps i).ran other ≡ false
+          → get_or marks other (pos 0) ≡ marking (world_told limits settings (session.told i)) other)
+          → RunsBy marks (session.locksteps i) new (λ limits m marks. on_run limits m marks)
+          (λ answer told. (ran ≡ answer) × (row ≡ told))
+          → AreOneGame marking limits settings (after_run session i row new)
+      runs new marks ran row duty by =
+          let r = game.nodes i mine in
+          let m : machine.Node = node i in
+          let after = by.step limits i m r in
+          let same : ◌≡◌ {A = machine.Node × Ran} (on_run limits m (marks_in marks))
+          (on_run limits m (own_marks rules m)) =
+          run_same limits m (marks_in marks) (own_marks rules m) (λ tic plays tells.
+          kept_same limits m (marks_in marks) (own_marks rules m) (λ p below present.
+          let sound = kept.sound i mine in
+          duty tic p (after.answer.0 ∙ tells) below
+          (ap (λ (x : ℕ). is_gone (session.locksteps i).peers x p) r.table.ran
+          ∙ ap (λ (x : Option ℕ). is_over x (machine.ran m))
+          (ap (λ (x : Peer). x.end) (r.peers.known p below)) ∙ present)
+          ∙ ap (λ (rows : Rows). marking (world_told limits settings rows) p) (sym (game.rows i))
+          ∙ sym (own_is m p (sound.played (sound.playing plays))))) in
+          let shows = subst (λ (x : machine.Node × Ran). Represents limits i new x.0) same after.node in
+          let tells : (on_run limits m (own_marks rules m)).0.rows ≡ told_on (session.told i) row =
+          run_tells limits m (own_marks rules m)
+          ∙ ap (λ (x : machine.Node × Ran). told_on m.rows (row_told limits m x.1)) (sym same)
+          ∙ ap (told_on m.rows) (sym after.answer.1)
+          ∙ ap (λ (rows : Rows). told_on rows row) (game.rows i) in
+          changes (Run i) (on_run limits m (own_marks rules m)).0 game.last.flights session.given session.inputs
+          (put session.told i (told_on (session.told i) row)) new (by_event (Run i) accepts) shows
+          (inputs_stay i _ (run_inputs limits m (own_marks rules m))) game.flights game.fair
+          (read_on (λ (x : machine.Node). x.rows) session.told i _ _ game.rows tells)
+
+      -- a packet, if one is given
+      fair_on : (o : Option Flight) → IfSome o IsFair → (which : ℕ) (flight : Flight)
+          → slice_get (given_on session.given o) which ≡ Some flight → IsFair flight
+      fair_on None fair which flight h = game.fair which flight h
+      fair_on (Some one) fair which flight h = elim (slice_get_push session.given one which flight h) [
+        | inl before ↦ game.fair which flight before
+        | inr last ↦ subst IsFair (sym last) fair
+      ]
+
+      sends_to : (to : ℕ) → (applied rules game.last (Send i to)).0
+          ≡ record {
+            nodes = put node i (sent_to to limits i (node i)).0;
+            stopped = game.last.stopped;
+            flights = given_on game.last.flights (sent_to to limits i (node i)).1;
+          }
+      unfolding applied
+      sends_to to = elim (cases_lt to limits.players) [
+        | inl below ↦
+            let test = lt-ltb to limits.players below in
+            rw (lt-ltb i limits.players mine, test, game.going i) (posts (on_send limits i (node i) to))
+        | inr past ↦
+            let test = le-ltb to limits.players past in
+            rw (lt-ltb i limits.players mine, test)
+            (λ k. record {
+              nodes = sym (put_same node i) k;
+              stopped = game.last.stopped;
+              flights = game.last.flights;
+            })
+      ]
+        where
+          posts : (x : machine.Node × Option Flight) → (posted (with_node game.last i x.0) x.1).0
+              ≡ record {
+                nodes = put node i x.0;
+                stopped = game.last.stopped;
+                flights = given_on game.last.flights x.1;
+              }
+          posts (m, None) = refl
+          posts (m, Some flight) = refl
+
+      -- a send
+      pub gave : (to : ℕ) (new : Contents) → Represents limits i new (sent_to to limits i (node i)).0
+          → IfSome (sent_to to limits i (node i)).1 IsFair
+          → AreOneGame marking limits settings (after_packet session i (sent_to to limits i (node i)).1 new)
+      gave to new shows fair =
+          changes (Send i to) (sent_to to limits i (node i)).0 _
+          (given_on session.given (sent_to to limits i (node i)).1) session.inputs session.told new (sends_to to)
+          shows (inputs_stay i _ (send_quiet limits i (node i) to).1)
+          (ap (λ (fs : List Flight). given_on fs (sent_to to limits i (node i)).1) game.flights)
+          (fair_on _ fair) (rows_stay i _ (send_quiet limits i (node i) to).0)
+
+      pub gives : (to : ℕ) (new : Contents) (bytes : Option (List ℕ))
+          → Tells (session.locksteps i) (λ limits me m. IfSome (sent_to to limits me m).1 IsFair)
+          → Steps (session.locksteps i) new (λ limits me m. sent_to to limits me m)
+          (λ flight. bytes ≡ option_map bytes_of flight)
+          → (flight : Option Flight) × IsGivenAs (session.locksteps i) i to bytes flight
+          × AreOneGame marking limits settings (after_packet session i flight new)
+      gives to new bytes fair steps =
+          let r = game.nodes i mine in
+          let after = steps.step limits i (node i) r in (
+            (sent_to to limits i (node i)).1,
+            record {
+              players = sent_between limits i (node i) to;
+              bytes = after.answer;
+              aim = λ numbers tells. tells limits i (node i) r;
+            },
+            gave to new after.node (fair limits i (node i) r),
+          )
+
+    -- a packet that was given comes as it was given
+    module _ (which : ℕ) (flight : Flight) (new : Contents) (heard : Heard)
+        (at : slice_get session.given which ≡ Some flight)
+        (near : is_near (count_of (session.locksteps flight.to).rings flight.to) flight ≡ true)
+        (by : HearsNear flight.from (bytes_of flight) (session.locksteps flight.to) new heard) where
+      there : slice_get game.last.flights which ≡ Some flight
+      there = ap (λ (fs : List Flight). slice_get fs which) game.flights ∙ at
+
+      received_by : flight.to < limits.players
+      received_by = (kept.from_inputs.pieces which flight there).receiver
+
+      receiver : Represents limits flight.to (session.locksteps flight.to) (node flight.to)
+      receiver = game.nodes flight.to received_by
+
+      near_there : is_near (machine.made flight.to (node flight.to)) flight ≡ true
+      near_there =
+          let r = receiver in
+          ap (λ (k : ℕ). is_near k flight) (sym (got_is limits flight.to (session.locksteps flight.to)
+          (node flight.to) r flight.to (omega (arith, received_by, r.whose.players)))) ∙ near
+
+      accepted_there : refused_flight game.last (Some flight) ≡ None
+      accepted_there = rw (near_there, game.going flight.to) refl
+
+      heard_there : IsAfter limits flight.to new (on_packet limits flight.to (node flight.to) flight)
+          (λ answer. heard ≡ answer)
+      heard_there =
+          let r = receiver in
+          let piece = kept.from_inputs.pieces which flight there in
+          let steps = by flight (game.fair which flight at) refl refl (omega (arith, piece.sender, r.whose.players))
+          (λ e. piece.apart (e ∙ r.whose.number))
+          (ap (λ (k : ℕ). is_near (count_of (session.locksteps flight.to).rings k) flight) r.whose.number ∙ near) in
+          steps.step limits flight.to (node flight.to) r
+
+      pub hears : AreOneGame marking limits settings (with_lockstep session flight.to new)
+      hears =
+          moves flight.to received_by (Deliver which) (on_packet limits flight.to (node flight.to) flight).0 new
+          (by_event flight.to received_by (Deliver which) (ap (refused_flight game.last) there ∙ accepted_there)
+          ∙ ap (λ (o : Option Flight). (delivered rules game.last o).0) there)
+          heard_there.node (hear_quiet limits flight.to (node flight.to) flight)
+
+      -- it is dropped only as set-up out of place, or by a lockstep that does not play
+      pub steady : (number : ℕ) → heard ≡ Heard.Dropped number
+          → (number ≡ drops.out_of_place) ⊎ (number ≡ drops.not_playing)
+      steady number dropped =
+          (Promises.steady rules settings game.last kept).kept which flight number there accepted_there
+          (sym heard_there.answer ∙ dropped)

@@ -1,0 +1,182 @@
+-- What arrives is delivered, or nothing happens.
+use Rattle.std.proofs.Common.{◌≡◌, ◌≢◌, ◌<◌, ◌⊎◌, ℕ, Bool, true, false, List, refl, ap, sym, ◌∙◌, subst, Option, Some, None, inl, inr, not, ◌&&◌, ltb}
+use Rattle.std.specs.Prelude.{slice_get, Result, Ok, Err, if◌then◌else◌}
+use Rattle.std.proofs.lemmas.Bool.{cases_eq, eq-eqb, ne_eqb}
+use Rattle.dn_packet.specs.declared.packet.Packet.{Packet}
+use Rattle.dn_packet.specs.declared.packet.PacketFault.{PacketFault}
+use Rattle.dn_packet.proofs.Once.{only_packet}
+use Rattle.dn_setup.specs.Settings.{Settings, IsSettings}
+use Rattle.dn_setup.specs.Setup.{setup_packet, IsSetupReadAs}
+use Rattle.dn_setup.specs.declared.setup.SetupFault.{SetupFault}
+use Rattle.dn_setup.specs.declared.setup.SetupFault.TheVariants.{NotSetup, Version, Range}
+use Rattle.dn_machine.specs.declared.answers.Heard.{Heard}
+use Rattle.dn_machine.specs.declared.events.Event.TheVariants.{Deliver}
+use Rattle.dn_machine.specs.declared.events.Refusal.{Refusal}
+use Rattle.dn_machine.specs.Flight.{Kind, SetUp, Play, Exit, Flight, packet_of, is_near, is_close, is_request_close}
+use Rattle.dn_machine.specs.Game.{Game, applied, refused, refused_at, delivered, with_node}
+use Rattle.dn_machine.specs.Hearing.{on_packet}
+use Rattle.dn_machine.specs.Node.{Node, put, made}
+use Rattle.dn_machine.specs.Worlds.{Rules}
+use Rattle.dn_lockstep.specs.Near.{IsFairKind}
+use Rattle.dn_lockstep.specs.Received.{received, IsTold}
+use Rattle.dn_lockstep.proofs.Nearby.{told_by, told_is, near_received}
+use Rattle.dn_seal.specs.declared.opened.Opened.{Opened}
+use Rattle.dn_seal.specs.declared.opened.SealFault.{SealFault}
+use Rattle.dn_open.specs.Sealed.{Seal}
+use Rattle.dn_open.specs.OpenGames.{IsGenuine, Arrives, arrived_if}
+use Rattle.dn_open.proofs.Sealables.{IsSealable, opened_of, opened_is}
+
+-- a node that is put where it stands changes nothing
+put_same : {A : Type 0} (all : ℕ → A) (place : ℕ) → put all place (all place) ≡ all
+put_same {A} all place = λ i other. at other i
+  where
+    at : (other : ℕ) → put all place (all place) other ≡ all other
+    at other = elim (cases_eq other place) [
+      | inl e ↦ let on = eq-eqb other place e in rw on (ap all (sym e))
+      | inr n ↦ let off = ne_eqb other place n in rw off refl
+    ]
+
+same_game : (game : Game) (place : ℕ) → with_node game place (game.nodes place) ≡ game
+same_game game place = λ i. record game { nodes = put_same game.nodes place i }
+
+-- settings are found again in their packet, and nothing else is
+abbrev pub AreFound : Type 0
+AreFound = (s : Settings) (r : Result Settings SetupFault) → IsSettings s → IsSetupReadAs (setup_packet s) r
+    → r ≡ Ok s
+
+-- a packet tells one thing
+not_told : (packet : Packet) → IsSetupReadAs packet (Err NotSetup) → (told : Result Settings SetupFault)
+    → IsSetupReadAs packet told → told ≡ Err NotSetup
+not_told packet off (Ok s) h = absurd (off h.0)
+not_told packet off (Err NotSetup) h = refl
+not_told packet off (Err Version) h = absurd (off h.0)
+not_told packet off (Err Range) h = absurd (off h.0)
+
+only_told : AreFound → (flight : Flight) (kind : Kind) → IsFairKind flight kind
+    → (told : Result Settings SetupFault) → IsSetupReadAs (packet_of (record flight { kind = kind })) told
+    → told ≡ told_by kind
+only_told found flight (SetUp settings) fair told h = found settings told fair.1 h
+only_told found flight Play fair told h = not_told _ (told_is flight Play fair) told h
+only_told found flight Exit fair told h = not_told _ (told_is flight Exit fair) told h
+
+-- packets that two players of the game sent each other
+pub record IsBetween (players : ℕ) (flight : Flight) : Type 0 where
+  pub from : flight.from < players
+  pub apart : flight.from ≢ flight.to
+
+-- each of these packets is such, and has an envelope
+abbrev pub AreSealable : ℕ → List Flight → Type 0
+AreSealable players flights =
+    (which : ℕ) (flight : Flight) → slice_get flights which ≡ Some flight
+    → IsSealable flight × IsBetween players flight
+
+-- a packet whose numbers are close is near
+near_if : (made : ℕ) (flight : Flight) → (is_close made flight.start && is_request_close made flight.request) ≡ true
+    → is_near made flight ≡ true
+near_if made flight close = go flight.kind
+  where
+    go : (kind : Kind) → is_near made (record flight { kind = kind }) ≡ true
+    go (SetUp settings) = refl
+    go Play = close
+    go Exit = close
+
+-- what arrived happened, or nothing did
+abbrev pub Happens : {S : Type 0} → Rules S → Game → Game → Type 0
+Happens rules game next = (next ≡ game) ⊎ ((which : ℕ) × (next ≡ (applied rules game (Deliver which)).0))
+
+module _ {S : Type 0} (rules : Rules S) (game : Game) where
+  -- who is refused nothing has not stopped
+  stands : (node : ℕ) → refused_at rules.players game node ≡ None → game.stopped node ≡ false
+  stands node free = go (ltb node rules.players) (game.stopped node) free
+    where
+      go : (player stopped : Bool)
+          → (if not player then Some Refusal.NoNode else (if stopped then Some Refusal.Stopped else None)) ≡ None
+          → stopped ≡ false
+      go true false e = refl
+      go true true e = absurd (cc)
+      go false stopped e = absurd (cc)
+
+  -- a near packet to a node that stands is delivered
+  delivers : (which : ℕ) (flight : Flight) → slice_get game.flights which ≡ Some flight
+      → is_near (made flight.to (game.nodes flight.to)) flight ≡ true → game.stopped flight.to ≡ false
+      → (applied rules game (Deliver which)).0
+      ≡ with_node game flight.to (on_packet rules.limits flight.to (game.nodes flight.to) flight).0
+  unfolding applied
+  delivers which flight there near stands =
+      let free : refused rules.players game (Deliver which) ≡ None = rw (there, near, stands) refl in
+      rw free (ap (λ (o : Option Flight). (delivered rules game o).0) there)
+
+  hears : (flight : Flight) → IsSealable flight → IsBetween rules.players flight
+      → is_near (made flight.to (game.nodes flight.to)) flight ≡ true
+      → (received rules.limits flight.to (game.nodes flight.to) flight.from (told_by flight.kind) (Ok (packet_of flight))).0
+      ≡ (on_packet rules.limits flight.to (game.nodes flight.to) flight).0
+  hears flight sealable between near =
+      ap (λ (x : Node × Heard). x.0)
+      (near_received rules.limits flight.to (game.nodes flight.to) flight sealable.fair between.from between.apart near)
+
+  module _ (seal : Seal) (node : ℕ) (bytes : List ℕ) (next : Game) where
+    -- by the refusal of what comes to the node
+    abbrev Comes : Result Opened SealFault → Result Packet PacketFault → Result Settings SetupFault
+        → Option Refusal → Type 0
+    Comes opened read told refusal = next ≡ arrived_if rules game node opened read told refusal
+
+    -- a packet that was sealed comes to its receiver
+    module _ (opened : Opened) (which : ℕ) (flight : Flight) (there : slice_get game.flights which ≡ Some flight)
+        (sealable : IsSealable flight) (between : IsBetween rules.players flight) (to : node ≡ flight.to)
+        (same : opened ≡ opened_of flight) where
+      on_time : (timely : Bool)
+          → (is_close (made node (game.nodes node)) opened.start
+          && is_request_close (made node (game.nodes node)) opened.ask) ≡ timely
+          → game.stopped node ≡ false
+          → Comes (Ok opened) (Ok (packet_of flight)) (told_by flight.kind) None → Happens rules game next
+      on_time true is free comes =
+          let close : (is_close (made flight.to (game.nodes flight.to)) flight.start
+          && is_request_close (made flight.to (game.nodes flight.to)) flight.request) ≡ true =
+          sym (λ i. is_close (made (to i) (game.nodes (to i))) (same i).start
+          && is_request_close (made (to i) (game.nodes (to i))) (same i).ask) ∙ is in
+          let near = near_if (made flight.to (game.nodes flight.to)) flight close in
+          let step : next ≡ with_node game node (received rules.limits node (game.nodes node) opened.from
+          (told_by flight.kind) (Ok (packet_of flight))).0 = rw is at comes in
+          inr (
+            which,
+            step
+                ∙ (λ i. with_node game (to i) (received rules.limits (to i) (game.nodes (to i)) (same i).from
+                (told_by flight.kind) (Ok (packet_of flight))).0)
+                ∙ ap (with_node game flight.to) (hears flight sealable between near)
+                ∙ sym (delivers which flight there near (sym (ap game.stopped to) ∙ free)),
+          )
+      on_time false is free comes =
+          let step : next ≡ with_node game node (game.nodes node) = rw is at comes in
+          inl (step ∙ same_game game node)
+
+      comes_to : (refusal : Option Refusal) → refused_at rules.players game node ≡ refusal
+          → Comes (Ok opened) (Ok (packet_of flight)) (told_by flight.kind) refusal → Happens rules game next
+      comes_to (Some r) is comes = inl comes
+      comes_to None is comes = on_time (is_close (made node (game.nodes node)) opened.start
+          && is_request_close (made node (game.nodes node)) opened.ask) refl (stands node is) comes
+
+    -- what is no envelope changes nothing
+    unopened : (fault : SealFault) (read : Result Packet PacketFault) (told : Result Settings SetupFault)
+        (refusal : Option Refusal) → Comes (Err fault) read told refusal → Happens rules game next
+    unopened fault read told (Some r) comes = inl comes
+    unopened fault read told None comes = inl (comes ∙ same_game game node)
+
+    pub arrives : AreFound → AreSealable rules.players game.flights → IsGenuine seal game.flights node bytes
+        → Arrives rules seal game node bytes next → Happens rules game next
+    arrives found are genuine (Ok opened, read, told, is, reads, leads) =
+        let sent = genuine opened is in
+        let flight = sent.1 in
+        let good = are sent.0 flight sent.2 in
+        let fair = good.0.fair in
+        let same = opened_is seal node bytes opened flight is good.0 sent.3 in
+        let items = ap (λ (o : Opened). o.datagram.items) same.1 in
+        let packet = only_packet opened.datagram.items (packet_of flight) fair.packet items read reads.0 in
+        let tells : IsTold (Ok (packet_of flight)) told =
+        subst (λ (r : Result Packet PacketFault). IsTold r told) (sym packet) reads.1 in
+        let settings = only_told found flight flight.kind fair.kind told tells in
+        comes_to opened sent.0 flight sent.2 good.0 good.1 same.0 same.1
+        (refused_at rules.players game node) refl
+        (leads ∙ (λ i. arrived_if rules game node (Ok opened) (sym packet i) (settings i)
+        (refused_at rules.players game node)))
+    arrives found are genuine (Err fault, read, told, is, reads, leads) =
+        unopened fault read told (refused_at rules.players game node) leads

@@ -1,0 +1,171 @@
+-- Every packet of a game can be carried, and sealed.
+use Rattle.std.proofs.Common.{◌≡◌, ◌≢◌, ◌<◌, ◌≤◌, ◌+◌, ◌^◌, ℕ, List, length, negsuc, refl, sym, ap, ◌∙◌, subst, arith, Option, Some, None, take, All}
+use Rattle.std.specs.Prelude.{FitsSigned, IfSome, slice_get, Bool, true, false}
+use Rattle.std.specs.List.{list_any}
+use Rattle.std.specs.Int.{w16}
+use Rattle.std.proofs.Math.Nat.{mod-lt}
+use Rattle.std.proofs.lemmas.Int.{ints}
+use Rattle.std.proofs.lemmas.List.Elements.{All-from_get_or}
+use Rattle.dn_tic.specs.declared.command.TicCmd.{TicCmd}
+use Rattle.dn_tic.specs.declared.input.Input.{Input}
+use Rattle.dn_tic.specs.Command.{IsCommand}
+use Rattle.dn_packet.specs.Text.{IsPacket}
+use Rattle.dn_setup.specs.Settings.{Settings, IsSettings}
+use Rattle.dn_setup.specs.Setup.{setup_packet}
+use Rattle.dn_setup.specs.Starts.{bit}
+use Rattle.dn_machine.specs.Worlds.{Rules, mark_in, worlds_to, command}
+use Rattle.dn_machine.specs.Flight.{Kind, SetUp, Play, Exit, Flight, packet_of, request_flag, request_byte, end_of}
+use Rattle.dn_machine.specs.Game.{Game}
+use Rattle.dn_machine.specs.Node.{blank, has_left}
+use Rattle.dn_machine.specs.Promise.{inputs_of}
+use Rattle.dn_machine.specs.Running.{tic_limit}
+use Rattle.dn_machine.specs.Runs.{Runs}
+use Rattle.dn_machine.proofs.Games.{always}
+use Rattle.dn_machine.proofs.Invariant.{IsPiece, IsKept}
+use Rattle.dn_lockstep.specs.Near.{IsFair, IsFairKind}
+use Rattle.dn_lockstep.specs.Rings.{is_stop}
+use Rattle.dn_lockstep.proofs.Keeping.{none_stops}
+use Rattle.dn_open.specs.Playable.{IsPlayable}
+use Rattle.dn_open.proofs.Commands.{AreInputs, inputs_up_to, made_by-fits, made_by-goes_on}
+use Rattle.dn_open.proofs.Deliveries.{IsBetween, AreSealable}
+use Rattle.dn_open.proofs.Sealables.{IsSealable}
+use Rattle.dn_open.proofs.Sends.{IsSent, always_sent}
+
+-- a packet of settings
+bit_low : (b : Bool) → bit b ≤ 1
+bit_low true = omega arith
+bit_low false = omega arith
+
+setup_fits : (s : Settings) → IsSettings s → IsPacket (setup_packet s)
+setup_fits s is =
+    let respawn = bit_low s.respawn in
+    let monsters = bit_low s.no_monsters in
+    let a = is.skill in
+    let b = is.deathmatch in
+    let c = is.episode.1 in
+    let d = is.map.1 in
+    record {
+      flags = omega arith;
+      ask = omega arith;
+      start = omega arith;
+      player = omega arith;
+      count = omega arith;
+      commands = λ k d l. absurd (omega arith);
+    }
+
+request_flag_low : (request : Option ℕ) → request_flag request ≤ 4
+request_flag_low None = omega arith
+request_flag_low (Some tic) = omega arith
+
+request_byte_low : (request : Option ℕ) → request_byte request < 256
+request_byte_low None = omega arith
+request_byte_low (Some tic) = mod-lt tic (omega arith)
+
+-- a packet of a game that a datagram can carry can be sealed
+module _ {S : Type 0} (rules : Rules S) (settings : Settings) (few : rules.players ≤ 4)
+    (short : rules.capacity ≤ tic_limit) (game : Game)
+    (kept : IsKept rules settings game) (which : ℕ) (flight : Flight)
+    (there : slice_get game.flights which ≡ Some flight) where
+  -- a player's count of commands
+  low : (p : ℕ) → p < rules.players → length (inputs_of game p) < 2 ^ 32
+  low p l =
+      let ahead = kept.from_inputs.ahead p l in
+      let most = (kept.sound p l).most short in
+      omega arith
+
+  asks_low : (request : Option ℕ) → flight.request ≡ request → IfSome request (λ tic. tic < 2 ^ 32)
+  asks_low None e = tt
+  asks_low (Some tic) e =
+      let piece = kept.from_inputs.pieces which flight there in
+      let a = piece.request tic e in
+      let b = low flight.to piece.receiver in
+      omega arith
+
+  pub fair_sealable : IsFair flight → IsSealable flight × IsBetween rules.players flight
+  fair_sealable fair =
+      let piece = kept.from_inputs.pieces which flight there in
+      let reached = piece.reached in
+      let own = low flight.from piece.sender in
+      let from = piece.sender in
+      let to = piece.receiver in (
+        record {
+          fair = fair;
+          from = omega arith;
+          to = omega arith;
+          start = omega arith;
+          ask = asks_low flight.request refl;
+        },
+        record { from = from; apart = piece.apart },
+      )
+
+module _ {S : Type 0} (rules : Rules S) (settings : Settings) (playable : IsPlayable rules.players rules.capacity settings)
+    (marks : (world : S) (player : ℕ) → FitsSigned w16 (rules.physics.mark world player)) where
+  -- each command has a mark that fits
+  mark_fits : (world : Option S) (player : ℕ) → FitsSigned w16 (mark_in rules.physics world player)
+  mark_fits None player = omega (arith, ints)
+  mark_fits (Some w) player = marks w player
+
+  command-fits : (inputs : ℕ → List Input) (p tic : ℕ) → AreInputs (inputs p)
+      → IsCommand (command rules settings inputs p tic)
+  unfolding command
+  command-fits inputs p tic all =
+      made_by-fits (take (tic + 1) (inputs p)) _ (inputs_up_to (inputs p) (tic + 1) all)
+      (mark_fits (slice_get (worlds_to rules settings inputs tic) 12) p)
+
+  command-goes_on : (inputs : ℕ → List Input) (p tic : ℕ)
+      → (command rules settings inputs p tic).forward ≢ negsuc 127
+  unfolding command
+  command-goes_on inputs p tic =
+      made_by-goes_on (take (tic + 1) (inputs p))
+      (mark_in rules.physics (slice_get (worlds_to rules settings inputs tic) 12) p)
+
+  module _ (inputs : ℕ → List Input) (left : ℕ → Bool) (flight : Flight)
+      (piece : IsPiece rules settings inputs left flight) (sent : IsSent flight)
+      (given : AreInputs (inputs flight.from)) where
+    all_fit : All IsCommand flight.commands
+    all_fit = All-from_get_or IsCommand flight.commands blank
+        (λ j l. subst IsCommand (sym (piece.commands j l))
+        (command-fits inputs flight.from (flight.start + j) given))
+
+    all_go_on : list_any is_stop flight.commands ≡ false
+    all_go_on = none_stops flight.commands
+        (All-from_get_or (λ c. c.forward ≢ negsuc 127) flight.commands blank
+        (λ j l e. command-goes_on inputs flight.from (flight.start + j)
+        (ap (λ (c : TicCmd). c.forward) (sym (piece.commands j l)) ∙ e)))
+
+    low_from : flight.from < 256
+    low_from = let a = piece.sender in let b = playable.few in omega arith
+
+    commands_fit : (flags : ℕ) → flags ≤ 8 → IsPacket (Rattle.dn_machine.specs.Flight.commands_packet flags flight)
+    commands_fit flags low =
+        let asked = request_flag_low flight.request in
+        record {
+          flags = omega arith;
+          ask = request_byte_low flight.request;
+          start = mod-lt flight.start (omega arith);
+          player = low_from;
+          count = sent.few;
+          commands = all_fit;
+        }
+
+    packet_fits : (kind : Kind) → flight.kind ≡ kind → IsPacket (packet_of (record flight { kind = kind }))
+    packet_fits (SetUp s) e = setup_fits s (subst IsSettings (sym (piece.set_up s e)) playable.settings)
+    packet_fits Play e = commands_fit 0 (omega arith)
+    packet_fits Exit e = commands_fit 8 (omega arith)
+
+    kind_fits : (kind : Kind) → flight.kind ≡ kind → IsFairKind flight kind
+    kind_fits (SetUp s) e = (sent.key s e, subst IsSettings (sym (piece.set_up s e)) playable.settings)
+    kind_fits Play e = all_go_on
+    kind_fits Exit e = all_go_on
+
+    pub fair : IsFair flight
+    fair = record { packet = packet_fits flight.kind refl; kind = kind_fits flight.kind refl }
+
+  pub always_sealable : (events : List _) (game : Game) → Runs rules settings events game
+      → ((q : ℕ) → AreInputs (game.nodes q).inputs) → AreSealable rules.players game.flights
+  always_sealable events game run inputs which flight there =
+      let kept = always rules settings events game run in
+      let piece = kept.from_inputs.pieces which flight there in
+      let sent = (always_sent rules settings events game run).flights which flight there in
+      fair_sealable rules settings playable.few playable.short game kept which flight there
+      (fair (inputs_of game) (λ q. has_left (game.nodes q)) flight piece sent (inputs flight.from))

@@ -1,0 +1,53 @@
+-- Events of a game stand for open ones.
+use Rattle.std.proofs.Common.{ℕ, List, [], ◌∷◌, ◌++◌, refl, subst, inl, inr}
+use Rattle.std.specs.Prelude.{FitsSigned}
+use Rattle.std.specs.Int.{w16}
+use Rattle.dn_setup.specs.Settings.{Settings}
+use Rattle.dn_machine.specs.declared.events.Event.{Event}
+use Rattle.dn_machine.specs.declared.events.Event.TheVariants.{Deliver}
+use Rattle.dn_machine.specs.Game.{Game, opening_game}
+use Rattle.dn_machine.specs.Runs.{Next, Leads, Runs}
+use Rattle.dn_machine.specs.Worlds.{Rules}
+use Rattle.dn_machine.proofs.Games.{goes_on}
+use Rattle.dn_open.specs.Playable.{IsPlayable}
+use Rattle.dn_open.specs.Sealed.{Seal}
+use Rattle.dn_open.specs.OpenGames.{OpenEvent, Own, Arrive, LeadsOpen, RunsOpen, StandFor}
+use Rattle.dn_open.proofs.Deliveries.{AreFound, arrives}
+use Rattle.dn_open.proofs.Ranges.{AllInputs, inputs_next, opening-inputs}
+use Rattle.dn_open.proofs.Fairness.{always_sealable}
+
+module _ {S : Type 0} (rules : Rules S) (seal : Seal) (settings : Settings)
+    (playable : IsPlayable rules.players rules.capacity settings)
+    (marks : (world : S) (player : ℕ) → FitsSigned w16 (rules.physics.mark world player)) (found : AreFound) where
+  -- events that stand for these, and lead from one game to the other
+  abbrev Stands : List OpenEvent → Game → Game → Type 0
+  Stands events game last = (plain : List Event) × StandFor plain events × Leads rules game plain last
+
+  stand : (events : List OpenEvent) (before : List Event) (game last : Game) → Runs rules settings before game
+      → AllInputs game
+      → LeadsOpen rules seal game events last → Stands events game last
+  stand [] before game last run inputs same = ([], refl, same)
+  stand (Own event ∷ events) before game last run inputs (next, (ranged, step), rest) =
+      let on = stand events (before ++ event ∷ []) next last
+      (goes_on rules settings before event (opening_game settings) game next run step)
+      (inputs_next rules game next event ranged inputs step) rest in
+      (event ∷ on.0, (on.0, refl, on.1), (next, step, on.2))
+  stand (Arrive node bytes ∷ events) before game last run inputs (next, step, rest) =
+      elim (arrives rules game seal node bytes next found
+      (always_sealable rules settings playable marks before game run inputs) step.0 step.1) [
+        | inl same ↦
+            let on = stand events before game last run inputs
+            (subst (λ (g : Game). LeadsOpen rules seal g events last) same rest) in
+            (on.0, inl on.1, on.2)
+        | inr delivery ↦
+            let event : Event = Deliver delivery.0 in
+            let taken : Next rules game event next = inl delivery.1 in
+            let on = stand events (before ++ event ∷ []) next last
+            (goes_on rules settings before event (opening_game settings) game next run taken)
+            (inputs_next rules game next event tt inputs taken) rest in
+            (event ∷ on.0, inr (delivery.0, on.0, refl, on.1), (next, taken, on.2))
+      ]
+
+  pub open_stands : (events : List OpenEvent) (game : Game) → RunsOpen rules seal settings events game
+      → (plain : List Event) × StandFor plain events × Runs rules settings plain game
+  open_stands events game run = stand events [] (opening_game settings) game refl (opening-inputs settings) run

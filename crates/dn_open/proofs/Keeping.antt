@@ -1,0 +1,172 @@
+-- The locksteps of one game on an open network stay those of one game.
+use Rattle.std.proofs.Common.{◌≡◌, ◌<◌, ◌≤◌, ℕ, List, [], ◌∷◌, ◌++◌, length, refl, ap, sym, ◌∙◌, subst, Option, Some, None, inl, inr}
+use Rattle.std.specs.Prelude.{Result, Ok, Err, IfSome, slice_get}
+use Rattle.std.specs.Option.{option_map}
+use Rattle.std.proofs.lemmas.Bool.{lt-ltb}
+use Rattle.std.proofs.lemmas.Option.{same_Some}
+use Rattle.arrayvec.specs.ArrayVec.{ArrayVec}
+use Rattle.dn_packet.specs.declared.packet.Packet.{Packet}
+use Rattle.dn_packet.specs.declared.packet.PacketFault.{PacketFault}
+use Rattle.dn_packet.specs.declared.packet.PacketFault.TheVariants.{Short}
+use Rattle.dn_setup.specs.Settings.{Settings}
+use Rattle.dn_setup.specs.declared.setup.SetupFault.{SetupFault}
+use Rattle.dn_setup.specs.declared.setup.SetupFault.TheVariants.{NotSetup}
+use Rattle.dn_machine.specs.declared.events.Event.TheVariants.{Deliver}
+use Rattle.dn_machine.specs.Flight.{Flight, packet_of}
+use Rattle.dn_machine.specs.Game.{Game, refused_at, with_node}
+use Rattle.dn_machine.specs.Limits.{Limits}
+use Rattle.dn_machine.specs.Node as machine
+use Rattle.dn_machine.specs.Node.{put}
+use Rattle.dn_machine.specs.Running.{tic_limit}
+use Rattle.dn_machine.specs.Worlds.{Rules}
+use Rattle.dn_machine.proofs.EachEvent.{after_deliver}
+use Rattle.dn_machine.proofs.Put.{put_at}
+use Rattle.dn_lockstep.specs.Contents.{Contents}
+use Rattle.dn_lockstep.specs.Marking.{History, Marking}
+use Rattle.dn_lockstep.specs.Near.{IsFair}
+use Rattle.dn_lockstep.specs.OneGame.{beside, AreOneGame}
+use Rattle.dn_lockstep.specs.Session.{Session, with_lockstep, given_on, after_packet}
+use Rattle.dn_lockstep.specs.Represents.{Represents}
+use Rattle.dn_lockstep.specs.Sent.{sent_to}
+use Rattle.dn_lockstep.specs.Steps.{IsAfter, Tells}
+use Rattle.dn_lockstep.proofs.Nearby.{told_by, told_is}
+use Rattle.dn_lockstep.proofs.OneGame.{kept, moves, stays, IsQuiet, hear_quiet, gave}
+use Rattle.dn_seal.specs.declared.opened.Opened.{Opened}
+use Rattle.dn_seal.specs.declared.opened.SealFault.{SealFault}
+use Rattle.dn_seal.specs.Opening.{IsOpenedAs}
+use Rattle.dn_open.specs.Arrivals.{IsRead, HearsSealed, SendsSealed, on_opened}
+use Rattle.dn_open.specs.declared.arrived.Arrived.{Arrived}
+use Rattle.dn_open.specs.OpenGames.{IsGenuine, arrived_if}
+use Rattle.dn_open.specs.Playable.{IsSmall}
+use Rattle.dn_open.specs.Sealed.{Seal, sealing_of, envelope_of, WasSealed}
+use Rattle.dn_open.proofs.Deliveries.{AreFound, AreSealable, arrives}
+use Rattle.dn_open.proofs.Sealables.{opened_is}
+use Rattle.dn_open.proofs.Fairness.{fair_sealable}
+
+-- what bytes are opened as is read as something
+abbrev HasReading : Result Opened SealFault → Type 0
+HasReading opened = (read : Result Packet PacketFault) × (tells : Result Settings SetupFault) × IsRead opened read tells
+
+-- the last of a list
+last_at : {A : Type 0} (xs : List A) (x : A) → slice_get (xs ++ x ∷ []) (length xs) ≡ Some x
+last_at [] x = refl
+last_at (y ∷ xs) x = last_at xs x
+
+-- what was given was sealed
+was_sealed : (seal : Seal) (given : List Flight) (flight : Option Flight) (sent : Option (ArrayVec ℕ))
+    → option_map (λ (bytes : ArrayVec ℕ). bytes.items) sent ≡ option_map (envelope_of seal) flight
+    → IfSome sent (λ bytes. WasSealed seal (given_on given flight) bytes.items)
+was_sealed seal given None None e = tt
+was_sealed seal given None (Some bytes) e = absurd (cc)
+was_sealed seal given (Some flight) None e = tt
+was_sealed seal given (Some flight) (Some bytes) e =
+    (length given, flight, last_at given flight, same_Some bytes.items (envelope_of seal flight) e)
+
+module _ (marking : Marking) (limits : Limits) (settings : Settings) {session : Session}
+    (game : AreOneGame marking limits settings session) (seal : Seal) (player : ℕ)
+    (mine : player < limits.players) where
+  abbrev rules : Rules History
+  rules = beside marking limits
+
+  -- each packet that was given has an envelope
+  are_sealable : IsSmall (session.locksteps player) → AreSealable limits.players game.last.flights
+  are_sealable small which flight there =
+      let r = game.nodes player mine in
+      fair_sealable rules settings (subst (λ (n : ℕ). n ≤ 4) r.whose.players small.0)
+      (subst (λ (n : ℕ). n ≤ tic_limit) r.whose.capacity small.1) game.last
+      (kept marking limits settings game) which flight there
+      (game.fair which flight (ap (λ (fs : List Flight). slice_get fs which) (sym game.flights) ∙ there))
+
+  -- what opens was given, and is read as what was given
+  reading : AreSealable limits.players game.last.flights → (bytes : List ℕ)
+      → IsGenuine seal game.last.flights player bytes → (opened : Result Opened SealFault)
+      → IsOpenedAs (sealing_of seal player) bytes opened → HasReading opened
+  reading are bytes genuine (Err fault) is = (Err Short, Err NotSetup, tt)
+  reading are bytes genuine (Ok opened) is =
+      let sent = genuine opened is in
+      let flight = sent.1 in
+      let good = are sent.0 flight sent.2 in
+      let fair = good.0.fair in
+      let same = opened_is seal player bytes opened flight is good.0 sent.3 in
+      let items = ap (λ (o : Opened). o.datagram.items) same.1 in
+      (Ok (packet_of flight), told_by flight.kind, ((fair.packet, items), told_is flight flight.kind fair.kind))
+
+  given_here : (bytes : List ℕ) → IsGenuine seal session.given player bytes
+      → IsGenuine seal game.last.flights player bytes
+  given_here bytes genuine =
+      subst (λ (fs : List Flight). IsGenuine seal fs player bytes) (sym game.flights) genuine
+
+  arrival_keeps : AreFound → IsSmall (session.locksteps player) → (bytes : List ℕ)
+      (opened : Result Opened SealFault) (read : Result Packet PacketFault) (tells : Result Settings SetupFault)
+      (new : Contents) → IsGenuine seal game.last.flights player bytes
+      → IsOpenedAs (sealing_of seal player) bytes opened → IsRead opened read tells
+      → Represents limits player new (on_opened limits player (game.last.nodes player) opened read tells).0
+      → AreOneGame marking limits settings (with_lockstep session player new)
+  arrival_keeps found small bytes opened read tells new genuine is reads shows =
+      let last : Game = game.last in
+      let after : machine.Node = (on_opened limits player (last.nodes player) opened read tells).0 in
+      let next : Game = with_node last player after in
+      let free : refused_at limits.players last player ≡ None =
+      rw (lt-ltb player limits.players mine, game.going player) refl in
+      let leads : next ≡ arrived_if rules last player opened read tells (refused_at limits.players last player) =
+      rw free refl in
+      let at : after ≡ next.nodes player = sym (put_at last.nodes player player after refl) in
+      elim (arrives rules last seal player bytes next found (are_sealable small) genuine
+      (opened, read, tells, is, reads, leads)) [
+        | inl same ↦
+            let node = at ∙ ap (λ (g : Game). g.nodes player) same in
+            stays marking limits settings game player mine new
+            (subst (λ (m : machine.Node). Represents limits player new m) node shows)
+        | inr delivery ↦
+            let there = at ∙ ap (λ (g : Game). g.nodes player) delivery.1 in
+            let quiet = after_deliver rules IsQuiet (λ m. (refl, refl)) last player delivery.0
+            (λ flight. hear_quiet limits flight.to (last.nodes flight.to) flight) in
+            moves marking limits settings game player mine (Deliver delivery.0) after new
+            (sym delivery.1) shows
+            (subst (λ (m : machine.Node). IsQuiet (last.nodes player) m) (sym there) quiet)
+      ]
+
+  send_keeps : (to : ℕ) (new : Contents) (sent : Option (ArrayVec ℕ))
+      → IsAfter limits player new (sent_to to limits player (game.last.nodes player))
+      (λ flight. option_map (λ (bytes : ArrayVec ℕ). bytes.items) sent ≡ option_map (envelope_of seal) flight)
+      → IfSome (sent_to to limits player (game.last.nodes player)).1 IsFair
+      → (flight : Option Flight) × IfSome sent (λ bytes. WasSealed seal (given_on session.given flight) bytes.items)
+      × AreOneGame marking limits settings (after_packet session player flight new)
+  send_keeps to new sent step fair =
+      let flight : Option Flight = (sent_to to limits player (game.last.nodes player)).1 in (
+        flight,
+        was_sealed seal session.given flight sent step.answer,
+        gave marking limits settings game player mine to new step.node fair,
+      )
+
+pub arrivals_keep : AreFound → (marking : Marking) (limits : Limits) (settings : Settings)
+    (session : Session) (seal : Seal)
+    (player : ℕ) (bytes : List ℕ) (opened : Result Opened SealFault) (new : Contents) (answer : Arrived)
+    → AreOneGame marking limits settings session
+    → player < limits.players → IsSmall (session.locksteps player)
+    → IsGenuine seal session.given player bytes → IsOpenedAs (sealing_of seal player) bytes opened
+    → HearsSealed (sealing_of seal player) bytes (session.locksteps player) new answer
+    → AreOneGame marking limits settings (with_lockstep session player new)
+arrivals_keep found marking limits settings session seal player bytes opened new answer game
+    mine small genuine is hears =
+    let here = given_here marking limits settings game seal player mine bytes genuine in
+    let are = are_sealable marking limits settings game seal player mine small in
+    let read = reading marking limits settings game seal player mine are bytes here opened is in
+    let step = hears.step opened read.0 read.1 is read.2 limits player (game.last.nodes player)
+    (game.nodes player mine) in
+    arrival_keeps marking limits settings game seal player mine found small bytes opened read.0 read.1 new
+    here is read.2 step.node
+
+pub sends_keep : (marking : Marking) (limits : Limits) (settings : Settings) (session : Session) (seal : Seal)
+    (player to : ℕ)
+    (new : Contents) (sent : Option (ArrayVec ℕ))
+    → AreOneGame marking limits settings session → player < limits.players
+    → SendsSealed (sealing_of seal player) to (session.locksteps player) new sent
+    → Tells (session.locksteps player) (λ limits me m. IfSome (sent_to to limits me m).1 IsFair)
+    → (flight : Option Flight) × IfSome sent (λ bytes. WasSealed seal (given_on session.given flight) bytes.items)
+    × AreOneGame marking limits settings (after_packet session player flight new)
+sends_keep marking limits settings session seal player to new sent game mine sends fair =
+    let r = game.nodes player mine in
+    send_keeps marking limits settings game seal player mine to new sent
+    (sends.step (sym r.whose.number) limits player (game.last.nodes player) r)
+    (fair limits player (game.last.nodes player) r)

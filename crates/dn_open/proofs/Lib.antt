@@ -1,0 +1,9 @@
+pub mod Sealables
+pub mod Deliveries
+pub mod Commands
+pub mod Sends
+pub mod Ranges
+pub mod Fairness
+pub mod InPlace
+pub mod Giving
+pub mod Keeping

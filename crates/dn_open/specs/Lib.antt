@@ -1,0 +1,4 @@
+pub mod Playable
+pub mod Sealed
+pub mod Arrivals
+pub mod OpenGames

@@ -1,0 +1,77 @@
+-- A game on an open network: any bytes come to any node at any time.
+use Rattle.std.specs.Prelude.{◌≡◌, ◌⊎◌, ℕ, pos, List, [], ◌∷◌, Option, Some, None, Result, Ok}
+use Rattle.dn_tic.specs.Command.{IsCommand}
+use Rattle.dn_tic.specs.Inputs.{given}
+use Rattle.dn_packet.specs.declared.packet.Packet.{Packet}
+use Rattle.dn_packet.specs.declared.packet.PacketFault.{PacketFault}
+use Rattle.dn_setup.specs.Settings.{Settings}
+use Rattle.dn_setup.specs.declared.setup.SetupFault.{SetupFault}
+use Rattle.dn_machine.specs.declared.events.Event.{Event}
+use Rattle.dn_machine.specs.declared.events.Event.TheVariants.{Give, Deliver}
+use Rattle.dn_machine.specs.declared.events.Refusal.{Refusal}
+use Rattle.dn_machine.specs.Flight.{Flight}
+use Rattle.dn_machine.specs.Game.{Game, opening_game, refused_at, with_node}
+use Rattle.dn_machine.specs.Runs.{Next}
+use Rattle.dn_machine.specs.Worlds.{Rules}
+use Rattle.dn_seal.specs.declared.opened.Opened.{Opened}
+use Rattle.dn_seal.specs.declared.opened.SealFault.{SealFault}
+use Rattle.dn_seal.specs.Opening.{IsOpenedAs}
+use Rattle.dn_open.specs.Sealed.{Seal, sealing_of, WasSealed}
+use Rattle.dn_open.specs.Arrivals.{on_opened, IsRead}
+
+-- what may happen next: an event of a game, or bytes, whatever they are and wherever they are from, come to a
+-- node
+pub data OpenEvent : Type 0 where
+  Own : (event : Event) → OpenEvent
+  Arrive : (node : ℕ) → (bytes : List ℕ) → OpenEvent
+
+-- the one thing that is asked of the network, and of whoever has it in hand: what a node opens was sealed in
+-- this game before, as one of these packets. No tag was forged
+abbrev pub IsGenuine : Seal → List Flight → ℕ → List ℕ → Type 0
+IsGenuine seal flights node bytes =
+    (opened : Opened) → IsOpenedAs (sealing_of seal node) bytes (Ok opened) → WasSealed seal flights bytes
+
+-- a command that is given has the ranges of its type, as every command of a caller has them
+abbrev pub IsInRange : Event → Type 0
+IsInRange (Give node command) = IsCommand (given command (pos 0))
+IsInRange _ = Unit {0}
+
+-- the game after bytes that are opened and read so came to a node; nothing comes to a number that is no
+-- player's, nor to a node that has stopped
+abbrev pub arrived_if : {S : Type 0} → Rules S → Game → ℕ → Result Opened SealFault → Result Packet PacketFault
+    → Result Settings SetupFault → Option Refusal → Game
+arrived_if rules game node opened read told (Some refusal) = game
+arrived_if rules game node opened read told None =
+    with_node game node (on_opened rules.limits node (game.nodes node) opened read told).0
+
+-- the bytes lead from a game to the next: they are opened so, and the datagram in them is read so
+abbrev pub Arrives : {S : Type 0} → Rules S → Seal → Game → ℕ → List ℕ → Game → Type 0
+Arrives rules seal game node bytes next =
+    (opened : Result Opened SealFault) × (read : Result Packet PacketFault)
+    × (told : Result Settings SetupFault) × IsOpenedAs (sealing_of seal node) bytes opened
+    × IsRead opened read told
+    × (next ≡ arrived_if rules game node opened read told (refused_at rules.players game node))
+
+-- an open event leads from a game to the next
+abbrev pub NextOpen : {S : Type 0} → Rules S → Seal → Game → OpenEvent → Game → Type 0
+NextOpen rules seal game (Own event) next = IsInRange event × Next rules game event next
+NextOpen rules seal game (Arrive node bytes) next =
+    IsGenuine seal game.flights node bytes × Arrives rules seal game node bytes next
+
+-- a list of open events leads from a game to another
+abbrev pub LeadsOpen : {S : Type 0} → Rules S → Seal → Game → List OpenEvent → Game → Type 0
+LeadsOpen rules seal game [] last = last ≡ game
+LeadsOpen rules seal game (event ∷ events) last =
+    (next : Game) × NextOpen rules seal game event next × LeadsOpen rules seal next events last
+
+-- from the opening on
+abbrev pub RunsOpen : {S : Type 0} → Rules S → Seal → Settings → List OpenEvent → Game → Type 0
+RunsOpen rules seal settings events game = LeadsOpen rules seal (opening_game settings) events game
+
+-- events of a game stand for open ones: the same, but for each arrival a delivery, or nothing
+abbrev pub StandFor : List Event → List OpenEvent → Type 0
+StandFor plain [] = plain ≡ []
+StandFor plain (Own event ∷ events) = (rest : List Event) × (plain ≡ event ∷ rest) × StandFor rest events
+StandFor plain (Arrive node bytes ∷ events) =
+    StandFor plain events
+    ⊎ ((which : ℕ) × (rest : List Event) × (plain ≡ Deliver which ∷ rest) × StandFor rest events)

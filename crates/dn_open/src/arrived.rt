@@ -1,0 +1,16 @@
+//! What is answered to any bytes.
+
+use dn_lockstep::Heard;
+use dn_seal::SealFault;
+
+/// What a node makes of bytes that came in.
+#[derive(Clone, Copy, Debug, PartialEq, Eq)]
+pub enum Arrived {
+    /// They are no envelope to it, for this fault, and changed nothing.
+    Unopened(SealFault),
+    /// The packet's first tic, or the tic that it asks for, is more than 64 from the number of commands that
+    /// the node has made, and the packet changed nothing.
+    Late,
+    /// The node's answer to the datagram in the envelope.
+    Heard(Heard),
+}

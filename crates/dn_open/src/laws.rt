@@ -1,0 +1,87 @@
+//! What holds on an open network.
+
+ghost use Rattle.std.specs.Prelude.{◌<◌, ℕ, Bool, List, Option, IfSome, Result};
+ghost use Rattle.arrayvec.specs.ArrayVec.{ArrayVec};
+ghost use Rattle.dn_setup.specs.Settings.{Settings};
+ghost use Rattle.dn_machine.specs.declared.events.Event.{Event};
+ghost use Rattle.dn_machine.specs.Game.{Game};
+ghost use Rattle.dn_machine.specs.Promise.{Agree, Fits, Steady};
+ghost use Rattle.dn_machine.specs.Runs.{Runs};
+ghost use Rattle.dn_machine.specs.Worlds.{rules_of};
+ghost use Rattle.dn_machine.specs.Flight.{Flight};
+ghost use Rattle.dn_machine.specs.Limits.{Limits};
+ghost use Rattle.dn_lockstep.specs.Contents.{Contents};
+ghost use Rattle.dn_lockstep.specs.Near.{IsFair};
+ghost use Rattle.dn_lockstep.specs.OneGame.{AreOneGame};
+ghost use Rattle.dn_lockstep.specs.Session.{Session, with_lockstep, given_on, after_packet};
+ghost use Rattle.dn_lockstep.specs.Sent.{sent_to};
+ghost use Rattle.dn_lockstep.specs.Steps.{Tells};
+ghost use Rattle.dn_lockstep.specs.Marking.{Marking};
+ghost use Rattle.dn_seal.specs.declared.opened.Opened.{Opened};
+ghost use Rattle.dn_seal.specs.declared.opened.SealFault.{SealFault};
+ghost use Rattle.dn_seal.specs.Opening.{IsOpenedAs};
+ghost use Rattle.dn_open.specs.Arrivals.{HearsSealed, SendsSealed};
+ghost use Rattle.dn_open.specs.declared.arrived.Arrived.{Arrived};
+ghost use Rattle.dn_open.specs.OpenGames.{OpenEvent, IsGenuine, RunsOpen, StandFor};
+ghost use Rattle.dn_open.specs.Playable.{IsPlayable, IsSmall};
+ghost use Rattle.dn_open.specs.Sealed.{Seal, WasSealed, sealing_of};
+
+use dn_setup::settings_found_again;
+use dn_world::World;
+
+/// Whatever the network does - lose, repeat, reorder, delay, alter, forge, misattribute - a game in which any
+/// bytes come to any node at any time is a game that is led to by events of its own, with a delivery in place
+/// of an arrival, or nothing: so the nodes agree, no ring overwrites a command that is still needed, and no
+/// check fails. The one premise on the network, within `RunsOpen`, is that what a node opens was sealed in this
+/// game before; and each command that a caller gives has the ranges of its type.
+pub fn open_games_agree<W: World>()
+    ensures stand { (players : ℕ) (extra : Bool) (capacity : ℕ) (seal : Seal) (settings : Settings)
+        (events : List OpenEvent) (game : Game)
+        → IsPlayable players capacity settings
+        → RunsOpen (rules_of W.physics players extra capacity) seal settings events game
+        → (plain : List Event) × StandFor plain events
+        × Runs (rules_of W.physics players extra capacity) settings plain game }
+    ensures agree { (players : ℕ) (extra : Bool) (capacity : ℕ) (seal : Seal) (settings : Settings)
+        (events : List OpenEvent) (game : Game)
+        → IsPlayable players capacity settings
+        → RunsOpen (rules_of W.physics players extra capacity) seal settings events game
+        → Agree (rules_of W.physics players extra capacity) settings game }
+    ensures fits { (players : ℕ) (extra : Bool) (capacity : ℕ) (seal : Seal) (settings : Settings)
+        (events : List OpenEvent) (game : Game)
+        → IsPlayable players capacity settings
+        → RunsOpen (rules_of W.physics players extra capacity) seal settings events game
+        → Fits (rules_of W.physics players extra capacity) game }
+    ensures steady { (players : ℕ) (extra : Bool) (capacity : ℕ) (seal : Seal) (settings : Settings)
+        (events : List OpenEvent) (game : Game)
+        → IsPlayable players capacity settings
+        → RunsOpen (rules_of W.physics players extra capacity) seal settings events game
+        → Steady (rules_of W.physics players extra capacity) game }
+{
+    settings_found_again();
+}
+
+/// What `receive_sealed` does to one of the locksteps of one game leaves them those of one game, whatever the
+/// bytes are and wherever they came from, as long as what it opens was sealed in that game before.
+pub fn arrivals_keep_one_game()
+    ensures { (marking : Marking) (limits : Limits) (settings : Settings) (session : Session) (seal : Seal)
+        (player : ℕ) (bytes : List ℕ) (opened : Result Opened SealFault) (new : Contents) (answer : Arrived)
+        → AreOneGame marking limits settings session
+        → player < limits.players → IsSmall (session.locksteps player)
+        → IsGenuine seal session.given player bytes → IsOpenedAs (sealing_of seal player) bytes opened
+        → HearsSealed (sealing_of seal player) bytes (session.locksteps player) new answer
+        → AreOneGame marking limits settings (with_lockstep session player new) }
+{
+    settings_found_again();
+}
+
+/// And so does what `packet_sealed` does; what it gives was sealed in that game.
+pub fn sends_keep_one_game()
+    ensures { (marking : Marking) (limits : Limits) (settings : Settings) (session : Session) (seal : Seal)
+        (player to : ℕ) (new : Contents) (sent : Option (ArrayVec ℕ))
+        → AreOneGame marking limits settings session → player < limits.players
+        → SendsSealed (sealing_of seal player) to (session.locksteps player) new sent
+        → Tells (session.locksteps player) (λ limits me m. IfSome (sent_to to limits me m).1 IsFair)
+        → (flight : Option Flight)
+        × IfSome sent (λ bytes. WasSealed seal (given_on session.given flight) bytes.items)
+        × AreOneGame marking limits settings (after_packet session player flight new) }
+{}

@@ -1,0 +1,12 @@
+//! A lockstep on an open network. Its packets go out in envelopes, and any bytes may come in: what is no
+//! envelope of the game is dropped, and so is what is too old. So nothing is asked of the network, as long as
+//! no tag is forged.
+#![tactic(auto)]
+
+mod arrived;
+mod laws;
+mod sealed;
+
+pub use arrived::Arrived;
+pub use laws::{arrivals_keep_one_game, open_games_agree, sends_keep_one_game};
+pub use sealed::{packet_sealed, receive_sealed};

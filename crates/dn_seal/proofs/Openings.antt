@@ -1,0 +1,199 @@
+-- Bytes are opened as one thing, and what passes all tests is an envelope.
+use Rattle.std.proofs.Common.{◌≡◌, ◌≢◌, ◌<◌, ◌≤◌, ◌+◌, ◌-◌, ◌^◌, ℕ, zero, suc, List, [], ◌∷◌, ◌++◌, length, take, drop, get_or, refl, ap, sym, ◌∙◌, arith, Option, Some, None, Result, Ok, Err, inl, inr, Bool, true, false}
+use Rattle.std.specs.Prelude.{slice_index, IfSome, ◌==◌, ◌&&◌, if◌then◌else◌}
+use Rattle.std.specs.Int.{w32, w64, to_le_bytes, from_le_bytes}
+use Rattle.std.proofs.lemmas.Bool.{cases_eq, eq-eqb, ne_eqb}
+use Rattle.std.proofs.lemmas.List.{take-append-drop, take-take, length-take-le, length-drop}
+use Rattle.std.proofs.lemmas.Nat.{le_bytes_4}
+use Rattle.std.proofs.lemmas.Option.{same_Some}
+use Rattle.dn_seal.specs.declared.opened.Opened.{Opened}
+use Rattle.dn_seal.specs.declared.opened.SealFault.{SealFault}
+use Rattle.dn_seal.specs.declared.opened.SealFault.TheVariants.{Short, Long, Version, Game, Receiver, Tag, Request}
+use Rattle.dn_seal.specs.Hmac.{tag_of}
+use Rattle.dn_seal.specs.Envelope.{ask_bytes, head_bytes, body_bytes, envelope}
+use Rattle.dn_seal.specs.Opening.{Sealing, letter_to, IsOpenedAs, IsFor, IsTagged, told_game, told_body, told_tag, told_tic, ask_in}
+use Rattle.dn_seal.proofs.Envelopes.{length-envelope, body-envelope, tag-envelope, datagram-envelope, start-envelope, ask-envelope}
+
+module _ (s : Sealing) (bytes : List ℕ) (o : Opened) (is : IsOpenedAs s bytes (Ok o)) where
+  -- what is read off an envelope is read off its bytes
+  off : {A : Type 0} (f : List ℕ → A) (a : A) → f (envelope s.key (letter_to s o)) ≡ a → f bytes ≡ a
+  off f a e = ap f is.1 ∙ e
+
+  len : length bytes ≡ 36 + length o.datagram.items
+  len = off length _ (length-envelope s.key (letter_to s o))
+
+  pub opened-tagged : IsTagged s bytes
+  opened-tagged =
+      let short = is.0.datagram in
+      let body = off told_body _ (body-envelope s.key (letter_to s o)) in
+      let tag = off told_tag _ (tag-envelope s.key (letter_to s o)) in (
+        (
+          (
+            ((omega (arith, len), omega (arith, len, short)), off (λ xs. slice_index xs 0) 1 refl),
+            off told_game _ refl,
+          ),
+          off (λ xs. slice_index xs 10) _ refl,
+        ),
+        tag ∙ ap (tag_of s.key) (sym body),
+      )
+
+  pub opened-ask : ask_in (slice_index bytes 15) (told_tic bytes) ≡ Some o.ask
+  opened-ask = off (λ xs. ask_in (slice_index xs 15) (told_tic xs)) _
+      (ask-envelope s.key (letter_to s o) is.0.ask)
+
+  pub opened-from : slice_index bytes 9 ≡ o.from
+  opened-from = off (λ xs. slice_index xs 9) _ refl
+
+  pub opened-start : from_le_bytes w32 (take 4 (drop 11 bytes)) ≡ o.start
+  opened-start = off (λ xs. from_le_bytes w32 (take 4 (drop 11 xs))) _
+      (start-envelope s.key (letter_to s o) is.0.start)
+
+  pub opened-datagram : drop 20 (told_body bytes) ≡ o.datagram.items
+  opened-datagram = off (λ xs. drop 20 (told_body xs)) _ (datagram-envelope s.key (letter_to s o))
+
+module _ (s : Sealing) (bytes : List ℕ) where
+  -- bytes that are too short have no other fault
+  pub only_short : length bytes < 36 → (read : Result Opened SealFault) → IsOpenedAs s bytes read
+      → Err Short ≡ read
+  only_short few (Ok o) h = absurd (let t = (opened-tagged s bytes o h).0.0.0.0.0 in omega arith)
+  only_short few (Err Short) h = refl
+  only_short few (Err Long) h = absurd (omega arith)
+  only_short few (Err Version) h = absurd (let t = h.0.0 in omega arith)
+  only_short few (Err Game) h = absurd (let t = h.0.0.0 in omega arith)
+  only_short few (Err Receiver) h = absurd (let t = h.0.0.0.0 in omega arith)
+  only_short few (Err Tag) h = absurd (let t = h.0.0.0.0.0 in omega arith)
+  only_short few (Err Request) h = absurd (let t = h.0.0.0.0.0.0 in omega arith)
+
+  -- nor have those whose tag is wrong
+  pub only_tag : IsFor s bytes → told_tag bytes ≢ tag_of s.key (told_body bytes)
+      → (read : Result Opened SealFault) → IsOpenedAs s bytes read → Err Tag ≡ read
+  only_tag for wrong (Ok o) h = absurd (wrong (opened-tagged s bytes o h).1)
+  only_tag for wrong (Err Short) h = absurd (let t = for.0.0.0.0 in omega arith)
+  only_tag for wrong (Err Long) h = absurd (let t = for.0.0.0.1 in omega arith)
+  only_tag for wrong (Err Version) h = absurd (h.1 for.0.0.1)
+  only_tag for wrong (Err Game) h = absurd (h.1 for.0.1)
+  only_tag for wrong (Err Receiver) h = absurd (h.1 for.1)
+  only_tag for wrong (Err Tag) h = refl
+  only_tag for wrong (Err Request) h = absurd (wrong h.0.1)
+
+  -- an envelope is opened as one letter, and has no fault
+  pub only_opened : (o : Opened) → IsOpenedAs s bytes (Ok o) → (read : Result Opened SealFault)
+      → IsOpenedAs s bytes read → Ok o ≡ read
+  only_opened o is (Ok p) h =
+      let from = sym (opened-from s bytes o is) ∙ opened-from s bytes p h in
+      let start = sym (opened-start s bytes o is) ∙ opened-start s bytes p h in
+      let ask = same_Some o.ask p.ask (sym (opened-ask s bytes o is) ∙ opened-ask s bytes p h) in
+      let items = sym (opened-datagram s bytes o is) ∙ opened-datagram s bytes p h in
+      λ i. Ok (record { from = from i; start = start i; ask = ask i; datagram = record { items = items i } })
+  only_opened o is (Err Short) h = absurd (let t = (opened-tagged s bytes o is).0.0.0.0.0 in omega arith)
+  only_opened o is (Err Long) h = absurd (let t = (opened-tagged s bytes o is).0.0.0.0.1 in omega arith)
+  only_opened o is (Err Version) h = absurd (h.1 (opened-tagged s bytes o is).0.0.0.1)
+  only_opened o is (Err Game) h = absurd (h.1 (opened-tagged s bytes o is).0.0.1)
+  only_opened o is (Err Receiver) h = absurd (h.1 (opened-tagged s bytes o is).0.1)
+  only_opened o is (Err Tag) h = absurd (h.1 (opened-tagged s bytes o is).1)
+  only_opened o is (Err Request) h = absurd (let e = sym (opened-ask s bytes o is) ∙ h.1 in cc)
+
+-- four bytes
+four_fit : (a b c d : ℕ) → a < 256 → b < 256 → c < 256 → d < 256 → (i : ℕ)
+    → get_or (a ∷ b ∷ c ∷ d ∷ []) i 0 < 256
+four_fit a b c d ha hb hc hd zero = ha
+four_fit a b c d ha hb hc hd (suc zero) = hb
+four_fit a b c d ha hb hc hd (suc (suc zero)) = hc
+four_fit a b c d ha hb hc hd (suc (suc (suc zero))) = hd
+four_fit a b c d ha hb hc hd (suc (suc (suc (suc i)))) = omega arith
+
+four_bytes : (a b c d n : ℕ) → a < 256 → b < 256 → c < 256 → d < 256
+    → n ≡ from_le_bytes w32 (a ∷ b ∷ c ∷ d ∷ []) → a ∷ b ∷ c ∷ d ∷ [] ≡ to_le_bytes w32 n
+four_bytes a b c d n ha hb hc hd e =
+    sym (le_bytes_4 (a ∷ b ∷ c ∷ d ∷ []) n refl (four_fit a b c d ha hb hc hd) e)
+
+-- the bytes of no request
+no_request : (q a b c d : ℕ) (ask : Option ℕ)
+    → (if q == 0 && from_le_bytes w32 (a ∷ b ∷ c ∷ d ∷ []) == 0 then Some None else None) ≡ Some ask
+    → q ∷ a ∷ b ∷ c ∷ d ∷ [] ≡ ask_bytes ask
+no_request q a b c d ask e = elim (cases_eq q 0) [
+  | inl none ↦ elim (cases_eq (from_le_bytes w32 (a ∷ b ∷ c ∷ d ∷ [])) 0) [
+    | inl empty ↦
+        let off = eq-eqb q 0 none in
+        let nil = eq-eqb (from_le_bytes w32 (a ∷ b ∷ c ∷ d ∷ [])) 0 empty in
+        let told : None ≡ ask = same_Some None ask (rw (off, nil) at e) in
+        let za : a ≡ 0 = omega arith in
+        let zb : b ≡ 0 = omega arith in
+        let zc : c ≡ 0 = omega arith in
+        let zd : d ≡ 0 = omega arith in
+        (λ i. none i ∷ za i ∷ zb i ∷ zc i ∷ zd i ∷ []) ∙ ap ask_bytes told
+    | inr some ↦
+        let off = eq-eqb q 0 none in
+        let not_nil = ne_eqb (from_le_bytes w32 (a ∷ b ∷ c ∷ d ∷ [])) 0 some in
+        absurd (let never : ◌≡◌ {A = Option (Option ℕ)} None (Some ask) = rw (off, not_nil) at e in cc)
+  ]
+  | inr other ↦
+      let off = ne_eqb q 0 other in
+      absurd (let never : ◌≡◌ {A = Option (Option ℕ)} None (Some ask) = rw off at e in cc)
+]
+
+-- the bytes of a request that was read
+ask_is : (q a b c d : ℕ) (ask : Option ℕ) → a < 256 → b < 256 → c < 256 → d < 256
+    → ask_in q (from_le_bytes w32 (a ∷ b ∷ c ∷ d ∷ [])) ≡ Some ask → q ∷ a ∷ b ∷ c ∷ d ∷ [] ≡ ask_bytes ask
+ask_is q a b c d ask ha hb hc hd e =
+    let tic : ℕ = from_le_bytes w32 (a ∷ b ∷ c ∷ d ∷ []) in
+    elim (cases_eq q 1) [
+      | inl one ↦
+          let on = eq-eqb q 1 one in
+          let told : Some tic ≡ ask = same_Some (Some tic) ask (rw on at e) in
+          let four = four_bytes a b c d tic ha hb hc hd refl in
+          (λ i. one i ∷ four i) ∙ ap ask_bytes told
+      | inr other ↦ let off = ne_eqb q 1 other in no_request q a b c d ask (rw off at e)
+    ]
+
+-- the twenty bytes in front, by what was read of them
+head_is : (bytes : List ℕ) (s : Sealing) (o : Opened) → ((i : ℕ) → get_or bytes i 0 < 256) → 20 ≤ length bytes
+    → slice_index bytes 0 ≡ 1 → told_game bytes ≡ to_le_bytes w64 s.game → slice_index bytes 9 ≡ o.from
+    → slice_index bytes 10 ≡ s.me → o.start ≡ from_le_bytes w32 (take 4 (drop 11 bytes))
+    → ask_in (slice_index bytes 15) (told_tic bytes) ≡ Some o.ask
+    → take 20 bytes ≡ head_bytes (letter_to s o)
+head_is (v ∷ g0 ∷ g1 ∷ g2 ∷ g3 ∷ g4 ∷ g5 ∷ g6 ∷ g7 ∷ f ∷ t ∷ s0 ∷ s1 ∷ s2 ∷ s3 ∷ q ∷ a ∷ b ∷ c ∷ d ∷ rest) s o
+    fits long version game from to start ask =
+    let starts = four_bytes s0 s1 s2 s3 o.start (fits 11) (fits 12) (fits 13) (fits 14) start in
+    let asks = ask_is q a b c d o.ask (fits 16) (fits 17) (fits 18) (fits 19) ask in
+    λ i. (version i ∷ game i ++ from i ∷ to i ∷ starts i) ++ asks i
+head_is _ s o fits long version game from to start ask = absurd (omega arith)
+
+-- what passes all tests is an envelope
+pub assembled : (bytes : List ℕ) (s : Sealing) (o : Opened) → ((i : ℕ) → get_or bytes i 0 < 256)
+    → IsTagged s bytes → slice_index bytes 9 ≡ o.from → o.start ≡ from_le_bytes w32 (take 4 (drop 11 bytes))
+    → ask_in (slice_index bytes 15) (told_tic bytes) ≡ Some o.ask
+    → o.datagram.items ≡ drop 20 (told_body bytes) → bytes ≡ envelope s.key (letter_to s o)
+assembled bytes s o fits tests from start ask datagram =
+    let long = tests.0.0.0.0.0 in
+    let head = head_is bytes s o fits (omega arith) tests.0.0.0.1 tests.0.0.1 from tests.0.1 start ask in
+    let front : take 20 (told_body bytes) ≡ head_bytes (letter_to s o) =
+    take-take 20 (length bytes - 16) bytes (omega arith) ∙ head in
+    let body : told_body bytes ≡ body_bytes (letter_to s o) =
+    sym (take-append-drop 20 (told_body bytes)) ∙ (λ i. front i ++ sym datagram i) in
+    let tag : told_tag bytes ≡ tag_of s.key (body_bytes (letter_to s o)) = tests.1 ∙ ap (tag_of s.key) body in
+    sym (take-append-drop (length bytes - 16) bytes) ∙ (λ i. body i ++ tag i)
+
+-- a request that was read of four bytes fits into four
+pub asked-small : (flag tic : ℕ) (ask : Option ℕ) → tic < 2 ^ 32 → ask_in flag tic ≡ Some ask
+    → IfSome ask (λ t. t < 2 ^ 32)
+asked-small flag tic None small e = tt
+asked-small flag tic (Some t) small e = elim (cases_eq flag 1) [
+  | inl one ↦
+      let on = eq-eqb flag 1 one in
+      let told : tic ≡ t = same_Some tic t (same_Some (Some tic) (Some t) (rw on at e)) in
+      omega arith
+  | inr other ↦
+      let off = ne_eqb flag 1 other in
+      absurd (none_asked (flag == 0 && tic == 0) t (rw off at e))
+]
+  where
+    none_asked : (test : Bool) (t : ℕ) → (if test then Some None else None) ≡ Some (Some t) → ⊥
+    none_asked true t e = let told : None ≡ Some t = same_Some None (Some t) e in cc
+    none_asked false t e = let never : ◌≡◌ {A = Option (Option ℕ)} None (Some (Some t)) = e in cc
+
+-- a datagram in an envelope is not too long
+pub datagram-short : (bytes : List ℕ) → length bytes ≤ 140 → length (drop 20 (told_body bytes)) ≤ 104
+datagram-short bytes short =
+    let front = length-take-le (length bytes - 16) bytes (omega arith) in
+    omega (arith, front, length-drop 20 (told_body bytes))

@@ -1,0 +1,44 @@
+//! What an envelope tells, and why bytes are none.
+
+use arrayvec::ArrayVec;
+use thiserror::Error;
+
+/// What an envelope to this player tells.
+#[derive(Debug, Drop, PartialEq, Eq)]
+pub struct Opened {
+    /// The number of the sender.
+    pub from: u8,
+    /// The exact tic of the datagram's first command.
+    pub start: u32,
+    /// The exact tic from which commands are asked for again.
+    pub ask: Option<u32>,
+    /// The datagram.
+    pub datagram: ArrayVec<u8, 104>,
+}
+
+/// Why bytes are no envelope of this key, this game and to this player: the first of these faults that they
+/// have.
+#[derive(Clone, Copy, Debug, PartialEq, Eq, Error)]
+pub enum SealFault {
+    /// Fewer than 36 bytes.
+    #[error("short")]
+    Short,
+    /// More than 140 bytes.
+    #[error("long")]
+    Long,
+    /// Another version.
+    #[error("version")]
+    Version,
+    /// Another game's number.
+    #[error("game")]
+    Game,
+    /// Another receiver.
+    #[error("receiver")]
+    Receiver,
+    /// A tag that is not that of the bytes before it.
+    #[error("tag")]
+    Tag,
+    /// A request that is neither there nor not there.
+    #[error("request")]
+    Request,
+}

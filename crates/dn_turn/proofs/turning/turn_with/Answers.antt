@@ -1,0 +1,33 @@
+use Rattle.std.proofs.Common.{ℕ, refl, ap, sym, ◌∙◌}
+use Rattle.dn_turn.specs.Leading.{risen}
+use Rattle.dn_turn.proofs.Packets.{risen_add}
+use Rattle.dn_turn.proofs.turning.turn_with.Goals as goal
+
+pub returns-clause-turned : goal.returns-clause-turned
+returns-clause-turned g c players extra capacity me m r =
+    let built = c.make-made.ensures.step _ me m r in
+    let given = c.give_all-given.ensures.given players extra capacity me _ built.node in
+    let heard = c.hear_all-polled.ensures.heard players extra capacity me given.after given.node in
+    let run = c.run_all-ran.ensures players extra capacity me heard.after heard.node in
+    record {
+      after = run.after;
+      node = run.node;
+      leads = record {
+        given = (given.after, c.give_all-given.new.line);
+        heard = heard.after;
+        unsent = c.give_all-given.result.failed;
+        unpolled = c.hear_all-polled.result.failed;
+        made = built.answer;
+        gives = given.leads;
+        hears = heard.leads;
+        runs = run.leads;
+        failed = refl;
+      };
+    }
+
+pub returns-clause-counted : goal.returns-clause-counted
+returns-clause-counted g c =
+    c.hear_all-polled.ensures.counted ∙ ap (λ (n : ℕ). risen c.hear_all-polled.result.failed n)
+    c.give_all-given.ensures.counted
+    ∙ sym (risen_add c.give_all-given.result.failed c.hear_all-polled.result.failed
+    (g.L.Line.failed c.args.line.now))

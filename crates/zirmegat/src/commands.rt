@@ -1,0 +1,93 @@
+//! Whole commands: a node takes them from the caller, and tells those that it has.
+
+ghost use Rattle.std.specs.Prelude.{◌≡◌, Bool, Option, None};
+ghost use Rattle.dn_tic.specs.declared.command.TicCmd.{TicCmd as Cmd};
+ghost use Rattle.dn_tic.specs.declared.input.Input.TheVariants.{Given};
+ghost use Rattle.dn_setup.specs.Starts.{bit};
+ghost use Rattle.dn_machine.specs.declared.answers.Made.{Made as Built};
+ghost use Rattle.dn_machine.specs.declared.answers.Made.TheVariants as Made;
+ghost use Rattle.zirmegat.specs.Calls.{node_of, Calls, Reads};
+ghost use Rattle.zirmegat.specs.Answers.{made_told};
+ghost use Rattle.zirmegat.specs.Commands.{given_in, known_told, CanBuild, TellsCommand};
+ghost use Rattle.zirmegat.specs.Going.{Builds};
+
+use crate::answers::{BuildAnswer, flag};
+use crate::handle::NodeHandle;
+use crate::packets::CommandFields;
+use dn_lockstep::Made;
+use dn_tic::{Command, TicCmd};
+
+/// A command, where `known` is 1; and all 0 where there is none.
+#[repr(C)]
+#[derive(Clone, Copy, Debug, PartialEq, Eq)]
+pub struct KnownCommand {
+    /// 1 where there is a command, and else 0.
+    pub known: u32,
+    /// The command.
+    pub command: CommandFields,
+}
+
+impl KnownCommand {
+    fn of(command: Option<TicCmd>) -> KnownCommand
+        ensures { result ≡ known_told command }
+    {
+        KnownCommand {
+            known: flag(command.is_some()),
+            command: CommandFields::of(command),
+        }
+    }
+}
+
+/// What a caller chooses of a command. Its mark is the node's own.
+fn given(command: &CommandFields) -> Command
+    ensures { result ≡ given_in command.now }
+{
+    Command {
+        forward: command.forward,
+        side: command.side,
+        turn: command.turn,
+        chat: command.chat,
+        buttons: command.buttons,
+    }
+}
+
+/// Takes this command for the next tic, where `zmg_node_build` would build one. Its mark is not read, and a
+/// forward of -128 counts as -127.
+#[unsafe(no_mangle)]
+pub extern "C" fn zmg_node_give(node: &mut NodeHandle, command: &CommandFields) -> BuildAnswer
+    ensures { Calls (node_of node.old) (node_of node.new)
+        (λ n k. (made : Built) × (result ≡ made_told made)
+        × Builds (Given (given_in command.now)) n k made)
+        (result ≡ made_told Made.NotPlaying) }
+{
+    match node.held() {
+        Some(held) => BuildAnswer::of(held.give(given(command))),
+        None => BuildAnswer::of(Made::NotPlaying),
+    }
+}
+
+/// 1 where `zmg_node_build` and `zmg_node_give` would make a command now, and else 0.
+#[unsafe(no_mangle)]
+pub extern "C" fn zmg_node_can_build(node: &mut NodeHandle) -> u32
+    ensures { Reads (node_of node.old) (node_of node.new)
+        (λ n. (can : Bool) × (result ≡ bit can) × CanBuild n can) (result ≡ 0) }
+{
+    match node.held() {
+        Some(held) => flag(held.can_build()),
+        None => 0,
+    }
+}
+
+/// A player's command for a tic: one of the last twelve that the node has of the player, and so that of the
+/// next tic to be run as soon as it is there.
+#[unsafe(no_mangle)]
+pub extern "C" fn zmg_node_command(node: &mut NodeHandle, player: u8, tic: u32) -> KnownCommand
+    ensures { Reads (node_of node.old) (node_of node.new)
+        (λ n. (command : Option Cmd) × (result ≡ known_told command) × TellsCommand n player tic command)
+        (result ≡ known_told None) }
+{
+    match node.held() {
+        Some(held) => KnownCommand::of(held.command(player, tic)),
+        None => KnownCommand::of(None),
+    }
+}
