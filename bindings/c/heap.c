@@ -10,7 +10,7 @@ struct zmg_block {
     void *at;
 };
 
-static char nowhere[16];
+static const char nowhere[16];
 
 static struct zmg_block block(void *at) {
     struct zmg_block b;

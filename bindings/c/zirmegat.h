@@ -1,14 +1,14 @@
 /* zirmegat.h: the network play of vanilla Doom for an engine with a world of its own. C99 and C++.
  *
- * A node is one player's part of a game of two to four. It builds a command from keys for each tic, gives
- * and takes Doom's datagrams, says when a tic runs and by which moves, checks the marks of the worlds, and
- * records a demo. Maps, monsters and physics stay yours, and so does the network: the library opens
+ * A node is one player's part of a game of two to four. For each tic it takes a command or builds one from
+ * keys. It gives and takes Doom's datagrams, says when a tic runs and by which moves, checks the marks of the
+ * worlds, and records a demo. Maps, monsters and physics stay yours, and so does the network: the library opens
  * nothing, waits for nothing and prints nothing. A tic is 1/35 second.
  *
  *     zmg_node node = ZMG_NODE_NONE;
  *     if (zmg_node_new(&node, &config) != ZMG_NEW_OK) there is no node
  *     35 times a second:
- *         zmg_node_build(&node, keys);
+ *         if (zmg_node_can_build(&node)) zmg_node_give(&node, &command);  or zmg_node_build(&node, keys);
  *         each other player: n = zmg_node_packet(&node, player, bytes, sizeof bytes); if (n) send it
  *         each datagram: if (zmg_node_receive(&node, sender, bytes, n).code == ZMG_RECEIVE_STARTED)
  *             begin the world
@@ -20,11 +20,13 @@
  *     call writes overlaps nothing else that it is given.
  *   - A handle (zmg_node, zmg_demo) is ZMG_NODE_NONE or ZMG_DEMO_NONE at first, and then as the library
  *     left it. It may be moved in memory. Of copies of it only one is used.
- *   - A handle stays on the thread that made it: whatever zmg_node_new or zmg_demo_new put into it is used
- *     and freed by that thread alone. Each thread may have handles of its own.
+ *   - One thread at a time uses a handle. It may go from one thread to another, by whatever orders the calls
+ *     of the one before those of the other: a lock, or a thread's start or end. Different handles may be used
+ *     by different threads at once.
  *   - No call is made from a signal handler, or from the forked child of a process with threads.
- *   - malloc, realloc and free come from one allocator. malloc and realloc align a block to each power of
- *     two up to 16 that divides its size, as to 8 for 24 bytes.
+ *   - malloc, realloc and free come from one allocator, and work on each thread that uses a handle, also for
+ *     blocks of another thread. malloc and realloc align a block to each power of two up to 16 that divides
+ *     its size, as to 8 for 24 bytes.
  *   - The marks that zmg_node_run is given are of the caller's own world: one that began with the start of
  *     zmg_node_settings and the players 0 to zmg_node_players - 1 when zmg_node_receive answered
  *     ZMG_RECEIVE_STARTED, was stepped by every row that zmg_node_run told and by nothing else, and has
@@ -116,8 +118,8 @@ void zmg_node_free(zmg_node *node);
 #define ZMG_KEY_USE (1u << 9)
 #define ZMG_KEY_WEAPON(n) (1u << (9 + (n))) /* n is 1 to 8 */
 
-/* code: ZMG_BUILD_MADE where the command of `tic` was made, ZMG_BUILD_AHEAD where five commands wait to be
- * run, and ZMG_BUILD_NOT_PLAYING. tic is 0 but for ZMG_BUILD_MADE. */
+/* code: ZMG_BUILD_MADE where the command of `tic` was made, ZMG_BUILD_AHEAD where ZMG_MOST_AHEAD commands
+ * wait to be run, and ZMG_BUILD_NOT_PLAYING. tic is 0 but for ZMG_BUILD_MADE. */
 #define ZMG_BUILD_MADE 0u
 #define ZMG_BUILD_AHEAD 1u
 #define ZMG_BUILD_NOT_PLAYING 2u
@@ -127,6 +129,42 @@ typedef struct zmg_made {
 
 /* Builds the command of these keys for the next tic. Bits from 18 on are no keys. */
 zmg_made zmg_node_build(zmg_node *node, uint32_t keys);
+
+/* How many commands may wait to be run. */
+#define ZMG_MOST_AHEAD 5u
+
+/* A tic command. The move as in zmg_move. mark: the consistency mark of the player's own world twelve tics
+ * before. chat: a letter of chat, which the library carries and does not read. */
+typedef struct zmg_command {
+    int16_t turn, mark;
+    int8_t forward, side;
+    uint8_t chat, buttons;
+} zmg_command;
+
+/* Takes a whole command for the next tic, in place of zmg_node_build: for an engine that makes its commands
+ * itself, of a mouse, a stick, keys of its own, chat, pause or save. It answers as zmg_node_build does. All
+ * numbers are taken as they are but two: mark is not read, since the node puts in its own; and a forward of
+ * -128 counts as -127, since -128 would end a demo. What was made is read back by
+ * zmg_node_command(node, me, tic) with the tic of the answer. For the turns of later builds from keys, which
+ * begin slowly, it counts as a build with no key down. */
+zmg_made zmg_node_give(zmg_node *node, const zmg_command *command);
+
+/* 1 where zmg_node_build and zmg_node_give would make a command now: the node plays, and fewer than
+ * ZMG_MOST_AHEAD of its commands wait to be run. Else 0. An engine asks before it takes up the motion of a
+ * mouse or a letter of chat, which would be lost with a command that is not made. */
+uint32_t zmg_node_can_build(zmg_node *node);
+
+/* A command where known is 1; where there is none all is 0. */
+typedef struct zmg_known_command {
+    uint32_t known;
+    zmg_command command;
+} zmg_known_command;
+
+/* A player's command for a tic, with its chat and mark, which zmg_move lacks. Known are the last twelve that
+ * the node has of each player, its own among them. That of the next tic to be run, zmg_node_ran, is known as
+ * soon as it has come: an engine reads it before zmg_node_run and uses it where that tic is run. From the tic
+ * of zmg_node_end on there is none. */
+zmg_known_command zmg_node_command(zmg_node *node, uint8_t player, uint32_t tic);
 
 /* How many bytes of room a packet needs at most. */
 #define ZMG_PACKET_SIZE 104u
@@ -286,14 +324,6 @@ size_t zmg_node_demo(zmg_node *node, size_t from, uint8_t *out, size_t room);
 #define ZMG_FLAG_RETRANSMIT 4u /* commands from ask on are wanted again */
 #define ZMG_FLAG_EXIT 8u       /* the sender has left, and its commands end with these */
 #define ZMG_MOST_COMMANDS 12
-
-/* A tic command. The move as in zmg_move. mark: the consistency mark of the player's own world twelve tics
- * before. chat: carried, and not read. */
-typedef struct zmg_command {
-    int16_t turn, mark;
-    int8_t forward, side;
-    uint8_t chat, buttons;
-} zmg_command;
 
 /* A packet. ask and start: low bytes of tics; a set-up packet has the settings in ask, start and player. */
 typedef struct zmg_packet {

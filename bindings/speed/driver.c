@@ -82,6 +82,10 @@ static void mix_demo(zmg_node *node) {
     mix(zmg_node_demo_length(node));
     for (; (n = zmg_node_demo(node, from, bytes, sizeof bytes)) > 0; from += n) mix_bytes(bytes, n);
 }
+static void mix_command(zmg_known_command c) {
+    mix(c.known); mix((uint16_t)c.command.turn); mix((uint16_t)c.command.mark);
+    mix((uint8_t)c.command.forward); mix((uint8_t)c.command.side); mix(c.command.chat); mix(c.command.buttons);
+}
 /* All that a node tells of itself. */
 static void mix_node(zmg_node *node) {
     zmg_phase p = zmg_node_phase(node);
@@ -93,6 +97,10 @@ static void mix_node(zmg_node *node) {
         zmg_aim a = zmg_node_aim(node, k);
         mix(a.known); mix_number(a.ask); mix(a.start); mix(a.flags); mix(a.count);
     }
+    mix(zmg_node_can_build(node));
+    for (uint8_t k = 0; k < 5; k++)
+        for (uint32_t back = 0; back < 28; back += 1 + back / 4)
+            mix_command(zmg_node_command(node, k, zmg_node_ran(node) + 12 - back));
     zmg_known_settings s = zmg_node_settings(node);
     mix(s.known); mix(s.settings.skill); mix(s.settings.deathmatch); mix(s.settings.no_monsters);
     mix(s.settings.respawn); mix(s.settings.episode); mix(s.settings.map);
@@ -263,7 +271,8 @@ static void bad_game(unsigned long counts[3][16]) {
         zmg_node *node = &nodes[k];
         switch (below(calm ? 8 : 12)) {
         case 0: case 8: {
-            zmg_made m = zmg_node_build(node, below(4) ? draw() : draw() & 15);
+            zmg_command c = { (int16_t)draw(), 0, (int8_t)draw(), (int8_t)draw(), (uint8_t)draw(), (uint8_t)draw() };
+            zmg_made m = below(3) ? zmg_node_build(node, below(4) ? draw() : draw() & 15) : zmg_node_give(node, &c);
             mix(m.code); mix(m.tic);
             counts[0][m.code]++;
             break;

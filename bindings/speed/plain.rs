@@ -214,6 +214,25 @@ pub struct KnownSettings {
     settings: Settings,
 }
 
+/// A command as the header has it.
+#[repr(C)]
+#[derive(Clone, Copy, Default)]
+pub struct Command {
+    turn: i16,
+    mark: i16,
+    forward: i8,
+    side: i8,
+    chat: u8,
+    buttons: u8,
+}
+
+#[repr(C)]
+#[derive(Default)]
+pub struct KnownCommand {
+    known: u32,
+    command: Command,
+}
+
 impl From<Option<u32>> for Number {
     fn from(number: Option<u32>) -> Number {
         number.map_or(Number::default(), |value| Number { known: 1, value })
@@ -308,6 +327,12 @@ impl Cmd {
         }
     }
 
+    /// The command that a caller gives, with the node's own mark. A forward of -128 would end a demo.
+    fn from_given(given: &Command, mark: i16) -> Cmd {
+        let Command { turn, forward, side, chat, buttons, .. } = *given;
+        Cmd { forward: forward.max(-127), side, turn, mark, chat, buttons }
+    }
+
     fn from_bytes(bytes: [u8; COMMAND_SIZE]) -> Cmd {
         let [forward, side, turn0, turn1, mark0, mark1, chat, buttons] = bytes;
         Cmd {
@@ -330,6 +355,11 @@ impl Cmd {
     fn to_demo(self) -> [u8; DEMO_COMMAND_SIZE as usize] {
         let [turn0, turn1] = self.turn.to_le_bytes();
         [self.forward as u8, self.side as u8, turn0, turn1, self.buttons]
+    }
+
+    fn to_command(self) -> Command {
+        let Cmd { forward, side, turn, mark, chat, buttons } = self;
+        Command { turn, mark, forward, side, chat, buttons }
     }
 
     fn to_move(self) -> Move {
@@ -609,6 +639,35 @@ impl Node {
         me.commands[at] = Cmd::from_keys(keys, self.hold, me.marks[at]);
         me.count = tic + 1;
         Made { code: MadeCode::Made, tic }
+    }
+
+    /// Whether a command would be made now.
+    fn can_build(&self) -> bool {
+        self.phase == Phase::Playing && self.made() - self.ran < AHEAD
+    }
+
+    /// Takes the next own command from the caller. No key counts as down.
+    fn give(&mut self, given: &Command) -> Made {
+        if self.phase != Phase::Playing {
+            return Made { code: MadeCode::NotPlaying, tic: 0 };
+        }
+        if !self.can_build() {
+            return Made { code: MadeCode::Ahead, tic: 0 };
+        }
+        self.hold = 0;
+        let me = &mut self.seats[self.me];
+        let tic = me.count;
+        let at = place(tic);
+        me.commands[at] = Cmd::from_given(given, me.marks[at]);
+        me.count = tic + 1;
+        Made { code: MadeCode::Made, tic }
+    }
+
+    /// A player's command for a tic, where it is one of the last that are kept.
+    fn command(&self, player: usize, tic: u32) -> Option<Command> {
+        let seat = self.seats[..self.players].get(player)?;
+        let kept = tic < seat.count && seat.count - tic <= KEPT;
+        kept.then(|| seat.commands[place(tic)].to_command())
     }
 
     /// What the next packet to a player has, where there is one.
@@ -965,6 +1024,25 @@ pub extern "C" fn zmg_node_build(handle: &mut Handle, keys: u32) -> Made {
         Some(node) => node.build(keys),
         None => Made { code: MadeCode::NotPlaying, tic: 0 },
     }
+}
+
+#[unsafe(no_mangle)]
+pub extern "C" fn zmg_node_give(handle: &mut Handle, command: &Command) -> Made {
+    match handle.node() {
+        Some(node) => node.give(command),
+        None => Made { code: MadeCode::NotPlaying, tic: 0 },
+    }
+}
+
+#[unsafe(no_mangle)]
+pub extern "C" fn zmg_node_can_build(handle: &mut Handle) -> u32 {
+    handle.node().map_or(0, |node| u32::from(node.can_build()))
+}
+
+#[unsafe(no_mangle)]
+pub extern "C" fn zmg_node_command(handle: &mut Handle, player: u8, tic: u32) -> KnownCommand {
+    let command = handle.node().and_then(|node| node.command(usize::from(player), tic));
+    command.map_or(KnownCommand::default(), |command| KnownCommand { known: 1, command })
 }
 
 /// # Safety

@@ -138,6 +138,24 @@ pub struct KnownSettings {
     settings: Settings,
 }
 
+#[repr(C)]
+#[derive(Default)]
+pub struct CommandFields {
+    turn: i16,
+    mark: i16,
+    forward: i8,
+    side: i8,
+    chat: u8,
+    buttons: u8,
+}
+
+#[repr(C)]
+#[derive(Default)]
+pub struct KnownCommand {
+    known: u32,
+    command: CommandFields,
+}
+
 // ---- A command --------------------------------------------------------------------------------------------
 
 /// A tic command as its wire bytes: forward, side, turn (2), mark (2), chat, buttons, the first lowest.
@@ -160,6 +178,24 @@ impl Command {
     #[inline(always)]
     fn buttons(self) -> u8 {
         (self.0 >> 56) as u8
+    }
+
+    /// The command that a caller gives. A forward of -128 would end a demo.
+    fn given(c: &CommandFields, mark: i16) -> Command {
+        let high = c.chat as u64 | (c.buttons as u64) << 8;
+        let plain = Command::new(c.forward.max(-127) as i32, c.side as i32, c.turn as i32, mark, 0);
+        Command(plain.0 | high << 48)
+    }
+
+    fn fields(self) -> CommandFields {
+        CommandFields {
+            turn: (self.0 >> 16) as i16,
+            mark: self.mark(),
+            forward: self.0 as i8,
+            side: (self.0 >> 8) as i8,
+            chat: (self.0 >> 48) as u8,
+            buttons: self.buttons(),
+        }
     }
 
     #[inline(always)]
@@ -425,6 +461,33 @@ impl Node {
         self.put(me, tic, command(keys, self.hold, self.marks[me][place(tic)]));
         self.count[me] = tic + 1;
         Made { code: 0, tic }
+    }
+
+    fn can_build(&self) -> bool {
+        self.phase == Phase::Playing && self.made() - self.ran < AHEAD
+    }
+
+    fn give(&mut self, given: &CommandFields) -> Made {
+        if self.phase != Phase::Playing {
+            return Made { code: 2, tic: 0 };
+        }
+        if !self.can_build() {
+            return Made { code: 1, tic: 0 };
+        }
+        let me = of(self.me);
+        let tic = self.count[me];
+        self.hold = 0;
+        self.put(me, tic, Command::given(given, self.marks[me][place(tic)]));
+        self.count[me] = tic + 1;
+        Made { code: 0, tic }
+    }
+
+    fn command(&self, player: u8, tic: u32) -> KnownCommand {
+        let count = self.count[of(player)];
+        if player >= self.players || tic >= count || count - tic > KEPT {
+            return KnownCommand::default();
+        }
+        KnownCommand { known: 1, command: self.commands[of(player)][place(tic)].fields() }
     }
 
     /// The first tic of the next packet to a player.
@@ -857,6 +920,24 @@ pub extern "C" fn zmg_node_build(handle: &mut Handle, keys: u32) -> Made {
         Some(node) => node.build(keys),
         None => Made { code: 2, tic: 0 },
     }
+}
+
+#[unsafe(no_mangle)]
+pub extern "C" fn zmg_node_give(handle: &mut Handle, command: &CommandFields) -> Made {
+    match handle.node() {
+        Some(node) => node.give(command),
+        None => Made { code: 2, tic: 0 },
+    }
+}
+
+#[unsafe(no_mangle)]
+pub extern "C" fn zmg_node_can_build(handle: &mut Handle) -> u32 {
+    handle.node().map_or(0, |node| node.can_build() as u32)
+}
+
+#[unsafe(no_mangle)]
+pub extern "C" fn zmg_node_command(handle: &mut Handle, player: u8, tic: u32) -> KnownCommand {
+    handle.node().map_or(KnownCommand::default(), |node| node.command(player, tic))
 }
 
 /// # Safety

@@ -10,7 +10,7 @@ struct zmg_block {
     void *at;
 };
 
-static char nowhere[16];
+static const char nowhere[16];
 static unsigned long asked, every, once;
 static long held;
 

@@ -28,7 +28,7 @@ static uint8_t bytes[BYTES], out[BYTES], again[BYTES];
 static unsigned long calls, answers[32][16];
 
 /* The highest answer of each call that has codes. */
-static const uint32_t highest[32] = { 9, 0, 2, 0, 6, 4, 4, 104, 5, 9, 7, 9, 1, 1, 4, 0, 0, 1, 1, 0, 0, 1, 1 };
+static const uint32_t highest[32] = { 9, 0, 2, 2, 6, 4, 4, 104, 5, 9, 7, 9, 1, 1, 4, 1, 1, 1, 1, 0, 0, 1, 1 };
 
 #define MUST(holds) must(holds, #holds, __LINE__)
 
@@ -88,7 +88,21 @@ static void watch(unsigned k) {
     }
     MUST(zmg_node_phase(&twins[k]).code == now.phase && zmg_node_made(&twins[k]) == now.made);
     MUST(zmg_node_ran(&twins[k]) == now.ran && zmg_node_demo_length(&twins[k]) == now.demo);
+    MUST(zmg_node_can_build(node)
+        == (now.phase == ZMG_PHASE_PLAYING && now.made < now.ran + ZMG_MOST_AHEAD));
     *s = now;
+}
+
+/* A player's command for a tic, which a node and its twin tell if it is one of the last twelve. */
+static zmg_known_command command(unsigned k, uint8_t player, uint32_t tic) {
+    zmg_known_command told = zmg_node_command(&nodes[k], player, tic);
+    zmg_known_command twin = zmg_node_command(&twins[k], player, tic);
+    uint32_t got = player < 4 ? seens[k].got[player] : 0;
+    MUST(memcmp(&told, &twin, sizeof told) == 0);
+    MUST(told.known == (player < seens[k].players && tic < got && got - tic <= 12));
+    MUST(told.known || (told.command.turn == 0 && told.command.mark == 0 && told.command.chat == 0));
+    count(16, told.known);
+    return told;
 }
 
 static void give_up(unsigned k) {
@@ -113,12 +127,32 @@ static void make(unsigned k, const zmg_config *c) {
     watch(k);
 }
 
-static void build(unsigned k, uint32_t keys) {
-    zmg_made made = zmg_node_build(&nodes[k], keys), twin = zmg_node_build(&twins[k], keys);
+static void is_made(unsigned k, uint32_t can, zmg_made made, zmg_made twin) {
     MUST(made.code == twin.code && made.tic == twin.tic);
     MUST(made.code != ZMG_BUILD_MADE || made.tic == seens[k].made);
-    count(2, made.code);
+    MUST((made.code == ZMG_BUILD_MADE) == count(15, can));
     watch(k);
+}
+
+static void build(unsigned k, uint32_t keys) {
+    uint32_t can = zmg_node_can_build(&nodes[k]);
+    zmg_made made = zmg_node_build(&nodes[k], keys);
+    count(2, made.code);
+    is_made(k, can, made, zmg_node_build(&twins[k], keys));
+}
+
+/* The node has what was given, but for its mark and a forward of -128. */
+static void give(unsigned k) {
+    uint32_t can = zmg_node_can_build(&nodes[k]);
+    zmg_command c = { (int16_t)draw(), (int16_t)draw(), (int8_t)draw(), (int8_t)draw(), byte(), byte() };
+    zmg_made made = zmg_node_give(&nodes[k], &c);
+    count(3, made.code);
+    is_made(k, can, made, zmg_node_give(&twins[k], &c));
+    if (made.code == ZMG_BUILD_MADE) {
+        zmg_command had = command(k, (uint8_t)seens[k].me, made.tic).command;
+        MUST(had.turn == c.turn && had.side == c.side && had.chat == c.chat && had.buttons == c.buttons);
+        MUST(had.forward == (c.forward == -128 ? -127 : c.forward));
+    }
 }
 
 static zmg_heard receive(unsigned k, uint8_t from, const uint8_t *text, size_t length) {
@@ -148,6 +182,8 @@ static void run(unsigned k, int honest) {
     int16_t marks[4] = { 0, 0, 0, 0 };
     zmg_move row[4], twin_row[4];
     zmg_ran ran, twin;
+    zmg_known_command told[4];
+    for (uint8_t p = 0; p < 4; p++) told[p] = command(k, p, seens[k].ran);
     if (!honest) marks[below(4)] = (int16_t)draw();
     memset(row, 0xAA, sizeof row);
     memcpy(twin_row, row, sizeof row);
@@ -157,6 +193,11 @@ static void run(unsigned k, int honest) {
     MUST(ran.was == twin.was && ran.should == twin.should && memcmp(row, twin_row, sizeof row) == 0);
     MUST(ran.code == ZMG_RUN_RAN ? ran.tic == seens[k].ran : ran.tic == 0 && row[0].present == 0xAA);
     if (ran.code == ZMG_RUN_RAN) {
+        for (unsigned p = 0; p < 4; p++) {
+            const zmg_command *c = &told[p].command;
+            MUST(row[p].present == told[p].known && row[p].turn == c->turn && row[p].forward == c->forward);
+            MUST(row[p].side == c->side && row[p].buttons == c->buttons);
+        }
         for (unsigned p = 0; p < seens[k].players; p++) seens[k].whole &= row[p].present;
         if (seens[k].whole) {
             seens[k].world = stepped(seens[k].world, row);
@@ -234,7 +275,10 @@ static void pair(void) {
 
 /* A tic of the pair. */
 static void tic(void) {
-    for (unsigned p = 0; p < 2; p++) build(p, draw() ^ draw() << 12);
+    for (unsigned p = 0; p < 2; p++) {
+        if (below(3)) build(p, draw() ^ draw() << 12);
+        else give(p);
+    }
     for (unsigned p = 0; p < 2; p++) {
         size_t n = packet(p, (uint8_t)(1 - p), sizeof out);
         if (n && below(8)) receive(1 - p, (uint8_t)p, out, n);
@@ -327,6 +371,7 @@ static void read_node(unsigned k) {
     count(17, end.known);
     count(18, zmg_node_settings(node).known);
     count(21, zmg_node_aim(node, (uint8_t)below(6)).known);
+    command(k, player, seens[k].ran + 16 - below(40));
     MUST(zmg_node_demo(node, draw(), out, below(BYTES)) <= seens[k].demo);
     calls += 10;
 }
@@ -335,7 +380,7 @@ static void any_call(void) {
     size_t n = below(120);
     unsigned k = any_node();
     calls++;
-    switch (below(24)) {
+    switch (below(25)) {
     case 0: if (below(20) == 0) new_node(k); break;
     case 1: if (below(40) == 0) give_up(k); break;
     case 2: if (below(40) == 0) quit(k); break;
@@ -350,6 +395,7 @@ static void any_call(void) {
     case 9: read_node(k); break;
     case 10: if (below(30) == 0) pair(); break;
     case 11: if (below(20) == 0) replay(k); break;
+    case 12: give(k); break;
     default: tic();
     }
 }

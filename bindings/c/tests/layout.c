@@ -28,6 +28,7 @@ static void sizes(void) {
     IS(sizeof(zmg_phase), 16);
     IS(sizeof(zmg_known_settings), 12);
     IS(sizeof(zmg_command), 8);
+    IS(sizeof(zmg_known_command), 12);
     IS(sizeof(zmg_packet), 102);
     IS(sizeof(zmg_start), 7);
     IS(sizeof(zmg_demo_told), 3 * sizeof(size_t) + 24);
@@ -85,6 +86,8 @@ static void offsets(void) {
     IS(offsetof(zmg_command, side), 5);
     IS(offsetof(zmg_command, chat), 6);
     IS(offsetof(zmg_command, buttons), 7);
+    IS(offsetof(zmg_known_command, known), 0);
+    IS(offsetof(zmg_known_command, command), 4);
     IS(offsetof(zmg_packet, flags), 0);
     IS(offsetof(zmg_packet, ask), 1);
     IS(offsetof(zmg_packet, start), 2);
@@ -246,11 +249,54 @@ static void moves(void) {
     IS(zmg_node_end(&other, 0).known, 0);
 }
 
+/* A command whose fields all differ, given by player 1, and told by both nodes with its mark. */
+static void whole_commands(void) {
+    static const int16_t marks[4] = { 11, -2222, 33, 44 };
+    zmg_command c = { -1234, 99, -56, 78, 90, 123 };
+    zmg_known_command told;
+    zmg_move row[4];
+    start(0);
+    IS(zmg_node_give(&other, &c).tic, 0);
+    for (int k = 0; k < 13; k++) {
+        zmg_node_build(&key, 0);
+        if (k > 0) IS(zmg_node_give(&other, &c).code, ZMG_BUILD_MADE);
+        pass(&key, &other);
+        pass(&other, &key);
+        told = zmg_node_command(&key, 1, (uint32_t)k);
+        IS(told.known, 1);
+        IS(told.command.turn, -1234);
+        IS(told.command.mark, k < 12 ? 0 : -2222);
+        IS(told.command.forward, -56);
+        IS(told.command.side, 78);
+        IS(told.command.chat, 90);
+        IS(told.command.buttons, 123);
+        IS(zmg_node_run(&key, marks, row).code, ZMG_RUN_RAN);
+        IS(row[1].turn, -1234);
+        IS(row[1].forward, -56);
+        IS(row[1].side, 78);
+        IS(row[1].buttons, 123);
+        IS(zmg_node_run(&other, marks, row).code, ZMG_RUN_RAN);
+    }
+    IS(zmg_node_command(&key, 1, 0).known, 0);
+    IS(zmg_node_command(&key, 1, 1).known, 1);
+    IS(zmg_node_command(&key, 1, 13).known, 0);
+    IS(zmg_node_command(&key, 2, 12).known, 0);
+    c.forward = -128;
+    IS(zmg_node_give(&key, &c).tic, 13);
+    IS(zmg_node_command(&key, 0, 13).command.forward, -127);
+}
+
 static void requests(void) {
     zmg_aim aim;
+    zmg_command c = { 1, 2, 3, 4, 5, 6 };
     start(0);
-    for (int k = 0; k < 5; k++) IS(zmg_node_build(&key, 0).tic, k);
+    for (uint32_t k = 0; k < ZMG_MOST_AHEAD; k++) {
+        IS(zmg_node_can_build(&key), 1);
+        IS(zmg_node_build(&key, 0).tic, k);
+    }
+    IS(zmg_node_can_build(&key), 0);
     IS(zmg_node_build(&key, 0).code, ZMG_BUILD_AHEAD);
+    IS(zmg_node_give(&key, &c).code, ZMG_BUILD_AHEAD);
     zmg_node_packet(&key, 1, bytes, sizeof bytes);
     for (int k = 0; k < 3; k++) {
         zmg_node_build(&other, 0);
@@ -340,6 +386,11 @@ static void ends(void) {
     IS(phase.code, ZMG_PHASE_ENDED);
     IS(phase.cause, ZMG_CAUSE_QUIT);
     IS(zmg_node_build(&other, 0).code, ZMG_BUILD_NOT_PLAYING);
+    IS(zmg_node_can_build(&other), 0);
+    {
+        zmg_command c = { 1, 2, 3, 4, 5, 6 };
+        IS(zmg_node_give(&other, &c).code, ZMG_BUILD_NOT_PLAYING);
+    }
     IS(run(&other), ZMG_RUN_NOT_PLAYING);
     IS(pass(&other, &key), ZMG_RECEIVE_LEFT);
     IS(zmg_node_end(&key, 1).known, 1);
@@ -548,6 +599,7 @@ int main(void) {
     configurations();
     settings();
     moves();
+    whole_commands();
     requests();
     drops();
     ends();

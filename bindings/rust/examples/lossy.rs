@@ -1,7 +1,7 @@
 //! Two players in one process, over a line that loses, repeats and delays: `lossy [SEED]`. Their world is a
-//! ring road.
+//! ring road, and each makes its own commands, as of a mouse.
 
-use zirmegat::{Config, Dropped, Heard, Keys, Move, Player, Ran, Settings, Start, World};
+use zirmegat::{Command, Config, Dropped, Heard, Move, Player, Ran, Settings, Start, World};
 
 /// How many commands each player builds.
 const TICS: u32 = 1000;
@@ -35,7 +35,7 @@ impl World for Road {
     }
 }
 
-/// Numbers for the line and the keys.
+/// Numbers for the line and the hands.
 struct Luck(u64);
 
 impl Luck {
@@ -45,6 +45,15 @@ impl Luck {
             .wrapping_mul(6364136223846793005)
             .wrapping_add(1442695040888963407);
         (self.0 >> 33) as u32
+    }
+
+    fn hand(&mut self) -> Command {
+        let word = self.next();
+        Command {
+            forward: (word % 101) as i8 - 50,
+            turn: word as i16,
+            ..Command::default()
+        }
     }
 }
 
@@ -97,8 +106,8 @@ fn main() {
     while players[0].ran() < TICS || players[1].ran() < TICS {
         for me in 0..2 {
             let player = &mut players[me];
-            if player.made() < TICS {
-                player.build(Keys(luck.next()));
+            if player.made() < TICS && player.can_build() {
+                player.give(luck.hand());
             }
             if let Some(packet) = player.packet(1 - me as u8) {
                 ways[me].send(&mut luck, round, &packet);

@@ -19,16 +19,21 @@ pub enum DemoError {
     NoMarker,
     /// Out of memory.
     Memory,
+    /// A code that this crate has no name for.
+    Unknown(u32),
 }
 
 impl fmt::Display for DemoError {
     fn fmt(&self, f: &mut fmt::Formatter<'_>) -> fmt::Result {
         f.write_str(match self {
-            DemoError::Short => "fewer than 13 bytes",
-            DemoError::Version => "neither version 109 nor 111",
-            DemoError::NoPlayers => "no players",
-            DemoError::NoMarker => "no end marker",
-            DemoError::Memory => "out of memory",
+            DemoError::Short => "the demo has fewer than 13 bytes",
+            DemoError::Version => "the demo's version is neither 109 nor 111",
+            DemoError::NoPlayers => "the demo has no players",
+            DemoError::NoMarker => "the demo has no end marker",
+            DemoError::Memory => "there is no memory for the demo",
+            DemoError::Unknown(code) => {
+                return write!(f, "the demo was refused with the unknown code {code}");
+            }
         })
     }
 }
@@ -45,34 +50,43 @@ pub enum UpgradeError {
     Limit,
     /// The upgraded demo has more bytes than the limit.
     TooLong,
+    /// A code that this crate has no name for.
+    Unknown(u32),
 }
 
 impl fmt::Display for UpgradeError {
     fn fmt(&self, f: &mut fmt::Formatter<'_>) -> fmt::Result {
         match self {
             UpgradeError::Demo(error) => error.fmt(f),
-            UpgradeError::Limit => f.write_str("a demo's limit is 1024 to 16777216 bytes"),
+            UpgradeError::Limit => f.write_str("the demo's limit is not 1024 to 16777216 bytes"),
             UpgradeError::TooLong => f.write_str("the upgraded demo is longer than its limit"),
+            UpgradeError::Unknown(code) => {
+                write!(f, "the upgrade was refused with the unknown code {code}")
+            }
         }
     }
 }
 
 impl Error for UpgradeError {}
 
-fn error(code: u32) -> DemoError {
+pub(crate) fn done(code: u32) -> Result<(), DemoError> {
     match code {
-        1 => DemoError::Short,
-        2 => DemoError::Version,
-        3 => DemoError::NoPlayers,
-        4 => DemoError::NoMarker,
-        _ => DemoError::Memory,
+        0 => Ok(()),
+        1 => Err(DemoError::Short),
+        2 => Err(DemoError::Version),
+        3 => Err(DemoError::NoPlayers),
+        4 => Err(DemoError::NoMarker),
+        5 => Err(DemoError::Memory),
+        code => Err(DemoError::Unknown(code)),
     }
 }
 
-fn done(code: u32) -> Result<(), DemoError> {
+pub(crate) fn upgraded(code: u32) -> Result<(), UpgradeError> {
     match code {
-        0 => Ok(()),
-        code => Err(error(code)),
+        0..=5 => done(code).map_err(UpgradeError::Demo),
+        6 => Err(UpgradeError::Limit),
+        7 => Err(UpgradeError::TooLong),
+        code => Err(UpgradeError::Unknown(code)),
     }
 }
 
@@ -83,27 +97,28 @@ pub struct Reader(Demo);
 impl Reader {
     /// A reader that no bytes came to.
     pub fn new() -> Result<Reader, DemoError> {
-        let mut handle = raw::Handle::NONE;
-        // SAFETY: the handle is valid for the call, and holds nothing. Below, it is as the library left it,
-        // `&mut` makes each call the only one, and slices are valid for their lengths.
-        done(unsafe { raw::zmg_demo_new(&mut handle) })?;
-        Ok(Reader(Demo(handle)))
+        let demo = Demo(raw::Held::nothing());
+        // SAFETY: the call has the handle alone (`Held`).
+        done(unsafe { raw::zmg_demo_new(demo.0.at()) })?;
+        Ok(Reader(demo))
     }
 
     /// Takes the next piece. Where there is no memory for it, it is not taken.
     pub fn push(&mut self, piece: &[u8]) -> Result<(), DemoError> {
-        done(unsafe { raw::zmg_demo_push(&mut self.0 .0, piece.as_ptr(), piece.len()) })
+        // SAFETY: the call has the handle alone (`Held`), and the slice is valid for its length.
+        done(unsafe { raw::zmg_demo_push(self.0 .0.at(), piece.as_ptr(), piece.len()) })
     }
 
     /// Reads the pieces as one demo.
-    pub fn read(mut self) -> Result<Demo, DemoError> {
-        done(unsafe { raw::zmg_demo_read(&mut self.0 .0) })?;
+    pub fn read(self) -> Result<Demo, DemoError> {
+        // SAFETY: the call has the handle alone (`Held`).
+        done(unsafe { raw::zmg_demo_read(self.0 .0.at()) })?;
         Ok(self.0)
     }
 }
 
-/// A demo that was read. It stays on the thread that made it.
-pub struct Demo(raw::Handle);
+/// A demo that was read. It may go to another thread, and one thread at a time uses it.
+pub struct Demo(raw::Held);
 
 impl Demo {
     /// Reads a demo of version 109 or 111.
@@ -113,57 +128,59 @@ impl Demo {
         reader.read()
     }
 
-    fn told(&mut self) -> raw::DemoTold {
-        unsafe { raw::zmg_demo_tell(&mut self.0) }
+    fn told(&self) -> raw::DemoTold {
+        // SAFETY: the call has the handle alone (`Held`).
+        unsafe { raw::zmg_demo_tell(self.0.at()) }
     }
 
     /// The version: 109, as Doom 1.9 records, or 111.
-    pub fn version(&mut self) -> u8 {
+    pub fn version(&self) -> u8 {
         self.told().version
     }
 
     /// What the game started from.
-    pub fn start(&mut self) -> Start {
+    pub fn start(&self) -> Start {
         Start::of(self.told().start)
     }
 
     /// Whose view it shows.
-    pub fn view(&mut self) -> u8 {
+    pub fn view(&self) -> u8 {
         self.told().view
     }
 
     /// Which seats have a player.
-    pub fn present(&mut self) -> [bool; 4] {
+    pub fn present(&self) -> [bool; 4] {
         self.told().present.map(|seat| seat != 0)
     }
 
     /// How many whole tics it has.
-    pub fn tics(&mut self) -> usize {
+    pub fn tics(&self) -> usize {
         self.told().tics
     }
 
     /// How many commands stand between the last whole tic and the marker.
-    pub fn cut(&mut self) -> usize {
+    pub fn cut(&self) -> usize {
         self.told().cut
     }
 
     /// How many bytes stand after the marker.
-    pub fn after(&mut self) -> usize {
+    pub fn after(&self) -> usize {
         self.told().after
     }
 
     /// The moves of a tic, counted from 0; None from [`tics`](Demo::tics) on.
-    pub fn row(&mut self, tic: usize) -> Option<[Option<Move>; 4]> {
+    pub fn row(&self, tic: usize) -> Option<[Option<Move>; 4]> {
         let mut row = [raw::Move::default(); 4];
-        let known = unsafe { raw::zmg_demo_row(&mut self.0, tic, row.as_mut_ptr()) };
+        // SAFETY: the call has the handle alone (`Held`), and the row has four elements.
+        let known = unsafe { raw::zmg_demo_row(self.0.at(), tic, row.as_mut_ptr()) };
         (known != 0).then_some(row.map(Move::of))
     }
 }
 
 impl Drop for Demo {
     fn drop(&mut self) {
-        // SAFETY: the handle is as the library left it.
-        unsafe { raw::zmg_demo_free(&mut self.0) }
+        // SAFETY: the call has the handle alone (`Held`).
+        unsafe { raw::zmg_demo_free(self.0.at()) }
     }
 }
 
@@ -189,13 +206,7 @@ pub fn upgrade(bytes: &[u8], limit: usize) -> Result<Vec<u8>, UpgradeError> {
     // SAFETY: both slices are valid for their lengths, and do not overlap.
     let made =
         unsafe { raw::zmg_demo_upgrade(bytes.as_ptr(), bytes.len(), out.as_mut_ptr(), out.len()) };
-    match made.code {
-        0 => {
-            out.truncate(made.length);
-            Ok(out)
-        }
-        6 => Err(UpgradeError::Limit),
-        7 => Err(UpgradeError::TooLong),
-        code => Err(UpgradeError::Demo(error(code))),
-    }
+    upgraded(made.code)?;
+    out.truncate(made.length);
+    Ok(out)
 }

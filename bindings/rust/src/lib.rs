@@ -1,10 +1,10 @@
 //! The network play of vanilla Doom, as it was released in 1997, for an engine with a world of its own.
 //!
 //! A [`Player`] is one player's part of a game of two to four: a node of the game and a [`World`], kept in
-//! step. It builds a command from keys for each tic, gives and takes Doom's datagrams, steps the world by
-//! each tic whose commands are there, checks the marks of the other players' worlds, and records a demo. The
-//! network is yours: hand each packet to its player's machine, and each datagram that comes to
-//! [`Player::receive`].
+//! step. For each tic it takes a [`Command`] or builds one from [`Keys`]. It gives and takes Doom's datagrams,
+//! steps the world by each tic whose commands are there, checks the marks of the other players' worlds, and
+//! records a demo. The network is yours: hand each packet to its player's machine, and each datagram that
+//! comes to [`Player::receive`].
 //!
 //! Two players in one process:
 //!
@@ -61,11 +61,18 @@
 //!
 //! Nothing here waits, prints or opens anything. A player's memory is all taken by `Player::new`, but for the
 //! copy that `demo` returns; readers of demos, `upgrade` and packets take their own. A [`Node`], [`Player`],
-//! [`Reader`] or [`Demo`] stays on the thread that made it, and none is used in the forked child of a process
-//! with threads. The library under it is proved: see the repository. This crate is not; it only passes
-//! references as pointers and numbers as enums.
+//! [`Reader`] or [`Demo`] may go to another thread, and one thread at a time uses it: they are `Send` and not
+//! `Sync`. None is used in the forked child of a process with threads.
+//!
+//! A later library may answer codes that this crate has no name for. Each enum that is made of a code has
+//! `Unknown` with the code for them; so no unknown code is taken for a known one, and none ends the program.
+//!
+//! The library under it is proved: see the repository. This crate is not; it only passes references as
+//! pointers and numbers as enums.
 
 #![deny(missing_docs)]
+#![deny(unsafe_op_in_unsafe_fn)]
+#![deny(clippy::undocumented_unsafe_blocks)]
 
 mod demo;
 mod node;
@@ -79,7 +86,7 @@ pub use node::{Datagram, Node, NodeError};
 pub use packet::{Command, Packet, PacketError, EXIT, KILL, RETRANSMIT, SETUP};
 pub use player::{Player, World};
 pub use values::{
-    Aim, Cause, Config, Dropped, Heard, Keys, Made, Move, Phase, Ran, Settings, Start,
+    Aim, Cause, Config, Dropped, Heard, Keys, Made, Move, Phase, Ran, Settings, Start, MOST_AHEAD,
 };
 
 /// The version of the library that is linked: 65,536 times the first number, plus the second.

@@ -1,5 +1,6 @@
 //! A node without a world.
 
+use crate::packet::Command;
 use crate::raw;
 use crate::values::{self, Aim, Config, Heard, Keys, Made, Move, Phase, Ran, Settings};
 use std::error::Error;
@@ -25,41 +26,61 @@ pub enum NodeError {
     Episode,
     /// The map is not 1 to 32.
     Map,
+    /// A code that this crate has no name for.
+    Unknown(u32),
 }
 
 impl fmt::Display for NodeError {
     fn fmt(&self, f: &mut fmt::Formatter<'_>) -> fmt::Result {
         f.write_str(match self {
-            NodeError::Players => "not 2 to 4 players",
-            NodeError::Me => "no player of the game",
-            NodeError::Limit => "a demo's limit is 1024 to 16777216 bytes",
-            NodeError::Memory => "out of memory",
-            NodeError::Skill => "a skill is 0 to 4",
-            NodeError::Deathmatch => "deathmatch is 0 to 2",
-            NodeError::Episode => "an episode is 1 to 3",
-            NodeError::Map => "a map is 1 to 32",
+            NodeError::Players => "the number of players is not 2 to 4",
+            NodeError::Me => "the player's number is not below the number of players",
+            NodeError::Limit => "the demo's limit is not 1024 to 16777216 bytes",
+            NodeError::Memory => "there is no memory for the node",
+            NodeError::Skill => "the skill is not 0 to 4",
+            NodeError::Deathmatch => "the deathmatch is not 0 to 2",
+            NodeError::Episode => "the episode is not 1 to 3",
+            NodeError::Map => "the map is not 1 to 32",
+            NodeError::Unknown(code) => {
+                return write!(f, "the node was refused with the unknown code {code}");
+            }
         })
     }
 }
 
 impl Error for NodeError {}
 
+pub(crate) fn opened(code: u32) -> Result<(), NodeError> {
+    match code {
+        0 => Ok(()),
+        1 => Err(NodeError::Players),
+        2 => Err(NodeError::Me),
+        4 => Err(NodeError::Limit),
+        5 => Err(NodeError::Memory),
+        6 => Err(NodeError::Skill),
+        7 => Err(NodeError::Deathmatch),
+        8 => Err(NodeError::Episode),
+        9 => Err(NodeError::Map),
+        code => Err(NodeError::Unknown(code)),
+    }
+}
+
 /// One player's node without a world, for an engine that steps its own. [`Player`](crate::Player) keeps a
 /// world in step by itself.
 ///
-/// A node stays on the thread that made it:
+/// A node may go to another thread, and one thread at a time uses it. Two threads do not share it:
 ///
-/// ```compile_fail
+/// ```compile_fail,E0277
 /// # use zirmegat::{Config, Node};
 /// let node = Node::new(Config::other(2, 1)).unwrap();
-/// std::thread::spawn(move || drop(node));
+/// std::thread::scope(|scope| scope.spawn(|| node.made()).join());
 /// ```
-pub struct Node(raw::Handle);
+pub struct Node(raw::Held);
 
 impl Node {
     /// A node with no history. All memory that it needs is taken here.
     pub fn new(config: Config) -> Result<Node, NodeError> {
-        let mut node = Node(raw::Handle::NONE);
+        let node = Node(raw::Held::nothing());
         let asked = raw::Config {
             limit: config.limit,
             players: config.players,
@@ -67,24 +88,40 @@ impl Node {
             extra: u8::from(config.extra),
             settings: config.settings.raw(),
         };
-        // SAFETY: both are valid for the call, and the handle holds nothing. Below, the handle is as the
-        // library left it, `&mut` makes each call the only one, and slices are valid for their lengths.
-        match unsafe { raw::zmg_node_new(&mut node.0, &asked) } {
-            0 => Ok(node),
-            1 => Err(NodeError::Players),
-            2 => Err(NodeError::Me),
-            4 => Err(NodeError::Limit),
-            6 => Err(NodeError::Skill),
-            7 => Err(NodeError::Deathmatch),
-            8 => Err(NodeError::Episode),
-            9 => Err(NodeError::Map),
-            _ => Err(NodeError::Memory),
-        }
+        // SAFETY: the call has the handle alone (`Held`), and the configuration is valid for the call.
+        opened(unsafe { raw::zmg_node_new(node.0.at(), &asked) })?;
+        Ok(node)
     }
 
     /// Builds the command of these keys for the next tic.
     pub fn build(&mut self, keys: Keys) -> Made {
-        values::made(unsafe { raw::zmg_node_build(&mut self.0, keys.0) })
+        // SAFETY: the call has the handle alone (`Held`).
+        values::made(unsafe { raw::zmg_node_build(self.0.at(), keys.0) })
+    }
+
+    /// Takes a whole command for the next tic, in place of `build`: for an engine that makes its commands
+    /// itself, of a mouse, a stick, keys of its own or chat. Its mark is not read, since the node puts in its
+    /// own, and a forward of -128 counts as -127; [`command`](Node::command) tells what was made. For the turns
+    /// of later builds it counts as a build with no key down.
+    pub fn give(&mut self, command: Command) -> Made {
+        // SAFETY: the call has the handle alone (`Held`), and the command is valid for the call.
+        values::made(unsafe { raw::zmg_node_give(self.0.at(), &command.raw()) })
+    }
+
+    /// Whether `build` and `give` would make a command now: the game runs, and fewer than
+    /// [`MOST_AHEAD`](crate::MOST_AHEAD) commands of this player wait to be run. An engine asks before it takes
+    /// up the motion of a mouse, which would be lost with a command that is not made.
+    pub fn can_build(&self) -> bool {
+        // SAFETY: the call has the handle alone (`Held`).
+        unsafe { raw::zmg_node_can_build(self.0.at()) != 0 }
+    }
+
+    /// A player's command for a tic, with its chat: one of the last twelve that the node has of the player. That
+    /// of the next tic to be run, [`ran`](Node::ran), is told as soon as it has come.
+    pub fn command(&self, player: u8, tic: u32) -> Option<Command> {
+        // SAFETY: the call has the handle alone (`Held`).
+        let raw = unsafe { raw::zmg_node_command(self.0.at(), player, tic) };
+        (raw.known != 0).then(|| Command::of(&raw.command))
     }
 
     /// The next packet to a player. Each call is taken as sent. None for this node's own number, for a number
@@ -95,15 +132,17 @@ impl Node {
             length: 0,
         };
         let out = &mut datagram.bytes;
+        // SAFETY: the call has the handle alone (`Held`), and the array is valid for its length.
         datagram.length =
-            unsafe { raw::zmg_node_packet(&mut self.0, to, out.as_mut_ptr(), out.len()) };
+            unsafe { raw::zmg_node_packet(self.0.at(), to, out.as_mut_ptr(), out.len()) };
         (datagram.length > 0).then_some(datagram)
     }
 
     /// The full tic numbers of the packet that [`packet`](Node::packet) would give now: it is called before
     /// `packet` for the same player.
-    pub fn aim(&mut self, to: u8) -> Option<Aim> {
-        let raw = unsafe { raw::zmg_node_aim(&mut self.0, to) };
+    pub fn aim(&self, to: u8) -> Option<Aim> {
+        // SAFETY: the call has the handle alone (`Held`).
+        let raw = unsafe { raw::zmg_node_aim(self.0.at(), to) };
         (raw.known != 0).then_some(Aim {
             flags: raw.flags,
             ask: values::number(raw.ask),
@@ -117,8 +156,9 @@ impl Node {
     ///
     /// The transport knows the sender, and drops what is old: see docs/EMBEDDING.md.
     pub fn receive(&mut self, from: u8, bytes: &[u8]) -> Heard {
+        // SAFETY: the call has the handle alone (`Held`), and the slice is valid for its length.
         values::heard(unsafe {
-            raw::zmg_node_receive(&mut self.0, from, bytes.as_ptr(), bytes.len())
+            raw::zmg_node_receive(self.0.at(), from, bytes.as_ptr(), bytes.len())
         })
     }
 
@@ -126,8 +166,9 @@ impl Node {
     /// caller steps the world by the row.
     pub fn run(&mut self, marks: [i16; 4]) -> (Ran, Option<[Option<Move>; 4]>) {
         let mut row = [raw::Move::default(); 4];
+        // SAFETY: the call has the handle alone (`Held`), and both arrays have four elements.
         let ran = values::ran(unsafe {
-            raw::zmg_node_run(&mut self.0, marks.as_ptr(), row.as_mut_ptr())
+            raw::zmg_node_run(self.0.at(), marks.as_ptr(), row.as_mut_ptr())
         });
         match ran {
             Ran::Ran(_) => (ran, Some(row.map(Move::of))),
@@ -138,55 +179,66 @@ impl Node {
     /// Ends the node; true if it had not ended before. If it has played, it still gives packets, which tell the
     /// others of its end.
     pub fn quit(&mut self) -> bool {
-        unsafe { raw::zmg_node_quit(&mut self.0) != 0 }
+        // SAFETY: the call has the handle alone (`Held`).
+        unsafe { raw::zmg_node_quit(self.0.at()) != 0 }
     }
 
     /// Where it stands.
-    pub fn phase(&mut self) -> Phase {
-        values::phase(unsafe { raw::zmg_node_phase(&mut self.0) })
+    pub fn phase(&self) -> Phase {
+        // SAFETY: the call has the handle alone (`Held`).
+        values::phase(unsafe { raw::zmg_node_phase(self.0.at()) })
     }
 
     /// The number of its player.
-    pub fn me(&mut self) -> u8 {
-        unsafe { raw::zmg_node_me(&mut self.0) as u8 }
+    pub fn me(&self) -> u8 {
+        // SAFETY: the call has the handle alone (`Held`).
+        unsafe { raw::zmg_node_me(self.0.at()) as u8 }
     }
 
     /// How many players the game has.
-    pub fn players(&mut self) -> u8 {
-        unsafe { raw::zmg_node_players(&mut self.0) as u8 }
+    pub fn players(&self) -> u8 {
+        // SAFETY: the call has the handle alone (`Held`).
+        unsafe { raw::zmg_node_players(self.0.at()) as u8 }
     }
 
     /// How many commands it built.
-    pub fn made(&mut self) -> u32 {
-        unsafe { raw::zmg_node_made(&mut self.0) }
+    pub fn made(&self) -> u32 {
+        // SAFETY: the call has the handle alone (`Held`).
+        unsafe { raw::zmg_node_made(self.0.at()) }
     }
 
     /// How many tics it ran.
-    pub fn ran(&mut self) -> u32 {
-        unsafe { raw::zmg_node_ran(&mut self.0) }
+    pub fn ran(&self) -> u32 {
+        // SAFETY: the call has the handle alone (`Held`).
+        unsafe { raw::zmg_node_ran(self.0.at()) }
     }
 
     /// How many commands it has of a player; None for a number that is no player's.
-    pub fn got(&mut self, player: u8) -> Option<u32> {
-        values::number(unsafe { raw::zmg_node_got(&mut self.0, player) })
+    pub fn got(&self, player: u8) -> Option<u32> {
+        // SAFETY: the call has the handle alone (`Held`).
+        values::number(unsafe { raw::zmg_node_got(self.0.at(), player) })
     }
 
     /// The tic after a player's last command, where it is known.
-    pub fn end(&mut self, player: u8) -> Option<u32> {
-        values::number(unsafe { raw::zmg_node_end(&mut self.0, player) })
+    pub fn end(&self, player: u8) -> Option<u32> {
+        // SAFETY: the call has the handle alone (`Held`).
+        values::number(unsafe { raw::zmg_node_end(self.0.at(), player) })
     }
 
     /// The choice of game: player 0's own from the beginning, another's from the start on.
-    pub fn settings(&mut self) -> Option<Settings> {
-        let raw = unsafe { raw::zmg_node_settings(&mut self.0) };
+    pub fn settings(&self) -> Option<Settings> {
+        // SAFETY: the call has the handle alone (`Held`).
+        let raw = unsafe { raw::zmg_node_settings(self.0.at()) };
         (raw.known != 0).then_some(Settings::of(raw.settings))
     }
 
     /// A copy of its demo so far.
-    pub fn demo(&mut self) -> Vec<u8> {
-        let length = unsafe { raw::zmg_node_demo_length(&mut self.0) };
+    pub fn demo(&self) -> Vec<u8> {
+        // SAFETY: the call has the handle alone (`Held`).
+        let length = unsafe { raw::zmg_node_demo_length(self.0.at()) };
         let mut bytes = vec![0; length];
-        let copied = unsafe { raw::zmg_node_demo(&mut self.0, 0, bytes.as_mut_ptr(), bytes.len()) };
+        // SAFETY: the call has the handle alone (`Held`), and the vector is valid for its length.
+        let copied = unsafe { raw::zmg_node_demo(self.0.at(), 0, bytes.as_mut_ptr(), bytes.len()) };
         bytes.truncate(copied);
         bytes
     }
@@ -194,8 +246,8 @@ impl Node {
 
 impl Drop for Node {
     fn drop(&mut self) {
-        // SAFETY: the handle is as the library left it.
-        unsafe { raw::zmg_node_free(&mut self.0) }
+        // SAFETY: the call has the handle alone (`Held`).
+        unsafe { raw::zmg_node_free(self.0.at()) }
     }
 }
 

@@ -13,7 +13,8 @@ pub const SETUP: u8 = 2;
 /// The receiver is to end the game. Nodes drop it.
 pub const KILL: u8 = 1;
 
-/// A tic command.
+/// A tic command: what [`give`](crate::Node::give) takes, [`command`](crate::Node::command) tells and packets
+/// carry.
 #[derive(Clone, Copy, Debug, Default, PartialEq, Eq)]
 pub struct Command {
     /// Forward, in units of 2048 in a world of 16 fractional bits.
@@ -26,7 +27,7 @@ pub struct Command {
     pub mark: i16,
     /// A letter of chat, carried unread.
     pub chat: u8,
-    /// Attack, use and a change of weapon.
+    /// Attack, use and a change of weapon; or, with the highest bit, pause and save.
     pub buttons: u8,
 }
 
@@ -57,33 +58,45 @@ pub enum PacketError {
     Length,
     /// The sum is wrong.
     Sum,
+    /// A code that this crate has no name for.
+    Unknown(u32),
 }
 
 impl fmt::Display for PacketError {
     fn fmt(&self, f: &mut fmt::Formatter<'_>) -> fmt::Result {
         f.write_str(match self {
-            PacketError::Short => "fewer than 8 bytes",
-            PacketError::Many => "more than 12 commands",
-            PacketError::Length => "a wrong length",
-            PacketError::Sum => "a wrong sum",
+            PacketError::Short => "the datagram has fewer than 8 bytes",
+            PacketError::Many => "the datagram announces more than 12 commands",
+            PacketError::Length => "the datagram's length is not that of its commands",
+            PacketError::Sum => "the datagram's sum is wrong",
+            PacketError::Unknown(code) => {
+                return write!(f, "the datagram was refused with the unknown code {code}");
+            }
         })
     }
 }
 
 impl Error for PacketError {}
 
+pub(crate) fn decoded(code: u32) -> Result<(), PacketError> {
+    match code {
+        0 => Ok(()),
+        1 => Err(PacketError::Short),
+        2 => Err(PacketError::Many),
+        3 => Err(PacketError::Length),
+        4 => Err(PacketError::Sum),
+        code => Err(PacketError::Unknown(code)),
+    }
+}
+
 impl Packet {
     /// The packet whose text the bytes are, or the first fault that they have.
     pub fn decode(bytes: &[u8]) -> Result<Packet, PacketError> {
         let mut raw = raw::Packet::default();
         // SAFETY: the slice is valid for its length, and the packet for the call.
-        match unsafe { raw::zmg_packet_decode(bytes.as_ptr(), bytes.len(), &mut raw) } {
-            0 => Ok(Packet::of(&raw)),
-            1 => Err(PacketError::Short),
-            2 => Err(PacketError::Many),
-            3 => Err(PacketError::Length),
-            _ => Err(PacketError::Sum),
-        }
+        let code = unsafe { raw::zmg_packet_decode(bytes.as_ptr(), bytes.len(), &mut raw) };
+        decoded(code)?;
+        Ok(Packet::of(&raw))
     }
 
     /// The bytes of the packet; None where its flags are above 15, or it has more than 12 commands.
@@ -126,7 +139,7 @@ impl Packet {
 }
 
 impl Command {
-    fn of(raw: &raw::Command) -> Command {
+    pub(crate) fn of(raw: &raw::Command) -> Command {
         Command {
             forward: raw.forward,
             side: raw.side,
@@ -137,7 +150,7 @@ impl Command {
         }
     }
 
-    fn raw(&self) -> raw::Command {
+    pub(crate) fn raw(&self) -> raw::Command {
         raw::Command {
             turn: self.turn,
             mark: self.mark,

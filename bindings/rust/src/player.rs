@@ -1,6 +1,7 @@
 //! A node with a world, kept in step.
 
 use crate::node::{Datagram, Node, NodeError};
+use crate::packet::Command;
 use crate::values::{Aim, Config, Heard, Keys, Made, Move, Phase, Ran, Settings, Start};
 
 /// A world that the moves of four seats step.
@@ -40,6 +41,27 @@ impl<W: World> Player<W> {
         self.node.build(keys)
     }
 
+    /// Takes a whole command for the next tic, in place of `build`: for an engine that makes its commands
+    /// itself, of a mouse, a stick, keys of its own or chat. Its mark is not read, since the node puts in its
+    /// own, and a forward of -128 counts as -127; [`command`](Player::command) tells what was made. For the turns
+    /// of later builds it counts as a build with no key down.
+    pub fn give(&mut self, command: Command) -> Made {
+        self.node.give(command)
+    }
+
+    /// Whether `build` and `give` would make a command now: the game runs, and fewer than
+    /// [`MOST_AHEAD`](crate::MOST_AHEAD) commands of this player wait to be run. An engine asks before it takes
+    /// up the motion of a mouse, which would be lost with a command that is not made.
+    pub fn can_build(&self) -> bool {
+        self.node.can_build()
+    }
+
+    /// A player's command for a tic, with its chat: one of the last twelve that the node has of the player. That
+    /// of the next tic to be run, [`ran`](Player::ran), is told as soon as it has come.
+    pub fn command(&self, player: u8, tic: u32) -> Option<Command> {
+        self.node.command(player, tic)
+    }
+
     /// The next packet to a player, if there is one. Each call is taken as sent.
     pub fn packet(&mut self, to: u8) -> Option<Datagram> {
         self.node.packet(to)
@@ -47,7 +69,7 @@ impl<W: World> Player<W> {
 
     /// The full tic numbers of the packet that [`packet`](Player::packet) would give now: it is called before
     /// `packet` for the same player.
-    pub fn aim(&mut self, to: u8) -> Option<Aim> {
+    pub fn aim(&self, to: u8) -> Option<Aim> {
         self.node.aim(to)
     }
 
@@ -107,47 +129,47 @@ impl<W: World> Player<W> {
     }
 
     /// The number of the player.
-    pub fn me(&mut self) -> u8 {
+    pub fn me(&self) -> u8 {
         self.node.me()
     }
 
     /// How many players the game has.
-    pub fn players(&mut self) -> u8 {
+    pub fn players(&self) -> u8 {
         self.node.players()
     }
 
     /// Where the node stands.
-    pub fn phase(&mut self) -> Phase {
+    pub fn phase(&self) -> Phase {
         self.node.phase()
     }
 
     /// How many commands it built.
-    pub fn made(&mut self) -> u32 {
+    pub fn made(&self) -> u32 {
         self.node.made()
     }
 
     /// How many tics it ran.
-    pub fn ran(&mut self) -> u32 {
+    pub fn ran(&self) -> u32 {
         self.node.ran()
     }
 
     /// How many commands it has of a player; None for a number that is no player's.
-    pub fn got(&mut self, player: u8) -> Option<u32> {
+    pub fn got(&self, player: u8) -> Option<u32> {
         self.node.got(player)
     }
 
     /// The tic after a player's last command, where it is known.
-    pub fn end(&mut self, player: u8) -> Option<u32> {
+    pub fn end(&self, player: u8) -> Option<u32> {
         self.node.end(player)
     }
 
     /// The choice of game, once it is known.
-    pub fn settings(&mut self) -> Option<Settings> {
+    pub fn settings(&self) -> Option<Settings> {
         self.node.settings()
     }
 
     /// A copy of the demo so far.
-    pub fn demo(&mut self) -> Vec<u8> {
+    pub fn demo(&self) -> Vec<u8> {
         self.node.demo()
     }
 }

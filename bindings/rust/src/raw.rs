@@ -1,5 +1,6 @@
 //! The calls of `zirmegat.h`. The tests compare the layouts with what the header says.
 
+use core::cell::UnsafeCell;
 use core::ffi::c_void;
 
 #[repr(C)]
@@ -8,11 +9,28 @@ pub struct Handle {
     pub at: *mut c_void,
 }
 
-impl Handle {
-    pub const NONE: Handle = Handle {
-        live: 0,
-        at: core::ptr::null_mut(),
-    };
+/// A handle, which holds nothing at first, and then is as the library left it.
+///
+/// The calls take a pointer by which they may write, those that read among them. So the handle stands in a
+/// cell, of which a shared reference gives such a pointer. Each call has the handle alone: the type is not
+/// `Sync`, no call calls back, and no answer points to the handle or to what it holds.
+pub struct Held(UnsafeCell<Handle>);
+
+// SAFETY: nothing in the library is bound to a thread (bindings/archive looks), and what malloc gave on one thread
+// free takes back on another.
+unsafe impl Send for Held {}
+
+impl Held {
+    pub fn nothing() -> Held {
+        Held(UnsafeCell::new(Handle {
+            live: 0,
+            at: core::ptr::null_mut(),
+        }))
+    }
+
+    pub fn at(&self) -> *mut Handle {
+        self.0.get()
+    }
 }
 
 #[repr(C)]
@@ -104,6 +122,12 @@ pub struct Command {
 }
 
 #[repr(C)]
+pub struct KnownCommand {
+    pub known: u32,
+    pub command: Command,
+}
+
+#[repr(C)]
 #[derive(Default)]
 pub struct Packet {
     pub flags: u8,
@@ -150,6 +174,9 @@ extern "C" {
     pub fn zmg_node_new(node: *mut Handle, config: *const Config) -> u32;
     pub fn zmg_node_free(node: *mut Handle);
     pub fn zmg_node_build(node: *mut Handle, keys: u32) -> Coded;
+    pub fn zmg_node_give(node: *mut Handle, command: *const Command) -> Coded;
+    pub fn zmg_node_can_build(node: *mut Handle) -> u32;
+    pub fn zmg_node_command(node: *mut Handle, player: u8, tic: u32) -> KnownCommand;
     pub fn zmg_node_aim(node: *mut Handle, to: u8) -> Aim;
     pub fn zmg_node_packet(node: *mut Handle, to: u8, out: *mut u8, room: usize) -> usize;
     pub fn zmg_node_receive(node: *mut Handle, from: u8, bytes: *const u8, length: usize) -> Coded;

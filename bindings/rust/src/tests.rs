@@ -3,6 +3,9 @@
 use crate::*;
 use core::mem::{offset_of, size_of};
 
+mod codes;
+mod sharing;
+
 #[derive(Default, Debug, PartialEq, Clone)]
 struct Sum {
     totals: [i64; 4],
@@ -72,6 +75,7 @@ fn the_header_has_these_sizes() {
     assert_eq!(size_of::<raw::Move>(), 6);
     assert_eq!(size_of::<raw::KnownSettings>(), 12);
     assert_eq!(size_of::<raw::Command>(), 8);
+    assert_eq!(size_of::<raw::KnownCommand>(), 12);
     assert_eq!(size_of::<raw::Packet>(), 102);
     assert_eq!(size_of::<raw::DemoTold>(), 3 * size_of::<usize>() + 24);
     assert_eq!(size_of::<raw::Upgraded>(), 2 * size_of::<usize>());
@@ -147,7 +151,7 @@ fn two_players_agree_and_their_demos_are_read() {
     for piece in one.chunks(7) {
         reader.push(piece).unwrap();
     }
-    let mut demo = reader.read().unwrap();
+    let demo = reader.read().unwrap();
     assert_eq!((demo.version(), demo.view(), demo.tics()), (111, 0, 500));
     assert_eq!((demo.cut(), demo.after()), (0, 0));
     assert_eq!(demo.present(), [true, true, false, false]);
@@ -315,6 +319,8 @@ fn fields_stand_where_the_header_has_them() {
     assert_eq!(offset_of!(raw::Command, side), 5);
     assert_eq!(offset_of!(raw::Command, chat), 6);
     assert_eq!(offset_of!(raw::Command, buttons), 7);
+    assert_eq!(offset_of!(raw::KnownCommand, known), 0);
+    assert_eq!(offset_of!(raw::KnownCommand, command), 4);
     assert_eq!(offset_of!(raw::Packet, flags), 0);
     assert_eq!(offset_of!(raw::Packet, ask), 1);
     assert_eq!(offset_of!(raw::Packet, start), 2);

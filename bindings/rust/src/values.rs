@@ -184,16 +184,21 @@ impl Move {
     }
 }
 
-/// What a build answers.
+/// How many commands of a player may wait to be run.
+pub const MOST_AHEAD: u32 = 5;
+
+/// What a build answers, and what a given command is answered.
 #[derive(Clone, Copy, Debug, PartialEq, Eq)]
 #[non_exhaustive]
 pub enum Made {
     /// The command of this tic was made.
     Made(u32),
-    /// Five commands wait to be run.
+    /// [`MOST_AHEAD`] commands wait to be run.
     Ahead,
     /// The game has not started, or the node has ended.
     NotPlaying,
+    /// A code that this crate has no name for. No command was made.
+    Unknown(u32),
 }
 
 /// Why a datagram was dropped.
@@ -228,6 +233,8 @@ pub enum Dropped {
     NotPlaying,
     /// It contradicts the end of its sender.
     End,
+    /// A code that this crate has no name for.
+    Unknown(u32),
 }
 
 /// What came of a datagram.
@@ -248,6 +255,8 @@ pub enum Heard {
     Noted,
     /// It changed nothing.
     Dropped(Dropped),
+    /// A code that this crate has no name for.
+    Unknown(u32),
 }
 
 /// What a run answers.
@@ -265,6 +274,8 @@ pub enum Ran {
     Inconsistent { player: u8, was: i16, should: i16 },
     /// The game has not started, or the node has ended.
     NotPlaying,
+    /// A code that this crate has no name for. There is no row.
+    Unknown(u32),
 }
 
 /// Why a node ended.
@@ -278,6 +289,8 @@ pub enum Cause {
     /// The mark of `player` was `was` in place of `should`.
     #[allow(missing_docs)]
     Inconsistent { player: u8, was: i16, should: i16 },
+    /// A code that this crate has no name for.
+    Unknown(u32),
 }
 
 /// Where a node stands.
@@ -292,6 +305,8 @@ pub enum Phase {
     Playing,
     /// It has ended. It still gives packets if it has played.
     Ended(Cause),
+    /// A code that this crate has no name for.
+    Unknown(u32),
 }
 
 /// The full tic numbers of a packet, of which it carries only the low bytes.
@@ -315,7 +330,8 @@ pub(crate) fn made(raw: raw::Coded) -> Made {
     match raw.code {
         0 => Made::Made(raw.number),
         1 => Made::Ahead,
-        _ => Made::NotPlaying,
+        2 => Made::NotPlaying,
+        code => Made::Unknown(code),
     }
 }
 
@@ -333,8 +349,9 @@ fn dropped(number: u32) -> Dropped {
         10 => Dropped::Before,
         11 => Dropped::Stop,
         12 => Dropped::Overrun,
+        13 => Dropped::NotPlaying,
         14 => Dropped::End,
-        _ => Dropped::NotPlaying,
+        code => Dropped::Unknown(code),
     }
 }
 
@@ -346,7 +363,8 @@ pub(crate) fn heard(raw: raw::Coded) -> Heard {
         3 => Heard::Gap,
         4 => Heard::Left,
         5 => Heard::Noted,
-        _ => Heard::Dropped(dropped(raw.number)),
+        6 => Heard::Dropped(dropped(raw.number)),
+        code => Heard::Unknown(code),
     }
 }
 
@@ -360,24 +378,27 @@ pub(crate) fn ran(raw: raw::Ran) -> Ran {
             was: raw.was,
             should: raw.should,
         },
-        _ => Ran::NotPlaying,
+        4 => Ran::NotPlaying,
+        code => Ran::Unknown(code),
     }
 }
 
 pub(crate) fn phase(raw: raw::Phase) -> Phase {
     let cause = match raw.cause {
+        1 => Cause::Quit,
         2 => Cause::Full,
         3 => Cause::Inconsistent {
             player: raw.player,
             was: raw.was,
             should: raw.should,
         },
-        _ => Cause::Quit,
+        code => Cause::Unknown(code),
     };
     match raw.code {
         1 => Phase::Listening,
         2 => Phase::Gathering,
         3 => Phase::Playing,
-        _ => Phase::Ended(cause),
+        4 => Phase::Ended(cause),
+        code => Phase::Unknown(code),
     }
 }

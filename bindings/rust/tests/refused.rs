@@ -5,9 +5,23 @@ use std::alloc::{GlobalAlloc, Layout, System};
 use std::cell::Cell;
 use zirmegat::{upgrade, Config, DemoError, Keys, Node, NodeError, Reader, Settings, UpgradeError};
 
-extern "C" {
-    fn fail_once(n: std::ffi::c_ulong);
-    fn blocks_held() -> std::ffi::c_long;
+mod failing {
+    extern "C" {
+        pub fn fail_once(n: std::ffi::c_ulong);
+        pub fn blocks_held() -> std::ffi::c_long;
+    }
+}
+
+/// The nth request from now on for the library's memory is refused, and no other; 0 for none.
+fn fail_once(n: std::ffi::c_ulong) {
+    // SAFETY: it asks for nothing, and only the one test here makes requests.
+    unsafe { failing::fail_once(n) }
+}
+
+/// How many blocks the library holds.
+fn blocks_held() -> std::ffi::c_long {
+    // SAFETY: as above.
+    unsafe { failing::blocks_held() }
 }
 
 /// The system's memory, of which the crate is refused blocks of this many bytes or more.
@@ -17,16 +31,19 @@ thread_local! {
     static MOST: Cell<usize> = const { Cell::new(usize::MAX) };
 }
 
+// SAFETY: it is the system's memory, but that some requests are refused.
 unsafe impl GlobalAlloc for Scarce {
     unsafe fn alloc(&self, layout: Layout) -> *mut u8 {
         if layout.size() >= MOST.get() {
             return std::ptr::null_mut();
         }
-        System.alloc(layout)
+        // SAFETY: what the caller owes here it owes there.
+        unsafe { System.alloc(layout) }
     }
 
     unsafe fn dealloc(&self, at: *mut u8, layout: Layout) {
-        System.dealloc(at, layout)
+        // SAFETY: what the caller owes here it owes there.
+        unsafe { System.dealloc(at, layout) }
     }
 }
 
@@ -35,20 +52,20 @@ static SCARCE: Scarce = Scarce;
 
 /// Refuses each of a call's requests for the library's memory in turn, and answers how many there are.
 fn refused<T, E: PartialEq + std::fmt::Debug>(want: E, call: impl Fn() -> Result<T, E>) -> u32 {
-    let before = unsafe { blocks_held() };
+    let before = blocks_held();
     for request in 1.. {
-        unsafe { fail_once(request) };
+        fail_once(request);
         let made = call();
-        unsafe { fail_once(0) };
+        fail_once(0);
         match made {
             Ok(made) => {
                 drop(made);
-                assert_eq!(unsafe { blocks_held() }, before);
+                assert_eq!(blocks_held(), before);
                 return request as u32 - 1;
             }
             Err(error) => assert_eq!(error, want),
         }
-        assert_eq!(unsafe { blocks_held() }, before, "request {request}");
+        assert_eq!(blocks_held(), before, "request {request}");
     }
     unreachable!()
 }
