@@ -78,7 +78,8 @@ fn sealed_packets_are_heard_by_their_own_numbers(rt: HostRuntime) -> Result<(), 
     same!(&rt; arrives(&mut key, &sealer(0), &one), Arrived::Heard(Heard::Started));
     same!(&rt; arrives(&mut key, &sealer(0), &one), Arrived::Heard(Heard::Taken(1)));
     same!(&rt; arrives(&mut key, &sealer(0), &one), Arrived::Heard(Heard::Stale));
-    let far = sealer(1).seal(0, 65, None, &one.as_slice()[20..36]);
+    let datagram = one.as_slice().get(20..36).ok_or("no datagram")?;
+    let far = sealer(1).seal(0, 65, None, datagram);
     same!(&rt; arrives(&mut key, &sealer(0), &far), Arrived::Late);
     Ok(())
 }
