@@ -1,6 +1,6 @@
 -- A build keeps what every event keeps: the commands held, the rows run and the packets sent stay pieces of
 -- what the players' inputs make.
-use Rattle.std.proofs.Common.{◌≡◌, ℕ, ◌+◌, ◌<◌, ◌≤◌, true, false, true≢false, List, [], ◌∷◌, ◌++◌, length, get_or, take, sym, ◌∙◌, ap, subst, arith, inl, inr, refl, Option}
+use Rattle.std.proofs.Common.{◌≡◌, ℕ, ◌+◌, ◌<◌, ◌≤◌, true, false, List, [], ◌∷◌, ◌++◌, length, get_or, take, sym, ◌∙◌, ap, subst, arith, inl, inr, refl, Option}
 use Rattle.std.specs.Prelude.{◌⊎◌, slice_get}
 use Rattle.std.proofs.lemmas.Bool.{cases_eq}
 use Rattle.std.proofs.lemmas.List.{length_push, take-append-le, take_all}
@@ -30,13 +30,7 @@ module _ {S : Type 0} (rules : Rules S) (settings : Settings) (history : History
     -- the first inputs stay the first
     pub inputs_kept : (p k : ℕ) → k ≤ length (history.inputs me)
         → take k (history.inputs p) ≡ take k (put history.inputs me (history.inputs me ++ input ∷ []) p)
-    inputs_kept p k l = elim (cases_eq p me) [
-      | inl e ↦
-          let at = put_at history.inputs me p (history.inputs me ++ input ∷ []) e in
-          ap (λ (r : ℕ). take k (history.inputs r)) e
-          ∙ (sym (take-append-le k (history.inputs me) (input ∷ []) l) ∙ ap (take k) (sym at))
-      | inr n ↦ ap (take k) (sym (put_off history.inputs me p (history.inputs me ++ input ∷ []) n))
-    ]
+    inputs_kept p k l = grind (arith, put_at, take-append-le, put_off)
 
     -- and there are more of them
     inputs_more : (p : ℕ) → length (history.inputs p)
@@ -46,9 +40,7 @@ module _ {S : Type 0} (rules : Rules S) (settings : Settings) (history : History
     -- a player who has left presses no more
     inputs_of_left : (p : ℕ) → history.left p ≡ true
         → length (put history.inputs me (history.inputs me ++ input ∷ []) p) ≡ length (history.inputs p)
-    inputs_of_left p gone =
-        ap (length {A = Input}) (put_off history.inputs me p (history.inputs me ++ input ∷ [])
-        (λ e. true≢false (sym gone ∙ (ap history.left e ∙ stays))))
+    inputs_of_left p gone = grind arith
 
     -- the commands made so far stay
     pub command_kept : (p t : ℕ) → p < rules.players → t < length (history.inputs p)
@@ -75,21 +67,7 @@ module _ {S : Type 0} (rules : Rules S) (settings : Settings) (history : History
 
     piece_kept : (flight : Flight) → IsPiece rules settings history.inputs history.left flight
         → IsPiece rules settings (put history.inputs me (history.inputs me ++ input ∷ [])) history.left flight
-    piece_kept flight piece =
-        let sender = inputs_more flight.from in
-        let receiver = inputs_more flight.to in
-        let reached = piece.reached in
-        record {
-          sender = piece.sender;
-          receiver = piece.receiver;
-          apart = piece.apart;
-          reached = omega arith;
-          commands = λ j l. piece.commands j l ∙ command_kept flight.from (flight.start + j) piece.sender
-              (omega arith);
-          set_up = piece.set_up;
-          request = λ tic e. let old = piece.request tic e in omega arith;
-          exit = λ e. let old = piece.exit e in (old.0, old.1 ∙ sym (inputs_of_left flight.from old.0));
-        }
+    piece_kept flight piece = grind (arith, inputs_more, command_kept, inputs_of_left)
 
     module _ (new : TicCmd)
         (true_command : new ≡ command rules settings (put history.inputs me (history.inputs me ++ input ∷ [])) me
@@ -111,17 +89,7 @@ module _ {S : Type 0} (rules : Rules S) (settings : Settings) (history : History
           × (length (history.inputs p) ≡ length (history.inputs me))
           × (length (history.rows q) ≡ length (history.rows me)))
           ⊎ (length (held_after q p) ≡ length (history.held q p))
-      counts q p = elim (both_or_not q me p me) [
-        | inl h ↦ inl (
-          h.1,
-          ap (length {A = TicCmd}) (put_two_at history.held me me q p _ h.0 h.1) ∙ length_built,
-          ap (λ (r : ℕ). length (history.held r p)) h.0 ∙ (ap (λ (r : ℕ). length (history.held me r)) h.1
-              ∙ from_inputs.counted me mine),
-          ap (λ (r : ℕ). length (history.inputs r)) h.1,
-          ap (λ (r : ℕ). length (history.rows r)) h.0,
-        )
-        | inr n ↦ inr (ap (length {A = TicCmd}) (put_two_off history.held me me q p _ n))
-      ]
+      counts q p = grind (arith, both_or_not, put_two_at, length_built, put_two_off)
 
       pub lists_built : ComesFromInputs rules settings (record history { inputs = inputs_after; held = held_after })
           flights

@@ -1,26 +1,23 @@
 -- The cases of each call on a node: what is so of each node that a call may leave, with its answer where that
 -- tells, is so of the one that it leaves.
-use Rattle.std.proofs.Common.{◌≡◌, ℕ, ◌+◌, ◌-◌, ◌<◌, ◌≤◌, ◌≢◌, Bool, true, false, [], ◌∷◌, ◌++◌, drop, refl, ap, arith, Option, Some, None, inl, inr, ltb, leb, eqb, ℤ}
+use Rattle.std.proofs.Common.{◌≡◌, ℕ, ◌+◌, ◌-◌, ◌<◌, ◌≤◌, ◌≢◌, true, false, [], ◌∷◌, ◌++◌, drop, arith, Option, Some, None, ℤ}
 use Rattle.std.specs.Prelude.{◌⊎◌}
-use Rattle.std.proofs.lemmas.Bool.{cond_both, leb-true, leb-false, ltb-true, ltb-false, eqb-true, eqb-false, and_from}
+use Rattle.std.proofs.lemmas.Bool.{leb-true, leb-false, ltb-true, ltb-false}
 use Rattle.dn_setup.specs.Settings.{Settings}
 use Rattle.dn_setup.specs.Gathered.{all_noted}
 use Rattle.dn_tic.specs.Inputs.{made_by}
 use Rattle.dn_machine.specs.declared.answers.Cause.{Cause}
-use Rattle.dn_machine.specs.declared.answers.Phase.{Phase}
 use Rattle.dn_machine.specs.declared.answers.Phase.TheVariants.{Listening, Gathering, Playing, Ended}
-use Rattle.dn_machine.specs.declared.answers.Made.{Made}
 use Rattle.dn_machine.specs.declared.answers.Heard.{Heard}
-use Rattle.dn_machine.specs.declared.answers.Ran.{Ran}
 use Rattle.dn_machine.specs.declared.peer.Peer.{Peer}
 use Rattle.dn_machine.specs.Drops as drops
 use Rattle.dn_machine.specs.Limits.{Limits}
 use Rattle.dn_machine.specs.Flight.{Kind, SetUp, Play, Exit, Flight, is_exit, end_of}
 use Rattle.dn_machine.specs.Node.{Node, put, with_peer, ends_of, got, made, ran, held_at, own_mark, lowest, is_ended, has_left}
-use Rattle.dn_machine.specs.Building.{on_build, on_build_in}
-use Rattle.dn_machine.specs.Sending.{set_up_flight, commands_flight, request_to, after_sent, on_send, on_send_in}
-use Rattle.dn_machine.specs.Hearing.{started, on_gathering, after_request, after_flight, is_strange_end, left_or, on_commands, on_ended, on_packet, on_packet_in}
-use Rattle.dn_machine.specs.Running.{marks_kept, full_at, is_awaited, first_off, row_held, on_run_playing, on_run_in, on_run, on_quit, on_quit_in}
+use Rattle.dn_machine.specs.Building.{on_build}
+use Rattle.dn_machine.specs.Sending.{set_up_flight, commands_flight, request_to, after_sent, on_send}
+use Rattle.dn_machine.specs.Hearing.{started, after_request, after_flight, is_strange_end, left_or, on_commands, on_packet}
+use Rattle.dn_machine.specs.Running.{marks_kept, full_at, is_awaited, first_off, row_held, on_run, on_quit}
 use Rattle.dn_tic.specs.declared.input.Input.{Input}
 
 -- the packet is not set-up
@@ -44,15 +41,7 @@ module _ (limits : Limits) (me : ℕ) (node : Node) where
       → (node.phase ≡ Playing → made me node < ran node + 5 → P (built input))
       → P (on_build me node input).0
   unfolding on_build
-  build_cases P input same builds = go node.phase refl
-    where
-      go : (phase : Phase) → node.phase ≡ phase → P (on_build_in me node input phase).0
-      go Listening e = same (λ plays. absurd (cc))
-      go Gathering e = same (λ plays. absurd (cc))
-      go (Ended cause) e = same (λ plays. absurd (cc))
-      go Playing e = cond_both (leb 5 (made me node - ran node)) _ _ (λ (r : Node × Made). P r.0)
-          (λ full. let l = leb-true 5 (made me node - ran node) full in same (λ plays. omega arith))
-          (λ free. let l = leb-false 5 (made me node - ran node) free in builds e (omega arith))
+  build_cases P input same builds = grind arith
 
   -- send
   pub send_cases : (P : Node × Option Flight → Type 0) (to : ℕ) → P (node, None)
@@ -63,16 +52,7 @@ module _ (limits : Limits) (me : ℕ) (node : Node) where
       → P (after_sent limits me node to, Some (commands_flight limits me node to Exit None)))
       → P (on_send limits me node to)
   unfolding on_send
-  send_cases P to none sets_up plays left =
-      cond_both (eqb me to) _ _ P (λ own. none) (λ other. go (eqb-false me to other) node.phase refl)
-    where
-      go : me ≢ to → (phase : Phase) → node.phase ≡ phase → P (on_send_in limits me node to phase)
-      go other Listening e = none
-      go other Gathering e = sets_up other e
-      go other Playing e = plays other e
-      go other (Ended cause) e = cond_both node.played _ _ P
-          (λ played. left other (and_from node.played (is_ended node.phase) played (ap is_ended e)))
-          (λ never. none)
+  send_cases P to none sets_up plays left = grind arith
 
   -- run: the node after one more row, with the marks that it was told
   abbrev pub ran_on : (ℕ → ℤ) → Node
@@ -94,35 +74,13 @@ module _ (limits : Limits) (me : ℕ) (node : Node) where
       → P (ran_on marks))
       → P (on_run limits node marks).0
   unfolding on_run
-  run_cases marks P same off full runs = go node.phase refl
-    where
-      by : node.phase ≡ Playing → (awaited off_mark : Option ℕ)
-          → lowest limits.players (is_awaited node) ≡ awaited → first_off limits node ≡ off_mark
-          → P (on_run_playing limits node marks awaited off_mark).0
-      by plays (Some player) o a f = same (λ e none. absurd (cc))
-      by plays None (Some player) a f = off player plays a f
-      by plays None None a f = cond_both (eqb (ran node) (full_at limits (row_held limits node))) _ _
-          (λ (r : Node × Ran). P r.0)
-          (λ at. full plays a (eqb-true (ran node) (full_at limits (row_held limits node)) at))
-          (λ free. runs plays a (eqb-false (ran node) (full_at limits (row_held limits node)) free))
-
-      go : (phase : Phase) → node.phase ≡ phase → P (on_run_in limits node marks phase).0
-      go Listening e = same (λ plays. absurd (cc))
-      go Gathering e = same (λ plays. absurd (cc))
-      go (Ended cause) e = same (λ plays. absurd (cc))
-      go Playing e = by e (lowest limits.players (is_awaited node)) (first_off limits node) refl refl
+  run_cases marks P same off full runs = grind arith
 
   -- quit
   pub quit_cases : (P : Node → Type 0) → P node → (is_ended node.phase ≡ false → P (ended_by Cause.Quit))
       → P (on_quit node).0
   unfolding on_quit
-  quit_cases P same quits = go node.phase refl
-    where
-      go : (phase : Phase) → node.phase ≡ phase → P (on_quit_in node phase).0
-      go (Ended cause) e = same
-      go Listening e = quits (ap is_ended e)
-      go Gathering e = quits (ap is_ended e)
-      go Playing e = quits (ap is_ended e)
+  quit_cases P same quits = grind arith
 
   module _ (flight : Flight) where
     -- what a packet that is not dropped leaves of what is kept of its sender
@@ -153,19 +111,7 @@ module _ (limits : Limits) (me : ℕ) (node : Node) where
           )
 
     pub commands_cases : (P : Node × Heard → Type 0) → Commands P → P (on_commands me node flight)
-    commands_cases P cases =
-        cond_both (ltb (ran node + 12) (end_of flight)) _ _ P
-        (λ over. cases.dropped drops.overrun (inl (refl, ltb-true (ran node + 12) (end_of flight) over)))
-        (λ fits. cond_both
-        (is_strange_end (is_exit flight.kind) (got node flight.from) (ends_of node flight.from)
-        (end_of flight)) _ _ P
-        (λ strange. cases.dropped drops.strange_end (inr (refl, strange)))
-        (λ known. cond_both (leb (end_of flight) (got node flight.from)) _ _ P
-        (λ old. cases.stale (leb-true (end_of flight) (got node flight.from) old))
-        (λ later. cond_both (ltb (got node flight.from) flight.start) _ _ P
-        (λ past. cases.gap (ltb-true (got node flight.from) flight.start past))
-        (λ joins. cases.takes (ltb-false (got node flight.from) flight.start joins)
-        (leb-false (end_of flight) (got node flight.from) later)))))
+    commands_cases P cases = grind (arith, ltb-true, leb-true, ltb-false, leb-false)
 
     -- hear
     pub record Packet (P : Node × Heard → Type 0) : Type 0 where
@@ -192,34 +138,4 @@ module _ (limits : Limits) (me : ℕ) (node : Node) where
 
     pub packet_cases : (P : Node × Heard → Type 0) → Packet P → P (on_packet limits me node flight)
     unfolding on_packet
-    packet_cases P cases = go node.phase flight.kind refl refl
-      where
-        misplaced : P (node, Heard.Dropped drops.out_of_place)
-        misplaced = cases.dropped drops.out_of_place (inl refl)
-
-        early : P (node, Heard.Dropped drops.not_playing)
-        early = cases.dropped drops.not_playing (inr refl)
-
-        gathers : IsWord flight.kind → node.phase ≡ Gathering → P (on_gathering limits node flight.from)
-        gathers word e = cond_both (all_noted limits.players (put node.noted flight.from true)) _ _ P
-            (cases.completes word e) (cases.notes word e)
-
-        ended : (played : Bool) (kind : Kind) → is_ended node.phase ≡ true
-            → P (on_ended played me node flight kind)
-        ended false kind e = early
-        ended true (SetUp s) e = misplaced
-        ended true Exit e = early
-        ended true Play e = cases.requests e
-
-        go : (phase : Phase) (kind : Kind) → node.phase ≡ phase → flight.kind ≡ kind
-            → P (on_packet_in limits me node flight phase kind)
-        go (Ended cause) kind e k = ended node.played kind (ap is_ended e)
-        go Listening (SetUp s) e k = cases.starts s e k
-        go Gathering (SetUp s) e k = misplaced
-        go Playing (SetUp s) e k = misplaced
-        go Listening Play e k = early
-        go Listening Exit e k = early
-        go Gathering Play e k = gathers (λ s h. absurd (cc)) e
-        go Gathering Exit e k = gathers (λ s h. absurd (cc)) e
-        go Playing Exit e k = commands_cases P (cases.commands e)
-        go Playing Play e k = commands_cases P (cases.commands e)
+    packet_cases P cases = grind (arith, commands_cases)

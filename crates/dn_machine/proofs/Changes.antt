@@ -98,8 +98,4 @@ module _ (limits : Limits) (i : ℕ) (node : Node) where
 pub noted_of : (players from : ℕ) (spoke ends : Type 0) (old new : Node)
     → Change players from spoke ends old new
     → (new.noted ≡ old.noted) ⊎ (spoke × (new.noted ≡ put old.noted from true))
-noted_of players from spoke ends old new (Same a b c r) = inl c
-noted_of players from spoke ends old new (Starts l a b c) = inl c
-noted_of players from spoke ends old new (Notes w g a b c d r) = inr (w, c)
-noted_of players from spoke ends old new (Completes w g a b c d) = inr (w, c)
-noted_of players from spoke ends old new (Gone x a b c) = inl c
+noted_of players from spoke ends old new h = grind arith

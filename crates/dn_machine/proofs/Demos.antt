@@ -1,15 +1,15 @@
 -- Rows that lack a player, and the rows before the first of them.
-use Rattle.std.proofs.Common.{◌≡◌, ℕ, zero, suc, ◌<◌, ◌≤◌, Bool, true, false, true≢false, cond, List, [], ◌∷◌, ◌++◌, length, get_or, refl, sym, ◌∙◌, ap, subst, arith, Option, Some, None, inl, inr, ltb, leb}
-use Rattle.std.specs.List.{take_while, prefix_len}
+use Rattle.std.proofs.Common.{◌≡◌, ℕ, zero, suc, ◌<◌, ◌≤◌, Bool, true, false, cond, List, [], ◌∷◌, ◌++◌, length, get_or, refl, sym, ◌∙◌, ap, subst, arith, Option, Some, None, ltb, leb}
+use Rattle.std.specs.List.{take_while}
 use Rattle.std.specs.Option.{option_map, is_none}
-use Rattle.std.proofs.lemmas.Bool.{cases_lt, lt-ltb, le-ltb, le-leb, lt-leb}
+use Rattle.std.proofs.lemmas.Bool.{lt-ltb}
 use Rattle.std.proofs.lemmas.List.{get_or-take, get_or_past}
 use Rattle.std.proofs.lemmas.List.Sums.{take_while-cons, prefix_len_passes, prefix_len-le-length}
 use Rattle.std.proofs.lemmas.List.Folds.{length-prefix_len}
 use Rattle.dn_tic.specs.declared.command.TicCmd.{TicCmd}
 use Rattle.dn_tic.specs.Command.{used}
 use Rattle.dn_machine.specs.Worlds.{if_made}
-use Rattle.dn_machine.specs.Node.{Node, ran, held_at, lacks, is_whole}
+use Rattle.dn_machine.specs.Node.{Node, lacks, is_whole}
 use Rattle.dn_machine.specs.Running.{is_absent, row_held}
 use Rattle.dn_machine.specs.Promise.{IsPrefixOf}
 use Rattle.dn_machine.proofs.Marks.{lowest_none, lowest_none_each}
@@ -73,9 +73,7 @@ front_passes test xs k d l = prefix_len_passes test xs k d (let long = length-pr
 -- and is the element of that place
 pub front_each : {A : Type 0} (test : A → Bool) (xs : List A) (k : ℕ) (d : A)
     → k < length (take_while test xs) → test (get_or (take_while test xs) k d) ≡ true
-front_each test xs k d l =
-    let long = length-prefix_len test xs in
-    ap test (get_or-take (prefix_len test xs) xs k d (omega arith)) ∙ front_passes test xs k d l
+front_each test xs k d l = grind (arith, length-prefix_len, get_or-take, front_passes)
 
 pub front_short : {A : Type 0} (test : A → Bool) (xs : List A) → length (take_while test xs) ≤ length xs
 front_short test xs = let long = length-prefix_len test xs in let low = prefix_len-le-length test xs in
@@ -88,9 +86,7 @@ none_is None h = refl
 none_is (Some x) h = absurd (cc)
 
 seat_some : (b : Bool) (x : Option TicCmd) → b ≡ true → is_none (cond b (option_map used x) None) ≡ is_none x
-seat_some true None h = refl
-seat_some true (Some c) h = refl
-seat_some false x h = absurd (cc)
+seat_some b x h = grind arith
 
 -- a seat is empty where its player has no command
 pub seat_is : (players : ℕ) (f : ℕ → Option TicCmd) (p : ℕ) → p < players → p < 4
@@ -106,11 +102,7 @@ seat_is players f (suc (suc (suc (suc p)))) l s = absurd (omega arith)
 seat_taken : (players : ℕ) (f : ℕ → Option TicCmd) (p : ℕ) → p < players
     → lacks (row_of players f) p ≡ false → (p < 4) × (is_none (f p) ≡ false)
 unfolding row_of
-seat_taken players f p l e = elim (cases_lt p 4) [
-  | inl s ↦ (s, sym (seat_is players f p l s) ∙ e)
-  | inr past ↦ absurd (true≢false
-      (sym (ap is_none (get_or_past (row_of players f) p None past)) ∙ e))
-]
+seat_taken players f p l e = grind (arith, seat_is, get_or_past)
 
 pub whole_more : (players : ℕ) (f g : ℕ → Option TicCmd)
     → ((p : ℕ) → p < players → is_none (f p) ≡ false → is_none (g p) ≡ false)
@@ -123,12 +115,7 @@ whole_more players f g h e =
 
 pub if_made_is : (inputs : List Input) (tic : ℕ) (command : TicCmd)
     → is_none (if_made inputs tic command) ≡ leb (length inputs) tic
-if_made_is inputs tic command = elim (cases_lt tic (length inputs)) [
-  | inl made ↦ ap (λ (b : Bool). is_none (cond b (Some command) None)) (lt-ltb tic (length inputs) made)
-      ∙ sym (lt-leb (length inputs) tic made)
-  | inr past ↦ ap (λ (b : Bool). is_none (cond b (Some command) None)) (le-ltb tic (length inputs) past)
-      ∙ sym (le-leb (length inputs) tic past)
-]
+if_made_is inputs tic command = grind arith
 
 pub whole_has : (players : ℕ) (f : ℕ → Option TicCmd) → is_whole players (row_of players f) ≡ true → (p : ℕ)
     → p < players → is_none (f p) ≡ false
@@ -145,7 +132,4 @@ absent_none false c = refl
 pub whole_held : (limits : Limits) (new old : Node)
     → ((p : ℕ) → p < limits.players → is_absent new p ≡ false → is_absent old p ≡ false)
     → is_whole limits.players (row_held limits new) ≡ true → is_whole limits.players (row_held limits old) ≡ true
-whole_held limits new old h e =
-    whole_more limits.players _ _ (λ p l s.
-    absent_none (is_absent old p) (held_at old p (ran old))
-    ∙ h p l (sym (absent_none (is_absent new p) (held_at new p (ran new))) ∙ s)) e
+whole_held limits new old h e = grind (arith, whole_more, absent_none)

@@ -12,7 +12,7 @@ use Rattle.dn_machine.specs.Hearing.{on_packet}
 use Rattle.dn_machine.specs.Game.{Game, with_node}
 use Rattle.dn_machine.proofs.Invariant.{HoldsAll, history_of}
 use Rattle.dn_machine.specs.Progress.{after, exchange}
-use Rattle.dn_machine.proofs.Put.{put_at, put_off, view_kept}
+use Rattle.dn_machine.proofs.Put.{put_at, put_off}
 use Rattle.dn_machine.proofs.GoingOn.{IsOn, ran_after, live_after, on_alike}
 use Rattle.dn_machine.proofs.Stages.{side, same_side, Holds, Taken, Asked}
 use Rattle.dn_machine.proofs.Pairs.{Gives, kind_of}
@@ -116,10 +116,7 @@ module _ {S : Type 0} (rules : Rules S) (settings : Settings) (cap : ℕ) (stay 
     -- a view in which both nodes are as they were
     looks : {A : Type 0} (y : Node) (view : Node → A) → view new_i ≡ view I → view y ≡ view J → (r : ℕ)
         → view (put (put game.nodes i new_i) j y r) ≡ view (game.nodes r)
-    looks y view mine_same its_same r =
-        let back : put game.nodes i new_i j ≡ J = put_off game.nodes i j new_i (λ e. apart (sym e)) in
-        ap (λ f. f r) (view_kept view (put game.nodes i new_i) j y (its_same ∙ ap view (sym back)))
-        ∙ ap (λ f. f r) (view_kept view game.nodes i new_i mine_same)
+    looks y view mine_same its_same r = grind arith
 
     -- the game after an exchange, with this receiver
     placed : (y : Node) → y.phase ≡ J.phase → y.played ≡ J.played → ((s : ℕ) → s ≢ i → side y s ≡ side J s)
@@ -168,10 +165,7 @@ module _ {S : Type 0} (rules : Rules S) (settings : Settings) (cap : ℕ) (stay 
 
     -- where the packet is refused, nodes are as if it came to nothing
     same_game : sent_game ≡ with_node sent_game j J
-    same_game =
-        let back : put game.nodes i new_i j ≡ J = put_off game.nodes i j new_i (λ e. apart (sym e)) in
-        ap (λ (n : ℕ → Node). record sent_game { nodes = n })
-        (sym (view_kept (λ (n : Node). n) (put game.nodes i new_i) j J (sym back)))
+    same_game = grind arith
 
     pub exchanges_by : IsExchanged stay tic flight.start i j game (exchange rules i game j)
     exchanges_by = elim (cases_Bool (is_near (made j J) flight)) [

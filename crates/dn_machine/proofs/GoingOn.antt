@@ -1,18 +1,14 @@
 -- A game that goes on, where those that stay play and the others have left: what each event leaves of it.
-use Rattle.std.proofs.Common.{◌≡◌, ℕ, ◌+◌, ◌<◌, ◌≤◌, Bool, true, false, true≢false, ◌&&◌, length, refl, sym, ◌∙◌, ap, arith, Option, Some, None}
-use Rattle.std.specs.Prelude.{slice_get}
+use Rattle.std.proofs.Common.{◌≡◌, ℕ, ◌+◌, ◌<◌, ◌≤◌, Bool, true, false, ◌&&◌, length, ◌∙◌, ap, arith}
 use Rattle.std.proofs.lemmas.Bool.{and_right, and_parts}
 use Rattle.dn_setup.specs.Settings.{Settings}
 use Rattle.dn_machine.specs.declared.answers.Phase.{Phase}
 use Rattle.dn_machine.specs.declared.answers.Phase.TheVariants.{Playing}
 use Rattle.dn_machine.specs.declared.events.Event.{Event}
-use Rattle.dn_machine.specs.declared.events.Event.TheVariants.{Build, Send, Deliver, Run, Quit, Stop, Give}
-use Rattle.dn_machine.specs.declared.events.Refusal.{Refusal}
+use Rattle.dn_machine.specs.declared.events.Event.TheVariants.{Send, Deliver}
 use Rattle.dn_machine.specs.Worlds.{Rules}
-use Rattle.dn_machine.specs.Flight.{Flight}
 use Rattle.dn_machine.specs.Node.{Node, ran, is_ended, has_left}
-use Rattle.dn_machine.specs.Sending.{on_send}
-use Rattle.dn_machine.specs.Game.{Game, with_node, posted, refused, delivered, on_event, applied_if, applied}
+use Rattle.dn_machine.specs.Game.{Game, applied}
 use Rattle.dn_machine.proofs.Invariant.{IsKept}
 use Rattle.dn_machine.proofs.Invariant.{history_of}
 use Rattle.dn_machine.specs.Progress.{after, is_of_round, exchange}
@@ -58,29 +54,7 @@ ran_after rules stay event game tic far q l s = let old = far q l s in
 stopped_after : {S : Type 0} (rules : Rules S) (event : Event) (game : Game) → is_of_round event ≡ true
     → (after rules event game).stopped ≡ game.stopped
 unfolding applied
-stopped_after rules event game round = go (refused rules.players game event)
-  where
-    posts : (base : Game) (o : Option Flight) → (posted base o).0.stopped ≡ base.stopped
-    posts base None = refl
-    posts base (Some flight) = refl
-
-    delivers : (o : Option Flight) → (delivered rules game o).0.stopped ≡ game.stopped
-    delivers None = refl
-    delivers (Some flight) = refl
-
-    happens : (e : Event) → is_of_round e ≡ true → (on_event rules game e).0.stopped ≡ game.stopped
-    happens (Build i keys) r = refl
-    happens (Give i command) r = refl
-    happens (Send i j) r = posts (with_node game i (on_send rules.limits i (game.nodes i) j).0)
-        (on_send rules.limits i (game.nodes i) j).1
-    happens (Deliver which) r = delivers (slice_get game.flights which)
-    happens (Run i) r = refl
-    happens (Quit i) r = refl
-    happens (Stop i) r = absurd (cc)
-
-    go : (o : Option Refusal) → (applied_if rules game event o).0.stopped ≡ game.stopped
-    go (Some refusal) = refl
-    go None = happens event round
+stopped_after rules event game round = grind arith
 
 pub live_after : {S : Type 0} (rules : Rules S) (settings : Settings) (event : Event) (game : Game)
     → is_of_round event ≡ true → IsLive rules settings game → IsLive rules settings (after rules event game)
@@ -118,9 +92,7 @@ left_ended node h = (and_parts node.played (is_ended node.phase) h).1
 
 pub stays_in : (node : Node) (stays : Bool) → (stays ≡ false → has_left node ≡ true) → node.phase ≡ Playing
     → stays ≡ true
-stays_in node true left plays = refl
-stays_in node false left plays =
-    absurd (true≢false (sym (left_ended node (left refl)) ∙ ap is_ended plays))
+stays_in node stays left plays = grind arith
 
 -- where one demo is full, every demo is as good as full
 pub full_far : {S : Type 0} (rules : Rules S) (settings : Settings) (cap : ℕ) (stay : ℕ → Bool) (game : Game)

@@ -1,21 +1,21 @@
 -- What no event takes back: the rows that a node ran, that it has played, and that it pauses for no more than
 -- ten packets.
-use Rattle.std.proofs.Common.{ℤ, ◌≡◌, ℕ, ◌≤◌, Bool, true, false, ◌&&◌, List, length, refl, ap, subst, arith, Option, inl, inr, eqb}
-use Rattle.std.proofs.lemmas.Bool.{cases_eq, cond_both}
+use Rattle.std.proofs.Common.{ℤ, ◌≡◌, ℕ, ◌≤◌, Bool, true, false, List, length, refl, ap, subst, arith, Option, inl, inr}
+use Rattle.std.proofs.lemmas.Bool.{cases_eq}
 use Rattle.std.proofs.lemmas.List.{length_push}
 use Rattle.dn_tic.specs.declared.command.TicCmd.{TicCmd}
 use Rattle.dn_setup.specs.Settings.{Settings}
 use Rattle.dn_machine.specs.declared.answers.Heard.{Heard}
 use Rattle.dn_machine.specs.declared.events.Event.{Event}
 use Rattle.dn_machine.specs.declared.peer.Peer.{Peer}
-use Rattle.dn_machine.specs.declared.events.Event.TheVariants.{Send, Deliver, Run}
+use Rattle.dn_machine.specs.declared.events.Event.TheVariants.{Run}
 use Rattle.dn_machine.specs.Limits.{Limits}
 use Rattle.dn_machine.specs.Worlds.{Rules}
 use Rattle.dn_machine.specs.Flight.{Flight, is_exit, end_of}
 use Rattle.dn_machine.specs.Node.{Node, put, with_peer, made, ran}
 use Rattle.dn_machine.specs.Building.{on_build}
 use Rattle.dn_machine.specs.Sending.{after_sent, on_send}
-use Rattle.dn_machine.specs.Hearing.{is_within, after_request, after_exit, on_packet}
+use Rattle.dn_machine.specs.Hearing.{after_request, after_exit, on_packet}
 use Rattle.dn_machine.specs.Running.{row_held, on_run, on_quit}
 use Rattle.dn_machine.specs.Game.{Game, opening_game, applied}
 use Rattle.dn_machine.specs.Runs.{Runs}
@@ -77,8 +77,7 @@ module _ (limits : Limits) (i : ℕ) (node : Node) where
 
   request_low : (peer : Peer) (request : Option ℕ) → peer.pause ≤ 10
       → (after_request (made i node) peer request).pause ≤ 10
-  request_low peer request low = cond_both (eqb peer.pause 0 && is_within (made i node) request) _ _
-      (λ (p : Peer). p.pause ≤ 10) (λ met. omega arith) (λ not_met. omega arith)
+  request_low peer request low = grind arith
 
   exit_low : (peer : Peer) (exit : Bool) (end : ℕ) → peer.pause ≤ 10 → (after_exit peer exit end).pause ≤ 10
   exit_low peer true end low = low
@@ -131,11 +130,7 @@ module _ {S : Type 0} (rules : Rules S) where
   pub exchange_ran : (q n i : ℕ) (g : Game) (j : ℕ) → n ≤ ran (g.nodes q)
       → n ≤ ran ((exchange rules i g j).nodes q)
   unfolding exchange
-  exchange_ran q n i g j l =
-      let mid : Game = after rules (Send i j) g in
-      let a = (applied_grows rules g q (Send i j)).rows in
-      let b = (applied_grows rules mid q (Deliver (length g.flights))).rows in
-      omega arith
+  exchange_ran q n i g j l = grind (arith, applied_grows)
 
   pub turn_ran : (inputs : ℕ → Input) (q n : ℕ) (g : Game) (i : ℕ) → n ≤ ran (g.nodes q)
       → n ≤ ran ((turn rules inputs g i).nodes q)

@@ -1,12 +1,11 @@
 -- A packet that comes to a node keeps what every event keeps.
-use Rattle.std.proofs.Common.{◌≡◌, ℕ, ◌+◌, ◌-◌, ◌<◌, ◌≤◌, ◌≢◌, false, List, ◌++◌, length, get_or, drop, refl, sym, ◌∙◌, ap, subst, arith, inl, inr, Bool, true, true≢false, cond, Option, Some}
+use Rattle.std.proofs.Common.{◌≡◌, ℕ, ◌-◌, ◌<◌, ◌≤◌, ◌≢◌, false, List, ◌++◌, length, get_or, drop, refl, sym, ◌∙◌, ap, subst, arith, inl, inr, Bool, true, cond, Option, Some}
 use Rattle.std.specs.Prelude.{◌⊎◌}
-use Rattle.std.proofs.lemmas.Bool.{cases_lt, le-leb, and_parts}
 use Rattle.std.proofs.lemmas.List.{length-append, length-drop, get_or_append_left, get_or-append_right, get_or-drop}
 use Rattle.dn_tic.specs.declared.command.TicCmd.{TicCmd}
 use Rattle.dn_setup.specs.Settings.{Settings}
 use Rattle.dn_machine.specs.Worlds.{Inputs, Rules, command}
-use Rattle.dn_machine.specs.Flight.{Flight, end_of, Kind, SetUp, Play, Exit, is_exit}
+use Rattle.dn_machine.specs.Flight.{Flight, end_of, Kind, Exit, is_exit}
 use Rattle.dn_machine.specs.Node.{put, blank, Node, with_peer, ends_of, got, made, is_ended, has_left}
 use Rattle.dn_machine.proofs.Invariant.{History, IsPiece, ComesFromInputs, IsKept, history_of}
 use Rattle.dn_machine.proofs.Put.{put_two_at, put_two_off, both_or_not, put_off, view_put, view_kept}
@@ -16,10 +15,9 @@ use Rattle.dn_machine.specs.declared.answers.Phase.TheVariants.{Listening, Gathe
 use Rattle.dn_machine.specs.declared.answers.Heard.{Heard}
 use Rattle.dn_machine.specs.declared.peer.Peer.{Peer}
 use Rattle.dn_machine.specs.Game.{Game, with_node}
-use Rattle.dn_machine.proofs.Peers.{asked_low, asked_end, flight_low, flight_end, same_ends}
+use Rattle.dn_machine.proofs.Peers.{asked_low, asked_end, flight_low, flight_end}
 use Rattle.dn_machine.proofs.Calls.{packet_cases, sender_after}
 use Rattle.dn_machine.proofs.Placing
-use Rattle.dn_machine.proofs.RunKeeps.{over}
 use Rattle.dn_machine.specs.Hearing.{on_packet}
 use Rattle.dn_machine.specs.Running.{is_over}
 
@@ -32,31 +30,12 @@ module _ {S : Type 0} (rules : Rules S) (settings : Settings) (history : History
       (high : length (history.held me flight.from) ≤ end_of flight) where
     length_new : length (history.held me flight.from
         ++ drop (length (history.held me flight.from) - flight.start) flight.commands) ≡ end_of flight
-    length_new =
-        let a = length-append (history.held me flight.from)
-        (drop (length (history.held me flight.from) - flight.start) flight.commands) in
-        let b = length-drop (length (history.held me flight.from) - flight.start) flight.commands in
-        omega arith
+    length_new = grind (arith, length-append, length-drop)
 
     true_new : (t : ℕ) → t < end_of flight
         → get_or (history.held me flight.from ++ drop (length (history.held me flight.from) - flight.start)
         flight.commands) t blank ≡ command rules settings history.inputs flight.from t
-    true_new t l =
-        elim (cases_lt t (length (history.held me flight.from))) [
-          | inl before ↦ get_or_append_left (history.held me flight.from)
-              (drop (length (history.held me flight.from) - flight.start) flight.commands) blank t before
-              ∙ from_inputs.commands me flight.from t mine piece.sender before
-          | inr after ↦
-              let skip = length (history.held me flight.from) - flight.start in
-              let at : skip + (t - length (history.held me flight.from)) ≡ t - flight.start = omega arith in
-              let whole : flight.start + (t - flight.start) ≡ t = omega arith in
-              get_or-append_right (history.held me flight.from) (drop skip flight.commands)
-              (length (history.held me flight.from)) t blank refl after
-              ∙ (get_or-drop skip flight.commands (t - length (history.held me flight.from)) blank
-              ∙ (ap (λ (k : ℕ). get_or flight.commands k blank) at
-              ∙ (piece.commands (t - flight.start) (omega arith)
-              ∙ ap (command rules settings history.inputs flight.from) whole)))
-        ]
+    true_new t l = grind (arith, get_or_append_left, get_or-append_right, get_or-drop)
 
     abbrev held_after : ℕ → ℕ → List TicCmd
     held_after = put history.held me
@@ -71,15 +50,7 @@ module _ {S : Type 0} (rules : Rules S) (settings : Settings) (history : History
         × (length (history.inputs p) ≡ length (history.inputs flight.from))
         × (length (history.rows q) ≡ length (history.rows me)))
         ⊎ (length (held_after q p) ≡ length (history.held q p))
-    counts q p = elim (both_or_not q me p flight.from) [
-      | inl h ↦ inl (
-        ap (length {A = TicCmd}) (put_two_at history.held me flight.from q p _ h.0 h.1) ∙ length_new,
-        ap (λ (r : ℕ). length (history.held r p)) h.0 ∙ ap (λ (r : ℕ). length (history.held me r)) h.1,
-        ap (λ (r : ℕ). length (history.inputs r)) h.1,
-        ap (λ (r : ℕ). length (history.rows r)) h.0,
-      )
-      | inr n ↦ inr (ap (length {A = TicCmd}) (put_two_off history.held me flight.from q p _ n))
-    ]
+    counts q p = grind (arith, both_or_not, put_two_at, length_new, put_two_off)
 
     pub lists_taken : ComesFromInputs rules settings (record history { held = held_after }) flights
     lists_taken = record {
@@ -124,9 +95,7 @@ module _ {S : Type 0} (rules : Rules S) (settings : Settings) (history : History
 
 -- a packet that tells an end is an EXIT packet
 pub exit_is : (kind : Kind) → is_exit kind ≡ true → kind ≡ Exit
-exit_is (SetUp s) e = absurd (true≢false (sym e))
-exit_is Play e = absurd (true≢false (sym e))
-exit_is Exit e = refl
+exit_is kind e = grind arith
 
 module _ {S : Type 0} (rules : Rules S) (settings : Settings) (game : Game)
     (kept : IsKept rules settings game) (i : ℕ) (mine : i < rules.players) where
@@ -136,9 +105,7 @@ module _ {S : Type 0} (rules : Rules S) (settings : Settings) (game : Game)
   -- whoever had left still has, where the phase is not one of an end
   in_play_left : {A : Type 0} (phase : Phase) → (game.nodes i).phase ≡ phase → is_ended phase ≡ false
       → has_left (game.nodes i) ≡ true → A
-  in_play_left phase e f h =
-      absurd (true≢false (sym (and_parts (game.nodes i).played (is_ended (game.nodes i).phase) h).1
-      ∙ (ap is_ended e ∙ f)))
+  in_play_left phase e f h = grind arith
 
   -- a packet of commands: its sender's end is told or not, and its commands are taken or not
   module _ (flight : Flight) (piece : IsPiece rules settings inputs_now (λ q. has_left (game.nodes q)) flight)
@@ -168,13 +135,7 @@ module _ {S : Type 0} (rules : Rules S) (settings : Settings) (game : Game)
 
     end_over : (exit : Bool) → (exit ≡ true → flight.kind ≡ Exit) → (tic : ℕ)
         → is_over (ends_of (game.nodes i) flight.from) tic ≡ true → is_over (end_after exit) tic ≡ true
-    end_over false leaving tic h = h
-    end_over true leaving tic h =
-        let old = over (ends_of (game.nodes i) flight.from) tic h in
-        let low = old.2 in
-        let tip = (kept.from_inputs.ended i flight.from old.0 mine piece.sender old.1).1 in
-        let end = (piece.exit (leaving refl)).1 in
-        le-leb (end_of flight) tic (omega arith)
+    end_over exit leaving tic h = grind arith
 
     module _ (exit : Bool) (leaving : exit ≡ true → flight.kind ≡ Exit) (peer : Peer)
         (told : peer.end ≡ end_after exit) (low : peer.resend ≤ made i (game.nodes i)) where
@@ -186,20 +147,7 @@ module _ {S : Type 0} (rules : Rules S) (settings : Settings) (game : Game)
           → ◌≡◌ {A = ℕ → ℕ → Option ℕ}
           (λ q. ends_of (put game.nodes i (after_peer peer held) q))
           (history_with_end exit).ends
-      ends_view held = go exit told
-        where
-          node : Node
-          node = after_peer peer held
-
-          go : (exit : Bool) → peer.end ≡ end_after exit
-              → ◌≡◌ {A = ℕ → ℕ → Option ℕ} (λ q. ends_of (put game.nodes i node q))
-              (history_with_end exit).ends
-          go true e =
-              view_put ends_of game.nodes i node
-              ∙ ap (put (λ (q : ℕ). ends_of (game.nodes q)) i)
-              (view_put (λ (p : Peer). p.end) (game.nodes i).peers flight.from peer
-              ∙ ap (put (ends_of (game.nodes i)) flight.from) e)
-          go false e = view_kept ends_of game.nodes i node (same_ends (game.nodes i) flight.from peer e)
+      ends_view held = grind arith
 
       -- no commands are taken
       hears_only : IsKept rules settings (with_node game i (with_peer (game.nodes i) flight.from peer))

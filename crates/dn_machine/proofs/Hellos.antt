@@ -1,16 +1,14 @@
 -- The key player's packet starts a listener, and a player's packet is noted by the key player.
-use Rattle.std.proofs.Common.{◌≡◌, ℕ, ◌<◌, ◌≢◌, Bool, true, false, true≢false, [], length, refl, sym, ◌∙◌, ap, arith, Option, Some, None, inl, inr, eqb}
+use Rattle.std.proofs.Common.{◌≡◌, ℕ, ◌<◌, ◌≢◌, Bool, true, false, true≢false, [], length, refl, sym, ◌∙◌, ap, arith, Some, None, inl, inr}
 use Rattle.std.specs.Prelude.{◌⊎◌}
-use Rattle.std.proofs.lemmas.Bool.{cases_Bool, cond_both, cond-false, ne_eqb}
+use Rattle.std.proofs.lemmas.Bool.{cases_Bool, cond-false, ne_eqb}
 use Rattle.dn_setup.specs.Settings.{Settings}
-use Rattle.dn_setup.specs.Gathered.{all_noted}
 use Rattle.dn_machine.specs.declared.answers.Phase.{Phase}
 use Rattle.dn_machine.specs.declared.answers.Phase.TheVariants.{Gathering, Playing}
-use Rattle.dn_machine.specs.declared.answers.Heard.{Heard}
 use Rattle.dn_machine.specs.Worlds.{Rules}
 use Rattle.dn_machine.specs.Flight.{SetUp, Flight, is_near}
 use Rattle.dn_machine.specs.Node.{Node, put, made, is_ended, has_left}
-use Rattle.dn_machine.specs.Sending.{set_up_flight, on_send, on_send_in}
+use Rattle.dn_machine.specs.Sending.{on_send}
 use Rattle.dn_machine.specs.Hearing.{on_gathering, on_packet, on_packet_in}
 use Rattle.dn_machine.specs.Game.{Game, with_node}
 use Rattle.dn_machine.specs.Progress.{exchange}
@@ -55,11 +53,7 @@ module _ {S : Type 0} (rules : Rules S) (settings : Settings) (cap : ℕ) (stay 
 
       gives : on_send rules.limits 0 (game.nodes 0) j ≡ (game.nodes 0, Some set_up)
       unfolding on_send
-      gives =
-          cond-false (eqb 0 j) _ _ (ne_eqb 0 j back)
-          ∙ (ap (on_send_in rules.limits 0 (game.nodes 0) j) key
-          ∙ ap (λ (o : Option Settings). (game.nodes 0, set_up_flight 0 j o))
-          ((begun.live.kept.sound 0 some).gathering key))
+      gives = grind (arith, cond-false, ne_eqb, back)
 
       abbrev started_one : Node
       started_one = (on_packet rules.limits j (game.nodes j) set_up).0
@@ -72,17 +66,7 @@ module _ {S : Type 0} (rules : Rules S) (settings : Settings) (cap : ℕ) (stay 
 
       started_plays : is_ended (game.nodes j).phase ≡ false → started_one.phase ≡ Playing
       unfolding on_packet
-      started_plays in_play = go (begun.is_open.stands j)
-        where
-          go : Stands j (game.nodes j)
-              → (on_packet_in rules.limits j (game.nodes j) set_up (game.nodes j).phase (SetUp settings)).0.phase
-              ≡ Playing
-          go (Gathers z e f k) = absurd (other z)
-          go (Listens z e f) = ap (λ (ph : Phase).
-              (on_packet_in rules.limits j (game.nodes j) set_up ph (SetUp settings)).0.phase) e
-          go (Plays e) = ap (λ (ph : Phase).
-              (on_packet_in rules.limits j (game.nodes j) set_up ph (SetUp settings)).0.phase) e ∙ e
-          go (HasGone e) = absurd (true≢false (sym e ∙ in_play))
+      started_plays in_play = grind arith
 
       pub starts : IsIn j (exchange rules 0 game j)
       starts = elim (cases_Bool (stay j)) [
@@ -93,9 +77,7 @@ module _ {S : Type 0} (rules : Rules S) (settings : Settings) (cap : ℕ) (stay 
       ]
 
       pub still_gathers : KeyGathers (exchange rules 0 game j)
-      still_gathers = ap (λ (g : Game). (g.nodes 0).phase) exchange_is
-          ∙ (ap (λ (n : Node). n.phase) (put_off (put game.nodes 0 (game.nodes 0)) j 0 started_one back
-          ∙ put_at game.nodes 0 0 (game.nodes 0) refl) ∙ key)
+      still_gathers = grind (arith, exchange_is, put_off, back, put_at)
 
     -- and a player's packet is noted
     module _ (j : ℕ) (its : j < rules.players) (other : j ≢ 0) (game : Game)
@@ -114,9 +96,7 @@ module _ {S : Type 0} (rules : Rules S) (settings : Settings) (cap : ℕ) (stay 
           (λ w. (f.held j 0 its some, f.unheard j 0 its some (asker w)))
 
       noted_so : (on_gathering rules.limits (game.nodes 0) j).0.noted j ≡ true
-      noted_so = cond_both (all_noted rules.players (put (game.nodes 0).noted j true)) _ _
-          (λ (r : Node × Heard). r.0.noted j ≡ true) (λ all. put_at (game.nodes 0).noted j j true refl)
-          (λ not_all. put_at (game.nodes 0).noted j j true refl)
+      noted_so = grind arith
 
       noted_in : (b : Bool)
           → (on_packet_in rules.limits 0 (game.nodes 0) F Gathering

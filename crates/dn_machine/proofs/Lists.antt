@@ -1,6 +1,6 @@
 -- The commands held, the rows run, the known ends and the packets sent stay pieces of what the players' inputs
 -- make: when a node learns an end, leaves, runs a tic or sends.
-use Rattle.std.proofs.Common.{◌≡◌, ℕ, ◌+◌, ◌<◌, ◌≤◌, ◌≢◌, Bool, true, false, true≢false, List, [], ◌∷◌, ◌++◌, length, sym, ◌∙◌, ap, subst, arith, Option, Some, inl, inr}
+use Rattle.std.proofs.Common.{◌≡◌, ℕ, ◌+◌, ◌<◌, ◌≤◌, Bool, true, false, true≢false, List, [], ◌∷◌, ◌++◌, length, sym, ◌∙◌, ap, subst, arith, Option, Some, inl, inr}
 use Rattle.std.specs.Prelude.{◌⊎◌}
 use Rattle.std.proofs.lemmas.Option.{same_Some}
 use Rattle.dn_tic.specs.declared.command.Move.{Move}
@@ -31,10 +31,7 @@ module _ {S : Type 0} (rules : Rules S) (settings : Settings) (history : History
   -- made counts are at most five above that of a player who has not left
   pub close : (p q : ℕ) → p < rules.players → q < rules.players → history.left q ≡ false
       → length (history.inputs p) ≤ length (history.inputs q) + 5
-  close p q l m stays =
-      let a = from_inputs.ahead p l in
-      let b = ran_below p q l m stays in
-      omega arith
+  close p q l m stays = grind (arith, ran_below)
 
   -- a packet that is sent
   pub sends : (flight : Flight) → IsPiece rules settings history.inputs history.left flight
@@ -86,43 +83,7 @@ module _ {S : Type 0} (rules : Rules S) (settings : Settings) (history : History
     pub learns : ComesFromInputs rules settings
         (record history
         { ends = put history.ends me (put (history.ends me) flight.from (Some (end_of flight))) }) flights
-    learns =
-        let X : Option ℕ = Some (end_of flight) in
-        let off = λ (q p : ℕ) (n : q ≡ me → p ≢ flight.from). put_two_off history.ends me flight.from q p X
-        n in
-        let at = λ (q p : ℕ) (e : q ≡ me) (d : p ≡ flight.from). put_two_at history.ends me flight.from q p X
-        e d in
-        record {
-          counted = from_inputs.counted;
-          run = λ q p l m. elim (from_inputs.run q p l m) [
-            | inl le ↦ inl le
-            | inr h ↦ elim (both_or_not q me p flight.from) [
-              | inl b ↦
-                  let old = (from_inputs.ended q p h.0 l m h.1).1 in
-                  let tip = (piece.exit leaving).1 in
-                  let here : length (history.inputs p) ≡ length (history.inputs flight.from) =
-                  ap (λ (r : ℕ). length (history.inputs r)) b.1 in
-                  let low = h.2 in
-                  inr (end_of flight, at q p b.0 b.1, omega arith)
-              | inr n ↦ inr (h.0, off q p n ∙ h.1, h.2)
-            ]
-          ];
-          got = from_inputs.got;
-          ahead = from_inputs.ahead;
-          unread = from_inputs.unread;
-          commands = from_inputs.commands;
-          moves = from_inputs.moves;
-          ended = λ q p end l m h. elim (both_or_not q me p flight.from) [
-            | inl b ↦
-                let tip = piece.exit leaving in
-                let same : end_of flight ≡ end = same_Some (end_of flight) end (sym (at q p b.0 b.1) ∙ h) in
-                let here : length (history.inputs p) ≡ length (history.inputs flight.from) =
-                ap (λ (r : ℕ). length (history.inputs r)) b.1 in
-                (ap history.left b.1 ∙ tip.0, sym same ∙ (tip.1 ∙ sym here))
-            | inr n ↦ from_inputs.ended q p end l m (sym (off q p n) ∙ h)
-          ];
-          pieces = from_inputs.pieces;
-        }
+    learns = grind (arith, put_two_off, put_two_at, both_or_not, same_Some)
 
   -- a tic that is run
   module _ (me : ℕ) (mine : me < rules.players) (there : (p : ℕ) → p < rules.players
@@ -133,13 +94,7 @@ module _ {S : Type 0} (rules : Rules S) (settings : Settings) (history : History
       -- where the commands ran out, all were held
       held_all : (p : ℕ) → p < rules.players → (length (history.rows me) < length (history.held me p))
           ⊎ HoldsAll history me p
-      held_all p m = elim (there p m) [
-        | inl l ↦ inl l
-        | inr h ↦ elim (from_inputs.run me p mine m) [
-          | inl le ↦ let low = h.2 in inr (h.0, h.1, omega arith)
-          | inr old ↦ inr old
-        ]
-      ]
+      held_all p m = grind arith
 
       pub runs : ComesFromInputs rules settings
           (record history { rows = put history.rows me (history.rows me ++ new ∷ []) }) flights

@@ -1,20 +1,19 @@
 -- How a game opens: the key player gathers and the others listen, and the key player starts once all others
 -- have played.
-use Rattle.std.proofs.Common.{◌≡◌, ℕ, ◌<◌, ◌≤◌, ◌≢◌, Bool, true, false, true≢false, ◌&&◌, List, length, refl, sym, ◌∙◌, ap, subst, arith, Option, Some, None, inl, inr, ltb, eqb}
+use Rattle.std.proofs.Common.{◌≡◌, ℕ, ◌<◌, ◌≤◌, ◌≢◌, true, false, true≢false, ◌&&◌, List, length, refl, sym, ◌∙◌, ap, subst, arith, Option, Some, None, inl, inr, ltb}
 use Rattle.std.specs.Prelude.{slice_get}
-use Rattle.std.proofs.lemmas.Bool.{cases_eq, cases_Bool, cond-true, cond-false, ltb-true, eq-eqb, ne_eqb, and_parts}
+use Rattle.std.proofs.lemmas.Bool.{cases_eq, cases_Bool, ltb-true, and_parts}
 use Rattle.std.proofs.lemmas.Option.{none-some, same_Some}
 use Rattle.dn_setup.specs.Settings.{Settings}
 use Rattle.dn_setup.specs.Gathered.{all_noted}
 use Rattle.dn_machine.specs.declared.answers.Phase.TheVariants.{Listening, Gathering, Playing}
 use Rattle.dn_machine.specs.declared.events.Event.{Event}
 use Rattle.dn_machine.specs.declared.events.Event.TheVariants.{Build, Send, Deliver, Run, Quit, Stop, Give}
-use Rattle.dn_machine.specs.declared.events.Refusal.{Refusal}
 use Rattle.dn_machine.specs.Worlds.{Rules}
 use Rattle.dn_machine.specs.Flight.{Flight}
 use Rattle.dn_machine.specs.Node.{Node, put, is_ended}
 use Rattle.dn_machine.specs.Sending.{on_send, set_up_flight}
-use Rattle.dn_machine.specs.Game.{Game, fresh, opening_game, with_node, posted, refused, delivered, on_event, applied_if, applied, own_marks, built}
+use Rattle.dn_machine.specs.Game.{Game, fresh, opening_game, with_node, posted, refused, delivered, on_event, applied, own_marks, built}
 use Rattle.dn_machine.proofs.Invariant.{IsKept}
 use Rattle.dn_machine.specs.Runs.{Runs}
 use Rattle.dn_machine.proofs.Put.{put_at, put_off, slice_get_push}
@@ -35,20 +34,7 @@ pub data Stands (i : ℕ) (node : Node) : Type 0 where
 
 pub stands_on : (players from : ℕ) (spoke ends : Type 0) (i : ℕ) (old new : Node)
     → Change players from spoke ends old new → Stands i old → Stands i new
-stands_on players from spoke ends i old new (Same p d n r) (Gathers z e f k) =
-    Gathers z (p ∙ e) (d ∙ f) (r e ∙ k)
-stands_on players from spoke ends i old new (Same p d n r) (Listens z e f) = Listens z (p ∙ e) (d ∙ f)
-stands_on players from spoke ends i old new (Same p d n r) (Plays e) = Plays (p ∙ e)
-stands_on players from spoke ends i old new (Same p d n r) (HasGone e) = HasGone (ap is_ended p ∙ e)
-stands_on players from spoke ends i old new (Starts l p d n) stands = Plays p
-stands_on players from spoke ends i old new (Notes w g p d n a r) (Gathers z e f k) =
-    Gathers z p (d ∙ f) (r ∙ k)
-stands_on players from spoke ends i old new (Notes w g p d n a r) (Listens z e f) = absurd (cc)
-stands_on players from spoke ends i old new (Notes w g p d n a r) (Plays e) = absurd (cc)
-stands_on players from spoke ends i old new (Notes w g p d n a r) (HasGone e) =
-    absurd (true≢false (sym e ∙ ap is_ended g))
-stands_on players from spoke ends i old new (Completes w g p d n a) stands = Plays p
-stands_on players from spoke ends i old new (Gone x p d n) stands = HasGone p
+stands_on players from spoke ends i old new h e = grind arith
 
 -- What every event keeps of the opening.
 pub record IsOpen {S : Type 0} (rules : Rules S) (game : Game) : Type 0 where
@@ -61,10 +47,7 @@ pub record IsOpen {S : Type 0} (rules : Rules S) (game : Game) : Type 0 where
 
 -- a node that plays has not just listened
 never_listens : (i : ℕ) (node : Node) → i ≡ 0 → Stands i node → node.phase ≡ Listening → ⊥
-never_listens i node z (Gathers y e f k) l = cc
-never_listens i node z (Listens n e f) l = n z
-never_listens i node z (Plays e) l = cc
-never_listens i node z (HasGone e) l = true≢false (sym e ∙ ap is_ended l)
+never_listens i node z h l = grind arith
 
 module _ {S : Type 0} (rules : Rules S) (game : Game) (is_open : IsOpen rules game) where
   -- one node after a call, and the packets as they were
@@ -79,13 +62,7 @@ module _ {S : Type 0} (rules : Rules S) (game : Game) (is_open : IsOpen rules ga
     key_noted : (old : Node) (here : Node) → Change rules.players from spoke ends old here
         → ((p : ℕ) → old.noted p ≡ true → (game.nodes p).played ≡ true) → (p : ℕ) → here.noted p ≡ true
         → (game.nodes p).played ≡ true
-    key_noted old here changed was p h = elim (noted_of rules.players from spoke ends old here changed) [
-      | inl c ↦ was p (ap (λ (f : ℕ → Bool). f p) (sym c) ∙ h)
-      | inr c ↦ elim (cases_eq p from) [
-        | inl e ↦ ap (λ (k : ℕ). (game.nodes k).played) e ∙ spoken c.0
-        | inr n ↦ was p (sym (ap (λ (f : ℕ → Bool). f p) c.1 ∙ put_off old.noted from p true n) ∙ h)
-      ]
-    ]
+    key_noted old here changed was p h = grind (arith, noted_of, put_off)
 
     key_all : (old : Node) (here : Node) → Change rules.players from spoke ends old here
         → (old.phase ≡ Listening → ⊥) → ((p : ℕ) → old.noted p ≡ true → (game.nodes p).played ≡ true)
@@ -102,21 +79,10 @@ module _ {S : Type 0} (rules : Rules S) (game : Game) (is_open : IsOpen rules ga
     key_missing : (old : Node) (here : Node) → Change rules.players from spoke ends old here
         → (old.phase ≡ Gathering → all_noted rules.players old.noted ≡ false) → here.phase ≡ Gathering
         → all_noted rules.players here.noted ≡ false
-    key_missing old here (Same a b c r) was h = ap (all_noted rules.players) c ∙ was (sym a ∙ h)
-    key_missing old here (Starts l a b c) was h = absurd (cc)
-    key_missing old here (Gone x a b c) was h = absurd (true≢false (sym a ∙ ap is_ended h))
-    key_missing old here (Notes w g a b c d r) was h = d
-    key_missing old here (Completes w g a b c d) was h = absurd (cc)
+    key_missing old here e was h = grind arith
 
     key_change : Change rules.players from spoke ends (game.nodes 0) (next.nodes 0)
-    key_change = elim (cases_eq 0 i) [
-      | inl e ↦ subst (λ (n : Node). Change rules.players from spoke ends (game.nodes 0) n)
-          (sym (put_at game.nodes i 0 new e))
-          (subst (λ (k : ℕ). Change rules.players from spoke ends (game.nodes k) new) (sym e) change)
-      | inr n ↦ let off = put_off game.nodes i 0 new n in
-          Same (ap (λ (m : Node). m.phase) off) (ap (λ (m : Node). m.played) off)
-          (ap (λ (m : Node). m.noted) off) (λ e. ap (λ (m : Node). length m.rows) off)
-    ]
+    key_change = grind arith
 
     pub placed_open : IsOpen rules next
     placed_open = record {
@@ -138,18 +104,7 @@ module _ {S : Type 0} (rules : Rules S) (game : Game) (is_open : IsOpen rules ga
   posted_open : (base : Game) (o : Option Flight) → IsOpen rules base
       → ((flight : Flight) → o ≡ Some flight → IsWord flight.kind → (base.nodes flight.from).played ≡ true)
       → IsOpen rules (posted base o).0
-  posted_open base None was spoke = was
-  posted_open base (Some flight) was spoke = record {
-    stands = was.stands;
-    noted = was.noted;
-    all = was.all;
-    missing = was.missing;
-    sent = λ which other e w. elim (slice_get_push base.flights flight which other e) [
-      | inl before ↦ was.sent which other before w
-      | inr last ↦ ap (λ (f : Flight). (base.nodes f.from).played) last
-          ∙ spoke flight refl (λ s h. w s (ap (λ (f : Flight). f.kind) last ∙ h))
-    ];
-  }
+  posted_open base o was spoke = grind (arith, slice_get_push)
 
 module _ {S : Type 0} (rules : Rules S) (settings : Settings) (game : Game)
     (kept : IsKept rules settings game) (is_open : IsOpen rules game) where
@@ -222,19 +177,11 @@ module _ {S : Type 0} (rules : Rules S) (settings : Settings) (game : Game)
 
   pub applied_open : (event : Event) → IsOpen rules (applied rules game event).0
   unfolding applied
-  applied_open event = go (refused rules.players game event) refl
-    where
-      go : (o : Option Refusal) → refused rules.players game event ≡ o
-          → IsOpen rules (applied_if rules game event o).0
-      go (Some refusal) h = is_open
-      go None h = happens_open event h
+  applied_open event = grind (arith, happens_open)
 
 module _ {S : Type 0} (rules : Rules S) (settings : Settings) (several : 2 ≤ rules.players) where
   opening_stands : (q : ℕ) → Stands q (fresh settings q)
-  opening_stands q = elim (cases_eq q 0) [
-    | inl e ↦ Gathers e (cond-true (eqb q 0) Gathering Listening (eq-eqb q 0 e)) refl refl
-    | inr n ↦ Listens n (cond-false (eqb q 0) Gathering Listening (ne_eqb q 0 n)) refl
-  ]
+  opening_stands q = grind arith
 
   opening_open : IsOpen rules (opening_game settings)
   unfolding opening_game

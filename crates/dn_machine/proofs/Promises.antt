@@ -1,7 +1,7 @@
 -- What every event keeps says what the headline says.
 use Rattle.std.proofs.Common.{◌≡◌, ℕ, ◌+◌, ◌<◌, ◌≤◌, Bool, true, false, true≢false, cond, ◌&&◌, List, [], length, get_or, drop, sym, ◌∙◌, ap, arith, Option, Some, None, inl, inr, eqb}
 use Rattle.std.specs.Prelude.{slice_get, ◌⊎◌, nat_le}
-use Rattle.std.proofs.lemmas.Bool.{cases_lt, cases_eq, cases_Bool, lt-leb, cond_both, cond-true, cond-false, eq-eqb, ne_eqb, le-ltb, and_right}
+use Rattle.std.proofs.lemmas.Bool.{cases_lt, cases_eq, lt-leb, cond_both, cond-true, cond-false, eq-eqb, ne_eqb, le-ltb, and_right}
 use Rattle.std.specs.Option.{is_none}
 use Rattle.std.proofs.lemmas.Option.{slice_get-get_or, cond_some}
 use Rattle.std.proofs.lemmas.List.Prefix.{front_from_reads}
@@ -19,8 +19,6 @@ use Rattle.dn_machine.proofs.Truth.{world_after_true, length-commands_to, get_or
 use Rattle.dn_machine.proofs.Lists
 use Rattle.dn_machine.proofs.Demos.{front_prefix, front_passes, front_each, front_short, none_is, seat_is, if_made_is, whole_has}
 use Rattle.dn_machine.proofs.Marks.{lowest_none_each}
-use Rattle.dn_machine.proofs.HearKeeps.{exit_is}
-use Rattle.dn_machine.proofs.Peers.{no_strange_end}
 use Rattle.dn_machine.proofs.Calls.{packet_cases}
 use Rattle.dn_machine.specs.Hearing.{left_or, is_strange_end, on_packet}
 
@@ -52,22 +50,12 @@ module _ {S : Type 0} (rules : Rules S) (settings : Settings) (game : Game)
   row_lacks : (p tic : ℕ) → p < rules.players → p < 4
       → lacks (row rules settings (inputs_of game) tic) p ≡ nat_le (length (inputs_of game p)) tic
   unfolding row
-  row_lacks p tic m s =
-      seat_is rules.players (λ r. if_made (inputs_of game r) tic (command rules settings (inputs_of game) r tic))
-      p m s ∙ if_made_is (inputs_of game p) tic (command rules settings (inputs_of game) p tic)
+  row_lacks p tic m s = grind (arith, seat_is, if_made_is)
 
   without : (q p tic : ℕ) → q < rules.players → p < rules.players → p < 4 → tic < ran (game.nodes q)
       → lacks (get_or (game.nodes q).rows tic []) p
       ≡ (has_left (game.nodes p) && nat_le (made p (game.nodes p)) tic)
-  without q p tic l m s n =
-      let count = kept.from_inputs.counted p m in
-      ap (λ (r : List (Option Move)). lacks r p) (kept.from_inputs.moves q tic l n) ∙ row_lacks p tic m s
-      ∙ elim (cases_Bool (has_left (game.nodes p))) [
-        | inl gone ↦ ap (λ (k : ℕ). nat_le k tic) (sym count)
-            ∙ sym (ap (λ (b : Bool). b && nat_le (made p (game.nodes p)) tic) gone)
-        | inr stays ↦ lt-leb (length (inputs_of game p)) tic (whole q p tic l m n stays)
-            ∙ sym (ap (λ (b : Bool). b && nat_le (made p (game.nodes p)) tic) stays)
-      ]
+  without q p tic l m s n = grind (arith, row_lacks, lt-leb, whole)
 
   -- an end that a node knows is that of one who has left
   known : (q p end : ℕ) → q < rules.players → p < rules.players → known_end q (game.nodes q) p ≡ Some end
@@ -203,15 +191,7 @@ module _ {S : Type 0} (rules : Rules S) (settings : Settings) (game : Game)
       -- no end is strange
       no_strange : is_strange_end (is_exit flight.kind) (got (game.nodes flight.to) flight.from)
           (ends_of (game.nodes flight.to) flight.from) (end_of flight) ≡ true → ⊥
-      no_strange =
-          let piece = kept.from_inputs.pieces which flight posted in
-          let reached = piece.reached in
-          let bound = kept.from_inputs.got flight.to flight.from piece.receiver piece.sender in
-          no_strange_end (is_exit flight.kind) _ _ (end_of flight)
-          (λ e. let tip = (piece.exit (exit_is flight.kind e)).1 in omega arith)
-          (λ k e.
-          let end = (kept.from_inputs.ended flight.to flight.from k piece.receiver piece.sender e).1 in
-          (omega arith, λ x. (piece.exit (exit_is flight.kind x)).1 ∙ sym end))
+      no_strange = grind arith
 
       -- an answer for an EXIT packet or another
       left_fine : (answer : Heard) → Fine answer → Fine (left_or (is_exit flight.kind) answer)

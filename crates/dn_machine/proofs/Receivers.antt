@@ -1,11 +1,10 @@
 -- What a packet leaves its receiver as, in a game that goes on, where each node plays or has left.
-use Rattle.std.proofs.Common.{◌≡◌, ℕ, ◌+◌, ◌-◌, ◌<◌, ◌≤◌, ◌≢◌, Bool, true, false, true≢false, List, ◌++◌, length, drop, refl, sym, ◌∙◌, ap, subst, arith, Some, inl, inr, leb}
+use Rattle.std.proofs.Common.{◌≡◌, ℕ, ◌+◌, ◌-◌, ◌<◌, ◌≤◌, ◌≢◌, Bool, true, false, List, ◌++◌, length, drop, refl, sym, ◌∙◌, ap, arith, Some, inl, inr}
 use Rattle.std.specs.Prelude.{◌⊎◌}
-use Rattle.std.proofs.lemmas.Bool.{cases_lt, cases_Bool, le-leb, and_parts, and_from}
+use Rattle.std.proofs.lemmas.Bool.{le-leb, and_parts, and_from}
 use Rattle.std.proofs.lemmas.List.{length-append, length-drop}
 use Rattle.dn_tic.specs.declared.command.TicCmd.{TicCmd}
 use Rattle.dn_setup.specs.Settings.{Settings}
-use Rattle.dn_machine.specs.declared.answers.Phase.{Phase}
 use Rattle.dn_machine.specs.declared.answers.Phase.TheVariants.{Playing}
 use Rattle.dn_machine.specs.declared.answers.Heard.{Heard}
 use Rattle.dn_machine.specs.declared.peer.Peer.{Peer}
@@ -18,7 +17,7 @@ use Rattle.dn_machine.proofs.Put.{put_at, put_off}
 use Rattle.dn_machine.proofs.Peers.{no_strange_end}
 use Rattle.dn_machine.proofs.Calls.{commands_cases, sender_after}
 use Rattle.dn_machine.proofs.GoingOn.{IsOn}
-use Rattle.dn_machine.proofs.Stages.{side, same_side, Holds, Taken, Asked, asks}
+use Rattle.dn_machine.proofs.Stages.{side, Holds, Taken, Asked, asks}
 use Rattle.dn_machine.proofs.Pairs.{Gives, kind_of}
 use Rattle.dn_machine.proofs.Pairs
 use Rattle.dn_machine.proofs.Roomy.{ended_cause}
@@ -72,20 +71,10 @@ module _ {S : Type 0} (rules : Rules S) (settings : Settings) (cap : ℕ) (stay 
         ∙ sym (on.live.kept.from_inputs.counted i mine)
 
     no_strange : (exit : Bool) → is_strange_end exit (got J i) (ends_of J i) (end_of flight) ≡ true → ⊥
-    no_strange exit h =
-        let f = Pairs.fits rules settings game on.live in
-        let bound = f.held j i its mine in
-        let tip = end in
-        no_strange_end exit (got J i) (ends_of J i) (end_of flight) (λ e. omega arith)
-        (λ k e. let same = known k e in (omega arith, λ x. omega arith)) h
+    no_strange exit h = grind (arith, end, no_strange_end, known)
 
     within : asks_it ≡ true → is_within (made j J) (Some (got I j)) ≡ true
-    within w =
-        let f = request_within w in
-        let a = f.0 in
-        let b = f.1 in
-        and_from (leb (got I j) (made j J)) (leb (made j J - 12) (got I j)) (le-leb (got I j) (made j J) a)
-        (le-leb (made j J - 12) (got I j) (omega arith))
+    within w = grind (arith, request_within, and_from, le-leb)
 
     abbrev Heard_so : Node → Type 0
     Heard_so new = IsHeard tic flight.start (got I j) asks_it (stay j ≡ true) (stay i ≡ true) i J new
@@ -95,16 +84,7 @@ module _ {S : Type 0} (rules : Rules S) (settings : Settings) (cap : ℕ) (stay 
         → Asked (got I j) asks_it (J.peers i) peer
         → (stay j ≡ true → Taken tic flight.start (side J i) (record { kept = peer; got = length (held i) }))
         → Heard_so (record (with_peer J i peer) { held = held })
-    heard_as peer held same asked taken =
-        let at = put_at J.peers i i peer refl in
-        record {
-          phase = refl;
-          played = refl;
-          other = λ s n. same_side (put_off J.peers i s peer n) (same s n);
-          taken = λ u. subst (λ (x : Peer). Taken tic flight.start (side J i)
-              (record { kept = x; got = length (held i) })) (sym at) (taken u);
-          asked = λ u. subst (λ (x : Peer). Asked (got I j) asks_it (J.peers i) x) (sym at) asked;
-        }
+    heard_as peer held same asked taken = grind arith
 
     exit_gone : (b : Bool) → is_exit (kind_of b) ≡ b
     exit_gone true = refl
@@ -112,23 +92,10 @@ module _ {S : Type 0} (rules : Rules S) (settings : Settings) (cap : ℕ) (stay 
 
     -- the packet reaches past the tic, or tells that the sender has no command for it
     reach : (tic < end_of flight) ⊎ ((is_exit flight.kind ≡ true) × (end_of flight ≤ tic))
-    reach =
-        let tip = end in
-        elim (cases_lt tic (end_of flight)) [
-          | inl l ↦ inl l
-          | inr m ↦ elim (cases_Bool gone) [
-            | inl left ↦ inr (exit_gone gone ∙ left, m)
-            | inr stays ↦ let b = built (here stays) in absurd (omega arith)
-          ]
-        ]
+    reach = grind (arith, end, exit_gone)
 
     still_has : {n : ℕ} → tic < end_of flight → Holds tic (side J i) → n ≡ got J i → tic < n
-    still_has more (inl has) e = omega arith
-    still_has more (inr over) e =
-        let same = known over.0 over.1 in
-        let tip = end in
-        let low = over.2 in
-        absurd (omega arith)
+    still_has more h e = grind (arith, known, end)
 
     -- a playing node hears commands, and maybe an end
     heard : stay j ≡ true → Heard_so (on_commands j J flight).0
@@ -177,27 +144,8 @@ module _ {S : Type 0} (rules : Rules S) (settings : Settings) (cap : ℕ) (stay 
     -- one that has left hears the request
     left_hears : (b : Bool) → b ≡ gone → stay j ≡ false
         → Heard_so (on_ended true j J flight (kind_of b)).0
-    left_hears true e s = record {
-      phase = refl;
-      played = refl;
-      other = λ k n. refl;
-      taken = λ u. absurd (true≢false (sym u ∙ s));
-      asked = λ u. absurd (true≢false (sym u ∙ (goes (sym e)).0));
-    }
-    left_hears false e s =
-        heard_as (after_request (made j J) (J.peers i) flight.request) J.held (λ k n. refl)
-        (asks (made j J) (J.peers i) asks_it (got I j) within) (λ u. absurd (true≢false (sym u ∙ s)))
+    left_hears b e s = grind (arith, heard_as, asks, within)
 
     pub hears : Heard_so (on_packet rules.limits j J flight).0
     unfolding on_packet
-    hears = elim (cases_Bool (stay j)) [
-      | inl s ↦ subst (λ (ph : Phase). Heard_so (on_packet_in rules.limits j J flight ph flight.kind).0)
-          (sym (on.plays j its s))
-          (subst (λ (n : Node). Heard_so n) (sym (receives gone)) (heard s))
-      | inr s ↦
-          let both = and_parts J.played (is_ended J.phase) (on.left j its s) in
-          let cause = ended_cause J.phase both.1 in
-          subst (λ (ph : Phase). Heard_so (on_packet_in rules.limits j J flight ph flight.kind).0) (sym cause.1)
-          (subst (λ (b : Bool). Heard_so (on_ended b j J flight flight.kind).0) (sym both.0)
-          (left_hears gone refl s))
-    ]
+    hears = grind (arith, receives, heard, and_parts, ended_cause, left_hears)

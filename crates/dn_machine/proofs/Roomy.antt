@@ -37,10 +37,7 @@ stays_same : (node : Node) → Stays node node
 stays_same node = record { phase = refl; played = refl; held = refl }
 
 pub ended_cause : (phase : Phase) → is_ended phase ≡ true → (cause : Cause) × (phase ≡ Ended cause)
-ended_cause Listening e = absurd (true≢false (sym e))
-ended_cause Gathering e = absurd (true≢false (sym e))
-ended_cause Playing e = absurd (true≢false (sym e))
-ended_cause (Ended cause) e = (cause, refl)
+ended_cause phase e = grind arith
 
 module _ (limits : Limits) (i : ℕ) (node : Node) (ended : is_ended node.phase ≡ true) where
   not_in : (phase : Phase) → is_ended phase ≡ false → node.phase ≡ phase → ⊥

@@ -1,5 +1,5 @@
 -- In twelve good rounds each player gives each other the command of a tic that all have reached.
-use Rattle.std.proofs.Common.{◌≡◌, ℕ, zero, suc, min, ◌+◌, ◌<◌, ◌≤◌, ◌≢◌, Bool, true, refl, sym, ap, subst, arith, inl, inr}
+use Rattle.std.proofs.Common.{◌≡◌, ℕ, zero, suc, min, ◌+◌, ◌<◌, ◌≤◌, ◌≢◌, Bool, true, refl, sym, subst, arith, inl, inr}
 use Rattle.std.proofs.lemmas.Bool.{cases_eq, cases_lt}
 use Rattle.dn_setup.specs.Settings.{Settings}
 use Rattle.dn_machine.specs.declared.events.Event.TheVariants.{Run}
@@ -63,10 +63,7 @@ module _ {S : Type 0} (rules : Rules S) (settings : Settings) (cap : ℕ) (stay 
           → IsExchanged stay tic start r j g (exchange rules r g j)
           → (stay r ≡ true → tic < made r (g.nodes r))
           → stay r ≡ true → tic < made r ((exchange rules r g j).nodes r)
-      still_made r j g start n x built u =
-          let same = ap (λ (y : Side). y.got) (x.other r r (λ e d. n d) (λ e. absurd (n e))) in
-          let old = built u in
-          omega arith
+      still_made r j g start n x built u = grind arith
 
       -- an exchange of others
       passes : (r j rounds : ℕ) → r < rules.players → j < rules.players → (g : Game) → (r ≡ p → j ≢ q)

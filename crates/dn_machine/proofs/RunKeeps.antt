@@ -1,7 +1,6 @@
 -- A run and a quit keep what every event keeps.
-use Rattle.std.proofs.Common.{◌≡◌, ℕ, ◌<◌, ◌≤◌, ◌≢◌, true, false, true≢false, not, cond, List, length, refl, sym, ◌∙◌, ap, arith, Option, Some, None, inl, inr, ltb, leb, ℤ}
+use Rattle.std.proofs.Common.{◌≡◌, ℕ, ◌<◌, ◌≤◌, ◌≢◌, true, false, not, cond, List, length, refl, sym, ◌∙◌, ap, arith, Option, Some, None, inl, inr, ltb, leb, ℤ}
 use Rattle.std.specs.Prelude.{◌⊎◌, ◌&&◌}
-use Rattle.std.specs.Option.{option_map}
 use Rattle.std.proofs.lemmas.Bool.{cases_eq, cases_Bool, cond_both, cond-true, cond-false, leb-true, leb-false, le-leb, lt-ltb, le-ltb, and_parts, and_from, and_left, and_right, and_cases, not-false}
 use Rattle.std.proofs.lemmas.List.{length_push}
 use Rattle.std.proofs.lemmas.Option.{none-some}
@@ -10,7 +9,7 @@ use Rattle.dn_tic.specs.declared.command.Move.{Move}
 use Rattle.dn_setup.specs.Settings.{Settings}
 use Rattle.dn_machine.specs.declared.answers.Cause.{Cause}
 use Rattle.dn_machine.specs.declared.answers.Phase.TheVariants.{Playing, Ended}
-use Rattle.dn_machine.specs.Worlds.{Inputs, Rules, if_made, command, row, world, world_after, mark_in}
+use Rattle.dn_machine.specs.Worlds.{Inputs, Rules, if_made, command, row, world}
 use Rattle.dn_machine.specs.Node.{Node, lowest, ends_of, got, ran, held_at, lowest, is_ended, is_whole}
 use Rattle.dn_machine.specs.Game.{Game, with_node, own_marks, on_own_run}
 use Rattle.dn_machine.proofs.Invariant.{IsSound, HasTrueMarks, IsKept, history_of}
@@ -22,7 +21,7 @@ use Rattle.dn_machine.proofs.Calls.{run_cases, quit_cases}
 use Rattle.dn_machine.proofs.Placing
 use Rattle.dn_machine.proofs.Marks.{lowest_none, lowest_none_each, command_mark, same_passes}
 use Rattle.dn_machine.proofs.Demos.{front_stops, front_goes_on, whole_held}
-use Rattle.dn_machine.specs.Running.{is_over, is_absent, is_awaited, is_off, first_off, row_held, marks_kept, tic_limit, full_at, on_quit}
+use Rattle.dn_machine.specs.Running.{is_over, is_absent, is_awaited, is_off, first_off, row_held, marks_kept, full_at, on_quit}
 
 -- a known end that is not past a tic
 pub over : (o : Option ℕ) (tic : ℕ) → is_over o tic ≡ true → (end : ℕ) × (o ≡ Some end) × (end ≤ tic)
@@ -72,12 +71,7 @@ module _ {S : Type 0} (rules : Rules S) (settings : Settings) (game : Game)
   -- of a present player the command is held
   present_held : IsThere → (p : ℕ) → p < rules.players → is_absent (game.nodes i) p ≡ false
       → length (game.nodes i).rows < length ((game.nodes i).held p)
-  present_held there p l present = elim (there p l) [
-    | inl held ↦ held
-    | inr h ↦
-        let low = le-leb h.0 (ran (game.nodes i)) h.2 in
-        absurd (true≢false (sym (ap (λ (o : Option ℕ). is_over o (ran (game.nodes i))) h.1 ∙ low) ∙ present))
-  ]
+  present_held there p l present = grind arith
 
   -- no mark of a command that a playing node holds for its next tic is off
   pub none_off : (game.nodes i).phase ≡ Playing → IsThere → first_off rules.limits (game.nodes i) ≡ None
@@ -131,56 +125,11 @@ module _ {S : Type 0} (rules : Rules S) (settings : Settings) (game : Game)
   -- whoever is present after the tic was so before
   ran_whole : is_whole rules.players (row_held rules.limits ran_on) ≡ true
       → is_whole rules.players (row_held rules.limits (game.nodes i)) ≡ true
-  ran_whole =
-      let count = length_push (game.nodes i).rows (row_held rules.limits (game.nodes i)) in
-      whole_held rules.limits ran_on (game.nodes i) (λ p l present. elim (cases_Bool (is_absent (game.nodes i) p)) [
-        | inl gone ↦
-            absurd (true≢false (sym (over_later (ends_of (game.nodes i) p) (ran (game.nodes i)) (ran ran_on)
-            (omega arith) gone) ∙ present))
-        | inr here ↦ here
-      ])
+  ran_whole = grind (arith, length_push, whole_held, over_later)
 
   ran_sound : ran (game.nodes i) ≢ full_at rules.limits (row_held rules.limits (game.nodes i))
       → IsSound rules settings i ran_on
-  ran_sound other =
-      let sound = kept.sound i mine in
-      let rows = (game.nodes i).rows in
-      let new : List (Option Move) = row_held rules.limits (game.nodes i) in
-      let count = length_push rows new in
-      elim (cases_Bool (is_whole rules.players new)) [
-        | inl each ↦
-            let all = sound.whole each in
-            let front = front_goes_on (is_whole rules.players) rows new all each in
-            let most : full_at rules.limits new ≡ rules.capacity = cond-true (is_whole rules.players new) _ _ each in
-            let old = sound.room in
-            let before = ap (length {A = List (Option Move)}) all in
-            let after = ap (length {A = List (Option Move)}) front in
-            record {
-              played = sound.played;
-              playing = sound.playing;
-              gathering = sound.gathering;
-              consistent = sound.consistent;
-              resend = sound.resend;
-              room = omega arith;
-              whole = λ e. front;
-              most = λ cap. omega arith;
-            }
-        | inr lacks ↦
-            let front = front_stops (is_whole rules.players) rows new lacks in
-            let most : full_at rules.limits new ≡ tic_limit = cond-false (is_whole rules.players new) _ _ lacks in
-            let old = sound.room in
-            let after = ap (length {A = List (Option Move)}) front in
-            record {
-              played = sound.played;
-              playing = sound.playing;
-              gathering = sound.gathering;
-              consistent = sound.consistent;
-              resend = sound.resend;
-              room = omega arith;
-              whole = λ e. absurd (true≢false (sym (ran_whole e) ∙ lacks));
-              most = λ cap. let fits = sound.most cap in omega arith;
-            }
-      ]
+  ran_sound other = grind (arith, length_push, front_goes_on, cond-true, front_stops, cond-false, ran_whole)
 
   -- the cases of a run, since no mark is off
   pub cases : (P : Node → Type 0)
@@ -200,13 +149,7 @@ module _ {S : Type 0} (rules : Rules S) (settings : Settings) (game : Game)
   -- the world before the tic is the true one
   world_true : (game.nodes i).phase ≡ Playing → (p : ℕ) → own_marks rules (game.nodes i) p
       ≡ rules.physics.mark (world rules settings inputs_now (ran (game.nodes i))) p
-  world_true plays p =
-      ap (λ (o : Option Settings). mark_in rules.physics
-      (option_map (λ s. world_after rules s (game.nodes i).rows (ran (game.nodes i))) o) p)
-      (Placing.playing_settings rules settings game kept i mine plays)
-      ∙ ap (λ (w : S). rules.physics.mark w p)
-      (world_after_true rules settings inputs_now (game.nodes i).rows (ran (game.nodes i)) (omega arith)
-      (λ k l. kept.from_inputs.moves i k mine l))
+  world_true plays p = grind (arith, world_after_true)
 
   -- so the marks that it is told are the true ones, of those who made a command for the tic
   told_true : (game.nodes i).phase ≡ Playing → HasTrueMarks rules settings inputs_now ran_on

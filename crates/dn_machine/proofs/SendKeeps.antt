@@ -1,12 +1,11 @@
 -- A send keeps what every event keeps.
-use Rattle.std.proofs.Common.{◌≡◌, ℕ, ◌+◌, ◌-◌, ◌<◌, ◌≤◌, ◌≢◌, true, [], ◌∷◌, ◌++◌, refl, sym, ◌∙◌, subst, arith, Option, Some, None, ltb}
-use Rattle.std.proofs.lemmas.Bool.{cond_both}
+use Rattle.std.proofs.Common.{◌≡◌, ℕ, ◌-◌, ◌<◌, ◌≤◌, ◌≢◌, true, [], ◌∷◌, ◌++◌, refl, sym, subst, arith, Option, Some, None}
 use Rattle.std.proofs.lemmas.List.{length-drop, get_or-drop}
 use Rattle.std.proofs.lemmas.Option.{none-some, same_Some, cond_some}
 use Rattle.dn_setup.specs.Settings.{Settings}
 use Rattle.dn_machine.specs.Worlds.{Inputs, Rules}
 use Rattle.dn_machine.specs.Flight.{Kind, SetUp, Play, Exit, Flight}
-use Rattle.dn_machine.specs.Node.{Node, ends_of, blank, got, made, has_left}
+use Rattle.dn_machine.specs.Node.{Node, ends_of, got, made, has_left}
 use Rattle.dn_machine.specs.Game.{Game, with_node, posted}
 use Rattle.dn_machine.proofs.Invariant.{IsPiece, IsSound, IsKept, history_of}
 use Rattle.dn_machine.proofs.Peers.{same_ends}
@@ -49,10 +48,7 @@ module _ {S : Type 0} (rules : Rules S) (settings : Settings) (game : Game)
 
   -- a packet starts at no tic past what was built
   pub first_reached : (to : ℕ) → first_sent rules.limits i (game.nodes i) to ≤ made i (game.nodes i)
-  first_reached to =
-      let sound = (kept.sound i mine).resend to in
-      cond_both (ltb ((game.nodes i).peers to).resend (made i (game.nodes i) - 12)) _ _
-      (λ (n : ℕ). n ≤ made i (game.nodes i)) (λ far. omega arith) (λ near. sound)
+  first_reached to = grind arith
 
   -- a packet of commands, of one who plays or who has left
   commands_piece : (to : ℕ) (kind : Kind) (request : Option ℕ) → to < rules.players → i ≢ to
@@ -60,25 +56,7 @@ module _ {S : Type 0} (rules : Rules S) (settings : Settings) (game : Game)
       → (kind ≡ Exit → has_left (game.nodes i) ≡ true)
       → IsPiece rules settings inputs_now (λ q. has_left (game.nodes q))
       (commands_flight rules.limits i (game.nodes i) to kind request)
-  commands_piece to kind request l apart no_set_up asks leaving =
-      let count = kept.from_inputs.counted i mine in
-      let first = first_sent rules.limits i (game.nodes i) to in
-      let reached = first_reached to in
-      let long = length-drop first ((game.nodes i).held i) in
-      record {
-        sender = mine;
-        receiver = l;
-        apart = apart;
-        reached = omega arith;
-        commands = λ j m. get_or-drop first ((game.nodes i).held i) j blank
-            ∙ kept.from_inputs.commands i i (first + j) mine mine (omega arith);
-        set_up = λ s e. absurd (no_set_up s e);
-        request = λ tic e.
-            let low = asks tic e in
-            let old = kept.from_inputs.got i to mine l in
-            omega arith;
-        exit = λ e. (leaving e, omega arith);
-      }
+  commands_piece to kind request l apart no_set_up asks leaving = grind (arith, first_reached, length-drop, get_or-drop)
 
   -- a node that gave a packet is sound
   sent_sound : (to : ℕ) → IsSound rules settings i (after_sent rules.limits i (game.nodes i) to)

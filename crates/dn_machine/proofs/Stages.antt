@@ -1,7 +1,6 @@
 -- How far a player is from giving another the command of a tic, by what they keep of each other.
-use Rattle.std.proofs.Common.{◌≡◌, ℕ, ◌+◌, ◌-◌, ◌<◌, ◌≤◌, Bool, true, false, true≢false, cond, ◌&&◌, length, refl, sym, ◌∙◌, arith, Some, None, inl, inr, eqb}
+use Rattle.std.proofs.Common.{◌≡◌, ℕ, ◌+◌, ◌-◌, ◌<◌, ◌≤◌, Bool, true, cond, length, ◌∙◌, arith, Some, None, inl, inr}
 use Rattle.std.specs.Prelude.{◌⊎◌}
-use Rattle.std.proofs.lemmas.Bool.{cases_lt, cond_both, eqb-false, and_parts, and_cases}
 use Rattle.dn_machine.specs.declared.peer.Peer.{Peer}
 use Rattle.dn_machine.specs.Node.{Node, made}
 use Rattle.dn_machine.specs.Hearing.{is_within, after_request}
@@ -62,47 +61,16 @@ module _ (tic rounds later : ℕ) (mine mine_later its its_later : Side) where
       → (mine.kept.resend ≡ its.got → start ≡ its.got) → Taken tic start its its_later
       → AfterSent rounds later
       → Stage tic later mine_later its_later
-  sent_stage start stage same low begins (inl has) fit = Has has
-  sent_stage start (Has h) same low begins (inr gap) fit = Has (gap.3 h)
-  sent_stage start (Meets l e) same low begins (inr gap) fit =
-      let k = gap.1 in let b = begins e in absurd (omega arith)
-  sent_stage start (Asks w l) same low begins (inr gap) fit =
-      Asks gap.2 (elim (cases_lt rounds 13) [
-        | inl s ↦ let x = fit.0 (omega arith) (omega arith) in
-            omega arith
-        | inr m ↦ let x = fit.1 m in omega arith
-      ])
-  sent_stage start (Unknown l) same low begins (inr gap) fit = let x = fit.1 l in Asks gap.2 (omega arith)
+  sent_stage start stage same low begins h fit = grind arith
 
   pub asked_stage : Stage tic rounds mine its
       → its_later.got ≡ its.got → its_later.kept.want ≡ its.kept.want → its_later.kept.end ≡ its.kept.end
       → Holds tic its ⊎ Asked its.got its.kept.want mine.kept mine_later.kept
       → AfterHeard rounds later
       → Stage tic later mine_later its_later
-  asked_stage stage g w e (inl has) fit = Has (holds_same tic its its_later g e has)
-  asked_stage (Has h) g w e (inr asked) fit = Has (holds_same tic its its_later g e h)
-  asked_stage (Unknown h) g w e (inr asked) fit = Unknown (fit.2 h)
-  asked_stage (Meets l m) g w e (inr (inl met)) fit = Meets (fit.0 l) (met ∙ sym g)
-  asked_stage (Meets l m) g w e (inr (inr off)) fit = Meets (fit.0 l) (off.0 ∙ (m ∙ sym g))
-  asked_stage (Asks x l) g w e (inr (inl met)) fit = Meets (fit.0 (omega arith)) (met ∙ sym g)
-  asked_stage (Asks x l) g w e (inr (inr off)) fit =
-      let p = off.2 x in let h = off.1 in let n = fit.1 in Asks (w ∙ x) (omega arith)
+  asked_stage stage g w e h fit = grind arith
 
 -- what another's request leaves of what is kept of it
 pub asks : (made : ℕ) (peer : Peer) (want : Bool) (tic : ℕ) → (want ≡ true → is_within made (Some tic) ≡ true)
     → Asked tic want peer (after_request made peer (cond want (Some tic) None))
-asks made peer true tic fits =
-    cond_both (eqb peer.pause 0 && is_within made (Some tic)) _ _ (λ (p : Peer). Asked tic true peer p)
-    (λ met. inl refl)
-    (λ off. inr (
-      refl,
-      omega arith,
-      (λ w. elim (and_cases (eqb peer.pause 0) (is_within made (Some tic)) off) [
-        | inl never ↦ let n = eqb-false peer.pause 0 never in omega arith
-        | inr never ↦ absurd (true≢false (sym (fits refl) ∙ never))
-      ]),
-    ))
-asks made peer false tic fits =
-    cond_both (eqb peer.pause 0 && false) _ _ (λ (p : Peer). Asked tic false peer p)
-    (λ met. absurd (true≢false (sym (and_parts (eqb peer.pause 0) false met).1)))
-    (λ off. inr (refl, omega arith, (λ w. absurd (true≢false (sym w)))))
+asks made peer want tic fits = grind arith

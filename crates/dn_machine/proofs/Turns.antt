@@ -1,7 +1,6 @@
 -- What a turn, and a round of turns, leaves of how far a player is from giving another the command of a tic.
-use Rattle.std.proofs.Common.{◌≡◌, ℕ, ◌<◌, ◌≤◌, ◌≢◌, Bool, true, false, not, [], ◌∷◌, ◌++◌, length, refl, sym, ◌∙◌, ap, arith, inl, inr}
+use Rattle.std.proofs.Common.{◌≡◌, ℕ, ◌<◌, ◌≤◌, ◌≢◌, Bool, true, false, [], ◌∷◌, ◌++◌, length, refl, ◌∙◌, ap, arith, inl, inr}
 use Rattle.std.specs.Prelude.{◌⊎◌}
-use Rattle.std.proofs.lemmas.Bool.{cases_eq, lt-leb, and_left, and_right}
 use Rattle.std.proofs.lemmas.List.{length_push}
 use Rattle.dn_tic.specs.declared.command.TicCmd.{TicCmd}
 use Rattle.dn_setup.specs.Settings.{Settings}
@@ -52,12 +51,7 @@ module _ {S : Type 0} (rules : Rules S) (settings : Settings) (cap : ℕ) (stay 
 
     placed_quiet : (event : Event) (r : ℕ) (x : Node) → after rules event game ≡ with_node game r x
         → ((s : ℕ) → s ≢ r → side x s ≡ side (game.nodes r) s) → IsQuiet game (after rules event game)
-    placed_quiet event r x same quiet q s apart = ap (λ (g : Game). side (g.nodes q) s) same
-        ∙ elim (cases_eq q r) [
-          | inl e ↦ ap (λ (n : Node). side n s) (put_at game.nodes r q x e)
-              ∙ (quiet s (λ d. apart (e ∙ sym d)) ∙ ap (λ (k : ℕ). side (game.nodes k) s) (sym e))
-          | inr d ↦ ap (λ (n : Node). side n s) (put_off game.nodes r q x d)
-        ]
+    placed_quiet event r x same quiet q s apart = grind arith
 
     -- a player who stays has made a command for each tic that was run
     pub ran_made : (q p : ℕ) → q < rules.players → p < rules.players → stay p ≡ true
@@ -117,12 +111,7 @@ module _ {S : Type 0} (rules : Rules S) (settings : Settings) (cap : ℕ) (stay 
       build_quiet input = placed_quiet (build_of r input) r _ (built_is input) (builds input).quiet
 
       pub build_made : (input : Input) → stay r ≡ true → tic < made r ((after rules (build_of r input) game).nodes r)
-      build_made input s =
-          let new = (on_build r (game.nodes r) input).0 in
-          let same = ap (λ (g : Game). made r (g.nodes r)) (built_is input)
-          ∙ ap (made r) (put_at game.nodes r r new refl) in
-          let more = (builds input).built s in
-          omega arith
+      build_made input s = grind (arith, built_is, put_at, builds)
 
       -- a player holds nobody back: its command is there, or its known end is not past the next tic
       abbrev pub IsThere : ℕ → Type 0
@@ -137,9 +126,7 @@ module _ {S : Type 0} (rules : Rules S) (settings : Settings) (cap : ℕ) (stay 
             → IsRun new
 
       not_awaited : (p : ℕ) → IsThere p → is_awaited (game.nodes r) p ≡ false
-      not_awaited p (inl l) = and_right (not (is_absent (game.nodes r) p)) _
-          (lt-leb (got (game.nodes r) p) (ran (game.nodes r)) l)
-      not_awaited p (inr gone) = and_left (not (is_absent (game.nodes r) p)) _ (ap not gone)
+      not_awaited p h = grind arith
 
       runs : IsRun (on_own_run rules (game.nodes r)).0
       runs = RunKeeps.cases rules settings game on.live.kept r mine (λ (new : Node). IsRun new)
