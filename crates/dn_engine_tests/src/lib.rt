@@ -1,4 +1,4 @@
-//! An engine for two players, in small: its locksteps stay those of one game by the laws of `dn_lockstep` and
+//! A miniature engine for two players: its locksteps stay those of one game by the laws of `dn_lockstep` and
 //! the contracts of its calls alone, with packets that come late, out of order and more than once.
 #![tactic(auto)]
 

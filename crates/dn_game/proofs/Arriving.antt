@@ -15,7 +15,8 @@ use Rattle.dn_machine.proofs.Leading.{all_more, leads_more, led_on, led_in_order
 use Rattle.dn_game.specs.Applied.{IsApplied}
 use Rattle.dn_game.specs.Contents.{Contents}
 use Rattle.dn_game.specs.Represents.{Represents}
-use Rattle.dn_game.specs.Rounds.{input_of, pressed_by, IsUnsent, IsLed, IsCarriedOut}
+use Rattle.dn_game.specs.Rounds.{pressed_by, IsUnsent, IsLed, IsCarriedOut}
+use Rattle.dn_tic.specs.Inputs.{input_of}
 
 -- one step more
 step_more : (step : Game → ℕ → Game) (count : ℕ) (game : Game)

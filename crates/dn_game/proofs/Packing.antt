@@ -39,38 +39,38 @@ module _ (bytes more : List ℕ) where
       record { inside = omega (arith, piece.inside, length-append bytes more); short = piece.short }
 
 -- the record of a packet whose datagram is appended
-abbrev pub newest : List ℕ → ℕ → ℕ → Aim → ArrayVec ℕ → Record
+abbrev pub newest : List ℕ → ℕ → ℕ → Aim → List ℕ → Record
 newest bytes from to aim datagram =
-    record { from = from; to = to; length = length datagram.items; aim = aim; place = length bytes }
+    record { from = from; to = to; length = length datagram; aim = aim; place = length bytes }
 
 module _ (bytes : List ℕ) (records : List Record) (packed : ArePacked bytes records) (from to : ℕ) (aim : Aim)
-    (datagram : ArrayVec ℕ) (short : length datagram.items ≤ 104) where
-  is_flight : flight_in (bytes ++ datagram.items) (newest bytes from to aim datagram)
-      ≡ record { from = from; to = to; aim = aim; bytes = datagram }
+    (datagram : List ℕ) (short : length datagram ≤ 104) where
+  is_flight : flight_in (bytes ++ datagram) (newest bytes from to aim datagram)
+      ≡ record { from = from; to = to; aim = aim; bytes = record { items = datagram } }
   is_flight =
-      let same : take (length datagram.items) (drop (length bytes) (bytes ++ datagram.items))
-      ≡ datagram.items =
-      ap (take (length datagram.items)) (drop-append_seam bytes datagram.items)
-      ∙ take-length datagram.items in
+      let same : take (length datagram) (drop (length bytes) (bytes ++ datagram))
+      ≡ datagram =
+      ap (take (length datagram)) (drop-append_seam bytes datagram)
+      ∙ take-length datagram in
       λ i. record { from = from; to = to; aim = aim; bytes = record { items = same i } }
 
-  pub packs_flight : flights_in (bytes ++ datagram.items) (records ++ newest bytes from to aim datagram ∷ [])
-      ≡ flights_in bytes records ++ record { from = from; to = to; aim = aim; bytes = datagram } ∷ []
+  pub packs_flight : flights_in (bytes ++ datagram) (records ++ newest bytes from to aim datagram ∷ [])
+      ≡ flights_in bytes records ++ record { from = from; to = to; aim = aim; bytes = record { items = datagram } } ∷ []
   packs_flight =
-      let stay = flights_stay bytes datagram.items records packed.pieces in
-      map_push (flight_in (bytes ++ datagram.items)) records (newest bytes from to aim datagram)
+      let stay = flights_stay bytes datagram records packed.pieces in
+      map_push (flight_in (bytes ++ datagram)) records (newest bytes from to aim datagram)
       ∙ (λ i. stay i ++ is_flight i ∷ [])
 
-  pub packs : ArePacked (bytes ++ datagram.items) (records ++ newest bytes from to aim datagram ∷ [])
+  pub packs : ArePacked (bytes ++ datagram) (records ++ newest bytes from to aim datagram ∷ [])
   packs =
-      let long = length-append bytes datagram.items in
+      let long = length-append bytes datagram in
       record {
-        pieces = All-push (IsPiece (bytes ++ datagram.items)) records (newest bytes from to aim datagram)
-            (pieces_stay bytes datagram.items records packed.pieces)
+        pieces = All-push (IsPiece (bytes ++ datagram)) records (newest bytes from to aim datagram)
+            (pieces_stay bytes datagram records packed.pieces)
             (record { inside = omega arith; short = short });
         whole = ap joined packs_flight ∙ flat_map-append (λ (f : Flight). f.bytes.items)
             (flights_in bytes records) _
-            ∙ (λ i. packed.whole i ++ append-nil datagram.items i);
+            ∙ (λ i. packed.whole i ++ append-nil datagram i);
       }
 
 -- a flight is what its record and its datagram tell

@@ -12,17 +12,9 @@ use Rattle.dn_machine.specs.Worlds.{Rules}
 use Rattle.dn_game.specs.Contents.{Contents}
 use Rattle.dn_game.specs.Represents.{Represents}
 
--- the key states of a round, by node
-abbrev pub keys_of : List ℕ → ℕ → ℕ
-keys_of keys node = slice_index_or keys node 0
-
--- the input of a node among those of a round, by node; no key for one that has none
-abbrev pub input_of : List Input → ℕ → Input
-input_of inputs node = slice_index_or inputs node (Pressed 0)
-
--- each node presses its own of these keys
+-- each node presses its own of these keys, and no key where it has none
 abbrev pub pressed_by : List ℕ → ℕ → Input
-pressed_by keys node = Pressed (keys_of keys node)
+pressed_by keys node = Pressed (slice_index_or keys node 0)
 
 -- the game represents one that some builds, sends, deliveries and runs lead to
 pub record IsLed {W S : Type 0} (state : W → S) (rules : Rules S) (m : machine.Game) (g : Contents W) : Type 0

@@ -11,7 +11,8 @@ ghost use Rattle.dn_game.specs.GoingOn.{NoneLost, AllRan, HasRoom, GoesOn, HasPl
 ghost use Rattle.dn_game.specs.Opening.{IsAdmitted, rules_in};
 ghost use Rattle.dn_game.specs.Promised.{IsReached};
 ghost use Rattle.dn_game.specs.Represents.{Represents};
-ghost use Rattle.dn_game.specs.Rounds.{input_of, pressed_by};
+ghost use Rattle.dn_tic.specs.Inputs.{input_of};
+ghost use Rattle.dn_game.specs.Rounds.{pressed_by};
 
 use crate::config::{GameConfig, GameFault};
 use crate::played::Played;

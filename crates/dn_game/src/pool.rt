@@ -154,18 +154,19 @@ impl Pool {
     }
 
     /// A packet joins the others.
-    pub(crate) fn push(&mut self, from: u8, to: u8, aim: Aim, bytes: &ArrayVec<u8, 104>)
-        requires { HasRoom self.old }
+    pub(crate) fn push(&mut self, from: u8, to: u8, aim: Aim, bytes: &[u8])
+        requires room { HasRoom self.old }
+        requires short { length bytes.now ≤ 104 }
         ensures flights { self.new.flights ≡ self.old.flights ++ record {
           from = from;
           to = to;
           aim = aim;
-          bytes = bytes.now;
+          bytes = record { items = bytes.now };
         } ∷ [] }
         ensures kept { self.new.room ≡ self.old.room }
     {
         let place = self.bytes.len();
-        append(&mut self.bytes, bytes.as_slice());
+        append(&mut self.bytes, bytes);
         self.records.push_reserved(Record {
             from,
             to,

@@ -2,16 +2,17 @@
 
 ghost use Rattle.std.specs.Prelude.{◌≡◌, ◌↔◌, true, map, Err};
 ghost use Rattle.dn_tic.specs.declared.input.Input.TheVariants.{Pressed};
+ghost use Rattle.dn_tic.specs.Inputs.{input_of};
 ghost use Rattle.dn_machine.specs.declared.events.Refusal.{Refusal};
 ghost use Rattle.dn_machine.specs.Progress.{build_of, exchange, turn, good_round, good_rounds};
 ghost use Rattle.dn_game.specs.Applied.{Tells};
 ghost use Rattle.dn_game.specs.Contents.{contents};
 ghost use Rattle.dn_game.specs.Room.{KeepsWhose};
-ghost use Rattle.dn_game.specs.Rounds.{input_of, pressed_by, IsCarriedOut};
+ghost use Rattle.dn_game.specs.Rounds.{pressed_by, IsCarriedOut};
 
 use crate::game::Game;
 use dn_machine::{Done, Event, Refusal};
-use dn_tic::{Input, Keys};
+use dn_tic::{Input, Keys, input_of};
 use dn_world::World;
 
 /// Whether a send failed because memory was refused.
@@ -19,16 +20,6 @@ fn is_left_out(answer: Result<Done, Refusal>) -> bool
     ensures { (result ≡ true) ↔ (answer ≡ Err Refusal.Memory) }
 {
     matches!(answer, Err(Refusal::Memory))
-}
-
-/// The input of a node; no key for a number past the fourth.
-fn input_at(inputs: &[Input; 4], node: u32) -> Input
-    ensures { result ≡ input_of inputs.now node }
-{
-    match inputs.get(node as usize) {
-        Some(input) => *input,
-        None => Input::Pressed(Keys::from_bits(0)),
-    }
 }
 
 /// The inputs in which these keys are down.
@@ -95,7 +86,7 @@ impl<W: World> Game<W> {
         ensures whose { KeepsWhose (contents self.old) (contents self.new) }
     {
         for node in 0..self.players() {
-            self.turn(node, input_at(inputs, node))?;
+            self.turn(node, input_of(inputs, node))?;
         }
         Ok(())
     }

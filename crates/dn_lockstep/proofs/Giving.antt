@@ -1,5 +1,5 @@
 -- A node that was asked for a packet.
-use Rattle.std.proofs.Common.{◌≡◌, ◌≢◌, ℕ, List, length, take, drop, subst, arith, Option, Some, None, refl, ap, sym, ◌∙◌, inl, inr}
+use Rattle.std.proofs.Common.{◌≡◌, ℕ, List, length, take, drop, subst, Option, Some, None, refl, ap, sym, ◌∙◌, inl, inr}
 use Rattle.std.specs.Option.{option_map}
 use Rattle.std.proofs.lemmas.Bool.{cases_lt, cases_eq, cond_both}
 use Rattle.std.proofs.lemmas.Option.{same_Some}
@@ -13,10 +13,11 @@ use Rattle.std.proofs.Math.Seq.{take-append_seam}
 use Rattle.dn_packet.specs.declared.packet.Packet.{Packet}
 use Rattle.dn_packet.specs.Text.{text}
 use Rattle.dn_packet.specs.Written.{IsWritten, IsGiven}
+use Rattle.dn_lockstep.specs.declared.lockstep.aiming.Aim.{Aim}
 use Rattle.dn_lockstep.specs.Contents.{Contents}
 use Rattle.dn_lockstep.specs.Giving.{Gives}
 use Rattle.dn_lockstep.specs.Represents.{Represents}
-use Rattle.dn_lockstep.specs.Sent.{sent_to, after_giving, bytes_of}
+use Rattle.dn_lockstep.specs.Sent.{sent_to, after_giving, aim_of, bytes_of}
 use Rattle.dn_lockstep.proofs.After.{along}
 use Rattle.dn_lockstep.proofs.Sending.{to_itself, to_nobody, to_peer, sends_in}
 
@@ -92,17 +93,10 @@ module _ (given : Option (List ℕ)) (old new : List ℕ) (count : ℕ) (w : IsG
   of_bytes : (bytes : List ℕ) → given ≡ Some bytes → IsWritten bytes old new count
   of_bytes bytes e = subst (λ (o : Option (List ℕ)). IsGiven o old new count) e w
 
-  pub none_given : (sent : Option Flight) → given ≡ option_map bytes_of sent → count ≡ 0
-      → None ≡ option_map bytes_of sent
-  none_given None e none = refl
-  none_given (Some flight) e none = absurd (omega (arith, (of_bytes (bytes_of flight) e).0, none))
-
-  pub some_given : (sent : Option Flight) → given ≡ option_map bytes_of sent → count ≢ 0
-      → Some (take count new) ≡ option_map bytes_of sent
-  some_given None e some =
-      let none = subst (λ (o : Option (List ℕ)). IsGiven o old new count) e w in
-      absurd (some none.0)
-  some_given (Some flight) e some =
+  pub some_given : (sent : Option Flight) (aim : Aim) → given ≡ option_map bytes_of sent
+      → Some aim ≡ option_map aim_of sent → Some (take count new) ≡ option_map bytes_of sent
+  some_given None aim e aimed = absurd (cc)
+  some_given (Some flight) aim e aimed =
       let is = of_bytes (bytes_of flight) e in
       ap Some ((λ i. take (is.0 i) (is.1 i))
       ∙ take-append_seam (bytes_of flight) (drop (length (bytes_of flight)) old))

@@ -1,5 +1,5 @@
 -- What a node must know to give a packet.
-use Rattle.std.specs.Prelude.{◌≡◌, ◌≢◌, ◌<◌, ◌≤◌, ℕ, ◌+◌, ◌%◌, ◌==◌, nat_lt, Bool, true, false, not, ◌&&◌, List, Option}
+use Rattle.std.specs.Prelude.{◌≡◌, ◌≢◌, ◌<◌, ◌≤◌, ℕ, ◌+◌, ◌%◌, ◌==◌, nat_lt, Bool, true, false, not, ◌&&◌, List, Option, Some, None}
 use Rattle.std.specs.Option.{option_map}
 use Rattle.dn_ring.specs.Ring.{since}
 use Rattle.dn_packet.specs.declared.packet.Packet.{Packet}
@@ -57,3 +57,12 @@ IsSentTo to old new room written count =
 abbrev pub IsSilent : ℕ → Contents → Contents → List ℕ → List ℕ → ℕ → Type 0
 IsSilent to old new room written count =
     (gives old to ≡ true → 8 ≤ count) × (gives old to ≡ false → (count ≡ 0) × (new ≡ old) × (written ≡ room))
+
+-- how many bytes a packet has that comes with its numbers
+abbrev pub size_in : Option (Aim × ℕ) → ℕ
+size_in None = 0
+size_in (Some given) = given.1
+
+-- and its numbers
+abbrev pub aim_in : Option (Aim × ℕ) → Option Aim
+aim_in given = option_map (λ (x : Aim × ℕ). x.0) given

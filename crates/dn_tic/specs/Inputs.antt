@@ -1,5 +1,5 @@
 -- The command that a player's inputs make: keys that are down, or a command that is given whole.
-use Rattle.std.specs.Prelude.{ℕ, ◌-◌, List, length, map, get_or, ℤ, negsuc}
+use Rattle.std.specs.Prelude.{ℕ, ◌-◌, List, length, map, get_or, slice_index_or, ℤ, negsuc}
 use Rattle.std.specs.Int.{int_max}
 use Rattle.dn_tic.specs.declared.command.TicCmd.{TicCmd}
 use Rattle.dn_tic.specs.declared.input.Command.{Command}
@@ -44,3 +44,7 @@ made_of (Given command) inputs mark = given command mark
 -- the command that the last of these inputs makes: the pressed command, or the one that is given
 unfoldable pub made_by : List Input → ℤ → TicCmd
 made_by inputs mark = made_of (last_input inputs) inputs mark
+
+-- a player's own of these inputs, and no key for a number that has none
+abbrev pub input_of : List Input → ℕ → Input
+input_of inputs player = slice_index_or inputs player (Pressed 0)

@@ -1,7 +1,7 @@
 //! What a command is made of: keys, or a command that is given whole.
 
 ghost use Rattle.std.specs.Prelude.{◌≡◌, ◌≤ℤ◌, negsuc};
-ghost use Rattle.dn_tic.specs.Inputs.{given};
+ghost use Rattle.dn_tic.specs.Inputs.{given, input_of};
 
 use crate::command::TicCmd;
 use crate::keys::Keys;
@@ -46,5 +46,15 @@ pub(crate) fn marked(command: Command, mark: i16) -> TicCmd
         mark,
         chat: command.chat,
         buttons: command.buttons,
+    }
+}
+
+/// A player's own of these inputs, by the player's number; no key for a number past the fourth.
+pub fn input_of(inputs: &[Input; 4], player: u32) -> Input
+    ensures { result ≡ input_of inputs.now player }
+{
+    match inputs.get(player as usize) {
+        Some(input) => *input,
+        None => Input::Pressed(Keys::from_bits(0)),
     }
 }

@@ -1,9 +1,10 @@
 -- Rounds: turns of all nodes, one after another.
-use Rattle.std.specs.Prelude.{◌≡◌, ◌<◌, ℕ, zero, suc, ◌%◌, ◌^◌, Bool, List, Some, slice_get, slice_index_or}
+use Rattle.std.specs.Prelude.{◌≡◌, ◌<◌, ℕ, zero, suc, ◌%◌, ◌^◌, Bool, List, Some, slice_get}
 use Rattle.rand_pcg.specs.Lcg.{started, advance, increment_of}
 use Rattle.rand_pcg.specs.Pcg.{multiplier_64, pcg32}
 use Rattle.dn_tic.specs.declared.input.Input.{Input}
 use Rattle.dn_tic.specs.declared.input.Input.TheVariants.{Pressed}
+use Rattle.dn_tic.specs.Inputs.{input_of}
 use Rattle.dn_world.specs.Physics.{Physics}
 use Rattle.dn_machine.specs.Worlds.{Rules, rules_of}
 use Rattle.dn_machine.specs.Node as machine
@@ -25,10 +26,6 @@ keys_in seed round player =
 -- each player presses these keys of the round
 abbrev pub drawn_in : ℕ → ℕ → ℕ → Input
 drawn_in seed round player = Pressed (keys_in seed round player)
-
--- the input that is a player's own among these, and no key for one who has none
-abbrev pub input_of : List Input → ℕ → Input
-input_of inputs player = slice_index_or inputs player (Pressed 0)
 
 -- the inputs of four players, by their numbers
 abbrev pub AreOf : (ℕ → Input) → List Input → Type 0

@@ -8,8 +8,8 @@ ghost use Rattle.dn_machine.specs.Runs.{is_send};
 ghost use Rattle.dn_game.specs.Pool.{HasGrown};
 
 use super::Game;
-use arrayvec::ArrayVec;
 use dn_machine::{Done, Event, Heard, Refusal};
+use dn_packet::MAX_DATAGRAM;
 use dn_world::World;
 
 impl<W: World> Game<W> {
@@ -94,19 +94,14 @@ impl<W: World> Game<W> {
         let Ok(()) = self.pool.reserve() else {
             return Err(Refusal::Memory);
         };
-        let sender = &mut self.nodes[node as usize];
         let to = to as u8;
-        let Some(aim) = sender.aim(to) else {
+        let mut room = [0; MAX_DATAGRAM];
+        let Some((aim, size)) = self.nodes[node as usize].packet_with_aim(to, &mut room) else {
             return Ok(Done::Silent);
         };
-        let mut bytes = ArrayVec::new();
-        if sender.packet_into(to, &mut bytes) {
-            let which = self.pool.len();
-            self.pool.push(node as u8, to, aim, &bytes);
-            Ok(Done::Sent(which))
-        } else {
-            Ok(Done::Silent)
-        }
+        let which = self.pool.len();
+        self.pool.push(node as u8, to, aim, &room[..size]);
+        Ok(Done::Sent(which))
     }
 
     /// Hands a packet to its receiver.

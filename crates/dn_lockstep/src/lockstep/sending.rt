@@ -1,14 +1,13 @@
 //! The packets that go out.
 
-ghost use Rattle.std.specs.Prelude.{◌≡◌, ◌<◌, ◌≤◌, length, [], true, false, None, IfSome};
+ghost use Rattle.std.specs.Prelude.{◌≡◌, ◌<◌, ◌≤◌, length, true, false, None, IfSome};
 ghost use Rattle.std.specs.List.{list_any};
 ghost use Rattle.std.specs.Option.{option_map};
-ghost use Rattle.std.specs.Bool.{then_some};
 ghost use Rattle.dn_packet.specs.Text.{IsPacket, text};
 ghost use Rattle.dn_packet.specs.Written.{IsWritten};
 ghost use Rattle.dn_lockstep.specs.Rings.{is_stop};
 ghost use Rattle.dn_lockstep.specs.Near.{IsFair};
-ghost use Rattle.dn_lockstep.specs.Sent.{sent_to, after_giving, bytes_of};
+ghost use Rattle.dn_lockstep.specs.Sent.{sent_to, after_giving, aim_of, bytes_of};
 
 use super::Lockstep;
 use super::aiming::{Aim, request_byte};
@@ -20,7 +19,7 @@ use dn_setup::to_packet;
 impl Lockstep {
     ghost use Rattle.dn_lockstep.specs.Contents.{contents};
     ghost use Rattle.dn_lockstep.specs.Steps.{Steps, Becomes, Tells};
-    ghost use Rattle.dn_lockstep.specs.Giving.{Reaches, Gives, packet_of_aim, IsSentTo, IsSilent};
+    ghost use Rattle.dn_lockstep.specs.Giving.{Reaches, Gives, packet_of_aim, IsSentTo, IsSilent, aim_in, size_in};
 
     /// Writes the packet of these numbers, with the own commands from its start on, to the front of a room.
     fn write_own(&self, aim: &Aim, room: &mut [u8]) -> usize
@@ -57,25 +56,30 @@ impl Lockstep {
         }
     }
 
-    /// Writes the next packet to a peer into a list of no bytes, and answers whether there is one. There is
-    /// none for the node itself, for a number that is no player's, and where the node has nothing to give. A
-    /// node that has played and ended gives one whenever it is asked.
-    pub fn packet_into(&mut self, to: u8, bytes: &mut ArrayVec<u8, 104>) -> bool
-        requires { bytes.old.items ≡ [] }
-        ensures step { Steps (contents self.old) (contents self.new)
-            (λ limits me m. sent_to to limits me m)
-            (λ flight. then_some result bytes.new.items ≡ option_map bytes_of flight) }
+    /// Writes the next packet to a peer to the front of a room, and answers its exact numbers and how many bytes
+    /// it has; None where there is none.
+    // Inlined, so that a caller who drops the numbers does not pay for them.
+    #[inline(always)]
+    pub fn packet_with_aim(&mut self, to: u8, room: &mut [u8]) -> Option<(Aim, usize)>
+        requires { 104 ≤ length room.old }
+        ensures sent { IsSentTo to (contents self.old) (contents self.new) room.old room.new (size_in result) }
+        ensures aimed { Tells (contents self.old)
+            (λ limits me m. aim_in result ≡ option_map aim_of (sent_to to limits me m).1) }
+        ensures peer { IfSome result (λ given. Gives (contents self.old) to) }
         ensures fair { Tells (contents self.old) (λ limits me m. IfSome (sent_to to limits me m).1 IsFair) }
-        ensures idle { result ≡ false → contents self.new ≡ contents self.old }
-        ensures unwritten { result ≡ false → bytes.new ≡ bytes.old }
+        ensures silent { IsSilent to (contents self.old) (contents self.new) room.old room.new (size_in result) }
     {
-        let mut room = [0; MAX_DATAGRAM];
-        let size = self.packet_to(to, &mut room);
-        if size == 0 {
-            return false;
-        }
-        let _ = bytes.try_extend_from_slice(&room[..size]);
-        true
+        let Some(aim) = self.aim(to) else {
+            return None;
+        };
+        let Phase::Gathering = self.phase else {
+            self.note_sent(to);
+            return Some((aim, self.write_own(&aim, room)));
+        };
+        let Some(settings) = self.settings else {
+            return None;
+        };
+        Some((aim, encode_to(&to_packet(&settings), room)))
     }
 
     /// Writes the next packet to a peer to the front of a room, and answers how many bytes it has, and 0
@@ -86,17 +90,10 @@ impl Lockstep {
         ensures fair { Tells (contents self.old) (λ limits me m. IfSome (sent_to to limits me m).1 IsFair) }
         ensures silent { IsSilent to (contents self.old) (contents self.new) room.old room.new result }
     {
-        let Some(aim) = self.aim(to) else {
-            return 0;
-        };
-        let Phase::Gathering = self.phase else {
-            self.note_sent(to);
-            return self.write_own(&aim, room);
-        };
-        let Some(settings) = self.settings else {
-            return 0;
-        };
-        encode_to(&to_packet(&settings), room)
+        match self.packet_with_aim(to, room) {
+            Some((_, size)) => size,
+            None => 0,
+        }
     }
 
     /// The next packet to a peer; None for the node itself, for a number that is no player's, and where
@@ -108,11 +105,12 @@ impl Lockstep {
         ensures fair { Tells (contents self.old) (λ limits me m. IfSome (sent_to to limits me m).1 IsFair) }
         ensures idle { result ≡ None → contents self.new ≡ contents self.old }
     {
+        let mut room = [0; MAX_DATAGRAM];
+        let Some((_, size)) = self.packet_with_aim(to, &mut room) else {
+            return None;
+        };
         let mut bytes = ArrayVec::new();
-        if self.packet_into(to, &mut bytes) {
-            Some(bytes)
-        } else {
-            None
-        }
+        let _ = bytes.try_extend_from_slice(&room[..size]);
+        Some(bytes)
     }
 }

@@ -1,7 +1,6 @@
 //! What a node does.
 
-ghost use Rattle.std.specs.Prelude.{◌≡◌, ◌≢◌, ◌<◌, ℕ, ◌+◌, [], pos, false, get_or, Some, None, IfSome};
-ghost use Rattle.std.specs.Bool.{then_some};
+ghost use Rattle.std.specs.Prelude.{◌≡◌, ◌≢◌, ◌<◌, ◌≤◌, ℕ, ◌+◌, length, pos, false, get_or, Some, None, IfSome};
 ghost use Rattle.std.specs.Option.{option_map};
 ghost use Rattle.dn_tic.specs.declared.input.Input.{Input as AnyInput};
 ghost use Rattle.dn_tic.specs.declared.input.Input.TheVariants.{Pressed, Given};
@@ -26,7 +25,8 @@ impl<W: World> Node<W> {
     ghost use Rattle.dn_machine.specs.Game.{on_own_run};
     ghost use Rattle.dn_machine.specs.Running.{on_quit};
     ghost use Rattle.dn_node.specs.Contents.{contents, locked};
-    ghost use Rattle.dn_node.specs.Giving.{Reaches, Gives};
+    ghost use Rattle.dn_node.specs.Giving.{Reaches, Gives, IsSentTo};
+    ghost use Rattle.dn_lockstep.specs.Giving.{IsSilent, aim_in, size_in};
     ghost use Rattle.dn_lockstep.specs.Commands.{makes, can_make};
     ghost use Rattle.dn_lockstep.specs.Hearing.{Spares};
     ghost use Rattle.dn_node.specs.Steps.{Steps, Tells, HearsAny, HearsNear};
@@ -73,21 +73,22 @@ impl<W: World> Node<W> {
         self.lockstep.aim(to)
     }
 
-    /// Writes the next packet to a peer into a list of no bytes, and answers whether there is one. There is
-    /// none for the node itself, for a number that is no player's, and where the node has nothing to give. A
-    /// node that has played and ended gives one whenever it is asked.
-    pub fn packet_into(&mut self, to: u8, bytes: &mut ArrayVec<u8, 104>) -> bool
-        requires { bytes.old.items ≡ [] }
-        ensures step { Steps W.state W.physics (contents self.old) (contents self.new)
-            (λ rules me m. sent_to to rules.limits me m)
-            (λ flight. then_some result bytes.new.items ≡ option_map bytes_of flight) }
+    /// Writes the next packet to a peer to the front of a room, and answers its exact numbers and how many bytes
+    /// it has; None where there is none.
+    pub fn packet_with_aim(&mut self, to: u8, room: &mut [u8]) -> Option<(Aim, usize)>
+        requires { 104 ≤ length room.old }
+        ensures sent { IsSentTo W.state W.physics to (contents self.old) (contents self.new) room.old room.new
+            (size_in result) }
+        ensures aimed { Tells W.state W.physics (contents self.old)
+            (λ rules me m. aim_in result ≡ option_map aim_of (sent_to to rules.limits me m).1) }
+        ensures peer { IfSome result (λ given. Gives (contents self.old) to) }
         ensures fair { Tells W.state W.physics (contents self.old)
             (λ rules me m. IfSome (sent_to to rules.limits me m).1 IsFair) }
-        ensures idle { result ≡ false → contents self.new ≡ contents self.old }
-        ensures unwritten { result ≡ false → bytes.new ≡ bytes.old }
+        ensures silent { IsSilent to (locked (contents self.old)) (locked (contents self.new)) room.old room.new
+            (size_in result) }
         ensures world { (contents self.new).world ≡ (contents self.old).world }
     {
-        self.lockstep.packet_into(to, bytes)
+        self.lockstep.packet_with_aim(to, room)
     }
 
     /// The next packet to a peer; None for the node itself, for a number that is no player's, and where

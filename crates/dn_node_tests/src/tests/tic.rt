@@ -2,7 +2,7 @@
 //! low bytes stand for.
 
 use super::{FORWARD, LEFT, RIGHT, SPEED, STILL, STRAFE, WEAPONS, built};
-use dn_tic::{Builder, Command, Input, Key, Keys, Move, TicCmd, expand, round};
+use dn_tic::{Builder, Command, Input, Key, Keys, Move, TicCmd, expand, input_of, round};
 use std::process::Abort;
 
 #[test]
@@ -124,6 +124,29 @@ fn a_given_command_forgets_the_count(rt: HostRuntime) {
     let given = builder.make(Input::Given(whole(1)), 7);
     same!(rt; (given.forward, given.mark, builder.held()), (1, 7, 0));
     same!(rt; builder.build(Keys::from_bits(LEFT), 0).turn, 320);
+}
+
+/// The input in which these keys are down.
+fn pressed(bits: u32) -> Input {
+    Input::Pressed(Keys::from_bits(bits))
+}
+
+/// Inputs are told apart by player; past the fourth, no key is down.
+#[test]
+fn each_player_has_an_own_input(rt: HostRuntime) {
+    let rt = &rt;
+    let inputs = [1, 2, 4, 8].map(pressed);
+    for (player, bits) in [
+        (0, 1),
+        (1, 2),
+        (2, 4),
+        (3, 8),
+        (4, 0),
+        (255, 0),
+        (u32::MAX, 0),
+    ] {
+        same!(rt; input_of(&inputs, player), pressed(bits), player);
+    }
 }
 
 #[test]

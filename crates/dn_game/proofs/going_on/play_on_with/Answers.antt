@@ -2,7 +2,7 @@ use Rattle.std.proofs.Common.{length, refl}
 use Rattle.dn_demo.specs.Recorded.{capacity}
 use Rattle.dn_game.specs.GoingOn.{IsPlayedOn}
 use Rattle.dn_game.specs.Opening.{rules_in}
-use Rattle.dn_game.specs.Rounds.{input_of}
+use Rattle.dn_tic.specs.Inputs.{input_of}
 use Rattle.dn_game.proofs.Continuing.{played_on_promised}
 use Rattle.dn_game.proofs.going_on.play_on_with.Goals as goal
 

@@ -10,17 +10,14 @@ use std::process::Abort;
 fn agree(rt: &impl Abort, node: &mut Lockstep, to: u8, aim: Aim) {
     same!(rt; node.aim(to), Some(aim));
     same!(rt; node.aim(to), Some(aim));
-    let Some(bytes) = node.packet(to) else {
-        panic!(rt; "no packet to {to}");
-    };
-    same!(rt; bytes.len(), 8 + 8 * usize::from(aim.count), aim);
-    let bytes = bytes.as_slice();
-    let top = bytes.get(3).copied().unwrap_or(0) / 16;
-    same!(rt; (top, bytes.get(7).copied()), (aim.flags, Some(aim.count)), aim);
+    let mut room = [0; 104];
+    let size = 8 + 8 * usize::from(aim.count);
+    same!(rt; node.packet_with_aim(to, &mut room), Some((aim, size)));
+    same!(rt; (room[3] / 16, room[7]), (aim.flags, aim.count), aim);
     if aim.flags != SETUP {
         let ask = (aim.ask.unwrap_or(0) % 256) as u8;
         let low = [ask, (aim.start % 256) as u8, node.me()];
-        same!(rt; bytes.get(4..7), Some(low.as_slice()), aim);
+        same!(rt; room.get(4..7), Some(low.as_slice()), aim);
     }
 }
 
@@ -38,6 +35,9 @@ fn aims_at(rt: &impl Abort, node: &mut Lockstep, peers: [bool; 4], stage: Stage)
     for (to, there) in (0..4u8).zip(peers) {
         same!(rt; node.aim(to).is_some(), there, (stage, to));
         same!(rt; node.packet(to).is_some(), there, (stage, to));
+        let mut room = [165; 104];
+        same!(rt; node.packet_with_aim(to, &mut room).is_some(), there, (stage, to));
+        same!(rt; room.iter().all(|byte| *byte == 165), !there, (stage, to));
     }
     same!(rt; node.aim(255), None, stage);
     holds!(rt; node.packet(255).is_none(), stage);

@@ -38,6 +38,19 @@ fn a_leaver_hears_who_plays_on(rt: HostRuntime) {
     }
 }
 
+/// A farewell counts as a player who is there where it comes before the start, and its end is not noted.
+#[test]
+fn a_farewell_before_the_start_tells_no_end(rt: HostRuntime) {
+    let rt = &rt;
+    let mut key = must!(rt; at(rt.alloc(), Stage::Key));
+    hears(rt, &mut key, 2, (EXIT, (0, 0, 2), &[]), Heard::Noted);
+    same!(rt; key.end(2), None);
+    hears(rt, &mut key, 1, (0, (0, 0, 1), &[]), Heard::Started);
+    same!(rt; key.end(2), None);
+    hears(rt, &mut key, 2, (EXIT, (0, 0, 2), &[]), Heard::Left);
+    same!(rt; key.end(2), Some(0));
+}
+
 /// Hands a node that has left a request of player 1 who plays on, with a command that it does not take.
 fn ask(rt: &impl Abort, node: &mut Lockstep, tic: u8) {
     hears(

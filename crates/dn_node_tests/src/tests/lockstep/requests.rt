@@ -158,6 +158,9 @@ fn a_gap_is_asked_for(rt: HostRuntime) {
     same!(rt; key.aim(1), Some(asks));
     same!(rt; pass(&mut key, &mut other), Some(Heard::Stale));
     same!(rt; key.aim(1), Some(asks));
+    // a packet with nothing new does not close the gap
+    hears(rt, &mut key, 1, (0, (0, 2, 1), &[]), Heard::Stale);
+    same!(rt; key.aim(1), Some(asks));
     same!(rt; pass(&mut other, &mut key), Some(Heard::Taken(2)));
     let quiet = Aim {
         flags: 0,

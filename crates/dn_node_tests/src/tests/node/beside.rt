@@ -68,16 +68,19 @@ fn builds(
     gives(rt, beside, node)
 }
 
-/// Both give the same packet to the other player.
+/// Both give the same packet to the other player, of the same numbers.
 fn gives(rt: &impl Abort, beside: &mut Beside, node: &mut Node<Walk>) -> Option<ArrayVec<u8, 104>> {
     let to = u8::from(node.me() == 0);
-    let one = beside.lockstep.packet(to);
-    let two = node.packet(to);
-    match (&one, &two) {
-        (Some(one), Some(two)) => same!(rt; one.as_slice(), two.as_slice()),
-        (one, two) => same!(rt; (one.is_none(), two.is_none()), (true, true)),
+    let aim = beside.lockstep.aim(to);
+    let packet = beside.lockstep.packet(to);
+    let mut room = [0; 104];
+    match (&packet, node.packet_with_aim(to, &mut room)) {
+        (Some(bytes), Some((numbers, size))) => {
+            same!(rt; (Some(numbers), room.get(..size)), (aim, Some(bytes.as_slice())));
+        }
+        (bytes, given) => same!(rt; (bytes.is_none(), given.is_none()), (true, true)),
     }
-    one
+    packet
 }
 
 /// Both hear the same packet, and answer alike.

@@ -1,5 +1,5 @@
 use Rattle.std.proofs.Common.{refl}
-use Rattle.dn_turn.specs.Rounds.{input_of}
+use Rattle.dn_tic.specs.Inputs.{input_of}
 use Rattle.dn_turn.proofs.rounding.round_with.Goals as goal
 
 pub returns-clause-round : goal.returns-clause-round

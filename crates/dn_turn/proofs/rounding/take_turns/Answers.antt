@@ -2,6 +2,7 @@ use Rattle.std.proofs.Common.{◌≡◌, ◌<◌, ◌+◌, ℕ, suc, length, get
 use Rattle.std.proofs.lemmas.List.{length-set}
 use Rattle.std.proofs.lemmas.Option.{slice_get_read}
 use Rattle.dn_tic.specs.declared.input.Input.{Input}
+use Rattle.dn_tic.specs.Inputs.{input_of}
 use Rattle.dn_machine.specs.Node.{put}
 use Rattle.dn_node.specs.declared.node.Node.{Node}
 use Rattle.dn_node.specs.Contents.{contents}
@@ -31,9 +32,9 @@ loop-place-preserved g c =
           let mine : c.me.result ≡ seat.me = c.me.ensures ∙ shown.lockstep.whose.number in
           let few : c.me.result < 4 =
           subst (λ (k : ℕ). k < 4) (sym c.me.ensures) (one_of_four (get_or nodes place c.index-nodes-place.result)) in
-          let told : c.input_at-input.result ≡ by c.me.result =
-          c.input_at-input.ensures ∙ of c.me.result few in
-          let own : c.input_at-input.result ≡ by seat.me = told ∙ ap by mine in
+          let told : c.input_of-input.result ≡ by c.me.result =
+          c.input_of-input.ensures ∙ ap (input_of c.args.inputs.now) c.from.ensures ∙ of c.me.result few in
+          let own : c.input_of-input.result ≡ by seat.me = told ∙ ap by mine in
           let one = c.turn_with.ensures.turned seat.players seat.extra seat.capacity seat.me seat.node shown in
           let then : ℕ → Seat = put so_far.after place (record seat { node = one.after }) in
           let K : Input → Type 0 = λ k. IsTurn g.L.Line.sends g.L.Line.polls (rules_at g.W.World.physics seat)

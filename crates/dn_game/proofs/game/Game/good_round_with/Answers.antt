@@ -3,7 +3,7 @@ use Rattle.dn_machine.specs.Progress.{in_order, turn, good_round}
 use Rattle.dn_machine.specs.Worlds.{rules_of}
 use Rattle.dn_machine.proofs.Leading.{led_none, led_turn}
 use Rattle.dn_game.specs.Contents.{contents}
-use Rattle.dn_game.specs.Rounds.{input_of}
+use Rattle.dn_tic.specs.Inputs.{input_of}
 use Rattle.dn_game.proofs.Arriving.{by_own_input, goes_on, ends}
 use Rattle.dn_game.proofs.game.Game.good_round_with.Goals as goal
 
@@ -19,7 +19,7 @@ loop-node-preserved g c = (
       goes_on _ rules (turn rules inputs) (led_turn rules inputs) m (contents c.turn.new.self) c.loop-node.node
       c.turn.result
       (by_own_input _ rules _ inputs _ c.loop-node.node (contents c.turn.new.self) c.turn.result
-      c.input_at.ensures
+      c.input_of.ensures
       (c.turn.ensures.good players extra capacity _ (c.loop-node.invariant.0 players extra capacity m r))) _
       c.in_ok-turn.was,
   c.turn.ensures.whose ∙ c.loop-node.invariant.1,
@@ -32,7 +32,7 @@ returns-in_err-turn-clause-good g c players extra capacity m r =
     let inputs = input_of c.args.inputs.now in
     ends _ rules (turn rules inputs) (led_turn rules inputs) m (contents c.turn.new.self) c.loop-node.node
     c.turn.result
-    (by_own_input _ rules _ inputs _ c.loop-node.node (contents c.turn.new.self) c.turn.result c.input_at.ensures
+    (by_own_input _ rules _ inputs _ c.loop-node.node (contents c.turn.new.self) c.turn.result c.input_of.ensures
     (c.turn.ensures.good players extra capacity _ (c.loop-node.invariant.0 players extra capacity m r))) m _ _
     _ c.in_err-turn.was same
     (led_none rules m)

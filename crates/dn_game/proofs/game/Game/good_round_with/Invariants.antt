@@ -3,7 +3,7 @@ use Rattle.dn_game.specs.Applied.{Tells}
 use Rattle.dn_game.specs.Contents.{contents}
 use Rattle.dn_game.specs.Represents.{Represents}
 use Rattle.dn_game.specs.Room.{KeepsWhose}
-use Rattle.dn_game.specs.Rounds.{input_of}
+use Rattle.dn_tic.specs.Inputs.{input_of}
 use Rattle.dn_game.proofs.game.Game.good_round_with.Given as goal
 
 abbrev pub invariant-loop-node : goal.invariant-loop-node

@@ -3,7 +3,7 @@ use Rattle.dn_machine.specs.Progress.{in_order, good_round, good_rounds}
 use Rattle.dn_machine.specs.Worlds.{rules_of}
 use Rattle.dn_machine.proofs.Leading.{led_none, led_round}
 use Rattle.dn_game.specs.Contents.{contents}
-use Rattle.dn_game.specs.Rounds.{input_of}
+use Rattle.dn_tic.specs.Inputs.{input_of}
 use Rattle.dn_game.proofs.Arriving.{goes_on, ends}
 use Rattle.dn_game.proofs.game.Game.good_rounds_with.Goals as goal
 

@@ -8,8 +8,8 @@ use Rattle.dn_lockstep.specs.Steps.{Tells}
 use Rattle.dn_lockstep.proofs.After.{along, steps}
 use Rattle.dn_lockstep.proofs.Giving.{none_sent, no_flight, given_shows, spelled}
 use Rattle.dn_lockstep.proofs.Spelling.{IsGivenAs, own_given, set_up_given}
-use Rattle.dn_lockstep.proofs.lockstep.Lockstep.packet_to.Goals.{After-write_own, After-to_packet}
-use Rattle.dn_lockstep.proofs.lockstep.Lockstep.packet_to.Goals as goal
+use Rattle.dn_lockstep.proofs.lockstep.Lockstep.packet_with_aim.Goals.{After-write_own, After-to_packet}
+use Rattle.dn_lockstep.proofs.lockstep.Lockstep.packet_with_aim.Goals as goal
 
 pub write_own-requires-clause-reach : goal.write_own-requires-clause-reach
 write_own-requires-clause-reach c =
