@@ -27,6 +27,8 @@
  *   - malloc, realloc and free come from one allocator, and work on each thread that uses a handle, also for
  *     blocks of another thread. malloc and realloc align a block to each power of two up to 16 that divides
  *     its size, as to 8 for 24 bytes.
+ *   - What zmg_node_receive is given is a datagram of this game as zmg_node_packet gave it, from its sender, and
+ *     for this player; and it is not old, as is said there.
  *   - The marks that zmg_node_run is given are of the caller's own world: one that began with the start of
  *     zmg_node_settings and the players 0 to zmg_node_players - 1 when zmg_node_receive answered
  *     ZMG_RECEIVE_STARTED, was stepped by every row that zmg_node_run told and by nothing else, and has
