@@ -18,7 +18,7 @@ use Rattle.dn_machine.specs.Game.{Game}
 use Rattle.dn_machine.specs.Node as machine
 use Rattle.dn_machine.specs.Node.{is_ended, is_whole, has_left, demo_rows}
 use Rattle.dn_machine.specs.Promise.{Agree, Fits, inputs_of, end_or}
-use Rattle.dn_machine.specs.Worlds.{Rules, command, row_by_inputs}
+use Rattle.dn_machine.specs.Worlds.{Inputs, Rules, command, row_by_inputs}
 use Rattle.dn_machine.proofs.Invariant.{IsKept}
 use Rattle.dn_machine.proofs.Promises
 use Rattle.dn_machine.proofs.RowsByInputs.{row_is}
@@ -41,7 +41,7 @@ own_marked inputs mark command e =
 module _ {S : Type 0} (rules : Rules S) (settings : Settings) (last : Game)
     (kept : IsKept rules settings last) (locksteps : ℕ → Contents)
     (nodes : (p : ℕ) → p < rules.players → Represents rules.limits p (locksteps p) (last.nodes p)) where
-  abbrev inputs : ℕ → List Input
+  abbrev inputs : Inputs
   inputs = inputs_of last
 
   agree : Agree rules settings last

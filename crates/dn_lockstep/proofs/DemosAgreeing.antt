@@ -6,7 +6,6 @@ use Rattle.std.proofs.lemmas.Grind.{flat_map-append}
 use Rattle.std.proofs.lemmas.List.{take-append-drop}
 use Rattle.std.proofs.lemmas.List.FromFn.{take-map-range_with_len}
 use Rattle.dn_tic.specs.declared.command.Move.{Move}
-use Rattle.dn_tic.specs.declared.input.Input.{Input}
 use Rattle.dn_setup.specs.Settings.{Settings}
 use Rattle.dn_setup.specs.Starts.{start_of}
 use Rattle.dn_demo.specs.Layout.{long_tics, command_size, spell}
@@ -14,7 +13,7 @@ use Rattle.dn_demo.specs.Places.{commands_in, command_in}
 use Rattle.dn_demo.specs.Text.{header_size, demo_text, row_bytes, commands_of}
 use Rattle.dn_machine.specs.Node.{is_whole}
 use Rattle.dn_machine.specs.Promise.{IsPrefixOf}
-use Rattle.dn_machine.specs.Worlds.{row_by_inputs}
+use Rattle.dn_machine.specs.Worlds.{Inputs, row_by_inputs}
 use Rattle.dn_machine.proofs.Demos.{front_prefix}
 use Rattle.dn_lockstep.specs.Contents.{Contents}
 use Rattle.dn_lockstep.specs.Demos.{DemosAgree, move_made, rows_to, rows_made, is_closed, tics_in, used_in, recorded}
@@ -41,7 +40,7 @@ begun_or : (bytes : List ℕ) → (bytes ≢ []) ⊎ (bytes ≡ [])
 begun_or [] = inr refl
 begun_or (byte ∷ bytes) = inl (λ e. absurd (cc))
 
-module _ (players : ℕ) (settings : Settings) (inputs : ℕ → List Input) (locksteps : ℕ → Contents)
+module _ (players : ℕ) (settings : Settings) (inputs : Inputs) (locksteps : ℕ → Contents)
     (texts : (p : ℕ) → p < players → HasStarted (locksteps p)
     → (locksteps p).demo.bytes ≡ demo_text long_tics (start_of settings) p (seats_of players)
     (rows_made players inputs (locksteps p).ran) (is_closed players inputs (locksteps p)))
@@ -63,9 +62,7 @@ module _ (players : ℕ) (settings : Settings) (inputs : ℕ → List Input) (lo
   no_tics n tic none there = grind arith
 
   none_recorded : (n : Contents) → n.demo.bytes ≡ [] → recorded n ≡ []
-  none_recorded n none =
-      ap (λ (bytes : List ℕ). take (command_size long_tics * commands_in long_tics bytes)
-      (drop header_size bytes)) none
+  none_recorded n none = grind arith
 
   module _ (p : ℕ) (below : p < players) where
     abbrev ran : ℕ

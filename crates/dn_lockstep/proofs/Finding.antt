@@ -10,7 +10,7 @@ use Rattle.dn_machine.specs.Limits.{Limits, four, row_of}
 use Rattle.dn_machine.specs.Node as machine
 use Rattle.dn_tic.specs.declared.command.Move.{Move}
 use Rattle.dn_machine.proofs.Demos.{seat_is}
-use Rattle.dn_machine.specs.Node.{ends_of, blank, held_at, own_mark, lowest}
+use Rattle.dn_machine.specs.Node.{blank, held_at, own_mark, lowest}
 use Rattle.dn_machine.specs.Running.{is_over, is_absent, is_awaited, is_off, first_off, row_held, tic_limit, full_at}
 use Rattle.dn_lockstep.specs.Contents.{Contents}
 use Rattle.dn_lockstep.specs.Represents.{Represents}
@@ -20,7 +20,6 @@ use Rattle.dn_lockstep.proofs.Counting.{below, got_is}
 use Rattle.dn_lockstep.proofs.Keeping.{get_kept, get_some}
 use Rattle.std.proofs.lemmas.Option.{none-some}
 use Rattle.dn_lockstep.proofs.Lowest.{lowest_same, lowest_passes}
-use Rattle.dn_lockstep.proofs.Marked.{marked_here}
 use Rattle.dn_lockstep.proofs.Seats.{here_all}
 
 -- the mark of a command that may be missing
@@ -51,7 +50,7 @@ module _ {limits : Limits} {me : ℕ} {n : Contents} {m : machine.Node}
   finds_awaited found e = sym (e ∙ awaited_is)
 
   -- where no ring is more than twelve ahead
-  module _ (window : (p : ℕ) → p < n.players → count_of n.rings p ≤ n.ran + 12) where
+  module _ (window : (p : ℕ) → p < n.players → count_of n.rings p ≤ n.ran + 32) where
     pub mark_is : (p : ℕ) → p < n.players → mark_at n.rings n.ran p ≡ (held_at m p (machine.ran m)).mark
     mark_is p h =
         ap mark_in_command (get_kept (m.held p) (n.rings p) n.ran (window p h)
@@ -60,12 +59,9 @@ module _ {limits : Limits} {me : ℕ} {n : Contents} {m : machine.Node}
 
     pub should_is : (p : ℕ) → p < n.players → is_absent m p ≡ false
         → n.marks p (n.ran % 12) ≡ own_mark m p (machine.ran m)
-    should_is p h present =
-        let all = marked_here (machine.ran m) (ends_of m p) present in
-        ap (λ (tic : ℕ). n.marks p (tic % 12)) r.table.ran
-        ∙ r.table.marks p (machine.ran m) (below limits me n m r p h) (omega (arith, all)) (omega (arith, all))
+    should_is p h present = grind arith
 
-    differs_is : (p : ℕ) → p < limits.players → differs n.rings n.peers n.marks n.ran p ≡ is_off limits m p
+    differs_is : (p : ℕ) → p < limits.players → differs n.rings n.peers n.marks n.ran p ≡ is_off m p
     differs_is p h = elim (cases_Bool (is_absent m p)) [
       | inl gone ↦
           let here = gone_is p (inside p h) ∙ gone in
@@ -86,11 +82,11 @@ module _ {limits : Limits} {me : ℕ} {n : Contents} {m : machine.Node}
     pub off_present : (p : ℕ) → first_off limits m ≡ Some p → is_absent m p ≡ false
     off_present p e = go (nat_lt 12 (machine.ran m)) e
       where
-        go : (late : Bool) → (if late then lowest limits.players (is_off limits m) else None) ≡ Some p
+        go : (late : Bool) → (if late then lowest limits.players (is_off m) else None) ≡ Some p
             → is_absent m p ≡ false
         go true e =
             not-true (is_absent m p)
-            (and_parts (not (is_absent m p)) _ (lowest_passes limits.players p (is_off limits m) e)).0
+            (and_parts (not (is_absent m p)) _ (lowest_passes limits.players p (is_off m) e)).0
         go false e = absurd (none-some p e)
 
     -- where no command is missing
@@ -145,6 +141,4 @@ module _ {limits : Limits} {me : ℕ} {n : Contents} {m : machine.Node}
       pub full_is : {row : List (Option Move)} {full : ℕ} {whole : Bool}
           → full ≡ (if whole then n.capacity else tic_limit) → whole ≡ machine.is_whole n.players row
           → row ≡ row_held limits m → full ≡ full_at limits (row_held limits m)
-      full_is e each is =
-          e ∙ ap (λ (b : Bool). if b then n.capacity else tic_limit) each
-          ∙ (λ i. if machine.is_whole (r.whose.players i) (is i) then r.whose.capacity i else tic_limit)
+      full_is e each is = grind arith

@@ -39,13 +39,7 @@ module _ (limits : Limits) (me : ℕ) (m : machine.Node) (from : ℕ)
       → ◌≡◌ {A = machine.Node × Heard} (on_read limits me m from told (Ok packet)) (on_other m.phase)
   read_other plain = rw plain refl
 
-  -- a node that listens
-  pub read_unheard : has_flag packet flag.set_up ≡ false → m.phase ≡ Listening
-      → ◌≡◌ {A = machine.Node × Heard} (on_read limits me m from told (Ok packet))
-      (m, Heard.Dropped drops.not_playing)
-  read_unheard plain at = read_other plain ∙ ap on_other at
-
-  -- and one that does not
+  -- a node that does not listen
   listens : (phase : Phase) → phase ≢ Listening → is_listening phase ≡ false
   listens Listening n = absurd (n refl)
   listens Gathering n = refl
@@ -111,30 +105,20 @@ module _ (limits : Limits) (me : ℕ) (m : machine.Node) (from : ℕ) (packet : 
   -- a node that plays takes the commands of either kind
   pub player_takes : (start : ℕ) → start_in (made me m) packet ≡ Ok start
       → ◌≡◌ {A = machine.Node × Heard} (on_player limits me m from packet Playing)
-      (on_commands me m (flight_in from me (made me m) packet start))
+      (on_commands limits me m (flight_in from me (made me m) packet start))
   player_takes start is =
       ap (on_start Playing) is
       ∙ either (on_packet_in limits me m (flight_in from me (made me m) packet start) Playing) _ refl refl
 
   -- a node that has played and ended hears the requests of those who play on
   module _ (cause : Cause) (has : m.played ≡ true) where
-    pub left_leaves : has_flag packet flag.exit ≡ true
-        → ◌≡◌ {A = machine.Node × Heard} (on_player limits me m from packet (Ended cause))
-        (m, Heard.Dropped drops.not_playing)
-    left_leaves e =
-        let kind = kind_flagged packet true e in
-        let test = ap (is_counted (Ended cause)) kind in
-        rw test
-        (ap (on_packet_in limits me m (flight_in from me (made me m) packet 0) (Ended cause)) kind
-        ∙ ap (λ (b : Bool). on_ended b me m (flight_in from me (made me m) packet 0) Exit) has)
-
     pub left_asked : (start : ℕ) → has_flag packet flag.exit ≡ false → start_in (made me m) packet ≡ Ok start
         → ◌≡◌ {A = machine.Node × Heard} (on_player limits me m from packet (Ended cause)) (
-          with_peer m from (after_request (made me m) (m.peers from) (request_in (made me m) packet)),
+          with_peer m from (after_request limits.places (made me m) (m.peers from) (request_in (made me m) packet)),
           Heard.Noted,
         )
     left_asked start e is =
         let kind = kind_flagged packet false e in
         counted (Ended cause) Play kind refl ∙ ap (on_start (Ended cause)) is
         ∙ ap (on_packet_in limits me m (flight_in from me (made me m) packet start) (Ended cause)) kind
-        ∙ ap (λ (b : Bool). on_ended b me m (flight_in from me (made me m) packet start) Play) has
+        ∙ ap (λ (b : Bool). on_ended limits b me m (flight_in from me (made me m) packet start) Play) has

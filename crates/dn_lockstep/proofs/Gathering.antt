@@ -1,9 +1,8 @@
 -- What a gathering node makes of a peer that it hears.
-use Rattle.std.proofs.Common.{◌≡◌, ◌<◌, ◌≤◌, ◌+◌, ◌-◌, ℕ, zero, suc, Bool, true, false, refl, ap, sym, ◌∙◌, subst, arith, Option, Some, inl, inr}
+use Rattle.std.proofs.Common.{◌≡◌, ◌<◌, ◌≤◌, ◌+◌, ◌-◌, ℕ, zero, suc, Bool, true, false, refl, ap, sym, ◌∙◌, subst, arith, Option, Some}
 use Rattle.std.specs.Prelude.{◌||◌, ◌&&◌, ◌==◌}
 use Rattle.std.specs.List.{list_all, range_with_len}
-use Rattle.std.proofs.lemmas.Bool.{cases_eq, eq-eqb, ne_eqb, lt-ltb, and_from, and_left, or_right}
-use Rattle.std.proofs.Math.Bool.{or-false}
+use Rattle.std.proofs.lemmas.Bool.{lt-ltb, and_from}
 use Rattle.dn_setup.specs.Settings.{Settings}
 use Rattle.dn_setup.specs.Gathered.{Gathered, is_noted, is_peer, all_noted}
 use Rattle.dn_machine.specs.declared.answers.Heard.{Heard}
@@ -12,7 +11,6 @@ use Rattle.dn_machine.specs.Limits.{Limits}
 use Rattle.dn_machine.specs.Node as machine
 use Rattle.dn_machine.specs.Node.{put}
 use Rattle.dn_machine.specs.Hearing.{started, on_gathering}
-use Rattle.dn_machine.proofs.Put.{put_at, put_off}
 use Rattle.dn_lockstep.specs.Contents.{Contents}
 use Rattle.dn_lockstep.specs.Represents.{Represents}
 use Rattle.dn_lockstep.specs.Steps.{IsAfter}
@@ -43,19 +41,7 @@ module _ (limits : Limits) (me : ℕ) (n : Contents) (m : machine.Node)
     (heard : (p : ℕ) → is_noted gather p ≡ (is_noted n.gather p || (p == from && is_peer n.gather.players p)))
   where
     now_noted : (p : ℕ) → is_peer limits.players p ≡ true → is_noted gather p ≡ put m.noted from true p
-    now_noted p peer =
-        let counted : is_peer n.gather.players p ≡ true = ap (λ (k : ℕ). is_peer k p) r.whose.gathers
-        ∙ peer in
-        elim (cases_eq p from) [
-          | inl same ↦
-              let one = eq-eqb p from same in
-              heard p ∙ or_right _ _ (and_from _ _ one counted) ∙ sym (put_at m.noted from p true same)
-          | inr other ↦
-              let off = ne_eqb p from other in
-              heard p ∙ ap (λ (b : Bool). is_noted n.gather p || b) (and_left _ _ off)
-              ∙ or-false (is_noted n.gather p) ∙ r.peers.noted p peer
-              ∙ sym (put_off m.noted from p true other)
-        ]
+    now_noted p peer = grind arith
 
     pub shows_noted : Represents limits me (record n { gather = gather })
         (record m { noted = put m.noted from true })
@@ -67,6 +53,9 @@ module _ (limits : Limits) (me : ℕ) (n : Contents) (m : machine.Node)
             extra = r.whose.extra;
             capacity = r.whose.capacity;
             gathers = players ∙ r.whose.gathers;
+            ahead = r.whose.ahead;
+            places = r.whose.places;
+            most = r.whose.most;
           };
           stands = r.stands;
           commands = r.commands;

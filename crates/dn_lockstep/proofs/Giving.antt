@@ -1,13 +1,12 @@
 -- A node that was asked for a packet.
-use Rattle.std.proofs.Common.{◌≡◌, ℕ, List, length, take, drop, subst, Option, Some, None, refl, ap, sym, ◌∙◌, inl, inr}
+use Rattle.std.proofs.Common.{arith, ◌≡◌, ℕ, List, length, take, drop, subst, Option, Some, None, refl, ap, sym, ◌∙◌, inl, inr}
 use Rattle.std.specs.Option.{option_map}
-use Rattle.std.proofs.lemmas.Bool.{cases_lt, cases_eq, cond_both}
+use Rattle.std.proofs.lemmas.Bool.{cases_lt, cases_eq}
 use Rattle.std.proofs.lemmas.Option.{same_Some}
 use Rattle.dn_machine.specs.declared.answers.Phase.{Phase}
-use Rattle.dn_machine.specs.declared.answers.Phase.TheVariants.{Listening, Gathering, Playing, Ended}
 use Rattle.dn_machine.specs.Limits.{Limits}
 use Rattle.dn_machine.specs.Flight.{Flight, packet_of}
-use Rattle.dn_machine.specs.Sending.{on_send_in, after_sent}
+use Rattle.dn_machine.specs.Sending.{on_send_in}
 use Rattle.dn_machine.specs.Node as machine
 use Rattle.std.proofs.Math.Seq.{take-append_seam}
 use Rattle.dn_packet.specs.declared.packet.Packet.{Packet}
@@ -25,29 +24,16 @@ use Rattle.dn_lockstep.proofs.Sending.{to_itself, to_nobody, to_peer, sends_in}
 module _ (limits : Limits) (me : ℕ) (m : machine.Node) (to : ℕ) where
   none_in : (phase : Phase) → (on_send_in limits me m to phase).1 ≡ None
       → (on_send_in limits me m to phase).0 ≡ m
-  none_in Listening e = refl
-  none_in Gathering e = refl
-  none_in Playing e = absurd (cc)
-  none_in (Ended cause) e =
-      cond_both m.played _ _ (λ (x : machine.Node × Option Flight). x.1 ≡ None → x.0 ≡ m)
-      (λ has e. absurd (cc)) (λ never e. refl) e
+  none_in phase e = grind arith
 
   some_in : (phase : Phase) (given : Flight) → (on_send_in limits me m to phase).1 ≡ Some given
       → (on_send_in limits me m to phase).0 ≡ after_giving limits me m to phase
-  some_in Listening given e = refl
-  some_in Gathering given e = refl
-  some_in Playing given e = refl
-  some_in (Ended cause) given e =
-      cond_both m.played _ _
-      (λ (x : machine.Node × Option Flight). x.1 ≡ Some given → x.0 ≡ after_sent limits me m to)
-      (λ has e. refl) (λ never e. absurd (cc)) e
+  some_in phase given e = grind arith
 
   through : (next : machine.Node × Option Flight) → sent_to to limits me m ≡ next
       → (next.1 ≡ None → next.0 ≡ m)
       → (sent_to to limits me m).1 ≡ None → (sent_to to limits me m).0 ≡ m
-  through next e known none =
-      ap (λ (x : machine.Node × Option Flight). x.0) e
-      ∙ known (sym (ap (λ (x : machine.Node × Option Flight). x.1) e) ∙ none)
+  through next e known none = grind arith
 
   pub none_sent : (sent_to to limits me m).1 ≡ None → (sent_to to limits me m).0 ≡ m
   none_sent = elim (cases_lt to limits.players) [

@@ -4,11 +4,12 @@ use Rattle.std.proofs.lemmas.Bool.{cases_eq}
 use Rattle.dn_tic.specs.declared.input.Input.{Input}
 use Rattle.dn_tic.specs.Inputs.{hold_of}
 use Rattle.dn_tic.specs.declared.command.TicCmd.{TicCmd}
-use Rattle.dn_ring.specs.Ring.{Ring, ring_of}
+use Rattle.dn_ring.specs.Ring.{Ring}
 use Rattle.dn_machine.specs.Limits.{Limits}
 use Rattle.dn_machine.specs.Node as machine
 use Rattle.dn_machine.specs.Node.{put}
 use Rattle.dn_machine.proofs.Put.{put_at, put_off}
+use Rattle.dn_lockstep.specs.Rings.{ring_of}
 use Rattle.dn_lockstep.specs.Contents.{Contents}
 use Rattle.dn_lockstep.specs.Represents.{Represents}
 

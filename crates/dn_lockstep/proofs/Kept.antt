@@ -1,7 +1,5 @@
 -- Peers of which one is kept otherwise, and what stays true of them all.
-use Rattle.std.proofs.Common.{◌≡◌, ◌≢◌, ◌<◌, ◌≤◌, ℕ, Bool, true, false, Option, Some, None, refl, ap, sym, ◌∙◌, arith, inl, inr}
-use Rattle.std.specs.Prelude.{nat_lt, ◌==◌}
-use Rattle.std.proofs.lemmas.Bool.{cases_eq, eqb-true, not-false, or_parts}
+use Rattle.std.proofs.Common.{◌≡◌, ◌≢◌, ◌<◌, ◌≤◌, ℕ, Bool, true, false, Option, ap, sym, ◌∙◌, arith}
 use Rattle.dn_machine.specs.declared.peer.Peer.{Peer}
 use Rattle.dn_machine.specs.Hearing.{after_request, after_exit, is_strange_end}
 use Rattle.dn_machine.specs.Running.{is_over}
@@ -18,10 +16,7 @@ pub record AreKept (old new : ℕ → Peer) (player made : ℕ) : Type 0 where
 module _ {old new : ℕ → Peer} {player made : ℕ} (kept : AreKept old new player made) where
   -- whoever was gone is gone
   pub stays_gone : (tic p : ℕ) → is_gone new tic p ≡ false → is_gone old tic p ≡ false
-  stays_gone tic p h = elim (cases_eq p player) [
-    | inl same ↦ ap (is_gone old tic) same ∙ kept.later tic (ap (is_gone new tic) (sym same) ∙ h)
-    | inr other ↦ ap (λ (q : Peer). is_over q.end tic) (sym (kept.others p other)) ∙ h
-  ]
+  stays_gone tic p h = grind arith
 
   pub gone_still : (players tic : ℕ) → has_gone old players tic ≡ true → has_gone new players tic ≡ true
   gone_still players tic = found_too players (is_gone old tic) (is_gone new tic) (λ p below. stays_gone tic p)
@@ -33,13 +28,7 @@ module _ {old new : ℕ → Peer} {player made : ℕ} (kept : AreKept old new pl
   -- no resend starts past what was made
   pub resends_low : {count : ℕ} → made ≡ count → (players : ℕ)
       → ((p : ℕ) → p < players → (old p).resend ≤ count) → (p : ℕ) → p < players → (new p).resend ≤ count
-  resends_low is players low p below = elim (cases_eq p player) [
-    | inl same ↦ let here = ap (λ (k : ℕ). (new k).resend) same in omega (arith, here, kept.low, is)
-    | inr other ↦
-        let here = ap (λ (q : Peer). q.resend) (kept.others p other) in
-        let before = low p below in
-        omega arith
-  ]
+  resends_low is players low p below = grind arith
 
   -- so they are once more, where a resend is wanted of the same one, or no longer
   pub kept_wanted : {next : ℕ → Peer} (want : Bool) → next player ≡ record (new player) { want = want }
@@ -56,30 +45,24 @@ told_later : (exit : Bool) (known : Option ℕ) (got end : ℕ) (peer : Peer)
     → ((tic : ℕ) → is_over peer.end tic ≡ false → is_over known tic ≡ false)
     → is_strange_end exit got known end ≡ false
     → (tic : ℕ) → is_over (after_exit peer exit end).end tic ≡ false → is_over known tic ≡ false
-told_later false known got end peer later fine tic h = later tic h
-told_later true None got end peer later fine tic h = refl
-told_later true (Some e) got end peer later fine tic h =
-    let past = (or_parts (nat_lt end got) _ fine).1 in
-    let other = (or_parts (nat_lt e end) _ past).1 in
-    let same = eqb-true end e (not-false (end == e) other) in
-    ap (λ (k : ℕ). is_over (Some k) tic) (sym same) ∙ h
+told_later exit known got end peer later fine tic h = grind arith
 
 -- a request leaves the known end
-asked_later : (made : ℕ) (peer : Peer) (request : Option ℕ) (tic : ℕ)
-    → is_over (after_request made peer request).end tic ≡ false → is_over peer.end tic ≡ false
-asked_later made peer request tic h =
-    ap (λ (o : Option ℕ). is_over o tic) (sym (asked_end made peer request)) ∙ h
+asked_later : (places made : ℕ) (peer : Peer) (request : Option ℕ) (tic : ℕ)
+    → is_over (after_request places made peer request).end tic ≡ false → is_over peer.end tic ≡ false
+asked_later places made peer request tic h =
+    ap (λ (o : Option ℕ). is_over o tic) (sym (asked_end places made peer request)) ∙ h
 
 -- peers of which one has asked
-pub kept_asked : {old new : ℕ → Peer} {player made : ℕ} (request : Option ℕ) → (old player).resend ≤ made
-    → new player ≡ after_request made (old player) request → ((p : ℕ) → p ≢ player → new p ≡ old p)
+pub kept_asked : {old new : ℕ → Peer} {player made : ℕ} (places : ℕ) (request : Option ℕ) → (old player).resend ≤ made
+    → new player ≡ after_request places made (old player) request → ((p : ℕ) → p ≢ player → new p ≡ old p)
     → AreKept old new player made
-kept_asked {old} {new} {player} {made} request low is others =
+kept_asked {old} {new} {player} {made} places request low is others =
     record {
-      later = λ tic h. asked_later made (old player) request tic
+      later = λ tic h. asked_later places made (old player) request tic
           (ap (λ (q : Peer). is_over q.end tic) (sym is) ∙ h);
       low = let same = ap (λ (q : Peer). q.resend) is in
-          let asked = asked_low made (old player) request low in
+          let asked = asked_low places made (old player) request low in
           omega arith;
       others = others;
     }

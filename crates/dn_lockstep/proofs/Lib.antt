@@ -35,3 +35,4 @@ pub mod DemoTexts
 pub mod RowsMade
 pub mod DemosAgreeing
 pub mod Agreeing
+pub mod Windowed

@@ -1,7 +1,7 @@
 -- What a node represents after a tic.
-use Rattle.std.proofs.Common.{◌≡◌, ◌≢◌, ◌<◌, ◌+◌, ◌-◌, ◌%◌, ℕ, ℤ, Bool, true, false, not, cond, ◌||◌, List, [], ◌∷◌, ◌++◌, length, refl, ap, sym, ◌∙◌, subst, arith, inl, inr, Option, Some, None}
-use Rattle.std.specs.Prelude.{nat_lt, ◌⊎◌, All, IfSome, if◌then◌else◌, pos}
-use Rattle.std.proofs.lemmas.Bool.{cases_lt, cases_eq, cases_Bool, le-ltb, lt-ltb, ltb-false, cond-false}
+use Rattle.std.proofs.Common.{◌≡◌, ◌≢◌, ◌<◌, ◌+◌, ◌%◌, ℕ, ℤ, Bool, true, false, not, cond, ◌||◌, List, [], ◌∷◌, ◌++◌, length, refl, ap, sym, ◌∙◌, subst, arith, inl, inr, Option, Some, None}
+use Rattle.std.specs.Prelude.{nat_lt, ◌⊎◌, All, IfSome}
+use Rattle.std.proofs.lemmas.Bool.{cases_eq, cases_Bool, le-ltb, lt-ltb, ltb-false}
 use Rattle.std.proofs.lemmas.List.{length_push}
 use Rattle.dn_tic.specs.declared.command.Move.{Move}
 use Rattle.dn_setup.specs.Settings.{Settings}
@@ -14,7 +14,6 @@ use Rattle.dn_demo.specs.declared.recorder.Stage.{Stage}
 use Rattle.dn_demo.specs.declared.recorder.Stage.TheVariants.{Blank, Open, Closed}
 use Rattle.dn_machine.specs.declared.answers.Phase.{Phase}
 use Rattle.dn_machine.specs.Running.{is_over}
-use Rattle.dn_machine.proofs.Put.{put_at, put_off}
 use Rattle.dn_machine.proofs.Demos.{front_stops, front_goes_on, front_short}
 use Rattle.std.proofs.lemmas.List.Elements.{All-push}
 use Rattle.dn_machine.specs.declared.answers.Phase.TheVariants.{Playing}
@@ -25,7 +24,6 @@ use Rattle.dn_lockstep.specs.Contents.{Contents}
 use Rattle.dn_lockstep.specs.Represents.{Represents, CanBeWritten, is_demo_closed, marked_to}
 use Rattle.dn_lockstep.specs.Rows.{seats_of}
 use Rattle.dn_lockstep.proofs.Replaying.{all_recorded, demo_is}
-use Rattle.dn_lockstep.proofs.Starting.{early_mark}
 use Rattle.dn_lockstep.proofs.Marked.{marked_low, marked_here, marked_next, marked_gone}
 
 -- the machine's node after one row more, with these marks
@@ -35,17 +33,11 @@ moved m row kept = record m { rows = m.rows ++ row ∷ []; marks = put m.marks (
 module _ (m : machine.Node) (row : List (Option Move)) (kept : ℕ → ℤ) where
   -- short of twelve tics on the marks are as before
   own_mark_before : (p tic : ℕ) → tic < machine.ran m + 12 → own_mark (moved m row kept) p tic ≡ own_mark m p tic
-  own_mark_before p tic low = elim (cases_lt tic 12) [
-    | inl early ↦ early_mark (moved m row kept) m p tic early
-    | inr late ↦ ap (λ (mark : ℤ). if nat_lt tic 12 then pos 0 else mark)
-        (ap (λ (f : ℕ → ℤ). f p) (put_off m.marks (machine.ran m) (tic - 12) kept (λ e. absurd (omega arith))))
-  ]
+  own_mark_before p tic low = grind arith
 
   -- and twelve tics on there are those that were kept
   own_mark_now : (p tic : ℕ) → tic ≡ machine.ran m + 12 → own_mark (moved m row kept) p tic ≡ kept p
-  own_mark_now p tic e =
-      cond-false (nat_lt tic 12) _ _ (le-ltb tic 12 (omega arith))
-      ∙ ap (λ (f : ℕ → ℤ). f p) (put_at m.marks (machine.ran m) (tic - 12) kept (omega arith))
+  own_mark_now p tic e = grind arith
 
 -- what is written of a row: itself at the end of an open demo where it is whole, and else the marker, if it
 -- is not there
@@ -119,9 +111,7 @@ module _ {limits : Limits} (m : machine.Node) {row : List (Option Move)} (kept :
       ]
 
   stages : (s : Stage) → s ≢ Blank → (s ≡ Open) ⊎ (s ≡ Closed)
-  stages Blank n = absurd (n refl)
-  stages Open n = inl refl
-  stages Closed n = inr refl
+  stages s n = grind arith
 
   module _ (me : ℕ) (settings : Settings) where
     abbrev text_with : List (List (Option Move)) → Bool → List ℕ

@@ -1,10 +1,9 @@
 -- A fair flight that is near is read as it was sent.
-use Rattle.std.proofs.Common.{◌≡◌, ◌≢◌, ◌<◌, ◌≤◌, ◌+◌, ◌-◌, ◌%◌, ℕ, Bool, true, false, List, refl, ap, sym, ◌∙◌, arith, Option, Some, None, inl, inr}
-use Rattle.std.specs.Prelude.{bit_and, not, ◌==◌, Result, Ok, Err, if◌then◌else◌}
+use Rattle.std.proofs.Common.{◌≡◌, ◌≢◌, ◌<◌, ◌+◌, ◌%◌, ℕ, Bool, true, false, List, refl, ap, sym, ◌∙◌, arith, Some, inl, inr}
+use Rattle.std.specs.Prelude.{bit_and, not, ◌==◌, Result, Ok, Err}
 use Rattle.std.specs.List.{list_any}
-use Rattle.std.proofs.lemmas.Bool.{ltb-false, eqb-true, not-true, not-false, and_parts, eq-eqb, ne_eqb, lt-ltb, cases_Bool}
+use Rattle.std.proofs.lemmas.Bool.{not-false, and_parts, ne_eqb, lt-ltb, cases_Bool}
 use Rattle.dn_tic.specs.Tics.{exact_tic}
-use Rattle.dn_tic.proofs.Near.{exact-near}
 use Rattle.dn_packet.specs.declared.packet.Packet.{Packet}
 use Rattle.dn_packet.specs.Flags as flag
 use Rattle.dn_setup.specs.Settings.{Settings}
@@ -14,60 +13,39 @@ use Rattle.dn_setup.specs.declared.setup.SetupFault.TheVariants.{NotSetup}
 use Rattle.dn_machine.specs.declared.answers.Cause.{Cause}
 use Rattle.dn_machine.specs.declared.answers.Heard.{Heard}
 use Rattle.dn_machine.specs.declared.answers.Phase.{Phase}
-use Rattle.dn_machine.specs.declared.answers.Phase.TheVariants.{Listening, Gathering, Playing, Ended}
+use Rattle.dn_machine.specs.declared.answers.Phase.TheVariants.{Ended}
 use Rattle.dn_machine.specs.Drops as drops
 use Rattle.dn_machine.specs.Limits.{Limits}
 use Rattle.dn_machine.specs.Flight.{Kind, SetUp, Play, Exit, Flight, packet_of, commands_packet, is_close, is_request_close, is_near}
 use Rattle.dn_machine.specs.Node as machine
 use Rattle.dn_machine.specs.Node.{made}
-use Rattle.dn_machine.specs.Hearing.{on_packet, on_packet_in, on_ended}
+use Rattle.dn_machine.specs.Hearing.{on_packet, on_packet_in}
 use Rattle.dn_lockstep.specs.Hearing.{HearsAny, HearsNear}
 use Rattle.dn_lockstep.specs.Near.{IsFair, IsFairKind}
 use Rattle.dn_lockstep.specs.Phases.{hears_none}
 use Rattle.dn_lockstep.specs.Reading.{has_flag, kind_in, start_at, start_in, request_in}
-use Rattle.dn_lockstep.specs.Received.{received, on_read, on_set_up, on_player, is_counted}
+use Rattle.dn_lockstep.specs.Received.{received, on_read, on_set_up}
 use Rattle.dn_lockstep.specs.Rings.{is_stop}
 use Rattle.dn_lockstep.specs.Contents.{Contents}
 use Rattle.dn_lockstep.proofs.After.{after, steps}
-use Rattle.dn_lockstep.proofs.Flags.{on_start, kind_flagged, read_unheard, read_player, counted, player_gathers, left_leaves}
+use Rattle.dn_lockstep.proofs.Flags.{kind_flagged}
 use Rattle.dn_lockstep.proofs.Counting.{made_is}
 
 -- a close tic is read from its low byte
 read_close : (made tic : ℕ) → is_close made tic ≡ true → exact_tic made (tic % 256) ≡ Some tic
-read_close made tic close =
-    let apart : (tic - made) + (made - tic) ≤ 64 =
-    ltb-false 64 ((tic - made) + (made - tic)) (not-true _ close) in
-    exact-near made tic (omega arith) (omega arith)
+read_close made tic close = grind arith
 
 -- and so is a close request
 read_request : (made flags : ℕ) (flight : Flight) → bit_and (flags + 0) 4 ≡ 0 → bit_and (flags + 4) 4 ≡ 4
     → is_request_close made flight.request ≡ true
     → request_in made (commands_packet flags flight) ≡ flight.request
-read_request made flags flight plain asks close = go flight.request close
-  where
-    go : (request : Option ℕ) → is_request_close made request ≡ true
-        → request_in made (commands_packet flags (record flight { request = request })) ≡ request
-    go None close = rw plain refl
-    go (Some tic) close = rw asks (read_close made tic close)
+read_request made flags flight plain asks close = grind arith
 
 -- a flag that a packet of commands has, or has not, whether it asks or not
 flag_is : (flight : Flight) (flags flag : ℕ) (set : Bool) → not (bit_and (flags + 0) flag == 0) ≡ set
     → not (bit_and (flags + 4) flag == 0) ≡ set
     → has_flag (commands_packet flags flight) flag ≡ set
-flag_is flight flags flag set plain asks = go flight.request
-  where
-    go : (request : Option ℕ) → has_flag (commands_packet flags (record flight { request = request })) flag
-        ≡ set
-    go None = plain
-    go (Some tic) = asks
-
--- a packet whose kind is that of one who leaves has the flag
-flag_of : (packet : Packet) → kind_in packet ≡ Exit → has_flag packet flag.exit ≡ true
-flag_of packet e = go (has_flag packet flag.exit) e
-  where
-    go : (flag : Bool) → (if flag then Exit else Play) ≡ Exit → flag ≡ true
-    go true e = refl
-    go false e = absurd (cc)
+flag_is flight flags flag set plain asks = grind arith
 
 -- what a kind tells as a set-up packet
 abbrev pub told_by : Kind → Result Settings SetupFault
@@ -75,16 +53,9 @@ told_by (SetUp settings) = Ok settings
 told_by Play = Err NotSetup
 told_by Exit = Err NotSetup
 
--- a test of a bit, as a fact
-no_bit : (packet : Packet) → has_flag packet flag.set_up ≡ false → IsSetupReadAs packet (Err NotSetup)
-no_bit packet off set = set (eqb-true (bit_and packet.flags 2) 0 (not-false _ off))
-
 pub told_is : (flight : Flight) (kind : Kind) → IsFairKind flight kind
     → IsSetupReadAs (packet_of (record flight { kind = kind })) (told_by kind)
-told_is flight (SetUp settings) fair =
-    (λ e. absurd (omega arith), refl, record { in_range = fair.1; ask = refl; start = refl })
-told_is flight Play fair = no_bit (commands_packet 0 flight) (flag_is flight 0 2 false refl refl)
-told_is flight Exit fair = no_bit (commands_packet 8 flight) (flag_is flight 8 2 false refl refl)
+told_is flight kind fair = grind arith
 
 module _ (limits : Limits) (me : ℕ) (m : machine.Node) (flight : Flight) where
   -- what has ended and hears has played
@@ -96,11 +67,7 @@ module _ (limits : Limits) (me : ℕ) (m : machine.Node) (flight : Flight) where
       → hears_none m.phase m.played ≡ false
       → ◌≡◌ {A = machine.Node × Heard} (on_set_up limits me m flight.from (Ok settings) phase)
       (on_packet_in limits me m flight phase (SetUp settings))
-  set_up_heard settings Listening at key on = let first = eq-eqb flight.from 0 key in rw first refl
-  set_up_heard settings Gathering at key on = refl
-  set_up_heard settings Playing at key on = refl
-  set_up_heard settings (Ended cause) at key on =
-      ap (λ (b : Bool). on_ended b me m flight (SetUp settings)) (sym (has_played cause at on))
+  set_up_heard settings phase at key on = grind arith
 
   -- a packet of the flight's commands: of a player who leaves, or who plays on
   record IsSpelt (packet : Packet) (kind : Kind) : Type 0 where
@@ -113,61 +80,18 @@ module _ (limits : Limits) (me : ℕ) (m : machine.Node) (flight : Flight) where
     asks : request_in (made me m) packet ≡ flight.request
     items : packet.cmds.items ≡ flight.commands
 
-  module _ {packet : Packet} {kind : Kind} (spelt : IsSpelt packet kind) where
-    -- where its numbers are looked at they are the flight's
-    numbers_heard : (phase : Phase) → is_counted phase kind ≡ true
-        → ◌≡◌ {A = machine.Node × Heard} (on_player limits me m flight.from packet phase)
-        (on_packet_in limits me m (record flight { to = me }) phase kind)
-    numbers_heard phase looks =
-        counted limits me m flight.from packet phase kind spelt.kinded looks
-        ∙ ap (on_start limits me m flight.from packet phase) spelt.begins
-        ∙ (λ i. on_packet_in limits me m
-        (record {
-          from = flight.from;
-          to = me;
-          kind = (spelt.kinded ∙ sym spelt.same) i;
-          start = flight.start;
-          request = spelt.asks i;
-          commands = spelt.items i;
-        }) phase (spelt.kinded i))
-
-    read_heard : (phase : Phase) → m.phase ≡ phase → phase ≢ Listening
-        → ◌≡◌ {A = machine.Node × Heard} (on_read limits me m flight.from (Err NotSetup) (Ok packet))
-        (on_player limits me m flight.from packet phase)
-    read_heard phase at heard =
-        read_player limits me m flight.from (Err NotSetup) packet spelt.plain (λ e. heard (sym at ∙ e))
-        spelt.player spelt.alive
-        ∙ ap (on_player limits me m flight.from packet) at
-
+  -- it is heard as the machine hears its flight
   play_heard : {packet : Packet} → IsSpelt packet Play → (phase : Phase) → m.phase ≡ phase
       → hears_none m.phase m.played ≡ false
       → ◌≡◌ {A = machine.Node × Heard} (on_read limits me m flight.from (Err NotSetup) (Ok packet))
       (on_packet_in limits me m flight phase Play)
-  play_heard {packet} spelt Listening at on = read_unheard limits me m flight.from (Err NotSetup) packet
-      spelt.plain at
-  play_heard {packet} spelt Gathering at on = read_heard spelt Gathering at (λ e. cc)
-      ∙ player_gathers limits me m flight.from packet
-  play_heard spelt Playing at on = read_heard spelt Playing at (λ e. cc) ∙ numbers_heard spelt Playing refl
-  play_heard spelt (Ended cause) at on =
-      let has = has_played cause at on in
-      read_heard spelt (Ended cause) at (λ e. cc) ∙ numbers_heard spelt (Ended cause) refl
-      ∙ ap (λ (b : Bool). on_ended b me m (record flight { to = me }) Play) has
-      ∙ sym (ap (λ (b : Bool). on_ended b me m flight Play) has)
+  play_heard {packet} spelt phase at on = grind arith
 
   exit_heard : {packet : Packet} → IsSpelt packet Exit → (phase : Phase) → m.phase ≡ phase
       → hears_none m.phase m.played ≡ false
       → ◌≡◌ {A = machine.Node × Heard} (on_read limits me m flight.from (Err NotSetup) (Ok packet))
       (on_packet_in limits me m flight phase Exit)
-  exit_heard {packet} spelt Listening at on = read_unheard limits me m flight.from (Err NotSetup) packet
-      spelt.plain at
-  exit_heard {packet} spelt Gathering at on = read_heard spelt Gathering at (λ e. cc)
-      ∙ player_gathers limits me m flight.from packet
-  exit_heard spelt Playing at on = read_heard spelt Playing at (λ e. cc) ∙ numbers_heard spelt Playing refl
-  exit_heard {packet} spelt (Ended cause) at on =
-      let has = has_played cause at on in
-      read_heard spelt (Ended cause) at (λ e. cc)
-      ∙ left_leaves limits me m flight.from packet cause has (flag_of packet spelt.kinded)
-      ∙ sym (ap (λ (b : Bool). on_ended b me m flight Exit) has)
+  exit_heard {packet} spelt phase at on = grind arith
 
   -- a close flight's packet is spelt so
   spelt_as : (flags : ℕ) (kind : Kind) → kind_in (commands_packet flags flight) ≡ kind → flight.kind ≡ kind
@@ -212,11 +136,7 @@ module _ (limits : Limits) (me : ℕ) (m : machine.Node) (flight : Flight) where
       → hears_none phase played ≡ true
       → ◌≡◌ {A = machine.Node × Heard} (m, Heard.Dropped drops.not_playing)
       (on_packet_in limits me m flight phase kind)
-  ended_heard (Ended cause) false kind at done = ap (λ (b : Bool). on_ended b me m flight kind) (sym at)
-  ended_heard (Ended cause) true kind at done = absurd (cc)
-  ended_heard Listening played kind at done = absurd (cc)
-  ended_heard Gathering played kind at done = absurd (cc)
-  ended_heard Playing played kind at done = absurd (cc)
+  ended_heard phase played kind at done = grind arith
 
   pub near_received : IsFair flight → flight.from < limits.players → flight.from ≢ me
       → is_near (made me m) flight ≡ true

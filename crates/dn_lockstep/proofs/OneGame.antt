@@ -2,7 +2,7 @@
 use Rattle.std.proofs.Common.{◌≡◌, ◌<◌, ℕ, ℤ, pos, Bool, true, false, List, [], ◌∷◌, ◌++◌, fold, Option, Some, None, refl, ap, sym, ◌∙◌, subst, arith, inl, inr, append_assoc, append-nil}
 use Rattle.std.specs.Prelude.{◌⊎◌, nat_lt, get_or, slice_get, IfSome}
 use Rattle.std.specs.Option.{option_map}
-use Rattle.std.proofs.lemmas.Bool.{cases_eq, cases_lt, lt-ltb, le-ltb, cond_both}
+use Rattle.std.proofs.lemmas.Bool.{cases_eq, lt-ltb, cond_both}
 use Rattle.std.proofs.lemmas.Option.{none-some}
 use Rattle.std.proofs.Math.Seq.{take-length}
 use Rattle.dn_tic.specs.declared.command.Move.{Move}
@@ -16,37 +16,35 @@ use Rattle.dn_machine.specs.declared.events.Refusal.{Refusal}
 use Rattle.dn_machine.specs.declared.peer.Peer.{Peer}
 use Rattle.dn_machine.specs.Building.{on_build}
 use Rattle.dn_machine.specs.Flight.{Flight, is_near}
-use Rattle.dn_machine.specs.Game.{fresh, opening_game, own_marks, with_node, posted, delivered, refused_at, refused_flight, refused, applied_if, applied, on_event}
+use Rattle.dn_machine.specs.Game.{fresh, opening_game, own_marks, delivered, refused_at, refused_flight, refused, applied_if, applied, on_event}
 use Rattle.dn_machine.specs.Hearing.{on_packet}
-use Rattle.dn_machine.specs.Limits.{Limits}
+use Rattle.dn_machine.specs.Limits.{Limits, IsWindow}
 use Rattle.dn_machine.specs.Node as machine
-use Rattle.dn_machine.specs.Node.{put}
+use Rattle.dn_machine.specs.Node.{put, is_ended}
 use Rattle.dn_machine.specs.Running.{is_over, on_run, on_quit}
-use Rattle.dn_machine.specs.Sending.{on_send}
-use Rattle.dn_machine.specs.Worlds.{Rules, opening, mark_in, world_after}
-use Rattle.dn_machine.proofs.Calls.{built, build_cases, send_cases, packet_cases, run_cases, quit_cases}
+use Rattle.dn_machine.specs.Worlds.{Inputs, Rules, opening, mark_in, world_after}
+use Rattle.dn_machine.proofs.Calls.{build_cases, send_cases, packet_cases, run_cases, quit_cases}
 use Rattle.dn_machine.proofs.Games
 use Rattle.dn_machine.proofs.Promises
 use Rattle.dn_machine.specs.Drops as drops
 use Rattle.dn_machine.proofs.Invariant.{IsKept}
-use Rattle.dn_machine.proofs.Put.{put_at, put_off, same_functions, slice_get_push}
-use Rattle.dn_lockstep.specs.Contents.{Contents}
+use Rattle.dn_machine.proofs.Put.{put_at, put_off, slice_get_push}
+use Rattle.dn_lockstep.specs.Contents.{Contents, end_in}
 use Rattle.dn_lockstep.specs.Hearing.{HearsNear}
 use Rattle.dn_lockstep.specs.Marking.{History, Marking, free}
 use Rattle.dn_lockstep.specs.Near.{IsFair}
 use Rattle.dn_lockstep.specs.OneGame.{beside, world_told, AreOneGame, IsGivenAs}
 use Rattle.dn_lockstep.specs.Session.{Session, opening_session, with_lockstep, taken_on, after_build, given_on, after_packet, told_on, after_run}
 use Rattle.dn_machine.specs.declared.answers.Phase.{Phase}
-use Rattle.dn_machine.specs.declared.answers.Phase.TheVariants.{Listening, Gathering, Playing, Ended}
 use Rattle.dn_machine.specs.Building.{on_build_in}
 use Rattle.dn_machine.specs.Sending.{set_up_flight}
-use Rattle.std.proofs.Common.{leb, ◌-◌}
 use Rattle.dn_lockstep.specs.Represents.{Represents}
 use Rattle.dn_lockstep.specs.Rings.{count_of}
 use Rattle.dn_lockstep.specs.Rows.{is_gone}
 use Rattle.dn_lockstep.specs.Runs.{marks_in, row_told, RunsBy}
 use Rattle.dn_lockstep.specs.Sent.{sent_to, bytes_of}
 use Rattle.dn_lockstep.specs.Steps.{Steps, Tells, IsAfter}
+use Rattle.dn_lockstep.specs.Told.{made}
 use Rattle.dn_lockstep.proofs.Counting.{got_is}
 use Rattle.dn_lockstep.proofs.Running.{kept_same, run_same, run_tells}
 use Rattle.dn_tic.specs.declared.input.Input.{Input}
@@ -56,12 +54,18 @@ use Rattle.dn_machine.proofs.Pairs.{accepted_build}
 abbrev Rows : Type 0
 Rows = List (List (Option Move))
 
+-- who is not gone has no end, as a lockstep that has not ended tells it, that is not after the next tic
+not_past : (n : Contents) (p : ℕ) → is_ended n.phase ≡ false → is_gone n.peers n.ran p ≡ false
+    → is_over (end_in n p) n.ran ≡ false
+not_past n p going here = grind arith
+
 -- no call but a run changes the rows, and none but a build the inputs
 abbrev pub IsQuiet : machine.Node → machine.Node → Type 0
 IsQuiet m after = (after.rows ≡ m.rows) × (after.inputs ≡ m.inputs)
 
-build_rows : (me : ℕ) (m : machine.Node) (input : Input) → (on_build me m input).0.rows ≡ m.rows
-build_rows me m input = build_cases (record { players = 0; extra = false; capacity = 0 }) me m
+build_rows : (limits : Limits) (me : ℕ) (m : machine.Node) (input : Input)
+    → (on_build limits me m input).0.rows ≡ m.rows
+build_rows limits me m input = build_cases limits me m
     (λ (x : machine.Node). x.rows ≡ m.rows) input (λ full. refl) (λ plays free. refl)
 
 send_quiet : (limits : Limits) (me : ℕ) (m : machine.Node) (to : ℕ) → IsQuiet m (sent_to to limits me m).0
@@ -89,38 +93,33 @@ hear_quiet limits me m flight = packet_cases limits me m flight
       requests = λ ended. (refl, refl);
     })
 
-quit_quiet : (m : machine.Node) → IsQuiet m (on_quit m).0
-quit_quiet m = quit_cases (record { players = 0; extra = false; capacity = 0 }) 0 m (IsQuiet m) (refl, refl)
-    (λ goes_on. (refl, refl))
+quit_quiet : (limits : Limits) (me : ℕ) (m : machine.Node) → IsQuiet m (on_quit m).0
+quit_quiet limits me m = quit_cases limits me m (IsQuiet m) (refl, refl) (λ goes_on. (refl, refl))
 
-run_inputs : (limits : Limits) (m : machine.Node) (marks : ℕ → ℤ) → (on_run limits m marks).0.inputs ≡ m.inputs
-run_inputs limits m marks = run_cases limits 0 m marks (λ (x : machine.Node). x.inputs ≡ m.inputs)
+run_inputs : (limits : Limits) (me : ℕ) (m : machine.Node) (marks : ℕ → ℤ)
+    → (on_run limits m marks).0.inputs ≡ m.inputs
+run_inputs limits me m marks = run_cases limits me m marks (λ (x : machine.Node). x.inputs ≡ m.inputs)
     (λ waits. refl) (λ player plays none off. refl) (λ plays none full. refl) (λ plays none room. refl)
 
-build_inputs_in : (me : ℕ) (m : machine.Node) (input : Input) (phase : Phase)
-    → (on_build_in me m input phase).0.inputs ≡ taken_on m.inputs input (on_build_in me m input phase).1
-build_inputs_in me m input Listening = refl
-build_inputs_in me m input Gathering = refl
-build_inputs_in me m input (Ended cause) = refl
-build_inputs_in me m input Playing =
-    cond_both (leb 5 (machine.made me m - machine.ran m)) (m, Made.Full)
-    (built (record { players = 0; extra = false; capacity = 0 }) me m input, Made.Made (machine.made me m))
-    (λ (r : machine.Node × Made). r.0.inputs ≡ taken_on m.inputs input r.1) (λ full. refl) (λ free. refl)
+build_inputs_in : (limits : Limits) (me : ℕ) (m : machine.Node) (input : Input) (phase : Phase)
+    → (on_build_in limits me m input phase).0.inputs
+    ≡ taken_on m.inputs input (on_build_in limits me m input phase).1
+build_inputs_in limits me m input phase = grind arith
 
-build_inputs : (me : ℕ) (m : machine.Node) (input : Input)
-    → (on_build me m input).0.inputs ≡ taken_on m.inputs input (on_build me m input).1
+build_inputs : (limits : Limits) (me : ℕ) (m : machine.Node) (input : Input)
+    → (on_build limits me m input).0.inputs ≡ taken_on m.inputs input (on_build limits me m input).1
 unfolding on_build
-build_inputs me m input = build_inputs_in me m input m.phase
+build_inputs limits me m input = build_inputs_in limits me m input m.phase
 
 -- a packet goes from the node that is asked to the one that it is asked for
-abbrev GoesBetween : ℕ → ℕ → Option Flight → Type 0
+abbrev pub GoesBetween : ℕ → ℕ → Option Flight → Type 0
 GoesBetween from to flight = IfSome flight (λ flight. (flight.from ≡ from) × (flight.to ≡ to))
 
 set_up_between : (me to : ℕ) (settings : Option Settings) → GoesBetween me to (set_up_flight me to settings)
 set_up_between me to None = tt
 set_up_between me to (Some settings) = (refl, refl)
 
-sent_between : (limits : Limits) (me : ℕ) (m : machine.Node) (to : ℕ)
+pub sent_between : (limits : Limits) (me : ℕ) (m : machine.Node) (to : ℕ)
     → GoesBetween me to (sent_to to limits me m).1
 sent_between limits me m to =
     let P : machine.Node × Option Flight → Type 0 = λ x. GoesBetween me to x.1 in
@@ -131,10 +130,7 @@ sent_between limits me m to =
 
 -- a node in its own place
 put_same : {A : Type 0} (f : ℕ → A) (i : ℕ) → put f i (f i) ≡ f
-put_same f i = same_functions (λ j. elim (cases_eq j i) [
-  | inl e ↦ put_at f i j (f i) e ∙ ap f (sym e)
-  | inr n ↦ put_off f i j (f i) n
-])
+put_same f i = grind arith
 
 module _ (marking : Marking) (limits : Limits) (settings : Settings) where
   abbrev pub rules : Rules History
@@ -157,11 +153,12 @@ module _ (marking : Marking) (limits : Limits) (settings : Settings) where
       (ap (λ (rows : Rows). fold (free marking).step (opening rules settings) rows) (take-length m.rows)
       ∙ folds (opening rules settings) m.rows)
 
-  pub opens : (locksteps : ℕ → Contents)
+  pub opens : (locksteps : ℕ → Contents) → IsWindow limits
       → ((p : ℕ) → p < limits.players → Represents limits p (locksteps p) (fresh settings p))
       → AreOneGame marking limits settings (opening_session locksteps)
   unfolding opening_game
-  opens locksteps each = record {
+  opens locksteps window each = record {
+    window = window;
     events = [];
     last = opening_game settings;
     runs = refl;
@@ -178,23 +175,17 @@ module _ (marking : Marking) (limits : Limits) (settings : Settings) where
     node = game.last.nodes
 
     pub kept : IsKept rules settings game.last
-    kept = Games.always rules settings game.events game.last game.runs
+    kept = Games.always rules settings game.window game.events game.last game.runs
 
     -- a lockstep that is what it was
     pub keeps : (i : ℕ) (new : Contents) → new ≡ session.locksteps i
         → AreOneGame marking limits settings (with_lockstep session i new)
-    keeps i new same =
-        subst (λ (locksteps : ℕ → Contents). AreOneGame marking limits settings
-        (record session { locksteps = locksteps })) (sym (ap (put session.locksteps i) same
-        ∙ put_same session.locksteps i)) game
+    keeps i new same = grind arith
 
     -- what is read off the nodes, where one of them is another now
     read_on : {A : Type 0} (f : machine.Node → A) (values : ℕ → A) (i : ℕ) (m : machine.Node) (value : A)
         → ((p : ℕ) → f (node p) ≡ values p) → f m ≡ value → (p : ℕ) → f (put node i m p) ≡ put values i value p
-    read_on f values i m value each same p = elim (cases_eq p i) [
-      | inl e ↦ ap f (put_at node i p m e) ∙ same ∙ sym (put_at values i p value e)
-      | inr n ↦ ap f (put_off node i p m n) ∙ each p ∙ sym (put_off values i p value n)
-    ]
+    read_on f values i m value each same p = grind arith
 
     pub read_same : {A : Type 0} (f : machine.Node → A) (values : ℕ → A) (i : ℕ) (m : machine.Node)
         → ((p : ℕ) → f (node p) ≡ values p) → f m ≡ f (node i) → (p : ℕ) → f (put node i m p) ≡ values p
@@ -214,7 +205,7 @@ module _ (marking : Marking) (limits : Limits) (settings : Settings) where
       accepts = rw (lt-ltb i limits.players mine, game.going i) refl
 
       -- after an event that changes this node alone, and adds to the packets
-      pub changes : (event : Event) (m : machine.Node) (flights more : List Flight) (inputs : ℕ → List Input)
+      pub changes : (event : Event) (m : machine.Node) (flights more : List Flight) (inputs : Inputs)
           (rows : ℕ → Rows) (new : Contents)
           → (applied rules game.last event).0
           ≡ record { nodes = put node i m; stopped = game.last.stopped; flights = flights }
@@ -224,6 +215,7 @@ module _ (marking : Marking) (limits : Limits) (settings : Settings) where
           → AreOneGame marking limits settings
           (record { inputs = inputs; given = more; told = rows; locksteps = put session.locksteps i new })
       changes event m flights more inputs rows new is shows takes same fair tells = record {
+        window = game.window;
         events = game.events ++ event ∷ [];
         last = record { nodes = put node i m; stopped = game.last.stopped; flights = flights };
         runs = Games.goes_on rules settings game.events event (opening_game settings) game.last _ game.runs
@@ -253,6 +245,7 @@ module _ (marking : Marking) (limits : Limits) (settings : Settings) where
       pub stays : (new : Contents) → Represents limits i new (node i)
           → AreOneGame marking limits settings (with_lockstep session i new)
       stays new shows = record {
+        window = game.window;
         events = game.events;
         last = game.last;
         runs = game.runs;
@@ -273,31 +266,31 @@ module _ (marking : Marking) (limits : Limits) (settings : Settings) where
       by_event event none = ap (λ (o : Option Refusal). (applied_if rules game.last event o).0) none
 
       pub builds : (new : Contents) (input : Input) (made : Made)
-          → Steps (session.locksteps i) new (λ limits me m. on_build me m input) (λ answer. made ≡ answer)
+          → Steps (session.locksteps i) new (λ limits me m. on_build limits me m input) (λ answer. made ≡ answer)
           → AreOneGame marking limits settings (after_build session i input made new)
       builds new input made steps =
           let after = steps.step limits i (node i) (game.nodes i mine) in
-          let taken : (on_build i (node i) input).0.inputs ≡ taken_on (session.inputs i) input made =
-          build_inputs i (node i) input
+          let taken : (on_build limits i (node i) input).0.inputs ≡ taken_on (session.inputs i) input made =
+          build_inputs limits i (node i) input
           ∙ ap (λ (answer : Made). taken_on (node i).inputs input answer) (sym after.answer)
           ∙ ap (λ (inputs : List Input). taken_on inputs input made) (game.inputs i) in
-          changes (build_of i input) (on_build i (node i) input).0 game.last.flights session.given
+          changes (build_of i input) (on_build limits i (node i) input).0 game.last.flights session.given
           (put session.inputs i (taken_on (session.inputs i) input made)) session.told new
           (accepted_build rules game.last i input accepts) after.node
           (read_on (λ (x : machine.Node). x.inputs) session.inputs i _ _ game.inputs taken)
-          game.flights game.fair (rows_stay i _ (build_rows i (node i) input))
+          game.flights game.fair (rows_stay i _ (build_rows limits i (node i) input))
 
       pub quits : (new : Contents) (quit : Bool)
           → Steps (session.locksteps i) new (λ limits me m. on_quit m) (λ answer. quit ≡ answer)
           → AreOneGame marking limits settings (with_lockstep session i new)
       quits new quit steps =
           moves (Quit i) (on_quit (node i)).0 new (by_event (Quit i) accepts)
-          (steps.step limits i (node i) (game.nodes i mine)).node (quit_quiet (node i))
+          (steps.step limits i (node i) (game.nodes i mine)).node (quit_quiet limits i (node i))
 
       -- run: the marks of the caller's world are those of the node's own
       pub runs : (new : Contents) (marks : List ℤ) (ran : Ran) (row : Option (List (Option Move)))
           → ((tic other : ℕ) → ran ≡ Ran.Ran tic → other < limits.players
-          → is_gone (session.locksteps i).peers (session.locksteps i).ran other ≡ false
+          → is_over (end_in (session.locksteps i) other) (session.locksteps i).ran ≡ false
           → get_or marks other (pos 0) ≡ marking (world_told limits settings (session.told i)) other)
           → RunsBy marks (session.locksteps i) new (λ limits m marks. on_run limits m marks)
           (λ answer told. (ran ≡ answer) × (row ≡ told))
@@ -312,9 +305,10 @@ module _ (marking : Marking) (limits : Limits) (settings : Settings) where
           kept_same limits m (marks_in marks) (own_marks rules m) (λ p below present.
           let sound = kept.sound i mine in
           duty tic p (after.answer.0 ∙ tells) below
+          (not_past (session.locksteps i) p (ap is_ended (r.stands.phase ∙ plays))
           (ap (λ (x : ℕ). is_gone (session.locksteps i).peers x p) r.table.ran
           ∙ ap (λ (x : Option ℕ). is_over x (machine.ran m))
-          (ap (λ (x : Peer). x.end) (r.peers.known p below)) ∙ present)
+          (ap (λ (x : Peer). x.end) (r.peers.known p below)) ∙ present))
           ∙ ap (λ (rows : Rows). marking (world_told limits settings rows) p) (sym (game.rows i))
           ∙ sym (own_is m p (sound.played (sound.playing plays))))) in
           let shows = subst (λ (x : machine.Node × Ran). Represents limits i new x.0) same after.node in
@@ -325,7 +319,7 @@ module _ (marking : Marking) (limits : Limits) (settings : Settings) where
           ∙ ap (λ (rows : Rows). told_on rows row) (game.rows i) in
           changes (Run i) (on_run limits m (own_marks rules m)).0 game.last.flights session.given session.inputs
           (put session.told i (told_on (session.told i) row)) new (by_event (Run i) accepts) shows
-          (inputs_stay i _ (run_inputs limits m (own_marks rules m))) game.flights game.fair
+          (inputs_stay i _ (run_inputs limits i m (own_marks rules m))) game.flights game.fair
           (read_on (λ (x : machine.Node). x.rows) session.told i _ _ game.rows tells)
 
       -- a packet, if one is given
@@ -344,28 +338,7 @@ module _ (marking : Marking) (limits : Limits) (settings : Settings) where
             flights = given_on game.last.flights (sent_to to limits i (node i)).1;
           }
       unfolding applied
-      sends_to to = elim (cases_lt to limits.players) [
-        | inl below ↦
-            let test = lt-ltb to limits.players below in
-            rw (lt-ltb i limits.players mine, test, game.going i) (posts (on_send limits i (node i) to))
-        | inr past ↦
-            let test = le-ltb to limits.players past in
-            rw (lt-ltb i limits.players mine, test)
-            (λ k. record {
-              nodes = sym (put_same node i) k;
-              stopped = game.last.stopped;
-              flights = game.last.flights;
-            })
-      ]
-        where
-          posts : (x : machine.Node × Option Flight) → (posted (with_node game.last i x.0) x.1).0
-              ≡ record {
-                nodes = put node i x.0;
-                stopped = game.last.stopped;
-                flights = given_on game.last.flights x.1;
-              }
-          posts (m, None) = refl
-          posts (m, Some flight) = refl
+      sends_to to = grind arith
 
       -- a send
       pub gave : (to : ℕ) (new : Contents) → Represents limits i new (sent_to to limits i (node i)).0
@@ -399,7 +372,7 @@ module _ (marking : Marking) (limits : Limits) (settings : Settings) where
     -- a packet that was given comes as it was given
     module _ (which : ℕ) (flight : Flight) (new : Contents) (heard : Heard)
         (at : slice_get session.given which ≡ Some flight)
-        (near : is_near (count_of (session.locksteps flight.to).rings flight.to) flight ≡ true)
+        (near : is_near (made (session.locksteps flight.to)) flight ≡ true)
         (by : HearsNear flight.from (bytes_of flight) (session.locksteps flight.to) new heard) where
       there : slice_get game.last.flights which ≡ Some flight
       there = ap (λ (fs : List Flight). slice_get fs which) game.flights ∙ at
@@ -414,7 +387,9 @@ module _ (marking : Marking) (limits : Limits) (settings : Settings) where
       near_there =
           let r = receiver in
           ap (λ (k : ℕ). is_near k flight) (sym (got_is limits flight.to (session.locksteps flight.to)
-          (node flight.to) r flight.to (omega (arith, received_by, r.whose.players)))) ∙ near
+          (node flight.to) r flight.to (omega (arith, received_by, r.whose.players))))
+          ∙ ap (λ (k : ℕ). is_near (count_of (session.locksteps flight.to).rings k) flight) (sym r.whose.number)
+          ∙ near
 
       accepted_there : refused_flight game.last (Some flight) ≡ None
       accepted_there = rw (near_there, game.going flight.to) refl
@@ -425,8 +400,7 @@ module _ (marking : Marking) (limits : Limits) (settings : Settings) where
           let r = receiver in
           let piece = kept.from_inputs.pieces which flight there in
           let steps = by flight (game.fair which flight at) refl refl (omega (arith, piece.sender, r.whose.players))
-          (λ e. piece.apart (e ∙ r.whose.number))
-          (ap (λ (k : ℕ). is_near (count_of (session.locksteps flight.to).rings k) flight) r.whose.number ∙ near) in
+          (λ e. piece.apart (e ∙ r.whose.number)) near in
           steps.step limits flight.to (node flight.to) r
 
       pub hears : AreOneGame marking limits settings (with_lockstep session flight.to new)

@@ -1,7 +1,6 @@
 -- How a node hears a datagram, by what it tests first.
 use Rattle.std.proofs.Common.{◌≡◌, ◌≢◌, ◌<◌, ◌≤◌, ◌⊎◌, ℕ, true, false, List, refl, sym, ◌∙◌, ap, subst, arith, inl, inr}
 use Rattle.std.specs.Prelude.{Result, Err}
-use Rattle.std.proofs.lemmas.Bool.{eq-eqb, ne_eqb, lt-ltb, le-ltb, cases_lt}
 use Rattle.dn_packet.specs.declared.packet.Packet.{Packet}
 use Rattle.dn_packet.specs.declared.packet.PacketFault.{PacketFault}
 use Rattle.dn_packet.specs.Read.{IsReadAs}
@@ -28,22 +27,12 @@ module _ (limits : Limits) (me : ℕ) (m : machine.Node) (from : ℕ)
 
   received_strange : hears_none m.phase m.played ≡ false → (limits.players ≤ from) ⊎ (from ≡ me)
       → ◌≡◌ {A = machine.Node × Heard} (received limits me m from told read) (m, Heard.Dropped drops.stranger)
-  received_strange on (inl past) = let none = le-ltb from limits.players past in rw (on, none) refl
-  received_strange on (inr own) = elim (cases_lt from limits.players) [
-    | inl below ↦
-        let there = lt-ltb from limits.players below in
-        let same = eq-eqb from me own in
-        rw (on, there, same) refl
-    | inr past ↦ let none = le-ltb from limits.players past in rw (on, none) refl
-  ]
+  received_strange on h = grind arith
 
   received_read : hears_none m.phase m.played ≡ false → from < limits.players → from ≢ me
       → ◌≡◌ {A = machine.Node × Heard} (received limits me m from told read)
       (on_read limits me m from told read)
-  received_read on below other =
-      let there = lt-ltb from limits.players below in
-      let apart = ne_eqb from me other in
-      rw (on, there, apart) refl
+  received_read on below other = grind arith
 
 -- whether it hears anything, and who is no peer, by a node that represents it
 module _ {limits : Limits} {me : ℕ} {old : Contents} {m : machine.Node}
@@ -102,7 +91,4 @@ module _ (old : Contents) (from : ℕ) (bytes : List ℕ) where
         → ((read : Result Packet PacketFault) → IsReadAs bytes read
         → ◌≡◌ {A = Result Packet PacketFault} (Err fault) read)
         → HearsAny from bytes old old (Heard.Dropped number)
-    any_fault fault number drop below other only =
-        any_read old (Heard.Dropped number) (Err fault) below other only refl
-        (λ told is limits me m r. after m (Heard.Dropped number)
-        (ap (λ (k : ℕ). (m, Heard.Dropped k)) (sym drop)) r refl)
+    any_fault fault number drop below other only = grind arith

@@ -1,6 +1,6 @@
 -- The demo of a lockstep that has played.
-use Rattle.std.proofs.Common.{◌≡◌, ◌≤◌, ℕ, Bool, true, ◌||◌, [], length, Some, ap, ◌∙◌, arith}
-use Rattle.std.specs.Prelude.{if◌then◌else◌, nat_lt, Ok}
+use Rattle.std.proofs.Common.{◌≡◌, ◌≤◌, ℕ, true, length, Some, arith}
+use Rattle.std.specs.Prelude.{Ok}
 use Rattle.std.specs.List.{prefix_len}
 use Rattle.std.proofs.lemmas.List.{take_all}
 use Rattle.std.proofs.lemmas.List.Folds.{length-prefix_len}
@@ -14,7 +14,7 @@ use Rattle.dn_machine.specs.Limits.{Limits}
 use Rattle.dn_machine.specs.Node as machine
 use Rattle.dn_machine.specs.Node.{is_ended, is_whole, demo_rows}
 use Rattle.dn_lockstep.specs.Contents.{Contents}
-use Rattle.dn_lockstep.specs.Represents.{Represents, CanBeWritten, demo_of, demo_with, is_demo_closed}
+use Rattle.dn_lockstep.specs.Represents.{Represents, CanBeWritten, demo_of, is_demo_closed}
 use Rattle.dn_lockstep.specs.Rows.{seats_of}
 
 -- where the demo has as many rows as were run, it has all
@@ -28,19 +28,14 @@ module _ (limits : Limits) (m : machine.Node) (settings : Settings)
   pub demo_is : (me : ℕ) → m.played ≡ true
       → demo_of limits me m ≡ demo_text long_tics (start_of settings) me (seats_of limits.players)
       (demo_rows limits.players m) (is_demo_closed limits m)
-  demo_is me played =
-      ap (λ (b : Bool). if b then demo_with limits me m m.settings else []) played
-      ∙ ap (demo_with limits me m) known
+  demo_is me played = grind arith
 
 module _ (limits : Limits) (me : ℕ) (n : Contents) (m : machine.Node) (settings : Settings)
     (r : Represents limits me n m) (played : m.played ≡ true) (known : m.settings ≡ Some settings) where
   pub demo_ended : is_ended m.phase ≡ true
       → n.demo.bytes ≡ demo_text long_tics (start_of settings) me (seats_of limits.players) (demo_rows limits.players m)
       true
-  demo_ended ended =
-      r.demo.bytes ∙ demo_is limits m settings known me played
-      ∙ ap (λ (b : Bool). demo_text long_tics (start_of settings) me (seats_of limits.players)
-      (demo_rows limits.players m) (b || nat_lt (length (demo_rows limits.players m)) (machine.ran m))) ended
+  demo_ended ended = grind arith
 
   -- and is read back
   pub read_back : is_ended m.phase ≡ true

@@ -1,15 +1,15 @@
 -- The row of a tic, filled in seat by seat.
-use Rattle.std.proofs.Common.{◌≡◌, ◌<◌, ◌+◌, ℕ, zero, suc, Bool, true, false, List, [], ◌∷◌, length, get_or, map, set, Option, Some, None, is_some, refl, ap, sym, ◌∙◌, arith, inl, inr}
+use Rattle.std.proofs.Common.{◌≡◌, ◌<◌, ◌+◌, ℕ, zero, suc, Bool, true, false, List, [], ◌∷◌, length, get_or, map, set, Option, Some, None, is_some, refl, ap, sym, ◌∙◌, arith}
 use Rattle.std.specs.Prelude.{if◌then◌else◌}
-use Rattle.std.proofs.lemmas.Bool.{cases_eq}
 use Rattle.std.proofs.lemmas.List.{get_or-set_same, get_or-set_other, set-get_or}
 use Rattle.std.specs.Option.{is_none, option_map}
 use Rattle.dn_tic.specs.declared.command.TicCmd.{TicCmd}
 use Rattle.dn_tic.specs.declared.command.Move.{Move}
 use Rattle.dn_tic.specs.Command.{used}
-use Rattle.dn_ring.specs.Ring.{Ring, get}
+use Rattle.dn_ring.specs.Ring.{Ring}
 use Rattle.dn_machine.specs.Node.{lacks, is_whole}
 use Rattle.dn_machine.proofs.Demos.{none_is}
+use Rattle.dn_lockstep.specs.Rings.{get}
 use Rattle.dn_lockstep.specs.Rows.{is_gone, move_held, seats_of}
 use Rattle.dn_lockstep.proofs.Seats.{seats_whole}
 use Rattle.dn_machine.specs.declared.peer.Peer.{Peer}
@@ -69,10 +69,7 @@ module _ (rings : ℕ → Ring) (peers : ℕ → Peer) (tic : ℕ) where
 pub seats_more : (row : List (Option Move)) (gone : ℕ → Bool) (player : ℕ) → lacks row player ≡ gone player
     → ((p : ℕ) → p < player → lacks row p ≡ gone p)
     → (p : ℕ) → p < player + 1 → lacks row p ≡ gone p
-seats_more row gone player this others p l = elim (cases_eq p player) [
-  | inl e ↦ ap (lacks row) e ∙ this ∙ ap gone (sym e)
-  | inr other ↦ others p (omega arith)
-]
+seats_more row gone player this others p l = grind arith
 
 -- a seat that was filled in, and the others
 pub seats_set : (row : List (Option Move)) (gone : ℕ → Bool) (player : ℕ) (step : Option Move)

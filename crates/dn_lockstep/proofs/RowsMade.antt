@@ -11,7 +11,7 @@ use Rattle.dn_tic.specs.declared.command.TicCmd.{TicCmd}
 use Rattle.dn_tic.specs.declared.command.Move.{Move}
 use Rattle.dn_tic.specs.Command.{used}
 use Rattle.dn_tic.specs.Inputs.{made_by}
-use Rattle.dn_machine.specs.Worlds.{if_made, row_by_inputs}
+use Rattle.dn_machine.specs.Worlds.{Inputs, if_made, row_by_inputs}
 use Rattle.dn_machine.specs.Node.{is_whole, lacks}
 use Rattle.dn_machine.proofs.Demos.{front_passes, front_short, if_made_is, seat_is, whole_has}
 use Rattle.dn_machine.proofs.Marks.{lowest_none}
@@ -19,7 +19,6 @@ use Rattle.dn_lockstep.proofs.Seats.{whole_each, seats_whole}
 use Rattle.dn_lockstep.specs.Demos.{rows_to, rows_made, move_made}
 use Rattle.dn_lockstep.proofs.DemoTexts.{AreFull}
 use Rattle.dn_machine.specs.Limits.{row_of}
-use Rattle.dn_tic.specs.declared.input.Input.{Input}
 
 -- the move at a player's seat is that of the player's command
 seat_at : (players : ℕ) (f : ℕ → Option TicCmd) (p : ℕ) → p < 4
@@ -36,7 +35,7 @@ seat_move : (players : ℕ) (f : ℕ → Option TicCmd) (p : ℕ) (c : TicCmd) �
 seat_move players f p c l s e =
     seat_at players f p s ∙ cond-true (ltb p players) _ _ (lt-ltb p players l) ∙ ap (option_map used) e
 
-module _ (players : ℕ) (inputs : ℕ → List Input) where
+module _ (players : ℕ) (inputs : Inputs) where
   abbrev command : ℕ → ℕ → TicCmd
   command player tic = made_by (take (tic + 1) (inputs player)) (pos 0)
 

@@ -8,10 +8,11 @@ use Rattle.dn_setup.specs.Settings.{Settings}
 use Rattle.dn_setup.specs.Starts.{start_of}
 use Rattle.dn_demo.specs.Layout.{long_tics}
 use Rattle.dn_demo.specs.Text.{demo_text}
-use Rattle.dn_ring.specs.Ring.{Ring, get}
+use Rattle.dn_ring.specs.Ring.{Ring}
 use Rattle.dn_machine.specs.Limits.{Limits}
 use Rattle.dn_machine.specs.Node as machine
-use Rattle.dn_machine.specs.Node.{blank, is_ended, has_left, known_end, demo_rows}
+use Rattle.dn_machine.specs.Node.{blank, has_left, known_end, demo_rows}
+use Rattle.dn_lockstep.specs.Rings.{get}
 use Rattle.dn_lockstep.specs.Contents.{Contents, end_in}
 use Rattle.dn_lockstep.specs.Represents.{Represents, demo_with, is_demo_closed}
 use Rattle.dn_lockstep.specs.Rows.{seats_of}
@@ -29,13 +30,15 @@ module _ (limits : Limits) (me : ℕ) (n : Contents) (m : machine.Node) (r : Rep
   pub tells_held : (player tic : ℕ) (command : TicCmd) → command_told n player tic ≡ Some command
       → (player < limits.players) × (tic < machine.got m player) × (command ≡ machine.held_at m player tic)
   tells_held player tic command e =
-      let test = cond_get (ltb player n.players) (get (n.rings player) tic) command e in
+      let test = cond_get (ltb player n.players && leb (got n player - tic) n.places) (get (n.rings player) tic)
+      command e in
+      let here = and_parts (ltb player n.players) (leb (got n player - tic) n.places) test.0 in
       let below : player < limits.players =
-      omega (arith, ltb-true player n.players test.0, r.whose.players) in
+      omega (arith, ltb-true player n.players here.0, r.whose.players) in
       let held = m.held player in
-      let kept = cond_some (ltb tic (length held) && leb (length held - tic) 12) (get_or held tic blank) command
+      let kept = cond_some (ltb tic (length held) && leb (length held - tic) 32) (get_or held tic blank) command
       (sym (get_last held tic) ∙ sym (ap (λ (k : Ring). get k tic) (r.commands.rings player below)) ∙ test.1) in
-      let both = and_parts (ltb tic (length held)) (leb (length held - tic) 12) kept.0 in
+      let both = and_parts (ltb tic (length held)) (leb (length held - tic) 32) kept.0 in
       (below, ltb-true tic (length held) both.0, sym kept.1)
     where
       cond_get : (b : Bool) (o : Option TicCmd) (c : TicCmd) → cond b o None ≡ Some c → (b ≡ true) × (o ≡ Some c)
@@ -58,10 +61,7 @@ module _ (limits : Limits) (me : ℕ) (n : Contents) (m : machine.Node) (r : Rep
 
     pub starts : HasStarted n
     unfolding demo_text
-    starts none =
-        let text : demo_text long_tics (start_of settings) me (seats_of limits.players)
-        (demo_rows limits.players m) (is_demo_closed limits m) ≡ [] = sym played_bytes ∙ none in
-        absurd (cc)
+    starts none = grind arith
 
   -- the ends that it tells
   module _ (mine : me < limits.players) where
@@ -69,13 +69,7 @@ module _ (limits : Limits) (me : ℕ) (n : Contents) (m : machine.Node) (r : Rep
     makes = ap (got n) r.whose.number ∙ has me mine
 
     pub end_is : (player : ℕ) → player < limits.players → end_in n player ≡ known_end me m player
-    end_is player below =
-        let s = r in
-        let made_is = makes in
-        let peer = s.peers.known player below in
-        λ k. if player == s.whose.number k
-        then (if s.stands.played k && is_ended (s.stands.phase k) then Some (made_is k) else None)
-        else (peer k).end
+    end_is player below = grind arith
 
     -- its own player's
     pub own_end_is : end_in n me ≡ (if has_left m then Some (machine.made me m) else None)

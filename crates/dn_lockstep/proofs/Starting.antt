@@ -1,5 +1,5 @@
 -- What a node represents once it has started.
-use Rattle.std.proofs.Common.{◌≡◌, ◌<◌, ℕ, true, false, List, [], length, refl, ap, sym, ◌∙◌, Option, Some}
+use Rattle.std.proofs.Common.{◌≡◌, ℕ, true, false, List, [], length, refl, ap, sym, ◌∙◌, Option, Some}
 use Rattle.dn_tic.specs.declared.command.Move.{Move}
 use Rattle.dn_setup.specs.Settings.{Settings}
 use Rattle.dn_setup.specs.Starts.{start_of}
@@ -13,17 +13,11 @@ use Rattle.dn_demo.specs.Text.{demo_text}
 use Rattle.dn_machine.specs.declared.answers.Phase.TheVariants.{Playing}
 use Rattle.dn_machine.specs.Limits.{Limits}
 use Rattle.dn_machine.specs.Node as machine
-use Rattle.dn_machine.specs.Node.{own_mark, is_whole}
+use Rattle.dn_machine.specs.Node.{is_whole}
 use Rattle.dn_machine.specs.Hearing.{started}
 use Rattle.dn_lockstep.specs.Contents.{Contents}
 use Rattle.dn_lockstep.specs.Represents.{Represents}
 use Rattle.dn_lockstep.specs.Rows.{seats_of}
-use Rattle.dn_lockstep.proofs.Opening.{first_marks}
-
--- the mark of an early tic is 0 by any node
-pub early_mark : (m other : machine.Node) (p tic : ℕ) → tic < 12
-    → own_mark m p tic ≡ own_mark other p tic
-early_mark m other p tic low = sym (first_marks m p tic low) ∙ first_marks other p tic low
 
 pub shows_start : (limits : Limits) (me : ℕ) (n : Contents) (m : machine.Node)
     (settings : Settings) (demo : Recorded)

@@ -1,8 +1,7 @@
 -- What holds between the locksteps of one game, said of what each tells of itself.
-use Rattle.std.specs.Prelude.{◌≡◌, ◌≢◌, ◌<◌, ◌≤◌, ℕ, ◌+◌, min, true, false, List, length, take, Some, Ok, ℤ, unwrap_or}
+use Rattle.std.specs.Prelude.{◌≡◌, ◌≢◌, ◌<◌, ◌≤◌, ℕ, ◌+◌, min, true, false, length, take, Some, Ok, ℤ, unwrap_or}
 use Rattle.dn_tic.specs.Inputs.{made_by}
 use Rattle.dn_tic.specs.declared.command.TicCmd.{TicCmd}
-use Rattle.dn_tic.specs.declared.input.Input.{Input}
 use Rattle.dn_setup.specs.Settings.{Settings}
 use Rattle.dn_demo.specs.Reading.{IsReadAs}
 use Rattle.dn_machine.specs.declared.answers.Cause.TheVariants as Cause
@@ -10,12 +9,13 @@ use Rattle.dn_machine.specs.declared.answers.Phase.TheVariants.{Playing, Ended}
 use Rattle.dn_machine.specs.Limits.{Limits}
 use Rattle.dn_machine.specs.Node.{is_ended}
 use Rattle.dn_machine.specs.Running.{tic_limit}
+use Rattle.dn_machine.specs.Worlds.{Inputs}
 use Rattle.dn_lockstep.specs.Contents.{Contents, end_in}
 use Rattle.dn_lockstep.specs.Demos.{DemosAgree, demo_made}
 use Rattle.dn_lockstep.specs.Told.{HasStarted, got, made, command_told}
 
 -- the players' locksteps agree, on a game of these settings in which their builds took these inputs
-pub record AreAgreed (limits : Limits) (settings : Settings) (inputs : ℕ → List Input)
+pub record AreAgreed (limits : Limits) (settings : Settings) (inputs : Inputs)
     (locksteps : ℕ → Contents) : Type 0 where
   -- each has its player's number, and the game's number of players
   pub numbers : (p : ℕ) → p < limits.players → (locksteps p).me ≡ p
@@ -49,19 +49,20 @@ pub record AreAgreed (limits : Limits) (settings : Settings) (inputs : ℕ → L
   -- so any two that know a player's end know the same
   pub ends_same : (p q player a b : ℕ) → p < limits.players → q < limits.players → player < limits.players
       → end_in (locksteps p) player ≡ Some a → end_in (locksteps q) player ≡ Some b → a ≡ b
-  -- each has the commands of the tics that it ran, up to their player's end, and at most ten that it has not
-  -- run
+  -- each has the commands of the tics that it ran, up to their player's end, and at most twice the window
+  -- that it has not run
   pub run : (p q : ℕ) → p < limits.players → q < limits.players
       → min (locksteps p).ran (unwrap_or (end_in (locksteps q) q) (locksteps p).ran) ≤ got (locksteps p) q
   pub unread : (p q : ℕ) → p < limits.players → q < limits.players
-      → got (locksteps p) q ≤ (locksteps p).ran + 10
-  -- none that its player did not make, and at most ten of those are missing at one that has not ended
+      → got (locksteps p) q ≤ (locksteps p).ran + (limits.ahead + limits.ahead)
+  -- none that its player did not make, and at most twice the window of those are missing at one that has not
+  -- ended
   pub held : (p q : ℕ) → p < limits.players → q < limits.players → got (locksteps p) q ≤ made (locksteps q)
   pub unheard : (p q : ℕ) → p < limits.players → q < limits.players → is_ended (locksteps p).phase ≡ false
-      → made (locksteps q) ≤ got (locksteps p) q + 10
-  -- no player is more than five commands ahead of the tics run, nor of another player who has not ended
-  pub ahead : (p : ℕ) → p < limits.players → made (locksteps p) ≤ (locksteps p).ran + 5
+      → made (locksteps q) ≤ got (locksteps p) q + (limits.ahead + limits.ahead)
+  -- no player is further ahead than the window, of the tics run and of another player who has not ended
+  pub ahead : (p : ℕ) → p < limits.players → made (locksteps p) ≤ (locksteps p).ran + limits.ahead
   pub close : (p q : ℕ) → p < limits.players → q < limits.players → is_ended (locksteps q).phase ≡ false
-      → made (locksteps p) ≤ made (locksteps q) + 5
+      → made (locksteps p) ≤ made (locksteps q) + limits.ahead
   -- nor are more tics run than may be, where a demo's room is not above that
   pub most : (p : ℕ) → p < limits.players → limits.capacity ≤ tic_limit → (locksteps p).ran ≤ tic_limit

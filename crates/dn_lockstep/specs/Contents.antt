@@ -19,6 +19,9 @@ pub record Contents : Type 0 where
   pub extra : Bool
   -- how many tics fit into the demo
   pub capacity : ℕ
+  -- how many commands it may be ahead of the tics that it ran, and how many of each player it keeps
+  pub ahead : ℕ
+  pub places : ℕ
   pub phase : Phase
   pub played : Bool
   pub settings : Option Settings
@@ -41,6 +44,8 @@ contents lockstep =
       me = lockstep.me;
       extra = lockstep.extra;
       capacity = lockstep.capacity;
+      ahead = lockstep.ahead;
+      places = lockstep.places;
       phase = lockstep.phase;
       played = lockstep.played;
       settings = lockstep.settings;
@@ -53,9 +58,17 @@ contents lockstep =
       demo = lockstep.demo;
     }
 
--- the limits of its game
+-- the limits of its game: a packet carries twelve commands at most
 abbrev pub limits_of : Contents → Limits
-limits_of n = record { players = n.players; extra = n.extra; capacity = n.capacity }
+limits_of n =
+    record {
+      players = n.players;
+      extra = n.extra;
+      capacity = n.capacity;
+      ahead = n.ahead;
+      places = n.places;
+      most = 12;
+    }
 
 -- whose a lockstep is, and of what game
 pub record Whose : Type 0 where

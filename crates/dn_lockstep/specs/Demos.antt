@@ -4,7 +4,6 @@ use Rattle.std.specs.List.{range_with_len, take_while}
 use Rattle.dn_tic.specs.Command.{used}
 use Rattle.dn_tic.specs.Inputs.{made_by}
 use Rattle.dn_tic.specs.declared.command.Move.{Move}
-use Rattle.dn_tic.specs.declared.input.Input.{Input}
 use Rattle.dn_setup.specs.Settings.{Settings}
 use Rattle.dn_setup.specs.Starts.{start_of}
 use Rattle.dn_demo.specs.Layout.{long_tics, command_size, spell}
@@ -13,30 +12,30 @@ use Rattle.dn_demo.specs.Reading.{Recording, written_demo}
 use Rattle.dn_demo.specs.Text.{header_size, demo_text}
 use Rattle.dn_machine.specs.Node.{is_ended, is_whole}
 use Rattle.dn_machine.specs.Promise.{IsPrefixOf}
-use Rattle.dn_machine.specs.Worlds.{row_by_inputs}
+use Rattle.dn_machine.specs.Worlds.{Inputs, row_by_inputs}
 use Rattle.dn_lockstep.specs.Contents.{Contents}
 use Rattle.dn_lockstep.specs.Rows.{seats_of}
 use Rattle.dn_lockstep.specs.Told.{HasStarted}
 
 -- the move that a player's inputs make for a tic
-abbrev pub move_made : (ℕ → List Input) → (player tic : ℕ) → Move
+abbrev pub move_made : Inputs → (player tic : ℕ) → Move
 move_made inputs player tic = used (made_by (take (tic + 1) (inputs player)) (pos 0))
 
 -- the rows of the moves that these inputs make, one for each of the first `tics` tics
-abbrev pub rows_to : ℕ → (ℕ → List Input) → ℕ → List (List (Option Move))
+abbrev pub rows_to : ℕ → Inputs → ℕ → List (List (Option Move))
 rows_to players inputs tics = map (row_by_inputs players inputs) (range_with_len 0 tics)
 
 -- and those of them before the first that lacks a player
-abbrev pub rows_made : ℕ → (ℕ → List Input) → ℕ → List (List (Option Move))
+abbrev pub rows_made : ℕ → Inputs → ℕ → List (List (Option Move))
 rows_made players inputs tics = take_while (is_whole players) (rows_to players inputs tics)
 
 -- what the demo of those rows is read as, where player `view` recorded it
-abbrev pub demo_made : (players : ℕ) → Settings → (ℕ → List Input) → (view tics : ℕ) → Recording
+abbrev pub demo_made : (players : ℕ) → Settings → Inputs → (view tics : ℕ) → Recording
 demo_made players settings inputs view tics =
     written_demo long_tics (start_of settings) view (seats_of players) (rows_made players inputs tics)
 
 -- a demo is closed once its lockstep has run a tic without some player, or has ended
-abbrev pub is_closed : ℕ → (ℕ → List Input) → Contents → Bool
+abbrev pub is_closed : ℕ → Inputs → Contents → Bool
 is_closed players inputs n = is_ended n.phase || nat_lt (length (rows_made players inputs n.ran)) n.ran
 
 -- how many tics a demo has: a tic has a command of each player
@@ -58,7 +57,7 @@ abbrev pub header_but_view : Contents → List ℕ
 header_but_view n = take 8 n.demo.bytes ++ take 4 (drop 9 n.demo.bytes)
 
 -- the demos agree, on a game of these settings in which the players' builds took these inputs
-pub record DemosAgree (players : ℕ) (settings : Settings) (inputs : ℕ → List Input)
+pub record DemosAgree (players : ℕ) (settings : Settings) (inputs : Inputs)
     (locksteps : ℕ → Contents) : Type 0 where
   -- whoever has started has as its demo the text of its start, its own number as view, its players, and the
   -- rows that the inputs make, for the tics that it ran before the first that lacks a player; the demo is

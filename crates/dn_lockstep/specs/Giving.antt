@@ -1,5 +1,5 @@
 -- What a node must know to give a packet.
-use Rattle.std.specs.Prelude.{◌≡◌, ◌≢◌, ◌<◌, ◌≤◌, ℕ, ◌+◌, ◌%◌, ◌==◌, nat_lt, Bool, true, false, not, ◌&&◌, List, Option, Some, None}
+use Rattle.std.specs.Prelude.{◌≡◌, ◌≢◌, ◌<◌, ◌≤◌, ℕ, ◌+◌, ◌%◌, ◌==◌, nat_lt, Bool, true, false, not, ◌&&◌, List, take, Option, Some, None}
 use Rattle.std.specs.Option.{option_map}
 use Rattle.dn_ring.specs.Ring.{since}
 use Rattle.dn_packet.specs.declared.packet.Packet.{Packet}
@@ -13,13 +13,14 @@ use Rattle.dn_lockstep.specs.Rings.{count_of}
 use Rattle.dn_lockstep.specs.Sent.{sent_to, bytes_of}
 use Rattle.dn_lockstep.specs.Steps.{Steps}
 
--- the commands from its start on are all kept
+-- its commands are all kept, and a packet carries them
 pub record Reaches (n : Contents) (aim : Aim) : Type 0 where
   pub flags : aim.flags < 16
-  pub low : aim.start ≤ count_of n.rings n.me
-  pub high : count_of n.rings n.me ≤ aim.start + 12
+  pub low : aim.start + aim.count ≤ count_of n.rings n.me
+  pub high : count_of n.rings n.me ≤ aim.start + 32
+  pub few : aim.count ≤ 12
 
--- the packet of these numbers, with the own commands from its start on
+-- the packet of these numbers, with as many of the own commands from its start on
 abbrev pub packet_of_aim : Contents → Aim → Packet
 packet_of_aim n aim =
     record {
@@ -27,7 +28,7 @@ packet_of_aim n aim =
       ask = request_byte aim.ask;
       start = aim.start % 256;
       player = n.me;
-      cmds = record { items = since (n.rings n.me) aim.start };
+      cmds = record { items = take aim.count (since (n.rings n.me) aim.start) };
     }
 
 -- who can be given a packet: another player

@@ -16,7 +16,7 @@ use Rattle.dn_lockstep.specs.Contents.{Contents, whose}
 use Rattle.dn_lockstep.specs.Near.{IsFair}
 use Rattle.dn_lockstep.specs.Received.{received, IsTold}
 use Rattle.dn_lockstep.specs.Represents.{Represents}
-use Rattle.dn_lockstep.specs.Rings.{count_of}
+use Rattle.dn_lockstep.specs.Told.{made}
 
 -- of a lockstep, or of a node that holds one: whatever the bytes are, they are heard as what they are read as
 pub record HearsAnyIn {C : Type 0} (Shows : Limits → ℕ → C → Node → Type 0) (locked : C → Contents)
@@ -33,7 +33,7 @@ abbrev pub HearsNearIn : {C : Type 0} → (Limits → ℕ → C → Node → Typ
 HearsNearIn {C} Shows locked from bytes old new heard =
     (flight : Flight) → IsFair flight → bytes ≡ text (packet_of flight) → flight.from ≡ from
     → from < (locked old).players → from ≢ (locked old).me
-    → is_near (count_of (locked old).rings (locked old).me) flight ≡ true
+    → is_near (made (locked old)) flight ≡ true
     → call.Steps Shows (λ n. whose (locked n)) old new (λ limits me m. on_packet limits me m flight)
     (λ answer. heard ≡ answer)
 

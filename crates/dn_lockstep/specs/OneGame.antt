@@ -7,7 +7,7 @@ use Rattle.dn_setup.specs.Starts.{start_of}
 use Rattle.dn_machine.specs.declared.events.Event.{Event}
 use Rattle.dn_machine.specs.Flight.{Flight}
 use Rattle.dn_machine.specs.Game.{Game}
-use Rattle.dn_machine.specs.Limits.{Limits}
+use Rattle.dn_machine.specs.Limits.{Limits, IsWindow}
 use Rattle.dn_machine.specs.Runs.{Runs}
 use Rattle.dn_machine.specs.Worlds.{Rules}
 use Rattle.dn_lockstep.specs.Contents.{Contents}
@@ -34,6 +34,7 @@ world_told limits settings rows =
 -- taken, these packets given, and these rows told
 pub record AreOneGame (marking : Marking) (limits : Limits) (settings : Settings) (session : Session) : Type 0
   where
+    pub window : IsWindow limits
     pub events : List Event
     pub last : Game
     pub runs : Runs (beside marking limits) settings events last

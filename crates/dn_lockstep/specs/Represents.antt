@@ -4,7 +4,7 @@ use Rattle.dn_tic.specs.declared.input.Input.{Input}
 use Rattle.dn_tic.specs.Inputs.{hold_of}
 use Rattle.dn_tic.specs.declared.command.Move.{Move}
 use Rattle.dn_tic.specs.declared.command.TicCmd.{TicCmd}
-use Rattle.dn_ring.specs.Ring.{Ring, ring_of}
+use Rattle.dn_ring.specs.Ring.{Ring}
 use Rattle.dn_setup.specs.Settings.{Settings}
 use Rattle.dn_setup.specs.Starts.{start_of}
 use Rattle.dn_setup.specs.Gathered.{is_noted, is_peer}
@@ -18,6 +18,7 @@ use Rattle.dn_machine.specs.Node as machine
 use Rattle.dn_machine.specs.Node.{own_mark, ends_of, is_ended, demo_rows}
 use Rattle.dn_machine.specs.declared.peer.Peer.{Peer}
 use Rattle.dn_lockstep.specs.Contents.{Contents}
+use Rattle.dn_lockstep.specs.Rings.{ring_of}
 use Rattle.dn_lockstep.specs.Rows.{seats_of}
 
 -- the demo is closed once a row that lacks a player was run, or the node has ended
@@ -41,12 +42,15 @@ CanBeWritten players rows = AreWritable (seats_of players) rows
 
 -- whose it is, and of what game
 pub record BelongsTo (limits : Limits) (me count own : ℕ) (repeats : Bool)
-    (tics gathered : ℕ) : Type 0 where
+    (tics gathered lead room : ℕ) : Type 0 where
   pub players : count ≡ limits.players
   pub number : own ≡ me
   pub extra : repeats ≡ limits.extra
   pub capacity : tics ≡ limits.capacity
   pub gathers : gathered ≡ limits.players
+  pub ahead : lead ≡ limits.ahead
+  pub places : room ≡ limits.places
+  pub most : 12 ≡ limits.most
 
 -- where it stands, and where the machine's does
 pub record StandsAs (here there : Phase) (has_played played_there : Bool)
@@ -60,7 +64,7 @@ pub record HasCommands (players turned : ℕ) (kept : ℕ → Ring) (inputs : Li
     (held : ℕ → List TicCmd) : Type 0 where
   -- the turn hold is that of the inputs of its builds
   pub hold : turned ≡ hold_of inputs
-  -- each ring counts the commands held of its player and keeps the last twelve
+  -- each ring counts the commands held of its player and keeps the last thirty-two
   pub rings : (p : ℕ) → p < players → kept p ≡ ring_of (held p)
 
 -- what it keeps of its peers
@@ -96,6 +100,7 @@ pub record HasRecorded (players : ℕ) (recorded : Recorded) (played : Bool) (te
 -- the parts; each speaks only of the fields that it names, so a step that does not change those keeps it
 pub record Represents (limits : Limits) (me : ℕ) (n : Contents) (m : machine.Node) : Type 0 where
   pub whose : BelongsTo limits me n.players n.me n.extra n.capacity n.gather.players
+      n.ahead n.places
   pub stands : StandsAs n.phase m.phase n.played m.played n.settings m.settings
   pub commands : HasCommands limits.players n.hold n.rings m.inputs m.held
   pub peers : KnowsPeers limits.players n.peers m.peers (is_noted n.gather) m.noted

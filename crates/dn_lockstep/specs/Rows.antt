@@ -5,11 +5,12 @@ use Rattle.std.specs.Ordering.{int_eq}
 use Rattle.dn_tic.specs.declared.command.TicCmd.{TicCmd}
 use Rattle.dn_tic.specs.declared.command.Move.{Move}
 use Rattle.dn_tic.specs.Command.{used}
-use Rattle.dn_ring.specs.Ring.{Ring, get}
+use Rattle.dn_ring.specs.Ring.{Ring}
 use Rattle.dn_machine.specs.Node.{lowest}
 use Rattle.dn_machine.specs.Running.{is_over}
 use Rattle.dn_machine.specs.declared.peer.Peer.{Peer}
 use Rattle.dn_machine.specs.Limits.{four}
+use Rattle.dn_lockstep.specs.Rings.{get}
 
 -- which seats this many players take
 abbrev pub seats_of : ℕ → List Bool

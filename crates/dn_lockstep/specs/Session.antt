@@ -5,12 +5,13 @@ use Rattle.dn_tic.specs.declared.input.Input.{Input}
 use Rattle.dn_machine.specs.declared.answers.Made.{Made}
 use Rattle.dn_machine.specs.Flight.{Flight}
 use Rattle.dn_machine.specs.Node.{put}
+use Rattle.dn_machine.specs.Worlds.{Inputs}
 use Rattle.dn_lockstep.specs.Contents.{Contents}
 
 -- so far
 pub record Session : Type 0 where
   -- by player, the inputs of the builds that made a command
-  pub inputs : ℕ → List Input
+  pub inputs : Inputs
   -- the packets that were given
   pub given : List Flight
   -- by player, the rows that were told

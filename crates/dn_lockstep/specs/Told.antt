@@ -1,9 +1,8 @@
 -- What a lockstep tells of itself.
-use Rattle.std.specs.Prelude.{◌≢◌, ℕ, [], Option, None, nat_lt, if◌then◌else◌}
+use Rattle.std.specs.Prelude.{◌≢◌, ℕ, ◌-◌, ◌&&◌, [], Option, None, nat_lt, nat_le, if◌then◌else◌}
 use Rattle.dn_tic.specs.declared.command.TicCmd.{TicCmd}
-use Rattle.dn_ring.specs.Ring.{get}
 use Rattle.dn_lockstep.specs.Contents.{Contents}
-use Rattle.dn_lockstep.specs.Rings.{count_of}
+use Rattle.dn_lockstep.specs.Rings.{count_of, get}
 
 -- a lockstep that has started has a demo
 abbrev pub HasStarted : Contents → Type 0
@@ -16,6 +15,9 @@ got n player = count_of n.rings player
 abbrev pub made : Contents → ℕ
 made n = got n n.me
 
--- a player's command for a tic, with its mark and its letter of chat: one of the last twelve that it has
+-- a player's command for a tic, with its mark and its letter of chat: one of the last that it keeps
 abbrev pub command_told : Contents → ℕ → ℕ → Option TicCmd
-command_told n player tic = if nat_lt player n.players then get (n.rings player) tic else None
+command_told n player tic =
+    if nat_lt player n.players && nat_le (count_of n.rings player - tic) n.places
+    then get (n.rings player) tic
+    else None

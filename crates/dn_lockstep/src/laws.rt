@@ -1,6 +1,6 @@
 //! What holds of the locksteps of every game, whatever worlds their callers step.
 
-ghost use Rattle.std.specs.Prelude.{◌≡◌, ◌<◌, ℕ, ℤ, Bool, List, [], true, false, Option, Some, Ok, IfSome, ◌⊎◌, get_or, length, pos, slice_get};
+ghost use Rattle.std.specs.Prelude.{◌≡◌, ◌<◌, ◌≤◌, ℕ, ℤ, Bool, List, true, false, Option, Some, Ok, IfSome, ◌⊎◌, get_or, length, pos, slice_get};
 ghost use Rattle.std.specs.Option.{option_map};
 ghost use Rattle.dn_machine.specs.Drops as drops;
 ghost use Rattle.dn_tic.specs.declared.command.Move.{Move};
@@ -17,15 +17,18 @@ ghost use Rattle.dn_machine.specs.declared.answers.Ran.{Ran};
 ghost use Rattle.dn_machine.specs.Building.{on_build};
 ghost use Rattle.dn_machine.specs.Flight.{Flight, is_near};
 ghost use Rattle.dn_machine.specs.Game.{fresh};
-ghost use Rattle.dn_machine.specs.Limits.{Limits};
+ghost use Rattle.dn_machine.specs.Limits.{Limits, IsWindow};
+ghost use Rattle.dn_machine.specs.Progress.{IsSwift, GoesInto};
+ghost use Rattle.dn_lockstep.specs.declared.config.Config.{Config};
+ghost use Rattle.dn_lockstep.specs.Opening.{CanBeAhead, FitsPackets, limits_in, limits_within};
 ghost use Rattle.dn_machine.specs.Node as machine;
 ghost use Rattle.dn_machine.specs.Node.{demo_rows};
 ghost use Rattle.dn_machine.specs.Promise.{Agree, Fits, Steady};
-ghost use Rattle.dn_machine.specs.Running.{on_run, on_quit};
+ghost use Rattle.dn_machine.specs.Running.{is_over, on_run, on_quit};
 ghost use Rattle.dn_machine.specs.Worlds.{command};
 ghost use Rattle.dn_tic.specs.declared.command.TicCmd.{TicCmd};
-ghost use Rattle.dn_lockstep.specs.Told.{command_told};
-ghost use Rattle.dn_lockstep.specs.Contents.{Contents};
+ghost use Rattle.dn_lockstep.specs.Told.{command_told, made};
+ghost use Rattle.dn_lockstep.specs.Contents.{Contents, end_in};
 ghost use Rattle.dn_lockstep.specs.Hearing.{HearsNear};
 ghost use Rattle.dn_lockstep.specs.Marking.{Marking};
 ghost use Rattle.dn_lockstep.specs.Near.{IsFair};
@@ -33,17 +36,33 @@ ghost use Rattle.dn_lockstep.specs.OneGame.{beside, world_told, AreOneGame, IsGi
 ghost use Rattle.dn_lockstep.specs.Agreed.{AreAgreed};
 ghost use Rattle.dn_lockstep.specs.Demos.{rows_to};
 ghost use Rattle.dn_lockstep.specs.Represents.{Represents};
-ghost use Rattle.dn_lockstep.specs.Rings.{count_of};
-ghost use Rattle.dn_lockstep.specs.Rows.{is_gone, seats_of};
-ghost use Rattle.dn_lockstep.specs.Runs.{marks_in, RunsBy};
+ghost use Rattle.dn_lockstep.specs.Rows.{seats_of};
+ghost use Rattle.dn_lockstep.specs.Runs.{RunsBy};
 ghost use Rattle.dn_lockstep.specs.Sent.{sent_to, bytes_of};
 ghost use Rattle.dn_lockstep.specs.Session.{Session, opening_session, with_lockstep, after_build, after_packet, after_run};
 ghost use Rattle.dn_lockstep.specs.Steps.{Steps, Tells};
 
+/// In every window that a lockstep is made with no command is lost that is still needed, and no game deadlocks: all
+/// that a lockstep keeps goes into one packet up to six ahead, into two up to eleven, or twelve where no packet
+/// repeats a command, and else into three. A packet carries twelve commands at most. Five ahead is the window of a
+/// lockstep for which none is asked.
+pub fn windows_hold()
+    ensures window { (config : Config) (ahead : ℕ) → CanBeAhead ahead → IsWindow (limits_within config ahead) }
+    ensures swift { (config : Config) (ahead : ℕ) → CanBeAhead ahead → IsSwift (limits_within config ahead) }
+    ensures one { (config : Config) (ahead : ℕ) → CanBeAhead ahead → ahead ≤ 6
+        → GoesInto (limits_within config ahead) 1 }
+    ensures two { (config : Config) (ahead : ℕ) → CanBeAhead ahead → (ahead ≤ 11) ⊎ (config.extra ≡ false)
+        → GoesInto (limits_within config ahead) 2 }
+    ensures three { (config : Config) (ahead : ℕ) → CanBeAhead ahead → GoesInto (limits_within config ahead) 3 }
+    ensures packets { (config : Config) (ahead : ℕ) → FitsPackets (limits_within config ahead) }
+    ensures vanilla { (config : Config) → limits_within config 5 ≡ limits_in config }
+{}
+
 /// New locksteps of the same limits, one for each player, of which player 0's has these settings, are those of
-/// one game.
+/// one game. The limits are those of a window, as `windows_hold` says of every lockstep's.
 pub fn one_game_opens()
     ensures { (marking : Marking) (limits : Limits) (settings : Settings) (locksteps : ℕ → Contents)
+        → IsWindow limits
         → ((player : ℕ) → player < limits.players
         → Represents limits player (locksteps player) (fresh settings player))
         → AreOneGame marking limits settings (opening_session locksteps) }
@@ -51,13 +70,14 @@ pub fn one_game_opens()
 
 /// And so they stay after each call on one of them whose caller keeps the duty: it hands in datagrams as they
 /// were given, to whom they were given, from no more than 64 tics away, and at a run the marks of a world
-/// that moved on by the rows that it was told. Each clause takes what the call's own contract says. `kept` is for a call that changes
-/// nothing: a datagram that is dropped, whatever its bytes are, a run that waits, a build that is full.
+/// that moved on by the rows that it was told. Each clause takes what the call's own contract says. `kept` is for
+/// a call that changes nothing: a datagram that is dropped, whatever its bytes are, a run that waits, a build
+/// that is full.
 pub fn one_game_goes_on()
     ensures built { (marking : Marking) (limits : Limits) (settings : Settings) (session : Session) (player : ℕ)
         (new : Contents) (input : Input) (made : Made)
         → AreOneGame marking limits settings session → player < limits.players
-        → Steps (session.locksteps player) new (λ limits me m. on_build me m input) (λ answer. made ≡ answer)
+        → Steps (session.locksteps player) new (λ limits me m. on_build limits me m input) (λ answer. made ≡ answer)
         → AreOneGame marking limits settings (after_build session player input made new) }
     ensures gave { (marking : Marking) (limits : Limits) (settings : Settings) (session : Session)
         (player to : ℕ) (new : Contents) (bytes : Option (List ℕ))
@@ -70,14 +90,14 @@ pub fn one_game_goes_on()
     ensures heard { (marking : Marking) (limits : Limits) (settings : Settings) (session : Session) (which : ℕ)
         (flight : Flight) (new : Contents) (heard : Heard)
         → AreOneGame marking limits settings session → slice_get session.given which ≡ Some flight
-        → is_near (count_of (session.locksteps flight.to).rings flight.to) flight ≡ true
+        → is_near (made (session.locksteps flight.to)) flight ≡ true
         → HearsNear flight.from (bytes_of flight) (session.locksteps flight.to) new heard
         → AreOneGame marking limits settings (with_lockstep session flight.to new) }
     ensures ran { (marking : Marking) (limits : Limits) (settings : Settings) (session : Session) (player : ℕ)
         (new : Contents) (marks : List ℤ) (ran : Ran) (row : Option (List (Option Move)))
         → AreOneGame marking limits settings session → player < limits.players
         → ((tic : ℕ) (other : ℕ) → ran ≡ Ran.Ran tic → other < limits.players
-        → is_gone (session.locksteps player).peers (session.locksteps player).ran other ≡ false
+        → is_over (end_in (session.locksteps player) other) (session.locksteps player).ran ≡ false
         → get_or marks other (pos 0) ≡ marking (world_told limits settings (session.told player)) other)
         → RunsBy marks (session.locksteps player) new (λ limits m marks. on_run limits m marks)
         (λ answer told. (ran ≡ answer) × (row ≡ told))
@@ -127,7 +147,7 @@ pub fn given_packets_are_heard()
         (flight : Flight) (new : Contents) (heard : Heard) (number : ℕ)
         → AreOneGame marking limits settings session
         → slice_get session.given which ≡ Some flight
-        → is_near (count_of (session.locksteps flight.to).rings flight.to) flight ≡ true
+        → is_near (made (session.locksteps flight.to)) flight ≡ true
         → HearsNear flight.from (bytes_of flight) (session.locksteps flight.to) new heard
         → heard ≡ Heard.Dropped number → (number ≡ drops.out_of_place) ⊎ (number ≡ drops.not_playing) }
 {}

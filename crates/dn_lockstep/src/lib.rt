@@ -23,10 +23,9 @@ pub use config::{Config, NodeFault};
 pub use dn_machine::{Cause, Heard, Made, Phase, Ran};
 pub use laws::{
     ended_demos_are_read, given_packets_are_heard, locksteps_agree, one_game_goes_on,
-    one_game_opens,
+    one_game_opens, windows_hold,
 };
 pub use lockstep::Lockstep;
 pub use lockstep::aiming::Aim;
-pub use lockstep::building::MOST_AHEAD;
-pub use lockstep::opening::is_game;
+pub use lockstep::opening::{MOST_AHEAD, WIDEST_AHEAD, is_game};
 pub use near::are_tics_near;

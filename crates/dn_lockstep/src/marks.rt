@@ -4,9 +4,11 @@ ghost use Rattle.std.specs.Prelude.{◌≡◌, ◌≢◌, ◌<◌, ◌≤◌, �
 ghost use Rattle.dn_machine.specs.Node.{lacks};
 ghost use Rattle.dn_lockstep.specs.Marks.{slot};
 
-use crate::rings::PLACES;
 use dn_tic::Move;
 use std::marker::Model;
+
+/// How many marks of a player are kept: a command carries that of twelve tics before (`d_net.h`, BACKUPTICS).
+const PLACES: u32 = 12;
 
 /// A player's marks, by the remainders of tics.
 #[derive(Clone, Copy, Debug)]

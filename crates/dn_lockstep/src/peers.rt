@@ -5,7 +5,6 @@ ghost use Rattle.dn_machine.specs.Node.{no_peer};
 ghost use Rattle.dn_machine.specs.Hearing.{after_request, after_exit, is_strange_end};
 ghost use Rattle.dn_lockstep.specs.Peers.{peer_at};
 
-use crate::rings::PLACES;
 use dn_machine::Peer;
 use std::marker::Model;
 
@@ -26,11 +25,11 @@ fn no_peer() -> Peer
 
 /// What a packet with this request, if it has one, makes of the peer. It is written in place: a peer that is
 /// moved costs more.
-fn ask(peer: &mut Peer, made: u32, request: Option<u32>)
-    ensures { peer.new ≡ after_request made peer.old request }
+fn ask(peer: &mut Peer, places: u32, made: u32, request: Option<u32>)
+    ensures { peer.new ≡ after_request places made peer.old request }
 {
     match request {
-        Some(tic) if peer.pause == 0 && tic <= made && made.saturating_sub(PLACES) <= tic => {
+        Some(tic) if peer.pause == 0 && tic <= made && made.saturating_sub(places) <= tic => {
             peer.resend = tic;
             peer.pause = PAUSE;
         }
@@ -82,12 +81,12 @@ impl Peers {
     }
 
     /// Keeps what a packet with this request, if it has one, makes of the peer.
-    pub(crate) fn ask(&mut self, player: u8, made: u32, request: Option<u32>)
+    pub(crate) fn ask(&mut self, player: u8, places: u32, made: u32, request: Option<u32>)
         requires { player < 4 }
-        ensures put { peer_at self.new player ≡ after_request made (peer_at self.old player) request }
+        ensures put { peer_at self.new player ≡ after_request places made (peer_at self.old player) request }
         ensures others { (p : ℕ) → p ≢ player → peer_at self.new p ≡ peer_at self.old p }
     {
-        ask(&mut self.peers[usize::from(player)], made, request);
+        ask(&mut self.peers[usize::from(player)], places, made, request);
     }
 
     /// Keeps what a packet that ends at this tic makes of the peer: the tic is its end if that is an EXIT

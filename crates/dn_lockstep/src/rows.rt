@@ -57,7 +57,7 @@ pub(crate) fn awaited(rings: &Rings, peers: &Peers, players: u8, tic: u32) -> Op
 pub(crate) fn mark_of(rings: &Rings, player: u8, tic: u32) -> i16
     requires place { player < 4 }
     requires there { tic < (ring_at rings.now player).count }
-    requires kept { (ring_at rings.now player).count ≤ tic + 12 }
+    requires kept { (ring_at rings.now player).count ≤ tic + 32 }
     ensures { result ≡ mark_at (ring_at rings.now) tic player }
 {
     rings.at(player, tic).mark
@@ -67,7 +67,7 @@ pub(crate) fn mark_of(rings: &Rings, player: u8, tic: u32) -> i16
 fn differing(rings: &Rings, peers: &Peers, marks: &Marks, players: u8, tic: u32) -> Option<u8>
     requires few { players ≤ 4 }
     requires there { lowest players (is_missing (ring_at rings.now) (peer_at peers.now) tic) ≡ None }
-    requires kept { (p : ℕ) → p < players → (ring_at rings.now p).count ≤ tic + 12 }
+    requires kept { (p : ℕ) → p < players → (ring_at rings.now p).count ≤ tic + 32 }
     ensures below { IfSome result (λ p. p < players) }
     ensures there { IfSome result (λ p. tic < (ring_at rings.now p).count) }
     ensures lowest { result ≡ lowest players
@@ -92,7 +92,7 @@ pub(crate) fn first_off(
 ) -> Option<u8>
     requires few { players ≤ 4 }
     requires there { lowest players (is_missing (ring_at rings.now) (peer_at peers.now) tic) ≡ None }
-    requires kept { (p : ℕ) → p < players → (ring_at rings.now p).count ≤ tic + 12 }
+    requires kept { (p : ℕ) → p < players → (ring_at rings.now p).count ≤ tic + 32 }
     ensures below { IfSome result (λ p. p < players) }
     ensures there { IfSome result (λ p. tic < (ring_at rings.now p).count) }
     ensures lowest { result ≡ (if nat_lt 12 tic
@@ -114,7 +114,7 @@ pub(crate) fn fill_row(
 ) -> bool
     requires few { players ≤ 4 }
     requires there { lowest players (is_missing (ring_at rings.now) (peer_at peers.now) tic) ≡ None }
-    requires kept { (p : ℕ) → p < players → (ring_at rings.now p).count ≤ tic + 12 }
+    requires kept { (p : ℕ) → p < players → (ring_at rings.now p).count ≤ tic + 32 }
     requires empty { row.old ≡ None ∷ None ∷ None ∷ None ∷ [] }
     ensures row { row.new ≡ four (move_held (ring_at rings.now) (peer_at peers.now) players tic) }
     ensures whole { result ≡ is_whole players row.new }

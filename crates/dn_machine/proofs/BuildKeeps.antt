@@ -26,7 +26,8 @@ module _ {S : Type 0} (rules : Rules S) (settings : Settings) (history : History
     (from_inputs : ComesFromInputs rules settings history flights) where
   -- a build, by a player who has not left
   module _ (me : ℕ) (mine : me < rules.players) (stays : history.left me ≡ false) (input : Input)
-      (room : length (history.inputs me) < length (history.rows me) + 5) where
+      (room : length (history.inputs me) < length (history.rows me) + rules.ahead)
+      (back : rules.ahead ≤ 12) where
     -- the first inputs stay the first
     pub inputs_kept : (p k : ℕ) → k ≤ length (history.inputs me)
         → take k (history.inputs p) ≡ take k (put history.inputs me (history.inputs me ++ input ∷ []) p)
@@ -171,7 +172,7 @@ module _ {S : Type 0} (rules : Rules S) (settings : Settings) (game : Game)
 
   -- the command that a build makes is the true one
   built_true : (input : Input) → (game.nodes i).phase ≡ Playing
-      → length (inputs_now i) < length (game.nodes i).rows + 5 →
+      → length (inputs_now i) < length (game.nodes i).rows + rules.ahead →
       made_by ((game.nodes i).inputs ++ input ∷ []) (own_mark (game.nodes i) i (made i (game.nodes i)))
       ≡ command rules settings (put inputs_now i ((game.nodes i).inputs ++ input ∷ [])) i
       (length (inputs_now i))
@@ -181,11 +182,12 @@ module _ {S : Type 0} (rules : Rules S) (settings : Settings) (game : Game)
       let t : ℕ = length (inputs_now i) in
       let now : List Input = (game.nodes i).inputs ++ input ∷ [] in
       let count = kept.from_inputs.counted i mine in
+      let back_twelve = kept.window.back in
       let own = Placing.own_mark_kept rules settings game kept i mine i (made i (game.nodes i)) mine
       (omega arith) (omega arith) in
       let back = back_same rules settings inputs_now more t
       (λ p k l m. inputs_kept rules settings (history_of game) game.flights kept.from_inputs i mine
-      (Placing.playing_stays rules settings game kept i mine e) input room p k (omega arith)) in
+      (Placing.playing_stays rules settings game kept i mine e) input room back_twelve p k (omega arith)) in
       let all : take (t + 1) (more i) ≡ now = ap (take (t + 1)) (put_at inputs_now i i now refl)
       ∙ take_all (t + 1) now (let c = length_push (game.nodes i).inputs input in omega arith) in
       let mark : own_mark (game.nodes i) i (made i (game.nodes i))
@@ -224,13 +226,13 @@ module _ {S : Type 0} (rules : Rules S) (settings : Settings) (game : Game)
       ]
 
   pub builds : (input : Input)
-      → IsKept rules settings (with_node game i (on_build i (game.nodes i) input).0)
+      → IsKept rules settings (with_node game i (on_build rules.limits i (game.nodes i) input).0)
   builds input = build_cases rules.limits i (game.nodes i)
       (λ (new : Node). IsKept rules settings (with_node game i new)) input
       (λ full. Placing.same_node rules settings game kept i mine)
       (λ plays free.
       let count = kept.from_inputs.counted i mine in
-      let room : length (inputs_now i) < length (game.nodes i).rows + 5 = omega arith in
+      let room : length (inputs_now i) < length (game.nodes i).rows + rules.ahead = omega arith in
       let node : Node = built rules.limits i (game.nodes i) input in
       let new : TicCmd = made_by node.inputs (own_mark (game.nodes i) i (made i (game.nodes i))) in
       let sound = kept.sound i mine in
@@ -241,7 +243,7 @@ module _ {S : Type 0} (rules : Rules S) (settings : Settings) (game : Game)
       (view_kept ends_of game.nodes i node refl)
       (Placing.left_placed rules settings game kept i mine node (λ h. h))
       (lists_built rules settings (history_of game) game.flights kept.from_inputs i mine
-      (Placing.playing_stays rules settings game kept i mine plays) input room new
+      (Placing.playing_stays rules settings game kept i mine plays) input room kept.window.back new
       (built_true input plays room))
       (record {
         played = sound.played;

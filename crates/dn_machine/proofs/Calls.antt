@@ -12,10 +12,10 @@ use Rattle.dn_machine.specs.declared.answers.Heard.{Heard}
 use Rattle.dn_machine.specs.declared.peer.Peer.{Peer}
 use Rattle.dn_machine.specs.Drops as drops
 use Rattle.dn_machine.specs.Limits.{Limits}
-use Rattle.dn_machine.specs.Flight.{Kind, SetUp, Play, Exit, Flight, is_exit, end_of}
+use Rattle.dn_machine.specs.Flight.{Kind, SetUp, Play, Flight, is_exit, end_of}
 use Rattle.dn_machine.specs.Node.{Node, put, with_peer, ends_of, got, made, ran, held_at, own_mark, lowest, is_ended, has_left}
 use Rattle.dn_machine.specs.Building.{on_build}
-use Rattle.dn_machine.specs.Sending.{set_up_flight, commands_flight, request_to, after_sent, on_send}
+use Rattle.dn_machine.specs.Sending.{set_up_flight, left_kind, commands_flight, request_to, after_sent, on_send}
 use Rattle.dn_machine.specs.Hearing.{started, after_request, after_flight, is_strange_end, left_or, on_commands, on_packet}
 use Rattle.dn_machine.specs.Running.{marks_kept, full_at, is_awaited, first_off, row_held, on_run, on_quit}
 use Rattle.dn_tic.specs.declared.input.Input.{Input}
@@ -37,9 +37,9 @@ module _ (limits : Limits) (me : ℕ) (node : Node) where
   }
 
   pub build_cases : (P : Node → Type 0) (input : Input)
-      → ((node.phase ≡ Playing → ran node + 5 ≤ made me node) → P node)
-      → (node.phase ≡ Playing → made me node < ran node + 5 → P (built input))
-      → P (on_build me node input).0
+      → ((node.phase ≡ Playing → ran node + limits.ahead ≤ made me node) → P node)
+      → (node.phase ≡ Playing → made me node < ran node + limits.ahead → P (built input))
+      → P (on_build limits me node input).0
   unfolding on_build
   build_cases P input same builds = grind arith
 
@@ -49,7 +49,7 @@ module _ (limits : Limits) (me : ℕ) (node : Node) where
       → (me ≢ to → node.phase ≡ Playing
       → P (after_sent limits me node to, Some (commands_flight limits me node to Play (request_to node to))))
       → (me ≢ to → has_left node ≡ true
-      → P (after_sent limits me node to, Some (commands_flight limits me node to Exit None)))
+      → P (after_sent limits me node to, Some (commands_flight limits me node to (left_kind limits me node to) None)))
       → P (on_send limits me node to)
   unfolding on_send
   send_cases P to none sets_up plays left = grind arith
@@ -85,11 +85,11 @@ module _ (limits : Limits) (me : ℕ) (node : Node) where
   module _ (flight : Flight) where
     -- what a packet that is not dropped leaves of what is kept of its sender
     abbrev pub sender_after : Peer
-    sender_after = after_flight (made me node) (node.peers flight.from) flight
+    sender_after = after_flight limits.places (made me node) (node.peers flight.from) flight
 
     -- why commands are dropped, by the number that is told
     abbrev pub Refused : ℕ → Type 0
-    Refused number = ((number ≡ drops.overrun) × (ran node + 12 < end_of flight))
+    Refused number = ((number ≡ drops.overrun) × (ran node + limits.places < end_of flight))
         ⊎ ((number ≡ drops.strange_end)
         × (is_strange_end (is_exit flight.kind) (got node flight.from) (ends_of node flight.from)
         (end_of flight) ≡ true))
@@ -110,7 +110,7 @@ module _ (limits : Limits) (me : ℕ) (node : Node) where
             left_or (is_exit flight.kind) (Heard.Taken (end_of flight - got node flight.from)),
           )
 
-    pub commands_cases : (P : Node × Heard → Type 0) → Commands P → P (on_commands me node flight)
+    pub commands_cases : (P : Node × Heard → Type 0) → Commands P → P (on_commands limits me node flight)
     commands_cases P cases = grind (arith, ltb-true, leb-true, ltb-false, leb-false)
 
     -- hear
@@ -132,7 +132,7 @@ module _ (limits : Limits) (me : ℕ) (node : Node) where
       pub requests : is_ended node.phase ≡ true
           → P (
             with_peer node flight.from
-                (after_request (made me node) (node.peers flight.from) flight.request),
+                (after_request limits.places (made me node) (node.peers flight.from) flight.request),
             Heard.Noted,
           )
 

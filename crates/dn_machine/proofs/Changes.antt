@@ -58,7 +58,7 @@ pub data Change (players : ℕ) (from : ℕ) (spoke ends : Type 0) (old new : No
       → Change players from spoke ends old new
 
 module _ (limits : Limits) (i : ℕ) (node : Node) where
-  pub build_change : (input : Input) → Change limits.players 0 ⊥ ⊥ node (on_build i node input).0
+  pub build_change : (input : Input) → Change limits.players 0 ⊥ ⊥ node (on_build limits i node input).0
   build_change input = build_cases limits i node (λ (new : Node). Change limits.players 0 ⊥ ⊥ node new) input
       (λ full. Same refl refl refl (λ e. refl)) (λ plays free. Same refl refl refl (λ e. refl))
 

@@ -47,7 +47,7 @@ module _ {S : Type 0} (rules : Rules S) (R : Node → Node → Type 0) (same : (
       go (Some refusal) = same (game.nodes q)
       go None = related
 
-  pub after_build : (i : ℕ) (input : Input) → R (game.nodes i) (on_build i (game.nodes i) input).0
+  pub after_build : (i : ℕ) (input : Input) → R (game.nodes i) (on_build rules.limits i (game.nodes i) input).0
       → After (build_of i input)
   after_build i (Pressed keys) related = by_refusal (Build i keys) (placed i _ related)
   after_build i (Given command) related = by_refusal (Give i command) (placed i _ related)
@@ -71,7 +71,7 @@ module _ {S : Type 0} (rules : Rules S) (R : Node → Node → Type 0) (same : (
       go None = same (game.nodes q)
       go (Some flight) = placed flight.to _ (related flight)
 
-  module _ (builds : (i : ℕ) (input : Input) (node : Node) → R node (on_build i node input).0)
+  module _ (builds : (i : ℕ) (input : Input) (node : Node) → R node (on_build rules.limits i node input).0)
       (sends : (i to : ℕ) (node : Node) → R node (on_send rules.limits i node to).0)
       (hears : (i : ℕ) (flight : Flight) (node : Node) → R node (on_packet rules.limits i node flight).0)
       (runs : (node : Node) (marks : ℕ → ℤ) → R node (on_run rules.limits node marks).0)

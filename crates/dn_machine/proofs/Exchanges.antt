@@ -5,6 +5,7 @@ use Rattle.std.proofs.lemmas.Bool.{cases_eq, cases_lt, cases_Bool, cond-false, l
 use Rattle.dn_setup.specs.Settings.{Settings}
 use Rattle.dn_machine.specs.declared.peer.Peer.{Peer}
 use Rattle.dn_machine.specs.declared.events.Event.TheVariants.{Send, Deliver}
+use Rattle.dn_machine.specs.Limits.{Limits}
 use Rattle.dn_machine.specs.Worlds.{Rules}
 use Rattle.dn_machine.specs.Flight.{Flight, is_near}
 use Rattle.dn_machine.specs.Node.{Node, put, ends_of, got, made, is_ended, has_left}
@@ -14,18 +15,18 @@ use Rattle.dn_machine.proofs.Invariant.{HoldsAll, history_of}
 use Rattle.dn_machine.specs.Progress.{after, exchange}
 use Rattle.dn_machine.proofs.Put.{put_at, put_off}
 use Rattle.dn_machine.proofs.GoingOn.{IsOn, ran_after, live_after, on_alike}
-use Rattle.dn_machine.proofs.Stages.{side, same_side, Holds, Taken, Asked}
-use Rattle.dn_machine.proofs.Pairs.{Gives, kind_of}
+use Rattle.dn_machine.proofs.Stages.{side, same_side, goal_of, Holds, Taken, Moves, Asked}
+use Rattle.dn_machine.proofs.Pairs.{Gives}
 use Rattle.dn_machine.proofs.Pairs
 use Rattle.dn_machine.proofs.Roomy.{roomy_after}
-use Rattle.dn_machine.proofs.Receivers.{in_play, request_within, hears}
+use Rattle.dn_machine.proofs.Receivers.{in_play, request_within, goal_low, hears}
 
 -- what a node keeps of the others is as it was
 abbrev pub IsQuiet : Game → Game → Type 0
 IsQuiet old new = (r s : ℕ) → r ≢ s → side (new.nodes r) s ≡ side (old.nodes r) s
 
 -- what an exchange leaves
-pub record IsExchanged (stay : ℕ → Bool) (tic start : ℕ) (i j : ℕ) (old new : Game) : Type 0 where
+pub record IsExchanged (limits : Limits) (stay : ℕ → Bool) (tic goal start : ℕ) (i j : ℕ) (old new : Game) : Type 0 where
   pub other : (r s : ℕ) → (r ≡ i → s ≢ j) → (r ≡ j → s ≢ i) → side (new.nodes r) s ≡ side (old.nodes r) s
   pub mine_pause : ((new.nodes i).peers j).pause ≡ ((old.nodes i).peers j).pause
   pub mine_got : length ((new.nodes i).held j) ≡ length ((old.nodes i).held j)
@@ -33,7 +34,8 @@ pub record IsExchanged (stay : ℕ → Bool) (tic start : ℕ) (i j : ℕ) (old 
   pub mine_end : ends_of (new.nodes i) j ≡ ends_of (old.nodes i) j
   pub begins : stay j ≡ true → ((old.nodes i).peers j).resend ≡ length ((old.nodes j).held i)
       → start ≡ length ((old.nodes j).held i)
-  pub taken : stay j ≡ true → Taken tic start (side (old.nodes j) i) (side (new.nodes j) i)
+  pub moves : Moves limits goal start ((old.nodes i).peers j) ((new.nodes i).peers j)
+  pub taken : stay j ≡ true → Taken limits.most tic goal start (side (old.nodes j) i) (side (new.nodes j) i)
   pub asked : stay i ≡ true → Holds tic (side (old.nodes i) j)
       ⊎ Asked (length ((old.nodes i).held j)) ((old.nodes i).peers j).want ((old.nodes j).peers i)
       ((new.nodes j).peers i)
@@ -58,7 +60,8 @@ module _ {S : Type 0} (rules : Rules S) (settings : Settings) (cap : ℕ) (stay 
       (sends : Gives rules game i j gone asks_it)
       (goes : gone ≡ true → (stay i ≡ false) × (has_left (game.nodes i) ≡ true))
       (here : gone ≡ false → stay i ≡ true) (asker : asks_it ≡ true → stay i ≡ true)
-      (same_want : stay i ≡ true → ((game.nodes i).peers j).want ≡ asks_it) where
+      (same_want : stay i ≡ true → ((game.nodes i).peers j).want ≡ asks_it) (goal : ℕ)
+      (aims : goal ≡ goal_of (stay i) tic (made i (game.nodes i))) where
     abbrev I : Node
     I = game.nodes i
 
@@ -68,9 +71,9 @@ module _ {S : Type 0} (rules : Rules S) (settings : Settings) (cap : ℕ) (stay 
     abbrev flight : Flight
     flight = Pairs.packet rules settings game on.live i j mine its apart gone asks_it sends
 
-    asked_within : asks_it ≡ true → (got I j ≤ made j J) × (made j J ≤ got I j + 10)
+    asked_within : asks_it ≡ true → (got I j ≤ made j J) × (made j J ≤ got I j + (rules.ahead + rules.ahead))
     asked_within = request_within rules settings cap stay tic game on i j mine its apart built gone asks_it
-        sends goes here asker
+        sends goes here asker goal aims
 
     -- a packet to one that stays is near, or that one needs no more
     near_j : stay j ≡ true → (is_near (made j J) flight ≡ true) ⊎ Holds tic (side J i)
@@ -120,9 +123,9 @@ module _ {S : Type 0} (rules : Rules S) (settings : Settings) (cap : ℕ) (stay 
 
     -- the game after an exchange, with this receiver
     placed : (y : Node) → y.phase ≡ J.phase → y.played ≡ J.played → ((s : ℕ) → s ≢ i → side y s ≡ side J s)
-        → (stay j ≡ true → Taken tic flight.start (side J i) (side y i))
+        → (stay j ≡ true → Taken rules.most tic goal flight.start (side J i) (side y i))
         → (stay i ≡ true → Holds tic (side I j) ⊎ Asked (got I j) (I.peers j).want (J.peers i) (y.peers i))
-        → IsExchanged stay tic flight.start i j game (with_node sent_game j y)
+        → IsExchanged rules.limits stay tic goal flight.start i j game (with_node sent_game j y)
     placed y y_phase y_played y_other y_taken y_asked =
         let back : j ≢ i = λ e. apart (sym e) in
         let N : ℕ → Node = put (put game.nodes i new_i) j y in
@@ -153,9 +156,19 @@ module _ {S : Type 0} (rules : Rules S) (settings : Settings) (cap : ℕ) (stay 
           begins = λ u e.
               let f = Pairs.fits rules settings game on.live in
               let low = f.unheard j i its mine (there j its u) in
-              cond-false (ltb (I.peers j).resend (made i I - 12)) _ _
-              (le-ltb (I.peers j).resend (made i I - 12) (omega arith)) ∙ e;
-          taken = λ u. subst (λ (x : Node). Taken tic flight.start (side J i) (side x i)) (sym (at_j j refl))
+              let twice = on.live.kept.window.twice in
+              cond-false (ltb (I.peers j).resend (made i I - rules.places)) _ _
+              (le-ltb (I.peers j).resend (made i I - rules.places) (omega arith)) ∙ e;
+          moves = λ cut.
+              let low = goal_low rules settings cap stay tic game on i j mine its apart built gone asks_it sends goes
+              here asker goal aims in
+              let m = Pairs.moves rules settings game on.live i j mine its apart gone asks_it sends (omega arith) in
+              let near = m.1 in (
+                m.0,
+                omega arith,
+                ap (λ (x : Node). (x.peers j).resend) (at_i i refl) ∙ m.2,
+              );
+          taken = λ u. subst (λ (x : Node). Taken rules.most tic goal flight.start (side J i) (side x i)) (sym (at_j j refl))
               (y_taken u);
           asked = λ u. subst (λ (x : Node). Holds tic (side I j)
               ⊎ Asked (got I j) (I.peers j).want (J.peers i) (x.peers i)) (sym (at_j j refl)) (y_asked u);
@@ -167,18 +180,18 @@ module _ {S : Type 0} (rules : Rules S) (settings : Settings) (cap : ℕ) (stay 
     same_game : sent_game ≡ with_node sent_game j J
     same_game = grind arith
 
-    pub exchanges_by : IsExchanged stay tic flight.start i j game (exchange rules i game j)
+    pub exchanges_by : IsExchanged rules.limits stay tic goal flight.start i j game (exchange rules i game j)
     exchanges_by = elim (cases_Bool (is_near (made j J) flight)) [
       | inl near ↦
           let h = hears rules settings cap stay tic game on i j mine its apart built gone asks_it sends goes
-          here asker in
-          subst (λ (g : Game). IsExchanged stay tic flight.start i j game g)
+          here asker goal aims in
+          subst (λ (g : Game). IsExchanged rules.limits stay tic goal flight.start i j game g)
           (sym (Pairs.exchanged rules settings game on.live i j mine its apart gone asks_it sends near))
           (placed _ h.phase h.played h.other h.taken
           (λ u. inr (subst (λ (w : Bool). Asked (got I j) w (J.peers i)
           ((on_packet rules.limits j J flight).0.peers i)) (sym (same_want u)) (h.asked u))))
       | inr far ↦
-          subst (λ (g : Game). IsExchanged stay tic flight.start i j game g)
+          subst (λ (g : Game). IsExchanged rules.limits stay tic goal flight.start i j game g)
           (sym (Pairs.not_exchanged rules settings game on.live i j mine its apart gone asks_it sends far
           ∙ same_game))
           (placed J refl refl (λ s n. refl)
@@ -188,20 +201,21 @@ module _ {S : Type 0} (rules : Rules S) (settings : Settings) (cap : ℕ) (stay 
 
   module _ (i : ℕ) (j : ℕ) (mine : i < rules.players) (its : j < rules.players) (apart : i ≢ j)
       (built : stay i ≡ true → tic < made i (game.nodes i)) where
-    pub exchanges : (start : ℕ) × IsExchanged stay tic start i j game (exchange rules i game j)
-    exchanges = elim (cases_Bool (stay i)) [
+    pub exchanges : (goal : ℕ) → goal ≡ goal_of (stay i) tic (made i (game.nodes i))
+        → (start : ℕ) × IsExchanged rules.limits stay tic goal start i j game (exchange rules i game j)
+    exchanges goal aims = elim (cases_Bool (stay i)) [
       | inl s ↦ (
         _,
         exchanges_by i j mine its apart built false ((game.nodes i).peers j).want
             (Pairs.sends_playing rules settings game on.live i j apart (on.plays i mine s))
-            (λ e. absurd (true≢false (sym e))) (λ e. s) (λ e. s) (λ e. refl),
+            (λ e. absurd (true≢false (sym e))) (λ e. s) (λ e. s) (λ e. refl) goal aims,
       )
       | inr s ↦ (
         _,
         exchanges_by i j mine its apart built true false
             (Pairs.sends_left rules settings game on.live i j apart (on.left i mine s))
             (λ e. (s, on.left i mine s)) (λ e. absurd (true≢false e)) (λ e. absurd (true≢false (sym e)))
-            (λ e. absurd (true≢false (sym e ∙ s))),
+            (λ e. absurd (true≢false (sym e ∙ s))) goal aims,
       )
     ]
 
@@ -210,7 +224,7 @@ module _ {S : Type 0} (rules : Rules S) (settings : Settings) (cap : ℕ) (stay 
     exchange_on =
         let mid : Game = after rules (Send i j) game in
         let which : ℕ = length game.flights in
-        let x = exchanges.1 in
+        let x = (exchanges _ refl).1 in
         on_alike rules settings cap stay tic game (exchange rules i game j) on x.phase x.played
         (live_after rules settings (Deliver which) mid refl
         (live_after rules settings (Send i j) game refl on.live))

@@ -9,6 +9,7 @@ use Rattle.dn_machine.specs.declared.answers.Phase.TheVariants.{Listening, Gathe
 use Rattle.dn_machine.specs.declared.events.Event.{Event}
 use Rattle.dn_machine.specs.declared.events.Event.TheVariants.{Build, Send, Deliver, Run, Quit, Stop, Give}
 use Rattle.dn_machine.specs.declared.events.Refusal.{Refusal}
+use Rattle.dn_machine.specs.Limits.{IsWindow}
 use Rattle.dn_machine.specs.Worlds.{Rules}
 use Rattle.dn_machine.specs.Flight.{Flight}
 use Rattle.dn_machine.specs.Game.{Game, opening_game, refused_at, refused, delivered, on_event, applied_if, applied}
@@ -35,9 +36,10 @@ passes true x rest h = refl
 passes false x rest h = absurd (cc)
 
 module _ {S : Type 0} (rules : Rules S) (settings : Settings) where
-  pub opens : IsKept rules settings (opening_game settings)
+  pub opens : IsWindow rules.limits → IsKept rules settings (opening_game settings)
   unfolding opening_game
-  opens = record {
+  opens window = record {
+    window = window;
     from_inputs = record {
       counted = λ p l. refl;
       run = λ q p l m. inl (omega arith);
@@ -87,7 +89,7 @@ module _ {S : Type 0} (rules : Rules S) (settings : Settings) where
     happens_keeps (Deliver which) h = delivers (slice_get game.flights which) which refl
     happens_keeps (Run node) h = runs rules settings game kept node (named node h)
     happens_keeps (Quit node) h = quits rules settings game kept node (named node h)
-    happens_keeps (Stop node) h = record { from_inputs = kept.from_inputs; sound = kept.sound; marks = kept.marks }
+    happens_keeps (Stop node) h = record { window = kept.window; from_inputs = kept.from_inputs; sound = kept.sound; marks = kept.marks }
 
     pub applied_keeps : (event : Event) → IsKept rules settings (applied rules game event).0
     unfolding applied
@@ -104,9 +106,9 @@ module _ {S : Type 0} (rules : Rules S) (settings : Settings) where
       (λ game event kept. applied_keeps game kept event)
 
   -- what every event keeps holds after every list of events
-  pub always : (events : List Event) (game : Game) → Runs rules settings events game
+  pub always : IsWindow rules.limits → (events : List Event) (game : Game) → Runs rules settings events game
       → IsKept rules settings game
-  always events game run = leads_keeps events (opening_game settings) game opens run
+  always window events game run = leads_keeps events (opening_game settings) game (opens window) run
 
   -- one more event, applied or left out
   pub goes_on : (events : List Event) (event : Event) (game mid last : Game) → Leads rules game events mid

@@ -11,21 +11,23 @@ use Rattle.dn_machine.specs.Node.{Node, ran, is_ended, has_left}
 use Rattle.dn_machine.specs.Game.{Game, applied}
 use Rattle.dn_machine.proofs.Invariant.{IsKept}
 use Rattle.dn_machine.proofs.Invariant.{history_of}
-use Rattle.dn_machine.specs.Progress.{after, is_of_round, exchange}
+use Rattle.dn_machine.specs.Progress.{IsSwift, after, is_of_round, exchange}
 use Rattle.dn_machine.proofs.Games.{applied_keeps}
 use Rattle.dn_machine.proofs.Growth.{IsPatient, applied_grows}
 use Rattle.dn_machine.proofs.Lists
 use Rattle.dn_machine.proofs.Roomy.{IsRoomy}
 
--- a game that goes on: what every event keeps, and no node is stopped
+-- a game that goes on: what every event keeps, packets carry commands, and no node is stopped
 pub record IsLive {S : Type 0} (rules : Rules S) (settings : Settings) (game : Game) : Type 0 where
+  pub swift : IsSwift rules.limits
+  pub carries : 1 ≤ rules.most
   pub kept : IsKept rules settings game
   pub patient : IsPatient game
   pub running : (q : ℕ) → q < rules.players → game.stopped q ≡ false
 
 -- every demo is as good as full, as far as the nodes that stay go
 abbrev pub IsFar : {S : Type 0} → Rules S → ℕ → (ℕ → Bool) → Game → Type 0
-IsFar rules cap stay game = (q : ℕ) → q < rules.players → stay q ≡ true → cap ≤ ran (game.nodes q) + 5
+IsFar rules cap stay game = (q : ℕ) → q < rules.players → stay q ≡ true → cap ≤ ran (game.nodes q) + rules.ahead
 
 -- those that stay have run this many tics
 abbrev pub StayRan : {S : Type 0} → Rules S → (ℕ → Bool) → Game → ℕ → Type 0
@@ -59,6 +61,8 @@ stopped_after rules event game round = grind arith
 pub live_after : {S : Type 0} (rules : Rules S) (settings : Settings) (event : Event) (game : Game)
     → is_of_round event ≡ true → IsLive rules settings game → IsLive rules settings (after rules event game)
 live_after rules settings event game round live = record {
+  swift = live.swift;
+  carries = live.carries;
   kept = applied_keeps rules settings game live.kept event;
   patient = λ q s. (applied_grows rules game q event).pause s (live.patient q s);
   running = λ q l. ap (λ (f : ℕ → Bool). f q) (stopped_after rules event game round) ∙ live.running q l;

@@ -51,7 +51,7 @@ module _ (limits : Limits) (i : ℕ) (node : Node) where
     played = λ h. h;
   }
 
-  pub build_grows : (input : Input) → Grows node (on_build i node input).0
+  pub build_grows : (input : Input) → Grows node (on_build limits i node input).0
   build_grows input = build_cases limits i node (λ (new : Node). Grows node new) input
       (λ full. grows_same node)
       (λ plays free. record { rows = omega arith; pause = λ peer h. h; played = λ h. h })
@@ -76,7 +76,7 @@ module _ (limits : Limits) (i : ℕ) (node : Node) where
       (λ goes_on. record { rows = omega arith; pause = λ peer h. h; played = λ h. h })
 
   request_low : (peer : Peer) (request : Option ℕ) → peer.pause ≤ 10
-      → (after_request (made i node) peer request).pause ≤ 10
+      → (after_request limits.places (made i node) peer request).pause ≤ 10
   request_low peer request low = grind arith
 
   exit_low : (peer : Peer) (exit : Bool) (end : ℕ) → peer.pause ≤ 10 → (after_exit peer exit end).pause ≤ 10

@@ -200,9 +200,9 @@ module _ {S : Type 0} (rules : Rules S) (settings : Settings) (game : Game)
         let leaving : is_exit flight.kind ≡ true → flight.kind ≡ Exit = exit_is flight.kind in
         let peer : Peer = sender_after rules.limits i (game.nodes i) flight in
         let told : peer.end ≡ end_after (is_exit flight.kind) =
-        flight_end (made i (game.nodes i)) ((game.nodes i).peers flight.from) flight in
+        flight_end rules.places (made i (game.nodes i)) ((game.nodes i).peers flight.from) flight in
         let low : peer.resend ≤ made i (game.nodes i) =
-        flight_low (made i (game.nodes i)) ((game.nodes i).peers flight.from) flight
+        flight_low rules.places (made i (game.nodes i)) ((game.nodes i).peers flight.from) flight
         (sound.resend flight.from) in
         packet_cases rules.limits i (game.nodes i) flight
         (λ (r : Node × Heard). IsKept rules settings (with_node game i r.0)) (record {
@@ -227,7 +227,7 @@ module _ {S : Type 0} (rules : Rules S) (settings : Settings) (game : Game)
                 low plays first high;
           };
           requests = λ ended. hears_only false (λ e. absurd (cc)) _
-              (asked_end (made i (game.nodes i)) ((game.nodes i).peers flight.from) flight.request)
-              (asked_low (made i (game.nodes i)) ((game.nodes i).peers flight.from) flight.request
+              (asked_end rules.places (made i (game.nodes i)) ((game.nodes i).peers flight.from) flight.request)
+              (asked_low rules.places (made i (game.nodes i)) ((game.nodes i).peers flight.from) flight.request
               (sound.resend flight.from));
         })

@@ -6,14 +6,14 @@ use Rattle.dn_setup.specs.Settings.{Settings}
 use Rattle.dn_machine.specs.declared.answers.Phase.{Phase}
 use Rattle.dn_machine.specs.declared.answers.Phase.TheVariants.{Gathering, Playing}
 use Rattle.dn_machine.specs.Worlds.{Rules}
-use Rattle.dn_machine.specs.Flight.{SetUp, Flight, is_near}
+use Rattle.dn_machine.specs.Flight.{Kind, SetUp, Flight, is_near}
 use Rattle.dn_machine.specs.Node.{Node, put, made, is_ended, has_left}
 use Rattle.dn_machine.specs.Sending.{on_send}
 use Rattle.dn_machine.specs.Hearing.{on_gathering, on_packet, on_packet_in}
 use Rattle.dn_machine.specs.Game.{Game, with_node}
 use Rattle.dn_machine.specs.Progress.{exchange}
 use Rattle.dn_machine.proofs.Put.{put_at, put_off}
-use Rattle.dn_machine.proofs.Pairs.{Gives, kind_of}
+use Rattle.dn_machine.proofs.Pairs.{Gives}
 use Rattle.dn_machine.proofs.Pairs
 use Rattle.dn_machine.proofs.Openings.{Stands, Gathers, Listens, Plays, HasGone}
 use Rattle.dn_machine.proofs.Gentle.{AllGentle, exchange_gentle}
@@ -98,11 +98,13 @@ module _ {S : Type 0} (rules : Rules S) (settings : Settings) (cap : ℕ) (stay 
       noted_so : (on_gathering rules.limits (game.nodes 0) j).0.noted j ≡ true
       noted_so = grind arith
 
-      noted_in : (b : Bool)
-          → (on_packet_in rules.limits 0 (game.nodes 0) F Gathering
-          (kind_of b)).0.noted j ≡ true
-      noted_in true = noted_so
-      noted_in false = noted_so
+      noted_in : (on_packet_in rules.limits 0 (game.nodes 0) F Gathering F.kind).0.noted j ≡ true
+      noted_in = elim (Pairs.is_word rules settings game begun.live j 0 its some other gone asks_it sends) [
+        | inl play ↦ ap (λ (k : Kind). (on_packet_in rules.limits 0 (game.nodes 0) F Gathering k).0.noted j) play
+            ∙ noted_so
+        | inr exit ↦ ap (λ (k : Kind). (on_packet_in rules.limits 0 (game.nodes 0) F Gathering k).0.noted j) exit
+            ∙ noted_so
+      ]
 
       knows_by : KnowsOf j (exchange rules j game 0)
       unfolding on_packet
@@ -121,7 +123,7 @@ module _ {S : Type 0} (rules : Rules S) (settings : Settings) (cap : ℕ) (stay 
               sends).nodes 0 0
               (Pairs.receiver rules settings game begun.live j 0 its some other gone asks_it sends) refl)
               ∙ (ap (λ (ph : Phase). (on_packet_in rules.limits 0 (game.nodes 0) F ph F.kind).0.noted j) e
-              ∙ noted_in gone)))
+              ∙ noted_in)))
 
     pub knows : (j : ℕ) → j < rules.players → j ≢ 0 → (game : Game)
         → IsBegun rules settings cap stay tic game → IsIn j game

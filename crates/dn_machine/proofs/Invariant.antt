@@ -5,6 +5,7 @@ use Rattle.dn_tic.specs.declared.command.Move.{Move}
 use Rattle.dn_setup.specs.Settings.{Settings}
 use Rattle.dn_machine.specs.declared.answers.Phase.TheVariants.{Playing, Gathering, Ended}
 use Rattle.dn_machine.specs.declared.answers.Cause.TheVariants as Cause
+use Rattle.dn_machine.specs.Limits.{IsWindow}
 use Rattle.dn_machine.specs.Worlds.{Inputs, Rules, command, row, world}
 use Rattle.dn_machine.specs.Flight.{SetUp, Exit, Flight, end_of}
 use Rattle.dn_machine.specs.Node.{Node, ends_of, blank, has_left, is_whole, demo_rows}
@@ -47,16 +48,16 @@ pub record ComesFromInputs {S : Type 0} (rules : Rules S) (settings : Settings) 
     (flights : List Flight) : Type 0 where
   -- a node has as many own commands as inputs
   pub counted : (p : ℕ) → p < rules.players → length (history.held p p) ≡ length (history.inputs p)
-  -- tics run, commands held, commands made: each at most the next, and the last at most five ahead of its own
+  -- tics run, commands held, commands made: each at most the next, and the last not further ahead of its own
   -- first; but the tics run go on past the commands of a player all of whose commands are held
   pub run : (q p : ℕ) → q < rules.players → p < rules.players
       → (length (history.rows q) ≤ length (history.held q p)) ⊎ HoldsAll history q p
   pub got : (q p : ℕ) → q < rules.players → p < rules.players
       → length (history.held q p) ≤ length (history.inputs p)
-  pub ahead : (p : ℕ) → p < rules.players → length (history.inputs p) ≤ length (history.rows p) + 5
-  -- a node has at most ten commands of a player that it has not run yet
+  pub ahead : (p : ℕ) → p < rules.players → length (history.inputs p) ≤ length (history.rows p) + rules.ahead
+  -- a node has at most twice as many commands of a player that it has not run yet
   pub unread : (q p : ℕ) → q < rules.players → p < rules.players
-      → length (history.held q p) ≤ length (history.rows q) + 10
+      → length (history.held q p) ≤ length (history.rows q) + (rules.ahead + rules.ahead)
   -- what was held and run is true
   pub commands : (q p tic : ℕ) → q < rules.players → p < rules.players → tic < length (history.held q p)
       → get_or (history.held q p) tic blank ≡ command rules settings history.inputs p tic
@@ -102,6 +103,7 @@ HasTrueMarks rules settings inputs node =
 
 -- The whole game.
 pub record IsKept {S : Type 0} (rules : Rules S) (settings : Settings) (game : Game) : Type 0 where
+  pub window : IsWindow rules.limits
   pub from_inputs : ComesFromInputs rules settings (history_of game) game.flights
   pub sound : (q : ℕ) → q < rules.players → IsSound rules settings q (game.nodes q)
   pub marks : (q : ℕ) → q < rules.players

@@ -43,7 +43,7 @@ one_more inputs keys so_far =
     ∙ sym (ap (map Pressed) (states_of-push inputs (Pressed keys))))
 
 module _ (limits : Limits) (i : ℕ) (node : Node) where
-  builds : (keys : ℕ) → Stays node (on_build i node (Pressed keys)).0
+  builds : (keys : ℕ) → Stays node (on_build limits i node (Pressed keys)).0
   builds keys = build_cases limits i node (Stays node) (Pressed keys) (λ full h. h)
       (λ plays free h. one_more node.inputs keys h)
 

@@ -1,5 +1,5 @@
--- In the round after those twelve each player runs the tic.
-use Rattle.std.proofs.Common.{◌≡◌, ℕ, suc, ◌+◌, ◌<◌, ◌≤◌, ◌≢◌, Bool, true, ◌∙◌, ap, arith, Option, inl, inr}
+-- In the round after those each player runs the tic.
+use Rattle.std.proofs.Common.{◌≡◌, ℕ, suc, ◌+◌, ◌<◌, ◌≤◌, ◌≢◌, Bool, true, ◌∙◌, ap, subst, arith, Option, inl, inr}
 use Rattle.std.specs.Prelude.{◌⊎◌}
 use Rattle.std.proofs.lemmas.Bool.{cases_eq, cases_lt, le-leb}
 use Rattle.dn_setup.specs.Settings.{Settings}
@@ -9,7 +9,7 @@ use Rattle.dn_machine.specs.Node.{got, made, ran}
 use Rattle.dn_machine.specs.Running.{is_over, is_absent}
 use Rattle.dn_machine.specs.Game.{Game}
 use Rattle.dn_machine.specs.Progress.{after, in_order, turn, good_round, good_rounds}
-use Rattle.dn_machine.proofs.Stages.{Has, Meets, Asks, Unknown}
+use Rattle.dn_machine.proofs.Stages.{Has, Meets, Asks, Unknown, reach}
 use Rattle.dn_machine.proofs.GoingOn.{IsFar, IsOn}
 use Rattle.dn_machine.proofs.InOrder.{one_of}
 use Rattle.dn_machine.proofs.Turns
@@ -26,7 +26,7 @@ other_player players q several = elim (cases_eq q 0) [
 
 module _ {S : Type 0} (rules : Rules S) (settings : Settings) (cap : ℕ) (stay : ℕ → Bool) (tic : ℕ) where
   -- in the next round each runs it
-  module _ (room : tic + 6 ≤ cap) (several : 2 ≤ rules.players) (q : ℕ) (m : q < rules.players)
+  module _ (room : suc tic + rules.ahead ≤ cap) (several : 2 ≤ rules.players) (q : ℕ) (m : q < rules.players)
       (stays : stay q ≡ true) where
     -- all others' commands have come to this player
     abbrev HasAll : Game → Type 0
@@ -57,13 +57,13 @@ module _ {S : Type 0} (rules : Rules S) (settings : Settings) (cap : ℕ) (stay 
             → In rules settings cap stay tic p q l m stays apart q 0 g
             → (ran (g.nodes q) < got (g.nodes q) p) ⊎ (is_absent (g.nodes q) p ≡ true)
         has_of low high p l apart (InFar far) = absurd (far_off low far)
-        has_of low high p l apart (InOn on built (Has (inl h))) = inl (omega arith)
-        has_of low high p l apart (InOn on built (Has (inr h))) = let at = h.2 in
+        has_of low high p l apart (InOn on built goal aims (Has (inl h))) = inl (omega arith)
+        has_of low high p l apart (InOn on built goal aims (Has (inr h))) = let at = h.2 in
             inr (ap (λ (o : Option ℕ). is_over o (ran (g.nodes q))) h.1
             ∙ le-leb h.0 (ran (g.nodes q)) (omega arith))
-        has_of low high p l apart (InOn on built (Meets h e)) = absurd (omega arith)
-        has_of low high p l apart (InOn on built (Asks w h)) = absurd (omega arith)
-        has_of low high p l apart (InOn on built (Unknown h)) = absurd (omega arith)
+        has_of low high p l apart (InOn on built goal aims (Meets h e)) = absurd (omega arith)
+        has_of low high p l apart (InOn on built goal aims (Asks w h)) = absurd (omega arith)
+        has_of low high p l apart (InOn on built goal aims (Unknown more h near)) = absurd (omega arith)
 
         has : ran (g.nodes q) ≤ tic → tic ≤ ran (g.nodes q) → tic < made q (g.nodes q) → (p : ℕ)
             → p < rules.players → (ran (g.nodes q) < got (g.nodes q) p) ⊎ (is_absent (g.nodes q) p ≡ true)
@@ -75,7 +75,7 @@ module _ {S : Type 0} (rules : Rules S) (settings : Settings) (cap : ℕ) (stay 
         go : ran (g.nodes q) ≤ tic → In rules settings cap stay tic other.0 q other.1 m stays other.2 q 0 g
             → tic < ran ((after rules (Run q) g).nodes q)
         go low (InFar far) = absurd (far_off low far)
-        go low (InOn on built stage) =
+        go low (InOn on built goal aims stage) =
             let least = on.ran q m stays in
             elim (Turns.run_on rules settings cap stay tic g on q m) [
               | inl far ↦ absurd (far_off low far)
@@ -98,8 +98,12 @@ module _ {S : Type 0} (rules : Rules S) (settings : Settings) (cap : ℕ) (stay 
         (λ h x. turn_runs inputs h x)
         g m all
 
-    pub thirteen : (inputs : ℕ → ℕ → Input) (g : Game) → IsOn rules settings cap stay tic g
-        → tic < ran ((good_rounds rules inputs 13 g).nodes q)
+    pub next_run : (inputs : ℕ → ℕ → Input) (more : ℕ) → rules.places ≤ reach rules.limits more → (g : Game)
+        → IsOn rules settings cap stay tic g → tic < ran ((good_rounds rules inputs (13 + more) g).nodes q)
     unfolding good_rounds in_order
-    thirteen inputs g on = round_runs (inputs 12) (good_rounds rules inputs 12 g)
-        (λ p l apart. has_after rules settings cap stay tic p q l m stays apart inputs g on)
+    next_run inputs more reaches g on =
+        let all : suc (12 + more) ≡ 13 + more = omega arith in
+        subst (λ (n : ℕ). tic < ran ((in_order (λ before round. good_round rules (inputs round) before) n g).nodes q))
+        all
+        (round_runs (inputs (12 + more)) (good_rounds rules inputs (12 + more) g)
+        (λ p l apart. has_after rules settings cap stay tic p q l m stays apart inputs more reaches g on))

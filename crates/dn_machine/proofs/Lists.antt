@@ -28,9 +28,9 @@ module _ {S : Type 0} (rules : Rules S) (settings : Settings) (history : History
         | inr h ↦ absurd (not_over q p l m stays h)
       ]
 
-  -- made counts are at most five above that of a player who has not left
+  -- made counts are at most the window above that of a player who has not left
   pub close : (p q : ℕ) → p < rules.players → q < rules.players → history.left q ≡ false
-      → length (history.inputs p) ≤ length (history.inputs q) + 5
+      → length (history.inputs p) ≤ length (history.inputs q) + rules.ahead
   close p q l m stays = grind (arith, ran_below)
 
   -- a packet that is sent

@@ -9,6 +9,7 @@ use Rattle.dn_setup.specs.Gathered.{all_noted}
 use Rattle.dn_machine.specs.declared.answers.Phase.TheVariants.{Listening, Gathering, Playing}
 use Rattle.dn_machine.specs.declared.events.Event.{Event}
 use Rattle.dn_machine.specs.declared.events.Event.TheVariants.{Build, Send, Deliver, Run, Quit, Stop, Give}
+use Rattle.dn_machine.specs.Limits.{IsWindow}
 use Rattle.dn_machine.specs.Worlds.{Rules}
 use Rattle.dn_machine.specs.Flight.{Flight}
 use Rattle.dn_machine.specs.Node.{Node, put, is_ended}
@@ -196,10 +197,10 @@ module _ {S : Type 0} (rules : Rules S) (settings : Settings) (several : 2 ≤ r
     sent = λ which flight h w. absurd (none-some flight h);
   }
 
-  pub always_open : (events : List Event) (game : Game) → Runs rules settings events game → IsOpen rules game
-  always_open events game run =
+  pub always_open : IsWindow rules.limits → (events : List Event) (game : Game) → Runs rules settings events game → IsOpen rules game
+  always_open window events game run =
       (leads_keep rules (λ (now : Game). IsKept rules settings now × IsOpen rules now)
       (λ now event both. (
         applied_keeps rules settings now both.0 event,
         applied_open rules settings now both.0 both.1 event,
-      )) events (opening_game settings) game (opens rules settings, opening_open) run).1
+      )) events (opening_game settings) game (opens rules settings window, opening_open) run).1

@@ -3,40 +3,31 @@ use Rattle.std.proofs.Common.{◌≡◌, ◌≤◌, ℕ, Bool, true, false, cond
 use Rattle.dn_machine.specs.declared.peer.Peer.{Peer}
 use Rattle.dn_machine.specs.Flight.{Flight, is_exit, end_of}
 use Rattle.dn_machine.specs.Node.{Node, put, with_peer, ends_of}
-use Rattle.dn_machine.specs.Hearing.{is_strange_end, is_within, requested_tic, after_request, after_exit, after_flight}
+use Rattle.dn_machine.specs.Hearing.{is_strange_end, after_request, after_exit, after_flight}
 use Rattle.dn_machine.proofs.Put.{view_kept}
 
--- a request that can be met is of no tic past what was made
-within_made : (made : ℕ) (request : Option ℕ) → is_within made request ≡ true → requested_tic request ≤ made
-within_made made request e = grind arith
-
-pub asked_low : (made : ℕ) (peer : Peer) (request : Option ℕ) → peer.resend ≤ made
-    → (after_request made peer request).resend ≤ made
-asked_low made peer request low = grind arith
+pub asked_low : (places made : ℕ) (peer : Peer) (request : Option ℕ) → peer.resend ≤ made
+    → (after_request places made peer request).resend ≤ made
+asked_low places made peer request low = grind arith
 
 -- a request leaves the known end
-pub asked_end : (made : ℕ) (peer : Peer) (request : Option ℕ)
-    → (after_request made peer request).end ≡ peer.end
-asked_end made peer request = grind arith
+pub asked_end : (places made : ℕ) (peer : Peer) (request : Option ℕ)
+    → (after_request places made peer request).end ≡ peer.end
+asked_end places made peer request = grind arith
 
 -- and an end leaves the resend
 pub told_resend : (peer : Peer) (exit : Bool) (end : ℕ) → (after_exit peer exit end).resend ≡ peer.resend
 told_resend peer true end = refl
 told_resend peer false end = refl
 
-pub told_end : (peer : Peer) (exit : Bool) (end : ℕ)
-    → (after_exit peer exit end).end ≡ cond exit (Some end) peer.end
-told_end peer true end = refl
-told_end peer false end = refl
-
 -- after a packet of commands
-pub flight_low : (made : ℕ) (peer : Peer) (flight : Flight) → peer.resend ≤ made
-    → (after_flight made peer flight).resend ≤ made
-flight_low made peer flight low = grind arith
+pub flight_low : (places made : ℕ) (peer : Peer) (flight : Flight) → peer.resend ≤ made
+    → (after_flight places made peer flight).resend ≤ made
+flight_low places made peer flight low = grind arith
 
-pub flight_end : (made : ℕ) (peer : Peer) (flight : Flight)
-    → (after_flight made peer flight).end ≡ cond (is_exit flight.kind) (Some (end_of flight)) peer.end
-flight_end made peer flight = grind arith
+pub flight_end : (places made : ℕ) (peer : Peer) (flight : Flight)
+    → (after_flight places made peer flight).end ≡ cond (is_exit flight.kind) (Some (end_of flight)) peer.end
+flight_end places made peer flight = grind arith
 
 -- resends after one peer's was put low enough
 pub resends_put : (peers : ℕ → Peer) (player : ℕ) (peer : Peer) (most : ℕ)

@@ -87,6 +87,7 @@ module _ {S : Type 0} (rules : Rules S) (settings : Settings) (game : Game)
             flights k h r e refl
             (Lists.leaves rules settings history flights from_inputs (λ q. has_left (put game.nodes i new q))
             more);
+        window = kept.window;
         sound = sound_placed new sound;
         marks = λ q l. subst (λ (inputs : Inputs). HasTrueMarks rules settings inputs
             (put game.nodes i new q)) (sym k) (marks q l);
@@ -135,10 +136,6 @@ module _ {S : Type 0} (rules : Rules S) (settings : Settings) (game : Game)
   pub playing_stays : (game.nodes i).phase ≡ Playing → has_left (game.nodes i) ≡ false
   playing_stays e = ap (λ (p : Phase). (game.nodes i).played && is_ended p) e
       ∙ and_right (game.nodes i).played false refl
-
-  -- a playing node has the key's settings
-  pub playing_settings : (game.nodes i).phase ≡ Playing → (game.nodes i).settings ≡ Some settings
-  playing_settings e = (kept.sound i mine).played ((kept.sound i mine).playing e)
 
   -- its own mark is the true one, of any tic up to twelve past those that it ran and that the player made
   pub own_mark_kept : (p t : ℕ) → p < rules.players → t < length (game.nodes i).rows + 12

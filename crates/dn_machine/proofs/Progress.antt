@@ -1,23 +1,27 @@
--- A game goes on as soon as the network delivers: one good round for the start, and thirteen for each tic.
+-- A game goes on as soon as the network delivers: one good round for the start, and for each tic thirteen and one
+-- for each packet that may be in vain.
 use Rattle.std.proofs.Common.{◌≡◌, ℕ, zero, suc, ◌+◌, ◌-◌, ◌*◌, ◌<◌, ◌≤◌, ◌≢◌, Bool, true, not, List, refl, sym, ◌∙◌, ap, subst, arith, inl, inr}
 use Rattle.std.specs.Prelude.{◌⊎◌}
-use Rattle.std.proofs.lemmas.Bool.{and_from, not-true, not-false}
+use Rattle.std.proofs.lemmas.Bool.{cases_eq, and_from, not-true, not-false}
+use Rattle.std.proofs.Math.Nat.{mul-zero, mul-suc, zero-mul}
 use Rattle.dn_setup.specs.Settings.{Settings}
 use Rattle.dn_machine.specs.declared.answers.Phase.{Phase}
 use Rattle.dn_machine.specs.declared.events.Event.{Event}
+use Rattle.dn_machine.specs.Limits.{IsWindow}
+use Rattle.dn_machine.specs.Sending.{lag}
 use Rattle.dn_machine.specs.Worlds.{Rules}
 use Rattle.dn_machine.specs.Node.{ran, is_ended}
 use Rattle.dn_machine.specs.Running.{tic_limit}
 use Rattle.dn_machine.specs.Game.{Game}
 use Rattle.dn_machine.specs.Runs.{Runs}
-use Rattle.dn_machine.specs.Progress.{in_order, turn, good_round, good_rounds, NoneLost, AllRan, HasRoom}
+use Rattle.dn_machine.specs.Progress.{IsSwift, GoesInto, in_order, turn, good_round, good_rounds, NoneLost, AllRan, HasRoom}
 use Rattle.dn_machine.proofs.Games.{always}
-use Rattle.dn_machine.proofs.Stages.{Unknown}
+use Rattle.dn_machine.proofs.Stages.{Unknown, reach, reaches, lag_low}
 use Rattle.dn_machine.proofs.GoingOn.{IsFar, IsOn}
 use Rattle.dn_machine.proofs.InOrder.{each_of}
 use Rattle.dn_machine.proofs.Growth.{always_patient, rounds_ran}
 use Rattle.dn_machine.proofs.Rounds.{At, AtFar, AtOn, turn_keeps, round_nearer, has_after}
-use Rattle.dn_machine.proofs.LastRound.{other_player, thirteen}
+use Rattle.dn_machine.proofs.LastRound.{other_player, next_run}
 use Rattle.dn_machine.proofs.Roomy.{IsRoomy, InDemos, Without, roomy_on}
 use Rattle.dn_machine.proofs.Openings.{Stands, Gathers, Listens, Plays, HasGone, always_open}
 use Rattle.dn_machine.proofs.Begun.{IsBegun, all_play}
@@ -44,7 +48,12 @@ module _ {S : Type 0} (rules : Rules S) where
   rounds_far cap stay inputs count game far q l s = let old = far q l s in
       let more = rounds_ran rules inputs count q (ran (game.nodes q)) game (omega arith) in omega arith
 
-module _ {S : Type 0} (rules : Rules S) (settings : Settings) (cap : ℕ) (several : 2 ≤ rules.players) where
+module _ {S : Type 0} (rules : Rules S) (settings : Settings) (cap : ℕ) (several : 2 ≤ rules.players) (more : ℕ)
+    (over : rules.places ≤ reach rules.limits more) where
+  -- in these rounds each player has what it needs for a tic, and in the last of them runs it
+  abbrev pub each : ℕ
+  each = 13 + more
+
   module _ (stay : ℕ → Bool) (one : ℕ) (in_game : one < rules.players) (stays : stay one ≡ true) where
     -- a started game, where all who stay have run this many tics, unless every demo is as good as full
     abbrev Settled : ℕ → Game → Type 0
@@ -60,61 +69,66 @@ module _ {S : Type 0} (rules : Rules S) (settings : Settings) (cap : ℕ) (sever
 
     settled : (tic rounds : ℕ) (game : Game) → AtPair tic rounds game → Settled tic game
     settled tic rounds game (AtFar far) = inl far
-    settled tic rounds game (AtOn on stage) = inr on
+    settled tic rounds game (AtOn on goal aims stage) = inr on
 
     -- one good round
     settled_round : (tic : ℕ) (inputs : ℕ → Input) (game : Game) → IsOn rules settings cap stay tic game
         → Settled tic (good_round rules inputs game)
-    settled_round tic inputs game on = settled tic 12 (good_round rules inputs game)
-        (round_nearer rules settings cap stay tic another.0 one another.1 in_game stays another.2 inputs 12
-        (omega arith) game (AtOn on (Unknown (omega arith))))
+    settled_round tic inputs game on = settled tic (12 + more) (good_round rules inputs game)
+        (round_nearer rules settings cap stay tic another.0 one another.1 in_game stays another.2 inputs (12 + more)
+        game (AtOn on _ refl (Unknown more (omega arith) (λ h. omega arith))))
 
-    settled_thirteen : (tic : ℕ) (inputs : ℕ → ℕ → Input) (game : Game) → IsOn rules settings cap stay tic game
-        → Settled tic (good_rounds rules inputs 13 game)
+    settled_each : (tic : ℕ) (inputs : ℕ → ℕ → Input) (game : Game) → IsOn rules settings cap stay tic game
+        → Settled tic (good_rounds rules inputs each game)
     unfolding good_rounds good_round in_order
-    settled_thirteen tic inputs game on =
-        settled tic 0 (good_rounds rules inputs 13 game)
-        (each_of (AtPair tic 0) (turn rules (inputs 12)) rules.players (good_rounds rules inputs 12 game)
+    settled_each tic inputs game on =
+        let all : suc (12 + more) ≡ 13 + more = omega arith in
+        subst (λ (n : ℕ). Settled tic (in_order (λ before round. good_round rules (inputs round) before) n game)) all
+        (settled tic 0 (good_round rules (inputs (12 + more)) (good_rounds rules inputs (12 + more) game))
+        (each_of (AtPair tic 0) (turn rules (inputs (12 + more))) rules.players
+        (good_rounds rules inputs (12 + more) game)
         (λ i g l at. turn_keeps rules settings cap stay tic another.0 one another.1 in_game stays another.2
-        (inputs 12) i l g at)
-        (has_after rules settings cap stay tic another.0 one another.1 in_game stays another.2 inputs game on))
+        (inputs (12 + more)) i l g at)
+        (has_after rules settings cap stay tic another.0 one another.1 in_game stays another.2 inputs more over
+        game on)))
 
-    -- a tic more after thirteen good rounds
-    next_tic : (tic : ℕ) → tic + 6 ≤ cap → (inputs : ℕ → ℕ → Input) (game : Game) → Settled tic game
-        → Settled (suc tic) (good_rounds rules inputs 13 game)
-    next_tic tic room inputs game (inl far) = inl (rounds_far rules cap stay inputs 13 game far)
-    next_tic tic room inputs game (inr on) = elim (settled_thirteen tic inputs game on) [
+    -- a tic more
+    next_tic : (tic : ℕ) → suc tic + rules.ahead ≤ cap → (inputs : ℕ → ℕ → Input) (game : Game) → Settled tic game
+        → Settled (suc tic) (good_rounds rules inputs each game)
+    next_tic tic room inputs game (inl far) = inl (rounds_far rules cap stay inputs each game far)
+    next_tic tic room inputs game (inr on) = elim (settled_each tic inputs game on) [
       | inl far ↦ inl far
-      | inr more ↦ inr (record {
-        live = more.live;
-        plays = more.plays;
-        left = more.left;
-        ran = λ q l s. let past = thirteen rules settings cap stay tic room several q l s inputs game on in
+      | inr still ↦ inr (record {
+        live = still.live;
+        plays = still.plays;
+        left = still.left;
+        ran = λ q l s. let past = next_run rules settings cap stay tic room several q l s inputs more over game on in
             omega arith;
-        room = roomy_on rules cap tic (good_rounds rules inputs 13 game) more.room;
+        room = roomy_on rules cap tic (good_rounds rules inputs each game) still.room;
       })
     ]
 
-    pub tics : (tic count last rounds : ℕ) → last ≡ tic + count → last + 5 ≤ cap → rounds ≡ 13 * count
+    pub tics : (tic count last rounds : ℕ) → last ≡ tic + count → last + rules.ahead ≤ cap → rounds ≡ each * count
         → (inputs : ℕ → ℕ → Input) (game : Game) → Settled tic game
         → Settled last (good_rounds rules inputs rounds game)
     unfolding good_rounds in_order
     tics tic zero last rounds e room f inputs game at =
-        let none : rounds ≡ 0 = omega arith in
+        let none : rounds ≡ 0 = f ∙ mul-zero each in
         let same : tic ≡ last = omega arith in
         subst (λ (n : ℕ). Settled last
         (in_order (λ before round. good_round rules (inputs round) before) n game)) (sym none)
         (subst (λ (n : ℕ). Settled n game) same at)
     tics tic (suc count) zero rounds e room f inputs game at = absurd (omega arith)
     tics tic (suc count) (suc last) rounds e room f inputs game at =
-        let first : ℕ = 13 * count in
+        let first : ℕ = each * count in
+        let one = mul-suc each count in
         subst (λ (g : Game). Settled (suc last) g)
-        (sym (rounds_add rules inputs game first 13 rounds (omega arith)))
+        (sym (rounds_add rules inputs game first each rounds (omega arith)))
         (next_tic last (omega arith) (λ round. inputs (round + first)) (good_rounds rules inputs first game)
         (tics tic count last first (omega arith) (omega arith) refl inputs game at))
 
     -- and so the one has run this many
-    pub one_ran : (tic : ℕ) (game : Game) → tic + 5 ≤ cap → Settled tic game → tic ≤ ran (game.nodes one)
+    pub one_ran : (tic : ℕ) (game : Game) → tic + rules.ahead ≤ cap → Settled tic game → tic ≤ ran (game.nodes one)
     one_ran tic game room (inl full) = let x = full one in_game stays in omega arith
     one_ran tic game room (inr on) = on.ran one in_game stays
 
@@ -122,7 +136,8 @@ module _ {S : Type 0} (rules : Rules S) (settings : Settings) (cap : ℕ) (sever
   first = omega arith
 
   module _ (events : List Event) (game : Game) (run : Runs rules settings events game)
-      (none_lost : NoneLost rules game) where
+      (none_lost : NoneLost rules game) (window : IsWindow rules.limits) (swift : IsSwift rules.limits)
+      (carries : 1 ≤ rules.most) where
     -- who has not ended
     abbrev staying : ℕ → Bool
     staying q = not (is_ended (game.nodes q).phase)
@@ -131,14 +146,16 @@ module _ {S : Type 0} (rules : Rules S) (settings : Settings) (cap : ℕ) (sever
         → IsBegun rules settings cap staying tic game
     begun tic far roomy = record {
       live = record {
-        kept = always rules settings events game run;
+        swift = swift;
+        carries = carries;
+        kept = always rules settings window events game run;
         patient = always_patient rules settings events game run;
         running = λ q l. (none_lost q l).1;
       };
       there = λ q l s. not-true (is_ended (game.nodes q).phase) s;
       left = λ q l s. let ended = not-false (is_ended (game.nodes q).phase) s in
           and_from (game.nodes q).played (is_ended (game.nodes q).phase) ((none_lost q l).0 ended) ended;
-      is_open = always_open rules settings several events game run;
+      is_open = always_open rules settings several window events game run;
       ran = λ q l s. far q l (not-true (is_ended (game.nodes q).phase) s);
       room = roomy;
     }
@@ -162,22 +179,22 @@ module _ {S : Type 0} (rules : Rules S) (settings : Settings) (cap : ℕ) (sever
 
     -- in exactly this many rounds
     goes_on_in : (inputs : ℕ → ℕ → Input) (tic count : ℕ) → AllRan rules game game tic → IsRoomy rules cap tic game
-        → tic + count + 5 ≤ cap → AllRan rules game (good_rounds rules inputs (13 * count + 1) game)
+        → tic + count + rules.ahead ≤ cap → AllRan rules game (good_rounds rules inputs (each * count + 1) game)
         (tic + count)
     unfolding good_rounds in_order
     goes_on_in inputs tic count far roomy room q l in_play =
         let s : staying q ≡ true = ap not in_play in
-        one_ran staying q l s (tic + count) (good_rounds rules inputs (13 * count + 1) game) room
+        one_ran staying q l s (tic + count) (good_rounds rules inputs (each * count + 1) game) room
         (subst (λ (g : Game). IsFar rules cap staying g ⊎ IsOn rules settings cap staying (tic + count) g)
-        (sym (rounds_add rules inputs game 1 (13 * count) (13 * count + 1) refl))
-        (tics staying q l s tic count (tic + count) (13 * count) refl room refl (λ round. inputs (round + 1))
+        (sym (rounds_add rules inputs game 1 (each * count) (each * count + 1) refl))
+        (tics staying q l s tic count (tic + count) (each * count) refl room refl (λ round. inputs (round + 1))
         (good_round rules (inputs 0) game) (starts q l s tic far roomy (inputs 0))))
 
     pub goes_on_by : (inputs : ℕ → ℕ → Input) (tic count rounds : ℕ) → AllRan rules game game tic
-        → IsRoomy rules cap tic game → tic + count + 5 ≤ cap → 13 * count < rounds
+        → IsRoomy rules cap tic game → tic + count + rules.ahead ≤ cap → each * count < rounds
         → AllRan rules game (good_rounds rules inputs rounds game) (tic + count)
     goes_on_by inputs tic count rounds far roomy room enough q l in_play =
-        let first : ℕ = 13 * count + 1 in
+        let first : ℕ = each * count + 1 in
         let rest : ℕ = rounds - first in
         let whole : rounds ≡ rest + first = omega arith in
         subst (λ (g : Game). tic + count ≤ ran (g.nodes q))
@@ -187,13 +204,47 @@ module _ {S : Type 0} (rules : Rules S) (settings : Settings) (cap : ℕ) (sever
 
 module _ {S : Type 0} (rules : Rules S) (settings : Settings) (fits : rules.capacity ≤ tic_limit)
     (several : 2 ≤ rules.players) (events : List Event) (game : Game) (run : Runs rules settings events game)
-    (none_lost : NoneLost rules game) where
-  pub goes_on_with : (inputs : ℕ → ℕ → Input) (tic count rounds : ℕ) → HasRoom rules game tic (tic + count + 5)
-      → 13 * count < rounds → AllRan rules game game tic
+    (none_lost : NoneLost rules game) (window : IsWindow rules.limits) (swift : IsSwift rules.limits) where
+  -- a packet that carries no command goes nowhere
+  carries : (packets : ℕ) → GoesInto rules.limits packets → 1 ≤ rules.most
+  carries packets into = elim (cases_eq rules.most 0) [
+    | inl none ↦
+        let few = lag_low rules.limits in
+        let some = swift.some in
+        let twice = window.twice in
+        let nothing : rules.most - lag rules.limits ≡ 0 = omega arith in
+        let product = ap (λ (n : ℕ). packets * n) nothing ∙ mul-zero packets in
+        absurd (omega arith)
+    | inr some ↦ omega arith
+  ]
+
+  pub goes_on_with : (packets : ℕ) → GoesInto rules.limits packets → (inputs : ℕ → ℕ → Input) (tic count rounds : ℕ)
+      → HasRoom rules game tic (tic + count + rules.ahead)
+      → (12 + packets) * count < rounds → AllRan rules game game tic
       → AllRan rules game (good_rounds rules inputs rounds game) (tic + count)
-  goes_on_with inputs tic count rounds (inl demos) enough far =
-      goes_on_by rules settings rules.capacity several events game run none_lost inputs tic count rounds far
-      (InDemos (omega arith) fits) demos enough
-  goes_on_with inputs tic count rounds (inr (p, l, left, few, most)) enough far =
-      goes_on_by rules settings tic_limit several events game run none_lost inputs tic count rounds far
-      (Without p l left few (omega arith)) most enough
+  goes_on_with zero into inputs tic count rounds room enough far =
+      let few = lag_low rules.limits in
+      let some = swift.some in
+      let twice = window.twice in
+      let none = zero-mul (rules.most - lag rules.limits) in
+      absurd (omega arith)
+  goes_on_with (suc more) into inputs tic count rounds room enough far = go room
+    where
+      some : 1 ≤ rules.most
+      some = carries (suc more) into
+
+      over : rules.places ≤ reach rules.limits more
+      over = let same = reaches rules.limits more some (lag_low rules.limits) in omega arith
+
+      so_many : (13 + more) * count < rounds
+      so_many = let same : (12 + suc more) * count ≡ (13 + more) * count =
+          ap (λ (n : ℕ). n * count) (omega arith) in omega arith
+
+      go : HasRoom rules game tic (tic + count + rules.ahead)
+          → AllRan rules game (good_rounds rules inputs rounds game) (tic + count)
+      go (inl demos) =
+          goes_on_by rules settings rules.capacity several more over events game run none_lost window swift some
+          inputs tic count rounds far (InDemos (omega arith) fits) demos so_many
+      go (inr (p, l, left, few, most)) =
+          goes_on_by rules settings tic_limit several more over events game run none_lost window swift some
+          inputs tic count rounds far (Without p l left few (omega arith)) most so_many

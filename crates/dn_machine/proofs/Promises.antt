@@ -177,8 +177,9 @@ module _ {S : Type 0} (rules : Rules S) (settings : Settings) (game : Game)
       abbrev Fine : Heard → Type 0
       Fine answer = answer ≡ Heard.Dropped number → (number ≡ 6) ⊎ (number ≡ 13)
 
-      -- no packet reaches further than ten past what a playing receiver ran
-      within : (game.nodes flight.to).phase ≡ Playing → end_of flight ≤ ran (game.nodes flight.to) + 10
+      -- no packet reaches further than twice the window past what a playing receiver ran
+      within : (game.nodes flight.to).phase ≡ Playing → end_of flight
+          ≤ ran (game.nodes flight.to) + (rules.ahead + rules.ahead)
       within e =
           let piece = kept.from_inputs.pieces which flight posted in
           let a = piece.reached in
@@ -207,7 +208,7 @@ module _ {S : Type 0} (rules : Rules S) (settings : Settings) (game : Game)
             notes = λ word p some e. absurd (cc);
             commands = λ plays. record {
               dropped = λ reason why e. elim why [
-                | inl over ↦ let far = over.1 in let near = within plays in absurd (omega arith)
+                | inl over ↦ let far = over.1 in let near = within plays in let twice = kept.window.twice in absurd (omega arith)
                 | inr strange ↦ absurd (no_strange strange.1)
               ];
               stale = λ l. left_fine Heard.Stale (λ e. absurd (cc));

@@ -6,7 +6,7 @@ use Rattle.dn_setup.specs.Settings.{Settings}
 use Rattle.dn_machine.specs.declared.events.Event.{Event}
 use Rattle.dn_machine.specs.declared.events.Event.TheVariants.{Send, Deliver}
 use Rattle.dn_machine.specs.Flight.{Exit, Flight, is_near}
-use Rattle.dn_machine.specs.Limits.{row_of}
+use Rattle.dn_machine.specs.Limits.{vanilla_limits, row_of}
 use Rattle.dn_machine.specs.Worlds.{Rules, world_after}
 use Rattle.dn_machine.specs.Node.{ran, lowest, blank}
 use Rattle.dn_machine.specs.Game.{Game, opening_game, applied}
@@ -27,10 +27,10 @@ counting players = record {
     step = λ world row. world + 1;
     mark = λ world player. pos world;
   };
-  limits = record { players = players; extra = false; capacity = 8738 };
+  limits = vanilla_limits players false 8738;
 }
 
-settings : Settings
+pub settings : Settings
 settings = record { skill = 2; deathmatch = 0; no_monsters = false; respawn = false; episode = 1; map = 1 }
 
 -- a row of both players needs room in the demo, and one that lacks a player ends at the limit of tics: the two

@@ -9,6 +9,7 @@ use Rattle.dn_machine.specs.declared.answers.Cause.{Cause}
 use Rattle.dn_machine.specs.declared.answers.Phase.{Phase}
 use Rattle.dn_machine.specs.declared.answers.Phase.TheVariants.{Listening, Gathering, Playing, Ended}
 use Rattle.dn_machine.specs.declared.events.Event.{Event}
+use Rattle.dn_machine.specs.declared.events.Event.TheVariants.{Send, Deliver}
 use Rattle.dn_machine.specs.Limits.{Limits}
 use Rattle.dn_machine.specs.Worlds.{Rules}
 use Rattle.dn_machine.specs.Flight.{Flight}
@@ -19,7 +20,7 @@ use Rattle.dn_machine.specs.Hearing.{on_packet}
 use Rattle.dn_machine.specs.Running.{tic_limit, full_at, is_absent, is_over, row_held, on_run, on_quit}
 use Rattle.dn_machine.specs.Game.{Game, applied}
 use Rattle.dn_machine.proofs.Invariant.{IsKept}
-use Rattle.dn_machine.specs.Progress.{after}
+use Rattle.dn_machine.specs.Progress.{after, exchange}
 use Rattle.dn_machine.specs.declared.answers.Heard.{Heard}
 use Rattle.dn_machine.proofs.Calls.{build_cases, send_cases, run_cases, quit_cases, packet_cases}
 use Rattle.dn_machine.proofs.EachEvent.{after_event}
@@ -43,7 +44,7 @@ module _ (limits : Limits) (i : ℕ) (node : Node) (ended : is_ended node.phase 
   not_in : (phase : Phase) → is_ended phase ≡ false → node.phase ≡ phase → ⊥
   not_in phase f e = true≢false (sym ended ∙ (ap is_ended e ∙ f))
 
-  build_stays : (input : Input) → Stays node (on_build i node input).0
+  build_stays : (input : Input) → Stays node (on_build limits i node input).0
   build_stays input = build_cases limits i node (λ (new : Node). Stays node new) input
       (λ full. stays_same node) (λ plays free. absurd (not_in Playing refl plays))
 
@@ -81,6 +82,28 @@ event_stays rules game q ended event =
     (λ i to node e. send_stays rules.limits i node e to) (λ i flight node e. hear_stays rules.limits i node e flight)
     (λ node marks e. run_stays rules.limits 0 node e marks) (λ node e. quit_stays rules.limits 0 node e) event ended
 
+-- hence who has left still has, and made no more
+module _ {S : Type 0} (rules : Rules S) (q : ℕ) where
+  left_after : (event : Event) (game : Game) → has_left (game.nodes q) ≡ true
+      → has_left ((after rules event game).nodes q) ≡ true
+  left_after event game left =
+      let both = and_parts (game.nodes q).played (is_ended (game.nodes q).phase) left in
+      let s = event_stays rules game q both.1 event in
+      and_from _ _ (s.played ∙ both.0) (ap is_ended s.phase ∙ both.1)
+
+  pub made_after : (event : Event) (game : Game) → has_left (game.nodes q) ≡ true
+      → made q ((after rules event game).nodes q) ≡ made q (game.nodes q)
+  made_after event game left =
+      let both = and_parts (game.nodes q).played (is_ended (game.nodes q).phase) left in
+      ap (λ (held : ℕ → List TicCmd). length (held q)) (event_stays rules game q both.1 event).held
+
+  pub exchange_made : (i j : ℕ) (game : Game) → has_left (game.nodes q) ≡ true
+      → made q ((exchange rules i game j).nodes q) ≡ made q (game.nodes q)
+  unfolding exchange
+  exchange_made i j game left =
+      made_after (Deliver (length game.flights)) (after rules (Send i j) game) (left_after (Send i j) game left)
+      ∙ made_after (Send i j) game left
+
 -- room for `cap` tics, where all who stay have run the first `tic`
 pub data IsRoomy {S : Type 0} (rules : Rules S) (cap tic : ℕ) (game : Game) : Type 0 where
   InDemos : cap ≤ rules.capacity → cap ≤ tic_limit → IsRoomy rules cap tic game
@@ -92,10 +115,8 @@ module _ {S : Type 0} (rules : Rules S) (cap tic : ℕ) (game : Game) where
       → IsRoomy rules cap tic (after rules event game)
   roomy_after event (InDemos a b) = InDemos a b
   roomy_after event (Without p l left few b) =
-      let both = and_parts (game.nodes p).played (is_ended (game.nodes p).phase) left in
-      let s = event_stays rules game p both.1 event in
-      let same = ap (λ (held : ℕ → List TicCmd). length (held p)) s.held in
-      Without p l (and_from _ _ (s.played ∙ both.0) (ap is_ended s.phase ∙ both.1)) (omega arith) b
+      let same = made_after rules p event game left in
+      Without p l (left_after rules p event game left) (omega arith) b
 
   pub roomy_on : IsRoomy rules cap tic game → IsRoomy rules cap (suc tic) game
   roomy_on (InDemos a b) = InDemos a b

@@ -1,85 +1,110 @@
--- In twelve good rounds each player gives each other the command of a tic that all have reached.
-use Rattle.std.proofs.Common.{◌≡◌, ℕ, zero, suc, min, ◌+◌, ◌<◌, ◌≤◌, ◌≢◌, Bool, true, refl, sym, subst, arith, inl, inr}
+-- In twelve good rounds, and one for each packet that may be in vain, each player gives each other the command of a
+-- tic that all have reached.
+use Rattle.std.proofs.Common.{◌≡◌, ℕ, zero, suc, ◌+◌, ◌<◌, ◌≤◌, ◌≢◌, Bool, true, refl, sym, subst, arith, inl, inr}
 use Rattle.std.proofs.lemmas.Bool.{cases_eq, cases_lt}
 use Rattle.dn_setup.specs.Settings.{Settings}
+use Rattle.dn_machine.specs.declared.events.Event.{Event}
 use Rattle.dn_machine.specs.declared.events.Event.TheVariants.{Run}
 use Rattle.dn_machine.specs.Worlds.{Rules}
-use Rattle.dn_machine.specs.Node.{made, ran}
+use Rattle.dn_machine.specs.Node.{made, has_left}
 use Rattle.dn_machine.specs.Game.{Game}
 use Rattle.dn_machine.specs.Progress.{after, in_order, exchange, turn, good_round, good_rounds, build_of}
-use Rattle.dn_machine.proofs.Stages.{AfterSent, AfterHeard, Side, side, Stage, Unknown, sent_stage, asked_stage}
+use Rattle.dn_machine.proofs.Stages.{AfterSent, AfterHeard, Side, side, Stage, Unknown, goal_of, reach, lag_low, sent_stage, asked_stage}
 use Rattle.dn_machine.proofs.Pairs
 use Rattle.dn_machine.proofs.Exchanges.{IsExchanged}
 use Rattle.dn_machine.proofs.GoingOn.{IsFar, IsOn, far_after, exchange_far}
 use Rattle.dn_machine.proofs.Exchanges
 use Rattle.dn_machine.proofs.InOrder.{each_of, two_of, one_of}
+use Rattle.dn_machine.proofs.Roomy.{made_after, exchange_made}
 use Rattle.dn_machine.proofs.Turns
 use Rattle.dn_tic.specs.declared.input.Input.{Input}
 
 module _ {S : Type 0} (rules : Rules S) (settings : Settings) (cap : ℕ) (stay : ℕ → Bool) (tic : ℕ) where
   module _ (p q : ℕ) (l : p < rules.players) (m : q < rules.players) (stays : stay q ≡ true) (apart : p ≢ q)
     where
-      abbrev StageOf : ℕ → Game → Type 0
-      StageOf rounds g = Stage tic rounds (side (g.nodes p) q) (side (g.nodes q) p)
+      abbrev StageOf : ℕ → ℕ → Game → Type 0
+      StageOf goal rounds g = Stage rules.limits tic goal rounds (side (g.nodes p) q) (side (g.nodes q) p)
+
+      -- what the other needs of the player ends before this tic
+      abbrev Aims : ℕ → Game → Type 0
+      Aims goal g = goal ≡ goal_of (stay p) tic (made p (g.nodes p))
 
       -- between turns
       pub data At (rounds : ℕ) (g : Game) : Type 0 where
         AtFar : IsFar rules cap stay g → At rounds g
-        AtOn : IsOn rules settings cap stay tic g → StageOf rounds g → At rounds g
+        AtOn : IsOn rules settings cap stay tic g → (goal : ℕ) → Aims goal g → StageOf goal rounds g → At rounds g
 
       -- within the turn of a node
       pub data In (r : ℕ) (rounds : ℕ) (g : Game) : Type 0 where
         InFar : IsFar rules cap stay g → In r rounds g
         InOn : IsOn rules settings cap stay tic g → (stay r ≡ true → tic < made r (g.nodes r))
-            → StageOf rounds g → In r rounds g
+            → (goal : ℕ) → Aims goal g → StageOf goal rounds g → In r rounds g
 
-      stage_kept : (rounds : ℕ) (g h : Game) → side (h.nodes p) q ≡ side (g.nodes p) q
-          → side (h.nodes q) p ≡ side (g.nodes q) p → StageOf rounds g → StageOf rounds h
-      stage_kept rounds g h a b stage = subst (λ (x : Side). Stage tic rounds x (side (h.nodes q) p)) (sym a)
-          (subst (λ (y : Side). Stage tic rounds (side (g.nodes p) q) y) (sym b) stage)
+      stage_kept : (goal rounds : ℕ) (g h : Game) → side (h.nodes p) q ≡ side (g.nodes p) q
+          → side (h.nodes q) p ≡ side (g.nodes q) p → StageOf goal rounds g → StageOf goal rounds h
+      stage_kept goal rounds g h a b stage =
+          subst (λ (x : Side). Stage rules.limits tic goal rounds x (side (h.nodes q) p)) (sym a)
+          (subst (λ (y : Side). Stage rules.limits tic goal rounds (side (g.nodes p) q) y) (sym b) stage)
+
+      -- it stays where it is, since who has left makes no more
+      aims_kept : (goal : ℕ) (g h : Game) → IsOn rules settings cap stay tic g
+          → (has_left (g.nodes p) ≡ true → made p (h.nodes p) ≡ made p (g.nodes p)) → Aims goal g → Aims goal h
+      aims_kept goal g h on same aims = grind (arith, on.left)
+
+      aims_after : (event : Event) (goal : ℕ) (g : Game) → IsOn rules settings cap stay tic g → Aims goal g
+          → Aims goal (after rules event g)
+      aims_after event goal g on aims =
+          aims_kept goal g (after rules event g) on (made_after rules p event g) aims
+
+      aims_exchanged : (r j goal : ℕ) (g : Game) → IsOn rules settings cap stay tic g → Aims goal g
+          → Aims goal (exchange rules r g j)
+      aims_exchanged r j goal g on aims =
+          aims_kept goal g (exchange rules r g j) on (exchange_made rules p r j g) aims
 
       built_in : (r : ℕ) → r < rules.players → (input : Input) (rounds : ℕ) (g : Game) → At rounds g
           → In r rounds (after rules (build_of r input) g)
       built_in r o input rounds g (AtFar far) = InFar (far_after rules cap stay (build_of r input) g far)
-      built_in r o input rounds g (AtOn on stage) =
+      built_in r o input rounds g (AtOn on goal aims stage) =
           let quiet = Turns.build_quiet rules settings cap stay tic g on r o input in
           InOn (Turns.build_on rules settings cap stay tic g on r o input)
-          (Turns.build_made rules settings cap stay tic g on r o input)
-          (stage_kept rounds g (after rules (build_of r input) g) (quiet p q apart)
+          (Turns.build_made rules settings cap stay tic g on r o input) goal
+          (aims_after (build_of r input) goal g on aims)
+          (stage_kept goal rounds g (after rules (build_of r input) g) (quiet p q apart)
           (quiet q p (λ e. apart (sym e))) stage)
 
       run_at : (r : ℕ) → r < rules.players → (rounds : ℕ) (g : Game) → In r rounds g
           → At rounds (after rules (Run r) g)
       run_at r o rounds g (InFar far) = AtFar (far_after rules cap stay (Run r) g far)
-      run_at r o rounds g (InOn on built stage) = elim (Turns.run_on rules settings cap stay tic g on r o) [
+      run_at r o rounds g (InOn on built goal aims stage) = elim (Turns.run_on rules settings cap stay tic g on r o) [
         | inl far ↦ AtFar (far_after rules cap stay (Run r) g far)
         | inr ran ↦
-            AtOn ran.still_on (stage_kept rounds g (after rules (Run r) g) (ran.quiet p q apart)
+            AtOn ran.still_on goal (aims_after (Run r) goal g on aims)
+            (stage_kept goal rounds g (after rules (Run r) g) (ran.quiet p q apart)
             (ran.quiet q p (λ e. apart (sym e))) stage)
       ]
 
       -- the sender keeps what it made
-      still_made : (r j : ℕ) (g : Game) (start : ℕ) → r ≢ j
-          → IsExchanged stay tic start r j g (exchange rules r g j)
+      still_made : (r j : ℕ) (g : Game) (goal start : ℕ) → r ≢ j
+          → IsExchanged rules.limits stay tic goal start r j g (exchange rules r g j)
           → (stay r ≡ true → tic < made r (g.nodes r))
           → stay r ≡ true → tic < made r ((exchange rules r g j).nodes r)
-      still_made r j g start n x built u = grind arith
+      still_made r j g goal start n x built u = grind arith
 
       -- an exchange of others
       passes : (r j rounds : ℕ) → r < rules.players → j < rules.players → (g : Game) → (r ≡ p → j ≢ q)
           → (r ≡ q → j ≢ p) → In r rounds g → In r rounds (exchange rules r g j)
       passes r j rounds o k g a b (InFar far) = InFar (exchange_far rules cap stay r j g far)
-      passes r j rounds o k g a b (InOn on built stage) = elim (cases_eq r j) [
+      passes r j rounds o k g a b (InOn on built goal aims stage) = elim (cases_eq r j) [
         | inl e ↦
             let own : exchange rules r g j ≡ g =
             subst (λ (s : ℕ). exchange rules r g s ≡ g) e
             (Pairs.exchange_own rules settings g on.live r o) in
-            subst (λ (h : Game). In r rounds h) (sym own) (InOn on built stage)
+            subst (λ (h : Game). In r rounds h) (sym own) (InOn on built goal aims stage)
         | inr n ↦
-            let x = (Exchanges.exchanges rules settings cap stay tic g on r j o k n built).1 in
+            let x = (Exchanges.exchanges rules settings cap stay tic g on r j o k n built _ refl).1 in
             InOn (Exchanges.exchange_on rules settings cap stay tic g on r j o k n built)
-            (still_made r j g _ n x built)
-            (stage_kept rounds g (exchange rules r g j)
+            (still_made r j g _ _ n x built) goal (aims_exchanged r j goal g on aims)
+            (stage_kept goal rounds g (exchange rules r g j)
             (x.other p q (λ e d. a (sym e) (sym d)) (λ e d. b (sym d) (sym e)))
             (x.other q p (λ e d. b (sym e) (sym d)) (λ e d. a (sym d) (sym e))) stage)
       ]
@@ -88,26 +113,27 @@ module _ {S : Type 0} (rules : Rules S) (settings : Settings) (cap : ℕ) (stay 
       gives : (rounds later : ℕ) → AfterSent rounds later → (g : Game) → In p rounds g
           → In p later (exchange rules p g q)
       gives rounds later fit g (InFar far) = InFar (exchange_far rules cap stay p q g far)
-      gives rounds later fit g (InOn on built stage) =
-          let x = (Exchanges.exchanges rules settings cap stay tic g on p q l m apart built).1 in
+      gives rounds later fit g (InOn on built goal aims stage) =
+          let x = (Exchanges.exchanges rules settings cap stay tic g on p q l m apart built goal aims).1 in
           InOn (Exchanges.exchange_on rules settings cap stay tic g on p q l m apart built)
-          (still_made p q g _ apart x built)
-          (sent_stage tic rounds later (side (g.nodes p) q) (side ((exchange rules p g q).nodes p) q)
-          (side (g.nodes q) p) (side ((exchange rules p g q).nodes q) p) _ stage x.mine_pause
-          (on.live.patient p q) (x.begins stays) (x.taken stays) fit)
+          (still_made p q g _ _ apart x built) goal (aims_exchanged p q goal g on aims)
+          (sent_stage rules.limits tic goal rounds later (side (g.nodes p) q)
+          (side ((exchange rules p g q).nodes p) q) (side (g.nodes q) p)
+          (side ((exchange rules p g q).nodes q) p) _ on.live.carries (lag_low rules.limits) stage x.mine_pause
+          (on.live.patient p q) (x.begins stays) x.moves (x.taken stays) fit)
 
       -- and hears one of it
       hears : (rounds later : ℕ) → AfterHeard rounds later → (g : Game) → In q rounds g
           → In q later (exchange rules q g p)
       hears rounds later fit g (InFar far) = InFar (exchange_far rules cap stay q p g far)
-      hears rounds later fit g (InOn on built stage) =
+      hears rounds later fit g (InOn on built goal aims stage) =
           let back : q ≢ p = λ e. apart (sym e) in
-          let x = (Exchanges.exchanges rules settings cap stay tic g on q p m l back built).1 in
+          let x = (Exchanges.exchanges rules settings cap stay tic g on q p m l back built _ refl).1 in
           InOn (Exchanges.exchange_on rules settings cap stay tic g on q p m l back built)
-          (still_made q p g _ back x built)
-          (asked_stage tic rounds later (side (g.nodes p) q) (side ((exchange rules q g p).nodes p) q)
-          (side (g.nodes q) p) (side ((exchange rules q g p).nodes q) p) stage x.mine_got x.mine_want
-          x.mine_end (x.asked stays) fit)
+          (still_made q p g _ _ back x built) goal (aims_exchanged q p goal g on aims)
+          (asked_stage rules.limits tic goal rounds later (side (g.nodes p) q)
+          (side ((exchange rules q g p).nodes p) q) (side (g.nodes q) p)
+          (side ((exchange rules q g p).nodes q) p) stage x.mine_got x.mine_want x.mine_end (x.asked stays) fit)
 
       module _ (inputs : ℕ → Input) where
         -- the turn of another
@@ -189,50 +215,59 @@ module _ {S : Type 0} (rules : Rules S) (settings : Settings) (cap : ℕ) (stay 
             g l at
 
         -- each good round brings it nearer
-        pub round_nearer : (rounds : ℕ) → rounds ≤ 12 → (g : Game) → At (suc rounds) g
-            → At rounds (good_round rules inputs g)
-        round_nearer rounds low g at = elim (cases_lt p q) [
-          | inl less ↦ up rounds low less g at
-          | inr more ↦ down rounds low (omega arith) g at
+        pub round_nearer : (rounds : ℕ) (g : Game) → At (suc rounds) g → At rounds (good_round rules inputs g)
+        round_nearer rounds g at = elim (cases_lt p q) [
+          | inl less ↦ up rounds less g at
+          | inr more ↦ down rounds (omega arith) g at
         ]
           where
-            up : (k : ℕ) → k ≤ 12 → p < q → (h : Game) → At (suc k) h → At k (good_round rules inputs h)
-            up zero b less h at = round_up 1 0 0 (omega arith) (omega arith) less h at
-            up (suc k) b less h at = round_up (suc (suc k)) (min (suc (suc k)) 12) (suc k) (omega arith)
-                (omega arith) less h at
-
-            down : (k : ℕ) → k ≤ 12 → q < p → (h : Game) → At (suc k) h → At k (good_round rules inputs h)
-            down zero b less h at = round_down 1 1 0 (omega arith) (omega arith) less h at
-            down (suc k) b less h at = elim (cases_lt k 11) [
-              | inl s ↦ round_down (suc (suc k)) (suc k) (suc k) (omega arith) (omega arith) less h at
-              | inr t ↦ round_down (suc (suc k)) 13 (suc k) (omega arith) (omega arith) less h at
+            up : (k : ℕ) → p < q → (h : Game) → At (suc k) h → At k (good_round rules inputs h)
+            up zero less h at = round_up 1 0 0 (omega arith) (omega arith) less h at
+            up (suc k) less h at = elim (cases_lt k 11) [
+              | inl s ↦ round_up (suc (suc k)) (suc (suc k)) (suc k) (omega arith) (omega arith) less h at
+              | inr t ↦ round_up (suc (suc k)) (suc k) (suc k) (omega arith) (omega arith) less h at
             ]
 
-      rounds_nearer : (inputs : ℕ → ℕ → Input) (count left : ℕ) → count + left ≡ 13 → (g : Game) → At 13 g
+            down : (k : ℕ) → q < p → (h : Game) → At (suc k) h → At k (good_round rules inputs h)
+            down zero less h at = round_down 1 1 0 (omega arith) (omega arith) less h at
+            down (suc k) less h at = elim (cases_lt k 11) [
+              | inl s ↦ round_down (suc (suc k)) (suc k) (suc k) (omega arith) (omega arith) less h at
+              | inr t ↦ round_down (suc (suc k)) (suc (suc k)) (suc k) (omega arith) (omega arith) less h at
+            ]
+
+      rounds_nearer : (inputs : ℕ → ℕ → Input) (count left all : ℕ) → count + left ≡ all → (g : Game) → At all g
           → At left (in_order (λ before round. good_round rules (inputs round) before) count g)
       unfolding in_order
-      rounds_nearer inputs zero left sum g at = subst (λ (n : ℕ). At n g) (omega arith) at
-      rounds_nearer inputs (suc count) left sum g at =
-          round_nearer (inputs count) left (omega arith) _
-          (rounds_nearer inputs count (suc left) (omega arith) g at)
+      rounds_nearer inputs zero left all sum g at = subst (λ (n : ℕ). At n g) (omega arith) at
+      rounds_nearer inputs (suc count) left all sum g at =
+          round_nearer (inputs count) left _ (rounds_nearer inputs count (suc left) all (omega arith) g at)
 
-      -- where the player has its turn first, the first round counts for two
-      rounds_up : (inputs : ℕ → ℕ → Input) → p < q → (count left : ℕ) → count + left ≡ 11 → (g : Game) → At 13 g
-          → At left (in_order (λ before round. good_round rules (inputs round) before) (suc count) g)
+      -- where the player has its turn first, the first round in which nothing is in vain counts for two
+      rounds_up : (inputs : ℕ → ℕ → Input) (more : ℕ) → p < q → (count left all : ℕ) → count + left ≡ 11
+          → all ≡ more + count → (g : Game) → At (13 + more) g
+          → At left (in_order (λ before round. good_round rules (inputs round) before) (suc all) g)
       unfolding in_order
-      rounds_up inputs less zero left sum g at =
-          subst (λ (n : ℕ). At n (good_round rules (inputs 0) g)) (omega arith)
-          (round_up (inputs 0) 13 12 11 (omega arith) (omega arith) less g at)
-      rounds_up inputs less (suc count) left sum g at =
-          round_nearer (inputs (suc count)) left (omega arith) _
-          (rounds_up inputs less count (suc left) (omega arith) g at)
+      rounds_up inputs more less zero left all sum total g at =
+          subst (λ (n : ℕ). At n (good_round rules (inputs all)
+          (in_order (λ before round. good_round rules (inputs round) before) all g))) (omega arith)
+          (round_up (inputs all) 13 12 11 (omega arith) (omega arith) less _
+          (rounds_nearer inputs all 13 (13 + more) (omega arith) g at))
+      rounds_up inputs more less (suc count) left zero sum total g at = absurd (omega arith)
+      rounds_up inputs more less (suc count) left (suc all) sum total g at =
+          round_nearer (inputs (suc all)) left _
+          (rounds_up inputs more less count (suc left) all (omega arith) (omega arith) g at)
 
-      -- after twelve the other has it: where the other has its turn first, the last round counts for two
-      pub has_after : (inputs : ℕ → ℕ → Input) (g : Game) → IsOn rules settings cap stay tic g
-          → At 0 (good_rounds rules inputs 12 g)
+      -- After twelve and as many as packets may be in vain the other has it: where the other has its turn first, the
+      -- last round counts for two.
+      pub has_after : (inputs : ℕ → ℕ → Input) (more : ℕ) → rules.places ≤ reach rules.limits more → (g : Game)
+          → IsOn rules settings cap stay tic g → At 0 (good_rounds rules inputs (12 + more) g)
       unfolding good_rounds in_order
-      has_after inputs g on = elim (cases_lt p q) [
-        | inl less ↦ rounds_up inputs less 11 0 refl g (AtOn on (Unknown (omega arith)))
-        | inr more ↦ round_down (inputs 11) 2 1 0 (omega arith) (omega arith) (omega arith) _
-            (rounds_nearer inputs 11 2 refl g (AtOn on (Unknown (omega arith))))
-      ]
+      has_after inputs more reaches g on =
+          let first : At (13 + more) g = AtOn on _ refl (Unknown more (omega arith) (λ h. omega arith)) in
+          let all : suc (11 + more) ≡ 12 + more = omega arith in
+          subst (λ (n : ℕ). At 0 (in_order (λ before round. good_round rules (inputs round) before) n g)) all
+          (elim (cases_lt p q) [
+            | inl less ↦ rounds_up inputs more less 11 0 (11 + more) refl (omega arith) g first
+            | inr past ↦ round_down (inputs (11 + more)) 2 1 0 (omega arith) (omega arith) (omega arith) _
+                (rounds_nearer inputs (11 + more) 2 (13 + more) (omega arith) g first)
+          ])

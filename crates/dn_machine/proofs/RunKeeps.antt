@@ -77,7 +77,7 @@ module _ {S : Type 0} (rules : Rules S) (settings : Settings) (game : Game)
   pub none_off : (game.nodes i).phase ≡ Playing → IsThere → first_off rules.limits (game.nodes i) ≡ None
   none_off e there =
       cond_both (ltb 12 (ran (game.nodes i))) _ _ (λ (o : Option ℕ). o ≡ None)
-      (λ late. lowest_none rules.players (is_off rules.limits (game.nodes i)) (λ p l.
+      (λ late. lowest_none rules.players (is_off (game.nodes i)) (λ p l.
       elim (cases_Bool (is_absent (game.nodes i) p)) [
         | inl gone ↦ and_left (not (is_absent (game.nodes i) p)) _ (ap not gone)
         | inr present ↦ and_right (not (is_absent (game.nodes i) p)) _ (same_passes _ _ (

@@ -1,6 +1,6 @@
 -- A send keeps what every event keeps.
-use Rattle.std.proofs.Common.{◌≡◌, ℕ, ◌-◌, ◌<◌, ◌≤◌, ◌≢◌, true, [], ◌∷◌, ◌++◌, refl, sym, subst, arith, Option, Some, None}
-use Rattle.std.proofs.lemmas.List.{length-drop, get_or-drop}
+use Rattle.std.proofs.Common.{◌≡◌, ℕ, ◌<◌, ◌≤◌, ◌≢◌, true, [], ◌∷◌, ◌++◌, refl, sym, subst, arith, Option, Some, None}
+use Rattle.std.proofs.lemmas.List.{length-drop, length-take, get_or-drop, get_or-take}
 use Rattle.std.proofs.lemmas.Option.{none-some, same_Some, cond_some}
 use Rattle.dn_setup.specs.Settings.{Settings}
 use Rattle.dn_machine.specs.Worlds.{Inputs, Rules}
@@ -12,7 +12,7 @@ use Rattle.dn_machine.proofs.Peers.{same_ends}
 use Rattle.dn_machine.proofs.Lists
 use Rattle.dn_machine.proofs.Calls.{send_cases}
 use Rattle.dn_machine.proofs.Placing
-use Rattle.dn_machine.specs.Sending.{lag, first_sent, set_up_flight, commands_flight, request_to, after_sent, on_send}
+use Rattle.dn_machine.specs.Sending.{first_sent, last_sent, left_kind, set_up_flight, commands_flight, request_to, after_sent, on_send}
 
 module _ {S : Type 0} (rules : Rules S) (settings : Settings) (game : Game)
     (kept : IsKept rules settings game) (i : ℕ) (mine : i < rules.players) where
@@ -53,16 +53,25 @@ module _ {S : Type 0} (rules : Rules S) (settings : Settings) (game : Game)
   -- a packet of commands, of one who plays or who has left
   commands_piece : (to : ℕ) (kind : Kind) (request : Option ℕ) → to < rules.players → i ≢ to
       → ((s : Settings) → kind ≢ SetUp s) → ((tic : ℕ) → request ≡ Some tic → tic ≤ got (game.nodes i) to)
-      → (kind ≡ Exit → has_left (game.nodes i) ≡ true)
+      → (kind ≡ Exit → (has_left (game.nodes i) ≡ true)
+      × (made i (game.nodes i) ≤ last_sent rules.limits i (game.nodes i) to))
       → IsPiece rules settings inputs_now (λ q. has_left (game.nodes q))
       (commands_flight rules.limits i (game.nodes i) to kind request)
-  commands_piece to kind request l apart no_set_up asks leaving = grind (arith, first_reached, length-drop, get_or-drop)
+  commands_piece to kind request l apart no_set_up asks leaving =
+      grind (arith, first_reached, length-drop, length-take, get_or-drop, get_or-take)
+
+  -- the packet of one who has left is no set-up packet, and tells an end where it reaches it
+  left_word : (to : ℕ) (s : Settings) → left_kind rules.limits i (game.nodes i) to ≢ SetUp s
+  left_word to s = grind arith
+
+  left_all : (to : ℕ) → left_kind rules.limits i (game.nodes i) to ≡ Exit
+      → made i (game.nodes i) ≤ last_sent rules.limits i (game.nodes i) to
+  left_all to = grind arith
 
   -- a node that gave a packet is sound
   sent_sound : (to : ℕ) → IsSound rules settings i (after_sent rules.limits i (game.nodes i) to)
   sent_sound to = Placing.peer_sound rules settings game kept i mine to
-      (record ((game.nodes i).peers to) { resend = made i (game.nodes i) - lag rules.limits })
-      (game.nodes i).held (omega arith) (λ tic h. h) refl
+      _ (game.nodes i).held (omega arith) (λ tic h. h) refl
 
   pub sends : (to : ℕ) → to < rules.players
       → IsKept rules settings (posted (with_node game i (on_send rules.limits i (game.nodes i) to).0)
@@ -76,8 +85,8 @@ module _ {S : Type 0} (rules : Rules S) (settings : Settings) (game : Game)
       (sent_sound to) (commands_piece to Play (request_to (game.nodes i) to) l other (λ s h. cc) asks
       (λ h. absurd (cc))))
       (λ other left. posts _ _ refl refl refl (same_ends (game.nodes i) to _ refl) refl (λ h. h)
-      (sent_sound to) (commands_piece to Exit None l other (λ s h. cc)
-      (λ tic h. absurd (none-some tic h)) (λ h. left)))
+      (sent_sound to) (commands_piece to (left_kind rules.limits i (game.nodes i) to) None l other (left_word to)
+      (λ tic h. absurd (none-some tic h)) (λ h. (left, left_all to h))))
     where
       gathers : i ≢ to → (o : Option Settings) → o ≡ Some settings
           → IsKept rules settings (posted (with_node game i (game.nodes i)) (set_up_flight i to o)).0

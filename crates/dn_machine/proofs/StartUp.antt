@@ -45,9 +45,9 @@ module _ {S : Type 0} (rules : Rules S) (settings : Settings) (cap : ℕ) (stay 
 
   -- who gathers builds nothing
   builds_none : (g : Game) → (g.nodes 0).phase ≡ Gathering → (input : Input)
-      → (on_build 0 (g.nodes 0) input).0.phase ≡ (g.nodes 0).phase
+      → (on_build rules.limits 0 (g.nodes 0) input).0.phase ≡ (g.nodes 0).phase
   unfolding on_build
-  builds_none g key state = ap (λ (ph : Phase). (on_build_in 0 (g.nodes 0) state ph).0.phase) key
+  builds_none g key state = ap (λ (ph : Phase). (on_build_in rules.limits 0 (g.nodes 0) state ph).0.phase) key
 
   module _ (some : 0 < rules.players) (key_stays : stay 0 ≡ true) where
     module _ (inputs : ℕ → Input) where
@@ -80,7 +80,7 @@ module _ {S : Type 0} (rules : Rules S) (settings : Settings) (cap : ℕ) (stay 
             (build_gentle rules g 0 (inputs 0)) begun)
             (ap (λ (h : Game). (h.nodes 0).phase)
             (accepted_build rules g 0 (inputs 0) (Pairs.accepts rules settings g begun.live 0 some))
-            ∙ (ap (λ (n : Node). n.phase) (put_at g.nodes 0 0 (on_build 0 (g.nodes 0) (inputs 0)).0 refl)
+            ∙ (ap (λ (n : Node). n.phase) (put_at g.nodes 0 0 (on_build rules.limits 0 (g.nodes 0) (inputs 0)).0 refl)
             ∙ (builds_none g key (inputs 0) ∙ key)))
 
         key_turn : (g : Game) → So KeyGathers g → So (IsIn j) (turn rules inputs g 0)

@@ -70,7 +70,7 @@ module _ {S : Type 0} (rules : Rules S) (settings : Settings) (cap : ℕ) (stay 
         quiet : (s : ℕ) → s ≢ r → side new s ≡ side (game.nodes r) s
         built : stay r ≡ true → tic < made r new
 
-      builds : (input : Input) → IsBuilt (on_build r (game.nodes r) input).0
+      builds : (input : Input) → IsBuilt (on_build rules.limits r (game.nodes r) input).0
       builds input = build_cases rules.limits r (game.nodes r) (λ (new : Node). IsBuilt new) input
           (λ full. record {
             phase = refl;
@@ -100,7 +100,7 @@ module _ {S : Type 0} (rules : Rules S) (settings : Settings) (cap : ℕ) (stay 
           })
 
       built_is : (input : Input) → after rules (build_of r input) game
-          ≡ with_node game r (on_build r (game.nodes r) input).0
+          ≡ with_node game r (on_build rules.limits r (game.nodes r) input).0
       built_is input = accepted_build rules game r input (Pairs.accepts rules settings game on.live r mine)
 
       pub build_on : (input : Input) → IsOn rules settings cap stay tic (after rules (build_of r input) game)

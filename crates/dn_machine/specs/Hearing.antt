@@ -25,19 +25,19 @@ on_gathering limits node player =
     then (record node { phase = Playing; played = true; noted = noted }, Heard.Started)
     else (record node { noted = noted }, Heard.Noted)
 
--- a request that can be met: for one of the last twelve commands, or for the one that is built next
-abbrev pub is_within : ℕ → Option ℕ → Bool
-is_within made None = false
-is_within made (Some tic) = nat_le tic made && nat_le (made - 12) tic
+-- a request that can be met: for one of the commands that are kept, or for the one that is built next
+abbrev pub is_within : ℕ → ℕ → Option ℕ → Bool
+is_within places made None = false
+is_within places made (Some tic) = nat_le tic made && nat_le (made - places) tic
 
 abbrev pub requested_tic : Option ℕ → ℕ
 requested_tic None = 0
 requested_tic (Some tic) = tic
 
 -- a request that can be met is noted, unless one was within the last ten packets of that peer
-abbrev pub after_request : ℕ → Peer → Option ℕ → Peer
-after_request made peer request =
-    if peer.pause == 0 && is_within made request
+abbrev pub after_request : ℕ → ℕ → Peer → Option ℕ → Peer
+after_request places made peer request =
+    if peer.pause == 0 && is_within places made request
     then record peer { resend = requested_tic request; pause = 10 }
     else record peer { pause = peer.pause - 1 }
 
@@ -56,9 +56,9 @@ abbrev pub after_exit : Peer → Bool → ℕ → Peer
 after_exit peer exit end = if exit then record peer { end = Some end } else peer
 
 -- what is kept of the sender of a packet that is not dropped
-abbrev pub after_flight : ℕ → Peer → Flight → Peer
-after_flight made peer flight = after_exit (after_request made peer flight.request) (is_exit flight.kind)
-    (end_of flight)
+abbrev pub after_flight : ℕ → ℕ → Peer → Flight → Peer
+after_flight places made peer flight =
+    after_exit (after_request places made peer flight.request) (is_exit flight.kind) (end_of flight)
 
 -- the answer where nothing is missing up to a packet's end: for an EXIT packet that its sender has left, else
 -- this one
@@ -67,17 +67,17 @@ left_or exit heard = if exit then Heard.Left else heard
 
 -- what a playing node does with the commands of a packet: an overrun and a strange end are dropped; old ones
 -- are stale; past a gap a resend is wanted; and the others are taken from the first that is missing on
-abbrev pub on_commands : ℕ → Node → Flight → Node × Heard
-on_commands me node flight =
+abbrev pub on_commands : Limits → ℕ → Node → Flight → Node × Heard
+on_commands limits me node flight =
     let from = flight.from in
     let exit = is_exit flight.kind in
-    if nat_lt (ran node + 12) (end_of flight)
+    if nat_lt (ran node + limits.places) (end_of flight)
     then (node, Heard.Dropped drops.overrun)
     else (
     if is_strange_end exit (got node from) (ends_of node from) (end_of flight)
     then (node, Heard.Dropped drops.strange_end)
     else (
-    let peer = after_flight (made me node) (node.peers from) flight in
+    let peer = after_flight limits.places (made me node) (node.peers from) flight in
     if nat_le (end_of flight) (got node from)
     then (with_peer node from peer, left_or exit Heard.Stale)
     else (
@@ -91,18 +91,18 @@ on_commands me node flight =
     ))))
 
 -- a node that has ended hears requests if it has played, and takes no commands
-abbrev pub on_ended : Bool → ℕ → Node → Flight → Kind → Node × Heard
-on_ended false me node flight kind = (node, Heard.Dropped drops.not_playing)
-on_ended true me node flight (SetUp settings) = (node, Heard.Dropped drops.out_of_place)
-on_ended true me node flight Exit = (node, Heard.Dropped drops.not_playing)
-on_ended true me node flight Play = (
-  with_peer node flight.from (after_request (made me node) (node.peers flight.from) flight.request),
+abbrev pub on_ended : Limits → Bool → ℕ → Node → Flight → Kind → Node × Heard
+on_ended limits false me node flight kind = (node, Heard.Dropped drops.not_playing)
+on_ended limits true me node flight (SetUp settings) = (node, Heard.Dropped drops.out_of_place)
+on_ended limits true me node flight Exit = (node, Heard.Dropped drops.not_playing)
+on_ended limits true me node flight Play = (
+  with_peer node flight.from (after_request limits.places (made me node) (node.peers flight.from) flight.request),
   Heard.Noted,
 )
 
 -- by the phase and the packet's kind
 abbrev pub on_packet_in : Limits → ℕ → Node → Flight → Phase → Kind → Node × Heard
-on_packet_in limits me node flight (Ended cause) kind = on_ended node.played me node flight kind
+on_packet_in limits me node flight (Ended cause) kind = on_ended limits node.played me node flight kind
 on_packet_in limits me node flight Listening (SetUp settings) = (started node settings, Heard.Started)
 on_packet_in limits me node flight Gathering (SetUp settings) = (node, Heard.Dropped drops.out_of_place)
 on_packet_in limits me node flight Playing (SetUp settings) = (node, Heard.Dropped drops.out_of_place)
@@ -110,8 +110,8 @@ on_packet_in limits me node flight Listening Play = (node, Heard.Dropped drops.n
 on_packet_in limits me node flight Listening Exit = (node, Heard.Dropped drops.not_playing)
 on_packet_in limits me node flight Gathering Play = on_gathering limits node flight.from
 on_packet_in limits me node flight Gathering Exit = on_gathering limits node flight.from
-on_packet_in limits me node flight Playing Exit = on_commands me node flight
-on_packet_in limits me node flight Playing Play = on_commands me node flight
+on_packet_in limits me node flight Playing Exit = on_commands limits me node flight
+on_packet_in limits me node flight Playing Play = on_commands limits me node flight
 
 -- node `me` hears a packet: the node after it, and the answer
 unfoldable pub on_packet : Limits → ℕ → Node → Flight → Node × Heard

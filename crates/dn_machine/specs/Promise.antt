@@ -71,22 +71,22 @@ pub record Agree {S : Type 0} (rules : Rules S) (settings : Settings) (game : Ga
 abbrev pub end_or : Game → ℕ → ℕ → ℕ
 end_or game player tic = if has_left (game.nodes player) then made player (game.nodes player) else tic
 
--- Windows: no ring of twelve overwrites a command that a node that has not ended still needs.
+-- Windows: no ring overwrites a command that a node that has not ended still needs.
 pub record Fits {S : Type 0} (rules : Rules S) (game : Game) : Type 0 where
-  -- of each player a node has every command of the tics that it ran, up to that player's end, and at most ten
-  -- that it has not run yet
+  -- of each player a node has every command of the tics that it ran, up to that player's end, and at most
+  -- twice the window that it has not run yet
   pub run : (q p : ℕ) → q < rules.players → p < rules.players
       → min (ran (game.nodes q)) (end_or game p (ran (game.nodes q))) ≤ got (game.nodes q) p
   pub unread : (q p : ℕ) → q < rules.players → p < rules.players
-      → got (game.nodes q) p ≤ ran (game.nodes q) + 10
-  -- it has no command that was not made; and until it ends, it lacks at most ten that were made
+      → got (game.nodes q) p ≤ ran (game.nodes q) + (rules.ahead + rules.ahead)
+  -- it has no command that was not made; and until it ends, it lacks at most twice the window of those that were made
   pub held : (q p : ℕ) → q < rules.players → p < rules.players → got (game.nodes q) p ≤ made p (game.nodes p)
   pub unheard : (q p : ℕ) → q < rules.players → p < rules.players → is_ended (game.nodes q).phase ≡ false
-      → made p (game.nodes p) ≤ got (game.nodes q) p + 10
-  -- no player is more than five commands ahead of the tics run, nor of another player who has not ended
-  pub ahead : (p : ℕ) → p < rules.players → made p (game.nodes p) ≤ ran (game.nodes p) + 5
+      → made p (game.nodes p) ≤ got (game.nodes q) p + (rules.ahead + rules.ahead)
+  -- no player is further ahead than the window, of the tics run and of another player who has not ended
+  pub ahead : (p : ℕ) → p < rules.players → made p (game.nodes p) ≤ ran (game.nodes p) + rules.ahead
   pub close : (p q : ℕ) → p < rules.players → q < rules.players → is_ended (game.nodes q).phase ≡ false
-      → made p (game.nodes p) ≤ made q (game.nodes q) + 5
+      → made p (game.nodes p) ≤ made q (game.nodes q) + rules.ahead
   -- the demo's rows fit into it, and there are no more of them than any player has commands
   pub room : (q : ℕ) → q < rules.players → length (demo_rows rules.players (game.nodes q)) ≤ rules.capacity
   pub least : (q p : ℕ) → q < rules.players → p < rules.players

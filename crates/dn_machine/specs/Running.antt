@@ -32,14 +32,14 @@ abbrev pub is_awaited : Node → ℕ → Bool
 is_awaited node player = not (is_absent node player) && nat_le (got node player) (ran node)
 
 -- a present player's command for the next tic carries another mark than the node was told twelve tics before
-abbrev pub is_off : Limits → Node → ℕ → Bool
-is_off limits node player =
+abbrev pub is_off : Node → ℕ → Bool
+is_off node player =
     not (is_absent node player) && not (int_eq (held_at node player (ran node)).mark
     (own_mark node player (ran node)))
 
 -- the player whose mark is off in the next tic; none is looked at up to tic 12
 abbrev pub first_off : Limits → Node → Option ℕ
-first_off limits node = if nat_lt 12 (ran node) then lowest limits.players (is_off limits node) else None
+first_off limits node = if nat_lt 12 (ran node) then lowest limits.players (is_off node) else None
 
 -- the row of the commands that a node has of the present players for the next tic
 abbrev pub row_held : Limits → Node → List (Option Move)

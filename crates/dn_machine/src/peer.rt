@@ -3,7 +3,7 @@
 /// What a node keeps of a peer.
 #[derive(Clone, Copy, Debug)]
 pub struct Peer {
-    /// From which tic on it is sent commands next, if that is at most twelve behind what the node made.
+    /// From which tic on it is sent commands next, if the node still keeps the commands from there on.
     pub resend: u32,
     /// Whether the next packet asks it for a resend.
     pub want: bool,

@@ -14,7 +14,7 @@ use Rattle.dn_machine.proofs.Calls.{build_cases, send_cases, quit_cases, packet_
 use Rattle.dn_lockstep.specs.Phases.{is_waiting}
 use Rattle.dn_lockstep.specs.Received.{heard_as}
 use Rattle.dn_lockstep.specs.Sent.{sent_to}
-use Rattle.dn_machine.specs.Sending.{lag, after_sent}
+use Rattle.dn_machine.specs.Sending.{lag, last_sent, after_sent}
 use Rattle.dn_node.proofs.Ends.{KeepsEnds, peer_keeps}
 
 -- its world depends on the same
@@ -53,7 +53,7 @@ left_starts true heard other = refl
 left_starts false heard other = other
 
 module _ (limits : Limits) (me : ℕ) (m : machine.Node) where
-  pub build_beside : (input : Input) → Leaves m (on_build me m input).0
+  pub build_beside : (input : Input) → Leaves m (on_build limits me m input).0
   build_beside input = build_cases limits me m (Leaves m) input (λ full. leaves m)
       (λ plays free. (record { played = refl; settings = refl; rows = refl; marks = refl }, λ p e known. known))
 
@@ -62,7 +62,7 @@ module _ (limits : Limits) (me : ℕ) (m : machine.Node) where
       let P : machine.Node × Option Flight → Type 0 = λ x. Leaves m x.0 in
       let gives : Leaves m (after_sent limits me m to) = (
         record { played = refl; settings = refl; rows = refl; marks = refl },
-        peer_keeps m to (record (m.peers to) { resend = machine.made me m - lag limits }) (λ e known. known),
+        peer_keeps m to (record (m.peers to) { resend = last_sent limits me m to - lag limits }) (λ e known. known),
       ) in
       cond_both (nat_lt to limits.players) _ _ P
       (λ below. send_cases limits me m P to (leaves m) (λ other e. leaves m) (λ other e. gives)

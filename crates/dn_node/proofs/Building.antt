@@ -12,9 +12,9 @@ use Rattle.dn_node.proofs.Stepping.{steps_beside}
 
 pub builds : {W S : Type 0} (state : W → S) (physics : Physics S) (old new : Contents W) (input : Input)
     (made : Made)
-    → lockstep.Steps (locked old) (locked new) (λ limits me m. on_build me m input) (λ answer. made ≡ answer)
+    → lockstep.Steps (locked old) (locked new) (λ limits me m. on_build limits me m input) (λ answer. made ≡ answer)
     → new.world ≡ old.world
-    → Steps state physics old new (λ rules me m. on_build me m input) (λ answer. made ≡ answer)
+    → Steps state physics old new (λ rules me m. on_build rules.limits me m input) (λ answer. made ≡ answer)
 builds state physics old new input made locks same =
-    steps_beside state physics old new (λ limits me m. on_build me m input) (λ answer. made ≡ answer) locks same
+    steps_beside state physics old new (λ limits me m. on_build limits me m input) (λ answer. made ≡ answer) locks same
     (λ limits me m. build_beside limits me m input)

@@ -43,17 +43,17 @@ told_again true got known end before is fine =
 module _ (limits : Limits) (me : ℕ) (m : machine.Node) (flight : Flight) where
   sender_keeps : is_strange_end (is_exit flight.kind) (machine.got m flight.from) (ends_of m flight.from)
       (end_of flight) ≡ false → (end : ℕ) → ends_of m flight.from ≡ Some end
-      → (after_flight (machine.made me m) (m.peers flight.from) flight).end ≡ Some end
+      → (after_flight limits.places (machine.made me m) (m.peers flight.from) flight).end ≡ Some end
   sender_keeps fine end known =
-      flight_end (machine.made me m) (m.peers flight.from) flight
+      flight_end limits.places (machine.made me m) (m.peers flight.from) flight
       ∙ told_again (is_exit flight.kind) (machine.got m flight.from) end (end_of flight) (ends_of m flight.from)
       known fine
 
-  commands_keep : KeepsEnds m (on_commands me m flight).0
+  commands_keep : KeepsEnds m (on_commands limits me m flight).0
   commands_keep =
       let P : machine.Node × Heard → Type 0 = λ x. KeepsEnds m x.0 in
-      let peer : Peer = after_flight (machine.made me m) (m.peers flight.from) flight in
-      cond_both (ltb (machine.ran m + 12) (end_of flight)) _ _ P (λ over p end known. known)
+      let peer : Peer = after_flight limits.places (machine.made me m) (m.peers flight.from) flight in
+      cond_both (ltb (machine.ran m + limits.places) (end_of flight)) _ _ P (λ over p end known. known)
       (λ fits. cond_both (is_strange_end (is_exit flight.kind) (machine.got m flight.from)
       (ends_of m flight.from) (end_of flight)) _ _ P (λ strange p end known. known)
       (λ fine. cond_both (leb (end_of flight) (machine.got m flight.from)) _ _ P
@@ -62,13 +62,13 @@ module _ (limits : Limits) (me : ℕ) (m : machine.Node) (flight : Flight) where
       (λ gap. peer_keeps m flight.from (record peer { want = true }) (sender_keeps fine))
       (λ joins. peer_keeps m flight.from (record peer { want = false }) (sender_keeps fine)))))
 
-  ended_keeps : (played : Bool) (kind : Kind) → KeepsEnds m (on_ended played me m flight kind).0
+  ended_keeps : (played : Bool) (kind : Kind) → KeepsEnds m (on_ended limits played me m flight kind).0
   ended_keeps false kind = λ p end known. known
   ended_keeps true (SetUp settings) = λ p end known. known
   ended_keeps true Exit = λ p end known. known
   ended_keeps true Play = peer_keeps m flight.from
-      (after_request (machine.made me m) (m.peers flight.from) flight.request)
-      (λ end known. asked_end (machine.made me m) (m.peers flight.from) flight.request ∙ known)
+      (after_request limits.places (machine.made me m) (m.peers flight.from) flight.request)
+      (λ end known. asked_end limits.places (machine.made me m) (m.peers flight.from) flight.request ∙ known)
 
   gathering_keeps : KeepsEnds m (on_gathering limits m flight.from).0
   gathering_keeps = cond_both (all_noted limits.players (put m.noted flight.from true)) _ _

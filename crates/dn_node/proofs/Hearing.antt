@@ -11,10 +11,9 @@ use Rattle.dn_machine.specs.Flight.{Flight}
 use Rattle.dn_machine.specs.Hearing.{on_packet}
 use Rattle.dn_machine.specs.Calls as call
 use Rattle.dn_machine.specs.Limits.{Limits}
-use Rattle.dn_machine.specs.Worlds.{Rules, opening}
+use Rattle.dn_machine.specs.Worlds.{Rules, rules_within, opening, world_after}
 use Rattle.dn_machine.specs.Node as machine
 use Rattle.dn_machine.specs.Game.{own_world}
-use Rattle.dn_machine.specs.Worlds.{world_after}
 use Rattle.dn_lockstep.specs.Contents as lockstep_of_contents
 use Rattle.dn_lockstep.specs.Contents.{Contents as Lockstep}
 use Rattle.dn_lockstep.specs.Hearing as lockstep_hears
@@ -27,7 +26,7 @@ use Rattle.dn_lockstep.proofs.Moving.{known_by}
 use Rattle.std.proofs.lemmas.List.{nil_from_length}
 use Rattle.dn_node.specs.Contents.{Contents, locked, whose}
 use Rattle.dn_node.specs.Represents.{Represents}
-use Rattle.dn_node.specs.Steps.{under, Shows, IsAfter, HearsAny, HearsNear}
+use Rattle.dn_node.specs.Steps.{Shows, IsAfter, HearsAny, HearsNear}
 use Rattle.dn_node.proofs.Beside.{Hears, GoesOn, Starts, is_start, heard_beside}
 use Rattle.dn_node.proofs.Stepping.{beside_world, beside_marks}
 use Rattle.dn_machine.specs.Node.{ends_of}
@@ -57,12 +56,12 @@ pub record HasHeard {W S : Type 0} (state : W → S) (physics : Physics S) (old 
 module _ {W S : Type 0} {state : W → S} {physics : Physics S} {old new : Contents W} {after : Lockstep}
     {answer : Heard} (has : HasHeard state physics old new after answer) where
   -- the world of a node that starts begins, and that of another goes on
-  heard_so : (limits : Limits) (me : ℕ) (m : machine.Node) → Represents state (under physics limits) me old m
+  heard_so : (limits : Limits) (me : ℕ) (m : machine.Node) → Represents state (rules_within physics limits) me old m
       → (next : machine.Node × Heard) → Hears m next → KeepsEnds m next.0
       → lockstep_of.Represents limits me (locked new) next.0
-      → answer ≡ next.1 → IsAfter state (under physics limits) me new next (λ heard. answer ≡ heard)
+      → answer ≡ next.1 → IsAfter state (rules_within physics limits) me new next (λ heard. answer ≡ heard)
   heard_so limits me m r next (GoesOn is quiet) keeps shows told =
-      let rules = under physics limits in
+      let rules = rules_within physics limits in
       let other : answer ≢ Heard.Started =
       λ e. absurd (let not : is_start Heard.Started ≡ false = ap is_start (sym e ∙ told) ∙ quiet in cc) in
       record {
@@ -74,7 +73,7 @@ module _ {W S : Type 0} {state : W → S} {physics : Physics S} {old new : Conte
         answer = told;
       }
   heard_so limits me m r next (Starts rows waits starts) keeps shows told =
-      let rules = under physics limits in
+      let rules = rules_within physics limits in
       let none : machine.ran m ≡ 0 =
       sym r.lockstep.table.ran ∙ has.unrun (ap is_waiting r.lockstep.stands.phase ∙ waits) in
       record {

@@ -6,7 +6,7 @@ use Rattle.dn_setup.specs.Settings.{Settings}
 use Rattle.dn_world.specs.Physics.{Physics}
 use Rattle.dn_machine.specs.Game.{own_world}
 use Rattle.dn_machine.specs.Limits.{Limits}
-use Rattle.dn_machine.specs.Worlds.{Rules, mark_in, world_after}
+use Rattle.dn_machine.specs.Worlds.{Rules, rules_within, mark_in, world_after}
 use Rattle.dn_machine.specs.Node as machine
 use Rattle.dn_machine.specs.Node.{ends_of}
 use Rattle.dn_lockstep.specs.Represents.{marked_to}
@@ -15,7 +15,7 @@ use Rattle.dn_node.proofs.Ends.{KeepsEnds}
 use Rattle.dn_lockstep.specs.Steps as lockstep
 use Rattle.dn_node.specs.Contents.{Contents, locked}
 use Rattle.dn_node.specs.Represents.{HasOwnMarks, Represents}
-use Rattle.dn_node.specs.Steps.{under, Steps, Tells}
+use Rattle.dn_node.specs.Steps.{Steps, Tells}
 use Rattle.dn_node.proofs.Beside.{IsBeside}
 
 pub along : {W S : Type 0} {state : W → S} {rules : Rules S} {me : ℕ} {n : Contents W} {m next : machine.Node}
@@ -61,7 +61,7 @@ pub steps_beside : {W S A : Type 0} (state : W → S) (physics : Physics S) (old
 steps_beside state physics old new step IsAnswer locks same leaves = record {
   same = locks.same;
   step = λ limits me m r.
-      let rules = under physics limits in
+      let rules = rules_within physics limits in
       let after = locks.step limits me m r.lockstep in
       let is = leaves limits me m in
       record {

@@ -4,19 +4,15 @@ use Rattle.dn_world.specs.Physics.{Physics}
 use Rattle.dn_machine.specs.declared.answers.Heard.{Heard}
 use Rattle.dn_machine.specs.Calls as call
 use Rattle.dn_machine.specs.Limits.{Limits}
-use Rattle.dn_machine.specs.Worlds.{Rules}
+use Rattle.dn_machine.specs.Worlds.{Rules, rules_within}
 use Rattle.dn_machine.specs.Node as machine
 use Rattle.dn_lockstep.specs.Hearing as lockstep
 use Rattle.dn_node.specs.Contents.{Contents, locked, whose}
 use Rattle.dn_node.specs.Represents.{Represents}
 
--- the rules of a game of these limits
-abbrev pub under : {S : Type 0} → Physics S → Limits → Rules S
-under physics limits = record { physics = physics; limits = limits }
-
 -- what a node of a world of these physics represents
 abbrev pub Shows : {W S : Type 0} → (W → S) → Physics S → Limits → ℕ → Contents W → machine.Node → Type 0
-Shows state physics limits me n m = Represents state (under physics limits) me n m
+Shows state physics limits me n m = Represents state (rules_within physics limits) me n m
 
 -- it represents the node after a step, and answers as the step does
 abbrev pub IsAfter : {W S A : Type 0} → (W → S) → Rules S → ℕ → Contents W → machine.Node × A → (A → Type 0)
@@ -28,12 +24,12 @@ IsAfter state rules me n after IsAnswer = call.IsAfter (Represents state rules m
 abbrev pub Steps : {W S A : Type 0} → (W → S) → Physics S → Contents W → Contents W
     → (Rules S → ℕ → machine.Node → machine.Node × A) → (A → Type 0) → Type 0
 Steps state physics old new by IsAnswer =
-    call.Steps (Shows state physics) whose old new (λ limits. by (under physics limits)) IsAnswer
+    call.Steps (Shows state physics) whose old new (λ limits. by (rules_within physics limits)) IsAnswer
 
 -- whatever node it represents, this holds of that one
 abbrev pub Tells : {W S : Type 0} → (W → S) → Physics S → Contents W → (Rules S → ℕ → machine.Node → Type 0)
     → Type 0
-Tells state physics n Fact = call.Tells (Shows state physics) n (λ limits. Fact (under physics limits))
+Tells state physics n Fact = call.Tells (Shows state physics) n (λ limits. Fact (rules_within physics limits))
 
 -- whatever the bytes are, they are heard as what they are read as
 abbrev pub HearsAny : {W S : Type 0} → (W → S) → Physics S → ℕ → List ℕ → Contents W → Contents W → Heard

@@ -97,7 +97,7 @@ impl<W: World> Node<W> {
     pub fn command(&self, player: u8, tic: u32) -> Option<TicCmd>
         ensures value { result ≡ command_told (locked (contents self.now)) player tic }
         ensures told { Tells W.state W.physics (contents self.now)
-            (λ rules me m. result ≡ last_held rules.players m player tic) }
+            (λ rules me m. result ≡ last_held rules.limits m player tic) }
         ensures next { player < (contents self.now).players → tic ≡ (contents self.now).ran
             → tic < count_of (contents self.now).rings player → is_some result ≡ true }
     {

@@ -7,13 +7,12 @@ use Rattle.std.proofs.Math.Nat.{mod-lt}
 use Rattle.std.proofs.lemmas.Int.{ints}
 use Rattle.std.proofs.lemmas.List.Elements.{All-from_get_or}
 use Rattle.dn_tic.specs.declared.command.TicCmd.{TicCmd}
-use Rattle.dn_tic.specs.declared.input.Input.{Input}
 use Rattle.dn_tic.specs.Command.{IsCommand}
 use Rattle.dn_packet.specs.Text.{IsPacket}
 use Rattle.dn_setup.specs.Settings.{Settings, IsSettings}
 use Rattle.dn_setup.specs.Setup.{setup_packet}
 use Rattle.dn_setup.specs.Starts.{bit}
-use Rattle.dn_machine.specs.Worlds.{Rules, mark_in, worlds_to, command}
+use Rattle.dn_machine.specs.Worlds.{Inputs, Rules, mark_in, worlds_to, command}
 use Rattle.dn_machine.specs.Flight.{Kind, SetUp, Play, Exit, Flight, packet_of, request_flag, request_byte, end_of}
 use Rattle.dn_machine.specs.Game.{Game}
 use Rattle.dn_machine.specs.Node.{blank, has_left}
@@ -25,6 +24,8 @@ use Rattle.dn_machine.proofs.Invariant.{IsPiece, IsKept}
 use Rattle.dn_lockstep.specs.Near.{IsFair, IsFairKind}
 use Rattle.dn_lockstep.specs.Rings.{is_stop}
 use Rattle.dn_lockstep.proofs.Keeping.{none_stops}
+use Rattle.dn_machine.specs.Limits.{IsWindow}
+use Rattle.dn_lockstep.specs.Opening.{FitsPackets}
 use Rattle.dn_open.specs.Playable.{IsPlayable}
 use Rattle.dn_open.proofs.Commands.{AreInputs, inputs_up_to, made_by-fits, made_by-goes_on}
 use Rattle.dn_open.proofs.Deliveries.{IsBetween, AreSealable}
@@ -71,6 +72,7 @@ module _ {S : Type 0} (rules : Rules S) (settings : Settings) (few : rules.playe
   low p l =
       let ahead = kept.from_inputs.ahead p l in
       let most = (kept.sound p l).most short in
+      let back = kept.window.back in
       omega arith
 
   asks_low : (request : Option ℕ) → flight.request ≡ request → IfSome request (λ tic. tic < 2 ^ 32)
@@ -105,21 +107,21 @@ module _ {S : Type 0} (rules : Rules S) (settings : Settings) (playable : IsPlay
   mark_fits None player = omega (arith, ints)
   mark_fits (Some w) player = marks w player
 
-  command-fits : (inputs : ℕ → List Input) (p tic : ℕ) → AreInputs (inputs p)
+  command-fits : (inputs : Inputs) (p tic : ℕ) → AreInputs (inputs p)
       → IsCommand (command rules settings inputs p tic)
   unfolding command
   command-fits inputs p tic all =
       made_by-fits (take (tic + 1) (inputs p)) _ (inputs_up_to (inputs p) (tic + 1) all)
       (mark_fits (slice_get (worlds_to rules settings inputs tic) 12) p)
 
-  command-goes_on : (inputs : ℕ → List Input) (p tic : ℕ)
+  command-goes_on : (inputs : Inputs) (p tic : ℕ)
       → (command rules settings inputs p tic).forward ≢ negsuc 127
   unfolding command
   command-goes_on inputs p tic =
       made_by-goes_on (take (tic + 1) (inputs p))
       (mark_in rules.physics (slice_get (worlds_to rules settings inputs tic) 12) p)
 
-  module _ (inputs : ℕ → List Input) (left : ℕ → Bool) (flight : Flight)
+  module _ (inputs : Inputs) (left : ℕ → Bool) (flight : Flight)
       (piece : IsPiece rules settings inputs left flight) (sent : IsSent flight)
       (given : AreInputs (inputs flight.from)) where
     all_fit : All IsCommand flight.commands
@@ -161,11 +163,12 @@ module _ {S : Type 0} (rules : Rules S) (settings : Settings) (playable : IsPlay
     pub fair : IsFair flight
     fair = record { packet = packet_fits flight.kind refl; kind = kind_fits flight.kind refl }
 
-  pub always_sealable : (events : List _) (game : Game) → Runs rules settings events game
+  pub always_sealable : IsWindow rules.limits → FitsPackets rules.limits → (events : List _) (game : Game)
+      → Runs rules settings events game
       → ((q : ℕ) → AreInputs (game.nodes q).inputs) → AreSealable rules.players game.flights
-  always_sealable events game run inputs which flight there =
-      let kept = always rules settings events game run in
+  always_sealable window room events game run inputs which flight there =
+      let kept = always rules settings window events game run in
       let piece = kept.from_inputs.pieces which flight there in
-      let sent = (always_sent rules settings events game run).flights which flight there in
+      let sent = (always_sent rules room settings events game run).flights which flight there in
       fair_sealable rules settings playable.few playable.short game kept which flight there
       (fair (inputs_of game) (λ q. has_left (game.nodes q)) flight piece sent (inputs flight.from))

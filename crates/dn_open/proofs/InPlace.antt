@@ -9,6 +9,8 @@ use Rattle.dn_machine.specs.Game.{Game, opening_game}
 use Rattle.dn_machine.specs.Runs.{Next, Leads, Runs}
 use Rattle.dn_machine.specs.Worlds.{Rules}
 use Rattle.dn_machine.proofs.Games.{goes_on}
+use Rattle.dn_machine.specs.Limits.{IsWindow}
+use Rattle.dn_lockstep.specs.Opening.{FitsPackets}
 use Rattle.dn_open.specs.Playable.{IsPlayable}
 use Rattle.dn_open.specs.Sealed.{Seal}
 use Rattle.dn_open.specs.OpenGames.{OpenEvent, Own, Arrive, LeadsOpen, RunsOpen, StandFor}
@@ -17,6 +19,7 @@ use Rattle.dn_open.proofs.Ranges.{AllInputs, inputs_next, opening-inputs}
 use Rattle.dn_open.proofs.Fairness.{always_sealable}
 
 module _ {S : Type 0} (rules : Rules S) (seal : Seal) (settings : Settings)
+    (window : IsWindow rules.limits) (room : FitsPackets rules.limits)
     (playable : IsPlayable rules.players rules.capacity settings)
     (marks : (world : S) (player : ℕ) → FitsSigned w16 (rules.physics.mark world player)) (found : AreFound) where
   -- events that stand for these, and lead from one game to the other
@@ -34,7 +37,7 @@ module _ {S : Type 0} (rules : Rules S) (seal : Seal) (settings : Settings)
       (event ∷ on.0, (on.0, refl, on.1), (next, step, on.2))
   stand (Arrive node bytes ∷ events) before game last run inputs (next, step, rest) =
       elim (arrives rules game seal node bytes next found
-      (always_sealable rules settings playable marks before game run inputs) step.0 step.1) [
+      (always_sealable rules settings playable marks window room before game run inputs) step.0 step.1) [
         | inl same ↦
             let on = stand events before game last run inputs
             (subst (λ (g : Game). LeadsOpen rules seal g events last) same rest) in

@@ -50,7 +50,7 @@ module _ {S : Type 0} (rules : Rules S) where
   quit_keeps node = grind arith
 
   built_inputs : (me : ℕ) (node : Node) (input : Input) → AreInputs node.inputs → IsInput input
-      → AreInputs (on_build me node input).0.inputs
+      → AreInputs (on_build rules.limits me node input).0.inputs
   built_inputs me node input all one =
       build_cases rules.limits me node (λ (n : Node). AreInputs n.inputs) input (λ full. all)
       (λ plays more. inputs_more node.inputs input all one)

@@ -1,8 +1,8 @@
 -- What nodes send: no more than twelve commands, and set-up by the key player alone.
-use Rattle.std.proofs.Common.{◌≡◌, ◌≢◌, ◌≤◌, ◌+◌, ◌-◌, ℕ, Bool, true, false, List, length, sym, ap, ◌∙◌, subst, arith, Option, Some, None, inl, inr, cond, ltb}
+use Rattle.std.proofs.Common.{◌≡◌, ◌≢◌, ◌≤◌, ◌+◌, ◌-◌, ℕ, Bool, true, false, List, length, drop, sym, ap, ◌∙◌, subst, arith, Option, Some, None, inl, inr, cond, ltb}
 use Rattle.std.specs.Prelude.{slice_get}
 use Rattle.std.proofs.lemmas.Bool.{cases_eq, cond_both, ne_eqb, ltb-false}
-use Rattle.std.proofs.lemmas.List.{length-drop}
+use Rattle.std.proofs.lemmas.List.{length-take}
 use Rattle.std.proofs.lemmas.Option.{none-some}
 use Rattle.dn_setup.specs.Settings.{Settings}
 use Rattle.dn_machine.specs.declared.answers.Phase.{Phase}
@@ -13,9 +13,10 @@ use Rattle.dn_machine.specs.declared.events.Refusal.{Refusal}
 use Rattle.dn_machine.specs.Worlds.{Rules}
 use Rattle.dn_machine.specs.Flight.{Kind, SetUp, Play, Exit, Flight}
 use Rattle.dn_machine.specs.Node.{Node, made}
-use Rattle.dn_machine.specs.Sending.{lag, first_sent, set_up_flight, commands_flight, request_to, on_send}
+use Rattle.dn_machine.specs.Sending.{first_sent, last_sent, left_kind, set_up_flight, commands_flight, request_to, on_send}
 use Rattle.dn_machine.specs.Game.{Game, opening_game, with_node, posted, refused, delivered, on_event, applied_if, applied}
 use Rattle.dn_machine.specs.Runs.{Runs}
+use Rattle.dn_lockstep.specs.Opening.{FitsPackets}
 use Rattle.dn_machine.proofs.Calls.{send_cases}
 use Rattle.dn_machine.proofs.Changes.{Change, Same, Starts, Notes, Completes, Gone, build_change, send_change, run_change, quit_change, hear_change}
 use Rattle.dn_machine.proofs.EachEvent.{after_event, leads_keep}
@@ -67,24 +68,13 @@ opening-sent settings =
       flights = λ which flight h. absurd (none-some flight h);
     }
 
-module _ {S : Type 0} (rules : Rules S) where
+module _ {S : Type 0} (rules : Rules S) (room : FitsPackets rules.limits) where
   -- a packet of commands has no more than twelve
   few_sent : (i : ℕ) (node : Node) (to : ℕ) (kind : Kind) (request : Option ℕ)
       → length (commands_flight rules.limits i node to kind request).commands ≤ 12
   few_sent i node to kind request =
-      let long = length-drop (first_sent rules.limits i node to) (node.held i) in
-      let late : made i node ≤ first_sent rules.limits i node to + 12 =
-      cond_both (ltb (node.peers to).resend (made i node - 12)) _ _ (λ (n : ℕ). made i node ≤ n + 12)
-      (λ far. lag_low i node)
-      (λ near. let l = ltb-false (node.peers to).resend (made i node - 12) near in omega arith) in
+      let cut = length-take rules.most (drop (first_sent rules.limits i node to) (node.held i)) in
       omega arith
-    where
-      lag_low : (i : ℕ) (node : Node) → made i node ≤ made i node - lag rules.limits + 12
-      lag_low i node = go rules.extra
-        where
-          go : (extra : Bool) → made i node ≤ made i node - cond extra 1 0 + 12
-          go true = omega arith
-          go false = omega arith
 
   commands_sent : (i : ℕ) (node : Node) (to : ℕ) (kind : Kind) (request : Option ℕ)
       → ((s : Settings) → kind ≢ SetUp s) → IsSent (commands_flight rules.limits i node to kind request)
@@ -101,8 +91,13 @@ module _ {S : Type 0} (rules : Rules S) where
       (λ other g. set_up node.settings (key g))
       (λ other plays flight e. subst IsSent (some_is e)
       (commands_sent i node to Play (request_to node to) (λ s h. cc)))
-      (λ other left flight e. subst IsSent (some_is e) (commands_sent i node to Exit None (λ s h. cc)))
+      (λ other left flight e. subst IsSent (some_is e)
+      (commands_sent i node to (left_kind rules.limits i node to) None (left_word (ltb (last_sent rules.limits i node to) (made i node)))))
     where
+      left_word : (more : Bool) (s : Settings) → cond more Play Exit ≢ SetUp s
+      left_word true s h = cc
+      left_word false s h = cc
+
       some_is : {a b : Flight} → Some a ≡ Some b → a ≡ b
       some_is e = Rattle.std.proofs.lemmas.Option.same_Some _ _ e
 

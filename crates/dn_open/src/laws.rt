@@ -7,11 +7,12 @@ ghost use Rattle.dn_machine.specs.declared.events.Event.{Event};
 ghost use Rattle.dn_machine.specs.Game.{Game};
 ghost use Rattle.dn_machine.specs.Promise.{Agree, Fits, Steady};
 ghost use Rattle.dn_machine.specs.Runs.{Runs};
-ghost use Rattle.dn_machine.specs.Worlds.{rules_of};
+ghost use Rattle.dn_machine.specs.Worlds.{rules_of, rules_within};
 ghost use Rattle.dn_machine.specs.Flight.{Flight};
-ghost use Rattle.dn_machine.specs.Limits.{Limits};
+ghost use Rattle.dn_machine.specs.Limits.{Limits, IsWindow};
 ghost use Rattle.dn_lockstep.specs.Contents.{Contents};
 ghost use Rattle.dn_lockstep.specs.Near.{IsFair};
+ghost use Rattle.dn_lockstep.specs.Opening.{FitsPackets};
 ghost use Rattle.dn_lockstep.specs.OneGame.{AreOneGame};
 ghost use Rattle.dn_lockstep.specs.Session.{Session, with_lockstep, given_on, after_packet};
 ghost use Rattle.dn_lockstep.specs.Sent.{sent_to};
@@ -56,6 +57,30 @@ pub fn open_games_agree<W: World>()
         → IsPlayable players capacity settings
         → RunsOpen (rules_of W.physics players extra capacity) seal settings events game
         → Steady (rules_of W.physics players extra capacity) game }
+{
+    settings_found_again();
+}
+
+/// The same in any window, with packets of no more than twelve commands. `windows_hold` says both of every
+/// lockstep's.
+pub fn open_windows_agree<W: World>()
+    ensures stand { (limits : Limits) (seal : Seal) (settings : Settings) (events : List OpenEvent) (game : Game)
+        → IsWindow limits → FitsPackets limits → IsPlayable limits.players limits.capacity settings
+        → RunsOpen (rules_within W.physics limits) seal settings events game
+        → (plain : List Event) × StandFor plain events
+        × Runs (rules_within W.physics limits) settings plain game }
+    ensures agree { (limits : Limits) (seal : Seal) (settings : Settings) (events : List OpenEvent) (game : Game)
+        → IsWindow limits → FitsPackets limits → IsPlayable limits.players limits.capacity settings
+        → RunsOpen (rules_within W.physics limits) seal settings events game
+        → Agree (rules_within W.physics limits) settings game }
+    ensures fits { (limits : Limits) (seal : Seal) (settings : Settings) (events : List OpenEvent) (game : Game)
+        → IsWindow limits → FitsPackets limits → IsPlayable limits.players limits.capacity settings
+        → RunsOpen (rules_within W.physics limits) seal settings events game
+        → Fits (rules_within W.physics limits) game }
+    ensures steady { (limits : Limits) (seal : Seal) (settings : Settings) (events : List OpenEvent) (game : Game)
+        → IsWindow limits → FitsPackets limits → IsPlayable limits.players limits.capacity settings
+        → RunsOpen (rules_within W.physics limits) seal settings events game
+        → Steady (rules_within W.physics limits) game }
 {
     settings_found_again();
 }

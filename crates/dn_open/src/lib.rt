@@ -8,5 +8,5 @@ mod laws;
 mod sealed;
 
 pub use arrived::Arrived;
-pub use laws::{arrivals_keep_one_game, open_games_agree, sends_keep_one_game};
+pub use laws::{arrivals_keep_one_game, open_games_agree, open_windows_agree, sends_keep_one_game};
 pub use sealed::{packet_sealed, receive_sealed};

@@ -15,6 +15,7 @@ ghost use Rattle.dn_open.specs.Playable.{IsSmall};
 use crate::arrived::Arrived;
 use arrayvec::ArrayVec;
 use dn_lockstep::{Lockstep, are_tics_near};
+use dn_packet::MAX_DATAGRAM;
 use dn_seal::Sealer;
 
 /// Hears any bytes, wherever they come from. What is no envelope to this player in this game is dropped, and
@@ -43,11 +44,9 @@ pub fn packet_sealed(node: &mut Lockstep, sealer: &Sealer, to: u8) -> Option<Arr
     ensures fair { Tells (contents node.old) (λ limits me m. IfSome (sent_to to limits me m).1 IsFair) }
     ensures idle { result ≡ None → contents node.new ≡ contents node.old }
 {
-    let Some(aim) = node.aim(to) else {
+    let mut room = [0; MAX_DATAGRAM];
+    let Some((aim, size)) = node.packet_with_aim(to, &mut room) else {
         return None;
     };
-    let Some(bytes) = node.packet(to) else {
-        return None;
-    };
-    Some(sealer.seal(to, aim.start, aim.ask, bytes.as_slice()))
+    Some(sealer.seal(to, aim.start, aim.ask, &room[..size]))
 }

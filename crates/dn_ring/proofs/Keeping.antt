@@ -4,23 +4,23 @@ use Rattle.std.specs.Prelude.{slice_get, nat_le}
 use Rattle.std.proofs.lemmas.List.{drop-append-le, drop-drop, drop_all, length-append, length-drop}
 use Rattle.std.proofs.lemmas.Bool.{cases_lt, lt-ltb, le-ltb, le-leb, lt-leb}
 use Rattle.dn_tic.specs.declared.command.TicCmd.{TicCmd}
-use Rattle.dn_ring.specs.Ring.{put, get, since, ring_of, last_twelve}
+use Rattle.dn_ring.specs.Ring.{put, get, since, ring_of, last_of}
 
 -- one more command
-pub put-ring_of : (cs : List TicCmd) (c : TicCmd) → put (ring_of cs) c ≡ ring_of (cs ++ c ∷ [])
-put-ring_of cs c =
-    let n : ℕ = length cs - 12 in
+pub put-ring_of : (n : ℕ) (cs : List TicCmd) (c : TicCmd) → put n (ring_of n cs) c ≡ ring_of n (cs ++ c ∷ [])
+put-ring_of n cs c =
+    let k : ℕ = length cs - n in
     let one = length-append cs (c ∷ []) in
-    let kept = length-append (drop n cs) (c ∷ []) in
-    let rest = length-drop n cs in
+    let kept = length-append (drop k cs) (c ∷ []) in
+    let rest = length-drop k cs in
     let count : length cs + 1 ≡ length (cs ++ c ∷ []) = omega arith in
-    let joined : drop n cs ++ c ∷ [] ≡ drop n (cs ++ c ∷ []) =
-    sym (drop-append-le n cs (c ∷ []) (omega arith)) in
-    let place : n + (length (drop n cs ++ c ∷ []) - 12) ≡ length (cs ++ c ∷ []) - 12 = omega arith in
-    let last : drop (length (drop n cs ++ c ∷ []) - 12) (drop n cs ++ c ∷ [])
-    ≡ drop (length (cs ++ c ∷ []) - 12) (cs ++ c ∷ []) =
-    ap (drop (length (drop n cs ++ c ∷ []) - 12)) joined ∙ drop-drop _ n (cs ++ c ∷ [])
-    ∙ ap (λ (k : ℕ). drop k (cs ++ c ∷ [])) place in
+    let joined : drop k cs ++ c ∷ [] ≡ drop k (cs ++ c ∷ []) =
+    sym (drop-append-le k cs (c ∷ []) (omega arith)) in
+    let place : k + (length (drop k cs ++ c ∷ []) - n) ≡ length (cs ++ c ∷ []) - n = omega arith in
+    let last : drop (length (drop k cs ++ c ∷ []) - n) (drop k cs ++ c ∷ [])
+    ≡ drop (length (cs ++ c ∷ []) - n) (cs ++ c ∷ []) =
+    ap (drop (length (drop k cs ++ c ∷ []) - n)) joined ∙ drop-drop _ k (cs ++ c ∷ [])
+    ∙ ap (λ (j : ℕ). drop j (cs ++ c ∷ [])) place in
     λ i. record { count = count i; last = last i }
 
 -- places of a list from one on, and past its end
@@ -36,33 +36,33 @@ slice_get-past (x ∷ xs) zero h = absurd (omega arith)
 slice_get-past (x ∷ xs) (suc j) h = slice_get-past xs j (omega arith)
 
 -- the commands from a tic on, and none from a tic that is not there yet
-pub since-ring_of : (cs : List TicCmd) (g : ℕ) → length cs ≤ g + 12 → since (ring_of cs) g ≡ drop g cs
-since-ring_of cs g h =
-    let kept = length-drop (length cs - 12) cs in
-    let skipped : ℕ = length (last_twelve cs) - (length cs - g) in
-    let joined = drop-drop skipped (length cs - 12) cs in
+pub since-ring_of : (n : ℕ) (cs : List TicCmd) (g : ℕ) → length cs ≤ g + n → since (ring_of n cs) g ≡ drop g cs
+since-ring_of n cs g h =
+    let kept = length-drop (length cs - n) cs in
+    let skipped : ℕ = length (last_of n cs) - (length cs - g) in
+    let joined = drop-drop skipped (length cs - n) cs in
     elim (cases_lt g (length cs)) [
       | inl below ↦ joined ∙ ap (λ (k : ℕ). drop k cs) (omega arith)
       | inr past ↦ joined ∙ drop_all _ cs (omega arith) ∙ sym (drop_all g cs past)
     ]
 
 -- and nothing of what came before them
-pub get-gone : (cs : List TicCmd) (g : ℕ) → g + 12 < length cs → get (ring_of cs) g ≡ None
-get-gone cs g h =
+pub get-gone : (n : ℕ) (cs : List TicCmd) (g : ℕ) → g + n < length cs → get n (ring_of n cs) g ≡ None
+get-gone n cs g h =
     let first = lt-ltb g (length cs) (omega arith) in
-    let second : nat_le (length cs - g) 12 ≡ false = lt-leb (length cs - g) 12 (omega arith) in
+    let second : nat_le (length cs - g) n ≡ false = lt-leb (length cs - g) n (omega arith) in
     rw (first, second) refl
 
--- what a ring gives of the last twelve is what is held
-pub get-ring_of : (cs : List TicCmd) (g : ℕ) → length cs ≤ g + 12 → get (ring_of cs) g ≡ slice_get cs g
-get-ring_of cs g h =
+-- what a ring gives of the last commands is what is held
+pub get-ring_of : (n : ℕ) (cs : List TicCmd) (g : ℕ) → length cs ≤ g + n → get n (ring_of n cs) g ≡ slice_get cs g
+get-ring_of n cs g h =
     elim (cases_lt g (length cs)) [
       | inl below ↦
           let first = lt-ltb g (length cs) below in
-          let second : nat_le (length cs - g) 12 ≡ true = le-leb (length cs - g) 12 (omega arith) in
-          let place : length cs - 12 + (length (last_twelve cs) - (length cs - g)) ≡ g =
-          omega (arith, length-drop (length cs - 12) cs) in
-          rw (first, second) (slice_get-drop (length cs - 12) (length (last_twelve cs) - (length cs - g)) cs
+          let second : nat_le (length cs - g) n ≡ true = le-leb (length cs - g) n (omega arith) in
+          let place : length cs - n + (length (last_of n cs) - (length cs - g)) ≡ g =
+          omega (arith, length-drop (length cs - n) cs) in
+          rw (first, second) (slice_get-drop (length cs - n) (length (last_of n cs) - (length cs - g)) cs
           ∙ ap (slice_get cs) place)
       | inr past ↦
           let first = le-ltb g (length cs) past in

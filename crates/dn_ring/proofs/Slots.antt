@@ -3,14 +3,15 @@ use Rattle.std.proofs.Common.{◌≡◌, ◌≤◌, ◌<◌, ◌+◌, ◌-◌, �
 use Rattle.std.specs.Prelude.{min, All, slice_get, nat_le}
 use Rattle.std.specs.List.{range_with_len}
 use Rattle.std.proofs.lemmas.Bool.{lt-ltb, le-leb}
-use Rattle.std.proofs.lemmas.List.{drop-append-le, get_or-set_same, get_or-set_other}
+use Rattle.std.proofs.lemmas.List.{drop-append-le, length-drop, take_all, get_or-set_same, get_or-set_other}
 use Rattle.std.proofs.lemmas.List.Elements.{All-nil, All-append, All-take, All-drop}
-use Rattle.std.proofs.lemmas.List.FromFn.{length-map-range_with_len, get_or-map-range_with_len, map-range_with_len_more}
+use Rattle.std.proofs.lemmas.List.FromFn.{length-map-range_with_len, get_or-map-range_with_len, map-range_with_len_more, take-map-range_with_len}
 use Rattle.std.proofs.lemmas.Option.{slice_get-get_or, slice_get_within}
 use Rattle.dn_tic.specs.Command.{IsCommand}
 use Rattle.dn_tic.specs.declared.command.TicCmd.{TicCmd}
-use Rattle.dn_ring.specs.Ring.{Ring, put, get, since, ring_of, last_twelve, no_command, in_slot, last_in, IsTable, AreSlotsOf}
+use Rattle.dn_ring.specs.Ring.{Ring, put, get, since, ring_of, last_of, no_command, in_slot, last_in, IsTable, AreSlotsOf}
 use Rattle.dn_ring.proofs.Keeping.{get-ring_of}
+use Rattle.dn_ring.proofs.Places.{next_place, around, apart, below}
 
 module _ {X : Type 0} where
   -- two functions that agree on each number of a range
@@ -61,112 +62,123 @@ module _ {X : Type 0} where
       rw (e, k) (ap (λ (ys : List X). f a ∷ ys) (joined f (a + 1) m n))
 
 -- one more command, in the slot of its tic
-module _ (count : ℕ) (slots : List TicCmd) (table : IsTable count slots) (c : TicCmd) where
+module _ (n count : ℕ) (slots : List TicCmd) (table : IsTable n count slots) (c : TicCmd) where
   abbrev pub newer : List TicCmd
-  newer = set slots (count % 12) c
+  newer = set slots (count % n) c
 
-  stays : (tic : ℕ) → count + 1 - 12 ≤ tic → tic < count → in_slot newer tic ≡ in_slot slots tic
-  stays tic low high = get_or-set_other slots (count % 12) (tic % 12) c no_command (omega arith)
+  stays : (tic : ℕ) → count + 1 - n ≤ tic → tic < count → in_slot n newer tic ≡ in_slot n slots tic
+  stays tic low high = get_or-set_other slots (count % n) (tic % n) c no_command (apart n tic count table.some high (omega arith))
 
-  pub put_slot : last_in (count + 1) newer ≡ last_twelve (last_in count slots ++ c ∷ [])
+  pub put_slot : last_in n (count + 1) newer ≡ last_of n (last_in n count slots ++ c ∷ [])
   put_slot =
-      let first : ℕ = count + 1 - 12 in
-      let many : ℕ = min count 11 in
-      let total : min (count + 1) 12 ≡ many + 1 = omega arith in
-      let inside : count % 12 < length slots = let t = table.twelve in omega (arith, t) in
-      let latest : in_slot newer count ≡ c = get_or-set_same slots (count % 12) c no_command inside in
-      let kept = map_same (in_slot newer) (in_slot slots) first many
+      let some = table.some in
+      let first : ℕ = count + 1 - n in
+      let many : ℕ = min count (n - 1) in
+      let total : min (count + 1) n ≡ many + 1 = omega arith in
+      let inside : count % n < length slots = let t = table.full in let place = below n count table.some in omega arith in
+      let latest : in_slot n newer count ≡ c = get_or-set_same slots (count % n) c no_command inside in
+      let kept = map_same (in_slot n newer) (in_slot n slots) first many
       (λ tic low high. stays tic low (omega arith)) in
-      let long = length-map-range_with_len (in_slot slots) (count - 12) (min count 12) in
-      let joined = length-append (last_in count slots) (c ∷ []) in
-      let gone : length (last_in count slots ++ c ∷ []) - 12 ≡ first - (count - 12) = omega arith in
-      let begin : count - 12 + (first - (count - 12)) ≡ first = omega arith in
-      let rest : min count 12 - (first - (count - 12)) ≡ many = omega arith in
-      let older : drop (first - (count - 12)) (last_in count slots)
-      ≡ map (in_slot slots) (range_with_len first many) =
-      drop_range (in_slot slots) (first - (count - 12)) (count - 12) (min count 12)
-      ∙ (λ i. map (in_slot slots) (range_with_len (begin i) (rest i))) in
-      ap (λ (k : ℕ). map (in_slot newer) (range_with_len first k)) total
-      ∙ map-range_with_len_more (in_slot newer) first many count (omega arith)
+      let long = length-map-range_with_len (in_slot n slots) (count - n) (min count n) in
+      let joined = length-append (last_in n count slots) (c ∷ []) in
+      let gone : length (last_in n count slots ++ c ∷ []) - n ≡ first - (count - n) = omega arith in
+      let begin : count - n + (first - (count - n)) ≡ first = omega arith in
+      let rest : min count n - (first - (count - n)) ≡ many = omega arith in
+      let older : drop (first - (count - n)) (last_in n count slots)
+      ≡ map (in_slot n slots) (range_with_len first many) =
+      drop_range (in_slot n slots) (first - (count - n)) (count - n) (min count n)
+      ∙ (λ i. map (in_slot n slots) (range_with_len (begin i) (rest i))) in
+      ap (λ (k : ℕ). map (in_slot n newer) (range_with_len first k)) total
+      ∙ map-range_with_len_more (in_slot n newer) first many count (omega arith)
       ∙ (λ i. kept i ++ latest i ∷ [])
-      ∙ sym (ap (λ (k : ℕ). drop k (last_in count slots ++ c ∷ [])) gone
-      ∙ drop-append-le (first - (count - 12)) (last_in count slots) (c ∷ []) (omega arith)
+      ∙ sym (ap (λ (k : ℕ). drop k (last_in n count slots ++ c ∷ [])) gone
+      ∙ drop-append-le (first - (count - n)) (last_in n count slots) (c ∷ []) (omega arith)
       ∙ ap (λ (xs : List TicCmd). xs ++ c ∷ []) older)
 
-  pub put_table : record { count = count + 1; last = last_in (count + 1) newer }
-      ≡ put (record { count = count; last = last_in count slots }) c
+  pub put_table : record { count = count + 1; last = last_in n (count + 1) newer }
+      ≡ put n (record { count = count; last = last_in n count slots }) c
   put_table = λ i. record { count = count + 1; last = put_slot i }
 
 -- the command of a tic stands in its slot
-pub get_slot : (count tic : ℕ) (slots : List TicCmd) → tic < count → count ≤ tic + 12
-    → get (record { count = count; last = last_in count slots }) tic ≡ Some (in_slot slots tic)
-get_slot count tic slots low high =
+pub get_slot : (n count tic : ℕ) (slots : List TicCmd) → tic < count → count ≤ tic + n
+    → get n (record { count = count; last = last_in n count slots }) tic ≡ Some (in_slot n slots tic)
+get_slot n count tic slots low high =
     let first = lt-ltb tic count low in
-    let second : nat_le (count - tic) 12 ≡ true = le-leb (count - tic) 12 (omega arith) in
-    let place : ℕ = tic - (count - 12) in
-    let long = length-map-range_with_len (in_slot slots) (count - 12) (min count 12) in
-    let there : length (last_in count slots) - (count - tic) ≡ place = omega arith in
-    rw (first, second) (ap (slice_get (last_in count slots)) there
-    ∙ slice_get-get_or (last_in count slots) place no_command (omega arith)
-    ∙ ap Some (get_or-map-range_with_len (in_slot slots) (count - 12) (min count 12) place tic no_command
+    let second : nat_le (count - tic) n ≡ true = le-leb (count - tic) n (omega arith) in
+    let place : ℕ = tic - (count - n) in
+    let long = length-map-range_with_len (in_slot n slots) (count - n) (min count n) in
+    let there : length (last_in n count slots) - (count - tic) ≡ place = omega arith in
+    rw (first, second) (ap (slice_get (last_in n count slots)) there
+    ∙ slice_get-get_or (last_in n count slots) place no_command (omega arith)
+    ∙ ap Some (get_or-map-range_with_len (in_slot n slots) (count - n) (min count n) place tic no_command
     (omega arith) (omega arith)))
 
 -- the table is that of every list that it may come from
-pub slots_are : (count : ℕ) (slots commands : List TicCmd) → IsTable count slots
-    → record { count = count; last = last_in count slots } ≡ ring_of commands → AreSlotsOf commands slots
-slots_are count slots commands table is =
+pub slots_are : (n count : ℕ) (slots commands : List TicCmd) → IsTable n count slots
+    → record { count = count; last = last_in n count slots } ≡ ring_of n commands → AreSlotsOf n commands slots
+slots_are n count slots commands table is =
     let counted : count ≡ length commands = ap (λ (r : Ring). r.count) is in
-    let t = table.twelve in
+    let t = table.full in
     record {
-      twelve = table.twelve;
+      full = table.full;
       taken = λ tic command high at.
           let low = slice_get_within commands tic command at in
-          let same : Some (in_slot slots tic) ≡ Some command =
-          sym (get_slot count tic slots (omega arith) (omega arith)) ∙ ap (λ (r : Ring). get r tic) is
-          ∙ get-ring_of commands tic high ∙ at in
-          slice_get-get_or slots (tic % 12) no_command (omega arith) ∙ same;
+          let same : Some (in_slot n slots tic) ≡ Some command =
+          sym (get_slot n count tic slots (omega arith) (omega arith)) ∙ ap (λ (r : Ring). get n r tic) is
+          ∙ get-ring_of n commands tic high ∙ at in
+          let place = below n tic table.some in
+          slice_get-get_or slots (tic % n) no_command (omega arith) ∙ same;
       free = λ slot low high.
           slice_get-get_or slots slot no_command (omega arith) ∙ ap Some (table.free slot (omega arith) high);
     }
 
--- the commands from a tic on, in the slots of their tics
-module _ (count tic : ℕ) (slots : List TicCmd) (low : tic ≤ count) (high : count ≤ tic + 12)
-    (twelve : length slots ≡ 12) where
+-- so many commands from a tic on, in the slots of their tics
+module _ (n count tic many : ℕ) (some : 0 < n) (slots : List TicCmd) (low : tic + many ≤ count)
+    (high : count ≤ tic + n) (full : length slots ≡ n) where
   abbrev first : ℕ
-  first = tic % 12
+  first = tic % n
 
-  in_table : since (record { count = count; last = last_in count slots }) tic
-      ≡ map (in_slot slots) (range_with_len tic (count - tic))
+  in_table : map (in_slot n slots) (range_with_len tic many)
+      ≡ take many (since (record { count = count; last = last_in n count slots }) tic)
   in_table =
-      let long = length-map-range_with_len (in_slot slots) (count - 12) (min count 12) in
-      let skipped : length (last_in count slots) - (count - tic) ≡ tic - (count - 12) = omega arith in
-      let begin : count - 12 + (tic - (count - 12)) ≡ tic = omega arith in
-      let many : min count 12 - (tic - (count - 12)) ≡ count - tic = omega arith in
-      ap (λ (k : ℕ). drop k (last_in count slots)) skipped
-      ∙ drop_range (in_slot slots) (tic - (count - 12)) (count - 12) (min count 12)
-      ∙ (λ i. map (in_slot slots) (range_with_len (begin i) (many i)))
+      let long = length-map-range_with_len (in_slot n slots) (count - n) (min count n) in
+      let skipped : length (last_in n count slots) - (count - tic) ≡ tic - (count - n) = omega arith in
+      let begin : count - n + (tic - (count - n)) ≡ tic = omega arith in
+      let all : min count n - (tic - (count - n)) ≡ count - tic = omega arith in
+      sym (ap (take many) (ap (λ (k : ℕ). drop k (last_in n count slots)) skipped
+      ∙ drop_range (in_slot n slots) (tic - (count - n)) (count - n) (min count n)
+      ∙ (λ i. map (in_slot n slots) (range_with_len (begin i) (all i))))
+      ∙ take-map-range_with_len (in_slot n slots) tic (count - tic) many (omega arith))
 
   -- one piece
-  piece : (from a n : ℕ) → a + n ≤ 12 → a ≡ from % 12
-      → take n (drop a slots) ≡ map (in_slot slots) (range_with_len from n)
-  piece from a n fits place =
-      part slots no_command a n (omega arith)
-      ∙ moved (λ (k : ℕ). get_or slots k no_command) (in_slot slots) a from n
-      (λ j below. ap (λ (k : ℕ). get_or slots k no_command) (omega arith))
+  piece : (from a few : ℕ) → a + few ≤ n → a ≡ from % n
+      → take few (drop a slots) ≡ map (in_slot n slots) (range_with_len from few)
+  piece from a few fits place =
+      part slots no_command a few (omega arith)
+      ∙ moved (λ (k : ℕ). get_or slots k no_command) (in_slot n slots) a from few
+      (λ j less. ap (λ (k : ℕ). get_or slots k no_command)
+      (let step = next_place n from j (omega arith) in omega arith))
 
-  pub in_one : first + (count - tic) ≤ 12 → take (count - tic) (drop first slots)
-      ≡ since (record { count = count; last = last_in count slots }) tic
-  in_one fits = piece tic first (count - tic) fits refl ∙ sym in_table
+  pub in_one : first + many ≤ n → take many (drop first slots)
+      ≡ take many (since (record { count = count; last = last_in n count slots }) tic)
+  in_one fits = piece tic first many fits refl ∙ in_table
 
-  pub in_two : 12 ≤ first + (count - tic)
-      → take (12 - first) (drop first slots) ++ take (first + (count - tic) - 12) slots
-      ≡ since (record { count = count; last = last_in count slots }) tic
+  pub in_two : n ≤ first + many → take (n - first) (drop first slots) ++ take (first + many - n) slots
+      ≡ take many (since (record { count = count; last = last_in n count slots }) tic)
   in_two past =
-      let many : 12 - first + (first + (count - tic) - 12) ≡ count - tic = omega arith in
-      let one = piece tic first (12 - first) (omega arith) refl in
-      let two = piece (tic + (12 - first)) 0 (first + (count - tic) - 12) (omega arith) (omega arith) in
-      (λ i. one i ++ two i) ∙ joined (in_slot slots) tic (12 - first) (first + (count - tic) - 12)
-      ∙ ap (λ (k : ℕ). map (in_slot slots) (range_with_len tic k)) many ∙ sym in_table
+      let inside = below n tic some in
+      let turn = around n tic (n - first) (omega arith) (omega arith) in
+      let all : n - first + (first + many - n) ≡ many = omega arith in
+      let one = piece tic first (n - first) (omega arith) refl in
+      let two = piece (tic + (n - first)) 0 (first + many - n) (omega arith) (omega arith) in
+      (λ i. one i ++ two i) ∙ joined (in_slot n slots) tic (n - first) (first + many - n)
+      ∙ ap (λ (k : ℕ). map (in_slot n slots) (range_with_len tic k)) all ∙ in_table
+
+-- as many as there are
+pub all_since : (ring : Ring) (tic : ℕ) → take (ring.count - tic) (since ring tic) ≡ since ring tic
+all_since ring tic =
+    let kept = length-drop (length ring.last - (ring.count - tic)) ring.last in
+    take_all (ring.count - tic) (since ring tic) (omega arith)
 
 -- and in the ranges of their fields
 module _ (slots : List TicCmd) (valid : All IsCommand slots) where

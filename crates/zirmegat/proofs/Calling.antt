@@ -30,9 +30,9 @@ calls_lent h n m Step Empty live held step =
 
 -- the same input is built the same
 pub builds_same : {old new : Contents} {made : Made} {input other : Input} → input ≡ other
-    → Steps old new (λ limits me m. on_build me m input) (λ answer. made ≡ answer)
-    → Steps old new (λ limits me m. on_build me m other) (λ answer. made ≡ answer)
+    → Steps old new (λ limits me m. on_build limits me m input) (λ answer. made ≡ answer)
+    → Steps old new (λ limits me m. on_build limits me m other) (λ answer. made ≡ answer)
 builds_same {old} {new} {made} same steps =
-    let P : Input → Type 0 = λ input. Steps old new (λ limits me m. on_build me m input)
+    let P : Input → Type 0 = λ input. Steps old new (λ limits me m. on_build limits me m input)
     (λ answer. made ≡ answer) in
     subst P same steps

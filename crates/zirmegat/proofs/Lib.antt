@@ -4,3 +4,4 @@ pub mod HandleKinds
 pub mod Node
 pub mod Values
 pub mod Calling
+pub mod Opening

@@ -18,7 +18,7 @@ use Rattle.dn_lockstep.specs.Steps.{Steps, Tells}
 -- it makes the command of this input, or none and stays as it is
 abbrev pub Builds : Input → Contents → Contents → Made → Type 0
 Builds input old new made =
-    Steps old new (λ limits me m. on_build me m input) (λ answer. made ≡ answer)
+    Steps old new (λ limits me m. on_build limits me m input) (λ answer. made ≡ answer)
     × (made ≡ Made.Full → new ≡ old) × (made ≡ Made.NotPlaying → new ≡ old)
 
 -- it gives its next packet to this number, which is one that a datagram can carry, or none and stays as it is

@@ -6,7 +6,7 @@ use Rattle.dn_machine.specs.Game.{fresh}
 use Rattle.dn_lockstep.specs.declared.config.Config.{Config}
 use Rattle.dn_lockstep.specs.declared.config.NodeFault.{NodeFault}
 use Rattle.dn_lockstep.specs.Contents.{Contents, whose}
-use Rattle.dn_lockstep.specs.Opening.{IsAdmitted, limits_in, whose_in}
+use Rattle.dn_lockstep.specs.Opening.{IsAdmittedWithin, limits_within, whose_within}
 use Rattle.dn_lockstep.specs.Represents.{Represents}
 use Rattle.zirmegat.specs.declared.config.NodeConfig.{NodeConfig}
 use Rattle.zirmegat.specs.declared.config.GameSettings.{GameSettings}
@@ -41,26 +41,31 @@ fault_code NodeFault.Me = 2
 fault_code NodeFault.Key = 3
 fault_code NodeFault.Limit = 4
 fault_code NodeFault.Memory = 5
+fault_code NodeFault.Ahead = 10
 
 -- a node with no history
-abbrev pub IsFresh : Config → Contents → Type 0
-IsFresh config n = (settings : Settings) → (config.me ≡ 0 → config.settings ≡ Some settings)
-    → Represents (limits_in config) config.me n (fresh settings config.me)
+abbrev pub IsFresh : Config → ℕ → Contents → Type 0
+IsFresh config ahead n = (settings : Settings) → (config.me ≡ 0 → config.settings ≡ Some settings)
+    → Represents (limits_within config ahead) config.me n (fresh settings config.me)
 
--- 0 and the node that was made, of the player and the game that the configuration says, or why there is none
-abbrev pub IsMade : Config → Result Contents NodeFault → ℕ → Option Contents → Type 0
-IsMade config (Ok made) code node = (code ≡ 0) × (node ≡ Some made) × IsFresh config made
-    × (whose made ≡ whose_in config)
-IsMade config (Err fault) code node = (code ≡ fault_code fault) × (node ≡ None)
+-- 0 and the node that was made, of the player and the game that configuration and window say, or why there is none
+abbrev pub IsMade : Config → ℕ → Result Contents NodeFault → ℕ → Option Contents → Type 0
+IsMade config ahead (Ok made) code node = (code ≡ 0) × (node ≡ Some made) × IsFresh config ahead made
+    × (whose made ≡ whose_within config ahead)
+IsMade config ahead (Err fault) code node = (code ≡ fault_code fault) × (node ≡ None)
 
-abbrev pub OpensBy : NodeConfig → Result (Option Settings) SettingsFault → ℕ → Option Contents → Type 0
-OpensBy config (Err fault) code node = (code ≡ settings_code fault) × (node ≡ None)
-OpensBy config (Ok settings) code node =
-    (made : Result Contents NodeFault) × IsAdmitted (config_of config settings) made
-    × IsMade (config_of config settings) made code node
+abbrev pub OpensBy : NodeConfig → ℕ → Result (Option Settings) SettingsFault → ℕ → Option Contents → Type 0
+OpensBy config ahead (Err fault) code node = (code ≡ settings_code fault) × (node ≡ None)
+OpensBy config ahead (Ok settings) code node =
+    (made : Result Contents NodeFault) × IsAdmittedWithin (config_of config settings) ahead made
+    × IsMade (config_of config settings) ahead made code node
 
--- the settings are looked at first, and then the rest
-abbrev pub Opens : NodeConfig → ℕ → Option Contents → Type 0
-Opens config code node =
+-- the settings are looked at first, then the window, and then the rest
+abbrev pub OpensWithin : NodeConfig → ℕ → ℕ → Option Contents → Type 0
+OpensWithin config ahead code node =
     (chosen : Result (Option Settings) SettingsFault) × IsChosen config chosen
-    × OpensBy config chosen code node
+    × OpensBy config ahead chosen code node
+
+-- the same in the window of 1997
+abbrev pub Opens : NodeConfig → ℕ → Option Contents → Type 0
+Opens config code node = OpensWithin config 5 code node

@@ -76,8 +76,8 @@ impl PhaseAnswer {
     }
 }
 
-/// What a build answers: 0 where the command of `tic` was made, 1 where five wait to be run, 2 where the
-/// node does not play.
+/// What a build answers: 0 where the command of `tic` was made, 1 where as many wait to be run as the window
+/// allows, 2 where the node does not play.
 #[repr(C)]
 #[derive(Clone, Copy, Debug, PartialEq, Eq)]
 pub struct BuildAnswer {
@@ -227,24 +227,24 @@ pub struct MoveAnswer {
 }
 
 impl MoveAnswer {
-    pub(crate) fn of(step: Option<Move>) -> MoveAnswer
-        ensures { result ≡ move_told step }
+    /// No move.
+    pub(crate) const NONE: MoveAnswer = MoveAnswer {
+        turn: 0,
+        forward: 0,
+        side: 0,
+        buttons: 0,
+        present: 0,
+    };
+
+    pub(crate) fn of(step: Move) -> MoveAnswer
+        ensures { result ≡ move_told (Some step) }
     {
-        match step {
-            Some(step) => MoveAnswer {
-                turn: step.turn,
-                forward: step.forward,
-                side: step.side,
-                buttons: step.buttons,
-                present: 1,
-            },
-            None => MoveAnswer {
-                turn: 0,
-                forward: 0,
-                side: 0,
-                buttons: 0,
-                present: 0,
-            },
+        MoveAnswer {
+            turn: step.turn,
+            forward: step.forward,
+            side: step.side,
+            buttons: step.buttons,
+            present: 1,
         }
     }
 }

@@ -103,16 +103,27 @@ pub extern "C" fn zmg_node_quit(node: &mut NodeHandle) -> u32
     }
 }
 
+/// Tells a move, where none is told yet.
+fn tell_move(answer: &mut MoveAnswer, step: Option<Move>)
+    requires { answer.old ≡ move_told None }
+    ensures { answer.new ≡ move_told step }
+{
+    if let Some(step) = step {
+        *answer = MoveAnswer::of(step);
+    }
+}
+
 /// Tells four moves. It is not inlined, since the compiler would otherwise load all of them before it stores
 /// one.
 #[inline(never)]
 fn tell_moves(row: &mut [MoveAnswer; 4], moves: &[Option<Move>; 4])
     ensures { row.new ≡ map move_told moves.now }
 {
-    row[0] = MoveAnswer::of(moves[0]);
-    row[1] = MoveAnswer::of(moves[1]);
-    row[2] = MoveAnswer::of(moves[2]);
-    row[3] = MoveAnswer::of(moves[3]);
+    *row = [MoveAnswer::NONE; 4];
+    tell_move(&mut row[0], moves[0]);
+    tell_move(&mut row[1], moves[1]);
+    tell_move(&mut row[2], moves[2]);
+    tell_move(&mut row[3], moves[3]);
 }
 
 /// Tells the moves of a row, where there is one.

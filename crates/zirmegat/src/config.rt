@@ -140,5 +140,6 @@ pub(crate) fn fault_code(fault: NodeFault) -> u32
         NodeFault::Key => 3,
         NodeFault::Limit => 4,
         NodeFault::Memory => 5,
+        NodeFault::Ahead => 10,
     }
 }

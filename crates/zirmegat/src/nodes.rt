@@ -2,22 +2,22 @@
 
 ghost use Rattle.std.specs.Prelude.{◌≡◌, None, IfOk};
 ghost use Rattle.dn_lockstep.specs.Contents.{contents, whose};
-ghost use Rattle.dn_lockstep.specs.Opening.{IsAdmitted, whose_in};
+ghost use Rattle.dn_lockstep.specs.Opening.{IsAdmittedWithin, whose_within};
 ghost use Rattle.zirmegat.specs.Calls.{node_of};
-ghost use Rattle.zirmegat.specs.Opening.{IsFresh, Opens};
+ghost use Rattle.zirmegat.specs.Opening.{IsFresh, Opens, OpensWithin};
 
 use crate::config::{NodeConfig, fault_code, settings_code};
 use crate::handle::NodeHandle;
-use dn_lockstep::{Config, Lockstep, NodeFault};
+use dn_lockstep::{Config, Lockstep, MOST_AHEAD, NodeFault};
 use std::alloc::Global;
 
-/// A node of this configuration, in a box.
-fn boxed(alloc: Global, config: Config) -> Result<Box<Lockstep>, NodeFault>
-    ensures admitted { IsAdmitted config result }
-    ensures fresh { IfOk result (λ made. IsFresh config (contents made.value)) }
-    ensures whose { IfOk result (λ made. whose (contents made.value) ≡ whose_in config) }
+/// A node of this configuration in a window of this width, in a box.
+fn boxed(alloc: Global, config: Config, ahead: u8) -> Result<Box<Lockstep>, NodeFault>
+    ensures admitted { IsAdmittedWithin config ahead result }
+    ensures fresh { IfOk result (λ made. IsFresh config ahead (contents made.value)) }
+    ensures whose { IfOk result (λ made. whose (contents made.value) ≡ whose_within config ahead) }
 {
-    let made = Lockstep::new(alloc, config)?;
+    let made = Lockstep::within(alloc, config, ahead)?;
     match Box::new(alloc, made) {
         Ok(made) => Ok(made),
         Err(_) => Err(NodeFault::Memory),
@@ -31,12 +31,26 @@ fn boxed(alloc: Global, config: Config) -> Result<Box<Lockstep>, NodeFault>
 pub extern "C" fn zmg_node_new(alloc: Global, node: &mut NodeHandle, config: &NodeConfig) -> u32
     ensures { Opens config.now result (node_of node.new) }
 {
+    zmg_node_new_within(alloc, node, config, MOST_AHEAD)
+}
+
+/// The same for a node whose player may be so many commands ahead of the tics run, 1 to 12, the same for all
+/// players of the game. Answers 10 for another number, where player 0's settings are in range.
+#[unsafe(no_mangle)]
+pub extern "C" fn zmg_node_new_within(
+    alloc: Global,
+    node: &mut NodeHandle,
+    config: &NodeConfig,
+    ahead: u8,
+) -> u32
+    ensures { OpensWithin config.now ahead result (node_of node.new) }
+{
     drop(node.take(alloc));
     let settings = match config.choice() {
         Ok(settings) => settings,
         Err(fault) => return settings_code(fault),
     };
-    match boxed(alloc, config.with(settings)) {
+    match boxed(alloc, config.with(settings), ahead) {
         Ok(made) => {
             *node = NodeHandle::of(made);
             0

@@ -1,7 +1,8 @@
 //! The exact numbers of the packets that go out.
 
-ghost use Rattle.std.specs.Prelude.{◌≡◌, ◌<◌, ◌≤◌, ◌+◌, IfSome, is_some};
+ghost use Rattle.std.specs.Prelude.{◌≡◌, ◌<◌, ◌≤◌, ◌+◌, ◌-◌, min, nat_lt, if◌then◌else◌, IfSome, is_some};
 ghost use Rattle.std.specs.Option.{option_map};
+ghost use Rattle.dn_packet.specs.Flags.{exit};
 ghost use Rattle.dn_setup.specs.Starts.{bit};
 ghost use Rattle.dn_machine.specs.declared.answers.Phase.TheVariants.{Ended};
 ghost use Rattle.dn_machine.specs.declared.answers.Cause.{Cause};
@@ -11,9 +12,11 @@ ghost use Rattle.dn_lockstep.specs.Rings.{count_of};
 ghost use Rattle.dn_lockstep.specs.Sent.{sent_to, aim_of};
 
 use super::Lockstep;
-use crate::rings::PLACES;
 use dn_machine::Phase;
 use dn_packet::{EXIT, RETRANSMIT, SETUP};
+
+/// How many commands a packet carries at most (`d_net.h`, doomdata_t).
+const MOST_SENT: u32 = 12;
 
 /// The exact numbers of a packet, of which it carries the low bytes.
 #[derive(Clone, Copy, Debug, PartialEq, Eq)]
@@ -54,6 +57,8 @@ impl Lockstep {
     ghost use Rattle.dn_lockstep.specs.Giving.{Reaches, Gives, gives};
 
     /// The exact numbers of the packet that `packet` would give now.
+    // Inlined, so that a packet is given without a call for its numbers.
+    #[inline(always)]
     pub fn aim(&self, to: u8) -> Option<Aim>
         ensures told { Tells (contents self.now)
             (λ limits me m. result ≡ option_map aim_of (sent_to to limits me m).1) }
@@ -77,20 +82,36 @@ impl Lockstep {
         }
     }
 
-    /// The first tic of the next packet to a peer, never more than twelve behind.
+    /// The first tic of the next packet to a peer, never further behind than commands are kept.
     fn first_sent(&self, to: u8) -> u32
         requires { to < (contents self.now).players }
         ensures told { Tells (contents self.now) (λ limits me m. result ≡ first_sent limits me m to) }
         ensures low { result ≤ count_of (contents self.now).rings (contents self.now).me }
-        ensures high { count_of (contents self.now).rings (contents self.now).me ≤ result + 12 }
+        ensures high { count_of (contents self.now).rings (contents self.now).me ≤ result + 32 }
     {
         let made = self.made();
         let resend = self.peers.get(to).resend;
-        if resend < made.saturating_sub(PLACES) {
+        if made - resend > self.places {
             made - self.lag()
         } else {
             resend
         }
+    }
+
+    /// How many commands from there on the next packet carries.
+    fn many_from(&self, start: u32) -> u8
+        requires low { start ≤ count_of (contents self.now).rings (contents self.now).me }
+        ensures { result ≡ min 12 (count_of (contents self.now).rings (contents self.now).me - start) }
+    {
+        (self.made() - start).min(MOST_SENT) as u8
+    }
+
+    /// The flag of a packet that ends at this tic, of a node that has played and ended.
+    fn exit_flag(&self, end: u32) -> u8
+        ensures { result ≡ (if nat_lt end (count_of (contents self.now).rings (contents self.now).me) then 0
+            else exit) }
+    {
+        if end < self.made() { 0 } else { EXIT }
     }
 
     /// The tic that the peer is asked for, if commands of it are missing.
@@ -118,12 +139,13 @@ impl Lockstep {
             flags: request_flag(ask),
             ask,
             start,
-            count: (self.made() - start) as u8,
+            count: self.many_from(start),
         }
     }
 
-    /// The numbers of an EXIT packet (`d_net.c`, D_QuitNetGame), which a node gives that has played and
-    /// ended: it carries the last commands, so that the peers know all up to its end, and asks for none.
+    /// The numbers of a packet that a node gives which has played and ended: it asks for no commands. It is an
+    /// EXIT packet (`d_net.c`, D_QuitNetGame) where it carries the last command, so that the peers know all up to
+    /// the node's end, and else one like those before.
     fn aim_of_exit(&self, to: u8) -> Option<Aim>
         requires below { to < (contents self.now).players }
         ensures told { (cause : Cause) → Tells (contents self.now)
@@ -135,11 +157,12 @@ impl Lockstep {
             return None;
         }
         let start = self.first_sent(to);
+        let count = self.many_from(start);
         Some(Aim {
-            flags: EXIT,
+            flags: self.exit_flag(start + u32::from(count)),
             ask: None,
             start,
-            count: (self.made() - start) as u8,
+            count,
         })
     }
 

@@ -9,24 +9,21 @@ use super::Lockstep;
 use dn_machine::{Made, Phase};
 use dn_tic::{Command, Input, Keys};
 
-/// Most commands built but not yet run (`d_net.c`, NetUpdate).
-pub const MOST_AHEAD: u32 = 5;
-
 impl Lockstep {
     ghost use Rattle.dn_machine.specs.Building.{on_build};
     ghost use Rattle.dn_lockstep.specs.Contents.{contents};
     ghost use Rattle.dn_lockstep.specs.Commands.{makes, can_make};
     ghost use Rattle.dn_lockstep.specs.Steps.{Steps, Tells};
 
-    /// Whether [`Lockstep::build`] and [`Lockstep::give`] would make a command now: it plays, and fewer than
-    /// [`MOST_AHEAD`] of its commands wait to be run.
+    /// Whether [`Lockstep::build`] and [`Lockstep::give`] would make a command now: it plays, and fewer of its
+    /// commands wait to be run than its window allows.
     pub fn can_build(&self) -> bool
         ensures value { result ≡ can_make (contents self.now) }
         ensures told { Tells (contents self.now)
-            (λ limits me m. (input : AnyInput) → result ≡ makes me m input) }
+            (λ limits me m. (input : AnyInput) → result ≡ makes limits me m input) }
     {
         match self.phase {
-            Phase::Playing => self.made() - self.ran < MOST_AHEAD,
+            Phase::Playing => self.made() - self.ran < self.ahead,
             _ => false,
         }
     }
@@ -34,7 +31,7 @@ impl Lockstep {
     /// Builds the command of these keys for the next tic. A node that builds none stays as it is.
     pub fn build(&mut self, keys: Keys) -> Made
         ensures step { Steps (contents self.old) (contents self.new)
-            (λ limits me m. on_build me m (Pressed keys)) (λ made. result ≡ made) }
+            (λ limits me m. on_build limits me m (Pressed keys)) (λ made. result ≡ made) }
         ensures full { result ≡ Full → contents self.new ≡ contents self.old }
         ensures idle { result ≡ NotPlaying → contents self.new ≡ contents self.old }
     {
@@ -45,7 +42,7 @@ impl Lockstep {
     /// counts as -127. A node that takes none stays as it is.
     pub fn give(&mut self, command: Command) -> Made
         ensures step { Steps (contents self.old) (contents self.new)
-            (λ limits me m. on_build me m (Given command)) (λ made. result ≡ made) }
+            (λ limits me m. on_build limits me m (Given command)) (λ made. result ≡ made) }
         ensures full { result ≡ Full → contents self.new ≡ contents self.old }
         ensures idle { result ≡ NotPlaying → contents self.new ≡ contents self.old }
     {
@@ -57,7 +54,7 @@ impl Lockstep {
     #[inline(always)]
     fn make(&mut self, input: Input) -> Made
         ensures step { Steps (contents self.old) (contents self.new)
-            (λ limits me m. on_build me m input) (λ made. result ≡ made) }
+            (λ limits me m. on_build limits me m input) (λ made. result ≡ made) }
         ensures full { result ≡ Full → contents self.new ≡ contents self.old }
         ensures idle { result ≡ NotPlaying → contents self.new ≡ contents self.old }
     {
@@ -65,7 +62,7 @@ impl Lockstep {
             return Made::NotPlaying;
         };
         let tic = self.made();
-        if tic - self.ran >= MOST_AHEAD {
+        if tic - self.ran >= self.ahead {
             return Made::Full;
         }
         let mark = self.marks.get(self.me, tic);

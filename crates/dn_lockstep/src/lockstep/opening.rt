@@ -3,7 +3,7 @@
 ghost use Rattle.std.specs.Prelude.{◌≡◌, ◌==◌, if◌then◌else◌, Some, IfOk, true};
 ghost use Rattle.dn_machine.specs.declared.answers.Phase.TheVariants.{Listening, Gathering};
 ghost use Rattle.dn_demo.specs.Recorded.{capacity};
-ghost use Rattle.dn_lockstep.specs.Opening.{IsAdmitted, IsGame};
+ghost use Rattle.dn_lockstep.specs.Opening.{IsAdmitted, IsAdmittedWithin, IsGame, CanBeAhead, places_for};
 
 use super::Lockstep;
 use crate::config::{Config, NodeFault};
@@ -24,6 +24,32 @@ pub fn is_game(players: usize) -> bool
     (2..=4).contains(&players)
 }
 
+/// How many commands a player may be ahead of the tics that its node ran, in the window of 1997 (`d_net.c`,
+/// NetUpdate).
+pub const MOST_AHEAD: u8 = 5;
+
+/// The widest window of [`Lockstep::within`].
+pub const WIDEST_AHEAD: u8 = 12;
+
+/// How many commands of each player are kept in the window of 1997, and in any (`d_net.h`, BACKUPTICS).
+const FEWEST_KEPT: u32 = 12;
+
+/// Whether a node can have a window of this width.
+fn can_be_ahead(ahead: u8) -> bool
+    ensures yes { result ≡ true → CanBeAhead ahead }
+    ensures no { CanBeAhead ahead → result ≡ true }
+{
+    (1..=WIDEST_AHEAD).contains(&ahead)
+}
+
+/// How many commands of each player are kept in a window of this width.
+fn places_for(ahead: u8) -> u32
+    requires { CanBeAhead ahead }
+    ensures { result ≡ places_for ahead }
+{
+    u32::from(2 * ahead).max(FEWEST_KEPT)
+}
+
 /// Player 0 has the settings and gathers, and the others listen.
 fn first_phase(me: u8) -> Phase
     ensures { result ≡ (if me == 0 then Gathering else Listening) }
@@ -39,7 +65,7 @@ impl Lockstep {
     ghost use Rattle.dn_setup.specs.Settings.{Settings as Choice};
     ghost use Rattle.dn_machine.specs.Game.{fresh};
     ghost use Rattle.dn_lockstep.specs.Contents.{contents, whose};
-    ghost use Rattle.dn_lockstep.specs.Opening.{limits_in, whose_in};
+    ghost use Rattle.dn_lockstep.specs.Opening.{limits_in, limits_within, whose_in, whose_within};
     ghost use Rattle.dn_lockstep.specs.Represents.{Represents};
 
     /// A lockstep with no history: player 0 gathers, the others listen. All memory that it needs is taken
@@ -50,6 +76,34 @@ impl Lockstep {
             → (config.me ≡ 0 → config.settings ≡ Some settings)
             → Represents (limits_in config) config.me (contents lockstep) (fresh settings config.me)) }
         ensures whose { IfOk result (λ lockstep. whose (contents lockstep) ≡ whose_in config) }
+    {
+        Lockstep::open(alloc, config, MOST_AHEAD)
+    }
+
+    /// The same in a window of this width, one to twelve: so many commands a player may be ahead of the tics that
+    /// its node ran. All locksteps of a game have the same.
+    pub fn within(alloc: Global, config: Config, ahead: u8) -> Result<Lockstep, NodeFault>
+        ensures admitted { IsAdmittedWithin config ahead result }
+        ensures opened { IfOk result (λ lockstep. (settings : Choice)
+            → (config.me ≡ 0 → config.settings ≡ Some settings)
+            → Represents (limits_within config ahead) config.me (contents lockstep) (fresh settings config.me)) }
+        ensures whose { IfOk result (λ lockstep. whose (contents lockstep) ≡ whose_within config ahead) }
+    {
+        if can_be_ahead(ahead) {
+            Lockstep::open(alloc, config, ahead)
+        } else {
+            Err(NodeFault::Ahead)
+        }
+    }
+
+    /// A lockstep in a window that it can have.
+    fn open(alloc: Global, config: Config, ahead: u8) -> Result<Lockstep, NodeFault>
+        requires { CanBeAhead ahead }
+        ensures admitted { IsAdmitted config result }
+        ensures opened { IfOk result (λ lockstep. (settings : Choice)
+            → (config.me ≡ 0 → config.settings ≡ Some settings)
+            → Represents (limits_within config ahead) config.me (contents lockstep) (fresh settings config.me)) }
+        ensures whose { IfOk result (λ lockstep. whose (contents lockstep) ≡ whose_within config ahead) }
     {
         if !is_game(usize::from(config.players)) {
             return Err(NodeFault::Players);
@@ -66,6 +120,8 @@ impl Lockstep {
             me: config.me,
             extra: config.extra,
             capacity: capacity(config.limit, config.players),
+            ahead: u32::from(ahead),
+            places: places_for(ahead),
             phase: first_phase(config.me),
             played: false,
             settings: config.settings,

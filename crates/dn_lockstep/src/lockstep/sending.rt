@@ -1,6 +1,6 @@
 //! The packets that go out.
 
-ghost use Rattle.std.specs.Prelude.{◌≡◌, ◌<◌, ◌≤◌, length, true, false, None, IfSome};
+ghost use Rattle.std.specs.Prelude.{◌≡◌, ◌<◌, ◌≤◌, length, true, false, Some, None, IfSome};
 ghost use Rattle.std.specs.List.{list_any};
 ghost use Rattle.std.specs.Option.{option_map};
 ghost use Rattle.dn_packet.specs.Text.{IsPacket, text};
@@ -21,7 +21,8 @@ impl Lockstep {
     ghost use Rattle.dn_lockstep.specs.Steps.{Steps, Becomes, Tells};
     ghost use Rattle.dn_lockstep.specs.Giving.{Reaches, Gives, packet_of_aim, IsSentTo, IsSilent, aim_in, size_in};
 
-    /// Writes the packet of these numbers, with the own commands from its start on, to the front of a room.
+    /// Writes the packet of these numbers, with as many of the own commands from its start on, to the front of a
+    /// room.
     fn write_own(&self, aim: &Aim, room: &mut [u8]) -> usize
         requires reach { Reaches (contents self.now) aim.now }
         requires fits { 104 ≤ length room.old }
@@ -30,7 +31,7 @@ impl Lockstep {
         ensures valid { IsPacket (packet_of_aim (contents self.now) aim.now) }
         ensures no_stop { list_any is_stop (packet_of_aim (contents self.now) aim.now).cmds.items ≡ false }
     {
-        let (first, second) = self.rings.since(self.me, aim.start);
+        let (first, second) = self.rings.range(self.me, aim.start, aim.count);
         let head = Head {
             flags: aim.flags,
             ask: request_byte(aim.ask),
@@ -40,9 +41,13 @@ impl Lockstep {
         encode_parts(&head, first, second, room)
     }
 
-    /// Notes that a packet was given. Set-up packets are the same each time, and nothing is noted of them.
-    fn note_sent(&mut self, to: u8)
-        requires { Gives (contents self.old) to }
+    /// Notes that a packet of these numbers was given: the next one goes on where it ends. Set-up packets are the
+    /// same each time, and nothing is noted of them.
+    fn note_sent(&mut self, to: u8, aim: &Aim)
+        requires peer { Gives (contents self.old) to }
+        requires reach { Reaches (contents self.old) aim.now }
+        requires aimed { Tells (contents self.old)
+            (λ limits me m. Some aim.now ≡ option_map aim_of (sent_to to limits me m).1) }
         ensures step { Becomes (contents self.old) (contents self.new)
             (λ limits me m. after_giving limits me m to m.phase) }
         ensures kept { contents self.new ≡ record (contents self.old) { peers = (contents self.new).peers } }
@@ -50,7 +55,7 @@ impl Lockstep {
         match self.phase {
             Phase::Listening | Phase::Gathering => (),
             Phase::Playing | Phase::Ended(_) => {
-                let resend = self.made().saturating_sub(self.lag());
+                let resend = (aim.start + u32::from(aim.count)).saturating_sub(self.lag());
                 self.peers.resend_from(to, resend);
             }
         }
@@ -73,7 +78,7 @@ impl Lockstep {
             return None;
         };
         let Phase::Gathering = self.phase else {
-            self.note_sent(to);
+            self.note_sent(to, &aim);
             return Some((aim, self.write_own(&aim, room)));
         };
         let Some(settings) = self.settings else {

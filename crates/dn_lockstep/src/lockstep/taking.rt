@@ -1,7 +1,7 @@
 //! What a node does with a player's packet of commands: it takes them while it plays, and hears
 //! requests alone once it has played and ended.
 
-ghost use Rattle.std.specs.Prelude.{◌≡◌, ◌≢◌, ◌<◌, ℕ, true};
+ghost use Rattle.std.specs.Prelude.{◌≡◌, ◌≢◌, ◌<◌, true};
 ghost use Rattle.dn_machine.specs.declared.answers.Cause.{Cause};
 ghost use Rattle.dn_machine.specs.declared.answers.Phase.TheVariants.{Playing, Ended};
 ghost use Rattle.dn_machine.specs.Hearing.{left_or};
@@ -11,7 +11,6 @@ use super::Lockstep;
 use crate::drops::{NOT_PLAYING, OVERRUN, STRANGE_END};
 use crate::peers::is_strange_end;
 use crate::reading::{has_flag, request, start};
-use crate::rings::PLACES;
 use dn_machine::Heard;
 use dn_packet::{EXIT, Packet};
 
@@ -43,7 +42,7 @@ impl Lockstep {
         };
         let commands = packet.cmds.as_slice();
         let end = start + commands.len() as u32;
-        if end > self.ran + PLACES {
+        if end > self.ran + self.places {
             return Heard::Dropped(OVERRUN);
         }
         let exit = has_flag(packet, EXIT);
@@ -51,7 +50,8 @@ impl Lockstep {
         if is_strange_end(exit, got, self.peers.get(from).end, end) {
             return Heard::Dropped(STRANGE_END);
         }
-        self.peers.ask(from, made, request(made, packet));
+        self.peers
+            .ask(from, self.places, made, request(made, packet));
         self.peers.tell(from, exit, end);
         if end <= got {
             return left_or(exit, Heard::Stale);
@@ -82,7 +82,8 @@ impl Lockstep {
         if let Err(number) = start(made, packet) {
             return Heard::Dropped(number);
         }
-        self.peers.ask(from, made, request(made, packet));
+        self.peers
+            .ask(from, self.places, made, request(made, packet));
         Heard::Noted
     }
 }

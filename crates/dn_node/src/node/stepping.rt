@@ -35,7 +35,7 @@ impl<W: World> Node<W> {
     pub fn can_build(&self) -> bool
         ensures value { result ≡ can_make (locked (contents self.now)) }
         ensures told { Tells W.state W.physics (contents self.now)
-            (λ rules me m. (input : AnyInput) → result ≡ makes me m input) }
+            (λ rules me m. (input : AnyInput) → result ≡ makes rules.limits me m input) }
     {
         self.lockstep.can_build()
     }
@@ -43,7 +43,7 @@ impl<W: World> Node<W> {
     /// Builds the command of these keys for the next tic. A node that builds none stays as it is.
     pub fn build(&mut self, keys: Keys) -> Made
         ensures step { Steps W.state W.physics (contents self.old) (contents self.new)
-            (λ rules me m. on_build me m (Pressed keys)) (λ made. result ≡ made) }
+            (λ rules me m. on_build rules.limits me m (Pressed keys)) (λ made. result ≡ made) }
         ensures full { result ≡ Made.Full → contents self.new ≡ contents self.old }
         ensures idle { result ≡ Made.NotPlaying → contents self.new ≡ contents self.old }
         ensures world { (contents self.new).world ≡ (contents self.old).world }
@@ -55,7 +55,7 @@ impl<W: World> Node<W> {
     /// as -127. A node that takes none stays as it is.
     pub fn give(&mut self, command: Command) -> Made
         ensures step { Steps W.state W.physics (contents self.old) (contents self.new)
-            (λ rules me m. on_build me m (Given command)) (λ made. result ≡ made) }
+            (λ rules me m. on_build rules.limits me m (Given command)) (λ made. result ≡ made) }
         ensures full { result ≡ Made.Full → contents self.new ≡ contents self.old }
         ensures idle { result ≡ Made.NotPlaying → contents self.new ≡ contents self.old }
         ensures world { (contents self.new).world ≡ (contents self.old).world }

@@ -13,6 +13,7 @@ mod requests;
 mod stages;
 mod starting;
 mod taking;
+mod windows;
 
 use super::{FORWARD, IDLE, LEFT, LIMIT, NO_KEYS, RIGHT, SPEED, STILL, choice, datagram};
 use arrayvec::ArrayVec;

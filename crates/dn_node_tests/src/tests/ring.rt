@@ -1,7 +1,7 @@
 //! Tests of rings.
 
 use super::STILL;
-use dn_ring::Ring;
+use dn_ring::{Ring, RingBuffer, WideRing};
 use dn_tic::TicCmd;
 
 /// The command that is told from others by its chat byte.
@@ -92,4 +92,57 @@ fn a_slot_that_was_never_taken_is_zero(rt: HostRuntime) {
         same!(rt; ring.slots()[place], STILL, place);
     }
     same!(rt; ring.get(1), None);
+}
+
+#[test]
+fn a_wide_ring_keeps_the_last_thirty_two(rt: HostRuntime) {
+    let rt = &rt;
+    let mut ring = WideRing::new();
+    for letter in 0..40_u8 {
+        assert_eq!(rt; ring.count(), u32::from(letter));
+        ring.put(chat(letter));
+    }
+    assert_eq!(rt; ring.count(), 40);
+    let rows = [
+        (7, None),
+        (8, Some(chat(8))),
+        (39, Some(chat(39))),
+        (40, None),
+    ];
+    for (tic, want) in rows {
+        same!(rt; ring.get(tic), want, tic);
+    }
+    // tic 39 stands where tic 7 stood
+    same!(rt; (ring.slots()[7], ring.slots()[8]), (chat(39), chat(8)));
+}
+
+#[test]
+fn a_range_is_told_in_two_pieces(rt: HostRuntime) {
+    let rt = &rt;
+    let mut ring = WideRing::new();
+    for letter in 0..40_u8 {
+        assert_eq!(rt; ring.count(), u32::from(letter));
+        ring.put(chat(letter));
+    }
+    // tic 31 stands in the last slot, and tic 32 in the first
+    assert_eq!(rt; ring.count(), 40);
+    let (first, second) = ring.range(30, 3);
+    same!(rt; first, [chat(30), chat(31)].as_slice());
+    same!(rt; second, [chat(32)].as_slice());
+    let (first, second) = ring.range(8, 12);
+    same!(rt; (first.len(), second.len()), (12, 0));
+    same!(rt; first.first().copied(), Some(chat(8)));
+    let (first, second) = ring.range(40, 0);
+    same!(rt; (first.len(), second.len()), (0, 0));
+}
+
+#[test]
+fn a_ring_of_one_place_keeps_the_last(rt: HostRuntime) {
+    let rt = &rt;
+    let mut ring = RingBuffer::<1>::new();
+    for letter in 0..3_u8 {
+        assert_eq!(rt; ring.count(), u32::from(letter));
+        ring.put(chat(letter));
+    }
+    same!(rt; (ring.get(1), ring.get(2), ring.get(3)), (None, Some(chat(2)), None));
 }

@@ -1,9 +1,8 @@
 use Rattle.dn_tic.specs.declared.command.Move.{Move}
-use Rattle.dn_machine.specs.Worlds.{command}
-use Rattle.std.proofs.Common.{Option, length, ℕ, List, ap, sym, ◌∙◌, subst}
+use Rattle.dn_machine.specs.Worlds.{Inputs, command}
+use Rattle.std.proofs.Common.{Option, length, List, ap, sym, ◌∙◌, subst}
 use Rattle.dn_machine.proofs.Promises
 use Rattle.dn_machine.proofs.Put.{same_functions}
-use Rattle.dn_tic.specs.declared.input.Input.{Input}
 use Rattle.dn_lockstep.specs.Agreed.{AreAgreed}
 use Rattle.dn_lockstep.specs.Demos.{rows_to}
 use Rattle.dn_lockstep.specs.OneGame.{beside}
@@ -13,7 +12,7 @@ use Rattle.dn_lockstep.proofs.laws.locksteps_agree.Goals as goal
 
 pub returns-clause-agreed : goal.returns-clause-agreed
 returns-clause-agreed c marking limits settings session game =
-    subst (λ (inputs : ℕ → List Input). AreAgreed limits settings inputs session.locksteps)
+    subst (λ (inputs : Inputs). AreAgreed limits settings inputs session.locksteps)
     (same_functions game.inputs)
     (agreed (beside marking limits) settings game.last (kept marking limits settings game) session.locksteps
     game.nodes)
@@ -23,7 +22,7 @@ returns-clause-told c marking limits settings session player game mine =
     sym (game.rows player)
     ∙ rows_are (beside marking limits) settings game.last (kept marking limits settings game) session.locksteps
     game.nodes player mine
-    ∙ ap (λ (inputs : ℕ → List Input). rows_to limits.players inputs (session.locksteps player).ran)
+    ∙ ap (λ (inputs : Inputs). rows_to limits.players inputs (session.locksteps player).ran)
     (same_functions game.inputs)
 
 pub returns-clause-game_agrees : goal.returns-clause-game_agrees
@@ -46,5 +45,5 @@ pub returns-clause-commands : goal.returns-clause-commands
 returns-clause-commands c marking limits settings session here player tic one game mine tells =
     told_is (beside marking limits) settings game.last (kept marking limits settings game) session.locksteps
     game.nodes here mine player tic one tells
-    ∙ ap (λ (inputs : ℕ → List Input). command (beside marking limits) settings inputs player tic)
+    ∙ ap (λ (inputs : Inputs). command (beside marking limits) settings inputs player tic)
     (same_functions game.inputs)

@@ -5,6 +5,7 @@ use Rattle.dn_machine.specs.Worlds.{rules_of}
 use Rattle.dn_machine.specs.Progress.{HasRoom}
 use Rattle.dn_machine.proofs.Leading.{led_rounds}
 use Rattle.dn_machine.proofs.Progress.{goes_on_with}
+use Rattle.dn_machine.proofs.Vanilla.{vanilla_window, vanilla_swift, vanilla_packet}
 use Rattle.dn_machine.proofs.laws.no_deadlock.Goals as goal
 
 pub returns-clause-goes_on : goal.returns-clause-goes_on
@@ -12,13 +13,16 @@ returns-clause-goes_on g c players extra capacity settings events game run none_
     room =
     let rules = rules_of g.W.World.physics players extra capacity in
     let same : tics + 6 ≡ tics + 1 + 5 = omega arith in
-    goes_on_with rules settings fits several events game run none_lost inputs tics 1 14
+    goes_on_with rules settings fits several events game run none_lost
+    (vanilla_window players extra capacity) (vanilla_swift players extra capacity) 1
+    (vanilla_packet players extra capacity) inputs tics 1 14
     (subst (λ (most : ℕ). HasRoom rules game tics most) same room) (omega arith)
 
 pub returns-clause-keeps_on : goal.returns-clause-keeps_on
 returns-clause-keeps_on g c players extra capacity settings events game run none_lost several fits =
     goes_on_with (rules_of g.W.World.physics players extra capacity) settings fits several events game run
-    none_lost
+    none_lost (vanilla_window players extra capacity) (vanilla_swift players extra capacity) 1
+    (vanilla_packet players extra capacity)
 
 pub returns-clause-by_events : goal.returns-clause-by_events
 returns-clause-by_events g c players extra capacity game inputs rounds =

@@ -115,7 +115,7 @@ fn given_commands_are_told_by_both(rt: HostRuntime) {
 fn five_given_commands_may_wait(rt: HostRuntime) {
     let rt = &rt;
     let (mut key, _) = must!(rt; pair(rt.alloc(), false));
-    for tic in 0..MOST_AHEAD as u8 {
+    for tic in 0..MOST_AHEAD {
         holds!(rt; can_build(&key), tic);
         same!(rt; give(&mut key, typed(tic)), Made::Made(u32::from(tic)));
     }

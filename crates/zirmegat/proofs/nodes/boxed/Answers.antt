@@ -6,5 +6,5 @@ use Rattle.zirmegat.proofs.nodes.boxed.Goals as goal
 
 pub returns-in-Ok-clause-fresh : goal.returns-in-Ok-clause-fresh
 returns-in-Ok-clause-fresh c =
-    let P : Lockstep → Type 0 = λ made. IsFresh c.args.config (contents made) in
+    let P : Lockstep → Type 0 = λ made. IsFresh c.args.config c.args.ahead (contents made) in
     subst P (sym c.in-Ok.ensures.ok) c.in_ok-made.ensures.opened

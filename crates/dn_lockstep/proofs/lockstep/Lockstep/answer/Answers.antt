@@ -11,18 +11,18 @@ use Rattle.dn_lockstep.proofs.lockstep.Lockstep.answer.Goals as goal
 
 -- what is kept of the peer, and of them all
 asked : (c : After-ask)
-    → peer_at c.ask.new.self c.args.from ≡ after_request c.made-made.result
+    → peer_at c.ask.new.self c.args.from ≡ after_request c.args.self.now.places c.made-made.result
     (peer_at c.args.self.now.peers c.args.from) (request_in c.made-made.result c.args.packet.now)
 asked c =
     c.ask.ensures.put
-    ∙ ap (after_request c.made-made.result (peer_at c.args.self.now.peers c.args.from)) c.request.ensures
+    ∙ ap (after_request c.args.self.now.places c.made-made.result (peer_at c.args.self.now.peers c.args.from)) c.request.ensures
 
 kept : (c : After-ask)
     → AreKept (peer_at c.args.self.now.peers) (peer_at c.ask.new.self) c.args.from c.made-made.result
 kept c =
     let made = c.made-made.ensures in
     let low = c.args.self.now.resends c.args.from c.requires.peer in
-    kept_asked c.request.result (omega arith) c.ask.ensures.put c.ask.ensures.others
+    kept_asked _ c.request.result (omega arith) c.ask.ensures.put c.ask.ensures.others
 
 pub invariant_of-self-clause-endless : goal.invariant_of-self-clause-endless
 invariant_of-self-clause-endless c =
@@ -34,10 +34,10 @@ invariant_of-self-clause-gone c plays closed =
     gone_still (kept (goal.at.invariant_of-self-clause-gone c).After-ask) _ _
     (c.args.self.now.gone plays closed)
 
-pub invariant_of-self-clause-ahead : goal.invariant_of-self-clause-ahead
-invariant_of-self-clause-ahead c p below h =
-    c.args.self.now.ahead p below
-    (stays_gone (kept (goal.at.invariant_of-self-clause-ahead c).After-ask) _ p h)
+pub invariant_of-self-clause-reached : goal.invariant_of-self-clause-reached
+invariant_of-self-clause-reached c p below h =
+    c.args.self.now.reached p below
+    (stays_gone (kept (goal.at.invariant_of-self-clause-reached c).After-ask) _ p h)
 
 pub invariant_of-self-clause-resends : goal.invariant_of-self-clause-resends
 invariant_of-self-clause-resends c =

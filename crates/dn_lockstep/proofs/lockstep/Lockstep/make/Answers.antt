@@ -16,13 +16,15 @@ use Rattle.dn_lockstep.proofs.lockstep.Lockstep.make.Goals as goal
 
 pub returns-in_default-clause-step : goal.returns-in_default-clause-step
 returns-in_default-clause-step c = steps refl (λ limits me m r.
-    after _ _ (build_not me m _ (λ e. c.in_default.not-Playing (r.stands.phase ∙ e))) r refl)
+    after _ _ (build_not limits me m _ (λ e. c.in_default.not-Playing (r.stands.phase ∙ e))) r refl)
 
-pub returns-then-tic-self-ge-MOST_AHEAD-clause-step : goal.returns-then-tic-self-ge-MOST_AHEAD-clause-step
-returns-then-tic-self-ge-MOST_AHEAD-clause-step c = steps refl (λ limits me m r.
-    let made = c.made-tic.ensures ∙ made_is _ me _ m r c.args.self.now.me_below in
-    after _ _ (build_full me m _ (sym r.stands.phase ∙ c.in-Playing.is)
-    (omega (arith, made, r.table.ran, c.if-tic-self-ge-MOST_AHEAD.true))) r refl)
+pub returns-then-tic-self-clause-step : goal.returns-then-tic-self-clause-step
+returns-then-tic-self-clause-step c = steps refl (λ limits me m r.
+    let n = c.args.self.now in
+    let made = c.made-tic.ensures ∙ made_is _ me _ m r n.me_below in
+    let ahead = n.reached n.me n.me_below (ap (λ (o : Option ℕ). is_over o n.ran) n.endless) in
+    after _ _ (build_full limits me m _ (sym r.stands.phase ∙ c.in-Playing.is)
+    (omega (arith, made, ahead, c.made-tic.ensures, r.table.ran, r.whose.ahead, c.if-tic-self.true))) r refl)
 
 pub put-requires-clause-no_stop : goal.put-requires-clause-no_stop
 put-requires-clause-no_stop c = λ e. omega (arith, ints, c.make-command.ensures.least, e)
@@ -30,14 +32,14 @@ put-requires-clause-no_stop c = λ e. omega (arith, ints, c.make-command.ensures
 pub invariant_of-self-clause-me_below : goal.invariant_of-self-clause-me_below
 invariant_of-self-clause-me_below c = c.args.self.now.me_below
 
-pub invariant_of-self-clause-ahead : goal.invariant_of-self-clause-ahead
-invariant_of-self-clause-ahead c p below present =
+pub invariant_of-self-clause-reached : goal.invariant_of-self-clause-reached
+invariant_of-self-clause-reached c p below present =
     let n = c.args.self.now in
-    let before = n.ahead p below present in
+    let before = n.reached p below present in
     elim (changed (ring_at n.rings) (ring_at c.put.new.self) n.me _
     (ap (λ (k : Ring). k.count) c.put.ensures.put) c.put.ensures.others p) [
       | inl (same, now) ↦ let own =
-          n.ahead n.me n.me_below (ap (λ (o : Option ℕ). is_over o n.ran) n.endless) in
+          n.reached n.me n.me_below (ap (λ (o : Option ℕ). is_over o n.ran) n.endless) in
           omega (arith, now, own)
       | inr now ↦ omega (arith, now, before)
     ]
@@ -48,7 +50,7 @@ invariant_of-self-clause-window c p below =
     let before = n.window p below in
     elim (changed (ring_at n.rings) (ring_at c.put.new.self) n.me _
     (ap (λ (k : Ring). k.count) c.put.ensures.put) c.put.ensures.others p) [
-      | inl (same, now) ↦ omega (arith, now, n.near)
+      | inl (same, now) ↦ omega (arith, now, n.near, n.twice, n.inside)
       | inr now ↦ omega (arith, now, before)
     ]
 
@@ -66,14 +68,14 @@ returns-clause-step c = steps refl (λ limits me m r.
     let endless : machine.ends_of m me ≡ None =
     sym (ap (λ (x : Peer). x.end) (r.peers.known me (mine _ me _ m r n.me_below)))
     ∙ ap (λ (p : ℕ). (peer_at n.peers p).end) (sym r.whose.number) ∙ n.endless in
-    let ahead = n.ahead n.me n.me_below (ap (λ (o : Option ℕ). is_over o n.ran) n.endless) in
+    let ahead = n.reached n.me n.me_below (ap (λ (o : Option ℕ). is_over o n.ran) n.endless) in
     let marked = to_z-of_z w16 c.get-mark.result (search rules) in
     let ring = own_ring _ me _ m c.args.input c.made-tic.result _ _ _ r n.me_below made
     (omega (arith, c.made-tic.ensures, r.table.ran, ahead))
-    (omega (arith, c.made-tic.ensures, r.table.ran, n.near)) endless (marked ∙ c.get-mark.ensures)
+    (omega (arith, c.made-tic.ensures, r.table.ran, n.near, n.twice, n.inside)) endless (marked ∙ c.get-mark.ensures)
     (c.make-command.ensures.command m.inputs r.commands.hold) c.put.ensures.put in
-    after _ _ (build_makes me m _ (sym r.stands.phase ∙ c.in-Playing.is)
-    (omega (arith, made, r.table.ran, c.if-tic-self-ge-MOST_AHEAD.false)))
+    after _ _ (build_makes limits me m _ (sym r.stands.phase ∙ c.in-Playing.is)
+    (omega (arith, made, r.table.ran, r.whose.ahead, c.if-tic-self.false)))
     (shows_commands r me _ _ _ _ (c.make-command.ensures.hold m.inputs r.commands.hold)
     (ap (ring_at c.put.new.self) (sym r.whose.number) ∙ ring)
     (λ p apart. c.put.ensures.others p (λ e. apart (e ∙ r.whose.number)))) (ap Made.Made made))

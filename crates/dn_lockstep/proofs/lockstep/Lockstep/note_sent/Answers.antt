@@ -1,4 +1,4 @@
-use Rattle.std.proofs.Common.{◌≡◌, ◌-◌, ℕ, refl, ap, sym, ◌∙◌, inl, inr, arith}
+use Rattle.std.proofs.Common.{◌≡◌, ◌+◌, ◌-◌, ℕ, Option, refl, ap, sym, ◌∙◌, inl, inr, arith}
 use Rattle.dn_setup.specs.Starts.{bit}
 use Rattle.dn_machine.specs.Node as machine
 use Rattle.dn_machine.specs.Limits.{Limits}
@@ -6,9 +6,14 @@ use Rattle.dn_machine.specs.declared.answers.Cause.{Cause}
 use Rattle.dn_machine.specs.declared.answers.Phase.{Phase}
 use Rattle.dn_machine.specs.declared.answers.Phase.TheVariants.{Playing, Ended}
 use Rattle.std.specs.Prelude.{◌⊎◌}
-use Rattle.dn_machine.specs.Sending.{lag, after_sent}
+use Rattle.dn_machine.specs.Sending.{lag, last_sent, after_sent}
 use Rattle.dn_machine.specs.declared.peer.Peer.{Peer}
-use Rattle.dn_lockstep.specs.Sent.{after_giving}
+use Rattle.dn_lockstep.specs.Sent.{after_giving, aim_of}
+use Rattle.dn_lockstep.specs.Rings.{ring_at}
+use Rattle.dn_machine.specs.Flight.{Flight}
+use Rattle.std.specs.Option.{option_map}
+use Rattle.dn_lockstep.proofs.Aiming.{own_aim, last_is}
+use Rattle.dn_lockstep.proofs.Sending.{sends_in}
 use Rattle.dn_lockstep.proofs.After.{along, becomes}
 use Rattle.dn_lockstep.proofs.Counting.{made_is, below}
 use Rattle.dn_lockstep.proofs.Kept.{AreKept, same_end, gone_still, stays_gone, resends_low}
@@ -28,12 +33,17 @@ gives limits me m to phase (inr is) = ap (after_giving limits me m to) is.1
 pub returns-in-Playing-clause-step : goal.returns-in-Playing-clause-step
 returns-in-Playing-clause-step c = becomes refl (λ limits me m r.
     let n = c.args.self.now in
-    let kept = r.peers.known c.args.to (below _ me _ m r c.args.to c.requires.below) in
-    let made = c.made.ensures ∙ made_is _ me _ m r n.me_below in
+    let kept = r.peers.known c.args.to (below _ me _ m r c.args.to c.requires.peer.below) in
+    let made = made_is _ me _ m r n.me_below in
+    let reached = c.requires.reach.low in
+    let own = own_aim limits me m c.args.to c.args.aim.now n.phase c.in-Playing.is
+    (c.requires.aimed limits me m r ∙ ap (λ (x : machine.Node × Option Flight). option_map aim_of x.1)
+    (sends_in limits me _ m c.args.to n.phase r c.requires.peer.below c.requires.peer.other refl)) in
+    let end = last_is limits me m c.args.to c.args.aim.now own.0 own.1 (omega arith) own.2 in
     let lags : c.lag.result ≡ lag limits = c.lag.ensures ∙ ap bit r.whose.extra in
-    let tic : c.saturating_sub-resend.result ≡ machine.made me m - lag limits =
-    c.saturating_sub-resend.ensures ∙ ap (λ (k : ℕ). k - c.lag.result) made
-    ∙ ap (λ (k : ℕ). machine.made me m - k) lags in
+    let tic : c.saturating_sub-resend.result ≡ last_sent limits me m c.args.to - lag limits =
+    c.saturating_sub-resend.ensures ∙ ap (λ (k : ℕ). c.args.aim.now.start + k - c.lag.result) c.from.ensures
+    ∙ (λ i. end i - lags i) in
     let peer = c.resend_from.ensures.put ∙ ap (λ (x : Peer). record x {
       resend =
           c.saturating_sub-resend.result;
@@ -46,8 +56,10 @@ returns-in-Playing-clause-step c = becomes refl (λ limits me m r.
 
 -- nothing but where its resends start is kept otherwise
 kept : (c : After-resend_from)
-    → AreKept (peer_at c.args.self.now.peers) (peer_at c.resend_from.new.self) c.args.to c.made.result
+    → AreKept (peer_at c.args.self.now.peers) (peer_at c.resend_from.new.self) c.args.to
+    (ring_at c.args.self.now.rings c.args.self.now.me).count
 kept c =
+    let reached = c.requires.reach.low in
     let at = ap (λ (q : Peer). q.resend) c.resend_from.ensures.put in
     let less = c.saturating_sub-resend.ensures in
     record {
@@ -59,19 +71,19 @@ kept c =
 pub invariant_of-self-clause-endless : goal.invariant_of-self-clause-endless
 invariant_of-self-clause-endless c =
     same_end (kept (goal.at.invariant_of-self-clause-endless c).After-resend_from) c.args.self.now.me
-    (λ e. c.requires.other (sym e)) ∙ c.args.self.now.endless
+    (λ e. c.requires.peer.other (sym e)) ∙ c.args.self.now.endless
 
 pub invariant_of-self-clause-gone : goal.invariant_of-self-clause-gone
 invariant_of-self-clause-gone c plays closed =
     gone_still (kept (goal.at.invariant_of-self-clause-gone c).After-resend_from) _ _
     (c.args.self.now.gone plays closed)
 
-pub invariant_of-self-clause-ahead : goal.invariant_of-self-clause-ahead
-invariant_of-self-clause-ahead c p below h =
-    c.args.self.now.ahead p below
-    (stays_gone (kept (goal.at.invariant_of-self-clause-ahead c).After-resend_from) _ p h)
+pub invariant_of-self-clause-reached : goal.invariant_of-self-clause-reached
+invariant_of-self-clause-reached c p below h =
+    c.args.self.now.reached p below
+    (stays_gone (kept (goal.at.invariant_of-self-clause-reached c).After-resend_from) _ p h)
 
 pub invariant_of-self-clause-resends : goal.invariant_of-self-clause-resends
 invariant_of-self-clause-resends c =
-    resends_low (kept (goal.at.invariant_of-self-clause-resends c).After-resend_from) c.made.ensures _
+    resends_low (kept (goal.at.invariant_of-self-clause-resends c).After-resend_from) refl _
     c.args.self.now.resends

@@ -22,6 +22,7 @@ use Rattle.dn_lockstep.proofs.Room.{row_length, size_more, row_fits}
 use Rattle.dn_lockstep.proofs.Running.{row_full, row_moves, kept_here}
 use Rattle.dn_lockstep.specs.Runs.{marks_in, with_row}
 use Rattle.dn_lockstep.proofs.Seats.{here_all}
+use Rattle.dn_lockstep.proofs.Windowed.{fits}
 use Rattle.dn_lockstep.proofs.lockstep.Lockstep.run_row.Goals.{After-stamp}
 use Rattle.dn_lockstep.proofs.lockstep.Lockstep.run_row.Goals as goal
 
@@ -59,8 +60,8 @@ below c e =
 pub returns-then-tic-full_at-clause-step : goal.returns-then-tic-full_at-clause-step
 returns-then-tic-full_at-clause-step c = steps c.finish.ensures.same (λ limits me m r.
     let n = c.args.self.now in
-    let row = c.fill_row-whole.ensures.row ∙ row_is r n.window c.requires.there in
-    let full = full_is r n.window c.requires.there c.full_at.ensures c.fill_row-whole.ensures.whole row in
+    let row = c.fill_row-whole.ensures.row ∙ row_is r (fits n) c.requires.there in
+    let full = full_is r (fits n) c.requires.there c.full_at.ensures c.fill_row-whole.ensures.whole row in
     after _ _ (ap (with_row limits m) (row_full limits m _ (sym r.table.ran ∙ c.if-tic-full_at.true ∙ full)))
     (c.finish.ensures.step limits me m r).node (refl, refl))
 
@@ -138,8 +139,8 @@ invariant_of-self-2-clause-size c on is_open =
     (row_length (seats_in n.demo.bytes) n.players (n.seats c.requires.plays before) n.few)
     (n.size c.requires.plays before)
 
-pub invariant_of-self-2-clause-ahead : goal.invariant_of-self-2-clause-ahead
-invariant_of-self-2-clause-ahead c p inside stays =
+pub invariant_of-self-2-clause-reached : goal.invariant_of-self-2-clause-reached
+invariant_of-self-2-clause-reached c p inside stays =
     let n = c.args.self.now in
     let present = over_later (peer_at n.peers p).end n.ran (n.ran + 1) (omega arith) stays in
     let there = here_all (ring_at n.rings) (peer_at n.peers) n.players n.ran c.requires.there p inside
@@ -150,8 +151,8 @@ pub returns-clause-step : goal.returns-clause-step
 returns-clause-step c = steps (ap (λ (k : ℕ). record (whose (contents c.args.self.now)) { limit = k }) c.write.ensures.limit) (λ limits me m r.
     let n = c.args.self.now in
     let on = c.requires.plays in
-    let row = c.fill_row-whole.ensures.row ∙ row_is r n.window c.requires.there in
-    let full = full_is r n.window c.requires.there c.full_at.ensures c.fill_row-whole.ensures.whole row in
+    let row = c.fill_row-whole.ensures.row ∙ row_is r (fits n) c.requires.there in
+    let full = full_is r (fits n) c.requires.there c.full_at.ensures c.fill_row-whole.ensures.whole row in
     let whole : c.fill_row-whole.result ≡ is_whole limits.players (row_held limits m) =
     c.fill_row-whole.ensures.whole ∙ (λ i. is_whole (r.whose.players i) (row i)) in
     let opens = opened (goal.at.returns-clause-step c).After-stamp in
@@ -171,10 +172,10 @@ returns-clause-step c = steps (ap (λ (k : ℕ). record (whose (contents c.args.
     (shows_moved limits me _ m (row_held limits m) (marks_kept limits m (marks_in c.args.marks.now)) _ _ r on (n.plays on) (n.known (n.plays on))
     (λ p inside present. c.stamp.ensures.marks p (omega (arith, inside, n.few))
     (ap (λ (x : List (Option Move)). lacks x p) row
-    ∙ seat_held r n.window c.requires.there p inside (omega (arith, inside, n.few)) present)
+    ∙ seat_held r (fits n) c.requires.there p inside (omega (arith, inside, n.few)) present)
     ∙ sym (kept_here limits m (marks_in c.args.marks.now) p (omega (arith, inside, r.whose.players)) present))
     (λ p j inside gone. c.stamp.ensures.absent p j (omega (arith, inside, n.few))
     (ap (λ (x : List (Option Move)). lacks x p) row
-    ∙ seat_empty r n.window c.requires.there p inside (omega (arith, inside, n.few)) gone))
+    ∙ seat_empty r (fits n) c.requires.there p inside (omega (arith, inside, n.few)) gone))
     c.stamp.ensures.others written)
     (ap Ran.Ran r.table.ran, ap (λ (x : List (Option Move)). Some x) row))

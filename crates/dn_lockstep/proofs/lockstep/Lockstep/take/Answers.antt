@@ -30,14 +30,14 @@ read c =
 -- what is kept of the peer, once it has asked and told its end
 asked : (c : After-tell)
     → peer_at c.tell.new.self c.args.from
-    ≡ after_exit (after_request c.made-made.result (peer_at c.args.self.now.peers c.args.from)
+    ≡ after_exit (after_request c.args.self.now.places c.made-made.result (peer_at c.args.self.now.peers c.args.from)
     (request_in c.made-made.result c.args.packet.now)) c.has_flag-exit.result
     (c.in-Ok.start + length c.as_slice-commands.result.now)
 asked c =
     let end : ℕ = c.in-Ok.start + length c.as_slice-commands.result.now in
     c.tell.ensures.put ∙ ap (λ (x : Peer). after_exit x c.has_flag-exit.result end)
     (c.ask.ensures.put
-    ∙ ap (after_request c.made-made.result (peer_at c.args.self.now.peers c.args.from)) c.request.ensures)
+    ∙ ap (after_request c.args.self.now.places c.made-made.result (peer_at c.args.self.now.peers c.args.from)) c.request.ensures)
 
 -- its end is not strange
 usual : (c : After-tell)
@@ -53,7 +53,7 @@ ahead : (c : After-tell)
     → is_over (peer_at c.args.self.now.peers c.args.from).end c.args.self.now.ran ≡ false
     → c.args.self.now.ran ≤ c.count-got.result
 ahead c present =
-    let come = c.args.self.now.ahead c.args.from c.requires.peer present in
+    let come = c.args.self.now.reached c.args.from c.requires.peer present in
     omega (arith, come, c.count-got.ensures)
 
 -- so all peers are kept
@@ -64,7 +64,7 @@ kept c =
     let low = c.args.self.now.resends c.args.from c.requires.peer in
     let first : AreKept (peer_at c.args.self.now.peers) (peer_at c.ask.new.self) c.args.from
     c.made-made.result =
-    kept_asked c.request.result (omega arith) c.ask.ensures.put c.ask.ensures.others in
+    kept_asked _ c.request.result (omega arith) c.ask.ensures.put c.ask.ensures.others in
     kept_told c.has_flag-exit.result c.count-got.result _ first (usual c) c.tell.ensures.put
     c.tell.ensures.others
 
@@ -93,10 +93,10 @@ invariant_of-self-clause-gone c plays closed =
     gone_still (kept (goal.at.invariant_of-self-clause-gone c).After-tell) _ _
     (c.args.self.now.gone plays closed)
 
-pub invariant_of-self-clause-ahead : goal.invariant_of-self-clause-ahead
-invariant_of-self-clause-ahead c p below h =
-    c.args.self.now.ahead p below
-    (stays_gone (kept (goal.at.invariant_of-self-clause-ahead c).After-tell) _ p h)
+pub invariant_of-self-clause-reached : goal.invariant_of-self-clause-reached
+invariant_of-self-clause-reached c p below h =
+    c.args.self.now.reached p below
+    (stays_gone (kept (goal.at.invariant_of-self-clause-reached c).After-tell) _ p h)
 
 pub invariant_of-self-clause-resends : goal.invariant_of-self-clause-resends
 invariant_of-self-clause-resends c =
@@ -126,10 +126,10 @@ invariant_of-self-then-start-got-clause-gone c plays closed =
     gone_still (kept_wanted before _ c.want.ensures.put c.want.ensures.others) _ _
     (c.args.self.now.gone plays closed)
 
-pub invariant_of-self-then-start-got-clause-ahead : goal.invariant_of-self-then-start-got-clause-ahead
-invariant_of-self-then-start-got-clause-ahead c p below h =
-    let before = kept (goal.at.invariant_of-self-then-start-got-clause-ahead c).After-tell in
-    c.args.self.now.ahead p below
+pub invariant_of-self-then-start-got-clause-reached : goal.invariant_of-self-then-start-got-clause-reached
+invariant_of-self-then-start-got-clause-reached c p below h =
+    let before = kept (goal.at.invariant_of-self-then-start-got-clause-reached c).After-tell in
+    c.args.self.now.reached p below
     (stays_gone (kept_wanted before _ c.want.ensures.put c.want.ensures.others) _ p h)
 
 pub invariant_of-self-then-start-got-clause-resends : goal.invariant_of-self-then-start-got-clause-resends
@@ -166,10 +166,10 @@ invariant_of-self-2-clause-gone c plays closed =
     gone_still (kept_wanted before _ c.want-2.ensures.put c.want-2.ensures.others) _ _
     (c.args.self.now.gone plays closed)
 
-pub invariant_of-self-2-clause-ahead : goal.invariant_of-self-2-clause-ahead
-invariant_of-self-2-clause-ahead c p below h =
-    let before = kept (goal.at.invariant_of-self-2-clause-ahead c).After-tell in
-    let old = c.args.self.now.ahead p below
+pub invariant_of-self-2-clause-reached : goal.invariant_of-self-2-clause-reached
+invariant_of-self-2-clause-reached c p below h =
+    let before = kept (goal.at.invariant_of-self-2-clause-reached c).After-tell in
+    let old = c.args.self.now.reached p below
     (stays_gone (kept_wanted before _ c.want-2.ensures.put c.want-2.ensures.others) _ p h) in
     elim (changed (ring_at c.args.self.now.rings) (ring_at c.put_all.new.self) c.args.from _
     c.put_all.ensures.count c.put_all.ensures.others p) [

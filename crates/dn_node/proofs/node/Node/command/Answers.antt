@@ -7,7 +7,7 @@ use Rattle.dn_node.proofs.node.Node.command.Goals as goal
 pub returns-clause-told : goal.returns-clause-told
 returns-clause-told g c =
     tells g.W.World.state g.W.World.physics (contents c.args.self.now)
-    (λ limits me m. c.command.result ≡ last_held limits.players m c.args.player c.args.tic)
+    (λ limits me m. c.command.result ≡ last_held limits m c.args.player c.args.tic)
     c.command.ensures.told
 
 pub returns-clause-value : goal.returns-clause-value

@@ -1,7 +1,0 @@
-use Rattle.std.proofs.Common.{◌∙◌}
-use Rattle.dn_ring.proofs.Slots.{slots_are}
-use Rattle.dn_ring.proofs.ring.Ring.slots.Goals as goal
-
-pub returns : goal.returns
-returns c = λ commands is. slots_are c.self.inside.count c.self.inside.slots commands c.self.invariant
-    (c.self.view_is ∙ is)
