@@ -1,18 +1,19 @@
 -- Packets by what their callers have of them.
-use Rattle.std.proofs.Common.{◌≡◌, ℕ, List, [], ◌∷◌, ◌++◌, length, Option, Some, None, refl, sym, ◌∙◌, inl, inr}
+use Rattle.std.proofs.Common.{◌≡◌, ℕ, zero, suc, List, [], ◌∷◌, ◌++◌, length, take, drop, append-nil, Option, Some, None, refl, ap, sym, ◌∙◌, inl, inr, arith}
 use Rattle.std.specs.Prelude.{IfSome, slice_get}
 use Rattle.std.specs.Option.{option_map}
 use Rattle.std.proofs.lemmas.Bool.{cases_eq}
-use Rattle.std.proofs.lemmas.Option.{same_Some}
+use Rattle.std.proofs.lemmas.List.{length-append, length-take-le}
+use Rattle.std.proofs.lemmas.Option.{none-some, same_Some}
+use Rattle.arrayvec.specs.ArrayVec.{ArrayVec}
+use Rattle.dn_packet.specs.Written.{IsGiven}
 use Rattle.dn_machine.specs.Flight.{Flight}
 use Rattle.dn_machine.specs.Node.{put}
 use Rattle.dn_machine.proofs.Put.{put_at, put_off, same_functions}
 use Rattle.dn_lockstep.specs.declared.lockstep.aiming.Aim.{Aim}
-use Rattle.std.proofs.Common.{zero, suc, append-nil}
-use Rattle.std.proofs.lemmas.Option.{none-some}
 use Rattle.dn_lockstep.specs.Session.{given_on}
 use Rattle.dn_engine_tests.specs.declared.parcel.Parcel.{Parcel}
-use Rattle.dn_engine_tests.specs.Calls.{AreFor}
+use Rattle.dn_engine_tests.specs.Calls.{AreFor, parcel_of}
 use Rattle.dn_lockstep.specs.Contents.{Contents}
 use Rattle.dn_lockstep.specs.Sent.{aim_of, bytes_of}
 
@@ -31,20 +32,37 @@ pub record Has (from to : ℕ) (aim : Aim) (bytes : List ℕ) (flight : Option F
   pub aim_is : aim ≡ aim_of one
   pub bytes_are : bytes ≡ bytes_of one
 
-pub has : (from to : ℕ) (aim : Aim) (bytes : List ℕ) (numbers : Option Aim) (spelling : Option (List ℕ))
-    (flight : Option Flight) → IfSome flight (λ flight. (flight.from ≡ from) × (flight.to ≡ to))
-    → numbers ≡ option_map aim_of flight → spelling ≡ option_map bytes_of flight → numbers ≡ Some aim
-    → spelling ≡ Some bytes → Has from to aim bytes flight
-has from to aim bytes numbers spelling None players aims texts told spelled =
-    let none : ◌≡◌ {A = Option Aim} (Some aim) None = sym told ∙ aims in absurd (cc)
-has from to aim bytes numbers spelling (Some one) players aims texts told spelled = record {
+pub has : (from to : ℕ) (aim : Aim) (bytes : List ℕ) (flight : Option Flight)
+    → IfSome flight (λ flight. (flight.from ≡ from) × (flight.to ≡ to))
+    → Some aim ≡ option_map aim_of flight → Some bytes ≡ option_map bytes_of flight
+    → Has from to aim bytes flight
+has from to aim bytes None players told spelled = absurd (cc)
+has from to aim bytes (Some one) players told spelled = record {
   one = one;
   is = refl;
   sender = players.0;
   receiver = players.1;
-  aim_is = same_Some aim (aim_of one) (sym told ∙ aims);
-  bytes_are = same_Some bytes (bytes_of one) (sym spelled ∙ texts);
+  aim_is = same_Some aim (aim_of one) told;
+  bytes_are = same_Some bytes (bytes_of one) spelled;
 }
+
+-- and it has no more
+pub same_parcel : (from : ℕ) (aim : Aim) (bytes : ArrayVec ℕ) (flight : Option Flight)
+    → Some aim ≡ option_map aim_of flight → Some bytes.items ≡ option_map bytes_of flight
+    → Some (record { from = from; aim = aim; bytes = bytes }) ≡ option_map (parcel_of from) flight
+same_parcel from aim bytes None told spelled = absurd (cc)
+same_parcel from aim bytes (Some one) told spelled =
+    let numbers = same_Some aim (aim_of one) told in
+    let text = same_Some bytes.items (bytes_of one) spelled in
+    λ i. Some (record { from = from; aim = numbers i; bytes = record { items = text i } })
+
+-- a room has all that was written to it
+pub written_fits : (given : Option (List ℕ)) (old new : List ℕ) (count : ℕ) → IsGiven given old new count
+    → length (take count new) ≡ count
+written_fits None old new count w = length-take-le count new (omega (arith, w.0))
+written_fits (Some bytes) old new count w =
+    let is = ap length w.1 in
+    length-take-le count new (omega (arith, w.0, is, length-append bytes (drop (length bytes) old)))
 
 -- what was given before is still found
 found_on : (given more : List Flight) (which : ℕ) (flight : Flight) → slice_get given which ≡ Some flight

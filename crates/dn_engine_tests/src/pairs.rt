@@ -2,12 +2,14 @@
 
 ghost use Rattle.std.specs.Prelude.{IfOk};
 ghost use Rattle.dn_lockstep.specs.Contents.{contents};
-ghost use Rattle.dn_engine_tests.specs.Pairs.{IsOneGame, Stays, HaveAgreed};
+ghost use Rattle.dn_lockstep.specs.Opening.{IsAdmittedWithin};
+ghost use Rattle.dn_engine_tests.specs.Pairs.{host, IsOneGame, IsOpened, IsPlayed, Stays, HaveAgreed};
+ghost use Rattle.dn_engine_tests.specs.Pairs.{TakeBoth, Exchange, RunBoth, Round, SecondLeaves};
 
 use crate::calls::{give, quit, run};
 use crate::parcel::Parcel;
 use crate::passing::pass;
-use dn_lockstep::{Config, Lockstep, NodeFault, locksteps_agree, one_game_opens};
+use dn_lockstep::{Config, Lockstep, NodeFault, locksteps_agree, one_game_opens, windows_hold};
 use dn_setup::Settings;
 use dn_tic::Command;
 use std::alloc::Global;
@@ -25,10 +27,13 @@ pub struct Pair {
     pub from_second: Option<Parcel>,
 }
 
-/// The two locksteps of a new game.
-pub fn open(alloc: Global, settings: Settings, limit: u32) -> Result<Pair, NodeFault>
-    ensures { IfOk result (λ pair. IsOneGame settings pair) }
+/// The two locksteps of a new game, in this window.
+pub fn open(alloc: Global, settings: Settings, limit: u32, ahead: u8) -> Result<Pair, NodeFault>
+    ensures one_game { IfOk result (λ pair. IsOneGame settings pair) }
+    ensures opened { IfOk result (λ pair. IsOpened settings limit ahead pair) }
+    ensures admitted { IsAdmittedWithin (host settings limit) ahead result }
 {
+    windows_hold();
     one_game_opens();
     let host = Config {
         players: 2,
@@ -42,8 +47,8 @@ pub fn open(alloc: Global, settings: Settings, limit: u32) -> Result<Pair, NodeF
         settings: None,
         ..host
     };
-    let first = Lockstep::new(alloc, host)?;
-    let second = Lockstep::new(alloc, guest)?;
+    let first = Lockstep::within(alloc, host, ahead)?;
+    let second = Lockstep::within(alloc, guest, ahead)?;
     Ok(Pair {
         first,
         second,
@@ -55,7 +60,8 @@ pub fn open(alloc: Global, settings: Settings, limit: u32) -> Result<Pair, NodeF
 impl Pair {
     /// Both take a command.
     fn give(&mut self, commands: [Command; 2])
-        ensures { Stays self.old self.new }
+        ensures one_game { Stays self.old self.new }
+        ensures step { TakeBoth commands self.old self.new }
     {
         let [one, other] = commands;
         give(&mut self.first, one);
@@ -64,7 +70,8 @@ impl Pair {
 
     /// Each hands the other its packets.
     fn exchange(&mut self)
-        ensures { Stays self.old self.new }
+        ensures one_game { Stays self.old self.new }
+        ensures step { Exchange self.old self.new }
     {
         pass(
             0,
@@ -84,7 +91,8 @@ impl Pair {
 
     /// Both run a tic if they can.
     fn run(&mut self)
-        ensures { Stays self.old self.new }
+        ensures one_game { Stays self.old self.new }
+        ensures step { RunBoth self.old self.new }
     {
         run(&mut self.first);
         run(&mut self.second);
@@ -92,7 +100,8 @@ impl Pair {
 
     /// A command of each, their packets, and a tic of each.
     fn round(&mut self, commands: [Command; 2])
-        ensures { Stays self.old self.new }
+        ensures one_game { Stays self.old self.new }
+        ensures step { Round commands self.old self.new }
     {
         self.give(commands);
         self.exchange();
@@ -101,7 +110,8 @@ impl Pair {
 
     /// The second player leaves, and the first hears of it.
     fn leave(&mut self)
-        ensures { Stays self.old self.new }
+        ensures one_game { Stays self.old self.new }
+        ensures step { SecondLeaves self.old self.new }
     {
         quit(&mut self.second);
         self.exchange();
@@ -109,18 +119,22 @@ impl Pair {
     }
 }
 
-/// A game of as many rounds as there are pairs of commands, which the second player leaves at the end.
+/// A game in this window, of as many rounds as there are pairs of commands, which the second player leaves at the
+/// end.
 pub fn play(
     alloc: Global,
     settings: Settings,
     limit: u32,
+    ahead: u8,
     commands: &[[Command; 2]],
 ) -> Result<Pair, NodeFault>
     ensures one_game { IfOk result (λ pair. IsOneGame settings pair) }
+    ensures played { IfOk result (λ pair. IsPlayed settings limit ahead commands.now pair) }
+    ensures admitted { IsAdmittedWithin (host settings limit) ahead result }
     ensures agree { IfOk result (λ pair. HaveAgreed (contents pair.first) (contents pair.second)) }
 {
     locksteps_agree();
-    let mut pair = open(alloc, settings, limit)?;
+    let mut pair = open(alloc, settings, limit, ahead)?;
     for &both in commands {
         pair.round(both);
     }

@@ -1,7 +1,7 @@
 //! Packets from one lockstep to another, out of order and more than once.
 
 ghost use Rattle.dn_lockstep.specs.Contents.{contents};
-ghost use Rattle.dn_engine_tests.specs.Calls.{Passes};
+ghost use Rattle.dn_engine_tests.specs.Calls.{PassesOn, Passes};
 
 use crate::calls::{hand, take};
 use crate::parcel::Parcel;
@@ -15,7 +15,9 @@ pub fn pass(
     receiver: &mut Lockstep,
     late: &mut Option<Parcel>,
 )
-    ensures { Passes from to (contents sender.old) (contents sender.new) (contents receiver.old)
+    ensures one_game { PassesOn from to (contents sender.old) (contents sender.new) (contents receiver.old)
+        (contents receiver.new) late.old late.new }
+    ensures step { Passes from to (contents sender.old) (contents sender.new) (contents receiver.old)
         (contents receiver.new) late.old late.new }
 {
     let parcel = take(sender, from, to);

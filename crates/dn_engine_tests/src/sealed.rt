@@ -1,7 +1,9 @@
 //! Calls on a lockstep on an open network.
 
+ghost use Rattle.std.specs.Prelude.{◌≡◌, None};
 ghost use Rattle.dn_lockstep.specs.Contents.{contents};
 ghost use Rattle.dn_seal.specs.Sealing.{sealing};
+ghost use Rattle.dn_open.specs.Arrivals.{HearsSealed, SendsSealed, SparesSealed};
 ghost use Rattle.dn_engine_tests.specs.Sealed.{SealsOn, OpensOn};
 
 use arrayvec::ArrayVec;
@@ -13,7 +15,9 @@ use dn_seal::Sealer;
 
 /// Gives the next packet to a peer in its envelope.
 pub fn seal_packet(lockstep: &mut Lockstep, sealer: &Sealer, to: u8) -> Option<ArrayVec<u8, 140>>
-    ensures { SealsOn (sealing sealer.now) (contents lockstep.old) (contents lockstep.new) result }
+    ensures one_game { SealsOn (sealing sealer.now) (contents lockstep.old) (contents lockstep.new) result }
+    ensures step { SendsSealed (sealing sealer.now) to (contents lockstep.old) (contents lockstep.new) result }
+    ensures idle { result ≡ None → contents lockstep.new ≡ contents lockstep.old }
 {
     sends_keep_one_game();
     packet_sealed(lockstep, sealer, to)
@@ -21,7 +25,10 @@ pub fn seal_packet(lockstep: &mut Lockstep, sealer: &Sealer, to: u8) -> Option<A
 
 /// Hears any bytes.
 pub fn open_bytes(lockstep: &mut Lockstep, sealer: &Sealer, bytes: &[u8]) -> Arrived
-    ensures { OpensOn (sealing sealer.now) (contents lockstep.old) (contents lockstep.new) bytes.now }
+    ensures one_game { OpensOn (sealing sealer.now) (contents lockstep.old) (contents lockstep.new) bytes.now }
+    ensures step { HearsSealed (sealing sealer.now) bytes.now (contents lockstep.old) (contents lockstep.new)
+        result }
+    ensures dropped { SparesSealed (contents lockstep.old) (contents lockstep.new) result }
 {
     arrivals_keep_one_game();
     receive_sealed(lockstep, sealer, bytes)

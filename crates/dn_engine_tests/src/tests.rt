@@ -1,6 +1,7 @@
 //! A game of two, from its opening to the leave of the second player.
 
 use crate::play;
+use dn_lockstep::{MOST_AHEAD, WIDEST_AHEAD};
 use dn_machine::{Cause, Phase};
 use dn_setup::Settings;
 use dn_tic::Command;
@@ -48,26 +49,28 @@ fn two_play_and_one_leaves(rt: HostRuntime) -> Result<(), Fail> {
         let round = (round % 256) as u8;
         *both = [command(round, 0), command(round, 1)];
     }
-    let pair = play(rt.alloc(), settings, 1024, &commands)?;
-    let (first, second) = (&pair.first, &pair.second);
-    let mut text = [0; 403];
-    demo_of(0, &mut text);
-    assert!(rt; first.demo() == text.as_slice());
-    demo_of(1, &mut text);
-    let Some((marker, rest)) = second.demo().split_last() else {
-        return Err("no demo".into());
-    };
-    assert_eq!(rt; *marker, 0x80);
-    assert!(rt; rest == text.as_slice());
-    assert_eq!(rt; first.phase(), Phase::Playing);
-    assert_eq!(rt; second.phase(), Phase::Ended(Cause::Quit));
-    assert_eq!(rt; first.end(1), Some(39));
-    // The last command that the second player made, as the first has it: its mark is the number of tics that the
-    // second player's world had run twelve tics earlier.
-    let Some(last) = first.command(1, 38) else {
-        return Err("no command".into());
-    };
-    assert_eq!(rt; last.chat, b'n');
-    assert_eq!(rt; last.mark, 26);
+    for ahead in [1, MOST_AHEAD, WIDEST_AHEAD] {
+        let pair = play(rt.alloc(), settings, 1024, ahead, &commands)?;
+        let (first, second) = (&pair.first, &pair.second);
+        let mut text = [0; 403];
+        demo_of(0, &mut text);
+        assert!(&rt; first.demo() == text.as_slice());
+        demo_of(1, &mut text);
+        let Some((marker, rest)) = second.demo().split_last() else {
+            return Err("no demo".into());
+        };
+        assert_eq!(&rt; *marker, 0x80);
+        assert!(&rt; rest == text.as_slice());
+        assert_eq!(&rt; first.phase(), Phase::Playing);
+        assert_eq!(&rt; second.phase(), Phase::Ended(Cause::Quit));
+        assert_eq!(&rt; first.end(1), Some(39));
+        // The last command that the second player made, as the first has it: its mark is the number of tics that the
+        // second player's world had run twelve tics earlier.
+        let Some(last) = first.command(1, 38) else {
+            return Err("no command".into());
+        };
+        assert_eq!(&rt; last.chat, b'n');
+        assert_eq!(&rt; last.mark, 26);
+    }
     Ok(())
 }

@@ -3,29 +3,24 @@ use Rattle.dn_machine.specs.Flight.{Flight, is_near}
 use Rattle.dn_lockstep.specs.Contents.{Contents, contents}
 use Rattle.dn_lockstep.specs.Hearing.{HearsNear}
 use Rattle.dn_lockstep.specs.OneGame.{AreOneGame}
-use Rattle.dn_lockstep.specs.Rings.{count_of}
 use Rattle.dn_lockstep.specs.Sent.{bytes_of}
 use Rattle.dn_lockstep.specs.Session.{with_lockstep}
+use Rattle.dn_lockstep.specs.Told.{made}
 use Rattle.dn_engine_tests.specs.Calls.{counting, IsFor, AreFor}
 use Rattle.dn_engine_tests.specs.declared.parcel.Parcel.{Parcel}
 use Rattle.dn_engine_tests.proofs.calls.hand.Goals as goal
 
-pub returns-then-is_near : goal.returns-then-is_near
-returns-then-is_near c limits settings session game below here late =
+pub returns-then-is_near-clause-one_game : goal.returns-then-is_near-clause-one_game
+returns-then-is_near-clause-one_game c limits settings session game below here late =
     let are : IsFor session.given c.args.to c.in-Some.parcel =
     subst (λ (o : Option Parcel). AreFor session.given c.args.to o) c.in-Some.is late in
     let flight : Flight = are.flight in
     let old : Contents = contents c.args.lockstep.now in
     let after : Contents = contents c.receive.new.self in
     let there : session.locksteps flight.to ≡ old = ap session.locksteps are.receiver ∙ here in
-    let own : old.me ≡ flight.to =
-    ap (λ (n : Contents). n.me) (sym here)
-    ∙ (c.locksteps_agree.ensures.agreed counting limits settings session game).numbers c.args.to below
-    ∙ sym are.receiver in
-    let near : is_near (count_of (session.locksteps flight.to).rings flight.to) flight ≡ true =
-    ap (λ (n : Contents). is_near (count_of n.rings flight.to) flight) there
-    ∙ ap (λ (p : ℕ). is_near (count_of old.rings p) flight) (sym own)
-    ∙ ap (λ (made : ℕ). is_near made flight) (sym c.made.ensures)
+    let near : is_near (made (session.locksteps flight.to)) flight ≡ true =
+    ap (λ (n : Contents). is_near (made n) flight) there
+    ∙ ap (λ (count : ℕ). is_near count flight) (sym c.made.ensures)
     ∙ sym (c.is_near.ensures.near flight are.aim) ∙ c.if-is_near.true in
     subst (λ (p : ℕ). AreOneGame counting limits settings (with_lockstep session p after)) are.receiver
     (c.one_game_goes_on.ensures.heard counting limits settings session are.which flight after c.receive.result game

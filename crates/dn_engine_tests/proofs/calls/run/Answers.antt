@@ -2,7 +2,7 @@ use Rattle.std.proofs.Common.{◌≡◌, ◌<◌, ℕ, zero, suc, ◌%◌, ℤ, 
 use Rattle.dn_machine.specs.Running.{on_run}
 use Rattle.dn_lockstep.specs.Contents.{Contents, contents}
 use Rattle.dn_lockstep.specs.Runs.{RunsBy}
-use Rattle.dn_engine_tests.specs.Calls.{counting}
+use Rattle.dn_engine_tests.specs.Calls.{counting, marks_at}
 use Rattle.dn_engine_tests.proofs.calls.run.Goals as goal
 
 -- the mark of either player
@@ -12,8 +12,8 @@ mark_of mark zero low = refl
 mark_of mark (suc zero) low = refl
 mark_of mark (suc (suc more)) low = absurd (omega (arith, low))
 
-pub returns : goal.returns
-returns c limits settings session player game two mine here =
+pub returns-clause-one_game : goal.returns-clause-one_game
+returns-clause-one_game c limits settings session player game two mine here =
     let new : Contents = contents c.run.new.self in
     let marks : List ℤ = c.marks_at-marks.result in
     let count : c.ran.result ≡ length (session.told player) =
@@ -27,3 +27,14 @@ returns c limits settings session player game two mine here =
     ∙ ap (λ (k : ℕ). pos (k % 128)) count)
     (subst (λ (old : Contents). RunsBy marks old new (λ limits m marks. on_run limits m marks)
     (λ answer told. (c.run.result.0 ≡ answer) × (c.run.result.1 ≡ told))) (sym here) c.run.ensures.step)
+
+pub returns-clause-step : goal.returns-clause-step
+returns-clause-step c = record {
+  step = subst (λ (marks : List ℤ). RunsBy marks (contents c.args.lockstep.now) (contents c.run.new.self)
+      (λ limits m marks. on_run limits m marks)
+      (λ answer told. (c.run.result.0 ≡ answer) × (c.run.result.1 ≡ told)))
+      (c.marks_at-marks.ensures ∙ ap marks_at c.ran.ensures) c.run.ensures.step;
+  further = c.run.ensures.further;
+  waits = c.run.ensures.waits;
+  idle = c.run.ensures.idle;
+}

@@ -1,9 +1,9 @@
-use Rattle.std.proofs.Common.{◌≡◌, ◌<◌, ℕ, zero, suc, Some, false, refl, arith}
+use Rattle.std.proofs.Common.{◌≡◌, ◌<◌, ℕ, zero, suc, Some, Ok, false, inl, inr, refl, arith}
 use Rattle.dn_machine.specs.Game.{fresh}
 use Rattle.dn_machine.specs.Limits.{Limits}
 use Rattle.dn_lockstep.specs.declared.config.Config.{Config}
 use Rattle.dn_lockstep.specs.Contents.{Contents, contents}
-use Rattle.dn_lockstep.specs.Opening.{limits_in}
+use Rattle.dn_lockstep.specs.Opening.{CanBeAhead, IsAdmittedWithin, limits_within}
 use Rattle.dn_lockstep.specs.Represents.{Represents}
 use Rattle.dn_lockstep.specs.Session.{opening_session}
 use Rattle.dn_setup.specs.Settings.{Settings}
@@ -24,9 +24,15 @@ each limits settings first second two one other zero below = one
 each limits settings first second two one other (suc zero) below = other
 each limits settings first second two one other (suc (suc player)) below = absurd (omega (arith, below, two))
 
-pub returns : goal.returns
+-- what is made is made in a window that it can have
+can_be : {A : Type 0} (config : Config) (ahead : ℕ) (made : A) → IsAdmittedWithin config ahead (Ok made)
+    → CanBeAhead ahead
+can_be config ahead made (inl (can, fine)) = can
+can_be config ahead made (inr (same, wide)) = absurd (cc)
+
+pub returns-clause-one_game : goal.returns-clause-one_game
 unfolding pick
-returns c =
+returns-clause-one_game c =
     let first : Contents = contents c.in_ok-first.first in
     let second : Contents = contents c.in_ok-second.second in
     let host : Config = record {
@@ -36,11 +42,14 @@ returns c =
       limit = c.args.limit;
       settings = Some c.args.settings;
     } in
+    let limits : Limits = limits_within host c.args.ahead in
     record {
-      limits = limits_in host;
+      limits = limits;
       session = opening_session (pick first second);
-      game = c.one_game_opens.ensures counting (limits_in host) c.args.settings (pick first second)
-          (each (limits_in host) c.args.settings first second refl
+      game = c.one_game_opens.ensures counting limits c.args.settings (pick first second)
+          (c.windows_hold.ensures.window host c.args.ahead
+          (can_be host c.args.ahead c.in_ok-first.first c.in_ok-first.ensures.admitted))
+          (each limits c.args.settings first second refl
           (c.in_ok-first.ensures.opened c.args.settings (λ e. refl))
           (c.in_ok-second.ensures.opened c.args.settings (λ e. absurd (cc))));
       two = refl;
@@ -49,3 +58,17 @@ returns c =
       first_late = tt;
       second_late = tt;
     }
+
+pub returns-clause-opened : goal.returns-clause-opened
+returns-clause-opened c = record {
+  first = record {
+    node = c.in_ok-first.ensures.opened c.args.settings (λ e. refl);
+    same = c.in_ok-first.ensures.whose;
+  };
+  second = record {
+    node = c.in_ok-second.ensures.opened c.args.settings (λ e. absurd (cc));
+    same = c.in_ok-second.ensures.whose;
+  };
+  first_late = refl;
+  second_late = refl;
+}

@@ -6,8 +6,8 @@ use Rattle.dn_open.specs.Playable.{IsSmall}
 use Rattle.dn_open.specs.Sealed.{sealing_of}
 use Rattle.dn_engine_tests.proofs.sealed.open_bytes.Goals as goal
 
-pub returns : goal.returns
-returns c marking limits settings session seal player game mine here own genuine =
+pub returns-clause-one_game : goal.returns-clause-one_game
+returns-clause-one_game c marking limits settings session seal player game mine here own genuine =
     let old : Contents = contents c.args.lockstep.now in
     let new : Contents = contents c.receive_sealed.new.node in
     let opened = c.receive_sealed.ensures.opened in

@@ -9,8 +9,8 @@ use Rattle.dn_open.specs.Arrivals.{SendsSealed}
 use Rattle.dn_open.specs.Sealed.{sealing_of}
 use Rattle.dn_engine_tests.proofs.sealed.seal_packet.Goals as goal
 
-pub returns : goal.returns
-returns c marking limits settings session seal player game mine here own =
+pub returns-clause-one_game : goal.returns-clause-one_game
+returns-clause-one_game c marking limits settings session seal player game mine here own =
     let old : Contents = contents c.args.lockstep.now in
     let new : Contents = contents c.packet_sealed.new.node in
     c.sends_keep_one_game.ensures marking limits settings session seal player c.args.to new

@@ -26,17 +26,22 @@ receiver_at : (locksteps : ℕ → Contents) (from to : ℕ) (one other : Conten
     → put (put locksteps from one) to other to ≡ other
 receiver_at locksteps from to one other = put_at (put locksteps from one) to to other refl
 
-pub returns : goal.returns
-returns c settings one =
-    let there = c.pass.ensures one.limits settings one.session one.game (omega (arith, one.two))
+-- what stands in a place of locksteps that are these
+stands : (locksteps these : ℕ → Contents) (place : ℕ) (n : Contents) → locksteps ≡ these → these place ≡ n
+    → locksteps place ≡ n
+stands locksteps these place n same there = ap (λ (f : ℕ → Contents). f place) same ∙ there
+
+pub returns-clause-one_game : goal.returns-clause-one_game
+returns-clause-one_game c settings one =
+    let there = c.pass.ensures.one_game one.limits settings one.session one.game (omega (arith, one.two))
     (omega (arith, one.two)) (λ e. absurd (cc)) one.first one.second one.first_late in
     let at : ℕ → Contents = one.session.locksteps in
     let sent : Contents = contents c.pass.new.sender in
     let got : Contents = contents c.pass.new.receiver in
-    let back = c.pass-2.ensures one.limits settings there.0 there.1 (omega (arith, one.two))
+    let back = c.pass-2.ensures.one_game one.limits settings there.0 there.1 (omega (arith, one.two))
     (omega (arith, one.two)) (λ e. absurd (cc))
-    (ap (λ (f : ℕ → Contents). f 1) there.3 ∙ receiver_at at 0 1 sent got)
-    (ap (λ (f : ℕ → Contents). f 0) there.3 ∙ sender_at at 0 1 sent got (λ e. absurd (cc)))
+    (stands there.0.locksteps _ 1 got there.3 (receiver_at at 0 1 sent got))
+    (stands there.0.locksteps _ 0 sent there.3 (sender_at at 0 1 sent got (λ e. absurd (cc))))
     (still_for one.session there.0 there.2 0 c.args.self.now.from_second one.second_late) in
     let last : Contents = contents c.pass-2.new.sender in
     let heard : Contents = contents c.pass-2.new.receiver in
@@ -45,9 +50,17 @@ returns c settings one =
       session = back.0;
       game = back.1;
       two = one.two;
-      first = ap (λ (f : ℕ → Contents). f 0) back.3 ∙ receiver_at there.0.locksteps 1 0 last heard;
-      second = ap (λ (f : ℕ → Contents). f 1) back.3
-          ∙ sender_at there.0.locksteps 1 0 last heard (λ e. absurd (cc));
+      first = stands back.0.locksteps _ 0 heard back.3 (receiver_at there.0.locksteps 1 0 last heard);
+      second = stands back.0.locksteps _ 1 last back.3
+          (sender_at there.0.locksteps 1 0 last heard (λ e. absurd (cc)));
       first_late = still_for there.0 back.0 back.2 1 c.pass.new.late there.4;
       second_late = back.4;
     }
+
+pub returns-clause-step : goal.returns-clause-step
+returns-clause-step c = record {
+  heard = contents c.pass.new.receiver;
+  sent = contents c.pass.new.sender;
+  there = c.pass.ensures.step;
+  back = c.pass-2.ensures.step;
+}

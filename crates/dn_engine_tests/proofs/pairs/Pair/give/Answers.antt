@@ -1,8 +1,16 @@
-use Rattle.std.proofs.Common.{refl}
+use Rattle.std.proofs.Common.{refl, arith}
+use Rattle.std.proofs.lemmas.Option.{slice_get-get_or}
 use Rattle.dn_engine_tests.proofs.Staying.{first_moves, second_moves}
 use Rattle.dn_engine_tests.proofs.pairs.Pair.give.Goals as goal
 
-pub returns : goal.returns
-returns c settings one =
-    let first = first_moves settings _ one c.give.new.lockstep _ c.give.ensures (λ s p. (refl, refl)) in
-    second_moves settings _ first c.give-2.new.lockstep _ c.give-2.ensures (λ s p. (refl, refl))
+pub returns-clause-one_game : goal.returns-clause-one_game
+returns-clause-one_game c settings one =
+    let first = first_moves settings _ one c.give.new.lockstep _ c.give.ensures.one_game (λ s p. (refl, refl)) in
+    second_moves settings _ first c.give-2.new.lockstep _ c.give-2.ensures.one_game (λ s p. (refl, refl))
+
+pub returns-clause-step : goal.returns-clause-step
+returns-clause-step c = record {
+  first = (_, c.give.result, slice_get-get_or c.args.commands 0 _ (omega arith), c.give.ensures.step);
+  second = (_, c.give-2.result, slice_get-get_or c.args.commands 1 _ (omega arith), c.give-2.ensures.step);
+  late = (refl, refl);
+}
