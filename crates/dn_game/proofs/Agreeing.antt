@@ -1,4 +1,5 @@
 -- The nodes of a game agree, since the machine's nodes that they represent do.
+use Rattle.dn_game.proofs.Vanilla.{window_of}
 use Rattle.std.proofs.Common.{◌≡◌, ◌<◌, ◌≤◌, ℕ, true, List, length, Option, Some, Result, ap, sym, ◌∙◌, subst, inl, inr, arith}
 use Rattle.std.specs.Prelude.{fold}
 use Rattle.std.specs.Option.{option_map}
@@ -108,7 +109,7 @@ pub agreed : {W S : Type 0} (state : W → S) (rules : Rules S) (settings : Sett
     (g : Contents W)
     → (r : IsReached state rules settings events g) → AreAgreed state rules settings (inputs_of r.last) g
 agreed state rules settings events g r =
-    let kept = always rules settings events r.last r.run in
+    let kept = always rules settings (window_of rules.limits r.game.vanilla) events r.last r.run in
     record {
       places = r.game.players;
       few = few state rules g r.last r.game;

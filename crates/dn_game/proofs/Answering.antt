@@ -30,15 +30,22 @@ answer_of None = Err Refusal.Memory
 answer_of (Some refusal) = Err refusal
 
 module _ {S : Type 0} (rules : Rules S) where
+  -- what was played, and then more
+  pub plays_on : (events more : List Event) (answers others : List (Result Done Refusal))
+      (game mid last : Game) → Plays rules game events answers mid → Plays rules mid more others last
+      → Plays rules game (events ++ more) (answers ++ others) last
+  plays_on [] more [] others game mid last same next = rw same at next
+  plays_on [] more (a ∷ answers) others game mid last way next = absurd way
+  plays_on (e ∷ events) more [] others game mid last way next = absurd way
+  plays_on (e ∷ events) more (a ∷ answers) others game mid last way next =
+      (way.0, way.1, plays_on events more answers others way.0 mid last way.2 next)
+
   pub plays_more : (events : List Event) (answers : List (Result Done Refusal)) (event : Event)
       (answer : Result Done Refusal) (game mid last : Game)
       → Plays rules game events answers mid → Answers rules mid event answer last
       → Plays rules game (events ++ event ∷ []) (answers ++ answer ∷ []) last
-  plays_more [] [] event answer game mid last same next = (last, rw same at next, refl)
-  plays_more [] (a ∷ answers) event answer game mid last way next = absurd way
-  plays_more (e ∷ events) [] event answer game mid last way next = absurd way
-  plays_more (e ∷ events) (a ∷ answers) event answer game mid last way next =
-      (way.0, way.1, plays_more events answers event answer way.0 mid last way.2 next)
+  plays_more events answers event answer game mid last way next =
+      plays_on events (event ∷ []) answers (answer ∷ []) game mid last way (last, next, refl)
 
   -- what was played is one of the runs
   pub plays_leads : (events : List Event) (answers : List (Result Done Refusal)) (game last : Game)

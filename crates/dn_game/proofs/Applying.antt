@@ -89,6 +89,7 @@ stops state rules g m place r below =
         nodes = r.nodes;
         stopped = λ i. grind (arith, get_or-set_same, get_or-set_other, r.stopped i);
         flights = r.flights;
+        vanilla = r.vanilla;
         carried = r.carried;
       };
       answered = refl;

@@ -1,5 +1,6 @@
 -- A packet that is delivered as soon as it is sent, and a round of such packets.
-use Rattle.std.proofs.Common.{◌≡◌, ◌≢◌, ℕ, zero, suc, List, [], ◌∷◌, map, ◌+◌, true, false, true≢false, ◌∙◌, ◌++◌, length, Result, Ok, Err, refl, ap, sym, subst, inl, inr, arith}
+use Rattle.std.proofs.Common.{◌≡◌, ◌≢◌, ℕ, zero, suc, List, [], ◌∷◌, map, ◌<◌, ◌+◌, append_assoc, true, false, true≢false, ◌∙◌, ◌++◌, length, Result, Ok, Err, refl, ap, sym, subst, inl, inr, arith}
+use Rattle.std.specs.Prelude.{OnErr}
 use Rattle.dn_tic.specs.declared.input.Input.{Input}
 use Rattle.dn_tic.specs.declared.input.Input.TheVariants.{Pressed, Given}
 use Rattle.dn_machine.specs.declared.events.Done.{Done}
@@ -7,15 +8,16 @@ use Rattle.dn_machine.specs.declared.events.Event.{Event}
 use Rattle.dn_machine.specs.declared.events.Event.TheVariants.{Send, Deliver}
 use Rattle.dn_machine.specs.declared.events.Refusal.{Refusal}
 use Rattle.dn_machine.specs.Game.{Game}
-use Rattle.dn_machine.specs.Progress.{after, build_of, in_order, is_of_round, exchange, turn}
+use Rattle.dn_machine.specs.Progress.{after, build_of, in_order, exchange, turn}
 use Rattle.dn_machine.specs.Runs.{is_send}
 use Rattle.dn_machine.specs.Worlds.{Rules}
-use Rattle.dn_machine.proofs.Leading as machine
-use Rattle.dn_machine.proofs.Leading.{all_more, leads_more, led_on, led_in_order}
+use Rattle.dn_game.specs.declared.rounds.RoundFault.{RoundFault}
 use Rattle.dn_game.specs.Applied.{IsApplied}
 use Rattle.dn_game.specs.Contents.{Contents}
 use Rattle.dn_game.specs.Represents.{Represents}
-use Rattle.dn_game.specs.Rounds.{pressed_by, IsUnsent, IsLed, IsCarriedOut}
+use Rattle.dn_game.specs.Rounds.{pressed_by, IsUnsent, IsCutShort, IsCarriedOut}
+use Rattle.dn_game.specs.RoundEvents.{events_in_order, exchange_events, turn_events, after_all}
+use Rattle.dn_game.proofs.Rounding.{all_after, after_in_order, events_split}
 use Rattle.dn_tic.specs.Inputs.{input_of}
 
 -- one step more
@@ -74,45 +76,66 @@ module _ {W S : Type 0} (state : W → S) (rules : Rules S) where
       let whole = after_other mid new (after rules (Send node to) m) (Deliver which) heard refl (then half) in
       rw counted at whole
 
-  -- what is carried out, by what it ends with
-  ended : {A B : Type 0} (first good mid good_mid : Game) (g : Contents W) (answer : Result A Refusal)
-      (whole : Result B Refusal) (refusal : Refusal)
-      → answer ≡ Err refusal → whole ≡ Err refusal → machine.IsLed rules first mid
-      → IsCarriedOut state rules mid good_mid g answer → IsCarriedOut state rules first good g whole
-  ended first good mid good_mid g answer whole refusal is same before some =
-      let at : IsUnsent g refusal × IsLed state rules mid g = rw is at some in
-      let led = at.1 in
-      rw same (
-        at.0,
-        record {
-          events = before.0 ++ led.events;
-          last = led.last;
-          way = leads_more rules before.0 led.events first mid led.last before.1 led.way;
-          each = all_more is_of_round before.0 led.events before.2 led.each;
-          game = led.game;
-        },
-      )
+  -- before a send, nothing of an exchange was applied
+  pub not_begun : (node to : ℕ) (m : Game) (g : Contents W) → Represents state rules g m
+      → IsCutShort state rules (exchange_events node m to) m g
+  not_begun node to m g r =
+      record { done = []; node = node; to = to; rest = Deliver (length m.flights) ∷ []; whole = refl; game = r }
+
+  -- nor was it where the send is left out
+  pub left_out : {A : Type 0} (node to : ℕ) (m : Game) (old new : Contents W) (answer : Result A Refusal)
+      → Represents state rules old m → answer ≡ Err Refusal.Memory → OnErr answer (new ≡ old)
+      → IsCutShort state rules (exchange_events node m to) m new
+  left_out node to m old new answer r is kept = let same : new ≡ old = rw is at kept in
+      not_begun node to m new (rw same r)
+
+  -- a part that was cut short cuts the whole short
+  pub within : (front part rest : List Event) (m mid : Game) (g : Contents W) → mid ≡ after_all rules front m
+      → IsCutShort state rules part mid g → IsCutShort state rules (front ++ (part ++ rest)) m g
+  within front part rest m mid g at cut =
+      let left = Send cut.node cut.to ∷ cut.rest in
+      record {
+        done = front ++ cut.done;
+        node = cut.node;
+        to = cut.to;
+        rest = cut.rest ++ rest;
+        whole = ap (λ (es : List Event). front ++ (es ++ rest)) cut.whole
+            ∙ ap (λ (es : List Event). front ++ es) (append_assoc cut.done left rest)
+            ∙ sym (append_assoc front cut.done (left ++ rest));
+        game = subst (Represents state rules g)
+            (ap (after_all rules cut.done) at ∙ sym (all_after rules front cut.done m)) cut.game;
+      }
+
+  -- how it ends, by its answer
+  pub ended : {B : Type 0} (events : List Event) (m good : Game) (g : Contents W) (answer : Result B RoundFault)
+      (fault : RoundFault) → answer ≡ Err fault → IsUnsent g fault × IsCutShort state rules events m g
+      → IsCarriedOut state rules m events good g answer
+  ended events m good g answer fault is at = rw is at
 
   -- a turn, whatever inputs the others have
   pub by_own_input : {A : Type 0} (inputs all : ℕ → Input) (m : Game) (node : ℕ) (g : Contents W)
-      (answer : Result A Refusal) → inputs node ≡ all node
-      → IsCarriedOut state rules m (turn rules inputs m node) g answer
-      → IsCarriedOut state rules m (turn rules all m node) g answer
+      (answer : Result A RoundFault) → inputs node ≡ all node
+      → IsCarriedOut state rules m (turn_events rules inputs m node) (turn rules inputs m node) g answer
+      → IsCarriedOut state rules m (turn_events rules all m node) (turn rules all m node) g answer
   unfolding turn
   by_own_input inputs all m node g answer same is = rw same at is
 
-  -- steps in order that each may end the whole
-  module _ (step : Game → ℕ → Game) (each : (game : Game) (i : ℕ) → machine.IsLed rules game (step game i))
-      (game : Game) (g : Contents W) {A : Type 0} (count : ℕ) (answer : Result A Refusal)
-      (one : IsCarriedOut state rules (in_order step count game) (step (in_order step count game) count) g
-      answer) where
+  -- steps in order that each may cut the whole short
+  module _ (step : Game → ℕ → Game) (events : Game → ℕ → List Event)
+      (each : (game : Game) (i : ℕ) → after_all rules (events game i) game ≡ step game i)
+      (game : Game) (g : Contents W) {A : Type 0} (count : ℕ) (answer : Result A RoundFault)
+      (one : IsCarriedOut state rules (in_order step count game) (events (in_order step count game) count)
+      (step (in_order step count game) count) g answer) where
     pub goes_on : (done : A) → answer ≡ Ok done → Represents state rules g (in_order step (count + 1) game)
     goes_on done is = rw (step_more step count game) (rw is at one)
 
-    pub ends : {B : Type 0} (first good : Game) (whole : Result B Refusal) (refusal : Refusal)
-        → answer ≡ Err refusal → whole ≡ Err refusal
-        → machine.IsLed rules first game → IsCarriedOut state rules first good g whole
-    ends first good whole refusal is same before =
-        ended first good (in_order step count game) _ g answer whole refusal is same
-        (led_on rules first game (in_order step count game) before
-        (led_in_order rules step each count game)) one
+    pub ends : (bound : ℕ) → count < bound → (fault : RoundFault) → answer ≡ Err fault
+        → IsUnsent g fault × IsCutShort state rules (events_in_order step events bound game) game g
+    ends bound below fault is =
+        let at : IsUnsent g fault × IsCutShort state rules (events (in_order step count game) count)
+        (in_order step count game) g = rw is at one in
+        let split = events_split rules step events count bound game below in (
+          at.0,
+          rw split.1 (within (events_in_order step events count game) (events (in_order step count game) count) split.0
+              game (in_order step count game) g (sym (after_in_order rules step events each count game)) at.1),
+        )

@@ -1,7 +1,11 @@
 -- A game goes on as the machine's game that it represents.
-use Rattle.std.proofs.Common.{◌<◌, ◌≤◌, ◌+◌, ◌++◌, ℕ, List, refl, ap, sym, ◌∙◌, inl, inr, arith}
+use Rattle.dn_game.proofs.Vanilla.{window_of, swift_of, packet_of}
+use Rattle.std.proofs.Common.{◌<◌, ◌≤◌, ◌+◌, ◌≡◌, ℕ, List, Result, Err, refl, ap, sym, ◌∙◌, inl, inr, arith, subst}
 use Rattle.dn_setup.specs.Settings.{Settings}
+use Rattle.dn_machine.specs.declared.events.Done.{Done}
+use Rattle.dn_machine.specs.Limits.{Limits}
 use Rattle.dn_machine.specs.declared.events.Event.{Event}
+use Rattle.dn_machine.specs.declared.events.Refusal.{Refusal}
 use Rattle.dn_machine.specs.Game.{Game, opening_game}
 use Rattle.dn_machine.proofs.Invariant.{IsKept}
 use Rattle.dn_machine.specs.Node.{is_ended}
@@ -11,23 +15,31 @@ use Rattle.dn_machine.specs.Running.{tic_limit}
 use Rattle.dn_machine.specs.Worlds.{Rules}
 use Rattle.dn_machine.proofs.Progress.{goes_on_with}
 use Rattle.dn_machine.proofs.Games.{always}
-use Rattle.dn_machine.proofs.Leading.{led_rounds, leads_more}
 use Rattle.dn_machine.proofs.Promises
 use Rattle.dn_node.specs.declared.node.Node.{Node}
 use Rattle.dn_node.specs.Contents as node
 use Rattle.dn_node.specs.Represents as node_to
-use Rattle.dn_game.specs.Contents.{Contents, contents}
-use Rattle.dn_game.specs.GoingOn.{NoneLost, AllRan, HasRoom, GoesOn, IsPlayedOn, HasPlayedOn}
+use Rattle.dn_game.specs.declared.going_on.PlayOnFault.{PlayOnFault}
+use Rattle.dn_game.specs.declared.going_on.PlayOnFault.TheVariants.{Round}
+use Rattle.dn_game.specs.declared.rounds.RoundFault.{RoundFault}
+use Rattle.dn_game.specs.Contents.{Contents}
+use Rattle.dn_game.specs.GoingOn.{NoneLost, AllRan, HasRoom, GoesOn, HasGoneOn}
+use Rattle.dn_game.specs.Played.{IsReachedWith}
 use Rattle.dn_game.specs.Promised.{IsReached}
 use Rattle.dn_game.specs.Represents.{Represents}
 use Rattle.dn_game.specs.Told.{HasNode}
-use Rattle.dn_game.specs.declared.played.Played.{Played}
 use Rattle.dn_lockstep.proofs.Shown.{started, end_is}
 use Rattle.dn_game.proofs.Agreeing.{inside, shown}
-use Rattle.dn_game.proofs.Answering.{plays_leads}
+use Rattle.dn_game.proofs.Answering.{plays_leads, plays_on}
 use Rattle.dn_game.proofs.Places.{there_is}
-use Rattle.dn_game.proofs.Promising.{promised, reached_promised}
+use Rattle.dn_game.proofs.Promising.{promised}
+use Rattle.dn_game.proofs.Rounding.{plays_rounds}
 use Rattle.dn_tic.specs.declared.input.Input.{Input}
+
+-- one answer tells of one fault
+pub same_round : {A : Type 0} (one other : RoundFault) (answer : Result A PlayOnFault) → answer ≡ Err (Round one)
+    → answer ≡ Err (Round other) → one ≡ other
+same_round one other answer is same = cc
 
 module _ {W S : Type 0} (state : W → S) (rules : Rules S) (settings : Settings) where
   module _ (g : Contents W) (m : Game) (r : Represents state rules g m) where
@@ -90,36 +102,29 @@ module _ {W S : Type 0} (state : W → S) (rules : Rules S) (settings : Settings
       → Represents state rules later (good_rounds rules inputs rounds reached.last)
       → GoesOn rules.capacity rounds g later
   continues events g later reached several inputs rounds shown none tics more enough room all =
-      let kept = always rules settings events reached.last reached.run in
+      let kept = always rules settings (window_of rules.limits reached.game.vanilla) events reached.last reached.run in
       ran_all g later reached.last _ reached.game shown _
       (goes_on_with rules settings (short g reached.last reached.game several) several events reached.last
       reached.run (lost_none g reached.last reached.game none)
-      inputs tics more rounds (room_of g reached.last reached.game kept tics (tics + more + 5) room) enough
+      (window_of rules.limits reached.game.vanilla) (swift_of rules.limits reached.game.vanilla) 1
+      (packet_of rules.limits reached.game.vanilla) inputs tics more rounds (room_of g reached.last reached.game kept tics (tics + more + rules.ahead)
+      (subst (λ (k : ℕ). HasRoom rules.capacity g tics (tics + more + k)) (sym (ap (λ (l : Limits). l.ahead) reached.game.vanilla)) room)) enough
       (all_ran g reached.last reached.game tics all))
 
-  pub played_on_promised : (events : List Event) (inputs : ℕ → Input) (rounds : ℕ) (played : Played W)
-      → (p : IsPlayedOn state rules settings events inputs rounds played) → 2 ≤ rules.players
-      → HasPlayedOn state rules settings events inputs rounds played
-  played_on_promised events inputs rounds played p several =
-      let e = p.events_played in
-      let run = plays_leads rules events e.answers (opening_game settings) e.last e.plays in
-      let led = led_rounds rules (λ round. inputs) rounds e.last in
-      let reached : IsReached state rules settings (events ++ led.0) (contents played.game) =
+  -- the events of the rounds lead on, and what they lead to is promised
+  pub gone_on : (events : List Event) (answers : List (Result Done Refusal)) (g later : Contents W)
+      (reached : IsReachedWith state rules settings events answers g)
+      → 2 ≤ rules.players → (inputs : ℕ → ℕ → Input) (rounds : ℕ)
+      → Represents state rules later (good_rounds rules inputs rounds reached.last)
+      → HasGoneOn state rules settings events answers reached.last inputs rounds g later
+  gone_on events answers g later reached several inputs rounds shown =
       record {
-        last = good_rounds rules (λ round. inputs) rounds e.last;
-        run = leads_more rules events led.0 (opening_game settings) e.last
-            (good_rounds rules (λ round. inputs) rounds e.last) run led.1;
-        game = p.calmed.game;
-      } in
-      let after = reached_promised state rules settings (events ++ led.0) (contents played.game) reached in
-      record {
-        on = p;
-        promised = promised state rules settings events e.answers e.last (contents p.before.game) e.plays
-            e.game;
-        goes_on = continues events _ _ (record { last = e.last; run = run; game = e.game }) several
-            (λ round. inputs) rounds p.calmed.game;
-        more = led.0;
-        answers = after.0;
-        last = reached.last;
-        after = after.1;
+        goes_on = continues events g later (record {
+          last = reached.last;
+          run = plays_leads rules events answers (opening_game settings) reached.last reached.plays;
+          game = reached.game;
+        }) several inputs rounds shown;
+        promised = promised state rules settings _ _ _ later
+            (plays_on rules events _ answers _ (opening_game settings) reached.last _ reached.plays
+            (plays_rounds rules inputs rounds reached.last)) shown;
       }

@@ -45,16 +45,18 @@ limited_more {W} limit nodes node before one =
 nobody : (i : ℕ) → slice_index_or (false ∷ false ∷ false ∷ false ∷ []) i false ≡ false
 nobody i = grind arith
 
-pub opens : {W S : Type 0} (state : W → S) (rules : Rules S) (settings : Settings) (nodes : List (Node W))
+pub opens : {W S : Type 0} (state : W → S) (rules : Rules S) (vanilla : represents.IsVanilla rules.limits)
+    (settings : Settings) (nodes : List (Node W))
     (flights : List Flight)
     → length nodes ≡ rules.players → AreFresh state rules settings nodes → flights ≡ []
     → represents.Represents state rules
     (record { nodes = nodes; stopped = false ∷ false ∷ false ∷ false ∷ []; flights = flights })
     (opening_game settings)
 unfolding opening_game
-opens state rules settings nodes flights count nodes_fresh none =
+opens state rules vanilla settings nodes flights count nodes_fresh none =
     record {
       players = count;
+      vanilla = vanilla;
       nodes = nodes_fresh;
       stopped = nobody;
       flights = none;

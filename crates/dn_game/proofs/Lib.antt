@@ -17,8 +17,10 @@ pub mod Posting
 pub mod Applying
 pub mod Delivering
 pub mod Sending
+pub mod Rounding
 pub mod Arriving
 pub mod Continuing
 pub mod Following
 pub mod Observed
 pub mod NeverStopping
+pub mod Vanilla

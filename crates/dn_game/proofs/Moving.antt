@@ -24,5 +24,6 @@ module _ {W S : Type 0} (state : W → S) (rules : Rules S) (g : Contents W) (m 
         node_to.Represents state rules i (node.contents x) y) g.nodes m.nodes place n after r.nodes below is;
     stopped = r.stopped;
     flights = r.flights;
+    vanilla = r.vanilla;
     carried = r.carried;
   }

@@ -25,6 +25,7 @@ module _ {W S : Type 0} (state : W → S) (rules : Rules S) (g : Contents W) (m 
           nodes = r.nodes;
           stopped = r.stopped;
           flights = same ∙ r.flights;
+          vanilla = r.vanilla;
           carried = r.carried;
         };
         answered = refl;
@@ -43,6 +44,7 @@ module _ {W S : Type 0} (state : W → S) (rules : Rules S) (g : Contents W) (m 
           flights = more ∙ ap (λ (fs : List Flight). fs ++ f ∷ []) r.flights
               ∙ ap (λ (x : Flight). map flight_of m.flights ++ x ∷ []) is
               ∙ sym (map_push flight_of m.flights flight);
+          vanilla = r.vanilla;
           carried = All-push (IsCarried rules.players) m.flights flight r.carried carried;
         };
         answered = ap Done.Sent (last ∙ ap length r.flights ∙ length-map m.flights flight_of);

@@ -1,4 +1,5 @@
 -- What was played is promised.
+use Rattle.dn_game.proofs.Vanilla.{window_of}
 use Rattle.std.proofs.Common.{List, Result}
 use Rattle.dn_setup.specs.Settings.{Settings}
 use Rattle.dn_machine.specs.declared.events.Done.{Done}
@@ -21,7 +22,7 @@ module _ {W S : Type 0} (state : W → S) (rules : Rules S) (settings : Settings
       → Plays rules (opening_game settings) events answers last → Represents state rules g last
       → IsPromised state rules settings events answers last g
   promised answers last g plays shown =
-      let kept = always rules settings events last
+      let kept = always rules settings (window_of rules.limits shown.vanilla) events last
       (plays_leads rules events answers (opening_game settings) last plays) in
       record {
         plays = plays;
@@ -29,7 +30,7 @@ module _ {W S : Type 0} (state : W → S) (rules : Rules S) (settings : Settings
         agree = Promises.agree rules settings last kept;
         fits = Promises.fits rules settings last kept;
         steady = Promises.steady rules settings last kept;
-        answered = steady_answers rules settings events answers last plays;
+        answered = steady_answers rules (window_of rules.limits shown.vanilla) settings events answers last plays;
         agreed = agreed_on_keys state rules settings events answers last g plays shown;
       }
 

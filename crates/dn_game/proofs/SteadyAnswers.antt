@@ -1,4 +1,5 @@
 -- No event of a game that a list of events may leave is answered by a failed check.
+use Rattle.dn_machine.specs.Limits.{IsWindow}
 use Rattle.std.proofs.Common.{◌≡◌, ℕ, ℤ, Bool, true, false, true≢false, not, List, [], ◌∷◌, cond, Option, Some, None, Result, Ok, Err, ltb, refl, ap, sym, ◌∙◌, inl, inr, arith}
 use Rattle.std.specs.Prelude.{All, slice_get}
 use Rattle.std.proofs.lemmas.List.Elements.{All-cons, All-nil}
@@ -111,8 +112,8 @@ steady_from rules settings (e ∷ events) (a ∷ answers) game last kept
     All-cons IsSteady a answers (rw answered (other_steady (Err Refusal.Memory) refl))
     (steady_from rules settings events answers next last (rw same kept) rest)
 
-pub steady_answers : {S : Type 0} (rules : Rules S) (settings : Settings) (events : List Event)
+pub steady_answers : {S : Type 0} (rules : Rules S) (window : IsWindow rules.limits) (settings : Settings) (events : List Event)
     (answers : List (Result Done Refusal)) (last : Game)
     → Plays rules (opening_game settings) events answers last → All IsSteady answers
-steady_answers rules settings events answers last way =
-    steady_from rules settings events answers (opening_game settings) last (opens rules settings) way
+steady_answers rules window settings events answers last way =
+    steady_from rules settings events answers (opening_game settings) last (opens rules settings window) way

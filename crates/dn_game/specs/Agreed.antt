@@ -1,10 +1,9 @@
 -- What holds between the nodes of a game: their locksteps agree, and their worlds are those of the inputs.
-use Rattle.std.specs.Prelude.{◌≡◌, ◌<◌, ◌≤◌, ℕ, List, Some, length}
-use Rattle.dn_tic.specs.declared.input.Input.{Input}
+use Rattle.std.specs.Prelude.{◌≡◌, ◌<◌, ◌≤◌, ℕ, Some, length}
 use Rattle.dn_setup.specs.Settings.{Settings}
 use Rattle.dn_demo.specs.Reading.{state_after}
 use Rattle.dn_machine.specs.Running.{tic_limit}
-use Rattle.dn_machine.specs.Worlds.{Rules, command, world}
+use Rattle.dn_machine.specs.Worlds.{Inputs, Rules, command, world}
 use Rattle.dn_lockstep.specs.Agreed as lockstep
 use Rattle.dn_lockstep.specs.Demos.{rows_made, demo_made}
 use Rattle.dn_lockstep.specs.Told.{HasStarted, command_told}
@@ -16,7 +15,7 @@ use Rattle.dn_game.specs.Told.{HasNode, lockstep_at}
 
 -- the nodes agree, on a game of these settings in which the players' builds took these inputs
 pub record AreAgreed {W S : Type 0} (state : W → S) (rules : Rules S) (settings : Settings)
-    (inputs : ℕ → List Input) (g : Contents W) : Type 0 where
+    (inputs : Inputs) (g : Contents W) : Type 0 where
   -- each player has a node, there are four at most, and where there is any, a demo has room for no more tics
   -- than may be run
   pub places : length g.nodes ≡ rules.players

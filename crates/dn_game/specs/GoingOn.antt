@@ -13,10 +13,12 @@ use Rattle.dn_lockstep.specs.Told.{HasStarted}
 use Rattle.dn_node.specs.Contents as node
 use Rattle.dn_node.specs.Contents.{locked, end_in}
 use Rattle.dn_game.specs.declared.played.Played.{Played}
+use Rattle.dn_game.specs.declared.rounds.RoundFault.{RoundFault}
 use Rattle.dn_game.specs.Contents.{Contents, contents}
-use Rattle.dn_game.specs.Played.{IsPlayed}
-use Rattle.dn_game.specs.Promised.{IsPromised}
+use Rattle.dn_game.specs.Promised.{IsPromised, HasPlayed}
 use Rattle.dn_game.specs.Represents.{Represents}
+use Rattle.dn_game.specs.RoundEvents.{rounds_events, answers_to}
+use Rattle.dn_game.specs.Rounds.{IsUnsent, IsCutShort}
 use Rattle.dn_game.specs.Told.{HasNode}
 use Rattle.dn_tic.specs.declared.input.Input.{Input}
 
@@ -54,22 +56,34 @@ pub record IsCalmed {W S : Type 0} (state : W → S) (rules : Rules S) (inputs :
   pub done : played.done ≡ before.done
   pub refused : played.refused ≡ before.refused
 
--- the events were played, then `rounds` good rounds
-pub record IsPlayedOn {W S : Type 0} (state : W → S) (rules : Rules S) (settings : Settings)
-    (events : List Event) (inputs : ℕ → Input) (rounds : ℕ) (played : Played W) : Type 0 where
-  pub before : Played W
-  pub events_played : IsPlayed state rules settings events before
-  pub calmed : IsCalmed state rules inputs rounds events_played.last before played
+-- what is promised after `rounds` good rounds of a game that represents the machine's `last`, to which these
+-- events and answers led: the game went on, and it is promised too, with the events of the rounds behind the
+-- others, and the machine's answers to them
+pub record HasGoneOn {W S : Type 0} (state : W → S) (rules : Rules S) (settings : Settings)
+    (events : List Event) (answers : List (Result Done Refusal)) (last : machine.Game)
+    (inputs : ℕ → ℕ → Input) (rounds : ℕ) (before g : Contents W) : Type 0 where
+  pub goes_on : GoesOn rules.capacity rounds before g
+  pub promised : IsPromised state rules settings (events ++ rounds_events rules inputs rounds last)
+      (answers ++ answers_to rules (rounds_events rules inputs rounds last) last)
+      (good_rounds rules inputs rounds last) g
 
--- the game before the rounds is promised, the rounds went on, and the game after them is promised too, since
--- they are events like any other
+-- the events were played and left `before`, which is promised; then `rounds` good rounds with the same inputs
+-- in each were played, which are not counted
 pub record HasPlayedOn {W S : Type 0} (state : W → S) (rules : Rules S) (settings : Settings)
     (events : List Event) (inputs : ℕ → Input) (rounds : ℕ) (played : Played W) : Type 0 where
-  pub on : IsPlayedOn state rules settings events inputs rounds played
-  pub promised : IsPromised state rules settings events on.events_played.answers on.events_played.last
-      (contents on.before.game)
-  pub goes_on : GoesOn rules.capacity rounds (contents on.before.game) (contents played.game)
-  pub more : List Event
-  pub answers : List (Result Done Refusal)
-  pub last : machine.Game
-  pub after : IsPromised state rules settings (events ++ more) answers last (contents played.game)
+  pub before : Played W
+  pub first : HasPlayed state rules settings events before
+  pub on : HasGoneOn state rules settings events first.events_played.answers first.events_played.last
+      (λ round. inputs) rounds (contents before.game) (contents played.game)
+  pub done : played.done ≡ before.done
+  pub refused : played.refused ≡ before.refused
+
+-- the events were played and left `before`; the rounds after them stopped, and left this game
+pub record HasBrokenOff {W S : Type 0} (state : W → S) (rules : Rules S) (settings : Settings)
+    (events : List Event) (inputs : ℕ → Input) (rounds : ℕ) (fault : RoundFault) : Type 0 where
+  pub before : Played W
+  pub first : HasPlayed state rules settings events before
+  pub left : Contents W
+  pub unsent : IsUnsent left fault
+  pub cut : IsCutShort state rules (rounds_events rules (λ round. inputs) rounds first.events_played.last)
+      first.events_played.last left

@@ -8,6 +8,7 @@ pub mod InputsMade
 pub mod Promised
 pub mod Told
 pub mod Agreed
+pub mod RoundEvents
 pub mod Rounds
 pub mod GoingOn
 pub mod Stopped

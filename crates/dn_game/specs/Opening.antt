@@ -8,6 +8,8 @@ use Rattle.dn_lockstep.specs.Opening.{IsGame}
 use Rattle.dn_game.specs.declared.config.GameConfig.{GameConfig}
 use Rattle.dn_game.specs.declared.config.GameFault.{GameFault}
 use Rattle.dn_game.specs.declared.config.GameFault.TheVariants.{Players, Limit, Memory}
+use Rattle.dn_game.specs.declared.going_on.PlayOnFault.{PlayOnFault}
+use Rattle.dn_game.specs.declared.going_on.PlayOnFault.TheVariants.{Game, Round}
 
 -- a game of this many worlds is made where nothing is wrong, and else refused for the first thing that is
 -- wrong; `Memory` is answered only where nothing else is
@@ -16,6 +18,12 @@ IsAdmitted config worlds (Ok game) = IsGame worlds × IsLimit config.limit
 IsAdmitted config worlds (Err Players) = ¬ IsGame worlds
 IsAdmitted config worlds (Err Limit) = IsGame worlds × ¬ IsLimit config.limit
 IsAdmitted config worlds (Err Memory) = IsGame worlds × IsLimit config.limit
+
+-- a game is made as above; only then can a round stop
+abbrev pub IsAdmittedOn : {A : Type 0} → GameConfig → ℕ → Result A PlayOnFault → Type 0
+IsAdmittedOn config worlds (Ok game) = IsGame worlds × IsLimit config.limit
+IsAdmittedOn {A} config worlds (Err (Game fault)) = IsAdmitted {A = A} config worlds (Err fault)
+IsAdmittedOn config worlds (Err (Round fault)) = IsGame worlds × IsLimit config.limit
 
 -- what never changes in a game of this many worlds
 abbrev pub rules_in : {S : Type 0} → Physics S → GameConfig → ℕ → Rules S

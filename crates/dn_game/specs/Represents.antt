@@ -2,6 +2,7 @@
 use Rattle.std.specs.Prelude.{◌≡◌, ◌≢◌, ◌<◌, ℕ, false, length, map, All, slice_get, slice_index_or, Some}
 use Rattle.dn_machine.specs.Flight as exact
 use Rattle.dn_machine.specs.Game as machine
+use Rattle.dn_machine.specs.Limits.{Limits, vanilla_limits}
 use Rattle.dn_machine.specs.Worlds.{Rules}
 use Rattle.dn_node.specs.declared.node.Node.{Node}
 use Rattle.dn_node.specs.Contents as node
@@ -28,9 +29,14 @@ pub record IsCarried (players : ℕ) (flight : exact.Flight) : Type 0 where
   pub apart : flight.from ≢ flight.to
   pub fair : IsFair flight
 
+-- a game in one process has the window of 1997
+abbrev pub IsVanilla : Limits → Type 0
+IsVanilla limits = limits ≡ vanilla_limits limits.players limits.extra limits.capacity
+
 pub record Represents {W S : Type 0} (state : W → S) (rules : Rules S) (g : Contents W)
     (m : machine.Game) : Type 0 where
   pub players : length g.nodes ≡ rules.players
+  pub vanilla : IsVanilla rules.limits
   -- each node represents the machine's node of its number
   pub nodes : (i : ℕ) (n : Node W) → slice_get g.nodes i ≡ Some n
       → node_to.Represents state rules i (node.contents n) (m.nodes i)

@@ -2,6 +2,7 @@
 
 ghost use Rattle.std.specs.Prelude.{◌≡◌, ◌<◌, ◌≤◌, All, length, false, slice_get, slice_index_or, Option};
 ghost use Rattle.std.specs.Option.{option_copied};
+ghost use Rattle.std.specs.Vec.{vec_capacity};
 ghost use Rattle.dn_game.specs.Pool.{joined};
 
 mod applying;
@@ -21,6 +22,8 @@ pub struct Game<W> {
     pool: Pool,
     ghost two: { 2 ≤ length nodes.items },
     ghost few: { length nodes.items ≤ 4 },
+    // the list of nodes has memory for these, neither more nor fewer
+    ghost exact: { vec_capacity nodes ≡ length nodes.items },
     ghost receivers: { All (λ flight. flight.to < length nodes.items) pool.flights },
 }
 

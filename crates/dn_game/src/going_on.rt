@@ -1,27 +1,44 @@
 //! A game goes on once its packets arrive.
 
-ghost use Rattle.std.specs.Prelude.{◌≤◌, ◌+◌, ℕ, Bool, List, length, IfOk};
+ghost use Rattle.std.specs.Prelude.{◌≡◌, ◌≤◌, ◌+◌, ℕ, Bool, List, length, Result, Err, IfOk};
 ghost use Rattle.dn_tic.specs.declared.input.Input.{Input};
 ghost use Rattle.dn_setup.specs.Settings.{Settings};
+ghost use Rattle.dn_machine.specs.declared.events.Done.{Done};
 ghost use Rattle.dn_machine.specs.declared.events.Event.{Event};
+ghost use Rattle.dn_machine.specs.declared.events.Refusal.{Refusal};
 ghost use Rattle.dn_machine.specs.Progress.{good_rounds};
 ghost use Rattle.dn_machine.specs.Worlds.{rules_of};
 ghost use Rattle.dn_game.specs.Contents.{Contents};
-ghost use Rattle.dn_game.specs.GoingOn.{NoneLost, AllRan, HasRoom, GoesOn, HasPlayedOn};
-ghost use Rattle.dn_game.specs.Opening.{IsAdmitted, rules_in};
+ghost use Rattle.dn_game.specs.GoingOn.{NoneLost, AllRan, HasRoom, GoesOn, HasGoneOn, HasPlayedOn, HasBrokenOff};
+ghost use Rattle.dn_game.specs.Opening.{IsAdmittedOn, rules_in};
+ghost use Rattle.dn_game.specs.Played.{IsReachedWith};
 ghost use Rattle.dn_game.specs.Promised.{IsReached};
 ghost use Rattle.dn_game.specs.Represents.{Represents};
 ghost use Rattle.dn_tic.specs.Inputs.{input_of};
 ghost use Rattle.dn_game.specs.Rounds.{pressed_by};
+ghost use Rattle.dn_game.specs.declared.going_on.PlayOnFault.TheVariants.{Round};
+ghost use Rattle.dn_game.specs.declared.rounds.RoundFault.{RoundFault};
 
 use crate::config::{GameConfig, GameFault};
 use crate::played::Played;
 use crate::playing::play;
-use crate::rounds::pressed;
+use crate::rounds::{RoundFault, pressed};
 use dn_machine::Event;
 use dn_tic::{Input, Keys};
 use dn_world::World;
 use std::alloc::Global;
+use thiserror::Error;
+
+/// Why a game was not played on.
+#[derive(Clone, Copy, Debug, PartialEq, Eq, Error)]
+pub enum PlayOnFault {
+    /// There is no game.
+    #[error("{0}")]
+    Game(GameFault),
+    /// A round stopped.
+    #[error("{0}")]
+    Round(RoundFault),
+}
 
 /// Whatever events a game has met: if no node was lost, fourteen good rounds raise the least number of tics
 /// that any node which has not ended has run, and every thirteen further rounds raise it again, as long as
@@ -42,11 +59,26 @@ pub fn reached_games_go_on<W: World>()
         → Represents W.state (rules_of W.physics players extra capacity) later
         (good_rounds (rules_of W.physics players extra capacity) inputs rounds reached.last)
         → GoesOn capacity rounds g later }
+    // Where the answers are known, so are the events of the rounds, and what is promised of the game after
+    // them. So a caller of `play` looks at the game that it left, plays good rounds, and has all that is
+    // promised of playing on.
+    ensures gone_on { (players : ℕ) (extra : Bool) (capacity : ℕ) (settings : Settings) (events : List Event)
+        (answers : List (Result Done Refusal)) (g later : Contents W)
+        → (reached : IsReachedWith W.state (rules_of W.physics players extra capacity) settings events answers
+        g)
+        → 2 ≤ players → (inputs : ℕ → ℕ → Input) (rounds : ℕ)
+        → Represents W.state (rules_of W.physics players extra capacity) later
+        (good_rounds (rules_of W.physics players extra capacity) inputs rounds reached.last)
+        → HasGoneOn W.state (rules_of W.physics players extra capacity) settings events answers reached.last
+        inputs rounds g later }
 {}
 
 /// Plays the events, then `rounds` rounds in which every packet arrives, with the same inputs in each. `done`
-/// and `refused` do not count the rounds. The answer is `Memory` where a packet of a round cannot be sent:
-/// memory was refused, or 2^32 packets were sent before.
+/// and `refused` do not count the rounds.
+///
+/// How far the rounds bring the nodes depends on the game before them, which is not returned. Whoever has to
+/// look at that one, for nodes that are lost, tics and room, calls `play`, and then `Game::good_rounds_with`
+/// on the game that it left: `reached_games_go_on` promises the same of that (`gone_on`).
 pub fn play_on_with<W: World>(
     alloc: Global,
     config: GameConfig,
@@ -54,18 +86,25 @@ pub fn play_on_with<W: World>(
     events: &[Event],
     inputs: &[Input; 4],
     rounds: u32,
-) -> Result<Played<W>, GameFault>
-    ensures admitted { IsAdmitted config (length worlds.items) result }
+) -> Result<Played<W>, PlayOnFault>
+    ensures admitted { IsAdmittedOn config (length worlds.items) result }
     // What is promised of `play` is so before the rounds, no losses among the events can make the nodes
     // wait for good, and after the rounds it is so too, since they are events like any other.
     ensures promised { IfOk result (λ played. HasPlayedOn W.state
         (rules_in W.physics config (length worlds.items)) config.settings events.now (input_of inputs.now) rounds
         played) }
+    // Where a round stops, the events before some send of the rounds were applied.
+    ensures stopped { (fault : RoundFault) → result ≡ Err (Round fault) → HasBrokenOff W.state
+        (rules_in W.physics config (length worlds.items)) config.settings events.now (input_of inputs.now) rounds
+        fault }
 {
-    let mut played = play(alloc, config, worlds, events)?;
+    let mut played = match play(alloc, config, worlds, events) {
+        Ok(played) => played,
+        Err(fault) => return Err(PlayOnFault::Game(fault)),
+    };
     match played.game.good_rounds_with(inputs, rounds) {
         Ok(()) => Ok(played),
-        Err(_) => Err(GameFault::Memory),
+        Err(fault) => Err(PlayOnFault::Round(fault)),
     }
 }
 
@@ -77,11 +116,14 @@ pub fn play_on<W: World>(
     events: &[Event],
     keys: [Keys; 4],
     rounds: u32,
-) -> Result<Played<W>, GameFault>
-    ensures admitted { IsAdmitted config (length worlds.items) result }
+) -> Result<Played<W>, PlayOnFault>
+    ensures admitted { IsAdmittedOn config (length worlds.items) result }
     ensures promised { IfOk result (λ played. HasPlayedOn W.state
         (rules_in W.physics config (length worlds.items)) config.settings events.now (pressed_by keys) rounds
         played) }
+    ensures stopped { (fault : RoundFault) → result ≡ Err (Round fault) → HasBrokenOff W.state
+        (rules_in W.physics config (length worlds.items)) config.settings events.now (pressed_by keys) rounds
+        fault }
 {
     play_on_with(alloc, config, worlds, events, &pressed(keys), rounds)
 }

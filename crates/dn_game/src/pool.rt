@@ -44,6 +44,7 @@ fn grow<T>(list: &mut Vec<T>, more: usize) -> Result<(), AllocError>
     ensures grown { OnOk result
         (vec_capacity list.new ≡ grown (vec_len list.old) more (vec_capacity list.old)) }
     ensures kept { OnErr result (vec_capacity list.new ≡ vec_capacity list.old) }
+    ensures full { OnErr result (vec_capacity list.new < vec_len list.new + more) }
 {
     let count = list.len();
     if more <= list.capacity() - count {
@@ -147,6 +148,7 @@ impl Pool {
     pub(crate) fn reserve(&mut self) -> Result<(), AllocError>
         ensures kept { self.new.flights ≡ self.old.flights }
         ensures room { OnOk result (HasRoom self.new) }
+        ensures full { OnErr result (¬ HasRoom self.new) }
         ensures grown { HasGrown self.old.flights self.old.room self.new.room }
     {
         grow(&mut self.bytes, MAX_DATAGRAM)?;

@@ -7,13 +7,27 @@ ghost use Rattle.dn_machine.specs.declared.events.Refusal.{Refusal};
 ghost use Rattle.dn_machine.specs.Progress.{build_of, exchange, turn, good_round, good_rounds};
 ghost use Rattle.dn_game.specs.Applied.{Tells};
 ghost use Rattle.dn_game.specs.Contents.{contents};
-ghost use Rattle.dn_game.specs.Room.{KeepsWhose};
+ghost use Rattle.dn_game.specs.Room.{IsFull, KeepsWhose};
+ghost use Rattle.dn_game.specs.RoundEvents.{exchange_events, turn_events, round_events, rounds_events};
 ghost use Rattle.dn_game.specs.Rounds.{pressed_by, IsCarriedOut};
+ghost use Rattle.dn_game.specs.declared.rounds.RoundFault.{RoundFault};
 
 use crate::game::Game;
 use dn_machine::{Done, Event, Refusal};
 use dn_tic::{Input, Keys, input_of};
 use dn_world::World;
+use thiserror::Error;
+
+/// Why a round stopped before a packet was sent.
+#[derive(Clone, Copy, Debug, PartialEq, Eq, Error)]
+pub enum RoundFault {
+    /// There was no room for the packet.
+    #[error("out of memory")]
+    Memory,
+    /// 2^32 packets were sent, and no event can name the next.
+    #[error("too many packets")]
+    Packets,
+}
 
 /// Whether a send failed because memory was refused.
 fn is_left_out(answer: Result<Done, Refusal>) -> bool
@@ -47,25 +61,28 @@ fn build_of(node: u32, input: Input) -> Event
 
 impl<W: World> Game<W> {
     /// Asks a node for a packet to another, and delivers it. To itself a node sends nothing.
-    fn exchange(&mut self, node: u32, to: u32) -> Result<(), Refusal>
+    fn exchange(&mut self, node: u32, to: u32) -> Result<(), RoundFault>
         ensures good { Tells W.state W.physics (contents self.old) (λ rules m.
-            IsCarriedOut W.state rules m (exchange rules node m to) (contents self.new) result) }
+            IsCarriedOut W.state rules m (exchange_events node m to) (exchange rules node m to) (contents self.new) result) }
+        ensures memory { result ≡ Err RoundFault.Memory → IsFull self.new }
         ensures whose { KeepsWhose (contents self.old) (contents self.new) }
     {
         let Ok(which) = u32::try_from(self.flights()) else {
-            return Err(Refusal::NoPacket);
+            return Err(RoundFault::Packets);
         };
         if is_left_out(self.apply(Event::Send { node, to })) {
-            return Err(Refusal::Memory);
+            return Err(RoundFault::Memory);
         }
         let _ = self.apply(Event::Deliver(which));
         Ok(())
     }
 
     /// A node's turn: it builds a command, exchanges packets with each player, and runs a tic.
-    fn turn(&mut self, node: u32, input: Input) -> Result<(), Refusal>
+    fn turn(&mut self, node: u32, input: Input) -> Result<(), RoundFault>
         ensures good { Tells W.state W.physics (contents self.old) (λ rules m.
-            IsCarriedOut W.state rules m (turn rules (λ me. input) m node) (contents self.new) result) }
+            IsCarriedOut W.state rules m (turn_events rules (λ me. input) m node) (turn rules (λ me. input) m node)
+            (contents self.new) result) }
+        ensures memory { result ≡ Err RoundFault.Memory → IsFull self.new }
         ensures whose { KeepsWhose (contents self.old) (contents self.new) }
     {
         let _ = self.apply(build_of(node, input));
@@ -79,10 +96,13 @@ impl<W: World> Game<W> {
     /// A round in which every packet arrives: each node in turn builds the command of its input, or takes the
     /// one that is given, sends each other node a packet, which is delivered, and runs a tic.
     ///
-    /// It stops where there is no memory for a packet, or where 2^32 packets were sent already.
-    pub fn good_round_with(&mut self, inputs: &[Input; 4]) -> Result<(), Refusal>
+    /// It stops before a packet for which there is no memory, and where 2^32 packets were sent already; what
+    /// was done by then stays.
+    pub fn good_round_with(&mut self, inputs: &[Input; 4]) -> Result<(), RoundFault>
         ensures good { Tells W.state W.physics (contents self.old) (λ rules m.
-            IsCarriedOut W.state rules m (good_round rules (input_of inputs.now) m) (contents self.new) result) }
+            IsCarriedOut W.state rules m (round_events rules (input_of inputs.now) m)
+            (good_round rules (input_of inputs.now) m) (contents self.new) result) }
+        ensures memory { result ≡ Err RoundFault.Memory → IsFull self.new }
         ensures whose { KeepsWhose (contents self.old) (contents self.new) }
     {
         for node in 0..self.players() {
@@ -92,19 +112,23 @@ impl<W: World> Game<W> {
     }
 
     /// Such a round in which each node builds a command with its keys.
-    pub fn good_round(&mut self, keys: [Keys; 4]) -> Result<(), Refusal>
+    pub fn good_round(&mut self, keys: [Keys; 4]) -> Result<(), RoundFault>
         ensures good { Tells W.state W.physics (contents self.old) (λ rules m.
-            IsCarriedOut W.state rules m (good_round rules (pressed_by keys) m) (contents self.new) result) }
+            IsCarriedOut W.state rules m (round_events rules (pressed_by keys) m)
+            (good_round rules (pressed_by keys) m) (contents self.new) result) }
+        ensures memory { result ≡ Err RoundFault.Memory → IsFull self.new }
         ensures whose { KeepsWhose (contents self.old) (contents self.new) }
     {
         self.good_round_with(&pressed(keys))
     }
 
     /// Plays `count` rounds in which every packet arrives, with the same inputs in each.
-    pub fn good_rounds_with(&mut self, inputs: &[Input; 4], count: u32) -> Result<(), Refusal>
+    pub fn good_rounds_with(&mut self, inputs: &[Input; 4], count: u32) -> Result<(), RoundFault>
         ensures good { Tells W.state W.physics (contents self.old) (λ rules m.
-            IsCarriedOut W.state rules m (good_rounds rules (λ round. input_of inputs.now) count m)
+            IsCarriedOut W.state rules m (rounds_events rules (λ round. input_of inputs.now) count m)
+            (good_rounds rules (λ round. input_of inputs.now) count m)
             (contents self.new) result) }
+        ensures memory { result ≡ Err RoundFault.Memory → IsFull self.new }
         ensures whose { KeepsWhose (contents self.old) (contents self.new) }
     {
         for _ in 0..count {
@@ -114,10 +138,12 @@ impl<W: World> Game<W> {
     }
 
     /// Plays `count` rounds in which every packet arrives, with the same keys in each.
-    pub fn good_rounds(&mut self, keys: [Keys; 4], count: u32) -> Result<(), Refusal>
+    pub fn good_rounds(&mut self, keys: [Keys; 4], count: u32) -> Result<(), RoundFault>
         ensures good { Tells W.state W.physics (contents self.old) (λ rules m.
-            IsCarriedOut W.state rules m (good_rounds rules (λ round. pressed_by keys) count m)
+            IsCarriedOut W.state rules m (rounds_events rules (λ round. pressed_by keys) count m)
+            (good_rounds rules (λ round. pressed_by keys) count m)
             (contents self.new) result) }
+        ensures memory { result ≡ Err RoundFault.Memory → IsFull self.new }
         ensures whose { KeepsWhose (contents self.old) (contents self.new) }
     {
         self.good_rounds_with(&pressed(keys), count)

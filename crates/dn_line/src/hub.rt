@@ -29,14 +29,17 @@ pub struct MemoryHub {
 }
 
 impl Model for MemoryHub {
-    ghost use Rattle.std.specs.Prelude.{◌≤◌, map, length};
+    ghost use Rattle.std.specs.Prelude.{◌≡◌, ◌≤◌, map, length};
+    ghost use Rattle.std.specs.Vec.{vec_capacity};
     ghost use Rattle.dn_line.specs.Hub.{Hub};
 
     ghost Value = { Hub };
 
     ghost view = { λ h. record { queues = map (λ q. q.items) h.queues.items; failed = h.failed } };
 
-    ghost invariant = { λ h. length h.queues.items ≤ 4 };
+    // Its memory is that of its queues, which `new` takes: no call takes more, and none gives any back.
+    ghost invariant = { λ h. (length h.queues.items ≤ 4)
+        × (vec_capacity h.queues ≡ length h.queues.items) };
 }
 
 /// A datagram of these bytes, or of the first 105 of them.
@@ -62,9 +65,7 @@ impl MemoryHub {
             return Err(HubFault::Memory);
         };
         for _ in 0..players {
-            if queues.push(ArrayVec::new()).is_err() {
-                return Err(HubFault::Memory);
-            }
+            queues.push_reserved(ArrayVec::new());
         }
         Ok(MemoryHub { queues, failed: 0 })
     }

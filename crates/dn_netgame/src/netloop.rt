@@ -16,7 +16,7 @@ use crate::fault::RunFault;
 use crate::games::new_walks;
 use crate::netplay::{NO_SOCKET, UNBOUND};
 use crate::transfer::print;
-use dn_game::{GameConfig, GameFault, nodes_of};
+use dn_game::{GameConfig, nodes_of};
 use dn_line::{Line, UdpLine};
 use dn_node::Node;
 use dn_text::push_node;
@@ -93,11 +93,7 @@ fn play_all<R: Net>(
     ensures fault { IfErr result (λ fault. fault ≡ RunFault.Memory) }
 {
     let walks = new_walks(alloc, players)?;
-    let mut nodes = match nodes_of(alloc, &config, walks) {
-        Ok(nodes) => nodes,
-        Err(GameFault::Memory) => return Err(RunFault::Memory),
-        Err(GameFault::Players | GameFault::Limit) => unreachable!(),
-    };
+    let mut nodes = nodes_of(alloc, &config, walks)?;
     let Ok(mut line) = UdpLine::bind(rt, alloc, base, 0, players - 1, players) else {
         return Ok(None);
     };

@@ -76,8 +76,13 @@ fn play<R: Net>(
     let mut node = match Node::new(alloc, config, Walk::new()) {
         Ok(node) => node,
         Err(NodeFault::Memory) => return Err(RunFault::Memory),
-        Err(NodeFault::Players | NodeFault::Me | NodeFault::Key | NodeFault::Limit) =>
-            unreachable!(),
+        Err(
+            NodeFault::Players
+            | NodeFault::Me
+            | NodeFault::Key
+            | NodeFault::Limit
+            | NodeFault::Ahead,
+        ) => unreachable!(),
     };
     let Ok(mut line) = UdpLine::bind(rt, alloc, base, me, me, players) else {
         return Ok(None);

@@ -9,7 +9,7 @@ ghost use Rattle.dn_netgame.specs.Shown.{ShowsOrFails, PrintsOrFails};
 ghost use Rattle.dn_netgame.specs.TraceShown.{AreTraced, IsSimTraced, IsStormTraced, IsStormScript};
 ghost use Rattle.dn_netgame.specs.declared.fault.RunFault.{RunFault};
 
-use crate::calm::calm_down;
+use crate::calm::{calm_down, text_of_overflow};
 use crate::fault::RunFault;
 use crate::games::{play_walks, storm_walks};
 use crate::observers::{Script, Trace};
@@ -82,7 +82,7 @@ pub fn trace_sim<R: Read, W: Write>(
 }
 
 /// The lines of a game of walks after `count` events of the seed's schedule, each with its line, and `calm`
-/// rounds in which every packet arrives.
+/// rounds in which every packet arrives, and the exit status.
 fn text_of_storm(
     alloc: Global,
     config: GameConfig,
@@ -90,17 +90,20 @@ fn text_of_storm(
     seed: u64,
     count: u32,
     calm: u32,
-) -> Result<String, AllocError>
+) -> Result<(String, u8), AllocError>
     requires players { IsGame players }
     requires limit { IsLimit config.limit }
-    ensures { IfOk result (λ text. IsStormTraced config players seed count calm (string_bytes text) 0) }
+    ensures { IfOk result
+        (λ shown. IsStormTraced config players seed count calm (string_bytes shown.0) shown.1) }
 {
     let mut trace = Trace::new(alloc);
     let mut played = storm_walks(alloc, config, players, seed, count, &mut trace)?;
-    calm_down(&mut played, calm)?;
+    if !calm_down(&mut played, calm)? {
+        return text_of_overflow(alloc);
+    }
     let mut text = trace.text;
     push_game(&mut text, &played)?;
-    Ok(text)
+    Ok((text, 0))
 }
 
 /// Does what `run_calm` does, and writes a line for each event of the schedule before the lines of the game:
@@ -120,8 +123,8 @@ pub fn trace_storm<W: Write>(
     ensures { PrintsOrFails W.contents (IsStormTraced config players seed count calm) output.old output.new
         result }
 {
-    let text = text_of_storm(alloc, config, players, seed, count, calm)?;
-    print(output, text.as_bytes(), 0)
+    let (text, status) = text_of_storm(alloc, config, players, seed, count, calm)?;
+    print(output, text.as_bytes(), status)
 }
 
 /// The script of `count` events of the seed's schedule.

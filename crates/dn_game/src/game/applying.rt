@@ -1,10 +1,11 @@
 //! What an event does to a game.
 
-ghost use Rattle.std.specs.Prelude.{◌≡◌, ◌<◌, ◌⊎◌, false, None, Ok, length, nat_lt, slice_get, OnErr};
+ghost use Rattle.std.specs.Prelude.{◌≡◌, ◌≢◌, ◌<◌, ◌⊎◌, false, Some, None, Ok, Err, length, nat_lt, slice_get, OnErr};
 ghost use Rattle.dn_machine.specs.declared.events.Event.TheVariants.{Send, Deliver};
 ghost use Rattle.dn_machine.specs.declared.events.Done.{Done};
 ghost use Rattle.dn_machine.specs.Game.{refused, refused_at, refused_flight, on_event};
 ghost use Rattle.dn_machine.specs.Runs.{is_send};
+ghost use Rattle.dn_machine.specs.declared.events.Refusal.{Refusal};
 ghost use Rattle.dn_game.specs.Pool.{HasGrown};
 
 use super::Game;
@@ -16,7 +17,7 @@ impl<W: World> Game<W> {
     ghost use Rattle.dn_game.specs.Contents.{contents};
     ghost use Rattle.dn_game.specs.Applied.{Tells, IsAfter, IsLeftOut, IsApplied, IsAddressed};
     ghost use Rattle.dn_game.specs.Promised.{IsCarriedOn};
-    ghost use Rattle.dn_game.specs.Room.{room_of, KeepsWhose};
+    ghost use Rattle.dn_game.specs.Room.{room_of, IsFull, KeepsWhose};
 
     /// Whether this is the number of a player.
     fn is_player(&self, node: u32) -> bool
@@ -29,6 +30,7 @@ impl<W: World> Game<W> {
     fn refused_at(&self, node: u32) -> Option<Refusal>
         ensures told { Tells W.state W.physics (contents self.now)
             (λ rules m. result ≡ refused_at rules.players m node) }
+        ensures other { result ≢ Some Refusal.Memory }
         ensures there { result ≡ None → node < length (contents self.now).nodes }
     {
         if !self.is_player(node) {
@@ -44,6 +46,7 @@ impl<W: World> Game<W> {
     pub(crate) fn refused_flight(&self, which: u32) -> Option<Refusal>
         ensures told { Tells W.state W.physics (contents self.now)
             (λ rules m. result ≡ refused_flight m (slice_get m.flights which)) }
+        ensures other { result ≢ Some Refusal.Memory }
         ensures there { result ≡ None → which < length (contents self.now).flights }
     {
         let which = which as usize;
@@ -65,6 +68,7 @@ impl<W: World> Game<W> {
     fn refused(&self, event: Event) -> Option<Refusal>
         ensures told { Tells W.state W.physics (contents self.now)
             (λ rules m. result ≡ refused rules.players m event) }
+        ensures other { result ≢ Some Refusal.Memory }
         ensures there { result ≡ None → IsAddressed (contents self.now) event }
     {
         match event {
@@ -88,6 +92,7 @@ impl<W: World> Game<W> {
             (on_event rules m (Send node to)) done)
             ⊎ IsLeftOut (contents self.old) (contents self.new) (Send node to) result) }
         ensures unchanged { OnErr result (contents self.new ≡ contents self.old) }
+        ensures memory { OnErr result (IsFull self.new) }
         ensures grown { HasGrown (contents self.old).flights (room_of self.old) (room_of self.new) }
         ensures whose { KeepsWhose (contents self.old) (contents self.new) }
     {
@@ -126,6 +131,8 @@ impl<W: World> Game<W> {
         ensures applied { Tells W.state W.physics (contents self.old)
             (λ rules m. IsApplied W.state rules (contents self.old) (contents self.new) m event result) }
         ensures unchanged { OnErr result (contents self.new ≡ contents self.old) }
+        // `Memory` is answered where there is no room for one more packet, and more memory was asked for.
+        ensures memory { result ≡ Err Refusal.Memory → IsFull self.new }
         // Whatever events led to the game: they and this one lead to what it is afterwards.
         ensures carried { IsCarriedOn W.state W.physics (contents self.old) (contents self.new) event result }
         // Memory is taken by a send alone, for one more packet or for as many again as there are. The demos'

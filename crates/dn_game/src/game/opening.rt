@@ -1,6 +1,8 @@
 //! How a game is made.
 
-ghost use Rattle.std.specs.Prelude.{◌≡◌, length, IfOk, IfErr};
+ghost use Rattle.std.specs.Prelude.{◌≡◌, length, IfOk};
+ghost use Rattle.std.specs.Vec.{vec_capacity};
+ghost use Rattle.dn_demo.specs.Recorded.{IsLimit};
 ghost use Rattle.dn_lockstep.specs.Opening.{IsGame};
 ghost use Rattle.dn_game.specs.Opening.{IsAdmitted, config_of, rules_in};
 ghost use Rattle.dn_game.specs.Fresh.{AreFresh, AreLimited, worlds_of};
@@ -10,9 +12,9 @@ use crate::config::{GameConfig, GameFault};
 use crate::pool::Pool;
 use dn_demo::is_limit;
 use dn_lockstep::is_game;
-use dn_node::{Config, Node};
+use dn_node::{Config, Node, NodeFault};
 use dn_world::World;
-use std::alloc::Global;
+use std::alloc::{AllocError, Global};
 
 impl<W: World> Game<W> {
     ghost use Rattle.dn_machine.specs.Game.{opening_game};
@@ -57,30 +59,32 @@ fn config_of(config: &GameConfig, players: u8, me: u8) -> Config
     }
 }
 
-/// A node for each world, in the players' order, with no history. The worlds are given up where memory is
-/// refused.
+/// A node for each world, in the players' order, with no history, in a list that has room for these and no
+/// more. Memory for the list or for a demo may be refused, and nothing else: then the worlds are given up.
 pub fn nodes_of<W: World>(
     alloc: Global,
     config: &GameConfig,
     worlds: Vec<W>,
-) -> Result<Vec<Node<W>>, GameFault>
-    requires { IsGame (length worlds.items) }
+) -> Result<Vec<Node<W>>, AllocError>
+    requires game { IsGame (length worlds.items) }
+    requires limit { IsLimit config.now.limit }
     ensures opened { IfOk result (λ nodes. AreFresh W.state
         (rules_in W.physics config.now (length worlds.items)) config.now.settings nodes.items) }
     ensures given { IfOk result (λ nodes. worlds_of nodes.items ≡ worlds.items) }
     ensures limits { IfOk result (λ nodes. AreLimited config.now.limit nodes.items) }
     ensures one_each { IfOk result (λ nodes. length nodes.items ≡ length worlds.items) }
-    ensures memory { IfErr result (λ fault. fault ≡ GameFault.Memory) }
+    ensures room { IfOk result (λ nodes. vec_capacity nodes ≡ length worlds.items) }
 {
     let players = worlds.len() as u8;
     let mut nodes = Vec::with_capacity(alloc, worlds.len())?;
     for world in worlds {
         let own = config_of(config, players, nodes.len() as u8);
-        let Ok(node) = Node::new(alloc, own, world) else {
-            return Err(GameFault::Memory);
-        };
-        if nodes.push(node).is_err() {
-            return Err(GameFault::Memory);
+        match Node::new(alloc, own, world) {
+            Ok(node) => nodes.push_reserved(node),
+            Err(fault) => {
+                prove!(fault == NodeFault::Memory);
+                return Err(AllocError);
+            }
         }
     }
     Ok(nodes)

@@ -1,3 +1,4 @@
+use Rattle.dn_game.proofs.Vanilla.{window_of}
 use Rattle.dn_machine.specs.Worlds.{rules_of}
 use Rattle.dn_machine.proofs.Games.{always}
 use Rattle.dn_game.proofs.Promising.{promised, reached_promised}
@@ -16,7 +17,7 @@ returns-clause-agreed g c players extra capacity settings events =
 pub returns-clause-steady : goal.returns-clause-steady
 returns-clause-steady g c players extra capacity settings events contents reached =
     let rules = rules_of g.W.World.physics players extra capacity in
-    applied_steady rules settings reached.last (always rules settings events reached.last reached.run)
+    applied_steady rules settings reached.last (always rules settings (window_of rules.limits reached.game.vanilla) events reached.last reached.run)
 
 pub returns-clause-answered : goal.returns-clause-answered
 returns-clause-answered g c players extra capacity settings events answers contents reached =

@@ -3,7 +3,7 @@
 use super::told::all_told;
 use super::{build, config, opened, send, walks};
 use crate::tests::finds_no_memory;
-use dn_game::{Event, Game, GameFault, Played, Refusal, play, play_on, storm};
+use dn_game::{Event, Game, GameFault, PlayOnFault, Played, RoundFault, play, play_on, storm};
 use dn_machine::{Cause, Phase};
 use dn_tic::Keys;
 use dn_world::Walk;
@@ -146,6 +146,28 @@ fn a_game_is_played_on(rt: HostRuntime) {
     holds!(rt; all_told(&other.game) != all_told(&on.game));
 }
 
+/// What cannot be played cannot be played on.
+#[test]
+fn no_game_is_played_on(rt: HostRuntime) {
+    let rt = &rt;
+    for (players, limit, fault) in [
+        (1, 1_024, GameFault::Players),
+        (5, 1_023, GameFault::Players),
+        (2, 1_023, GameFault::Limit),
+    ] {
+        let worlds = must!(rt; walks(rt.alloc(), players));
+        let on = play_on(
+            rt.alloc(),
+            must!(rt; config(limit)),
+            worlds,
+            &[],
+            no_keys(),
+            1,
+        );
+        same!(rt; on.err(), Some(PlayOnFault::Game(fault)), (players, limit));
+    }
+}
+
 /// Who has not ended, with the tics that it ran.
 fn staying(game: &Game<Walk>) -> [Option<u32>; 4] {
     let mut rest = rans(game);
@@ -237,8 +259,8 @@ fn refused_memory_ends_a_round(rt: HostRuntime) {
     for _ in 0..16 {
         match game.good_round(no_keys()) {
             Ok(()) => carried_out = carried_out.saturating_add(1),
-            Err(refusal) => {
-                same!(rt; refusal, Refusal::Memory);
+            Err(fault) => {
+                same!(rt; fault, RoundFault::Memory);
                 finds_no_memory(rt, "Game::good_round");
             }
         }
@@ -260,7 +282,11 @@ fn refused_memory_ends_playing_on(rt: HostRuntime) {
             same!(rt; played.game.flights(), 32);
         }
         Err(fault) => {
-            same!(rt; fault, GameFault::Memory);
+            let refused = [
+                PlayOnFault::Game(GameFault::Memory),
+                PlayOnFault::Round(RoundFault::Memory),
+            ];
+            holds!(rt; refused.contains(&fault), fault);
             finds_no_memory(rt, "play_on");
         }
     }

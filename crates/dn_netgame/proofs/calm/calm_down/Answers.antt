@@ -3,7 +3,8 @@ use Rattle.dn_machine.specs.Progress.{good_rounds}
 use Rattle.dn_machine.specs.Worlds.{rules_of}
 use Rattle.dn_game.specs.Contents.{contents}
 use Rattle.dn_game.specs.Represents.{Represents}
-use Rattle.dn_game.specs.Rounds.{pressed_by}
+use Rattle.dn_game.specs.RoundEvents.{rounds_events}
+use Rattle.dn_game.specs.Rounds.{pressed_by, IsUnsent, IsCutShort}
 use Rattle.dn_world.specs.Plane.{walking}
 use Rattle.dn_netgame.proofs.calm.calm_down.Goals as goal
 
@@ -18,3 +19,11 @@ returns-in-Ok c players extra capacity m r =
           refl;
       refused = refl;
     }
+
+pub returns-in-Err-Packets : goal.returns-in-Err-Packets
+returns-in-Err-Packets c players extra capacity m r =
+    let rules = rules_of walking players extra capacity in
+    let Cut : List ℕ → Type 0 = λ keys. IsCutShort (λ spots. spots) rules
+    (rounds_events rules (λ round. pressed_by keys) c.args.calm m) m (contents c.good_rounds.new.self) in
+    let at = c.in-Err-Packets.ensures.good players extra capacity m r in
+    record { cut = subst Cut c.no_keys.ensures at.1; unsent = subst (IsUnsent (contents c.good_rounds.new.self)) c.in-Err-Packets.field-0-is at.0 }

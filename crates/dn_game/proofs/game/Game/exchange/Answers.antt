@@ -1,6 +1,6 @@
-use Rattle.std.proofs.Common.{true≢false, sym, ◌∙◌, rules}
+use Rattle.std.proofs.Common.{◌≤◌, ◌^◌, length, true≢false, sym, ◌∙◌, rules}
 use Rattle.dn_machine.specs.Worlds.{rules_of}
-use Rattle.dn_game.proofs.Arriving.{exchanges}
+use Rattle.dn_game.proofs.Arriving.{exchanges, left_out, not_begun}
 use Rattle.dn_game.proofs.Recent.{flights_are}
 use Rattle.dn_game.proofs.game.Game.exchange.Goals as goal
 
@@ -17,4 +17,11 @@ pub returns-clause-whose : goal.returns-clause-whose
 returns-clause-whose g c = c.apply-2.ensures.whose ∙ c.apply.ensures.whose
 
 pub returns-then-is_left_out-clause-good : goal.returns-then-is_left_out-clause-good
-returns-then-is_left_out-clause-good g c = search rules
+returns-then-is_left_out-clause-good g c players extra capacity m r =
+    let rules = rules_of g.W.World.physics players extra capacity in
+    (tt, left_out _ rules c.args.node c.args.to m _ _ c.apply.result r (c.is_left_out.ensures.0 c.if-is_left_out.true) c.apply.ensures.unchanged)
+
+pub returns-in_default-clause-good : goal.returns-in_default-clause-good
+returns-in_default-clause-good g c players extra capacity m r =
+    let all : 2 ^ 32 ≤ length c.args.self.now.pool.flights = search rules in
+    (all, not_begun _ (rules_of g.W.World.physics players extra capacity) c.args.node c.args.to m _ r)

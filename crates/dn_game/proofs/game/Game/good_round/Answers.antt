@@ -3,6 +3,7 @@ use Rattle.dn_tic.specs.declared.input.Input.{Input}
 use Rattle.dn_machine.specs.Progress.{good_round}
 use Rattle.dn_machine.specs.Worlds.{rules_of}
 use Rattle.dn_game.specs.Contents.{contents}
+use Rattle.dn_game.specs.RoundEvents.{round_events}
 use Rattle.dn_game.specs.Rounds.{IsCarriedOut}
 use Rattle.dn_game.proofs.Arriving.{keys_as_inputs}
 use Rattle.dn_game.proofs.game.Game.good_round.Goals as goal
@@ -10,7 +11,8 @@ use Rattle.dn_game.proofs.game.Game.good_round.Goals as goal
 pub returns-clause-good : goal.returns-clause-good
 returns-clause-good g c players extra capacity m r =
     let rules = rules_of g.W.World.physics players extra capacity in
-    let P : (ℕ → Input) → Type 0 = λ by. IsCarriedOut g.W.World.state rules m (good_round rules by m)
+    let P : (ℕ → Input) → Type 0 = λ by. IsCarriedOut g.W.World.state rules m
+    (round_events rules by m) (good_round rules by m)
     (contents c.good_round_with.new.self) c.good_round_with.result in
     subst P (keys_as_inputs c.args.keys c.pressed.result c.pressed.ensures)
     (c.good_round_with.ensures.good players extra capacity m r)

@@ -1,10 +1,11 @@
-use Rattle.std.proofs.Common.{refl, ◌∙◌, rules, ◌≡◌, Err, arith}
+use Rattle.std.proofs.Common.{refl, ◌∙◌, rules, ◌≡◌, ◌<◌, Err, arith}
 use Rattle.dn_machine.specs.Progress.{in_order, turn, good_round}
 use Rattle.dn_machine.specs.Worlds.{rules_of}
-use Rattle.dn_machine.proofs.Leading.{led_none, led_turn}
 use Rattle.dn_game.specs.Contents.{contents}
 use Rattle.dn_tic.specs.Inputs.{input_of}
-use Rattle.dn_game.proofs.Arriving.{by_own_input, goes_on, ends}
+use Rattle.dn_game.specs.RoundEvents.{turn_events}
+use Rattle.dn_game.proofs.Rounding.{after_turn}
+use Rattle.dn_game.proofs.Arriving.{by_own_input, goes_on, ends, ended}
 use Rattle.dn_game.proofs.game.Game.good_round_with.Goals as goal
 
 pub loop-node-init : goal.loop-node-init
@@ -16,7 +17,7 @@ loop-node-preserved g c = (
   λ players extra capacity m r.
       let rules = rules_of g.W.World.physics players extra capacity in
       let inputs = input_of c.args.inputs.now in
-      goes_on _ rules (turn rules inputs) (led_turn rules inputs) m (contents c.turn.new.self) c.loop-node.node
+      goes_on _ rules (turn rules inputs) (turn_events rules inputs) (after_turn rules inputs) m (contents c.turn.new.self) c.loop-node.node
       c.turn.result
       (by_own_input _ rules _ inputs _ c.loop-node.node (contents c.turn.new.self) c.turn.result
       c.input_of.ensures
@@ -30,12 +31,19 @@ returns-in_err-turn-clause-good g c players extra capacity m r =
     let same : c.from_residual.result ≡ Err c.in_err-turn.field-0.0 = search rules in
     let rules = rules_of g.W.World.physics players extra capacity in
     let inputs = input_of c.args.inputs.now in
-    ends _ rules (turn rules inputs) (led_turn rules inputs) m (contents c.turn.new.self) c.loop-node.node
-    c.turn.result
+    let below : c.loop-node.node < players = omega (
+      arith,
+      c.loop-node-test.true,
+      c.loop-node.auto.node-end,
+      c.players-node-end.ensures.value,
+      r.players,
+    ) in
+    ended _ rules _ m _ (contents c.turn.new.self) _ _ same
+    (ends _ rules (turn rules inputs) (turn_events rules inputs) (after_turn rules inputs) m
+    (contents c.turn.new.self) c.loop-node.node c.turn.result
     (by_own_input _ rules _ inputs _ c.loop-node.node (contents c.turn.new.self) c.turn.result c.input_of.ensures
-    (c.turn.ensures.good players extra capacity _ (c.loop-node.invariant.0 players extra capacity m r))) m _ _
-    _ c.in_err-turn.was same
-    (led_none rules m)
+    (c.turn.ensures.good players extra capacity _ (c.loop-node.invariant.0 players extra capacity m r)))
+    players below _ c.in_err-turn.was)
 
 pub returns-clause-good : goal.returns-clause-good
 unfolding good_round

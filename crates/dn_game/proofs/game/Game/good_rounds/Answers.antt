@@ -3,6 +3,7 @@ use Rattle.dn_tic.specs.declared.input.Input.{Input}
 use Rattle.dn_machine.specs.Progress.{good_rounds}
 use Rattle.dn_machine.specs.Worlds.{rules_of}
 use Rattle.dn_game.specs.Contents.{contents}
+use Rattle.dn_game.specs.RoundEvents.{rounds_events}
 use Rattle.dn_game.specs.Rounds.{IsCarriedOut}
 use Rattle.dn_game.proofs.Arriving.{keys_as_inputs}
 use Rattle.dn_game.proofs.game.Game.good_rounds.Goals as goal
@@ -11,7 +12,7 @@ pub returns-clause-good : goal.returns-clause-good
 returns-clause-good g c players extra capacity m r =
     let rules = rules_of g.W.World.physics players extra capacity in
     let P : (ℕ → Input) → Type 0 = λ by. IsCarriedOut g.W.World.state rules m
-    (good_rounds rules (λ round. by) c.args.count m) (contents c.good_rounds_with.new.self)
+    (rounds_events rules (λ round. by) c.args.count m) (good_rounds rules (λ round. by) c.args.count m) (contents c.good_rounds_with.new.self)
     c.good_rounds_with.result in
     subst P (keys_as_inputs c.args.keys c.pressed.result c.pressed.ensures)
     (c.good_rounds_with.ensures.good players extra capacity m r)

@@ -1,10 +1,11 @@
-use Rattle.std.proofs.Common.{refl, ◌∙◌, rules, ◌≡◌, Err, arith}
+use Rattle.std.proofs.Common.{refl, ◌∙◌, rules, ◌≡◌, ◌<◌, Err, arith}
 use Rattle.dn_machine.specs.Progress.{in_order, good_round, good_rounds}
 use Rattle.dn_machine.specs.Worlds.{rules_of}
-use Rattle.dn_machine.proofs.Leading.{led_none, led_round}
 use Rattle.dn_game.specs.Contents.{contents}
 use Rattle.dn_tic.specs.Inputs.{input_of}
-use Rattle.dn_game.proofs.Arriving.{goes_on, ends}
+use Rattle.dn_game.specs.RoundEvents.{round_events}
+use Rattle.dn_game.proofs.Rounding.{after_round}
+use Rattle.dn_game.proofs.Arriving.{goes_on, ends, ended}
 use Rattle.dn_game.proofs.game.Game.good_rounds_with.Goals as goal
 
 pub loop-init : goal.loop-init
@@ -17,7 +18,7 @@ loop-preserved g c = (
       let rules = rules_of g.W.World.physics players extra capacity in
       let inputs = input_of c.args.inputs.now in
       goes_on _ rules (λ before round. good_round rules inputs before)
-      (λ before round. led_round rules inputs before) m (contents c.good_round_with.new.self)
+      (λ before round. round_events rules inputs before) (λ before round. after_round rules inputs before) m (contents c.good_round_with.new.self)
       c.loop.counter c.good_round_with.result
       (c.good_round_with.ensures.good players extra capacity _ (c.loop.invariant.0 players extra capacity m r))
       _ c.in_ok-good_round_with.was,
@@ -29,12 +30,13 @@ returns-in_err-good_round_with-clause-good g c players extra capacity m r =
     let same : c.from_residual.result ≡ Err c.in_err-good_round_with.field-0.0 = search rules in
     let rules = rules_of g.W.World.physics players extra capacity in
     let inputs = input_of c.args.inputs.now in
-    ends _ rules (λ before round. good_round rules inputs before) (λ before round. led_round rules inputs before)
-    m (contents c.good_round_with.new.self)
-    c.loop.counter c.good_round_with.result
-    (c.good_round_with.ensures.good players extra capacity _ (c.loop.invariant.0 players extra capacity m r)) m
-    _ _ _ c.in_err-good_round_with.was same
-    (led_none rules m)
+    let below : c.loop.counter < c.args.count = omega (arith, c.loop-test.true, c.loop.auto.counter-end) in
+    ended _ rules _ m _ (contents c.good_round_with.new.self) _ _ same
+    (ends _ rules (λ before round. good_round rules inputs before)
+    (λ before round. round_events rules inputs before) (λ before round. after_round rules inputs before) m
+    (contents c.good_round_with.new.self) c.loop.counter c.good_round_with.result
+    (c.good_round_with.ensures.good players extra capacity _ (c.loop.invariant.0 players extra capacity m r))
+    c.args.count below _ c.in_err-good_round_with.was)
 
 pub returns-clause-good : goal.returns-clause-good
 unfolding good_rounds

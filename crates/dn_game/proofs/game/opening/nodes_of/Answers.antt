@@ -10,8 +10,8 @@ pub loop-world-preserved : goal.loop-world-preserved
 loop-world-preserved g c =
     let config = c.args.config.now in
     let before = c.loop-world.invariant in
-    let pushed : c.push.new.self.items ≡ c.loop-world.nodes.items ++ c.in-Ok.node ∷ [] =
-    c.push.ensures.items ∙ cond-true _ _ _ c.if-is_err.ensures.negation in
+    let pushed : c.push_reserved.new.self.items ≡ c.loop-world.nodes.items ++ c.in-Ok.node ∷ [] =
+    c.push_reserved.ensures.items in
     let longer = ap length pushed ∙ length-append c.loop-world.nodes.items (c.in-Ok.node ∷ []) in
     let players : c.len-players.result ≡ length c.args.worlds.items = search rules in
     let me : c.len-in-loop-world.result ≡ length c.loop-world.nodes.items = search rules in
@@ -26,6 +26,7 @@ loop-world-preserved g c =
       given_more _ c.loop-world.nodes.items _ _ before.4 _ _ _ _ pushed c.in-Ok.ensures.given
           c.in-Some.ensures.steps.0,
       rw pushed (limited_more config.limit c.loop-world.nodes.items c.in-Ok.node before.5 limit),
+      c.push_reserved.ensures.capacity ∙ before.6,
     )
 
 pub returns-clause-given : goal.returns-clause-given

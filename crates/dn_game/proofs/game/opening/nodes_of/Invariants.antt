@@ -1,5 +1,6 @@
 use Rattle.dn_game.specs.Opening.{rules_in}
 use Rattle.std.proofs.Common.{◌≡◌, ◌+◌, ◌++◌, length}
+use Rattle.std.specs.Vec.{vec_capacity}
 use Rattle.dn_game.specs.Fresh.{AreFresh, AreLimited, worlds_of}
 use Rattle.dn_game.proofs.game.opening.nodes_of.Given as goal
 
@@ -13,3 +14,4 @@ invariant-loop-world g l =
     l.config.settings l.nodes.items
     × (worlds_of l.nodes.items ++ l.world-iterator.rest.items ≡ l.fn.worlds.items)
     × AreLimited l.config.limit l.nodes.items
+    × (vec_capacity l.nodes ≡ length l.fn.worlds.items)
