@@ -76,7 +76,7 @@ typedef struct zmg_settings {
 
 /* limit: how many bytes the demo may have, 1,024 to 16,777,216. The same for all players. A tic takes 5 for
  *     each player, and a full demo ends the node: 1 MiB lasts 50 minutes for two players, 25 for four. The
- *     memory for them is taken by zmg_node_new.
+ *     memory for them is taken when the node is made.
  * players: 2 to 4. The same for all players.
  * me: the number of this player, 0 to players - 1.
  * extra: if not 0, each packet repeats the last command, which helps on lines that lose packets. The same for
@@ -88,7 +88,8 @@ typedef struct zmg_config {
     zmg_settings settings;
 } zmg_config;
 
-/* Answers of zmg_node_new. Player 0's settings are looked at first. ZMG_NEW_BAD_KEY is never answered. */
+/* Answers of zmg_node_new and zmg_node_new_within. Player 0's settings are looked at first, and then the
+ * window. ZMG_NEW_BAD_KEY is never answered, and ZMG_NEW_BAD_AHEAD by zmg_node_new_within alone. */
 #define ZMG_NEW_OK 0u
 #define ZMG_NEW_BAD_PLAYERS 1u
 #define ZMG_NEW_BAD_ME 2u
@@ -99,12 +100,20 @@ typedef struct zmg_config {
 #define ZMG_NEW_BAD_DEATHMATCH 7u
 #define ZMG_NEW_BAD_EPISODE 8u
 #define ZMG_NEW_BAD_MAP 9u
+#define ZMG_NEW_BAD_AHEAD 10u
 
 /* Makes a node in the handle. A node that the handle holds is given up first. All memory is taken here: no
- * other call on a node needs any. Where the answer is not ZMG_NEW_OK the handle holds none. */
+ * later call on the node needs any. Where the answer is not ZMG_NEW_OK the handle holds none. */
 uint32_t zmg_node_new(zmg_node *node, const zmg_config *config);
 
-/* Gives up the node and its memory. The handle then holds none, and may be given to zmg_node_new again. */
+/* The same in a window of its own: this player may be `ahead` commands ahead of the tics that the node ran, 1
+ * to ZMG_WIDEST_AHEAD, in place of ZMG_MOST_AHEAD. The same for all players: of a game with two windows
+ * nothing is promised. Each further command hides 1/35 second more of the line's delay, and costs as much
+ * until a key is felt, once it is used. */
+#define ZMG_WIDEST_AHEAD 12u
+uint32_t zmg_node_new_within(zmg_node *node, const zmg_config *config, uint8_t ahead);
+
+/* Gives up the node and its memory. The handle then holds none, and a new node may be made in it. */
 void zmg_node_free(zmg_node *node);
 
 /* The bits of keys. */
@@ -120,8 +129,8 @@ void zmg_node_free(zmg_node *node);
 #define ZMG_KEY_USE (1u << 9)
 #define ZMG_KEY_WEAPON(n) (1u << (9 + (n))) /* n is 1 to 8 */
 
-/* code: ZMG_BUILD_MADE where the command of `tic` was made, ZMG_BUILD_AHEAD where ZMG_MOST_AHEAD commands
- * wait to be run, and ZMG_BUILD_NOT_PLAYING. tic is 0 but for ZMG_BUILD_MADE. */
+/* code: ZMG_BUILD_MADE where the command of `tic` was made, ZMG_BUILD_AHEAD where as many commands wait
+ * to be run as the window allows, and ZMG_BUILD_NOT_PLAYING. tic is 0 but for ZMG_BUILD_MADE. */
 #define ZMG_BUILD_MADE 0u
 #define ZMG_BUILD_AHEAD 1u
 #define ZMG_BUILD_NOT_PLAYING 2u
@@ -132,7 +141,7 @@ typedef struct zmg_made {
 /* Builds the command of these keys for the next tic. Bits from 18 on are no keys. */
 zmg_made zmg_node_build(zmg_node *node, uint32_t keys);
 
-/* How many commands may wait to be run. */
+/* How many commands may wait to be run at a node of zmg_node_new. */
 #define ZMG_MOST_AHEAD 5u
 
 /* A tic command. The move as in zmg_move. mark: the consistency mark of the player's own world twelve tics
@@ -151,8 +160,8 @@ typedef struct zmg_command {
  * begin slowly, it counts as a build with no key down. */
 zmg_made zmg_node_give(zmg_node *node, const zmg_command *command);
 
-/* 1 where zmg_node_build and zmg_node_give would make a command now: the node plays, and fewer than
- * ZMG_MOST_AHEAD of its commands wait to be run. Else 0. An engine asks before it takes up the motion of a
+/* 1 where zmg_node_build and zmg_node_give would make a command now: the node plays, and fewer of
+ * its commands wait to be run than its window allows. Else 0. An engine asks before it takes up the motion of a
  * mouse or a letter of chat, which would be lost with a command that is not made. */
 uint32_t zmg_node_can_build(zmg_node *node);
 
@@ -163,9 +172,9 @@ typedef struct zmg_known_command {
 } zmg_known_command;
 
 /* A player's command for a tic, with its chat and mark, which zmg_move lacks. Known are the last twelve that
- * the node has of each player, its own among them. That of the next tic to be run, zmg_node_ran, is known as
- * soon as it has come: an engine reads it before zmg_node_run and uses it where that tic is run. From the tic
- * of zmg_node_end on there is none. */
+ * the node has of each player, its own among them, or twice the window where that is more. That of the next tic
+ * to be run, zmg_node_ran, is known as soon as it has come: an engine reads it before zmg_node_run and uses it
+ * where that tic is run. From the tic of zmg_node_end on there is none. */
 zmg_known_command zmg_node_command(zmg_node *node, uint8_t player, uint32_t tic);
 
 /* How many bytes of room a packet needs at most. */
@@ -224,19 +233,20 @@ typedef struct zmg_heard {
 #define ZMG_DROP_KILL 9u         /* a KILL packet, which no node obeys */
 #define ZMG_DROP_BEFORE 10u      /* a tic below 0 */
 #define ZMG_DROP_STOP 11u        /* a command that would end a demo */
-#define ZMG_DROP_OVERRUN 12u     /* more than twelve tics ahead */
+#define ZMG_DROP_OVERRUN 12u     /* more tics ahead than the node keeps commands */
 #define ZMG_DROP_NOT_PLAYING 13u /* the game has not started here, or this node has ended */
 #define ZMG_DROP_END 14u         /* contradicts the sender's end */
 
 /* Hears a datagram of player `from`. Who sent it is for the transport to know. A packet carries only low
- * bytes of tics, so the transport hands in none whose start or ask lies more than 64 tics from
- * zmg_node_made. Where it sends zmg_aim.start along, it drops at receipt what has a start more than 59 away,
- * since ask lies at most 5 before start. Where it goes by age, it drops what is older than 47 tics (1.3
- * seconds at 35 builds a second): a new packet may already lie 17 tics away; and a node that has
- * ended is handed nothing later than 59 tics after its end, since those who play on leave its zmg_node_made
- * behind. The packets of a player who has left keep their start while the others play on, so their age does
- * not tell how far away it lies: once zmg_node_ran has reached that player's zmg_node_end, the transport drops
- * them. A set-up packet may come at any time. */
+ * bytes of tics, so the transport hands in none whose start or ask lies more than 64 tics from zmg_node_made.
+ * With a window of w (ZMG_MOST_AHEAD, or that of zmg_node_new_within) a node keeps k commands of each player:
+ * 12, or 2 * w where that is more. A transport that sends zmg_aim.start along drops at receipt what starts
+ * more than 64 - w away (59 with five), since ask lies at most w before start. One that goes by age drops
+ * what is older than 64 - k - w tics (47: 1.3 seconds at 35 builds a second), since a new packet may already
+ * lie k + w away (17), and hands a node that has ended nothing later than 64 - w tics after its end (59),
+ * since those who play on leave its zmg_node_made behind. The packets of a player who has left keep their
+ * start while the others play on, so their age does not tell how far away it lies: once zmg_node_ran has
+ * reached that player's zmg_node_end, the transport drops them. A set-up packet may come at any time. */
 zmg_heard zmg_node_receive(zmg_node *node, uint8_t from, const uint8_t *bytes, size_t length);
 
 /* A player's move in one tic, where present is 1; else all 0. forward and side in units of 2048 in a world

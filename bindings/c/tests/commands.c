@@ -1,7 +1,7 @@
-/* Two players who give whole commands, as of a mouse: `commands [SEED [TICS]]`. Over a line that loses
- * packets each node must tell the commands of both players as they were given, chat included, and run the
- * moves that they ask for; and both demos must have them, five bytes for each. C99 and C++. Ends with status
- * 0, or names the line that failed. */
+/* Two players who give whole commands, as of a mouse: `commands [SEED [TICS [AHEAD]]]`, in the window of 1997
+ * or of AHEAD commands. Over a line that loses packets each node must tell the commands of both players as
+ * they were given, chat included, and run the moves that they ask for; and both demos must have them, five
+ * bytes for each. C99 and C++. Ends with status 0, or names the line that failed. */
 #include "zirmegat.h"
 #include <stdio.h>
 #include <stdlib.h>
@@ -9,7 +9,7 @@
 
 enum { PLAYERS = 2, MOST = 10000, HEADER = 13, BYTES = 5, KEPT = 12 };
 
-static uint32_t seed = 1, tics = MOST;
+static uint32_t seed = 1, tics = MOST, ahead = ZMG_MOST_AHEAD;
 static zmg_node nodes[PLAYERS];
 /* what each player gave for each tic */
 static zmg_command given[PLAYERS][MOST];
@@ -61,7 +61,8 @@ static void make(uint8_t me) {
     c.settings.skill = 2;
     c.settings.episode = c.settings.map = 1;
     nodes[me] = none;
-    MUST(zmg_node_new(&nodes[me], &c) == ZMG_NEW_OK);
+    if (ahead == ZMG_MOST_AHEAD) MUST(zmg_node_new(&nodes[me], &c) == ZMG_NEW_OK);
+    else MUST(zmg_node_new_within(&nodes[me], &c, (uint8_t)ahead) == ZMG_NEW_OK);
     MUST(zmg_node_can_build(&nodes[me]) == 0);
 }
 
@@ -75,7 +76,7 @@ static void give(uint8_t me) {
     zmg_made answer;
     if (made == tics) return;
     MUST(can == (zmg_node_phase(node).code == ZMG_PHASE_PLAYING
-        && made - zmg_node_ran(node) < ZMG_MOST_AHEAD));
+        && made - zmg_node_ran(node) < ahead));
     answer = zmg_node_give(node, &c);
     if (!can) {
         MUST(answer.code == ZMG_BUILD_AHEAD && answer.tic == 0 && zmg_node_made(node) == made);
@@ -103,14 +104,14 @@ static void pass(uint8_t from, uint8_t to, unsigned loss) {
     else zmg_node_receive(&nodes[to], from, bytes, length);
 }
 
-/* A node tells the last twelve commands of each player, and no others. */
+/* A node tells the last twelve commands of each player, or as many as two windows, and no others. */
 static void is_kept(uint8_t me) {
     zmg_node *node = &nodes[me];
     for (uint8_t p = 0; p < 4; p++) {
         uint32_t got = zmg_node_got(node, p).value;
-        for (uint32_t tic = got < 15 ? 0 : got - 15; tic < got + 3; tic++) {
+        for (uint32_t tic = got < 27 ? 0 : got - 27; tic < got + 3; tic++) {
             zmg_known_command told = zmg_node_command(node, p, tic);
-            MUST(told.known == (p < PLAYERS && tic < got && got - tic <= KEPT));
+            MUST(told.known == (p < PLAYERS && tic < got && got - tic <= (ahead < 6 ? (uint32_t)KEPT : 2 * ahead)));
             if (told.known) MUST(is_same(&told.command, &given[p][tic]));
             else MUST(told.command.turn == 0 && told.command.chat == 0 && told.command.mark == 0);
         }
@@ -215,6 +216,7 @@ static void turns(void) {
 int main(int argc, char **argv) {
     if (argc > 1) seed = (uint32_t)strtoul(argv[1], NULL, 10);
     if (argc > 2) tics = (uint32_t)strtoul(argv[2], NULL, 10);
+    if (argc > 3) ahead = (uint32_t)strtoul(argv[3], NULL, 10);
     if (tics > MOST) tics = MOST;
     of_no_node();
     turns();
@@ -239,7 +241,7 @@ int main(int argc, char **argv) {
         zmg_node_free(&nodes[me]);
     }
     MUST(memcmp(demos[0] + HEADER, demos[1] + HEADER, sizeof demos[0] - HEADER) == 0);
-    printf("commands: ok, %u tics, %lu letters, %lu of -128, %lu found five waiting, %lu packets lost\n",
-        (unsigned)tics, letters, backs, full, lost);
+    printf("commands: ok, %u tics, %lu letters, %lu of -128, %lu found %u waiting, %lu packets lost\n",
+        (unsigned)tics, letters, backs, full, (unsigned)ahead, lost);
     return 0;
 }

@@ -15,7 +15,7 @@ enum { NODES = 4, DEMOS = 2, BYTES = 6000 };
 
 /* What was seen of a node: its counts, and the rows that it told before the first that lacks a player. */
 typedef struct seen {
-    uint32_t made, ran, players, me, phase, got[4], rows, whole;
+    uint32_t made, ran, players, me, phase, ahead, got[4], rows, whole;
     size_t demo;
     uint64_t world;
 } seen;
@@ -28,7 +28,7 @@ static uint8_t bytes[BYTES], out[BYTES], again[BYTES];
 static unsigned long calls, answers[32][16];
 
 /* The highest answer of each call that has codes. */
-static const uint32_t highest[32] = { 9, 0, 2, 2, 6, 4, 4, 104, 5, 9, 7, 9, 1, 1, 4, 1, 1, 1, 1, 0, 0, 1, 1 };
+static const uint32_t highest[32] = { 10, 0, 2, 2, 6, 4, 4, 104, 5, 9, 7, 9, 1, 1, 4, 1, 1, 1, 1, 0, 0, 1, 1 };
 
 #define MUST(holds) must(holds, #holds, __LINE__)
 
@@ -66,6 +66,9 @@ static uint64_t stepped(uint64_t world, const zmg_move row[4]) {
     return world;
 }
 
+/* How many of the last commands of each player a node keeps. */
+static uint32_t kept(unsigned k) { return seens[k].ahead < 6 ? 12 : 2 * seens[k].ahead; }
+
 /* What holds after each call. */
 static void watch(unsigned k) {
     zmg_node *node = &nodes[k];
@@ -76,30 +79,30 @@ static void watch(unsigned k) {
     now.phase = zmg_node_phase(node).code;
     now.demo = zmg_node_demo_length(node);
     MUST(s->made <= now.made && s->ran <= now.ran && s->demo <= now.demo);
-    MUST(now.ran <= now.made && now.made <= now.ran + 5);
+    MUST(now.ran <= now.made && now.made <= now.ran + now.ahead);
     MUST(s->players == zmg_node_players(node) && s->me == zmg_node_me(node));
     /* it listens or gathers, then plays, then has ended */
     MUST(s->phase == now.phase
         || (s->phase < ZMG_PHASE_PLAYING ? ZMG_PHASE_PLAYING : s->phase + 1) <= now.phase);
     for (uint8_t p = 0; p < 4; p++) {
         zmg_number got = zmg_node_got(node, p);
-        MUST(got.known == (p < s->players) && s->got[p] <= got.value && got.value <= now.ran + 12);
+        MUST(got.known == (p < s->players) && s->got[p] <= got.value && got.value <= now.ran + kept(k));
         now.got[p] = got.value;
     }
     MUST(zmg_node_phase(&twins[k]).code == now.phase && zmg_node_made(&twins[k]) == now.made);
     MUST(zmg_node_ran(&twins[k]) == now.ran && zmg_node_demo_length(&twins[k]) == now.demo);
     MUST(zmg_node_can_build(node)
-        == (now.phase == ZMG_PHASE_PLAYING && now.made < now.ran + ZMG_MOST_AHEAD));
+        == (now.phase == ZMG_PHASE_PLAYING && now.made < now.ran + now.ahead));
     *s = now;
 }
 
-/* A player's command for a tic, which a node and its twin tell if it is one of the last twelve. */
+/* A player's command for a tic, which a node and its twin tell if it is one of the last that are kept. */
 static zmg_known_command command(unsigned k, uint8_t player, uint32_t tic) {
     zmg_known_command told = zmg_node_command(&nodes[k], player, tic);
     zmg_known_command twin = zmg_node_command(&twins[k], player, tic);
     uint32_t got = player < 4 ? seens[k].got[player] : 0;
     MUST(memcmp(&told, &twin, sizeof told) == 0);
-    MUST(told.known == (player < seens[k].players && tic < got && got - tic <= 12));
+    MUST(told.known == (player < seens[k].players && tic < got && got - tic <= kept(k)));
     MUST(told.known || (told.command.turn == 0 && told.command.mark == 0 && told.command.chat == 0));
     count(16, told.known);
     return told;
@@ -111,8 +114,11 @@ static void give_up(unsigned k) {
     memset(&seens[k], 0, sizeof seens[k]);
 }
 
-static void make(unsigned k, const zmg_config *c) {
-    uint32_t code = count(0, zmg_node_new(&nodes[k], c)), twin = zmg_node_new(&twins[k], c);
+/* In the window of 1997 a node is made by one call, and its twin by the other. */
+static void make(unsigned k, const zmg_config *c, uint8_t ahead) {
+    uint32_t code = count(0, ahead == ZMG_MOST_AHEAD ? zmg_node_new(&nodes[k], c)
+        : zmg_node_new_within(&nodes[k], c, ahead));
+    uint32_t twin = zmg_node_new_within(&twins[k], c, ahead);
     /* of two requests for memory one alone may have been refused */
     MUST(code == twin || code == ZMG_NEW_NO_MEMORY || twin == ZMG_NEW_NO_MEMORY);
     memset(&seens[k], 0, sizeof seens[k]);
@@ -122,6 +128,7 @@ static void make(unsigned k, const zmg_config *c) {
     }
     seens[k].players = c->players;
     seens[k].me = c->me;
+    seens[k].ahead = ahead;
     seens[k].phase = c->me ? ZMG_PHASE_LISTENING : ZMG_PHASE_GATHERING;
     seens[k].whole = 1;
     watch(k);
@@ -254,18 +261,19 @@ static void new_node(unsigned k) {
     c.settings.respawn = byte();
     c.settings.episode = (uint8_t)(good ? 1 + below(3) : below(6));
     c.settings.map = (uint8_t)(good ? 1 + below(32) : below(40));
-    make(k, &c);
+    make(k, &c, (uint8_t)(good ? 1 + below(ZMG_WIDEST_AHEAD) : below(9)));
 }
 
 /* A game of two, so that nodes play. */
 static void pair(void) {
     zmg_config c = { 1024, 2, 0, 0, { 1, 0, 0, 0, 1, 1 } };
+    uint8_t ahead = (uint8_t)(1 + below(ZMG_WIDEST_AHEAD));
     size_t n;
     c.extra = byte() & 1;
     if (below(2)) c.limit += 4000;
-    make(0, &c);
+    make(0, &c, ahead);
     c.me = 1;
-    make(1, &c);
+    make(1, &c, ahead);
     n = packet(0, 1, sizeof out);
     receive(1, 0, out, n);
     n = packet(1, 0, sizeof out);
@@ -371,7 +379,7 @@ static void read_node(unsigned k) {
     count(17, end.known);
     count(18, zmg_node_settings(node).known);
     count(21, zmg_node_aim(node, (uint8_t)below(6)).known);
-    command(k, player, seens[k].ran + 16 - below(40));
+    command(k, player, seens[k].ran + 28 - below(60));
     MUST(zmg_node_demo(node, draw(), out, below(BYTES)) <= seens[k].demo);
     calls += 10;
 }

@@ -170,6 +170,10 @@ static void configurations(void) {
     c = config_of(0); c.settings.deathmatch = 3; IS(zmg_node_new(&key, &c), ZMG_NEW_BAD_DEATHMATCH);
     c = config_of(0); c.settings.episode = 4; IS(zmg_node_new(&key, &c), ZMG_NEW_BAD_EPISODE);
     c = config_of(0); c.settings.map = 0; IS(zmg_node_new(&key, &c), ZMG_NEW_BAD_MAP);
+    c = config_of(0); c.settings.map = 0; IS(zmg_node_new_within(&key, &c, 0), ZMG_NEW_BAD_MAP);
+    c = config_of(2); IS(zmg_node_new_within(&key, &c, 0), ZMG_NEW_BAD_AHEAD);
+    IS(zmg_node_new_within(&key, &c, ZMG_WIDEST_AHEAD + 1), ZMG_NEW_BAD_AHEAD);
+    IS(zmg_node_new_within(&key, &c, ZMG_WIDEST_AHEAD), ZMG_NEW_BAD_ME);
     c = config_of(1); c.settings.map = 0; IS(zmg_node_new(&key, &c), ZMG_NEW_OK);
     IS(zmg_node_phase(&key).code, ZMG_PHASE_LISTENING);
     IS(zmg_node_settings(&key).known, 0);
@@ -312,6 +316,37 @@ static void requests(void) {
     IS(aim.ask.value, 0);
     IS(aim.start, 3);
     IS(aim.count, 0);
+}
+
+/* The widest window: two windows of commands are due at once, and a packet carries twelve. */
+static void windows(void) {
+    zmg_config c = config_of(0);
+    IS(zmg_node_new_within(&key, &c, ZMG_WIDEST_AHEAD), ZMG_NEW_OK);
+    c.me = 1;
+    IS(zmg_node_new_within(&other, &c, ZMG_WIDEST_AHEAD), ZMG_NEW_OK);
+    IS(pass(&key, &other), ZMG_RECEIVE_STARTED);
+    IS(pass(&other, &key), ZMG_RECEIVE_STARTED);
+    for (uint32_t k = 0; k < ZMG_WIDEST_AHEAD; k++) {
+        IS(zmg_node_build(&key, 0).code, ZMG_BUILD_MADE);
+        IS(zmg_node_build(&other, 0).code, ZMG_BUILD_MADE);
+    }
+    IS(zmg_node_build(&key, 0).code, ZMG_BUILD_AHEAD);
+    IS(pass(&other, &key), ZMG_RECEIVE_TAKEN);
+    IS(zmg_node_packet(&key, 1, bytes, sizeof bytes), ZMG_PACKET_SIZE); /* it is lost */
+    for (uint32_t k = 0; k < ZMG_WIDEST_AHEAD; k++) {
+        IS(run(&key), ZMG_RUN_RAN);
+        IS(zmg_node_build(&key, 0).code, ZMG_BUILD_MADE);
+    }
+    IS(pass(&key, &other), ZMG_RECEIVE_GAP);
+    IS(pass(&other, &key), ZMG_RECEIVE_STALE);
+    IS(zmg_node_quit(&key), 1);
+    IS(zmg_node_packet(&key, 1, bytes, sizeof bytes), ZMG_PACKET_SIZE);
+    IS(zmg_node_receive(&other, 0, bytes, ZMG_PACKET_SIZE).code, ZMG_RECEIVE_TAKEN);
+    IS(zmg_node_end(&other, 0).known, 0);
+    IS(pass(&key, &other), ZMG_RECEIVE_LEFT);
+    IS(zmg_node_end(&other, 0).value, 2 * ZMG_WIDEST_AHEAD);
+    IS(zmg_node_got(&other, 0).value, 2 * ZMG_WIDEST_AHEAD);
+    IS(zmg_node_command(&other, 0, 0).known, 1);
 }
 
 static void drops(void) {
@@ -601,6 +636,7 @@ int main(void) {
     moves();
     whole_commands();
     requests();
+    windows();
     drops();
     ends();
     packets();

@@ -59,10 +59,10 @@
 //! # }
 //! ```
 //!
-//! Nothing here waits, prints or opens anything. A player's memory is all taken by `Player::new`, but for the
-//! copy that `demo` returns; readers of demos, `upgrade` and packets take their own. A [`Node`], [`Player`],
-//! [`Reader`] or [`Demo`] may go to another thread, and one thread at a time uses it: they are `Send` and not
-//! `Sync`. None is used in the forked child of a process with threads.
+//! Nothing here waits, prints or opens anything. A player's memory is all taken by `Player::new` or `within`,
+//! but for the copy that `demo` returns; readers of demos, `upgrade` and packets take their own. A [`Node`],
+//! [`Player`], [`Reader`] or [`Demo`] may go to another thread, and one thread at a time uses it: they are `Send`
+//! and not `Sync`. None is used in the forked child of a process with threads.
 //!
 //! A later library may answer codes that this crate has no name for. Each enum that is made of a code has
 //! `Unknown` with the code for them; so no unknown code is taken for a known one, and none ends the program.
@@ -87,6 +87,7 @@ pub use packet::{Command, Packet, PacketError, EXIT, KILL, RETRANSMIT, SETUP};
 pub use player::{Player, World};
 pub use values::{
     Aim, Cause, Config, Dropped, Heard, Keys, Made, Move, Phase, Ran, Settings, Start, MOST_AHEAD,
+    WIDEST_AHEAD,
 };
 
 /// The version of the library that is linked: 65,536 times the first number, plus the second.

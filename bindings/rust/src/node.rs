@@ -26,6 +26,8 @@ pub enum NodeError {
     Episode,
     /// The map is not 1 to 32.
     Map,
+    /// A window that no node has.
+    Ahead,
     /// A code that this crate has no name for.
     Unknown(u32),
 }
@@ -41,6 +43,7 @@ impl fmt::Display for NodeError {
             NodeError::Deathmatch => "the deathmatch is not 0 to 2",
             NodeError::Episode => "the episode is not 1 to 3",
             NodeError::Map => "the map is not 1 to 32",
+            NodeError::Ahead => "no node has a window of this width",
             NodeError::Unknown(code) => {
                 return write!(f, "the node was refused with the unknown code {code}");
             }
@@ -61,6 +64,7 @@ pub(crate) fn opened(code: u32) -> Result<(), NodeError> {
         7 => Err(NodeError::Deathmatch),
         8 => Err(NodeError::Episode),
         9 => Err(NodeError::Map),
+        10 => Err(NodeError::Ahead),
         code => Err(NodeError::Unknown(code)),
     }
 }
@@ -81,15 +85,18 @@ impl Node {
     /// A node with no history. All memory that it needs is taken here.
     pub fn new(config: Config) -> Result<Node, NodeError> {
         let node = Node(raw::Held::nothing());
-        let asked = raw::Config {
-            limit: config.limit,
-            players: config.players,
-            me: config.me,
-            extra: u8::from(config.extra),
-            settings: config.settings.raw(),
-        };
         // SAFETY: the call has the handle alone (`Held`), and the configuration is valid for the call.
-        opened(unsafe { raw::zmg_node_new(node.0.at(), &asked) })?;
+        opened(unsafe { raw::zmg_node_new(node.0.at(), &config.raw()) })?;
+        Ok(node)
+    }
+
+    /// The same in a window of this width: how many commands this player may be ahead of the tics that the node
+    /// ran, 1 to [`WIDEST_AHEAD`](crate::WIDEST_AHEAD), in place of [`MOST_AHEAD`](crate::MOST_AHEAD). It must be
+    /// the same for all players of the game.
+    pub fn within(config: Config, ahead: u8) -> Result<Node, NodeError> {
+        let node = Node(raw::Held::nothing());
+        // SAFETY: the call has the handle alone (`Held`), and the configuration is valid for the call.
+        opened(unsafe { raw::zmg_node_new_within(node.0.at(), &config.raw(), ahead) })?;
         Ok(node)
     }
 
@@ -108,16 +115,17 @@ impl Node {
         values::made(unsafe { raw::zmg_node_give(self.0.at(), &command.raw()) })
     }
 
-    /// Whether `build` and `give` would make a command now: the game runs, and fewer than
-    /// [`MOST_AHEAD`](crate::MOST_AHEAD) commands of this player wait to be run. An engine asks before it takes
-    /// up the motion of a mouse, which would be lost with a command that is not made.
+    /// Whether `build` and `give` would make a command now: the game runs, and fewer commands of this player
+    /// wait to be run than its window allows. An engine asks before it takes up the motion of a mouse, which
+    /// would be lost with a command that is not made.
     pub fn can_build(&self) -> bool {
         // SAFETY: the call has the handle alone (`Held`).
         unsafe { raw::zmg_node_can_build(self.0.at()) != 0 }
     }
 
-    /// A player's command for a tic, with its chat: one of the last twelve that the node has of the player. That
-    /// of the next tic to be run, [`ran`](Node::ran), is told as soon as it has come.
+    /// A player's command for a tic, with its chat: one of the last twelve that the node has of the player, or of
+    /// as many as twice its window where that is more. That of the next tic to be run, [`ran`](Node::ran), is told as
+    /// soon as it has come.
     pub fn command(&self, player: u8, tic: u32) -> Option<Command> {
         // SAFETY: the call has the handle alone (`Held`).
         let raw = unsafe { raw::zmg_node_command(self.0.at(), player, tic) };

@@ -36,6 +36,14 @@ impl<W: World> Player<W> {
         })
     }
 
+    /// The same in a window of this width, as [`Node::within`] makes its node.
+    pub fn within(config: Config, world: W, ahead: u8) -> Result<Player<W>, NodeError> {
+        Ok(Player {
+            node: Node::within(config, ahead)?,
+            world,
+        })
+    }
+
     /// Builds the command of these keys for the next tic.
     pub fn build(&mut self, keys: Keys) -> Made {
         self.node.build(keys)
@@ -49,15 +57,16 @@ impl<W: World> Player<W> {
         self.node.give(command)
     }
 
-    /// Whether `build` and `give` would make a command now: the game runs, and fewer than
-    /// [`MOST_AHEAD`](crate::MOST_AHEAD) commands of this player wait to be run. An engine asks before it takes
-    /// up the motion of a mouse, which would be lost with a command that is not made.
+    /// Whether `build` and `give` would make a command now: the game runs, and fewer commands of this player
+    /// wait to be run than the window allows, [`MOST_AHEAD`](crate::MOST_AHEAD) if none was asked for. An engine
+    /// asks before it takes up the motion of a mouse, which would be lost with a command that is not made.
     pub fn can_build(&self) -> bool {
         self.node.can_build()
     }
 
-    /// A player's command for a tic, with its chat: one of the last twelve that the node has of the player. That
-    /// of the next tic to be run, [`ran`](Player::ran), is told as soon as it has come.
+    /// A player's command for a tic, with its chat: one of the last twelve that the node has of the player, or of
+    /// as many as twice its window where that is more. That of the next tic to be run, [`ran`](Player::ran), is told as
+    /// soon as it has come.
     pub fn command(&self, player: u8, tic: u32) -> Option<Command> {
         self.node.command(player, tic)
     }

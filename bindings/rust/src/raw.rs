@@ -172,6 +172,7 @@ pub struct Upgraded {
 extern "C" {
     pub fn zmg_version() -> u32;
     pub fn zmg_node_new(node: *mut Handle, config: *const Config) -> u32;
+    pub fn zmg_node_new_within(node: *mut Handle, config: *const Config, ahead: u8) -> u32;
     pub fn zmg_node_free(node: *mut Handle);
     pub fn zmg_node_build(node: *mut Handle, keys: u32) -> Coded;
     pub fn zmg_node_give(node: *mut Handle, command: *const Command) -> Coded;

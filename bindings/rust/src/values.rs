@@ -119,6 +119,16 @@ impl Config {
             settings: Settings::default(),
         }
     }
+
+    pub(crate) fn raw(&self) -> raw::Config {
+        raw::Config {
+            limit: self.limit,
+            players: self.players,
+            me: self.me,
+            extra: u8::from(self.extra),
+            settings: self.settings.raw(),
+        }
+    }
 }
 
 /// The keys that are down.
@@ -184,8 +194,11 @@ impl Move {
     }
 }
 
-/// How many commands of a player may wait to be run.
-pub const MOST_AHEAD: u32 = 5;
+/// How many commands of a player may wait to be run at a node of [`Node::new`](crate::Node::new).
+pub const MOST_AHEAD: u8 = 5;
+
+/// The widest window of [`Node::within`](crate::Node::within).
+pub const WIDEST_AHEAD: u8 = 12;
 
 /// What a build answers, and what a given command is answered.
 #[derive(Clone, Copy, Debug, PartialEq, Eq)]
@@ -193,7 +206,7 @@ pub const MOST_AHEAD: u32 = 5;
 pub enum Made {
     /// The command of this tic was made.
     Made(u32),
-    /// [`MOST_AHEAD`] commands wait to be run.
+    /// As many commands wait to be run as the window allows.
     Ahead,
     /// The game has not started, or the node has ended.
     NotPlaying,
@@ -227,7 +240,7 @@ pub enum Dropped {
     Before,
     /// It has a command that would end a demo.
     Stop,
-    /// It goes more than twelve tics ahead.
+    /// It goes more tics ahead than the node keeps commands.
     Overrun,
     /// The node does not play.
     NotPlaying,

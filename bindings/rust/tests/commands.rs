@@ -5,10 +5,11 @@
 use std::array;
 use zirmegat::{
     Command, Config, Keys, Made, Move, Node, Phase, Player, Ran, Settings, Start, World, MOST_AHEAD,
+    WIDEST_AHEAD,
 };
 
 const TICS: u32 = 10_000;
-/// How many of the last commands of a player a node tells, and how many tics a mark lies back.
+/// How many tics a mark lies back, and how many of the last commands of a player a node tells at least.
 const KEPT: u32 = 12;
 
 /// Numbers for the hands and the line.
@@ -105,6 +106,8 @@ fn configs() -> [Config; 2] {
 /// A player's node and world, with what the player gave and what the node told of all.
 struct Seat {
     node: Node,
+    /// The window.
+    ahead: u8,
     world: Sums,
     luck: Luck,
     given: Vec<Command>,
@@ -112,15 +115,16 @@ struct Seat {
     told: [Vec<Command>; 2],
     /// The player's mark before each tic.
     marks: Vec<i16>,
-    /// How many commands found five waiting.
+    /// How many commands found the window full.
     waits: u32,
 }
 
 impl Seat {
-    fn new(config: Config) -> Seat {
+    fn new(config: Config, ahead: u8) -> Seat {
         Seat {
             luck: Luck(u64::from(config.me) + 1),
-            node: Node::new(config).unwrap(),
+            node: Node::within(config, ahead).unwrap(),
+            ahead,
             world: Sums::default(),
             given: Vec::new(),
             rows: Vec::new(),
@@ -139,7 +143,7 @@ impl Seat {
         }
         let command = self.luck.hand();
         let can = self.node.can_build();
-        assert_eq!(can, made - ran < MOST_AHEAD);
+        assert_eq!(can, made - ran < u32::from(self.ahead));
         let answer = self.node.give(command);
         if !can {
             assert_eq!(answer, Made::Ahead);
@@ -191,12 +195,13 @@ impl Seat {
         }
     }
 
-    /// The last twelve commands of each player are told, and no others.
-    fn tells_twelve(&mut self) {
+    /// The last twelve commands of each player are told, or as many as two windows, and no others.
+    fn tells_the_last(&mut self) {
+        let kept = KEPT.max(2 * u32::from(self.ahead));
         for player in 0..5 {
             let got = self.node.got(player).unwrap_or(0);
-            for tic in got.saturating_sub(15)..got + 3 {
-                let known = tic < got && got - tic <= KEPT;
+            for tic in got.saturating_sub(kept + 3)..got + 3 {
+                let known = tic < got && got - tic <= kept;
                 assert_eq!(self.node.command(player, tic).is_some(), known);
             }
         }
@@ -226,7 +231,13 @@ fn recorded(command: &Command) -> [u8; 5] {
 
 #[test]
 fn ten_thousand_commands_of_two_mice() {
-    let mut seats = configs().map(Seat::new);
+    for ahead in [1, MOST_AHEAD, WIDEST_AHEAD] {
+        two_mice(ahead);
+    }
+}
+
+fn two_mice(ahead: u8) {
+    let mut seats = configs().map(|config| Seat::new(config, ahead));
     let mut line = Luck(99);
     let mut round = 0u32;
     while seats.iter_mut().any(|seat| seat.node.ran() < TICS) {
@@ -239,7 +250,7 @@ fn ten_thousand_commands_of_two_mice() {
             }
             seats[me].run();
             if round % 16 == 0 {
-                seats[me].tells_twelve();
+                seats[me].tells_the_last();
             }
         }
         round += 1;
@@ -284,7 +295,7 @@ fn a_player_gives_and_tells_commands() {
     assert!(!key.can_build());
     other.receive(0, &key.packet(1).unwrap());
     key.receive(1, &other.packet(0).unwrap());
-    for tic in 0..MOST_AHEAD {
+    for tic in 0..u32::from(MOST_AHEAD) {
         assert!(key.can_build());
         assert_eq!(key.give(command), Made::Made(tic));
     }

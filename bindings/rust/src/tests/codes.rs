@@ -133,7 +133,8 @@ fn codes_of_errors_have_their_names() {
         NodeError::Deathmatch,
         NodeError::Episode,
         NodeError::Map,
-        NodeError::Unknown(10),
+        NodeError::Ahead,
+        NodeError::Unknown(11),
     ];
     assert_eq!(node::opened(0), Ok(()));
     for (code, error) in (1..).zip(node) {

@@ -1,0 +1,186 @@
+/* Games in simulated time: `windows [PACKETS]`. For each window and delay it prints how many tics a second
+ * two, three and four nodes run, each on its own clock of 35 turns a second, and tests them against what the
+ * window and the delay allow. Then, over a line that loses, repeats, delays and reorders, PACKETS packets are
+ * given in each window, and a node that plays may drop none but set-up that comes again: no window is
+ * overrun. At all times the nodes run the same moves. C99. Ends with status 0, or names the line that failed. */
+#include "zirmegat.h"
+#include <stdio.h>
+#include <stdlib.h>
+#include <string.h>
+
+enum { NODES = 4, FLIGHTS = 4096, TICS = 1 << 16, SECOND = 1000000, TURN = SECOND / 35 };
+
+typedef struct flight {
+    uint64_t at;
+    size_t length;
+    uint8_t from, to, bytes[ZMG_PACKET_SIZE];
+} flight;
+
+/* A line: how long a packet takes at least, by how much more at most, and how many of a hundred are lost, and how
+ * many come twice. All in microseconds. */
+typedef struct line {
+    uint32_t delay, more, lost, twice;
+} line;
+
+static uint32_t seed = 1;
+static zmg_node nodes[NODES];
+static flight flights[FLIGHTS];
+static uint64_t turns[NODES];
+/* a sum of the moves up to each tic, as the first node ran them that came there */
+static uint32_t worlds[NODES], sums[TICS];
+static uint32_t furthest;
+static unsigned long given, dropped[16];
+
+#define MUST(holds) must(holds, #holds, __LINE__)
+
+static void must(int holds, const char *what, int at) {
+    if (holds) return;
+    fprintf(stderr, "windows.c:%d: not so: %s\n", at, what);
+    exit(1);
+}
+
+static uint32_t draw(void) { return (seed = seed * 1664525u + 1013904223u) >> 8; }
+static uint32_t below(uint32_t n) { return n ? draw() % n : 0; }
+
+static void post(const flight *packet) {
+    for (unsigned k = 0; k < FLIGHTS; k++)
+        if (flights[k].length == 0) {
+            flights[k] = *packet;
+            return;
+        }
+    MUST(!"there is room for every packet on the way");
+}
+
+static void give(uint8_t from, uint8_t to, uint64_t now, const line *l) {
+    flight packet;
+    unsigned times = below(100) < l->lost ? 0 : below(100) < l->twice ? 2 : 1;
+    packet.length = zmg_node_packet(&nodes[from], to, packet.bytes, sizeof packet.bytes);
+    packet.from = from;
+    packet.to = to;
+    if (packet.length == 0) return;
+    given++;
+    while (times--) {
+        packet.at = now + l->delay + below(l->more + 1);
+        post(&packet);
+    }
+}
+
+static void hear(uint8_t me, uint64_t now) {
+    for (unsigned k = 0; k < FLIGHTS; k++) {
+        flight *f = &flights[k];
+        if (f->length && f->to == me && f->at <= now) {
+            int plays = zmg_node_phase(&nodes[me]).code == ZMG_PHASE_PLAYING;
+            zmg_heard heard = zmg_node_receive(&nodes[me], f->from, f->bytes, f->length);
+            if (plays && heard.code == ZMG_RECEIVE_DROPPED) dropped[heard.number]++;
+            f->length = 0;
+        }
+    }
+}
+
+static void run(uint8_t me) {
+    int16_t marks[4] = { 0, 0, 0, 0 };
+    zmg_move row[4];
+    zmg_ran ran;
+    while ((ran = zmg_node_run(&nodes[me], marks, row)).code == ZMG_RUN_RAN) {
+        for (unsigned p = 0; p < 4; p++)
+            worlds[me] = worlds[me] * 31u + (uint16_t)row[p].turn + (uint8_t)row[p].forward * 7u + row[p].present;
+        MUST(ran.tic < TICS);
+        if (ran.tic >= furthest) {
+            furthest = ran.tic + 1;
+            sums[ran.tic] = worlds[me];
+        }
+        MUST(sums[ran.tic] == worlds[me]);
+    }
+    MUST(ran.code == ZMG_RUN_WAITING || ran.code == ZMG_RUN_NOT_PLAYING);
+}
+
+static void open_game(uint8_t players, uint8_t ahead) {
+    zmg_config c;
+    memset(&c, 0, sizeof c);
+    c.limit = 16777216;
+    c.players = players;
+    c.settings.skill = 2;
+    c.settings.episode = c.settings.map = 1;
+    memset(flights, 0, sizeof flights);
+    memset(worlds, 0, sizeof worlds);
+    furthest = 0;
+    for (c.me = 0; c.me < players; c.me++) {
+        zmg_node none = ZMG_NODE_NONE;
+        nodes[c.me] = none;
+        MUST(zmg_node_new_within(&nodes[c.me], &c, ahead) == ZMG_NEW_OK);
+        turns[c.me] = below(TURN);
+    }
+}
+
+static void close_game(uint8_t players) {
+    for (unsigned k = 0; k < players; k++) zmg_node_free(&nodes[k]);
+}
+
+/* The node whose turn is next hears, runs, builds and gives. The time of its turn. */
+static uint64_t step(uint8_t players, const line *l) {
+    uint8_t me = 0;
+    uint64_t now;
+    for (uint8_t k = 1; k < players; k++) if (turns[k] < turns[me]) me = k;
+    now = turns[me];
+    turns[me] += TURN;
+    hear(me, now);
+    run(me);
+    if (zmg_node_can_build(&nodes[me])) {
+        zmg_command c = { (int16_t)draw(), 0, (int8_t)below(100), (int8_t)below(80), 0, 0 };
+        MUST(zmg_node_give(&nodes[me], &c).code == ZMG_BUILD_MADE);
+    }
+    for (uint8_t to = 0; to < players; to++) give(me, to, now, l);
+    return now;
+}
+
+/* Tics a second, of a minute after the first ten seconds. A round of commands takes the delay, and until the next
+ * turn of the receiver; more than 35 tics a second there are not. */
+static double rate(uint8_t players, uint8_t ahead, uint32_t delay) {
+    line l = { 0, 0, 0, 0 };
+    uint32_t before;
+    double turns_late = delay * 35.0 / SECOND, tics;
+    l.delay = delay;
+    open_game(players, ahead);
+    while (step(players, &l) < 10ull * SECOND) {}
+    before = zmg_node_ran(&nodes[0]);
+    while (step(players, &l) < 70ull * SECOND) {}
+    tics = (zmg_node_ran(&nodes[0]) - before) / 60.0;
+    close_game(players);
+    MUST(tics <= 35.1 && tics <= 35.0 * ahead / turns_late + 0.1);
+    MUST(tics >= 34.9 || tics >= 35.0 * ahead / (turns_late + 1) - 0.1);
+    return tics;
+}
+
+static void rates(void) {
+    static const uint8_t windows[] = { 5, 6, 8, 12 };
+    static const uint32_t delays[] = { 50, 100, 120, 140, 150, 200, 250, 300, 340 };
+    for (uint8_t players = 2; players <= NODES; players++)
+        for (unsigned w = 0; w < sizeof windows; w++) {
+            printf("%u players, %2u ahead:", players, windows[w]);
+            for (unsigned d = 0; d < sizeof delays / sizeof *delays; d++)
+                printf(" %4.1f", rate(players, windows[w], delays[d] * 1000));
+            printf("\n");
+        }
+}
+
+static void overruns(unsigned long packets) {
+    static const line bad = { 60000, 300000, 10, 10 };
+    for (uint8_t ahead = 1; ahead <= ZMG_WIDEST_AHEAD; ahead++) {
+        given = 0;
+        memset(dropped, 0, sizeof dropped);
+        while (given < packets) {
+            uint8_t players = (uint8_t)(2 + below(3));
+            open_game(players, ahead);
+            while (given < packets && furthest < TICS - 16) step(players, &bad);
+            close_game(players);
+        }
+        for (unsigned k = 0; k < 16; k++) MUST(dropped[k] == 0 || k == ZMG_DROP_OUT_OF_PLACE);
+    }
+    printf("%lu packets in each window of 1 to %u: no overrun\n", packets, ZMG_WIDEST_AHEAD);
+}
+
+int main(int argc, char **argv) {
+    rates();
+    overruns(argc > 1 ? strtoul(argv[1], NULL, 10) : 1000000);
+    return 0;
+}
