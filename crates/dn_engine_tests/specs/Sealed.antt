@@ -8,25 +8,24 @@ use Rattle.dn_lockstep.specs.Contents.{Contents}
 use Rattle.dn_lockstep.specs.Marking.{Marking}
 use Rattle.dn_lockstep.specs.OneGame.{AreOneGame}
 use Rattle.dn_lockstep.specs.Session.{Session, with_lockstep, given_on, after_packet}
-use Rattle.dn_seal.specs.Opening.{Sealing}
+use Rattle.dn_seal.specs.declared.seal.Seal.{Seal}
 use Rattle.dn_open.specs.OpenGames.{IsGenuine}
-use Rattle.dn_open.specs.Sealed.{Seal, sealing_of, WasSealed}
+use Rattle.dn_open.specs.Sealed.{WasSealed}
 
 -- whatever session the lockstep was in, it goes on after a packet in its envelope, which was sealed in it
-abbrev pub SealsOn : Sealing → Contents → Contents → Option (ArrayVec ℕ) → Type 0
-SealsOn sealing old new sent =
-    (marking : Marking) (limits : Limits) (settings : Settings) (session : Session) (seal : Seal) (player : ℕ)
+abbrev pub SealsOn : Seal → Contents → Contents → Option (ArrayVec ℕ) → Type 0
+SealsOn seal old new sent =
+    (marking : Marking) (limits : Limits) (settings : Settings) (session : Session) (player : ℕ)
     → AreOneGame marking limits settings session → player < limits.players
-    → session.locksteps player ≡ old → sealing ≡ sealing_of seal player
+    → session.locksteps player ≡ old
     → (flight : Option Flight)
     × IfSome sent (λ bytes. WasSealed seal (given_on session.given flight) bytes.items)
     × AreOneGame marking limits settings (after_packet session player flight new)
 
 -- and after any bytes, as long as what they are opened as was sealed in it
-abbrev pub OpensOn : Sealing → Contents → Contents → List ℕ → Type 0
-OpensOn sealing old new bytes =
-    (marking : Marking) (limits : Limits) (settings : Settings) (session : Session) (seal : Seal) (player : ℕ)
+abbrev pub OpensOn : Seal → Contents → Contents → List ℕ → Type 0
+OpensOn seal old new bytes =
+    (marking : Marking) (limits : Limits) (settings : Settings) (session : Session) (player : ℕ)
     → AreOneGame marking limits settings session → player < limits.players
-    → session.locksteps player ≡ old → sealing ≡ sealing_of seal player
-    → IsGenuine seal session.given player bytes
+    → session.locksteps player ≡ old → IsGenuine seal session.given player bytes
     → AreOneGame marking limits settings (with_lockstep session player new)

@@ -22,8 +22,10 @@ use Rattle.dn_lockstep.specs.Received.{received, IsTold}
 use Rattle.dn_lockstep.proofs.Nearby.{told_by, told_is, near_received}
 use Rattle.dn_seal.specs.declared.opened.Opened.{Opened}
 use Rattle.dn_seal.specs.declared.opened.SealFault.{SealFault}
-use Rattle.dn_open.specs.Sealed.{Seal}
+use Rattle.dn_seal.specs.declared.seal.Seal.{Seal}
 use Rattle.dn_open.specs.OpenGames.{IsGenuine, Arrives, arrived_if}
+use Rattle.dn_open.specs.Arrivals.{is_alike}
+use Rattle.dn_open.proofs.Alikes.{alike}
 use Rattle.dn_open.proofs.Sealables.{IsSealable, opened_of, opened_is}
 
 -- a node that is put where it stands changes nothing
@@ -71,7 +73,7 @@ AreSealable players flights =
     → IsSealable flight × IsBetween players flight
 
 -- a packet whose numbers are close is near
-near_if : (made : ℕ) (flight : Flight) → (is_close made flight.start && is_request_close made flight.request) ≡ true
+pub near_if : (made : ℕ) (flight : Flight) → (is_close made flight.start && is_request_close made flight.request) ≡ true
     → is_near made flight ≡ true
 near_if made flight close = go flight.kind
   where
@@ -135,8 +137,9 @@ module _ {S : Type 0} (rules : Rules S) (game : Game) where
           sym (λ i. is_close (made (to i) (game.nodes (to i))) (same i).start
           && is_request_close (made (to i) (game.nodes (to i))) (same i).ask) ∙ is in
           let near = near_if (made flight.to (game.nodes flight.to)) flight close in
+          let like : is_alike opened ≡ true = ap is_alike same ∙ alike flight in
           let step : next ≡ with_node game node (received rules.limits node (game.nodes node) opened.from
-          (told_by flight.kind) (Ok (packet_of flight))).0 = rw is at comes in
+          (told_by flight.kind) (Ok (packet_of flight))).0 = rw (is, like) at comes in
           inr (
             which,
             step

@@ -24,9 +24,13 @@ use Rattle.dn_machine.proofs.Invariant.{IsPiece, IsKept}
 use Rattle.dn_lockstep.specs.Near.{IsFair, IsFairKind}
 use Rattle.dn_lockstep.specs.Rings.{is_stop}
 use Rattle.dn_lockstep.proofs.Keeping.{none_stops}
-use Rattle.dn_machine.specs.Limits.{IsWindow}
+use Rattle.dn_lockstep.proofs.OneGame as one
+use Rattle.dn_lockstep.specs.Marking.{Marking}
+use Rattle.dn_lockstep.specs.OneGame.{beside, AreOneGame}
+use Rattle.dn_lockstep.specs.Session.{Session}
+use Rattle.dn_machine.specs.Limits.{Limits, IsWindow}
 use Rattle.dn_lockstep.specs.Opening.{FitsPackets}
-use Rattle.dn_open.specs.Playable.{IsPlayable}
+use Rattle.dn_open.specs.Playable.{IsPlayable, IsSmall}
 use Rattle.dn_open.proofs.Commands.{AreInputs, inputs_up_to, made_by-fits, made_by-goes_on}
 use Rattle.dn_open.proofs.Deliveries.{IsBetween, AreSealable}
 use Rattle.dn_open.proofs.Sealables.{IsSealable}
@@ -99,6 +103,17 @@ module _ {S : Type 0} (rules : Rules S) (settings : Settings) (few : rules.playe
         },
         record { from = from; apart = piece.apart },
       )
+
+-- each packet that was given in one game has an envelope
+pub are_sealable : (marking : Marking) (limits : Limits) (settings : Settings) {session : Session}
+    (game : AreOneGame marking limits settings session) (player : ℕ) → player < limits.players
+    → IsSmall (session.locksteps player) → AreSealable limits.players game.last.flights
+are_sealable marking limits settings {session} game player mine small which flight there =
+    let r = game.nodes player mine in
+    fair_sealable (beside marking limits) settings (subst (λ (n : ℕ). n ≤ 4) r.whose.players small.0)
+    (subst (λ (n : ℕ). n ≤ tic_limit) r.whose.capacity small.1) game.last
+    (one.kept marking limits settings game) which flight there
+    (game.fair which flight (ap (λ (fs : List Flight). slice_get fs which) (sym game.flights) ∙ there))
 
 module _ {S : Type 0} (rules : Rules S) (settings : Settings) (playable : IsPlayable rules.players rules.capacity settings)
     (marks : (world : S) (player : ℕ) → FitsSigned w16 (rules.physics.mark world player)) where

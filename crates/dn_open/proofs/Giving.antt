@@ -14,7 +14,7 @@ use Rattle.dn_lockstep.specs.Steps.{IsAfter}
 use Rattle.dn_lockstep.proofs.OneGame.{GoesBetween, sent_between}
 use Rattle.dn_seal.specs.Envelope.{envelope}
 use Rattle.dn_seal.specs.Opening.{Sealing}
-use Rattle.dn_open.specs.Sealed.{envelope_of, seal_in}
+use Rattle.dn_open.specs.Sealed.{envelope_of}
 
 -- a node that gives a packet, which goes out in its envelope
 pub gives_some : (limits : Limits) (me to : ℕ) (old new : Contents) (m : machine.Node)
@@ -22,8 +22,9 @@ pub gives_some : (limits : Limits) (me to : ℕ) (old new : Contents) (m : machi
     → (sealing : Sealing) (aim : Aim) (given : ArrayVec ℕ) (shown : List ℕ)
     → sealing.me ≡ old.me → Some aim ≡ option_map aim_of (sent_to to limits me m).1
     → Some shown ≡ option_map bytes_of (sent_to to limits me m).1
-    → given.items ≡ envelope sealing.key (record {
-      game = sealing.game;
+    → given.items ≡ envelope sealing.seal.key (record {
+      suite = sealing.seal.suite;
+      game = sealing.seal.game;
       from = sealing.me;
       to = to;
       start = aim.start;
@@ -31,7 +32,7 @@ pub gives_some : (limits : Limits) (me to : ℕ) (old new : Contents) (m : machi
       datagram = shown;
     })
     → IsAfter limits me new (sent_to to limits me m)
-    (λ flight. Some given.items ≡ option_map (envelope_of (seal_in sealing)) flight)
+    (λ flight. Some given.items ≡ option_map (envelope_of sealing.seal) flight)
 gives_some limits me to old new m r node sealing aim given shown mine aimed told is = record {
   node = node;
   answer = go (sent_to to limits me m).1 (sent_between limits me m to) aimed told;
@@ -39,14 +40,15 @@ gives_some limits me to old new m r node sealing aim given shown mine aimed told
   where
     go : (flight : Option Flight) → GoesBetween me to flight → Some aim ≡ option_map aim_of flight
         → Some shown ≡ option_map bytes_of flight
-        → Some given.items ≡ option_map (envelope_of (seal_in sealing)) flight
+        → Some given.items ≡ option_map (envelope_of sealing.seal) flight
     go None ends a b = absurd (cc)
     go (Some f) ends a b =
         let from : sealing.me ≡ f.from = mine ∙ r.whose.number ∙ sym ends.0 in
         let numbers = same_Some aim (aim_of f) a in
         let text = same_Some shown (bytes_of f) b in
-        ap Some (is ∙ (λ i. envelope sealing.key (record {
-          game = sealing.game;
+        ap Some (is ∙ (λ i. envelope sealing.seal.key (record {
+          suite = sealing.seal.suite;
+          game = sealing.seal.game;
           from = from i;
           to = sym ends.1 i;
           start = (numbers i).start;

@@ -12,7 +12,7 @@ use Rattle.dn_machine.proofs.Games.{goes_on}
 use Rattle.dn_machine.specs.Limits.{IsWindow}
 use Rattle.dn_lockstep.specs.Opening.{FitsPackets}
 use Rattle.dn_open.specs.Playable.{IsPlayable}
-use Rattle.dn_open.specs.Sealed.{Seal}
+use Rattle.dn_seal.specs.declared.seal.Seal.{Seal}
 use Rattle.dn_open.specs.OpenGames.{OpenEvent, Own, Arrive, LeadsOpen, RunsOpen, StandFor}
 use Rattle.dn_open.proofs.Deliveries.{AreFound, arrives}
 use Rattle.dn_open.proofs.Ranges.{AllInputs, inputs_next, opening-inputs}

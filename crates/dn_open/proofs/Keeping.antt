@@ -1,9 +1,9 @@
 -- The locksteps of one game on an open network stay those of one game.
-use Rattle.std.proofs.Common.{◌≡◌, ◌<◌, ◌≤◌, ℕ, List, [], ◌∷◌, ◌++◌, length, refl, ap, sym, ◌∙◌, subst, Option, Some, None, inl, inr}
+use Rattle.std.proofs.Common.{◌≡◌, ◌<◌, ℕ, zero, suc, List, [], ◌∷◌, ◌++◌, length, refl, ap, sym, ◌∙◌, subst, Option, Some, None, inl, inr}
 use Rattle.std.specs.Prelude.{Result, Ok, Err, IfSome, slice_get}
 use Rattle.std.specs.Option.{option_map}
 use Rattle.std.proofs.lemmas.Bool.{lt-ltb}
-use Rattle.std.proofs.lemmas.Option.{same_Some}
+use Rattle.std.proofs.lemmas.Option.{none-some, same_Some}
 use Rattle.arrayvec.specs.ArrayVec.{ArrayVec}
 use Rattle.dn_packet.specs.declared.packet.Packet.{Packet}
 use Rattle.dn_packet.specs.declared.packet.PacketFault.{PacketFault}
@@ -17,7 +17,6 @@ use Rattle.dn_machine.specs.Game.{Game, refused_at, with_node}
 use Rattle.dn_machine.specs.Limits.{Limits}
 use Rattle.dn_machine.specs.Node as machine
 use Rattle.dn_machine.specs.Node.{put}
-use Rattle.dn_machine.specs.Running.{tic_limit}
 use Rattle.dn_machine.specs.Worlds.{Rules}
 use Rattle.dn_machine.proofs.EachEvent.{after_deliver}
 use Rattle.dn_machine.proofs.Put.{put_at}
@@ -30,18 +29,20 @@ use Rattle.dn_lockstep.specs.Represents.{Represents}
 use Rattle.dn_lockstep.specs.Sent.{sent_to}
 use Rattle.dn_lockstep.specs.Steps.{IsAfter, Tells}
 use Rattle.dn_lockstep.proofs.Nearby.{told_by, told_is}
-use Rattle.dn_lockstep.proofs.OneGame.{kept, moves, stays, IsQuiet, hear_quiet, gave}
+use Rattle.dn_lockstep.proofs.OneGame.{moves, stays, IsQuiet, hear_quiet, gave}
 use Rattle.dn_seal.specs.declared.opened.Opened.{Opened}
 use Rattle.dn_seal.specs.declared.opened.SealFault.{SealFault}
 use Rattle.dn_seal.specs.Opening.{IsOpenedAs}
+use Rattle.dn_seal.proofs.Deciding.{is_something}
 use Rattle.dn_open.specs.Arrivals.{IsRead, HearsSealed, SendsSealed, on_opened}
 use Rattle.dn_open.specs.declared.arrived.Arrived.{Arrived}
 use Rattle.dn_open.specs.OpenGames.{IsGenuine, arrived_if}
 use Rattle.dn_open.specs.Playable.{IsSmall}
-use Rattle.dn_open.specs.Sealed.{Seal, sealing_of, envelope_of, WasSealed}
+use Rattle.dn_seal.specs.declared.seal.Seal.{Seal}
+use Rattle.dn_open.specs.Sealed.{sealing_of, envelope_of, WasSealed}
 use Rattle.dn_open.proofs.Deliveries.{AreFound, AreSealable, arrives}
 use Rattle.dn_open.proofs.Sealables.{opened_is}
-use Rattle.dn_open.proofs.Fairness.{fair_sealable}
+use Rattle.dn_open.proofs.Fairness.{are_sealable}
 
 -- what bytes are opened as is read as something
 abbrev HasReading : Result Opened SealFault → Type 0
@@ -51,6 +52,13 @@ HasReading opened = (read : Result Packet PacketFault) × (tells : Result Settin
 last_at : {A : Type 0} (xs : List A) (x : A) → slice_get (xs ++ x ∷ []) (length xs) ≡ Some x
 last_at [] x = refl
 last_at (y ∷ xs) x = last_at xs x
+
+-- what was found is found still
+found_on : {A : Type 0} (xs more : List A) (which : ℕ) (x : A) → slice_get xs which ≡ Some x
+    → slice_get (xs ++ more) which ≡ Some x
+found_on [] more which x found = absurd (none-some x found)
+found_on (y ∷ xs) more zero x found = found
+found_on (y ∷ xs) more (suc which) x found = found_on xs more which x found
 
 -- what was given was sealed
 was_sealed : (seal : Seal) (given : List Flight) (flight : Option Flight) (sent : Option (ArrayVec ℕ))
@@ -67,15 +75,6 @@ module _ (marking : Marking) (limits : Limits) (settings : Settings) {session : 
     (mine : player < limits.players) where
   abbrev rules : Rules History
   rules = beside marking limits
-
-  -- each packet that was given has an envelope
-  are_sealable : IsSmall (session.locksteps player) → AreSealable limits.players game.last.flights
-  are_sealable small which flight there =
-      let r = game.nodes player mine in
-      fair_sealable rules settings (subst (λ (n : ℕ). n ≤ 4) r.whose.players small.0)
-      (subst (λ (n : ℕ). n ≤ tic_limit) r.whose.capacity small.1) game.last
-      (kept marking limits settings game) which flight there
-      (game.fair which flight (ap (λ (fs : List Flight). slice_get fs which) (sym game.flights) ∙ there))
 
   -- what opens was given, and is read as what was given
   reading : AreSealable limits.players game.last.flights → (bytes : List ℕ)
@@ -111,7 +110,7 @@ module _ (marking : Marking) (limits : Limits) (settings : Settings) {session : 
       let leads : next ≡ arrived_if rules last player opened read tells (refused_at limits.players last player) =
       rw free refl in
       let at : after ≡ next.nodes player = sym (put_at last.nodes player player after refl) in
-      elim (arrives rules last seal player bytes next found (are_sealable small) genuine
+      elim (arrives rules last seal player bytes next found (are_sealable marking limits settings game player mine small) genuine
       (opened, read, tells, is, reads, leads)) [
         | inl same ↦
             let node = at ∙ ap (λ (g : Game). g.nodes player) same in
@@ -140,33 +139,40 @@ module _ (marking : Marking) (limits : Limits) (settings : Settings) {session : 
       )
 
 pub arrivals_keep : AreFound → (marking : Marking) (limits : Limits) (settings : Settings)
-    (session : Session) (seal : Seal)
-    (player : ℕ) (bytes : List ℕ) (opened : Result Opened SealFault) (new : Contents) (answer : Arrived)
-    → AreOneGame marking limits settings session
-    → player < limits.players → IsSmall (session.locksteps player)
-    → IsGenuine seal session.given player bytes → IsOpenedAs (sealing_of seal player) bytes opened
-    → HearsSealed (sealing_of seal player) bytes (session.locksteps player) new answer
+    (session : Session) (seal : Seal) (player : ℕ) (bytes : List ℕ) (new : Contents) (answer : Arrived)
+    → AreOneGame marking limits settings session → player < limits.players
+    → IsGenuine seal session.given player bytes
+    → HearsSealed seal bytes (session.locksteps player) new answer
     → AreOneGame marking limits settings (with_lockstep session player new)
-arrivals_keep found marking limits settings session seal player bytes opened new answer game
-    mine small genuine is hears =
+arrivals_keep found marking limits settings session seal player bytes new answer game mine genuine hears =
+    let r = game.nodes player mine in
     let here = given_here marking limits settings game seal player mine bytes genuine in
-    let are = are_sealable marking limits settings game seal player mine small in
-    let read = reading marking limits settings game seal player mine are bytes here opened is in
-    let step = hears.step opened read.0 read.1 is read.2 limits player (game.last.nodes player)
-    (game.nodes player mine) in
-    arrival_keeps marking limits settings game seal player mine found small bytes opened read.0 read.1 new
-    here is read.2 step.node
+    let are = are_sealable marking limits settings game player mine hears.typed.small in
+    let opens = is_something (sealing_of seal player) bytes hears.typed.bytes in
+    let read = reading marking limits settings game seal player mine are bytes here opens.0 opens.1 in
+    let step = hears.step opens.0 read.0 read.1
+    (subst (λ (k : ℕ). IsOpenedAs (sealing_of seal k) bytes opens.0) (sym r.whose.number) opens.1) read.2 limits
+    player (game.last.nodes player) r in
+    arrival_keeps marking limits settings game seal player mine found hears.typed.small bytes opens.0 read.0 read.1
+    new here opens.1 read.2 step.node
 
 pub sends_keep : (marking : Marking) (limits : Limits) (settings : Settings) (session : Session) (seal : Seal)
     (player to : ℕ)
     (new : Contents) (sent : Option (ArrayVec ℕ))
     → AreOneGame marking limits settings session → player < limits.players
-    → SendsSealed (sealing_of seal player) to (session.locksteps player) new sent
+    → SendsSealed seal to (session.locksteps player) new sent
     → Tells (session.locksteps player) (λ limits me m. IfSome (sent_to to limits me m).1 IsFair)
     → (flight : Option Flight) × IfSome sent (λ bytes. WasSealed seal (given_on session.given flight) bytes.items)
     × AreOneGame marking limits settings (after_packet session player flight new)
 sends_keep marking limits settings session seal player to new sent game mine sends fair =
     let r = game.nodes player mine in
     send_keeps marking limits settings game seal player mine to new sent
-    (sends.step (sym r.whose.number) limits player (game.last.nodes player) r)
+    (sends.step limits player (game.last.nodes player) r)
     (fair limits player (game.last.nodes player) r)
+
+-- what was sealed stays so
+pub stays_sealed : (seal : Seal) (given : List Flight) (flight : Option Flight) (bytes : List ℕ)
+    → WasSealed seal given bytes → WasSealed seal (given_on given flight) bytes
+stays_sealed seal given None bytes sealed = sealed
+stays_sealed seal given (Some one) bytes sealed =
+    (sealed.0, sealed.1, found_on given (one ∷ []) sealed.0 sealed.1 sealed.2, sealed.3)

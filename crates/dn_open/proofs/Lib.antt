@@ -1,4 +1,5 @@
 pub mod Sealables
+pub mod Alikes
 pub mod Deliveries
 pub mod Commands
 pub mod Sends
@@ -7,3 +8,5 @@ pub mod Fairness
 pub mod InPlace
 pub mod Giving
 pub mod Keeping
+pub mod Hearings
+pub mod Receiving

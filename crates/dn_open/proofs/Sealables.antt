@@ -10,8 +10,10 @@ use Rattle.dn_seal.specs.declared.opened.Opened.{Opened}
 use Rattle.dn_seal.specs.declared.opened.SealFault.{SealFault}
 use Rattle.dn_seal.specs.Envelope.{envelope}
 use Rattle.dn_seal.specs.Opening.{IsOpenedAs}
+use Rattle.dn_seal.proofs.Envelopes.{to-envelope}
 use Rattle.dn_seal.proofs.Openings.{only_opened, opened-tagged}
-use Rattle.dn_open.specs.Sealed.{Seal, sealing_of, envelope_of}
+use Rattle.dn_seal.specs.declared.seal.Seal.{Seal}
+use Rattle.dn_open.specs.Sealed.{sealing_of, letter_of, envelope_of}
 
 -- a packet whose numbers fit into an envelope
 pub record IsSealable (flight : Flight) : Type 0 where
@@ -36,31 +38,39 @@ short_bytes flight fair =
     let count = fair.packet.count in
     omega (arith, count, text_length (packet_of flight) (text (packet_of flight)) refl)
 
+-- its envelope is opened so by the node that it goes to
+pub is_opened_of : (seal : Seal) (node : ℕ) (flight : Flight) → IsSealable flight → node ≡ flight.to
+    → 8 ≤ length seal.game → IsOpenedAs (sealing_of seal node) (envelope_of seal flight) (Ok (opened_of flight))
+is_opened_of seal node flight sealable to long = (
+  record {
+    game = long;
+    from = sealable.from;
+    to = let there = sealable.to in omega arith;
+    start = sealable.start;
+    ask = sealable.ask;
+    datagram = short_bytes flight sealable.fair;
+  },
+  (λ i. envelope seal.key (record {
+    suite = seal.suite;
+    game = seal.game;
+    from = flight.from;
+    to = sym to i;
+    start = flight.start;
+    ask = flight.request;
+    datagram = bytes_of flight;
+  })),
+)
+
 -- an envelope of this packet that node `node` opens is to that node, and tells the packet
 pub opened_is : (seal : Seal) (node : ℕ) (bytes : List ℕ) (opened : Opened) (flight : Flight)
     → IsOpenedAs (sealing_of seal node) bytes (Ok opened) → IsSealable flight → bytes ≡ envelope_of seal flight
     → (node ≡ flight.to) × (opened ≡ opened_of flight)
 opened_is seal node bytes opened flight is sealable sent =
     let to : node ≡ flight.to =
-    sym (opened-tagged (sealing_of seal node) bytes opened is).0.1 ∙ ap (λ (xs : List ℕ). slice_index xs 10) sent in
-    let mine : IsOpenedAs (sealing_of seal node) bytes (Ok (opened_of flight)) = (
-      record {
-        game = is.0.game;
-        from = sealable.from;
-        to = is.0.to;
-        start = sealable.start;
-        ask = sealable.ask;
-        datagram = short_bytes flight sealable.fair;
-      },
-      sent ∙ (λ i. envelope seal.key (record {
-        game = seal.game;
-        from = flight.from;
-        to = sym to i;
-        start = flight.start;
-        ask = flight.request;
-        datagram = bytes_of flight;
-      })),
-    ) in
+    sym (opened-tagged (sealing_of seal node) bytes opened is).0.1 ∙ ap (λ (xs : List ℕ). slice_index xs 11) sent
+    ∙ to-envelope seal.key (letter_of seal flight) is.0.game in
+    let own = is_opened_of seal node flight sealable to is.0.game in
+    let mine : IsOpenedAs (sealing_of seal node) bytes (Ok (opened_of flight)) = (own.0, sent ∙ own.1) in
     (to, same_ok opened (opened_of flight) (only_opened (sealing_of seal node) bytes opened is (Ok (opened_of flight)) mine))
   where
     value : Opened → Result Opened SealFault → Opened

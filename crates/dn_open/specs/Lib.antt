@@ -1,4 +1,5 @@
 pub mod Playable
 pub mod Sealed
 pub mod Arrivals
+pub mod Locked
 pub mod OpenGames

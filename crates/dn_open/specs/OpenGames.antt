@@ -16,7 +16,8 @@ use Rattle.dn_machine.specs.Worlds.{Rules}
 use Rattle.dn_seal.specs.declared.opened.Opened.{Opened}
 use Rattle.dn_seal.specs.declared.opened.SealFault.{SealFault}
 use Rattle.dn_seal.specs.Opening.{IsOpenedAs}
-use Rattle.dn_open.specs.Sealed.{Seal, sealing_of, WasSealed}
+use Rattle.dn_seal.specs.declared.seal.Seal.{Seal}
+use Rattle.dn_open.specs.Sealed.{sealing_of, WasSealed}
 use Rattle.dn_open.specs.Arrivals.{on_opened, IsRead}
 
 -- what may happen next: an event of a game, or bytes, whatever they are and wherever they are from, come to a

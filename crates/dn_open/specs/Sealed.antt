@@ -2,22 +2,19 @@
 use Rattle.std.specs.Prelude.{◌≡◌, ℕ, List, Some, slice_get}
 use Rattle.dn_machine.specs.Flight.{Flight}
 use Rattle.dn_lockstep.specs.Sent.{bytes_of}
+use Rattle.dn_seal.specs.declared.seal.Seal.{Seal}
 use Rattle.dn_seal.specs.Envelope.{Letter, envelope}
 use Rattle.dn_seal.specs.Opening.{Sealing}
 
--- what all players of a game seal by: a key, and a number that no other game under this key has
-pub record Seal : Type 0 where
-  pub key : List ℕ
-  pub game : ℕ
-
--- what node `me` seals and opens by
+-- what node `me` of the game with this seal seals and opens by
 abbrev pub sealing_of : Seal → ℕ → Sealing
-sealing_of seal me = record { key = seal.key; game = seal.game; me = me }
+sealing_of seal me = record { seal = seal; me = me }
 
 -- the envelope of a packet: its datagram, with its exact numbers in front
 abbrev pub letter_of : Seal → Flight → Letter
 letter_of seal flight =
     record {
+      suite = seal.suite;
       game = seal.game;
       from = flight.from;
       to = flight.to;
@@ -34,7 +31,3 @@ abbrev pub WasSealed : Seal → List Flight → List ℕ → Type 0
 WasSealed seal flights bytes =
     (which : ℕ) × (flight : Flight) × (slice_get flights which ≡ Some flight)
     × (bytes ≡ envelope_of seal flight)
-
--- what a sealer has in common with those of its game
-abbrev pub seal_in : Sealing → Seal
-seal_in sealing = record { key = sealing.key; game = sealing.game }

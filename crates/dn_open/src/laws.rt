@@ -1,6 +1,6 @@
 //! What holds on an open network.
 
-ghost use Rattle.std.specs.Prelude.{◌<◌, ℕ, Bool, List, Option, IfSome, Result};
+ghost use Rattle.std.specs.Prelude.{◌≡◌, ◌<◌, ◌&&◌, ℕ, Bool, List, true, Option, Some, IfSome, slice_get};
 ghost use Rattle.arrayvec.specs.ArrayVec.{ArrayVec};
 ghost use Rattle.dn_setup.specs.Settings.{Settings};
 ghost use Rattle.dn_machine.specs.declared.events.Event.{Event};
@@ -8,7 +8,7 @@ ghost use Rattle.dn_machine.specs.Game.{Game};
 ghost use Rattle.dn_machine.specs.Promise.{Agree, Fits, Steady};
 ghost use Rattle.dn_machine.specs.Runs.{Runs};
 ghost use Rattle.dn_machine.specs.Worlds.{rules_of, rules_within};
-ghost use Rattle.dn_machine.specs.Flight.{Flight};
+ghost use Rattle.dn_machine.specs.Flight.{Flight, is_close, is_request_close};
 ghost use Rattle.dn_machine.specs.Limits.{Limits, IsWindow};
 ghost use Rattle.dn_lockstep.specs.Contents.{Contents};
 ghost use Rattle.dn_lockstep.specs.Near.{IsFair};
@@ -17,15 +17,14 @@ ghost use Rattle.dn_lockstep.specs.OneGame.{AreOneGame};
 ghost use Rattle.dn_lockstep.specs.Session.{Session, with_lockstep, given_on, after_packet};
 ghost use Rattle.dn_lockstep.specs.Sent.{sent_to};
 ghost use Rattle.dn_lockstep.specs.Steps.{Tells};
+ghost use Rattle.dn_lockstep.specs.Told.{made};
 ghost use Rattle.dn_lockstep.specs.Marking.{Marking};
-ghost use Rattle.dn_seal.specs.declared.opened.Opened.{Opened};
-ghost use Rattle.dn_seal.specs.declared.opened.SealFault.{SealFault};
-ghost use Rattle.dn_seal.specs.Opening.{IsOpenedAs};
-ghost use Rattle.dn_open.specs.Arrivals.{HearsSealed, SendsSealed};
+ghost use Rattle.dn_open.specs.Arrivals.{HearsSealed, HearsPacket, SendsSealed};
 ghost use Rattle.dn_open.specs.declared.arrived.Arrived.{Arrived};
 ghost use Rattle.dn_open.specs.OpenGames.{OpenEvent, IsGenuine, RunsOpen, StandFor};
-ghost use Rattle.dn_open.specs.Playable.{IsPlayable, IsSmall};
-ghost use Rattle.dn_open.specs.Sealed.{Seal, WasSealed, sealing_of};
+ghost use Rattle.dn_open.specs.Playable.{IsPlayable};
+ghost use Rattle.dn_seal.specs.declared.seal.Seal.{Seal};
+ghost use Rattle.dn_open.specs.Sealed.{WasSealed, envelope_of};
 
 use dn_setup::settings_found_again;
 use dn_world::World;
@@ -85,28 +84,50 @@ pub fn open_windows_agree<W: World>()
     settings_found_again();
 }
 
-/// What `receive_sealed` does to one of the locksteps of one game leaves them those of one game, whatever the
-/// bytes are and wherever they came from, as long as what it opens was sealed in that game before.
+/// What `SealedLockstep::receive` does to one of the locksteps of one game leaves them those of one game, whatever
+/// the bytes are and wherever they came from, as long as what it opens was sealed in that game before.
 pub fn arrivals_keep_one_game()
     ensures { (marking : Marking) (limits : Limits) (settings : Settings) (session : Session) (seal : Seal)
-        (player : ℕ) (bytes : List ℕ) (opened : Result Opened SealFault) (new : Contents) (answer : Arrived)
-        → AreOneGame marking limits settings session
-        → player < limits.players → IsSmall (session.locksteps player)
-        → IsGenuine seal session.given player bytes → IsOpenedAs (sealing_of seal player) bytes opened
-        → HearsSealed (sealing_of seal player) bytes (session.locksteps player) new answer
+        (player : ℕ) (bytes : List ℕ) (new : Contents) (answer : Arrived)
+        → AreOneGame marking limits settings session → player < limits.players
+        → IsGenuine seal session.given player bytes
+        → HearsSealed seal bytes (session.locksteps player) new answer
         → AreOneGame marking limits settings (with_lockstep session player new) }
 {
     settings_found_again();
 }
 
-/// And so does what `packet_sealed` does; what it gives was sealed in that game.
+/// And so does what `SealedLockstep::packet` does; what it gives was sealed in that game.
 pub fn sends_keep_one_game()
     ensures { (marking : Marking) (limits : Limits) (settings : Settings) (session : Session) (seal : Seal)
         (player to : ℕ) (new : Contents) (sent : Option (ArrayVec ℕ))
         → AreOneGame marking limits settings session → player < limits.players
-        → SendsSealed (sealing_of seal player) to (session.locksteps player) new sent
+        → SendsSealed seal to (session.locksteps player) new sent
         → Tells (session.locksteps player) (λ limits me m. IfSome (sent_to to limits me m).1 IsFair)
         → (flight : Option Flight)
         × IfSome sent (λ bytes. WasSealed seal (given_on session.given flight) bytes.items)
         × AreOneGame marking limits settings (after_packet session player flight new) }
+{}
+
+/// What was sealed in a game may come to any node of it at any later time, when other packets have been given.
+/// So whoever hands in nothing but what `SealedLockstep::packet` gave, and bytes that do not open, keeps what
+/// `arrivals_keep_one_game` asks for.
+pub fn sealed_packets_are_genuine()
+    ensures stay { (seal : Seal) (given : List Flight) (flight : Option Flight) (bytes : List ℕ)
+        → WasSealed seal given bytes → WasSealed seal (given_on given flight) bytes }
+    ensures genuine { (seal : Seal) (given : List Flight) (player : ℕ) (bytes : List ℕ)
+        → WasSealed seal given bytes → IsGenuine seal given player bytes }
+{}
+
+/// The envelope of a packet that one of the locksteps gave is heard as that packet, if its tics lie within 64 of the
+/// number of commands that its receiver has made.
+pub fn sealed_packets_are_heard()
+    ensures { (marking : Marking) (limits : Limits) (settings : Settings) (session : Session) (seal : Seal)
+        (which : ℕ) (flight : Flight) (new : Contents) (answer : Arrived)
+        → AreOneGame marking limits settings session
+        → slice_get session.given which ≡ Some flight
+        → (is_close (made (session.locksteps flight.to)) flight.start
+        && is_request_close (made (session.locksteps flight.to)) flight.request) ≡ true
+        → HearsSealed seal (envelope_of seal flight) (session.locksteps flight.to) new answer
+        → HearsPacket flight (session.locksteps flight.to) new answer }
 {}

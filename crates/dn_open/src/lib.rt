@@ -3,10 +3,14 @@
 //! no tag is forged.
 #![tactic(auto)]
 
+mod alike;
 mod arrived;
 mod laws;
 mod sealed;
 
 pub use arrived::Arrived;
-pub use laws::{arrivals_keep_one_game, open_games_agree, open_windows_agree, sends_keep_one_game};
-pub use sealed::{packet_sealed, receive_sealed};
+pub use laws::{
+    arrivals_keep_one_game, open_games_agree, open_windows_agree, sealed_packets_are_genuine,
+    sealed_packets_are_heard, sends_keep_one_game,
+};
+pub use sealed::SealedLockstep;

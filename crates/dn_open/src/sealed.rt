@@ -1,52 +1,206 @@
-//! The packets of a lockstep on an open network.
+//! A lockstep on an open network.
 
-ghost use Rattle.std.specs.Prelude.{◌≡◌, None, IfSome, Result};
+ghost use Rattle.std.specs.Prelude.{◌≡◌, ℕ, ◌+◌, false, None, Some, IfOk, IfSome, is_some};
+ghost use Rattle.dn_tic.specs.declared.input.Input.TheVariants.{Pressed, Given};
+ghost use Rattle.dn_machine.specs.declared.answers.Made.TheVariants as made;
+ghost use Rattle.dn_machine.specs.declared.answers.Ran.TheVariants as ran;
 ghost use Rattle.dn_lockstep.specs.Contents.{contents};
 ghost use Rattle.dn_lockstep.specs.Near.{IsFair};
 ghost use Rattle.dn_lockstep.specs.Sent.{sent_to};
-ghost use Rattle.dn_lockstep.specs.Steps.{Tells};
-ghost use Rattle.dn_seal.specs.declared.opened.Opened.{Opened};
-ghost use Rattle.dn_seal.specs.declared.opened.SealFault.{SealFault};
-ghost use Rattle.dn_seal.specs.Opening.{IsOpenedAs};
+ghost use Rattle.dn_lockstep.specs.Opening.{IsAdmitted, IsAdmittedWithin, limits_in, limits_within, whose_in, whose_within};
 ghost use Rattle.dn_seal.specs.Sealing.{sealing};
-ghost use Rattle.dn_open.specs.Arrivals.{HearsSealed, SendsSealed, SparesSealed};
-ghost use Rattle.dn_open.specs.Playable.{IsSmall};
 
+use crate::alike::is_alike;
 use crate::arrived::Arrived;
 use arrayvec::ArrayVec;
-use dn_lockstep::{Lockstep, are_tics_near};
+use dn_lockstep::{Config, Lockstep, NodeFault, are_tics_near};
+use dn_machine::{Made, Ran};
 use dn_packet::MAX_DATAGRAM;
-use dn_seal::Sealer;
+use dn_seal::{MAX_ENVELOPE, Seal, Sealer};
+use dn_tic::{Command, Keys, Move, TicCmd};
+use std::alloc::Global;
 
-/// Hears any bytes, wherever they come from. What is no envelope to this player in this game is dropped, and
-/// so is what tells a tic that is more than 64 from the number of commands that the node has made; neither
-/// changes anything. Any other datagram is handed to `receive` as its sender's.
-pub fn receive_sealed(node: &mut Lockstep, sealer: &Sealer, bytes: &[u8]) -> Arrived
-    ensures step { HearsSealed (sealing sealer.now) bytes.now (contents node.old) (contents node.new) result }
-    ensures opened { (opened : Result Opened SealFault) × IsOpenedAs (sealing sealer.now) bytes.now opened }
-    ensures small { IsSmall (contents node.old) }
-    ensures dropped { SparesSealed (contents node.old) (contents node.new) result }
-{
-    let opened = match sealer.open(bytes) {
-        Ok(opened) => opened,
-        Err(fault) => return Arrived::Unopened(fault),
-    };
-    let made = node.made();
-    if !are_tics_near(made, opened.start, opened.ask) {
-        return Arrived::Late;
-    }
-    Arrived::Heard(node.receive(opened.from, opened.datagram.as_slice()))
+/// A lockstep whose packets go out in envelopes, and that any bytes may come to. It seals and opens by its own
+/// player's number, and nothing but what it opens comes to the lockstep. A player has one in a game, and makes
+/// no other and restores none: a game that is begun anew has a new number.
+#[derive(Drop)]
+pub struct SealedLockstep {
+    lockstep: Lockstep,
+    sealer: Sealer,
+    ghost own: { (sealing sealer).me ≡ (contents lockstep).me },
 }
 
-/// The next packet to a peer, in its envelope; None where the node has none to give.
-pub fn packet_sealed(node: &mut Lockstep, sealer: &Sealer, to: u8) -> Option<ArrayVec<u8, 140>>
-    ensures step { SendsSealed (sealing sealer.now) to (contents node.old) (contents node.new) result }
-    ensures fair { Tells (contents node.old) (λ limits me m. IfSome (sent_to to limits me m).1 IsFair) }
-    ensures idle { result ≡ None → contents node.new ≡ contents node.old }
-{
-    let mut room = [0; MAX_DATAGRAM];
-    let Some((aim, size)) = node.packet_with_aim(to, &mut room) else {
-        return None;
-    };
-    Some(sealer.seal(to, aim.start, aim.ask, &room[..size]))
+impl SealedLockstep {
+    ghost use Rattle.dn_setup.specs.Settings.{Settings as Choice};
+    ghost use Rattle.dn_machine.specs.Building.{on_build};
+    ghost use Rattle.dn_machine.specs.Game.{fresh};
+    ghost use Rattle.dn_machine.specs.Running.{on_run, on_quit};
+    ghost use Rattle.dn_lockstep.specs.Commands.{can_make};
+    ghost use Rattle.dn_lockstep.specs.Contents.{whose};
+    ghost use Rattle.dn_lockstep.specs.Giving.{gives};
+    ghost use Rattle.dn_lockstep.specs.Represents.{Represents};
+    ghost use Rattle.dn_lockstep.specs.Runs.{RunsBy, told_by};
+    ghost use Rattle.dn_lockstep.specs.Steps.{Steps, Tells};
+    ghost use Rattle.dn_lockstep.specs.Told.{command_told};
+    ghost use Rattle.dn_open.specs.Arrivals.{HearsSealed, SendsSealed, SparesSealed};
+    ghost use Rattle.dn_open.specs.Locked.{locked, seal_of};
+
+    /// A lockstep with no history, as `Lockstep::new` makes it, of the game with this seal.
+    pub fn new(alloc: Global, config: Config, seal: Seal) -> Result<SealedLockstep, NodeFault>
+        ensures admitted { IsAdmitted config result }
+        ensures opened { IfOk result (λ sealed. (settings : Choice)
+            → (config.me ≡ 0 → config.settings ≡ Some settings)
+            → Represents (limits_in config) config.me (locked sealed) (fresh settings config.me)) }
+        ensures whose { IfOk result (λ sealed. whose (locked sealed) ≡ whose_in config) }
+        ensures seal { IfOk result (λ sealed. seal_of sealed ≡ seal) }
+    {
+        let lockstep = Lockstep::new(alloc, config)?;
+        Ok(SealedLockstep::of(lockstep, seal))
+    }
+
+    /// The same in a window of this width, as `Lockstep::within` makes it.
+    pub fn within(
+        alloc: Global,
+        config: Config,
+        ahead: u8,
+        seal: Seal,
+    ) -> Result<SealedLockstep, NodeFault>
+        ensures admitted { IsAdmittedWithin config ahead result }
+        ensures opened { IfOk result (λ sealed. (settings : Choice)
+            → (config.me ≡ 0 → config.settings ≡ Some settings)
+            → Represents (limits_within config ahead) config.me (locked sealed) (fresh settings config.me)) }
+        ensures whose { IfOk result (λ sealed. whose (locked sealed) ≡ whose_within config ahead) }
+        ensures seal { IfOk result (λ sealed. seal_of sealed ≡ seal) }
+    {
+        let lockstep = Lockstep::within(alloc, config, ahead)?;
+        Ok(SealedLockstep::of(lockstep, seal))
+    }
+
+    /// A lockstep, sealed by its player's number.
+    fn of(lockstep: Lockstep, seal: Seal) -> SealedLockstep
+        ensures locked { locked result ≡ contents lockstep }
+        ensures seal { seal_of result ≡ seal }
+    {
+        let sealer = Sealer::of(seal, lockstep.me());
+        SealedLockstep { lockstep, sealer }
+    }
+
+    /// The lockstep, to read what it tells of itself.
+    pub fn lockstep(&self) -> &Lockstep
+        ensures { contents result.now ≡ locked self.now }
+    {
+        &self.lockstep
+    }
+
+    /// As `Lockstep::can_build`.
+    pub fn can_build(&self) -> bool
+        ensures { result ≡ can_make (locked self.now) }
+    {
+        self.lockstep.can_build()
+    }
+
+    /// As `Lockstep::command`.
+    pub fn command(&self, player: u8, tic: u32) -> Option<TicCmd>
+        ensures { result ≡ command_told (locked self.now) player tic }
+    {
+        self.lockstep.command(player, tic)
+    }
+
+    /// As `Lockstep::build`.
+    pub fn build(&mut self, keys: Keys) -> Made
+        ensures step { Steps (locked self.old) (locked self.new)
+            (λ limits me m. on_build limits me m (Pressed keys)) (λ made. result ≡ made) }
+        ensures full { result ≡ made.Full → locked self.new ≡ locked self.old }
+        ensures idle { result ≡ made.NotPlaying → locked self.new ≡ locked self.old }
+        ensures seal { seal_of self.new ≡ seal_of self.old }
+    {
+        self.lockstep.build(keys)
+    }
+
+    /// As `Lockstep::give`.
+    pub fn give(&mut self, command: Command) -> Made
+        ensures step { Steps (locked self.old) (locked self.new)
+            (λ limits me m. on_build limits me m (Given command)) (λ made. result ≡ made) }
+        ensures full { result ≡ made.Full → locked self.new ≡ locked self.old }
+        ensures idle { result ≡ made.NotPlaying → locked self.new ≡ locked self.old }
+        ensures seal { seal_of self.new ≡ seal_of self.old }
+    {
+        self.lockstep.give(command)
+    }
+
+    /// As `Lockstep::run`.
+    pub fn run(&mut self, marks: &[i16; 4]) -> (Ran, Option<[Option<Move>; 4]>)
+        ensures step { RunsBy marks.now (locked self.old) (locked self.new)
+            (λ limits m marks. on_run limits m marks) (λ ran row. (result.0 ≡ ran) × (result.1 ≡ row)) }
+        ensures further { (tic : ℕ) → result.0 ≡ ran.Ran tic → (locked self.new).ran ≡ (locked self.old).ran + 1 }
+        ensures waits { (player : ℕ) → result.0 ≡ ran.Waiting player
+            → (locked self.new ≡ locked self.old) × (result.1 ≡ None) }
+        ensures idle { result.0 ≡ ran.NotPlaying → (locked self.new ≡ locked self.old) × (result.1 ≡ None) }
+        ensures seal { seal_of self.new ≡ seal_of self.old }
+    {
+        self.lockstep.run(marks)
+    }
+
+    /// As `Lockstep::run_into`.
+    pub fn run_into(&mut self, marks: &[i16; 4], row: &mut [Option<Move>; 4]) -> Ran
+        ensures step { RunsBy marks.now (locked self.old) (locked self.new)
+            (λ limits m marks. on_run limits m marks) (λ ran told. (result ≡ ran) × (told_by result row.new ≡ told)) }
+        ensures further { (tic : ℕ) → result ≡ ran.Ran tic → (locked self.new).ran ≡ (locked self.old).ran + 1 }
+        ensures waits { (player : ℕ) → result ≡ ran.Waiting player
+            → (locked self.new ≡ locked self.old) × (row.new ≡ row.old) }
+        ensures idle { result ≡ ran.NotPlaying → (locked self.new ≡ locked self.old) × (row.new ≡ row.old) }
+        ensures seal { seal_of self.new ≡ seal_of self.old }
+    {
+        self.lockstep.run_into(marks, row)
+    }
+
+    /// As `Lockstep::quit`.
+    pub fn quit(&mut self) -> bool
+        ensures step { Steps (locked self.old) (locked self.new)
+            (λ limits me m. on_quit m) (λ quit. result ≡ quit) }
+        ensures idle { result ≡ false → locked self.new ≡ locked self.old }
+        ensures seal { seal_of self.new ≡ seal_of self.old }
+    {
+        self.lockstep.quit()
+    }
+
+    /// The next packet to a peer, in its envelope; None where the lockstep has none to give.
+    pub fn packet(&mut self, to: u8) -> Option<ArrayVec<u8, MAX_ENVELOPE>>
+        ensures step { SendsSealed (seal_of self.old) to (locked self.old) (locked self.new) result }
+        ensures fair { Tells (locked self.old) (λ limits me m. IfSome (sent_to to limits me m).1 IsFair) }
+        ensures known { is_some result ≡ gives (locked self.old) to }
+        ensures idle { result ≡ None → locked self.new ≡ locked self.old }
+        ensures seal { seal_of self.new ≡ seal_of self.old }
+    {
+        let mut room = [0; MAX_DATAGRAM];
+        let Some((aim, size)) = self.lockstep.packet_with_aim(to, &mut room) else {
+            return None;
+        };
+        Some(self.sealer.seal(to, aim.start, aim.ask, &room[..size]))
+    }
+
+    /// Hears any bytes, wherever they come from. What is no envelope to this player in this game is dropped, and
+    /// so is what tells a tic that is more than 64 from the number of commands that the lockstep has made, and a
+    /// datagram that tells other than its envelope; none of them changes anything. Any other is heard as its sender's.
+    pub fn receive(&mut self, bytes: &[u8]) -> Arrived
+        ensures step { HearsSealed (seal_of self.old) bytes.now (locked self.old) (locked self.new) result }
+        ensures dropped { SparesSealed (locked self.old) (locked self.new) result }
+        ensures seal { seal_of self.new ≡ seal_of self.old }
+    {
+        let opened = match self.sealer.open(bytes) {
+            Ok(opened) => opened,
+            Err(fault) => return Arrived::Unopened(fault),
+        };
+        let made = self.lockstep.made();
+        if !are_tics_near(made, opened.start, opened.ask) {
+            return Arrived::Late;
+        }
+        if !is_alike(&opened) {
+            return Arrived::Unlike;
+        }
+        Arrived::Heard(
+            self.lockstep
+                .receive(opened.from, opened.datagram.as_slice()),
+        )
+    }
 }

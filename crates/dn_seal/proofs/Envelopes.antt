@@ -1,13 +1,14 @@
 -- What stands where in an envelope.
-use Rattle.std.proofs.Common.{◌≡◌, ◌<◌, ◌+◌, ◌-◌, ◌^◌, ℕ, List, ◌++◌, length, take, drop, refl, ap, ◌∙◌, arith, Option, Some, None}
+use Rattle.std.proofs.Common.{◌≡◌, ◌<◌, ◌≤◌, ◌+◌, ◌-◌, ◌^◌, ℕ, List, [], ◌∷◌, ◌++◌, length, take, drop, refl, ap, ◌∙◌, arith, Option, Some, None}
 use Rattle.std.specs.Prelude.{slice_index, IfSome}
-use Rattle.std.specs.Int.{w32, w64, to_le_bytes, from_le_bytes}
+use Rattle.std.specs.Int.{w32, to_le_bytes, from_le_bytes}
 use Rattle.std.proofs.lemmas.List.{length-append, length-take-le}
 use Rattle.std.proofs.lemmas.Nat.{from_le_bytes-to_le_bytes_4}
 use Rattle.std.proofs.Math.Seq.{take-append_seam, drop-append_seam}
 use Rattle.sha2.specs.Sha256.{sha256, digest_bytes}
 use Rattle.dn_seal.specs.Hmac.{hmac, key_block, tag_of, turned}
-use Rattle.dn_seal.specs.Envelope.{Letter, head_bytes, body_bytes, envelope}
+use Rattle.dn_seal.specs.Envelope.{Letter, ask_bytes, head_bytes, body_bytes, envelope}
+use Rattle.dn_seal.specs.Keys.{suite_byte}
 use Rattle.dn_seal.specs.Opening.{told_game, told_body, told_tag, told_tic, ask_in}
 
 length-sha256 : (m : List ℕ) → length (sha256 m) ≡ 32
@@ -20,18 +21,32 @@ length-tag key m =
     let long = length-sha256 (turned 0x5c (key_block key) ++ sha256 (turned 0x36 (key_block key) ++ m)) in
     length-take-le 16 _ (omega (arith, long))
 
-pub length-head : (l : Letter) → length (head_bytes l) ≡ 20
-length-head l = go l.ask
+-- eight bytes of a list, one by one
+eight : (xs : List ℕ) → 8 ≤ length xs → (P : List ℕ → Type 0)
+    → ((a b c d e f g h : ℕ) → P (a ∷ b ∷ c ∷ d ∷ e ∷ f ∷ g ∷ h ∷ [])) → P (take 8 xs)
+eight (a ∷ b ∷ c ∷ d ∷ e ∷ f ∷ g ∷ h ∷ rest) long P holds = holds a b c d e f g h
+eight _ long P holds = absurd (omega arith)
+
+-- the head of a letter, with these bytes of the game's number
+abbrev headed : Letter → List ℕ → List ℕ
+headed l g =
+    (suite_byte l.suite ∷ 1 ∷ []) ++ g ++ (l.from ∷ l.to ∷ []) ++ to_le_bytes w32 l.start ++ ask_bytes l.ask
+
+pub length-head : (l : Letter) → 8 ≤ length l.game → length (head_bytes l) ≡ 21
+length-head l long =
+    eight l.game long (λ g. length (headed l g) ≡ 21) (λ a b c d e f g h. go a b c d e f g h l.ask)
   where
-    go : (ask : Option ℕ) → length (head_bytes (record l { ask = ask })) ≡ 20
-    go None = refl
-    go (Some tic) = refl
+    go : (a b c d e f g h : ℕ) (ask : Option ℕ)
+        → length (headed (record l { ask = ask }) (a ∷ b ∷ c ∷ d ∷ e ∷ f ∷ g ∷ h ∷ [])) ≡ 21
+    go a b c d e f g h None = refl
+    go a b c d e f g h (Some tic) = refl
 
-module _ (key : List ℕ) (l : Letter) where
-  pub length-body : length (body_bytes l) ≡ 20 + length l.datagram
-  length-body = length-append (head_bytes l) l.datagram ∙ ap (λ (n : ℕ). n + length l.datagram) (length-head l)
+module _ (key : List ℕ) (l : Letter) (long : 8 ≤ length l.game) where
+  pub length-body : length (body_bytes l) ≡ 21 + length l.datagram
+  length-body = length-append (head_bytes l) l.datagram
+      ∙ ap (λ (n : ℕ). n + length l.datagram) (length-head l long)
 
-  pub length-envelope : length (envelope key l) ≡ 36 + length l.datagram
+  pub length-envelope : length (envelope key l) ≡ 37 + length l.datagram
   length-envelope =
       let both = length-append (body_bytes l) (tag_of key (body_bytes l)) in
       omega (arith, both, length-body, length-tag key (body_bytes l))
@@ -47,34 +62,55 @@ module _ (key : List ℕ) (l : Letter) where
   tag-envelope = ap (λ (n : ℕ). drop n (envelope key l)) seam
       ∙ drop-append_seam (body_bytes l) (tag_of key (body_bytes l))
 
-  pub datagram-envelope : drop 20 (told_body (envelope key l)) ≡ l.datagram
-  datagram-envelope = ap (drop 20) body-envelope ∙ go l.ask
+  pub datagram-envelope : drop 21 (told_body (envelope key l)) ≡ l.datagram
+  datagram-envelope = ap (drop 21) body-envelope
+      ∙ eight l.game long (λ g. drop 21 (headed l g ++ l.datagram) ≡ l.datagram)
+      (λ a b c d e f g h. go a b c d e f g h l.ask)
     where
-      go : (ask : Option ℕ) → drop 20 (body_bytes (record l { ask = ask })) ≡ l.datagram
-      go None = refl
-      go (Some tic) = refl
+      go : (a b c d e f g h : ℕ) (ask : Option ℕ)
+          → drop 21 (headed (record l { ask = ask }) (a ∷ b ∷ c ∷ d ∷ e ∷ f ∷ g ∷ h ∷ []) ++ l.datagram)
+          ≡ l.datagram
+      go a b c d e f g h None = refl
+      go a b c d e f g h (Some tic) = refl
 
-  pub version-envelope : slice_index (envelope key l) 0 ≡ 1
-  version-envelope = refl
+  -- what stands behind the head
+  abbrev rest : List ℕ
+  rest = tag_of key (body_bytes l)
 
-  pub game-envelope : told_game (envelope key l) ≡ to_le_bytes w64 l.game
-  game-envelope = refl
+  pub suite-envelope : slice_index (envelope key l) 0 ≡ suite_byte l.suite
+  suite-envelope = refl
 
-  pub from-envelope : slice_index (envelope key l) 9 ≡ l.from
-  from-envelope = refl
+  pub kind-envelope : slice_index (envelope key l) 1 ≡ 1
+  kind-envelope = refl
 
-  pub to-envelope : slice_index (envelope key l) 10 ≡ l.to
-  to-envelope = refl
+  pub game-envelope : told_game (envelope key l) ≡ take 8 l.game
+  game-envelope = eight l.game long (λ g. told_game (headed l g ++ l.datagram ++ rest) ≡ g)
+      (λ a b c d e f g h. refl)
 
-  pub start-envelope : l.start < 2 ^ 32 → from_le_bytes w32 (take 4 (drop 11 (envelope key l))) ≡ l.start
-  start-envelope small = from_le_bytes-to_le_bytes_4 l.start small
+  pub from-envelope : slice_index (envelope key l) 10 ≡ l.from
+  from-envelope = eight l.game long (λ g. slice_index (headed l g ++ l.datagram ++ rest) 10 ≡ l.from)
+      (λ a b c d e f g h. refl)
+
+  pub to-envelope : slice_index (envelope key l) 11 ≡ l.to
+  to-envelope = eight l.game long (λ g. slice_index (headed l g ++ l.datagram ++ rest) 11 ≡ l.to)
+      (λ a b c d e f g h. refl)
+
+  pub start-envelope : l.start < 2 ^ 32 → from_le_bytes w32 (take 4 (drop 12 (envelope key l))) ≡ l.start
+  start-envelope small = eight l.game long
+      (λ g. from_le_bytes w32 (take 4 (drop 12 (headed l g ++ l.datagram ++ rest))) ≡ l.start)
+      (λ a b c d e f g h. from_le_bytes-to_le_bytes_4 l.start small)
 
   pub ask-envelope : IfSome l.ask (λ tic. tic < 2 ^ 32)
-      → ask_in (slice_index (envelope key l) 15) (told_tic (envelope key l)) ≡ Some l.ask
-  ask-envelope small = go l.ask small
+      → ask_in (slice_index (envelope key l) 16) (told_tic (envelope key l)) ≡ Some l.ask
+  ask-envelope small = eight l.game long
+      (λ g. ask_in (slice_index (headed l g ++ l.datagram ++ rest) 16)
+      (told_tic (headed l g ++ l.datagram ++ rest)) ≡ Some l.ask)
+      (λ a b c d e f g h. go a b c d e f g h l.ask small)
     where
-      go : (ask : Option ℕ) → IfSome ask (λ tic. tic < 2 ^ 32)
-          → ask_in (slice_index (envelope key (record l { ask = ask })) 15)
-          (told_tic (envelope key (record l { ask = ask }))) ≡ Some ask
-      go None small = refl
-      go (Some tic) small = ap (λ (n : ℕ). Some (Some n)) (from_le_bytes-to_le_bytes_4 tic small)
+      go : (a b c d e f g h : ℕ) (ask : Option ℕ) → IfSome ask (λ tic. tic < 2 ^ 32)
+          → ask_in (slice_index (headed (record l { ask = ask }) (a ∷ b ∷ c ∷ d ∷ e ∷ f ∷ g ∷ h ∷ [])
+          ++ l.datagram ++ rest) 16)
+          (told_tic (headed (record l { ask = ask }) (a ∷ b ∷ c ∷ d ∷ e ∷ f ∷ g ∷ h ∷ [])
+          ++ l.datagram ++ rest)) ≡ Some ask
+      go a b c d e f g h None small = refl
+      go a b c d e f g h (Some tic) small = ap (λ (n : ℕ). Some (Some n)) (from_le_bytes-to_le_bytes_4 tic small)

@@ -1,3 +1,4 @@
 pub mod Turning
 pub mod Envelopes
 pub mod Openings
+pub mod Deciding

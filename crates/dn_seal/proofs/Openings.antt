@@ -1,76 +1,96 @@
 -- Bytes are opened as one thing, and what passes all tests is an envelope.
 use Rattle.std.proofs.Common.{◌≡◌, ◌≢◌, ◌<◌, ◌≤◌, ◌+◌, ◌-◌, ◌^◌, ℕ, zero, suc, List, [], ◌∷◌, ◌++◌, length, take, drop, get_or, refl, ap, sym, ◌∙◌, arith, Option, Some, None, Result, Ok, Err, inl, inr, Bool, true, false}
 use Rattle.std.specs.Prelude.{slice_index, IfSome, ◌==◌, ◌&&◌, if◌then◌else◌}
-use Rattle.std.specs.Int.{w32, w64, to_le_bytes, from_le_bytes}
+use Rattle.std.specs.Int.{w32, to_le_bytes, from_le_bytes}
 use Rattle.std.proofs.lemmas.Bool.{cases_eq, eq-eqb, ne_eqb}
 use Rattle.std.proofs.lemmas.List.{take-append-drop, take-take, length-take-le, length-drop}
 use Rattle.std.proofs.lemmas.Nat.{le_bytes_4}
 use Rattle.std.proofs.lemmas.Option.{same_Some}
 use Rattle.dn_seal.specs.declared.opened.Opened.{Opened}
 use Rattle.dn_seal.specs.declared.opened.SealFault.{SealFault}
-use Rattle.dn_seal.specs.declared.opened.SealFault.TheVariants.{Short, Long, Version, Game, Receiver, Tag, Request}
+use Rattle.dn_seal.specs.declared.opened.SealFault.TheVariants.{Short, Long, Suite, Kind, Game, Receiver, Tag, Request}
 use Rattle.dn_seal.specs.Hmac.{tag_of}
+use Rattle.dn_seal.specs.Keys.{suite_byte}
 use Rattle.dn_seal.specs.Envelope.{ask_bytes, head_bytes, body_bytes, envelope}
 use Rattle.dn_seal.specs.Opening.{Sealing, letter_to, IsOpenedAs, IsFor, IsTagged, told_game, told_body, told_tag, told_tic, ask_in}
-use Rattle.dn_seal.proofs.Envelopes.{length-envelope, body-envelope, tag-envelope, datagram-envelope, start-envelope, ask-envelope}
+use Rattle.dn_seal.proofs.Envelopes.{length-envelope, body-envelope, tag-envelope, datagram-envelope, game-envelope, from-envelope, to-envelope, start-envelope, ask-envelope}
 
 module _ (s : Sealing) (bytes : List ℕ) (o : Opened) (is : IsOpenedAs s bytes (Ok o)) where
   -- what is read off an envelope is read off its bytes
-  off : {A : Type 0} (f : List ℕ → A) (a : A) → f (envelope s.key (letter_to s o)) ≡ a → f bytes ≡ a
+  off : {A : Type 0} (f : List ℕ → A) (a : A) → f (envelope s.seal.key (letter_to s o)) ≡ a → f bytes ≡ a
   off f a e = ap f is.1 ∙ e
 
-  len : length bytes ≡ 36 + length o.datagram.items
-  len = off length _ (length-envelope s.key (letter_to s o))
+  len : length bytes ≡ 37 + length o.datagram.items
+  len = off length _ (length-envelope s.seal.key (letter_to s o) is.0.game)
 
   pub opened-tagged : IsTagged s bytes
   opened-tagged =
       let short = is.0.datagram in
-      let body = off told_body _ (body-envelope s.key (letter_to s o)) in
-      let tag = off told_tag _ (tag-envelope s.key (letter_to s o)) in (
+      let body = off told_body _ (body-envelope s.seal.key (letter_to s o) is.0.game) in
+      let tag = off told_tag _ (tag-envelope s.seal.key (letter_to s o) is.0.game) in (
         (
           (
-            ((omega (arith, len), omega (arith, len, short)), off (λ xs. slice_index xs 0) 1 refl),
-            off told_game _ refl,
+            (
+              ((omega (arith, len), omega (arith, len, short)), off (λ xs. slice_index xs 0) _ refl),
+              off (λ xs. slice_index xs 1) 1 refl,
+            ),
+            off told_game _ (game-envelope s.seal.key (letter_to s o) is.0.game),
           ),
-          off (λ xs. slice_index xs 10) _ refl,
+          off (λ xs. slice_index xs 11) _ (to-envelope s.seal.key (letter_to s o) is.0.game),
         ),
-        tag ∙ ap (tag_of s.key) (sym body),
+        tag ∙ ap (tag_of s.seal.key) (sym body),
       )
 
-  pub opened-ask : ask_in (slice_index bytes 15) (told_tic bytes) ≡ Some o.ask
-  opened-ask = off (λ xs. ask_in (slice_index xs 15) (told_tic xs)) _
-      (ask-envelope s.key (letter_to s o) is.0.ask)
+  pub opened-ask : ask_in (slice_index bytes 16) (told_tic bytes) ≡ Some o.ask
+  opened-ask = off (λ xs. ask_in (slice_index xs 16) (told_tic xs)) _
+      (ask-envelope s.seal.key (letter_to s o) is.0.game is.0.ask)
 
-  pub opened-from : slice_index bytes 9 ≡ o.from
-  opened-from = off (λ xs. slice_index xs 9) _ refl
+  pub opened-from : slice_index bytes 10 ≡ o.from
+  opened-from = off (λ xs. slice_index xs 10) _ (from-envelope s.seal.key (letter_to s o) is.0.game)
 
-  pub opened-start : from_le_bytes w32 (take 4 (drop 11 bytes)) ≡ o.start
-  opened-start = off (λ xs. from_le_bytes w32 (take 4 (drop 11 xs))) _
-      (start-envelope s.key (letter_to s o) is.0.start)
+  pub opened-start : from_le_bytes w32 (take 4 (drop 12 bytes)) ≡ o.start
+  opened-start = off (λ xs. from_le_bytes w32 (take 4 (drop 12 xs))) _
+      (start-envelope s.seal.key (letter_to s o) is.0.game is.0.start)
 
-  pub opened-datagram : drop 20 (told_body bytes) ≡ o.datagram.items
-  opened-datagram = off (λ xs. drop 20 (told_body xs)) _ (datagram-envelope s.key (letter_to s o))
+  pub opened-datagram : drop 21 (told_body bytes) ≡ o.datagram.items
+  opened-datagram = off (λ xs. drop 21 (told_body xs)) _
+      (datagram-envelope s.seal.key (letter_to s o) is.0.game)
 
 module _ (s : Sealing) (bytes : List ℕ) where
   -- bytes that are too short have no other fault
-  pub only_short : length bytes < 36 → (read : Result Opened SealFault) → IsOpenedAs s bytes read
+  pub only_short : length bytes < 37 → (read : Result Opened SealFault) → IsOpenedAs s bytes read
       → Err Short ≡ read
-  only_short few (Ok o) h = absurd (let t = (opened-tagged s bytes o h).0.0.0.0.0 in omega arith)
+  only_short few (Ok o) h = absurd (let t = (opened-tagged s bytes o h).0.0.0.0.0.0 in omega arith)
   only_short few (Err Short) h = refl
   only_short few (Err Long) h = absurd (omega arith)
-  only_short few (Err Version) h = absurd (let t = h.0.0 in omega arith)
-  only_short few (Err Game) h = absurd (let t = h.0.0.0 in omega arith)
-  only_short few (Err Receiver) h = absurd (let t = h.0.0.0.0 in omega arith)
-  only_short few (Err Tag) h = absurd (let t = h.0.0.0.0.0 in omega arith)
-  only_short few (Err Request) h = absurd (let t = h.0.0.0.0.0.0 in omega arith)
+  only_short few (Err Suite) h = absurd (let t = h.0.0 in omega arith)
+  only_short few (Err Kind) h = absurd (let t = h.0.0.0 in omega arith)
+  only_short few (Err Game) h = absurd (let t = h.0.0.0.0 in omega arith)
+  only_short few (Err Receiver) h = absurd (let t = h.0.0.0.0.0 in omega arith)
+  only_short few (Err Tag) h = absurd (let t = h.0.0.0.0.0.0 in omega arith)
+  only_short few (Err Request) h = absurd (let t = h.0.0.0.0.0.0.0 in omega arith)
+
+  -- nor have those that are too long
+  pub only_long : 141 < length bytes → (read : Result Opened SealFault) → IsOpenedAs s bytes read
+      → Err Long ≡ read
+  only_long many (Ok o) h = absurd (let t = (opened-tagged s bytes o h).0.0.0.0.0.1 in omega arith)
+  only_long many (Err Short) h = absurd (omega arith)
+  only_long many (Err Long) h = refl
+  only_long many (Err Suite) h = absurd (let t = h.0.1 in omega arith)
+  only_long many (Err Kind) h = absurd (let t = h.0.0.1 in omega arith)
+  only_long many (Err Game) h = absurd (let t = h.0.0.0.1 in omega arith)
+  only_long many (Err Receiver) h = absurd (let t = h.0.0.0.0.1 in omega arith)
+  only_long many (Err Tag) h = absurd (let t = h.0.0.0.0.0.1 in omega arith)
+  only_long many (Err Request) h = absurd (let t = h.0.0.0.0.0.0.1 in omega arith)
 
   -- nor have those whose tag is wrong
-  pub only_tag : IsFor s bytes → told_tag bytes ≢ tag_of s.key (told_body bytes)
+  pub only_tag : IsFor s bytes → told_tag bytes ≢ tag_of s.seal.key (told_body bytes)
       → (read : Result Opened SealFault) → IsOpenedAs s bytes read → Err Tag ≡ read
   only_tag for wrong (Ok o) h = absurd (wrong (opened-tagged s bytes o h).1)
-  only_tag for wrong (Err Short) h = absurd (let t = for.0.0.0.0 in omega arith)
-  only_tag for wrong (Err Long) h = absurd (let t = for.0.0.0.1 in omega arith)
-  only_tag for wrong (Err Version) h = absurd (h.1 for.0.0.1)
+  only_tag for wrong (Err Short) h = absurd (let t = for.0.0.0.0.0 in omega arith)
+  only_tag for wrong (Err Long) h = absurd (let t = for.0.0.0.0.1 in omega arith)
+  only_tag for wrong (Err Suite) h = absurd (h.1 for.0.0.0.1)
+  only_tag for wrong (Err Kind) h = absurd (h.1 for.0.0.1)
   only_tag for wrong (Err Game) h = absurd (h.1 for.0.1)
   only_tag for wrong (Err Receiver) h = absurd (h.1 for.1)
   only_tag for wrong (Err Tag) h = refl
@@ -85,9 +105,10 @@ module _ (s : Sealing) (bytes : List ℕ) where
       let ask = same_Some o.ask p.ask (sym (opened-ask s bytes o is) ∙ opened-ask s bytes p h) in
       let items = sym (opened-datagram s bytes o is) ∙ opened-datagram s bytes p h in
       λ i. Ok (record { from = from i; start = start i; ask = ask i; datagram = record { items = items i } })
-  only_opened o is (Err Short) h = absurd (let t = (opened-tagged s bytes o is).0.0.0.0.0 in omega arith)
-  only_opened o is (Err Long) h = absurd (let t = (opened-tagged s bytes o is).0.0.0.0.1 in omega arith)
-  only_opened o is (Err Version) h = absurd (h.1 (opened-tagged s bytes o is).0.0.0.1)
+  only_opened o is (Err Short) h = absurd (let t = (opened-tagged s bytes o is).0.0.0.0.0.0 in omega arith)
+  only_opened o is (Err Long) h = absurd (let t = (opened-tagged s bytes o is).0.0.0.0.0.1 in omega arith)
+  only_opened o is (Err Suite) h = absurd (h.1 (opened-tagged s bytes o is).0.0.0.0.1)
+  only_opened o is (Err Kind) h = absurd (h.1 (opened-tagged s bytes o is).0.0.0.1)
   only_opened o is (Err Game) h = absurd (h.1 (opened-tagged s bytes o is).0.0.1)
   only_opened o is (Err Receiver) h = absurd (h.1 (opened-tagged s bytes o is).0.1)
   only_opened o is (Err Tag) h = absurd (h.1 (opened-tagged s bytes o is).1)
@@ -146,32 +167,35 @@ ask_is q a b c d ask ha hb hc hd e =
       | inr other ↦ let off = ne_eqb q 1 other in no_request q a b c d ask (rw off at e)
     ]
 
--- the twenty bytes in front, by what was read of them
-head_is : (bytes : List ℕ) (s : Sealing) (o : Opened) → ((i : ℕ) → get_or bytes i 0 < 256) → 20 ≤ length bytes
-    → slice_index bytes 0 ≡ 1 → told_game bytes ≡ to_le_bytes w64 s.game → slice_index bytes 9 ≡ o.from
-    → slice_index bytes 10 ≡ s.me → o.start ≡ from_le_bytes w32 (take 4 (drop 11 bytes))
-    → ask_in (slice_index bytes 15) (told_tic bytes) ≡ Some o.ask
-    → take 20 bytes ≡ head_bytes (letter_to s o)
-head_is (v ∷ g0 ∷ g1 ∷ g2 ∷ g3 ∷ g4 ∷ g5 ∷ g6 ∷ g7 ∷ f ∷ t ∷ s0 ∷ s1 ∷ s2 ∷ s3 ∷ q ∷ a ∷ b ∷ c ∷ d ∷ rest) s o
-    fits long version game from to start ask =
-    let starts = four_bytes s0 s1 s2 s3 o.start (fits 11) (fits 12) (fits 13) (fits 14) start in
-    let asks = ask_is q a b c d o.ask (fits 16) (fits 17) (fits 18) (fits 19) ask in
-    λ i. (version i ∷ game i ++ from i ∷ to i ∷ starts i) ++ asks i
-head_is _ s o fits long version game from to start ask = absurd (omega arith)
+-- the 21 bytes in front, by what was read of them
+head_is : (bytes : List ℕ) (s : Sealing) (o : Opened) → ((i : ℕ) → get_or bytes i 0 < 256) → 21 ≤ length bytes
+    → slice_index bytes 0 ≡ suite_byte s.seal.suite → slice_index bytes 1 ≡ 1
+    → told_game bytes ≡ take 8 s.seal.game → slice_index bytes 10 ≡ o.from
+    → slice_index bytes 11 ≡ s.me → o.start ≡ from_le_bytes w32 (take 4 (drop 12 bytes))
+    → ask_in (slice_index bytes 16) (told_tic bytes) ≡ Some o.ask
+    → take 21 bytes ≡ head_bytes (letter_to s o)
+head_is (v ∷ k ∷ g0 ∷ g1 ∷ g2 ∷ g3 ∷ g4 ∷ g5 ∷ g6 ∷ g7 ∷ f ∷ t ∷ s0 ∷ s1 ∷ s2 ∷ s3 ∷ q ∷ a ∷ b ∷ c ∷ d ∷ rest) s o
+    fits long suite kind game from to start ask =
+    let starts = four_bytes s0 s1 s2 s3 o.start (fits 12) (fits 13) (fits 14) (fits 15) start in
+    let asks = ask_is q a b c d o.ask (fits 17) (fits 18) (fits 19) (fits 20) ask in
+    λ i. (suite i ∷ kind i ∷ []) ++ game i ++ (from i ∷ to i ∷ []) ++ starts i ++ asks i
+head_is _ s o fits long suite kind game from to start ask = absurd (omega arith)
 
 -- what passes all tests is an envelope
 pub assembled : (bytes : List ℕ) (s : Sealing) (o : Opened) → ((i : ℕ) → get_or bytes i 0 < 256)
-    → IsTagged s bytes → slice_index bytes 9 ≡ o.from → o.start ≡ from_le_bytes w32 (take 4 (drop 11 bytes))
-    → ask_in (slice_index bytes 15) (told_tic bytes) ≡ Some o.ask
-    → o.datagram.items ≡ drop 20 (told_body bytes) → bytes ≡ envelope s.key (letter_to s o)
+    → IsTagged s bytes → slice_index bytes 10 ≡ o.from → o.start ≡ from_le_bytes w32 (take 4 (drop 12 bytes))
+    → ask_in (slice_index bytes 16) (told_tic bytes) ≡ Some o.ask
+    → o.datagram.items ≡ drop 21 (told_body bytes) → bytes ≡ envelope s.seal.key (letter_to s o)
 assembled bytes s o fits tests from start ask datagram =
-    let long = tests.0.0.0.0.0 in
-    let head = head_is bytes s o fits (omega arith) tests.0.0.0.1 tests.0.0.1 from tests.0.1 start ask in
-    let front : take 20 (told_body bytes) ≡ head_bytes (letter_to s o) =
-    take-take 20 (length bytes - 16) bytes (omega arith) ∙ head in
+    let long = tests.0.0.0.0.0.0 in
+    let head = head_is bytes s o fits (omega arith) tests.0.0.0.0.1 tests.0.0.0.1 tests.0.0.1 from tests.0.1 start
+    ask in
+    let front : take 21 (told_body bytes) ≡ head_bytes (letter_to s o) =
+    take-take 21 (length bytes - 16) bytes (omega arith) ∙ head in
     let body : told_body bytes ≡ body_bytes (letter_to s o) =
-    sym (take-append-drop 20 (told_body bytes)) ∙ (λ i. front i ++ sym datagram i) in
-    let tag : told_tag bytes ≡ tag_of s.key (body_bytes (letter_to s o)) = tests.1 ∙ ap (tag_of s.key) body in
+    sym (take-append-drop 21 (told_body bytes)) ∙ (λ i. front i ++ sym datagram i) in
+    let tag : told_tag bytes ≡ tag_of s.seal.key (body_bytes (letter_to s o)) =
+    tests.1 ∙ ap (tag_of s.seal.key) body in
     sym (take-append-drop (length bytes - 16) bytes) ∙ (λ i. body i ++ tag i)
 
 -- a request that was read of four bytes fits into four
@@ -193,7 +217,7 @@ asked-small flag tic (Some t) small e = elim (cases_eq flag 1) [
     none_asked false t e = let never : ◌≡◌ {A = Option (Option ℕ)} None (Some (Some t)) = e in cc
 
 -- a datagram in an envelope is not too long
-pub datagram-short : (bytes : List ℕ) → length bytes ≤ 140 → length (drop 20 (told_body bytes)) ≤ 104
+pub datagram-short : (bytes : List ℕ) → length bytes ≤ 141 → length (drop 21 (told_body bytes)) ≤ 104
 datagram-short bytes short =
     let front = length-take-le (length bytes - 16) bytes (omega arith) in
-    omega (arith, front, length-drop 20 (told_body bytes))
+    omega (arith, front, length-drop 21 (told_body bytes))

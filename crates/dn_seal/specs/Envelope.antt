@@ -1,12 +1,16 @@
 -- The envelope of a datagram.
-use Rattle.std.specs.Prelude.{ℕ, ◌<◌, ◌≤◌, ◌^◌, List, [], ◌∷◌, ◌++◌, length, Option, Some, None, IfSome}
-use Rattle.std.specs.Int.{w32, w64, to_le_bytes}
+use Rattle.std.specs.Prelude.{ℕ, ◌<◌, ◌≤◌, ◌^◌, List, [], ◌∷◌, ◌++◌, length, take, Option, Some, None, IfSome}
+use Rattle.std.specs.Int.{w32, to_le_bytes}
+use Rattle.dn_seal.specs.declared.suite.Suite.{Suite}
 use Rattle.dn_seal.specs.Hmac.{tag_of}
+use Rattle.dn_seal.specs.Keys.{suite_byte}
 
--- what an envelope says: of which game, from which player to which, and the exact tics of the datagram's
--- first command and of its request
+-- what an envelope says: by which suite it is sealed, of which game it is, from which player to which, and the
+-- exact tics of the datagram's first command and of its request
 pub record Letter : Type 0 where
-  pub game : ℕ
+  pub suite : Suite
+  -- the game's number, of which the envelope tells the first eight bytes; the key is of all
+  pub game : List ℕ
   pub from : ℕ
   pub to : ℕ
   pub start : ℕ
@@ -18,11 +22,13 @@ abbrev pub ask_bytes : Option ℕ → List ℕ
 ask_bytes None = 0 ∷ 0 ∷ 0 ∷ 0 ∷ 0 ∷ []
 ask_bytes (Some tic) = 1 ∷ to_le_bytes w32 tic
 
--- the twenty bytes in front of the datagram: version 1, and the numbers, low byte first
+-- the 21 bytes in front of the datagram: the suite, the kind of what follows, of which game, from whom to whom, and
+-- the tics, low byte first. Kind 1 is one datagram of 1997. Kinds 2 and 3 are kept: for several datagrams in one
+-- envelope, and for reports on a player who was given up, of up to 308 bytes
 abbrev pub head_bytes : Letter → List ℕ
 head_bytes letter =
-    1 ∷ to_le_bytes w64 letter.game ++ letter.from ∷ letter.to ∷ to_le_bytes w32 letter.start
-    ++ ask_bytes letter.ask
+    (suite_byte letter.suite ∷ 1 ∷ []) ++ take 8 letter.game ++ (letter.from ∷ letter.to ∷ [])
+    ++ to_le_bytes w32 letter.start ++ ask_bytes letter.ask
 
 -- what the tag is over
 abbrev pub body_bytes : Letter → List ℕ
@@ -34,7 +40,7 @@ envelope key letter = body_bytes letter ++ tag_of key (body_bytes letter)
 
 -- the fields fit, so that the letter has an envelope
 pub record IsLetter (letter : Letter) : Type 0 where
-  pub game : letter.game < 2 ^ 64
+  pub game : 8 ≤ length letter.game
   pub from : letter.from < 2 ^ 8
   pub to : letter.to < 2 ^ 8
   pub start : letter.start < 2 ^ 32

@@ -1,4 +1,5 @@
 pub mod Hmac
+pub mod Keys
 pub mod Envelope
 pub mod Opening
 pub mod Begun

@@ -1,6 +1,15 @@
 -- What a sealer is.
+use Rattle.std.specs.Prelude.{ℕ, List}
+use Rattle.dn_seal.specs.declared.seal.Seal.{Seal}
 use Rattle.dn_seal.specs.declared.sealer.Sealer.{Sealer}
+use Rattle.dn_seal.specs.declared.suite.Suite.{Suite}
+use Rattle.dn_seal.specs.Keys.{game_key}
 use Rattle.dn_seal.specs.Opening.{Sealing}
 
+-- what the players of a game seal by, of this suite, secret and number
+abbrev pub sealed_with : Suite → List ℕ → List ℕ → Seal
+sealed_with suite secret number =
+    record { suite = suite; key = game_key suite secret number; game = number }
+
 abbrev pub sealing : Sealer → Sealing
-sealing sealer = record { key = sealer.key; game = sealer.game; me = sealer.me }
+sealing sealer = record { seal = sealer.seal; me = sealer.me }

@@ -1,13 +1,20 @@
 //! Datagrams in envelopes that only the players of a game can make: HMAC-SHA-256, sealing and opening.
 #![tactic(auto)]
 
+mod append;
+mod laws;
 mod mac;
 mod opened;
+mod seal;
 mod sealer;
+mod suite;
 mod tag;
 #[cfg(test)]
 mod tests;
 
+pub use laws::every_list_is_opened;
 pub use mac::hmac;
 pub use opened::{Opened, SealFault};
+pub use seal::Seal;
 pub use sealer::{MAX_ENVELOPE, OVERHEAD, Sealer};
+pub use suite::Suite;

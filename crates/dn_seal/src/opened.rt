@@ -16,19 +16,21 @@ pub struct Opened {
     pub datagram: ArrayVec<u8, 104>,
 }
 
-/// Why bytes are no envelope of this key, this game and to this player: the first of these faults that they
-/// have.
+/// Why bytes are no envelope of this game and to this player: the first of these faults that they have.
 #[derive(Clone, Copy, Debug, PartialEq, Eq, Error)]
 pub enum SealFault {
-    /// Fewer than 36 bytes.
+    /// Fewer than 37 bytes.
     #[error("short")]
     Short,
-    /// More than 140 bytes.
+    /// More than 141 bytes.
     #[error("long")]
     Long,
-    /// Another version.
-    #[error("version")]
-    Version,
+    /// Another suite.
+    #[error("suite")]
+    Suite,
+    /// No datagram is in it, but another kind of thing.
+    #[error("kind")]
+    Kind,
     /// Another game's number.
     #[error("game")]
     Game,

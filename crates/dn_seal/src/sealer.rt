@@ -1,47 +1,54 @@
 //! Sealing and opening.
 
 ghost use Rattle.std.specs.Prelude.{◌≡◌, ◌<◌, ◌≤◌, ◌^◌, ◌+◌, ◌++◌, ℕ, length, drop, take, if◌then◌else◌, Option, Some, None, Result, IsTrue, ◌↔◌};
-ghost use Rattle.std.specs.Int.{w32, w64, to_le_bytes, from_le_bytes};
+ghost use Rattle.std.specs.Int.{w32, from_le_bytes};
 ghost use Rattle.dn_seal.specs.Begun.{HasTaken, HasTaken-prop};
 ghost use Rattle.dn_seal.specs.Hmac.{tag_of};
+ghost use Rattle.dn_seal.specs.Keys.{no_secret};
 ghost use Rattle.dn_seal.specs.Envelope.{Letter, body_bytes, envelope, ask_bytes};
 ghost use Rattle.dn_seal.specs.Opening.{IsOpenedAs, told_game, told_body, told_tag, ask_in};
 ghost use Rattle.dn_seal.specs.declared.opened.Opened.{Opened};
 ghost use Rattle.dn_seal.specs.declared.opened.SealFault.{SealFault};
+ghost use Rattle.dn_seal.specs.declared.suite.Suite.TheVariants.{Secret, Open};
 
+use crate::append::append;
 use crate::mac::{INNER, OUTER, begun, finished};
 use crate::opened::{Opened, SealFault};
+use crate::seal::Seal;
+use crate::suite::suite_byte;
 use crate::tag::is_same;
 use arrayvec::ArrayVec;
 use sha2::Sha256;
 
 /// How many bytes an envelope has beside its datagram.
-pub const OVERHEAD: usize = 36;
+pub const OVERHEAD: usize = 37;
 
 /// The most bytes of an envelope.
-pub const MAX_ENVELOPE: usize = 140;
+pub const MAX_ENVELOPE: usize = 141;
 
 /// How many bytes a tag has.
 const TAG: usize = 16;
 
 /// How many bytes stand in front of a datagram.
-const HEAD: usize = 20;
+const HEAD: usize = 21;
 
-/// The first byte of an envelope.
-const VERSION: u8 = 1;
+/// What is in an envelope: one datagram of 1997.
+const KIND: u8 = 1;
 
-/// What a player seals and opens by: the key and the number of the game, which all players of the game have
-/// in common and which no other game has both of, and the player's own number.
+/// How many bytes of a game's number an envelope tells.
+const TOLD: usize = 8;
+
+/// What a player seals and opens by: what all players of the game have in common, and the player's own number.
 #[derive(Drop)]
 pub struct Sealer {
-    key: [u8; 32],
-    game: u64,
+    seal: Seal,
     me: u8,
     /// Hashers that have taken the key, so that a tag costs half.
     inner: Sha256,
     outer: Sha256,
-    ghost takes_message: { HasTaken 0x36 key inner } by { HasTaken-prop 0x36 key inner },
-    ghost takes_digest: { HasTaken 0x5c key outer } by { HasTaken-prop 0x5c key outer },
+    ghost sixteen: { length seal.game ≡ 16 },
+    ghost takes_message: { HasTaken 0x36 seal.key inner } by { HasTaken-prop 0x36 seal.key inner },
+    ghost takes_digest: { HasTaken 0x5c seal.key outer } by { HasTaken-prop 0x5c seal.key outer },
 }
 
 /// The first bytes of a code.
@@ -51,14 +58,6 @@ fn first_bytes(code: &[u8; 32]) -> [u8; 16]
     let mut tag = [0; TAG];
     tag.copy_from_slice(&code[..TAG]);
     tag
-}
-
-/// Appends bytes for which there is room.
-fn append(bytes: &mut ArrayVec<u8, 140>, more: &[u8])
-    requires { length bytes.old.items + length more.now ≤ 140 }
-    ensures { bytes.new.items ≡ bytes.old.items ++ more.now }
-{
-    let _ = bytes.try_extend_from_slice(more);
 }
 
 /// Whether there is a request, and its tic.
@@ -98,19 +97,18 @@ fn ask_in(flag: u8, tic: u32) -> Option<Option<u32>>
 }
 
 /// Whether bytes tell this game's number.
-fn is_of_game(bytes: &[u8], game: u64) -> bool
-    requires { 9 ≤ length bytes.now }
-    ensures { IsTrue result ↔ (told_game bytes.now ≡ to_le_bytes w64 game) }
+fn is_of_game(bytes: &[u8], game: &[u8; 16]) -> bool
+    requires { 10 ≤ length bytes.now }
+    ensures { IsTrue result ↔ (told_game bytes.now ≡ take 8 game.now) }
 {
-    let own = game.to_le_bytes();
-    bytes[1..9] == own[..]
+    bytes[2..2 + TOLD] == game[..TOLD]
 }
 
 /// The datagram in an envelope.
 fn datagram_in(bytes: &[u8]) -> ArrayVec<u8, 104>
-    requires long { 36 ≤ length bytes.now }
-    requires short { length bytes.now ≤ 140 }
-    ensures { result.items ≡ drop 20 (told_body bytes.now) }
+    requires long { 37 ≤ length bytes.now }
+    requires short { length bytes.now ≤ 141 }
+    ensures { result.items ≡ drop 21 (told_body bytes.now) }
 {
     let body = &bytes[..bytes.len() - TAG];
     let mut datagram = ArrayVec::new();
@@ -119,17 +117,30 @@ fn datagram_in(bytes: &[u8]) -> ArrayVec<u8, 104>
 }
 
 impl Sealer {
-    ghost use Rattle.dn_seal.specs.Sealing.{sealing};
+    ghost use Rattle.dn_seal.specs.Sealing.{sealing, sealed_with};
 
-    /// A player's sealer.
-    pub fn new(key: [u8; 32], game: u64, me: u8) -> Sealer
-        ensures { sealing result ≡ record { key = key; game = game; me = me } }
+    /// The sealer of a player whose game's players share a secret.
+    pub fn new(secret: [u8; 32], number: [u8; 16], me: u8) -> Sealer
+        ensures { sealing result ≡ record { seal = sealed_with Secret secret number; me = me } }
     {
-        let inner = begun(&key, INNER);
-        let outer = begun(&key, OUTER);
+        Sealer::of(Seal::new(secret, number), me)
+    }
+
+    /// The sealer of a player of an open game, which has no secret.
+    pub fn without_secret(number: [u8; 16], me: u8) -> Sealer
+        ensures { sealing result ≡ record { seal = sealed_with Open no_secret number; me = me } }
+    {
+        Sealer::of(Seal::without_secret(number), me)
+    }
+
+    /// The sealer of a player of the game that this is the seal of.
+    pub fn of(seal: Seal, me: u8) -> Sealer
+        ensures { sealing result ≡ record { seal = seal; me = me } }
+    {
+        let inner = begun(&seal.key, INNER);
+        let outer = begun(&seal.key, OUTER);
         Sealer {
-            key,
-            game,
+            seal,
             me,
             inner,
             outer,
@@ -138,27 +149,27 @@ impl Sealer {
 
     /// A hasher that has taken the key, for a message.
     fn inner(&self) -> Sha256
-        ensures { HasTaken 0x36 (sealing self.now).key result }
+        ensures { HasTaken 0x36 (sealing self.now).seal.key result }
     {
         match self.inner.clone() {
             Ok(hasher) => hasher,
-            Err(_) => begun(&self.key, INNER),
+            Err(_) => begun(&self.seal.key, INNER),
         }
     }
 
     /// A hasher that has taken the key, for a digest.
     fn outer(&self) -> Sha256
-        ensures { HasTaken 0x5c (sealing self.now).key result }
+        ensures { HasTaken 0x5c (sealing self.now).seal.key result }
     {
         match self.outer.clone() {
             Ok(hasher) => hasher,
-            Err(_) => begun(&self.key, OUTER),
+            Err(_) => begun(&self.seal.key, OUTER),
         }
     }
 
     /// The tag of bytes.
     fn tag(&self, bytes: &[u8]) -> [u8; 16]
-        ensures { result ≡ tag_of (sealing self.now).key bytes.now }
+        ensures { result ≡ tag_of (sealing self.now).seal.key bytes.now }
     {
         first_bytes(&finished(self.inner(), self.outer(), bytes))
     }
@@ -167,7 +178,7 @@ impl Sealer {
     fn is_tagged(&self, bytes: &[u8]) -> bool
         requires { 16 ≤ length bytes.now }
         ensures { IsTrue result ↔ (told_tag bytes.now
-            ≡ tag_of (sealing self.now).key (told_body bytes.now)) }
+            ≡ tag_of (sealing self.now).seal.key (told_body bytes.now)) }
     {
         let end = bytes.len() - TAG;
         let mut told = [0; TAG];
@@ -176,10 +187,11 @@ impl Sealer {
     }
 
     /// The envelope of a datagram to a player.
-    pub fn seal(&self, to: u8, start: u32, ask: Option<u32>, datagram: &[u8]) -> ArrayVec<u8, 140>
+    pub fn seal(&self, to: u8, start: u32, ask: Option<u32>, datagram: &[u8]) -> ArrayVec<u8, 141>
         requires { length datagram.now ≤ 104 }
-        ensures { result.items ≡ envelope (sealing self.now).key (record {
-          game = (sealing self.now).game;
+        ensures { result.items ≡ envelope (sealing self.now).seal.key (record {
+          suite = (sealing self.now).seal.suite;
+          game = (sealing self.now).seal.game;
           from = (sealing self.now).me;
           to = to;
           start = start;
@@ -188,8 +200,8 @@ impl Sealer {
         }) }
     {
         let mut bytes = ArrayVec::new();
-        append(&mut bytes, &[VERSION]);
-        append(&mut bytes, &self.game.to_le_bytes());
+        append(&mut bytes, &[suite_byte(self.seal.suite), KIND]);
+        append(&mut bytes, &self.seal.game[..TOLD]);
         append(&mut bytes, &[self.me, to]);
         append(&mut bytes, &start.to_le_bytes());
         append(&mut bytes, &ask_bytes(ask));
@@ -211,24 +223,27 @@ impl Sealer {
         if bytes.len() > MAX_ENVELOPE {
             return Err(SealFault::Long);
         }
-        if bytes[0] != VERSION {
-            return Err(SealFault::Version);
+        if bytes[0] != suite_byte(self.seal.suite) {
+            return Err(SealFault::Suite);
         }
-        if !is_of_game(bytes, self.game) {
+        if bytes[1] != KIND {
+            return Err(SealFault::Kind);
+        }
+        if !is_of_game(bytes, &self.seal.game) {
             return Err(SealFault::Game);
         }
-        if bytes[10] != self.me {
+        if bytes[11] != self.me {
             return Err(SealFault::Receiver);
         }
         if !self.is_tagged(bytes) {
             return Err(SealFault::Tag);
         }
-        let Some(ask) = ask_in(bytes[15], tic_at(bytes, 16)) else {
+        let Some(ask) = ask_in(bytes[16], tic_at(bytes, 17)) else {
             return Err(SealFault::Request);
         };
         Ok(Opened {
-            from: bytes[9],
-            start: tic_at(bytes, 11),
+            from: bytes[10],
+            start: tic_at(bytes, 12),
             ask,
             datagram: datagram_in(bytes),
         })

@@ -1,4 +1,4 @@
-//! The vectors of RFC 4231, and envelopes that are opened, or not.
+//! The vectors of RFC 4231, and envelopes that are opened, and bytes that are not.
 
 use crate::{SealFault, Sealer, hmac};
 use arrayvec::ArrayVec;
@@ -75,48 +75,178 @@ fn vectors(rt: HostRuntime) {
     );
 }
 
+/// The number of the game.
+const GAME: [u8; 16] = [1, 2, 3, 4, 5, 6, 7, 8, 9, 10, 11, 12, 13, 14, 15, 16];
+
+const SECRET: [u8; 32] = [7; 32];
+
+/// The datagram of the tests.
+const DATAGRAM: [u8; 8] = [1, 2, 3, 4, 5, 6, 7, 8];
+
+/// The sealer of a player of the game.
+fn player(me: u8) -> Sealer {
+    Sealer::new(SECRET, GAME, me)
+}
+
+/// An envelope from player 1 to player 0.
+fn sealed() -> ArrayVec<u8, 141> {
+    player(1).seal(0, 3, None, &DATAGRAM)
+}
+
+/// What player 0 makes of bytes.
+fn fault(bytes: &[u8]) -> Option<SealFault> {
+    player(0).open(bytes).err()
+}
+
+/// The same bytes, with these bits of one turned.
+fn turned(bytes: &[u8], place: usize, bits: u8) -> ArrayVec<u8, 141> {
+    let mut out = ArrayVec::new();
+    for (i, byte) in bytes.iter().enumerate() {
+        let _ = out.try_push(if i == place { *byte ^ bits } else { *byte });
+    }
+    out
+}
+
 #[test]
 fn sealed_and_opened(rt: HostRuntime) {
-    let key = [7; 32];
-    let one = Sealer::new(key, 0x0123_4567_89ab_cdef, 1);
-    let zero = Sealer::new(key, 0x0123_4567_89ab_cdef, 0);
-    let datagram = [1, 2, 3, 4, 5, 6, 7, 8];
     for ask in [None, Some(0), Some(70_000)] {
-        let bytes = one.seal(0, 70_001, ask, &datagram);
-        assert_eq!(rt; bytes.len(), 44);
-        match zero.open(bytes.as_slice()) {
+        let bytes = player(1).seal(0, 70_001, ask, &DATAGRAM);
+        assert_eq!(rt; bytes.len(), 45);
+        assert_eq!(rt;
+            bytes.as_slice().get(..12),
+            Some([1, 1, 1, 2, 3, 4, 5, 6, 7, 8, 1, 0].as_slice())
+        );
+        match player(0).open(bytes.as_slice()) {
             Ok(opened) => {
                 assert_eq!(rt; opened.from, 1);
                 assert_eq!(rt; opened.start, 70_001);
                 assert_eq!(rt; opened.ask, ask);
-                assert_eq!(rt; opened.datagram.as_slice(), &datagram[..]);
+                assert_eq!(rt; opened.datagram.as_slice(), &DATAGRAM[..]);
             }
             Err(_) => assert!(rt; false),
         }
         // Turned round, it is not for its sender.
-        assert!(rt; one.open(bytes.as_slice()) == Err(SealFault::Receiver));
+        assert!(rt; player(1).open(bytes.as_slice()) == Err(SealFault::Receiver));
     }
 }
 
 #[test]
-fn faults(rt: HostRuntime) {
-    let key = [7; 32];
-    let one = Sealer::new(key, 5, 1);
-    let zero = Sealer::new(key, 5, 0);
-    let datagram = [1, 2, 3, 4, 5, 6, 7, 8];
-    let sealed = one.seal(0, 3, None, &datagram);
-    let bytes = sealed.as_slice();
-    assert!(rt; zero.open(&[1; 35]) == Err(SealFault::Short));
-    assert!(rt; zero.open(&[1; 141]) == Err(SealFault::Long));
-    assert!(rt; Sealer::new(key, 6, 0).open(bytes) == Err(SealFault::Game));
-    assert!(rt; Sealer::new([8; 32], 5, 0).open(bytes) == Err(SealFault::Tag));
-    // Each byte counts.
-    for place in 0..44 {
-        let mut altered = ArrayVec::<u8, 140>::new();
-        for (i, byte) in bytes.iter().enumerate() {
-            let _ = altered.try_push(if i == place { *byte ^ 1 } else { *byte });
+fn each_bit_counts(rt: HostRuntime) {
+    let sealed = sealed();
+    for place in 0..45 {
+        for bits in [1, 2, 4, 8, 16, 32, 64, 128] {
+            let wanted = match place {
+                0 => SealFault::Suite,
+                1 => SealFault::Kind,
+                2..=9 => SealFault::Game,
+                11 => SealFault::Receiver,
+                _ => SealFault::Tag,
+            };
+            let altered = turned(sealed.as_slice(), place, bits);
+            assert_eq!(rt;
+                fault(altered.as_slice()),
+                Some(wanted),
+                "byte {place}, bits {bits}"
+            );
         }
-        assert_eq!(rt; altered.len(), 44);
-        assert!(rt; zero.open(altered.as_slice()).is_err());
+    }
+}
+
+#[test]
+fn no_part_is_opened(rt: HostRuntime) {
+    let sealed = sealed();
+    for many in 0..45 {
+        let wanted = if many < 37 {
+            SealFault::Short
+        } else {
+            SealFault::Tag
+        };
+        let found = match sealed.as_slice().get(..many) {
+            Some(part) => fault(part),
+            None => None,
+        };
+        assert_eq!(rt; found, Some(wanted), "{many} bytes");
+    }
+    assert_eq!(rt; fault(&[1; 142]), Some(SealFault::Long));
+}
+
+#[test]
+fn others_are_not_opened(rt: HostRuntime) {
+    let sealed = sealed();
+    let bytes = sealed.as_slice();
+    let mut next = GAME;
+    next[0] = 2;
+    assert!(rt; Sealer::new(SECRET, next, 0).open(bytes) == Err(SealFault::Game));
+    // A number that differs past what envelopes tell.
+    let mut near = GAME;
+    near[15] = 17;
+    assert!(rt; Sealer::new(SECRET, near, 0).open(bytes) == Err(SealFault::Tag));
+    assert!(rt; Sealer::new([8; 32], GAME, 0).open(bytes) == Err(SealFault::Tag));
+    assert!(rt; Sealer::new(SECRET, GAME, 2).open(bytes) == Err(SealFault::Receiver));
+    // An open game, and one whose secret was never set.
+    assert!(rt; Sealer::without_secret(GAME, 0).open(bytes) == Err(SealFault::Suite));
+    let unset = Sealer::new([0; 32], GAME, 1).seal(0, 3, None, &DATAGRAM);
+    let open = Sealer::without_secret(GAME, 1).seal(0, 3, None, &DATAGRAM);
+    assert!(rt; Sealer::without_secret(GAME, 0).open(unset.as_slice()) == Err(SealFault::Suite));
+    assert!(rt; Sealer::new([0; 32], GAME, 0).open(open.as_slice()) == Err(SealFault::Suite));
+    let passed = turned(open.as_slice(), 0, 3);
+    assert!(rt; Sealer::new([0; 32], GAME, 0).open(passed.as_slice()) == Err(SealFault::Tag));
+    assert!(rt;
+        Sealer::without_secret(GAME, 0)
+            .open(open.as_slice())
+            .is_ok()
+    );
+}
+
+/// What a holder of the secret can spell wrongly: a request that is neither there nor not there, and the tic of
+/// none.
+#[test]
+fn requests_are_there_or_not(rt: HostRuntime) {
+    let sealed = sealed();
+    let mut message = ArrayVec::<u8, 35>::new();
+    let _ = message.try_extend_from_slice(b"zirmegat game key 1");
+    let _ = message.try_extend_from_slice(&GAME);
+    let key = hmac(&SECRET, message.as_slice());
+    for (place, bits, wanted) in [
+        (16, 0, None),
+        (16, 1, None),
+        (16, 2, Some(SealFault::Request)),
+        (17, 1, Some(SealFault::Request)),
+    ] {
+        let altered = turned(sealed.as_slice(), place, bits);
+        let body = altered.as_slice().get(..29).unwrap_or(&[]);
+        let code = hmac(&key, body);
+        let mut bytes = ArrayVec::<u8, 141>::new();
+        let _ = bytes.try_extend_from_slice(body);
+        let _ = bytes.try_extend_from_slice(&code[..16]);
+        assert_eq!(rt; fault(bytes.as_slice()), wanted, "byte {place}");
+    }
+}
+
+/// The next number of a generator (Marsaglia's xorshift).
+fn next(state: u64) -> u64 {
+    let one = state ^ (state << 13);
+    let two = one ^ (one >> 7);
+    two ^ (two << 17)
+}
+
+/// A hundred thousand lists of bytes: random ones, and random ones behind the head of an envelope.
+#[test]
+fn random_bytes_are_not_opened(rt: HostRuntime) {
+    let sealed = sealed();
+    let head = sealed.as_slice().get(..21).unwrap_or(&[]);
+    let zero = player(0);
+    let mut state = 0x9e37_79b9_7f4a_7c15;
+    for round in 0..100_000_u32 {
+        state = next(state);
+        let mut bytes = ArrayVec::<u8, 160>::new();
+        if round % 2 == 0 {
+            let _ = bytes.try_extend_from_slice(head);
+        }
+        for _ in 0..state % 140 {
+            state = next(state);
+            let _ = bytes.try_push((state % 256) as u8);
+        }
+        assert!(rt; zero.open(bytes.as_slice()).is_err());
     }
 }

@@ -1,0 +1,12 @@
+//! What holds of any bytes.
+
+ghost use Rattle.std.specs.Prelude.{◌<◌, ◌^◌, ℕ, List, All, Result};
+ghost use Rattle.dn_seal.specs.declared.opened.Opened.{Opened};
+ghost use Rattle.dn_seal.specs.declared.opened.SealFault.{SealFault};
+ghost use Rattle.dn_seal.specs.Opening.{Sealing, IsOpenedAs};
+
+/// Every list of bytes is opened as a letter or as a fault.
+pub fn every_list_is_opened()
+    ensures { (sealing : Sealing) (bytes : List ℕ) → All (λ byte. byte < 2 ^ 8) bytes
+        → (opened : Result Opened SealFault) × IsOpenedAs sealing bytes opened }
+{}
