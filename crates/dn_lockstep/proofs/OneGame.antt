@@ -1,5 +1,5 @@
 -- The locksteps of one game stay those of one game, call by call.
-use Rattle.std.proofs.Common.{◌≡◌, ◌<◌, ℕ, ℤ, pos, Bool, true, false, List, [], ◌∷◌, ◌++◌, fold, Option, Some, None, refl, ap, sym, ◌∙◌, subst, arith, inl, inr, append_assoc, append-nil}
+use Rattle.std.proofs.Common.{◌≡◌, ◌<◌, ◌≤◌, ◌+◌, ◌||◌, ℕ, ℤ, pos, Bool, true, false, List, [], ◌∷◌, ◌++◌, fold, Option, Some, None, refl, ap, sym, ◌∙◌, subst, arith, inl, inr, append_assoc, append-nil}
 use Rattle.std.specs.Prelude.{◌⊎◌, nat_lt, get_or, slice_get, IfSome}
 use Rattle.std.specs.Option.{option_map}
 use Rattle.std.proofs.lemmas.Bool.{cases_eq, lt-ltb, cond_both}
@@ -15,9 +15,9 @@ use Rattle.dn_machine.specs.declared.events.Event.TheVariants.{Send, Deliver, Ru
 use Rattle.dn_machine.specs.declared.events.Refusal.{Refusal}
 use Rattle.dn_machine.specs.declared.peer.Peer.{Peer}
 use Rattle.dn_machine.specs.Building.{on_build}
-use Rattle.dn_machine.specs.Flight.{Flight, is_near}
+use Rattle.dn_machine.specs.Flight.{Kind, Flight, is_near}
 use Rattle.dn_machine.specs.Game.{fresh, opening_game, own_marks, delivered, refused_at, refused_flight, refused, applied_if, applied, on_event}
-use Rattle.dn_machine.specs.Hearing.{on_packet}
+use Rattle.dn_machine.specs.Hearing.{on_packet, on_packet_in}
 use Rattle.dn_machine.specs.Limits.{Limits, IsWindow}
 use Rattle.dn_machine.specs.Node as machine
 use Rattle.dn_machine.specs.Node.{put, is_ended}
@@ -45,6 +45,10 @@ use Rattle.dn_lockstep.specs.Runs.{marks_in, row_told, RunsBy}
 use Rattle.dn_lockstep.specs.Sent.{sent_to, bytes_of}
 use Rattle.dn_lockstep.specs.Steps.{Steps, Tells, IsAfter}
 use Rattle.dn_lockstep.specs.Told.{made}
+use Rattle.dn_lockstep.specs.Phases.{is_listening}
+use Rattle.dn_machine.specs.Nearness.{is_start_near}
+use Rattle.dn_machine.proofs.Asking.{IsAsking, always_asking}
+use Rattle.dn_machine.proofs.Nearness.{asks, numbered}
 use Rattle.dn_lockstep.proofs.Counting.{got_is}
 use Rattle.dn_lockstep.proofs.Running.{kept_same, run_same, run_tells}
 use Rattle.dn_tic.specs.declared.input.Input.{Input}
@@ -127,6 +131,18 @@ sent_between limits me m to =
     (λ below. send_cases limits me m P to tt (λ other e. set_up_between me to m.settings)
     (λ other e. (refl, refl)) (λ other e. (refl, refl)))
     (λ past. tt)
+
+-- no node but one that listens or has ended drops a packet as one that does not play
+out_of_play_in : (limits : Limits) (me : ℕ) (m : machine.Node) (flight : Flight) (phase : Phase) (kind : Kind)
+    → (on_packet_in limits me m flight phase kind).1 ≡ Heard.Dropped drops.not_playing
+    → (is_listening phase || is_ended phase) ≡ true
+out_of_play_in limits me m flight phase kind h = grind arith
+
+out_of_play : (limits : Limits) (me : ℕ) (m : machine.Node) (flight : Flight)
+    → (on_packet limits me m flight).1 ≡ Heard.Dropped drops.not_playing
+    → (is_listening m.phase || is_ended m.phase) ≡ true
+unfolding on_packet
+out_of_play limits me m flight h = out_of_play_in limits me m flight m.phase flight.kind h
 
 -- a node in its own place
 put_same : {A : Type 0} (f : ℕ → A) (i : ℕ) → put f i (f i) ≡ f
@@ -369,13 +385,43 @@ module _ (marking : Marking) (limits : Limits) (settings : Settings) where
             gave to new after.node (fair limits i (node i) r),
           )
 
-    -- a packet that was given comes as it was given
+    -- a packet that was given
+    module _ (which : ℕ) (flight : Flight) (at : slice_get session.given which ≡ Some flight) where
+      given_there : slice_get game.last.flights which ≡ Some flight
+      given_there = ap (λ (fs : List Flight). slice_get fs which) game.flights ∙ at
+
+      -- its receiver's count is that of the node
+      receiver_made : made (session.locksteps flight.to) ≡ machine.made flight.to (node flight.to)
+      receiver_made =
+          let to_it = (kept.from_inputs.pieces which flight given_there).receiver in
+          let r = game.nodes flight.to to_it in
+          ap (count_of (session.locksteps flight.to).rings) r.whose.number
+          ∙ got_is limits flight.to (session.locksteps flight.to) (node flight.to) r flight.to
+          (omega (arith, to_it, r.whose.players))
+
+      asking : IsAsking rules settings game.last
+      asking = always_asking rules settings game.window game.events game.last game.runs
+
+      pub numbered_near : is_start_near limits (made (session.locksteps flight.to)) flight.start ≡ true
+          → is_near (made (session.locksteps flight.to)) flight ≡ true
+      numbered_near near =
+          ap (λ (k : ℕ). is_near k flight) receiver_made
+          ∙ numbered rules settings game.last asking which flight given_there
+          (ap (λ (k : ℕ). is_start_near limits k flight.start) (sym receiver_made) ∙ near)
+
+      pub asks_close : (tic : ℕ) → flight.request ≡ Some tic
+          → (flight.start ≤ tic + limits.ahead) × (tic ≤ made (session.locksteps flight.to))
+      asks_close tic e =
+          subst (λ (k : ℕ). (flight.start ≤ tic + limits.ahead) × (tic ≤ k)) (sym receiver_made)
+          (asks rules settings game.last asking which flight given_there tic e)
+
+    -- and comes as it was given
     module _ (which : ℕ) (flight : Flight) (new : Contents) (heard : Heard)
         (at : slice_get session.given which ≡ Some flight)
         (near : is_near (made (session.locksteps flight.to)) flight ≡ true)
         (by : HearsNear flight.from (bytes_of flight) (session.locksteps flight.to) new heard) where
       there : slice_get game.last.flights which ≡ Some flight
-      there = ap (λ (fs : List Flight). slice_get fs which) game.flights ∙ at
+      there = given_there which flight at
 
       received_by : flight.to < limits.players
       received_by = (kept.from_inputs.pieces which flight there).receiver
@@ -384,12 +430,7 @@ module _ (marking : Marking) (limits : Limits) (settings : Settings) where
       receiver = game.nodes flight.to received_by
 
       near_there : is_near (machine.made flight.to (node flight.to)) flight ≡ true
-      near_there =
-          let r = receiver in
-          ap (λ (k : ℕ). is_near k flight) (sym (got_is limits flight.to (session.locksteps flight.to)
-          (node flight.to) r flight.to (omega (arith, received_by, r.whose.players))))
-          ∙ ap (λ (k : ℕ). is_near (count_of (session.locksteps flight.to).rings k) flight) (sym r.whose.number)
-          ∙ near
+      near_there = ap (λ (k : ℕ). is_near k flight) (sym (receiver_made which flight at)) ∙ near
 
       accepted_there : refused_flight game.last (Some flight) ≡ None
       accepted_there = rw (near_there, game.going flight.to) refl
@@ -409,6 +450,13 @@ module _ (marking : Marking) (limits : Limits) (settings : Settings) where
           (by_event flight.to received_by (Deliver which) (ap (refused_flight game.last) there ∙ accepted_there)
           ∙ ap (λ (o : Option Flight). (delivered rules game.last o).0) there)
           heard_there.node (hear_quiet limits flight.to (node flight.to) flight)
+
+      -- where it is dropped as by a lockstep that does not play, that one listens or has ended
+      pub not_playing : heard ≡ Heard.Dropped drops.not_playing
+          → (is_listening (session.locksteps flight.to).phase || is_ended (session.locksteps flight.to).phase) ≡ true
+      not_playing dropped =
+          ap (λ (p : Phase). is_listening p || is_ended p) (receiver.stands.phase)
+          ∙ out_of_play limits flight.to (node flight.to) flight (sym heard_there.answer ∙ dropped)
 
       -- it is dropped only as set-up out of place, or by a lockstep that does not play
       pub steady : (number : ℕ) → heard ≡ Heard.Dropped number

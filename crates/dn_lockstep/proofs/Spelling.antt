@@ -84,6 +84,7 @@ module _ {limits : Limits} {me : ℕ} {n : Contents} {m : machine.Node}
       r.commands.rings n.me (below limits me n m r n.me inside) in
       let count : count_of n.rings n.me ≡ length (m.held n.me) = ap (λ (x : Ring). x.count) ring in
       let near = reach.high in
+      let kept = reach.kept in
       let start : aim.start ≡ flight.start = ap (λ (x : Aim). x.start) e in
       let few = reach.low in
       let due : since (n.rings n.me) aim.start ≡ drop flight.start (m.held me) =

@@ -13,11 +13,12 @@ use Rattle.dn_lockstep.specs.Rings.{count_of}
 use Rattle.dn_lockstep.specs.Sent.{sent_to, bytes_of}
 use Rattle.dn_lockstep.specs.Steps.{Steps}
 
--- its commands are all kept, and a packet carries them
+-- its commands are among the last that are kept, and a packet carries them
 pub record Reaches (n : Contents) (aim : Aim) : Type 0 where
   pub flags : aim.flags < 16
   pub low : aim.start + aim.count ≤ count_of n.rings n.me
-  pub high : count_of n.rings n.me ≤ aim.start + 32
+  pub high : count_of n.rings n.me ≤ aim.start + n.places
+  pub kept : n.places ≤ 24
   pub few : aim.count ≤ 12
 
 -- the packet of these numbers, with as many of the own commands from its start on

@@ -9,7 +9,7 @@ use Rattle.dn_machine.specs.Flight.{Flight}
 use Rattle.dn_machine.specs.Game.{Game}
 use Rattle.dn_machine.specs.Limits.{Limits, IsWindow}
 use Rattle.dn_machine.specs.Runs.{Runs}
-use Rattle.dn_machine.specs.Worlds.{Rules}
+use Rattle.dn_machine.specs.Worlds.{Rules, rules_within}
 use Rattle.dn_lockstep.specs.Contents.{Contents}
 use Rattle.dn_lockstep.specs.Marking.{History, Marking, free}
 use Rattle.dn_lockstep.specs.Near.{IsFair}
@@ -22,7 +22,7 @@ use Rattle.dn_lockstep.specs.Session.{Session}
 
 -- the rules of a game whose callers step worlds with these marks
 abbrev pub beside : Marking → Limits → Rules History
-beside marking limits = record { physics = free marking; limits = limits }
+beside marking limits = rules_within (free marking) limits
 
 -- a caller's world: it was begun with the settings' start and the taken seats, and stepped by the rows that
 -- the caller was told

@@ -64,7 +64,7 @@ pub record HasCommands (players turned : ℕ) (kept : ℕ → Ring) (inputs : Li
     (held : ℕ → List TicCmd) : Type 0 where
   -- the turn hold is that of the inputs of its builds
   pub hold : turned ≡ hold_of inputs
-  -- each ring counts the commands held of its player and keeps the last thirty-two
+  -- each ring counts the commands held of its player and keeps the last of them, as many as a window can need
   pub rings : (p : ℕ) → p < players → kept p ≡ ring_of (held p)
 
 -- what it keeps of its peers

@@ -1,6 +1,6 @@
 //! What holds of the locksteps of every game, whatever worlds their callers step.
 
-ghost use Rattle.std.specs.Prelude.{◌≡◌, ◌<◌, ◌≤◌, ℕ, ℤ, Bool, List, true, false, Option, Some, Ok, IfSome, ◌⊎◌, get_or, length, pos, slice_get};
+ghost use Rattle.std.specs.Prelude.{◌≡◌, ◌<◌, ◌≤◌, ◌+◌, ◌||◌, ℕ, ℤ, Bool, List, true, false, Option, Some, Ok, IfSome, ◌⊎◌, get_or, length, pos, slice_get};
 ghost use Rattle.std.specs.Option.{option_map};
 ghost use Rattle.dn_machine.specs.Drops as drops;
 ghost use Rattle.dn_tic.specs.declared.command.Move.{Move};
@@ -22,7 +22,8 @@ ghost use Rattle.dn_machine.specs.Progress.{IsSwift, GoesInto};
 ghost use Rattle.dn_lockstep.specs.declared.config.Config.{Config};
 ghost use Rattle.dn_lockstep.specs.Opening.{CanBeAhead, FitsPackets, limits_in, limits_within};
 ghost use Rattle.dn_machine.specs.Node as machine;
-ghost use Rattle.dn_machine.specs.Node.{demo_rows};
+ghost use Rattle.dn_machine.specs.Nearness.{is_start_near};
+ghost use Rattle.dn_machine.specs.Node.{demo_rows, is_ended};
 ghost use Rattle.dn_machine.specs.Promise.{Agree, Fits, Steady};
 ghost use Rattle.dn_machine.specs.Running.{is_over, on_run, on_quit};
 ghost use Rattle.dn_machine.specs.Worlds.{command};
@@ -35,6 +36,7 @@ ghost use Rattle.dn_lockstep.specs.Near.{IsFair};
 ghost use Rattle.dn_lockstep.specs.OneGame.{beside, world_told, AreOneGame, IsGivenAs};
 ghost use Rattle.dn_lockstep.specs.Agreed.{AreAgreed};
 ghost use Rattle.dn_lockstep.specs.Demos.{rows_to};
+ghost use Rattle.dn_lockstep.specs.Phases.{is_listening};
 ghost use Rattle.dn_lockstep.specs.Represents.{Represents};
 ghost use Rattle.dn_lockstep.specs.Rows.{seats_of};
 ghost use Rattle.dn_lockstep.specs.Runs.{RunsBy};
@@ -42,10 +44,10 @@ ghost use Rattle.dn_lockstep.specs.Sent.{sent_to, bytes_of};
 ghost use Rattle.dn_lockstep.specs.Session.{Session, opening_session, with_lockstep, after_build, after_packet, after_run};
 ghost use Rattle.dn_lockstep.specs.Steps.{Steps, Tells};
 
-/// In every window that a lockstep is made with no command is lost that is still needed, and no game deadlocks: all
-/// that a lockstep keeps goes into one packet up to six ahead, into two up to eleven, or twelve where no packet
-/// repeats a command, and else into three. A packet carries twelve commands at most. Five ahead is the window of a
-/// lockstep for which none is asked.
+/// Each window that a lockstep can have is one of which the laws of `dn_machine` speak (`every_window_agrees`,
+/// `no_deadlock_in_windows`). All that a lockstep keeps goes into one packet up to six ahead, into two up to
+/// eleven, and at twelve too if no packet repeats a command; else into three. A packet carries at most twelve
+/// commands. If no window is asked for, it is five.
 pub fn windows_hold()
     ensures window { (config : Config) (ahead : ℕ) → CanBeAhead ahead → IsWindow (limits_within config ahead) }
     ensures swift { (config : Config) (ahead : ℕ) → CanBeAhead ahead → IsSwift (limits_within config ahead) }
@@ -70,9 +72,9 @@ pub fn one_game_opens()
 
 /// And so they stay after each call on one of them whose caller keeps the duty: it hands in datagrams as they
 /// were given, to whom they were given, from no more than 64 tics away, and at a run the marks of a world
-/// that moved on by the rows that it was told. Each clause takes what the call's own contract says. `kept` is for
-/// a call that changes nothing: a datagram that is dropped, whatever its bytes are, a run that waits, a build
-/// that is full.
+/// that moved on by the rows that it was told. Each clause takes what the call's own contract says. `kept` is
+/// for a call that changes nothing: a datagram that is dropped, whatever its bytes are, a run that waits, a
+/// build that is full.
 pub fn one_game_goes_on()
     ensures built { (marking : Marking) (limits : Limits) (settings : Settings) (session : Session) (player : ℕ)
         (new : Contents) (input : Input) (made : Made)
@@ -113,10 +115,10 @@ pub fn one_game_goes_on()
         → AreOneGame marking limits settings (with_lockstep session player new) }
 {}
 
-/// The locksteps of one game agree in what they tell of themselves. The rows that each caller was told are those
-/// of the inputs that the players' builds took, one for each tic that the lockstep ran, and a command that one
-/// tells is the one that its player's inputs make, with its mark. The machine's game that they represent
-/// agrees, fits and is steady.
+/// The locksteps of one game agree in what they tell of themselves. The rows that each caller was told are
+/// those of the inputs that the players' builds took, one for each tic that the lockstep ran, and a command
+/// that one tells is the one that its player's inputs make, with its mark. The machine's game that they
+/// represent agrees, fits and is steady.
 pub fn locksteps_agree()
     ensures agreed { (marking : Marking) (limits : Limits) (settings : Settings) (session : Session)
         → AreOneGame marking limits settings session
@@ -140,10 +142,36 @@ pub fn locksteps_agree()
         → (game : AreOneGame marking limits settings session) → Steady (beside marking limits) game.last }
 {}
 
+/// A packet that one of them gave is near its receiver, whenever it comes, if its first tic lies within 64
+/// less the window of the number of commands that the receiver has made; for the tic that it asks for, if it
+/// asks for one, lies at most the window before the first, and not past that number.
+pub fn numbered_packets_are_near()
+    ensures near { (marking : Marking) (limits : Limits) (settings : Settings) (session : Session) (which : ℕ)
+        (flight : Flight)
+        → AreOneGame marking limits settings session
+        → slice_get session.given which ≡ Some flight
+        → is_start_near limits (made (session.locksteps flight.to)) flight.start ≡ true
+        → is_near (made (session.locksteps flight.to)) flight ≡ true }
+    ensures asks { (marking : Marking) (limits : Limits) (settings : Settings) (session : Session) (which : ℕ)
+        (flight : Flight) (tic : ℕ)
+        → AreOneGame marking limits settings session
+        → slice_get session.given which ≡ Some flight → flight.request ≡ Some tic
+        → (flight.start ≤ tic + limits.ahead) × (tic ≤ made (session.locksteps flight.to)) }
+{}
+
 /// A packet that one of them gave, and that comes as it was given from no more than 64 tics away, is dropped
-/// only as set-up out of place, or by a lockstep that does not play.
+/// only as set-up out of place, or by a lockstep that does not play: one that still listens, or has ended.
 pub fn given_packets_are_heard()
-    ensures { (marking : Marking) (limits : Limits) (settings : Settings) (session : Session) (which : ℕ)
+    ensures not_playing { (marking : Marking) (limits : Limits) (settings : Settings) (session : Session)
+        (which : ℕ) (flight : Flight) (new : Contents) (heard : Heard)
+        → AreOneGame marking limits settings session
+        → slice_get session.given which ≡ Some flight
+        → is_near (made (session.locksteps flight.to)) flight ≡ true
+        → HearsNear flight.from (bytes_of flight) (session.locksteps flight.to) new heard
+        → heard ≡ Heard.Dropped drops.not_playing
+        → (is_listening (session.locksteps flight.to).phase || is_ended (session.locksteps flight.to).phase)
+        ≡ true }
+    ensures dropped { (marking : Marking) (limits : Limits) (settings : Settings) (session : Session) (which : ℕ)
         (flight : Flight) (new : Contents) (heard : Heard) (number : ℕ)
         → AreOneGame marking limits settings session
         → slice_get session.given which ≡ Some flight

@@ -22,8 +22,8 @@ mod rows;
 pub use config::{Config, NodeFault};
 pub use dn_machine::{Cause, Heard, Made, Phase, Ran};
 pub use laws::{
-    ended_demos_are_read, given_packets_are_heard, locksteps_agree, one_game_goes_on,
-    one_game_opens, windows_hold,
+    ended_demos_are_read, given_packets_are_heard, locksteps_agree, numbered_packets_are_near,
+    one_game_goes_on, one_game_opens, windows_hold,
 };
 pub use lockstep::Lockstep;
 pub use lockstep::aiming::Aim;

@@ -76,14 +76,15 @@ pub struct Lockstep {
     ghost fits: { phase ≡ Playing → demo.stage ≡ Open → ran ≤ capacity },
     ghost seats: { phase ≡ Playing → demo.stage ≡ Open → seats_in demo.bytes ≡ seats_of players },
     ghost size: { phase ≡ Playing → demo.stage ≡ Open → length demo.bytes ≤ place long_tics (players * ran) },
-    // it has the commands of the tics that it ran, but for players who are gone, and at most as many more of a peer
-    // as it keeps, and of its own as its window allows
+    // it has the commands of the tics that it ran, but for players who are gone, and at most as many more of
+    // a peer as it keeps, and of its own as its window allows
     ghost reached: { (p : ℕ) → p < players → is_gone (peer_at peers) ran p ≡ false
         → ran ≤ (ring_at rings p).count },
     ghost window: { (p : ℕ) → p < players → (ring_at rings p).count ≤ ran + places },
     ghost near: { (ring_at rings me).count ≤ ran + ahead },
-    // the window is one, and a packet has room for all that is kept
+    // twice the window is kept, twelve at least, and twenty-four at most
     ghost twice: { ahead + ahead ≤ places },
+    ghost some: { 12 ≤ places },
     ghost inside: { places ≤ 24 },
     // no resend starts past what it made
     ghost resends: { (p : ℕ) → p < players → (peer_at peers p).resend ≤ (ring_at rings me).count },
@@ -150,9 +151,10 @@ impl Lockstep {
         }
     }
 
-    /// A player's command for a tic, with its letter of chat, which a move lacks: one of the last that it keeps of
-    /// the player, twelve in a window of up to six, and else twice the window. So that of the next tic to be run is
-    /// told as soon as it is there. None for another tic, and for a number that is no player's.
+    /// A player's command for a tic, with its letter of chat, which a move lacks: one of the last that it
+    /// keeps of the player, twelve in a window of up to six, and else twice the window. So that of the next
+    /// tic to be run is told as soon as it is there. None for another tic, and for a number that is no
+    /// player's.
     pub fn command(&self, player: u8, tic: u32) -> Option<TicCmd>
         ensures value { result ≡ command_told (contents self.now) player tic }
         ensures told { Tells (contents self.now) (λ limits me m. result ≡ last_held limits m player tic) }

@@ -1,6 +1,6 @@
 //! The consistency table: each player's marks of the last twelve tics.
 
-ghost use Rattle.std.specs.Prelude.{◌≡◌, ◌≢◌, ◌<◌, ◌≤◌, ◌%◌, ℕ, pos, slice_index_or, get_or, true, false};
+ghost use Rattle.std.specs.Prelude.{◌≡◌, ◌≢◌, ◌<◌, ◌%◌, ℕ, pos, slice_index_or, get_or, true, false};
 ghost use Rattle.dn_machine.specs.Node.{lacks};
 ghost use Rattle.dn_lockstep.specs.Marks.{slot};
 
@@ -8,12 +8,12 @@ use dn_tic::Move;
 use std::marker::Model;
 
 /// How many marks of a player are kept: a command carries that of twelve tics before (`d_net.h`, BACKUPTICS).
-const PLACES: u32 = 12;
+const PLACES: usize = 12;
 
 /// A player's marks, by the remainders of tics.
 #[derive(Clone, Copy, Debug)]
 struct Slots {
-    slots: [i16; 12],
+    slots: [i16; PLACES],
 }
 
 impl Slots {
@@ -48,7 +48,7 @@ impl Marks {
     pub(crate) fn new() -> Marks
         ensures { (p j : ℕ) → slot result p j ≡ pos 0 }
     {
-        let slots = Slots { slots: [0; 12] };
+        let slots = Slots { slots: [0; PLACES] };
         Marks {
             players: [slots, slots, slots, slots],
         }
@@ -60,7 +60,7 @@ impl Marks {
         ensures { result ≡ slot self.now player (tic % 12) }
     {
         let slots = &self.players[usize::from(player)];
-        slots.slots[(tic % PLACES) as usize]
+        slots.slots[tic as usize % PLACES]
     }
 
     /// Keeps another mark.
@@ -69,7 +69,7 @@ impl Marks {
         ensures put { slot self.new player (tic % 12) ≡ mark }
         ensures others { (p j : ℕ) → (p ≡ player → j ≢ tic % 12) → slot self.new p j ≡ slot self.old p j }
     {
-        self.players[usize::from(player)].put((tic % PLACES) as usize, mark);
+        self.players[usize::from(player)].put(tic as usize % PLACES, mark);
     }
 
     /// Keeps, for the tic twelve on, the mark of each player who has a move in the row.

@@ -1,8 +1,7 @@
 //! The commands of one tic, of all players.
 
-ghost use Rattle.std.specs.Prelude.{◌≡◌, ◌<◌, ◌≤◌, ◌+◌, ◌%◌, ℕ, nat_le, nat_lt, not, All, None, [], ◌∷◌, true, false, is_some, IfSome, if◌then◌else◌};
-ghost use Rattle.std.specs.Ordering.{int_eq};
-ghost use Rattle.dn_demo.specs.Rows.{IsMove, IsRow, IsRecordable};
+ghost use Rattle.std.specs.Prelude.{◌≡◌, ◌<◌, ◌≤◌, ◌+◌, ℕ, nat_lt, not, All, None, [], ◌∷◌, true, false, IfSome, if◌then◌else◌};
+ghost use Rattle.dn_demo.specs.Rows.{IsMove, IsRow};
 ghost use Rattle.dn_machine.specs.Node.{lowest, is_whole};
 ghost use Rattle.dn_machine.specs.Running.{tic_limit};
 ghost use Rattle.dn_machine.specs.Limits.{four};

@@ -10,7 +10,7 @@ use Rattle.dn_machine.specs.declared.events.Event.TheVariants.{Send, Deliver, Ru
 use Rattle.dn_machine.specs.Worlds.{Rules}
 use Rattle.dn_machine.specs.Node.{Node, ran, is_ended, has_left}
 use Rattle.dn_machine.specs.Game.{Game, on_own_run}
-use Rattle.dn_machine.specs.Progress.{after, is_of_round, exchange, turn, build_of}
+use Rattle.dn_machine.specs.Progress.{after, exchange, turn, build_of}
 use Rattle.dn_machine.proofs.RunKeeps
 use Rattle.dn_machine.proofs.Pairs.{accepted}
 use Rattle.dn_machine.proofs.Pairs
@@ -20,7 +20,7 @@ use Rattle.dn_machine.proofs.Roomy.{IsRoomy, roomy_after, row_fits}
 use Rattle.dn_machine.proofs.Openings.{Stands, Gathers, Listens, Plays, HasGone, IsOpen, applied_open}
 use Rattle.dn_machine.proofs.Gentle.{Gentle, gentle_same, AllGentle, placed_gentle, build_gentle, send_gentle, deliver_gentle, exchange_gentle}
 use Rattle.dn_tic.specs.declared.input.Input.{Input}
-use Rattle.dn_machine.proofs.EachEvent.{build_round}
+use Rattle.dn_machine.proofs.EachEvent.{build_round, is_of_round}
 
 module _ {S : Type 0} (rules : Rules S) (settings : Settings) (cap : ℕ) (stay : ℕ → Bool) (tic : ℕ) where
   -- a game before or after its start, of which some may have left

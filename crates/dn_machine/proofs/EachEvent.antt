@@ -1,10 +1,10 @@
 -- A relation between a node before and after that each call on a node keeps to: at every node each event
 -- does. And what each event keeps, every list of events keeps.
-use Rattle.std.proofs.Common.{ℤ, ℕ, List, [], ◌∷◌, Option, Some, None, sym, subst, inl, inr, ◌≡◌, true, refl}
+use Rattle.std.proofs.Common.{ℤ, ℕ, List, [], ◌∷◌, Option, Some, None, sym, subst, inl, inr, ◌≡◌, Bool, true, false, refl}
 use Rattle.std.specs.Prelude.{slice_get}
 use Rattle.std.proofs.lemmas.Bool.{cases_eq}
 use Rattle.dn_machine.specs.declared.events.Event.{Event}
-use Rattle.dn_machine.specs.declared.events.Event.TheVariants.{Build, Send, Deliver, Run, Quit, Stop, Give}
+use Rattle.dn_machine.specs.declared.events.Event.TheVariants.{Build, Give, Send, Deliver, Run, Quit, Stop}
 use Rattle.dn_machine.specs.declared.events.Refusal.{Refusal}
 use Rattle.dn_machine.specs.Worlds.{Rules}
 use Rattle.dn_machine.specs.Flight.{Flight}
@@ -18,7 +18,17 @@ use Rattle.dn_machine.specs.Runs.{Next, Leads}
 use Rattle.dn_machine.proofs.Put.{put_at, put_off}
 use Rattle.dn_tic.specs.declared.input.Input.{Input}
 use Rattle.dn_tic.specs.declared.input.Input.TheVariants.{Pressed, Given}
-use Rattle.dn_machine.specs.Progress.{build_of, is_of_round}
+use Rattle.dn_machine.specs.Progress.{build_of}
+
+-- an event that rounds are made of: a build, a send, a delivery or a run
+abbrev pub is_of_round : Event → Bool
+is_of_round (Build node keys) = true
+is_of_round (Give node command) = true
+is_of_round (Send node to) = true
+is_of_round (Deliver which) = true
+is_of_round (Run node) = true
+is_of_round (Quit node) = false
+is_of_round (Stop node) = false
 
 -- a build is an event of a round
 pub build_round : (i : ℕ) (input : Input) → is_of_round (build_of i input) ≡ true

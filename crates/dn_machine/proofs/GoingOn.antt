@@ -11,7 +11,8 @@ use Rattle.dn_machine.specs.Node.{Node, ran, is_ended, has_left}
 use Rattle.dn_machine.specs.Game.{Game, applied}
 use Rattle.dn_machine.proofs.Invariant.{IsKept}
 use Rattle.dn_machine.proofs.Invariant.{history_of}
-use Rattle.dn_machine.specs.Progress.{IsSwift, after, is_of_round, exchange}
+use Rattle.dn_machine.specs.Progress.{IsSwift, after, exchange}
+use Rattle.dn_machine.proofs.EachEvent.{is_of_round}
 use Rattle.dn_machine.proofs.Games.{applied_keeps}
 use Rattle.dn_machine.proofs.Growth.{IsPatient, applied_grows}
 use Rattle.dn_machine.proofs.Lists

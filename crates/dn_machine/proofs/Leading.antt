@@ -8,9 +8,9 @@ use Rattle.dn_machine.specs.declared.events.Event.TheVariants.{Send, Deliver, Ru
 use Rattle.dn_machine.specs.Worlds.{Rules}
 use Rattle.dn_machine.specs.Game.{Game}
 use Rattle.dn_machine.specs.Runs.{Leads}
-use Rattle.dn_machine.specs.Progress.{after, in_order, is_of_round, exchange, turn, good_round, good_rounds, build_of}
+use Rattle.dn_machine.specs.Progress.{after, in_order, exchange, turn, good_round, good_rounds, build_of}
 use Rattle.dn_tic.specs.declared.input.Input.{Input}
-use Rattle.dn_machine.proofs.EachEvent.{build_round}
+use Rattle.dn_machine.proofs.EachEvent.{build_round, is_of_round}
 
 -- what holds of each of two lists holds of each of both
 pub all_more : {A : Type 0} (test : A → Bool) (xs ys : List A) → list_all test xs ≡ true

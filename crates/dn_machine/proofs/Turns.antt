@@ -13,7 +13,7 @@ use Rattle.dn_machine.specs.Building.{on_build}
 use Rattle.dn_machine.specs.Running.{is_absent, is_awaited, row_held}
 use Rattle.dn_machine.specs.Game.{Game, with_node, on_own_run}
 use Rattle.dn_machine.proofs.Invariant.{history_of}
-use Rattle.dn_machine.specs.Progress.{after, is_of_round, build_of}
+use Rattle.dn_machine.specs.Progress.{after, build_of}
 use Rattle.dn_machine.proofs.Put.{put_at, put_off, view_kept}
 use Rattle.dn_machine.proofs.Lists
 use Rattle.dn_machine.proofs.RunKeeps
@@ -27,7 +27,7 @@ use Rattle.dn_machine.proofs.GoingOn.{IsFar, IsOn, full_far, ran_after, live_aft
 use Rattle.dn_machine.proofs.Receivers.{in_play}
 use Rattle.dn_machine.proofs.Roomy.{roomy_after, row_fits}
 use Rattle.dn_tic.specs.declared.input.Input.{Input}
-use Rattle.dn_machine.proofs.EachEvent.{build_round}
+use Rattle.dn_machine.proofs.EachEvent.{build_round, is_of_round}
 
 module _ {S : Type 0} (rules : Rules S) (settings : Settings) (cap : ℕ) (stay : ℕ → Bool) (tic : ℕ) where
   module _ (game : Game) (on : IsOn rules settings cap stay tic game) where

@@ -21,9 +21,9 @@ pub record Limits : Type 0 where
 -- numbers with which no command is lost that is still needed, and a command's mark is that of a tic that its
 -- node ran
 pub record IsWindow (limits : Limits) : Type 0 where
-  -- a player may lack as many commands of another as two players may be ahead together
+  -- a node may lack twice as many commands of a player as one may be ahead
   pub twice : limits.ahead + limits.ahead ≤ limits.places
-  -- a command's mark is that of twelve tics before, so a player further ahead would need that of a tic not yet run
+  -- a command's mark is that of twelve tics before; a player further ahead would need that of a tic not yet run
   pub back : limits.ahead ≤ 12
 
 -- the numbers of 1997 (d_net.c, NetUpdate; d_net.h, BACKUPTICS and doomdata_t)

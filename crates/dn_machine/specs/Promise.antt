@@ -79,7 +79,8 @@ pub record Fits {S : Type 0} (rules : Rules S) (game : Game) : Type 0 where
       → min (ran (game.nodes q)) (end_or game p (ran (game.nodes q))) ≤ got (game.nodes q) p
   pub unread : (q p : ℕ) → q < rules.players → p < rules.players
       → got (game.nodes q) p ≤ ran (game.nodes q) + (rules.ahead + rules.ahead)
-  -- it has no command that was not made; and until it ends, it lacks at most twice the window of those that were made
+  -- it has no command that was not made; and until it ends, it lacks at most twice the window of those that
+  -- were made
   pub held : (q p : ℕ) → q < rules.players → p < rules.players → got (game.nodes q) p ≤ made p (game.nodes p)
   pub unheard : (q p : ℕ) → q < rules.players → p < rules.players → is_ended (game.nodes q).phase ≡ false
       → made p (game.nodes p) ≤ got (game.nodes q) p + (rules.ahead + rules.ahead)

@@ -11,7 +11,7 @@ pub record Ring : Type 0 where
 abbrev pub empty : Ring
 empty = record { count = 0; last = [] }
 
--- the last of a list
+-- the last of a list, as many as there are places
 abbrev pub last_of : ℕ → List TicCmd → List TicCmd
 last_of places commands = drop (length commands - places) commands
 

@@ -19,8 +19,7 @@ pub struct RingBuffer<const PLACES: usize> {
 /// The last twelve commands of a player (`d_net.h`, BACKUPTICS).
 pub type Ring = RingBuffer<12>;
 
-/// The last thirty-two, for wide windows. The place of a tic is then its lowest five bits, which costs one
-/// instruction.
+/// The last thirty-two: more than the widest window keeps.
 pub type WideRing = RingBuffer<32>;
 
 impl<const PLACES: usize> Model for RingBuffer<PLACES> {

@@ -87,7 +87,8 @@ impl Lockstep {
         requires { to < (contents self.now).players }
         ensures told { Tells (contents self.now) (λ limits me m. result ≡ first_sent limits me m to) }
         ensures low { result ≤ count_of (contents self.now).rings (contents self.now).me }
-        ensures high { count_of (contents self.now).rings (contents self.now).me ≤ result + 32 }
+        ensures high { count_of (contents self.now).rings (contents self.now).me
+            ≤ result + (contents self.now).places }
     {
         let made = self.made();
         let resend = self.peers.get(to).resend;
@@ -144,8 +145,8 @@ impl Lockstep {
     }
 
     /// The numbers of a packet that a node gives which has played and ended: it asks for no commands. It is an
-    /// EXIT packet (`d_net.c`, D_QuitNetGame) where it carries the last command, so that the peers know all up to
-    /// the node's end, and else one like those before.
+    /// EXIT packet (`d_net.c`, D_QuitNetGame) where it carries the last command, so that the peers know all
+    /// up to the node's end, and else one like those before.
     fn aim_of_exit(&self, to: u8) -> Option<Aim>
         requires below { to < (contents self.now).players }
         ensures told { (cause : Cause) → Tells (contents self.now)

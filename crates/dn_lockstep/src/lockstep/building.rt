@@ -49,8 +49,8 @@ impl Lockstep {
         self.make(Input::Given(command))
     }
 
-    /// Makes the command of this input for the next tic. In each of the two calls the compiler knows which input
-    /// it is.
+    /// Makes the command of this input for the next tic. In each of the two calls the compiler knows which
+    /// input it is.
     #[inline(always)]
     fn make(&mut self, input: Input) -> Made
         ensures step { Steps (contents self.old) (contents self.new)

@@ -1,6 +1,6 @@
 //! What a node does with a datagram.
 
-ghost use Rattle.std.specs.Prelude.{◌≡◌, ◌≢◌, ◌<◌, ℕ, true, false, Result, Ok};
+ghost use Rattle.std.specs.Prelude.{◌≡◌, ◌≢◌, ◌<◌, false, Result, Ok};
 ghost use Rattle.dn_setup.specs.Settings.{Settings};
 ghost use Rattle.dn_setup.specs.Setup.{IsSetupReadAs};
 ghost use Rattle.dn_setup.specs.declared.setup.SetupFault.{SetupFault};

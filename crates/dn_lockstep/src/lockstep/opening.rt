@@ -80,8 +80,8 @@ impl Lockstep {
         Lockstep::open(alloc, config, MOST_AHEAD)
     }
 
-    /// The same in a window of this width, one to twelve: so many commands a player may be ahead of the tics that
-    /// its node ran. All locksteps of a game have the same.
+    /// The same in a window of this width, one to twelve: a player may be so many commands ahead of the tics
+    /// that its node ran. All locksteps of a game have the same.
     pub fn within(alloc: Global, config: Config, ahead: u8) -> Result<Lockstep, NodeFault>
         ensures admitted { IsAdmittedWithin config ahead result }
         ensures opened { IfOk result (λ lockstep. (settings : Choice)

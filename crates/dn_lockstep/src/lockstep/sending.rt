@@ -1,6 +1,6 @@
 //! The packets that go out.
 
-ghost use Rattle.std.specs.Prelude.{◌≡◌, ◌<◌, ◌≤◌, length, true, false, Some, None, IfSome};
+ghost use Rattle.std.specs.Prelude.{◌≡◌, ◌≤◌, length, false, Some, None, IfSome, is_some};
 ghost use Rattle.std.specs.List.{list_any};
 ghost use Rattle.std.specs.Option.{option_map};
 ghost use Rattle.dn_packet.specs.Text.{IsPacket, text};
@@ -19,10 +19,10 @@ use dn_setup::to_packet;
 impl Lockstep {
     ghost use Rattle.dn_lockstep.specs.Contents.{contents};
     ghost use Rattle.dn_lockstep.specs.Steps.{Steps, Becomes, Tells};
-    ghost use Rattle.dn_lockstep.specs.Giving.{Reaches, Gives, packet_of_aim, IsSentTo, IsSilent, aim_in, size_in};
+    ghost use Rattle.dn_lockstep.specs.Giving.{Reaches, Gives, gives, packet_of_aim, IsSentTo, IsSilent, aim_in, size_in};
 
-    /// Writes the packet of these numbers, with as many of the own commands from its start on, to the front of a
-    /// room.
+    /// Writes the packet of these numbers, with as many of the own commands from its start on, to the front
+    /// of a room.
     fn write_own(&self, aim: &Aim, room: &mut [u8]) -> usize
         requires reach { Reaches (contents self.now) aim.now }
         requires fits { 104 ≤ length room.old }
@@ -41,8 +41,8 @@ impl Lockstep {
         encode_parts(&head, first, second, room)
     }
 
-    /// Notes that a packet of these numbers was given: the next one goes on where it ends. Set-up packets are the
-    /// same each time, and nothing is noted of them.
+    /// Notes that a packet of these numbers was given: the next one goes on where it ends. Set-up packets are
+    /// the same each time, and nothing is noted of them.
     fn note_sent(&mut self, to: u8, aim: &Aim)
         requires peer { Gives (contents self.old) to }
         requires reach { Reaches (contents self.old) aim.now }
@@ -61,8 +61,8 @@ impl Lockstep {
         }
     }
 
-    /// Writes the next packet to a peer to the front of a room, and answers its exact numbers and how many bytes
-    /// it has; None where there is none.
+    /// Writes the next packet to a peer to the front of a room, and answers its exact numbers and how many
+    /// bytes it has; None where there is none.
     // Inlined, so that a caller who drops the numbers does not pay for them.
     #[inline(always)]
     pub fn packet_with_aim(&mut self, to: u8, room: &mut [u8]) -> Option<(Aim, usize)>
@@ -70,6 +70,7 @@ impl Lockstep {
         ensures sent { IsSentTo to (contents self.old) (contents self.new) room.old room.new (size_in result) }
         ensures aimed { Tells (contents self.old)
             (λ limits me m. aim_in result ≡ option_map aim_of (sent_to to limits me m).1) }
+        ensures known { is_some result ≡ gives (contents self.old) to }
         ensures peer { IfSome result (λ given. Gives (contents self.old) to) }
         ensures fair { Tells (contents self.old) (λ limits me m. IfSome (sent_to to limits me m).1 IsFair) }
         ensures silent { IsSilent to (contents self.old) (contents self.new) room.old room.new (size_in result) }
@@ -103,7 +104,7 @@ impl Lockstep {
 
     /// The next packet to a peer; None for the node itself, for a number that is no player's, and where
     /// the node has nothing to give. A node that has played and ended gives one whenever it is asked.
-    pub fn packet(&mut self, to: u8) -> Option<ArrayVec<u8, 104>>
+    pub fn packet(&mut self, to: u8) -> Option<ArrayVec<u8, MAX_DATAGRAM>>
         ensures step { Steps (contents self.old) (contents self.new)
             (λ limits me m. sent_to to limits me m)
             (λ flight. option_map (λ bytes. bytes.items) result ≡ option_map bytes_of flight) }

@@ -15,7 +15,7 @@ pub write_own-requires-clause-reach : goal.write_own-requires-clause-reach
 write_own-requires-clause-reach c =
     let reach = c.in-Some.ensures.reach.0 in
     subst (λ (n : Contents). Reaches n c.in-Some.aim) (sym c.note_sent.ensures.kept)
-    (record { flags = reach.flags; low = reach.low; high = reach.high; few = reach.few })
+    (record { flags = reach.flags; low = reach.low; high = reach.high; kept = reach.kept; few = reach.few })
 
 pub returns-in_default-clause-sent : goal.returns-in_default-clause-sent
 returns-in_default-clause-sent c = (
