@@ -1,7 +1,6 @@
 -- What is printed of nodes that played over UDP.
 use Rattle.std.specs.Prelude.{◌≡◌, ◌⊎◌, ℕ, Bool, false, List, codes, Some, if◌then◌else◌}
 use Rattle.dn_setup.specs.Settings.{Settings}
-use Rattle.dn_demo.specs.Recorded.{capacity}
 use Rattle.dn_world.specs.Physics.{Physics}
 use Rattle.dn_world.specs.Plane.{Spots, walking}
 use Rattle.dn_line.specs.Udp.{Ports, UdpSends, UdpPolls}
@@ -9,6 +8,7 @@ use Rattle.dn_machine.specs.Game.{fresh}
 use Rattle.dn_machine.specs.Node.{put}
 use Rattle.dn_machine.specs.Running.{on_quit}
 use Rattle.dn_lockstep.specs.declared.config.Config.{Config}
+use Rattle.dn_lockstep.specs.Opening.{limits_in}
 use Rattle.dn_node.specs.Contents.{Contents}
 use Rattle.dn_node.specs.Represents.{Represents}
 use Rattle.dn_turn.specs.Giving.{Sends}
@@ -24,14 +24,7 @@ new_ports base first last players =
 -- the seat of a new node
 abbrev pub new_seat : Config → Settings → Seat
 new_seat config settings =
-    record {
-      players = config.players;
-      extra = config.extra;
-      capacity =
-          capacity config.limit config.players;
-      me = config.me;
-      node = fresh settings config.me;
-    }
+    record { limits = limits_in config; me = config.me; node = fresh settings config.me }
 
 -- the node at a place quits
 abbrev pub with_quit : {L : Type 0} → ℕ → Table L → Table L

@@ -1,13 +1,14 @@
 //! What holds of every node that has ended.
 
-ghost use Rattle.std.specs.Prelude.{◌≡◌, ℕ, Bool, true, length, Some, Ok, fold};
+ghost use Rattle.std.specs.Prelude.{◌≡◌, ℕ, true, length, Some, Ok, fold};
 ghost use Rattle.dn_setup.specs.Settings.{Settings};
 ghost use Rattle.dn_setup.specs.Starts.{start_of};
 ghost use Rattle.dn_demo.specs.Layout.{long_tics};
 ghost use Rattle.dn_demo.specs.Reading.{IsReadAs, written_demo, state_after};
 ghost use Rattle.dn_machine.specs.declared.answers.Cause.{Cause};
 ghost use Rattle.dn_machine.specs.declared.answers.Phase.TheVariants.{Ended};
-ghost use Rattle.dn_machine.specs.Worlds.{rules_of};
+ghost use Rattle.dn_machine.specs.Limits.{Limits};
+ghost use Rattle.dn_machine.specs.Worlds.{rules_within};
 ghost use Rattle.dn_machine.specs.Node as machine;
 ghost use Rattle.dn_machine.specs.Node.{demo_rows};
 ghost use Rattle.dn_node.specs.Contents.{Contents};
@@ -20,24 +21,23 @@ use dn_world::World;
 /// number as view, to its players and to the rows that it ran before the first that lacks a player. All
 /// rows that it ran, from the beginning on, lead to its world; and so does the demo, where no row lacks one.
 pub fn ended_demos_replay<W: World>()
-    ensures read { (players : ℕ) (extra : Bool) (capacity me : ℕ) (n : Contents W) (m : machine.Node)
+    ensures read { (limits : Limits) (me : ℕ) (n : Contents W) (m : machine.Node)
         (settings : Settings) (cause : Cause)
-        → Represents W.state (rules_of W.physics players extra capacity) me n m
+        → Represents W.state (rules_within W.physics limits) me n m
         → m.played ≡ true → m.phase ≡ Ended cause → m.settings ≡ Some settings
-        → IsReadAs n.demo.bytes (Ok (written_demo long_tics (start_of settings) me (seats_of players)
-        (demo_rows players m))) }
-    ensures world { (players : ℕ) (extra : Bool) (capacity me : ℕ) (n : Contents W) (m : machine.Node)
+        → IsReadAs n.demo.bytes (Ok (written_demo long_tics (start_of settings) me (seats_of limits.players)
+        (demo_rows limits.players m))) }
+    ensures world { (limits : Limits) (me : ℕ) (n : Contents W) (m : machine.Node)
         (settings : Settings)
-        → Represents W.state (rules_of W.physics players extra capacity) me n m
+        → Represents W.state (rules_within W.physics limits) me n m
         → m.played ≡ true → m.settings ≡ Some settings
-        → W.state n.world ≡ fold W.physics.step (W.physics.begin (start_of settings) (seats_of players))
+        → W.state n.world ≡ fold W.physics.step (W.physics.begin (start_of settings) (seats_of limits.players))
         m.rows }
-    ensures played { (players : ℕ) (extra : Bool) (capacity me : ℕ) (n : Contents W) (m : machine.Node)
+    ensures played { (limits : Limits) (me : ℕ) (n : Contents W) (m : machine.Node)
         (settings : Settings)
-        → Represents W.state (rules_of W.physics players extra capacity) me n m
+        → Represents W.state (rules_within W.physics limits) me n m
         → m.played ≡ true → m.settings ≡ Some settings
-        → n.ran ≡ length (demo_rows players m)
+        → n.ran ≡ length (demo_rows limits.players m)
         → W.state n.world ≡ state_after W.physics (written_demo long_tics (start_of settings) me
-        (seats_of players)
-        (demo_rows players m)) }
+        (seats_of limits.players) (demo_rows limits.players m)) }
 {}

@@ -91,9 +91,9 @@ impl<W: World> Node<W> {
         self.lockstep.got(player)
     }
 
-    /// A player's command for a tic, with its letter of chat, which a move lacks: one of the last twelve that it
-    /// has of the player, so that of the next tic to be run is told as soon as it is there. None for another tic,
-    /// and for a number that is no player's.
+    /// A player's command for a tic, with its letter of chat, which a move lacks: one of the last twelve that
+    /// it has of the player, so that of the next tic to be run is told as soon as it is there. None for another
+    /// tic, and for a number that is no player's.
     pub fn command(&self, player: u8, tic: u32) -> Option<TicCmd>
         ensures value { result ≡ command_told (locked (contents self.now)) player tic }
         ensures told { Tells W.state W.physics (contents self.now)

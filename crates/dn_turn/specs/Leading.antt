@@ -1,7 +1,8 @@
 -- What calls on a node make of the node of the machine that it represents.
-use Rattle.std.specs.Prelude.{ℕ, Bool, suc, zero, ◌+◌, ◌%◌, ◌^◌}
+use Rattle.std.specs.Prelude.{ℕ, suc, zero, ◌+◌, ◌%◌, ◌^◌}
 use Rattle.dn_world.specs.Physics.{Physics}
-use Rattle.dn_machine.specs.Worlds.{Rules, rules_of}
+use Rattle.dn_machine.specs.Limits.{Limits}
+use Rattle.dn_machine.specs.Worlds.{Rules, rules_within}
 use Rattle.dn_machine.specs.Node as machine
 use Rattle.dn_node.specs.Contents.{Contents}
 use Rattle.dn_node.specs.Represents.{Represents}
@@ -17,10 +18,9 @@ pub record IsLed {W S : Type 0} (state : W → S) (rules : Rules S) (me : ℕ) (
 abbrev pub Leads : {W S : Type 0} → (W → S) → Physics S → Contents W → Contents W
     → (Rules S → ℕ → machine.Node → machine.Node → Type 0) → Type 0
 Leads {W} {S} state physics old new By =
-    (players : ℕ) (extra : Bool) (capacity me : ℕ) (m : machine.Node)
-    → Represents state (rules_of physics players extra capacity) me old m
-    → IsLed state (rules_of physics players extra capacity) me new
-    (By (rules_of physics players extra capacity) me m)
+    (limits : Limits) (me : ℕ) (m : machine.Node)
+    → Represents state (rules_within physics limits) me old m
+    → IsLed state (rules_within physics limits) me new (By (rules_within physics limits) me m)
 
 -- a count of 64 bits after this many failures
 abbrev pub risen : ℕ → ℕ → ℕ

@@ -1,12 +1,13 @@
 -- Rounds: turns of all nodes, one after another.
-use Rattle.std.specs.Prelude.{◌≡◌, ◌<◌, ℕ, zero, suc, ◌%◌, ◌^◌, Bool, List, Some, slice_get}
+use Rattle.std.specs.Prelude.{◌≡◌, ◌<◌, ℕ, zero, suc, ◌%◌, ◌^◌, List, Some, slice_get}
 use Rattle.rand_pcg.specs.Lcg.{started, advance, increment_of}
 use Rattle.rand_pcg.specs.Pcg.{multiplier_64, pcg32}
 use Rattle.dn_tic.specs.declared.input.Input.{Input}
 use Rattle.dn_tic.specs.declared.input.Input.TheVariants.{Pressed}
 use Rattle.dn_tic.specs.Inputs.{input_of}
 use Rattle.dn_world.specs.Physics.{Physics}
-use Rattle.dn_machine.specs.Worlds.{Rules, rules_of}
+use Rattle.dn_machine.specs.Limits.{Limits}
+use Rattle.dn_machine.specs.Worlds.{Rules, rules_within}
 use Rattle.dn_machine.specs.Node as machine
 use Rattle.dn_machine.specs.Node.{put}
 use Rattle.dn_node.specs.declared.node.Node.{Node}
@@ -31,17 +32,14 @@ drawn_in seed round player = Pressed (keys_in seed round player)
 abbrev pub AreOf : (ℕ → Input) → List Input → Type 0
 AreOf by inputs = (player : ℕ) → player < 4 → input_of inputs player ≡ by player
 
--- a node of the machine in its game: the number of players, whether packets repeat the last command, how
--- many tics fit into a demo, and the node's number
+-- a node of the machine in its game: what never changes for its nodes, and the node's number
 pub record Seat : Type 0 where
-  pub players : ℕ
-  pub extra : Bool
-  pub capacity : ℕ
+  pub limits : Limits
   pub me : ℕ
   pub node : machine.Node
 
 abbrev pub rules_at : {S : Type 0} → Physics S → Seat → Rules S
-rules_at physics seat = rules_of physics seat.players seat.extra seat.capacity
+rules_at physics seat = rules_within physics seat.limits
 
 -- each node represents the one of its seat
 abbrev pub AreSeated : {W S : Type 0} → (W → S) → Physics S → List (Node W) → (ℕ → Seat) → Type 0

@@ -1,6 +1,6 @@
 //! What a node does.
 
-ghost use Rattle.std.specs.Prelude.{◌≡◌, ◌≢◌, ◌<◌, ◌≤◌, ℕ, ◌+◌, length, pos, false, get_or, Some, None, IfSome};
+ghost use Rattle.std.specs.Prelude.{◌≡◌, ◌≢◌, ◌<◌, ◌≤◌, ℕ, ◌+◌, length, pos, false, get_or, Some, None, IfSome, is_some};
 ghost use Rattle.std.specs.Option.{option_map};
 ghost use Rattle.dn_tic.specs.declared.input.Input.{Input as AnyInput};
 ghost use Rattle.dn_tic.specs.declared.input.Input.TheVariants.{Pressed, Given};
@@ -26,7 +26,7 @@ impl<W: World> Node<W> {
     ghost use Rattle.dn_machine.specs.Running.{on_quit};
     ghost use Rattle.dn_node.specs.Contents.{contents, locked};
     ghost use Rattle.dn_node.specs.Giving.{Reaches, Gives, IsSentTo};
-    ghost use Rattle.dn_lockstep.specs.Giving.{IsSilent, aim_in, size_in};
+    ghost use Rattle.dn_lockstep.specs.Giving.{gives, IsSilent, aim_in, size_in};
     ghost use Rattle.dn_lockstep.specs.Commands.{makes, can_make};
     ghost use Rattle.dn_lockstep.specs.Hearing.{Spares};
     ghost use Rattle.dn_node.specs.Steps.{Steps, Tells, HearsAny, HearsNear};
@@ -51,8 +51,8 @@ impl<W: World> Node<W> {
         self.lockstep.build(keys)
     }
 
-    /// Takes the given command for the next tic, where [`Node::build`] would build one. A forward of -128 counts
-    /// as -127. A node that takes none stays as it is.
+    /// Takes the given command for the next tic, where [`Node::build`] would build one. A forward of -128
+    /// counts as -127. A node that takes none stays as it is.
     pub fn give(&mut self, command: Command) -> Made
         ensures step { Steps W.state W.physics (contents self.old) (contents self.new)
             (λ rules me m. on_build rules.limits me m (Given command)) (λ made. result ≡ made) }
@@ -73,14 +73,15 @@ impl<W: World> Node<W> {
         self.lockstep.aim(to)
     }
 
-    /// Writes the next packet to a peer to the front of a room, and answers its exact numbers and how many bytes
-    /// it has; None where there is none.
+    /// Writes the next packet to a peer to the front of a room, and answers its exact numbers and how many
+    /// bytes it has; None where there is none.
     pub fn packet_with_aim(&mut self, to: u8, room: &mut [u8]) -> Option<(Aim, usize)>
         requires { 104 ≤ length room.old }
         ensures sent { IsSentTo W.state W.physics to (contents self.old) (contents self.new) room.old room.new
             (size_in result) }
         ensures aimed { Tells W.state W.physics (contents self.old)
             (λ rules me m. aim_in result ≡ option_map aim_of (sent_to to rules.limits me m).1) }
+        ensures known { is_some result ≡ gives (locked (contents self.old)) to }
         ensures peer { IfSome result (λ given. Gives (contents self.old) to) }
         ensures fair { Tells W.state W.physics (contents self.old)
             (λ rules me m. IfSome (sent_to to rules.limits me m).1 IsFair) }

@@ -1,20 +1,20 @@
 use Rattle.std.proofs.Common.{ap}
 use Rattle.dn_machine.specs.Node.{is_ended}
-use Rattle.dn_machine.specs.Worlds.{rules_of}
+use Rattle.dn_machine.specs.Worlds.{rules_within}
 use Rattle.dn_lockstep.proofs.Replaying.{read_back}
 use Rattle.dn_node.specs.Contents.{locked}
 use Rattle.dn_node.proofs.Replaying.{world_played, world_recorded}
 use Rattle.dn_node.proofs.laws.ended_demos_replay.Goals as goal
 
 pub returns-clause-read : goal.returns-clause-read
-returns-clause-read g c players extra capacity me n m settings cause r played ended known =
-    read_back (rules_of g.W.World.physics players extra capacity).limits me (locked n) m settings r.lockstep played
+returns-clause-read g c limits me n m settings cause r played ended known =
+    read_back limits me (locked n) m settings r.lockstep played
     known (ap is_ended ended)
 
 pub returns-clause-world : goal.returns-clause-world
-returns-clause-world g c players extra capacity me n m settings r played known =
-    world_played _ (rules_of g.W.World.physics players extra capacity) me n m settings r played known
+returns-clause-world g c limits me n m settings r played known =
+    world_played _ (rules_within g.W.World.physics limits) me n m settings r played known
 
 pub returns-clause-played : goal.returns-clause-played
-returns-clause-played g c players extra capacity me n m settings r played known all =
-    world_recorded _ (rules_of g.W.World.physics players extra capacity) me n m settings r played known all
+returns-clause-played g c limits me n m settings r played known all =
+    world_recorded _ (rules_within g.W.World.physics limits) me n m settings r played known all

@@ -1,7 +1,7 @@
 use Rattle.std.proofs.Common.{◌≡◌, ◌<◌, ◌+◌, ℕ, List, Some, None, Result, option_map, ap, sym, ◌∙◌, subst, arith}
 use Rattle.dn_line.specs.Counts.{Done}
 use Rattle.dn_line.specs.declared.line.LineFault.{LineFault}
-use Rattle.dn_machine.specs.Worlds.{rules_of}
+use Rattle.dn_machine.specs.Worlds.{rules_within}
 use Rattle.dn_turn.specs.Giving.{Gives}
 use Rattle.dn_turn.specs.declared.giving.Given.{Given}
 use Rattle.dn_turn.proofs.Packets.{silent, spoken, IsCounted, giving, given_more, counted_once, count_more}
@@ -16,16 +16,16 @@ loop-to-preserved-in_default g c =
       before.0,
       omega (arith, before.1),
       before.2,
-      λ players extra capacity me m r.
-          let so_far = before.3 players extra capacity me m r in
+      λ limits me m r.
+          let so_far = before.3 limits me m r in
           let step = c.packet.ensures.step.step _ me so_far.after so_far.node in
-          let below : c.loop-to.to < players =
+          let below : c.loop-to.to < limits.players =
           omega (arith, c.loop-to-test.true, c.players-to-end.ensures, r.lockstep.whose.players) in
           let none : None ≡ _ = ap (option_map (λ bytes. bytes.items)) (sym c.in_default.is) ∙ step.answer in
           record {
             after = _;
             node = step.node;
-            leads = given_more g.L.Line.sends (rules_of g.W.World.physics players extra capacity) me
+            leads = given_more g.L.Line.sends (rules_within g.W.World.physics limits) me
                 c.loop-to.to None (giving m c.args.line.now (record { sent = 0; failed = 0 })) so_far.after
                 line line given given below so_far.leads
                 (silent g.L.Line.sends me c.loop-to.to _ line none)
@@ -53,10 +53,10 @@ loop-to-preserved g c =
       before.0,
       omega (arith, before.1, counted.sent, counted.failed, counted_once answer),
       c.send.ensures.sends_counted ∙ count_more answer given new _ _ counted before.2,
-      λ players extra capacity me m r.
-          let so_far = before.3 players extra capacity me m r in
+      λ limits me m r.
+          let so_far = before.3 limits me m r in
           let step = c.packet.ensures.step.step _ me so_far.after so_far.node in
-          let below : c.loop-to.to < players =
+          let below : c.loop-to.to < limits.players =
           omega (arith, c.loop-to-test.true, c.players-to-end.ensures, r.lockstep.whose.players) in
           let M : ℕ → Type 0 = λ p. g.L.Line.sends c.loop-to.line p c.loop-to.to c.in-Some.bytes.items answer
           c.send.new.self in
@@ -69,7 +69,7 @@ loop-to-preserved g c =
           record {
             after = _;
             node = step.node;
-            leads = given_more g.L.Line.sends (rules_of g.W.World.physics players extra capacity) me
+            leads = given_more g.L.Line.sends (rules_within g.W.World.physics limits) me
                 c.loop-to.to (Some answer) (giving m c.args.line.now (record { sent = 0; failed = 0 }))
                 so_far.after c.loop-to.line c.send.new.self given new below so_far.leads
                 (spoken g.L.Line.sends me c.loop-to.to _ c.in-Some.bytes.items answer c.loop-to.line
@@ -78,9 +78,9 @@ loop-to-preserved g c =
     )
 
 pub returns-clause-given : goal.returns-clause-given
-returns-clause-given g c players extra capacity me m r =
-    let so_far = c.loop-to.invariant.3 players extra capacity me m r in
-    let all : c.loop-to.to ≡ players =
+returns-clause-given g c limits me m r =
+    let so_far = c.loop-to.invariant.3 limits me m r in
+    let all : c.loop-to.to ≡ limits.players =
     omega (
       arith,
       c.loop-to-test.false,
@@ -88,7 +88,7 @@ returns-clause-given g c players extra capacity me m r =
       c.players-to-end.ensures,
       r.lockstep.whose.players,
     ) in
-    let P : ℕ → Type 0 = λ k. Gives g.L.Line.sends (rules_of g.W.World.physics players extra capacity) me k
+    let P : ℕ → Type 0 = λ k. Gives g.L.Line.sends (rules_within g.W.World.physics limits) me k
     (giving m c.args.line.now (record { sent = 0; failed = 0 }))
     (giving so_far.after c.loop-to.line c.loop-to.given) in
     record { after = so_far.after; node = so_far.node; leads = subst P all so_far.leads }

@@ -4,7 +4,7 @@ use Rattle.dn_turn.specs.Hearing.{Reading}
 use Rattle.dn_turn.proofs.hearing.hear.Goals as goal
 
 pub returns : goal.returns
-returns g c players extra capacity me m r =
+returns g c limits me m r =
     let t = c.are_read.ensures in
     let s = c.receive.ensures.any.step t.read t.told t.is_read t.is_told _ me m r in
     let P : List ℕ → Type 0 = λ bytes. IsReadAs bytes t.read in

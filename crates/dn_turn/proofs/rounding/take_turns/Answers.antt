@@ -35,7 +35,7 @@ loop-place-preserved g c =
           let told : c.input_of-input.result ≡ by c.me.result =
           c.input_of-input.ensures ∙ ap (input_of c.args.inputs.now) c.from.ensures ∙ of c.me.result few in
           let own : c.input_of-input.result ≡ by seat.me = told ∙ ap by mine in
-          let one = c.turn_with.ensures.turned seat.players seat.extra seat.capacity seat.me seat.node shown in
+          let one = c.turn_with.ensures.turned seat.limits seat.me seat.node shown in
           let then : ℕ → Seat = put so_far.after place (record seat { node = one.after }) in
           let K : Input → Type 0 = λ k. IsTurn g.L.Line.sends g.L.Line.polls (rules_at g.W.World.physics seat)
           seat.me k (seat.node, c.loop-place.line) (one.after, c.turn_with.new.line) c.turn_with.result in

@@ -1,5 +1,5 @@
 use Rattle.std.proofs.Common.{ap, sym, ◌∙◌, arith}
-use Rattle.dn_machine.specs.Worlds.{rules_of}
+use Rattle.dn_machine.specs.Worlds.{rules_within}
 use Rattle.dn_turn.specs.Running.{is_ran}
 use Rattle.dn_turn.proofs.Tics.{ran_more, ran_last, not_ran}
 use Rattle.dn_turn.proofs.running.run_all.Goals as goal
@@ -9,24 +9,24 @@ loop-ran-preserved g c =
     let before = c.loop-ran.invariant in
     let one = c.run.ensures.further _ c.in-Ran.is in (
       omega (arith, before.0, one),
-      λ players extra capacity me m r.
-          let so_far = before.1 players extra capacity me m r in
+      λ limits me m r.
+          let so_far = before.1 limits me m r in
           let step = c.run.ensures.step.step _ me so_far.after so_far.node in
           record {
             after = _;
             node = step.node;
-            leads = ran_more (rules_of g.W.World.physics players extra capacity) m c.loop-ran.ran so_far.after
+            leads = ran_more (rules_within g.W.World.physics limits) m c.loop-ran.ran so_far.after
                 so_far.leads (ap is_ran (sym step.answer ∙ c.in-Ran.is));
           },
     )
 
 pub returns : goal.returns
-returns g c players extra capacity me m r =
-    let so_far = c.loop-ran.invariant.1 players extra capacity me m r in
+returns g c limits me m r =
+    let so_far = c.loop-ran.invariant.1 limits me m r in
     let step = c.run.ensures.step.step _ me so_far.after so_far.node in
     record {
       after = _;
       node = step.node;
-      leads = ran_last (rules_of g.W.World.physics players extra capacity) m c.loop-ran.ran so_far.after
+      leads = ran_last (rules_within g.W.World.physics limits) m c.loop-ran.ran so_far.after
           so_far.leads (ap is_ran (sym step.answer) ∙ not_ran c.run.result c.in_default.not-Ran);
     }

@@ -4,11 +4,11 @@ use Rattle.dn_turn.proofs.Packets.{risen_add}
 use Rattle.dn_turn.proofs.turning.turn_with.Goals as goal
 
 pub returns-clause-turned : goal.returns-clause-turned
-returns-clause-turned g c players extra capacity me m r =
+returns-clause-turned g c limits me m r =
     let built = c.make-made.ensures.step _ me m r in
-    let given = c.give_all-given.ensures.given players extra capacity me _ built.node in
-    let heard = c.hear_all-polled.ensures.heard players extra capacity me given.after given.node in
-    let run = c.run_all-ran.ensures players extra capacity me heard.after heard.node in
+    let given = c.give_all-given.ensures.given limits me _ built.node in
+    let heard = c.hear_all-polled.ensures.heard limits me given.after given.node in
+    let run = c.run_all-ran.ensures limits me heard.after heard.node in
     record {
       after = run.after;
       node = run.node;
