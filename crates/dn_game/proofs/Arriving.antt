@@ -1,5 +1,5 @@
 -- A packet that is delivered as soon as it is sent, and a round of such packets.
-use Rattle.std.proofs.Common.{◌≡◌, ◌≢◌, ℕ, zero, suc, List, [], ◌∷◌, map, ◌<◌, ◌+◌, append_assoc, true, false, true≢false, ◌∙◌, ◌++◌, length, Result, Ok, Err, refl, ap, sym, subst, inl, inr, arith}
+use Rattle.std.proofs.Common.{◌≡◌, ◌≢◌, ℕ, zero, suc, List, [], ◌∷◌, map, ◌<◌, ◌+◌, append_assoc, true, false, true≢false, ◌∙◌, ◌++◌, ◌^◌, length, Result, Ok, Err, refl, ap, sym, subst, inl, inr, arith}
 use Rattle.std.specs.Prelude.{OnErr}
 use Rattle.dn_tic.specs.declared.input.Input.{Input}
 use Rattle.dn_tic.specs.declared.input.Input.TheVariants.{Pressed, Given}
@@ -84,10 +84,11 @@ module _ {W S : Type 0} (state : W → S) (rules : Rules S) where
 
   -- nor was it where the send is left out
   pub left_out : {A : Type 0} (node to : ℕ) (m : Game) (old new : Contents W) (answer : Result A Refusal)
-      → Represents state rules old m → answer ≡ Err Refusal.Memory → OnErr answer (new ≡ old)
-      → IsCutShort state rules (exchange_events node m to) m new
-  left_out node to m old new answer r is kept = let same : new ≡ old = rw is at kept in
-      not_begun node to m new (rw same r)
+      → length old.flights < 2 ^ 32 → Represents state rules old m → answer ≡ Err Refusal.Memory
+      → OnErr answer (new ≡ old)
+      → IsUnsent new RoundFault.Memory × IsCutShort state rules (exchange_events node m to) m new
+  left_out node to m old new answer few r is kept = let same : new ≡ old = rw is at kept in
+      (rw same few, not_begun node to m new (rw same r))
 
   -- a part that was cut short cuts the whole short
   pub within : (front part rest : List Event) (m mid : Game) (g : Contents W) → mid ≡ after_all rules front m

@@ -1,9 +1,9 @@
 -- How much memory a game has.
 use Rattle.std.specs.Prelude.{◌≡◌}
 use Rattle.dn_game.specs.declared.game.Game.{Game}
-use Rattle.dn_game.specs.Contents.{Contents}
+use Rattle.dn_game.specs.Contents.{Contents, contents}
 use Rattle.dn_game.specs.Fresh.{whose_of}
-use Rattle.dn_game.specs.Pool.{Room, HasRoom}
+use Rattle.dn_game.specs.Pool.{Room, LacksRoom}
 
 -- for its packets
 abbrev pub room_of : {W : Type 0} → Game W → Room
@@ -11,7 +11,7 @@ room_of game = game.pool.room
 
 -- it has no memory for one more packet
 abbrev pub IsFull : {W : Type 0} → Game W → Type 0
-IsFull game = ¬ HasRoom game.pool
+IsFull game = LacksRoom (room_of game) (contents game).flights
 
 -- each node is whose it was, so its demo has the limit that it had, which is how many bytes it has memory for
 abbrev pub KeepsWhose : {W : Type 0} → Contents W → Contents W → Type 0

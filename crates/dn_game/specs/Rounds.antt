@@ -1,7 +1,7 @@
 -- Rounds in which the packets arrive.
 use Rattle.dn_tic.specs.declared.input.Input.{Input}
 use Rattle.dn_tic.specs.declared.input.Input.TheVariants.{Pressed}
-use Rattle.std.specs.Prelude.{◌≡◌, ◌≤◌, ◌^◌, ◌∷◌, ◌++◌, ℕ, List, slice_index_or, length, Result, Ok, Err}
+use Rattle.std.specs.Prelude.{◌≡◌, ◌<◌, ◌≤◌, ◌^◌, ◌∷◌, ◌++◌, ℕ, List, slice_index_or, length, Result, Ok, Err}
 use Rattle.dn_machine.specs.declared.events.Event.{Event}
 use Rattle.dn_machine.specs.declared.events.Event.TheVariants.{Send}
 use Rattle.dn_machine.specs.Game as machine
@@ -27,10 +27,10 @@ pub record IsCutShort {W S : Type 0} (state : W → S) (rules : Rules S) (events
   pub whole : events ≡ done ++ Send node to ∷ rest
   pub game : Represents state rules g (after_all rules done m)
 
--- why a round stops before a packet: there is no memory for it, or 2^32 packets were sent and no event can name
--- the next
+-- why a round stops before a packet: 2^32 packets were sent and no event can name the next; or an event can,
+-- and there is no memory for it
 abbrev pub IsUnsent : {W : Type 0} → Contents W → RoundFault → Type 0
-IsUnsent g Memory = Unit {0}
+IsUnsent g Memory = length g.flights < 2 ^ 32
 IsUnsent g Packets = 2 ^ 32 ≤ length g.flights
 
 -- every packet arrived, and the game represents the result; or the events were cut short

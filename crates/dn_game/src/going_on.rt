@@ -93,7 +93,8 @@ pub fn play_on_with<W: World>(
     ensures promised { IfOk result (λ played. HasPlayedOn W.state
         (rules_in W.physics config (length worlds.items)) config.settings events.now (input_of inputs.now) rounds
         played) }
-    // Where a round stops, the events before some send of the rounds were applied.
+    // Where a round stops, the events before some send of the rounds were applied. Of `Memory` nothing more is
+    // said here, since the game is given up: that there was no room is a clause of the rounds.
     ensures stopped { (fault : RoundFault) → result ≡ Err (Round fault) → HasBrokenOff W.state
         (rules_in W.physics config (length worlds.items)) config.settings events.now (input_of inputs.now) rounds
         fault }

@@ -3,7 +3,7 @@
 ghost use Rattle.std.specs.Prelude.{◌≡◌, ◌<◌, ◌≤◌, ◌+◌, ◌++◌, ◌∷◌, [], length, Some, OnOk, OnErr, slice_get, vec_len};
 ghost use Rattle.std.specs.Vec.{vec_capacity};
 ghost use Rattle.dn_game.specs.declared.flight.Flight.{Flight};
-ghost use Rattle.dn_game.specs.Pool.{HasGrown, HasRoom, IsRecordOf, grown, joined};
+ghost use Rattle.dn_game.specs.Pool.{HasGrown, HasRoom, IsRecordOf, LacksRoom, grown, joined};
 
 use crate::flight::Flight;
 use arrayvec::ArrayVec;
@@ -67,7 +67,7 @@ fn append(bytes: &mut Vec<u8>, more: &[u8])
 impl Model for Pool {
     ghost use Rattle.std.specs.Prelude.{◌-◌, vec_len};
     ghost use Rattle.std.specs.Vec.{vec_capacity};
-    ghost use Rattle.dn_game.specs.Pool.{Pool as Packets, Room, ArePacked, flights_in};
+    ghost use Rattle.dn_game.specs.Pool.{Pool as Packets, ArePacked, flights_in};
 
     ghost Value = { Packets };
 
@@ -148,7 +148,7 @@ impl Pool {
     pub(crate) fn reserve(&mut self) -> Result<(), AllocError>
         ensures kept { self.new.flights ≡ self.old.flights }
         ensures room { OnOk result (HasRoom self.new) }
-        ensures full { OnErr result (¬ HasRoom self.new) }
+        ensures full { OnErr result (LacksRoom self.new.room self.new.flights) }
         ensures grown { HasGrown self.old.flights self.old.room self.new.room }
     {
         grow(&mut self.bytes, MAX_DATAGRAM)?;

@@ -21,7 +21,7 @@ use thiserror::Error;
 /// Why a round stopped before a packet was sent.
 #[derive(Clone, Copy, Debug, PartialEq, Eq, Error)]
 pub enum RoundFault {
-    /// There was no room for the packet.
+    /// There was no room for one more packet.
     #[error("out of memory")]
     Memory,
     /// 2^32 packets were sent, and no event can name the next.
@@ -96,8 +96,8 @@ impl<W: World> Game<W> {
     /// A round in which every packet arrives: each node in turn builds the command of its input, or takes the
     /// one that is given, sends each other node a packet, which is delivered, and runs a tic.
     ///
-    /// It stops before a packet for which there is no memory, and where 2^32 packets were sent already; what
-    /// was done by then stays.
+    /// It stops before a send where there is no room for one more packet, and where 2^32 packets were sent
+    /// already; what was done by then stays.
     pub fn good_round_with(&mut self, inputs: &[Input; 4]) -> Result<(), RoundFault>
         ensures good { Tells W.state W.physics (contents self.old) (λ rules m.
             IsCarriedOut W.state rules m (round_events rules (input_of inputs.now) m)

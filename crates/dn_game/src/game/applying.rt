@@ -30,7 +30,7 @@ impl<W: World> Game<W> {
     fn refused_at(&self, node: u32) -> Option<Refusal>
         ensures told { Tells W.state W.physics (contents self.now)
             (λ rules m. result ≡ refused_at rules.players m node) }
-        ensures other { result ≢ Some Refusal.Memory }
+        ensures not_memory { result ≢ Some Refusal.Memory }
         ensures there { result ≡ None → node < length (contents self.now).nodes }
     {
         if !self.is_player(node) {
@@ -46,7 +46,7 @@ impl<W: World> Game<W> {
     pub(crate) fn refused_flight(&self, which: u32) -> Option<Refusal>
         ensures told { Tells W.state W.physics (contents self.now)
             (λ rules m. result ≡ refused_flight m (slice_get m.flights which)) }
-        ensures other { result ≢ Some Refusal.Memory }
+        ensures not_memory { result ≢ Some Refusal.Memory }
         ensures there { result ≡ None → which < length (contents self.now).flights }
     {
         let which = which as usize;
@@ -68,7 +68,7 @@ impl<W: World> Game<W> {
     fn refused(&self, event: Event) -> Option<Refusal>
         ensures told { Tells W.state W.physics (contents self.now)
             (λ rules m. result ≡ refused rules.players m event) }
-        ensures other { result ≢ Some Refusal.Memory }
+        ensures not_memory { result ≢ Some Refusal.Memory }
         ensures there { result ≡ None → IsAddressed (contents self.now) event }
     {
         match event {
@@ -131,7 +131,8 @@ impl<W: World> Game<W> {
         ensures applied { Tells W.state W.physics (contents self.old)
             (λ rules m. IsApplied W.state rules (contents self.old) (contents self.new) m event result) }
         ensures unchanged { OnErr result (contents self.new ≡ contents self.old) }
-        // `Memory` is answered where there is no room for one more packet, and more memory was asked for.
+        // `Memory` is answered only where there is no room for one more packet; that more was asked for is
+        // tested.
         ensures memory { result ≡ Err Refusal.Memory → IsFull self.new }
         // Whatever events led to the game: they and this one lead to what it is afterwards.
         ensures carried { IsCarriedOn W.state W.physics (contents self.old) (contents self.new) event result }

@@ -1,4 +1,4 @@
-use Rattle.std.proofs.Common.{◌≤◌, ◌^◌, length, true≢false, sym, ◌∙◌, rules}
+use Rattle.std.proofs.Common.{◌<◌, ◌≤◌, ◌^◌, length, true≢false, sym, ◌∙◌, rules, arith}
 use Rattle.dn_machine.specs.Worlds.{rules_of}
 use Rattle.dn_game.proofs.Arriving.{exchanges, left_out, not_begun}
 use Rattle.dn_game.proofs.Recent.{flights_are}
@@ -19,7 +19,9 @@ returns-clause-whose g c = c.apply-2.ensures.whose ∙ c.apply.ensures.whose
 pub returns-then-is_left_out-clause-good : goal.returns-then-is_left_out-clause-good
 returns-then-is_left_out-clause-good g c players extra capacity m r =
     let rules = rules_of g.W.World.physics players extra capacity in
-    (tt, left_out _ rules c.args.node c.args.to m _ _ c.apply.result r (c.is_left_out.ensures.0 c.if-is_left_out.true) c.apply.ensures.unchanged)
+    let few : length c.args.self.now.pool.flights < 2 ^ 32 = omega (arith, c.in-Ok.ensures, c.flights.ensures) in
+    left_out _ rules c.args.node c.args.to m _ _ c.apply.result few r
+    (c.is_left_out.ensures.0 c.if-is_left_out.true) c.apply.ensures.unchanged
 
 pub returns-in_default-clause-good : goal.returns-in_default-clause-good
 returns-in_default-clause-good g c players extra capacity m r =
