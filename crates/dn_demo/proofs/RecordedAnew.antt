@@ -1,5 +1,5 @@
 -- A demo that was read, recorded row by row.
-use Rattle.std.proofs.Common.{◌≡◌, ◌<◌, ◌≤◌, ℕ, ◌+◌, ◌-◌, ◌*◌, ◌/◌, Bool, true, false, List, [], ◌∷◌, ◌++◌, length, nat_le, take, slice_get, Option, Some, Ok, sym, ap, ◌∙◌, subst, arith}
+use Rattle.std.proofs.Common.{◌≡◌, ◌<◌, ◌≤◌, ℕ, ◌+◌, ◌-◌, ◌*◌, ◌/◌, Bool, false, List, [], ◌∷◌, ◌++◌, length, nat_le, take, slice_get, Option, Some, Ok, sym, ap, ◌∙◌, subst, arith}
 use Rattle.std.proofs.lemmas.List.{take_more, length-map}
 use Rattle.std.proofs.lemmas.Option.{slice_get_within, get_or_from_slice_get}
 use Rattle.dn_tic.specs.declared.command.Move.{Move}
@@ -7,7 +7,7 @@ use Rattle.dn_setup.specs.declared.start.Start.{Start}
 use Rattle.dn_setup.specs.Starts.{bit}
 use Rattle.dn_world.specs.Physics.{Physics}
 use Rattle.std.proofs.Math.Nat.{mul-div-le}
-use Rattle.std.proofs.lemmas.Bool.{le-leb}
+use Rattle.std.proofs.lemmas.Bool.{le-leb, leb-true}
 use Rattle.dn_demo.specs.Layout.{Layout, long_tics, command_size}
 use Rattle.dn_demo.specs.Rows.{IsRow, player_count}
 use Rattle.dn_demo.specs.Places.{place, seats_in, moves_from, commands_in, HasNoMarker}
@@ -63,10 +63,11 @@ upgraded_played physics bytes demo new limit recorder fits read upgraded again =
 pub row_fits : (limit players tic tics capacity len row : ℕ) → len ≡ place long_tics (players * tic)
     → row ≡ command_size long_tics * players
     → ((n : ℕ) → nat_le (recorded_size players n) limit ≡ nat_le n capacity) → tic < tics → tics ≤ capacity
-    → nat_le (len + row + 1) limit ≡ true
+    → len + row + 1 ≤ limit
 row_fits limit players tic tics capacity len row e f fits below within =
     let same : len + row + 1 ≡ recorded_size players (tic + 1) = omega arith in
-    ap (λ n. nat_le n limit) same ∙ fits (tic + 1) ∙ le-leb (tic + 1) capacity (omega arith)
+    leb-true (len + row + 1) limit
+    (ap (λ n. nat_le n limit) same ∙ fits (tic + 1) ∙ le-leb (tic + 1) capacity (omega arith))
 
 -- the row of a tic can be written by a recorder of the same players
 pub row_recordable : (layout : Layout) (bytes kept : List ℕ) (after : ℕ) (demo : Recording)

@@ -1,6 +1,6 @@
 -- How a demo's commands are laid out, by its version (g_game.c, G_WriteDemoTiccmd and G_ReadDemoTiccmd).
 -- Layouts differ in the version and in the bytes of a turn.
-use Rattle.std.specs.Prelude.{ℕ, ◌+◌, ◌*◌, ◌/◌, ℤ, List, [], ◌∷◌, ◌++◌, ◌==◌, if◌then◌else◌, take, drop, slice_index, Option, Some, None}
+use Rattle.std.specs.Prelude.{ℕ, Bool, ◌+◌, ◌*◌, ◌/◌, ℤ, List, [], ◌∷◌, ◌++◌, ◌==◌, if◌then◌else◌, take, drop, slice_index, Option, Some, None}
 use Rattle.std.specs.Int.{w8, w16, cast_signed, cast_unsigned, to_le_bytes, from_le_bytes}
 use Rattle.dn_tic.specs.declared.command.Move.{Move}
 use Rattle.dn_setup.specs.Setup as setup
@@ -47,6 +47,10 @@ layout_of_version version =
 abbrev pub layout_of : declared.Layout → Layout
 layout_of Vanilla = vanilla
 layout_of LongTics = long_tics
+
+-- the layout by whether it is that of version 111
+abbrev pub layout_by : Bool → Layout
+layout_by long = if long then long_tics else vanilla
 
 -- how many bytes a command has: forward, side, the turn and the buttons
 abbrev pub command_size : Layout → ℕ

@@ -1,13 +1,11 @@
 //! A demo that is fed in pieces.
 
-ghost use Rattle.std.specs.Prelude.{◌≡◌, ◌≢◌, ◌<◌, ◌≤◌, ℕ, ◌+◌, ◌%◌, Bool, true, false, List, [], ◌∷◌, ◌++◌, length, Some, None, IfSome, IfNone};
+ghost use Rattle.std.specs.Prelude.{◌≡◌, ◌≢◌, ◌<◌, ◌≤◌, ℕ, ◌+◌, ◌%◌, true, false, List, [], ◌∷◌, ◌++◌, length, Some, None, IfSome, IfNone};
 ghost use Rattle.dn_demo.specs.Layout as specs;
 ghost use Rattle.dn_demo.specs.Layout.{layout_of, command_size};
-ghost use Rattle.dn_demo.specs.Rows.{player_count};
 ghost use Rattle.dn_demo.specs.Text.{header_size, marker};
-ghost use Rattle.dn_demo.specs.Places.{seats_in};
 ghost use Rattle.dn_demo.specs.Reading.{HasHeader};
-ghost use Rattle.dn_demo.specs.Feeding.{Feeding, Shows, Takes, TakesFront, row_size};
+ghost use Rattle.dn_demo.specs.Feeding.{Feeding, Shows, Takes, TakesFront};
 ghost use Rattle.dn_demo.specs.Fed.{EndsAs};
 ghost use Rattle.dn_demo.specs.Listed.{told, EndsRow, Lists, IsBehindTic, TellsFront};
 
@@ -90,13 +88,15 @@ impl<W: World> Feed<W> {
         self.tics
     }
 
-    /// How the commands are laid out, once the header is whole and somebody plays.
+    /// How the commands are laid out, from a whole header in which somebody plays up to the marker.
     fn layout(&self) -> Option<Layout>
         ensures some { IfSome result (λ layout. HasHeader (layout_of layout) self.now.header) }
         ensures whole { IfSome result (λ layout. header_size ≤ self.now.taken) }
-        ensures none { IfNone result ((layout : specs.Layout) → ¬ HasHeader layout self.now.header) }
+        ensures unmarked { IfSome result (λ layout. self.now.marked ≡ false) }
+        ensures none { IfNone result (self.now.marked ≡ false → (layout : specs.Layout)
+            → ¬ HasHeader layout self.now.header) }
     {
-        if (self.taken as usize) < HEADER {
+        if (self.taken as usize) < HEADER || self.marked {
             return None;
         }
         demo::open(&self.header).ok()
@@ -223,10 +223,6 @@ impl<W: World> Feed<W> {
             self.pass(piece);
             return &piece[piece.len()..];
         };
-        if self.marked {
-            self.pass(piece);
-            return &piece[piece.len()..];
-        }
         let rest = self.take_rows(piece, layout);
         if rest.is_empty() {
             return rest;
@@ -251,10 +247,6 @@ impl<W: World> Feed<W> {
             self.pass(&[byte]);
             return None;
         };
-        if self.marked {
-            self.pass(&[byte]);
-            return None;
-        }
         self.take_command(byte, layout)
     }
 

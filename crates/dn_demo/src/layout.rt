@@ -2,7 +2,7 @@
 
 ghost use Rattle.std.specs.Prelude.{◌≡◌, ◌<◌, ◌^◌, length};
 ghost use Rattle.std.specs.Option.{option_map};
-ghost use Rattle.dn_demo.specs.Layout.{layout_of, layout_of_version, command_size, tell};
+ghost use Rattle.dn_demo.specs.Layout.{layout_of, layout_by, layout_of_version, command_size, tell};
 ghost use Rattle.dn_demo.specs.Places.{place};
 
 use dn_setup::VERSION;
@@ -38,6 +38,18 @@ impl Layout {
             VANILLA => Some(Layout::Vanilla),
             VERSION => Some(Layout::LongTics),
             _ => None,
+        }
+    }
+
+    /// The layout of version 111, or that of 109.
+    #[inline(always)]
+    pub(crate) fn by(long: bool) -> Layout
+        ensures { layout_of result ≡ layout_by long }
+    {
+        if long {
+            Layout::LongTics
+        } else {
+            Layout::Vanilla
         }
     }
 

@@ -1,9 +1,9 @@
 //! Where things stand in the bytes of a demo.
 
-ghost use Rattle.std.specs.Prelude.{◌≡◌, ◌≢◌, ◌≤◌, ℕ, ◌+◌, ◌*◌, Bool, List, length, slice_get, Some, [], ◌∷◌, ◌++◌, IfSome, IfNone};
+ghost use Rattle.std.specs.Prelude.{◌≡◌, ◌≤◌, ℕ, ◌+◌, ◌*◌, Bool, List, length, Some, [], ◌∷◌, ◌++◌, IfSome, IfNone};
 ghost use Rattle.dn_demo.specs.Layout.{layout_of, command_size};
 ghost use Rattle.dn_demo.specs.Rows.{player_count};
-ghost use Rattle.dn_demo.specs.Text.{marker, header_size};
+ghost use Rattle.dn_demo.specs.Text.{header_size};
 ghost use Rattle.dn_demo.specs.Places.{start_in, seats_in, place, commands_in, move_at, moves_from, EndsBehind, IsUnmarked};
 
 use crate::layout::{HEADER, Layout, MARKER};

@@ -1,7 +1,7 @@
 //! Stepping a world straight from the bytes of rows.
 
 ghost use Rattle.std.specs.Prelude.{◌≡◌, ◌≢◌, ◌<◌, ◌≤◌, ℕ, ◌*◌, true, false, [], ◌∷◌, length, slice_get, Some};
-ghost use Rattle.dn_demo.specs.Layout.{layout_of, vanilla, long_tics, command_size};
+ghost use Rattle.dn_demo.specs.Layout.{layout_of, layout_by, command_size};
 ghost use Rattle.dn_demo.specs.Rows.{player_count};
 ghost use Rattle.dn_demo.specs.Text.{marker};
 ghost use Rattle.dn_demo.specs.Feeding.{StepsRows};
@@ -55,101 +55,50 @@ fn step_rows<'a, W: World>(
 // it uses, and where the players are, in registers: behind a reference the world would be read and written
 // for each row.
 
-/// Steps a world by rows of two players in version 109.
+/// Steps a world by rows of the first two players, and of the third and the fourth where they play.
 #[inline(never)]
-fn two_vanilla<'a, W: World>(world: W, piece: &'a [u8]) -> (W, &'a [u8])
-    ensures { StepsRows W.state W.physics vanilla (true ∷ true ∷ false ∷ false ∷ []) world piece.now result.1.now
-        result.0 }
-{
-    step_rows(world, piece, Layout::Vanilla, [true, true, false, false])
-}
-
-/// Steps a world by rows of three players in version 109.
-#[inline(never)]
-fn three_vanilla<'a, W: World>(world: W, piece: &'a [u8]) -> (W, &'a [u8])
-    ensures { StepsRows W.state W.physics vanilla (true ∷ true ∷ true ∷ false ∷ []) world piece.now result.1.now
-        result.0 }
-{
-    step_rows(world, piece, Layout::Vanilla, [true, true, true, false])
-}
-
-/// Steps a world by rows of four players in version 109.
-#[inline(never)]
-fn four_vanilla<'a, W: World>(world: W, piece: &'a [u8]) -> (W, &'a [u8])
-    ensures { StepsRows W.state W.physics vanilla (true ∷ true ∷ true ∷ true ∷ []) world piece.now result.1.now
-        result.0 }
-{
-    step_rows(world, piece, Layout::Vanilla, [true, true, true, true])
-}
-
-/// Steps a world by rows of two players in version 111.
-#[inline(never)]
-fn two_long_tics<'a, W: World>(world: W, piece: &'a [u8]) -> (W, &'a [u8])
-    ensures { StepsRows W.state W.physics long_tics (true ∷ true ∷ false ∷ false ∷ []) world piece.now
+fn step_seated<'a, W: World, const LONG: bool, const THIRD: bool, const FOURTH: bool>(
+    world: W,
+    piece: &'a [u8],
+) -> (W, &'a [u8])
+    ensures { StepsRows W.state W.physics (layout_by LONG) (true ∷ true ∷ THIRD ∷ FOURTH ∷ []) world piece.now
         result.1.now result.0 }
 {
-    step_rows(world, piece, Layout::LongTics, [true, true, false, false])
+    step_rows(world, piece, Layout::by(LONG), [true, true, THIRD, FOURTH])
 }
 
-/// Steps a world by rows of three players in version 111.
-#[inline(never)]
-fn three_long_tics<'a, W: World>(world: W, piece: &'a [u8]) -> (W, &'a [u8])
-    ensures { StepsRows W.state W.physics long_tics (true ∷ true ∷ true ∷ false ∷ []) world piece.now result.1.now
+/// Steps a world by rows of any players.
+fn step_any<'a, W: World, const LONG: bool>(world: W, given: (&'a [u8], [bool; 4])) -> (W, &'a [u8])
+    requires { 0 < player_count given.1 }
+    ensures { StepsRows W.state W.physics (layout_by LONG) given.entry.1 world given.entry.0.now result.1.now
         result.0 }
 {
-    step_rows(world, piece, Layout::LongTics, [true, true, true, false])
-}
-
-/// Steps a world by rows of four players in version 111.
-#[inline(never)]
-fn four_long_tics<'a, W: World>(world: W, piece: &'a [u8]) -> (W, &'a [u8])
-    ensures { StepsRows W.state W.physics long_tics (true ∷ true ∷ true ∷ true ∷ []) world piece.now result.1.now
-        result.0 }
-{
-    step_rows(world, piece, Layout::LongTics, [true, true, true, true])
-}
-
-/// Steps a world by rows of any players in version 109.
-fn any_vanilla<'a, W: World>(world: W, given: (&'a [u8], [bool; 4])) -> (W, &'a [u8])
-    requires { 0 < player_count given.1 }
-    ensures { StepsRows W.state W.physics vanilla given.entry.1 world given.entry.0.now result.1.now result.0 }
-{
     let (piece, present) = given;
-    step_rows(world, piece, Layout::Vanilla, present)
+    step_rows(world, piece, Layout::by(LONG), present)
 }
 
-/// Steps the world by rows of version 109.
-fn step_vanilla<'a, W: World>(world: &mut W, piece: &'a [u8], present: [bool; 4]) -> &'a [u8]
+/// Steps the world by rows of one layout.
+fn step_in<'a, W: World, const LONG: bool>(
+    world: &mut W,
+    piece: &'a [u8],
+    present: [bool; 4],
+) -> &'a [u8]
     requires { 0 < player_count present }
-    ensures { StepsRows W.state W.physics vanilla present world.old piece.now result.now world.new }
+    ensures { StepsRows W.state W.physics (layout_by LONG) present world.old piece.now result.now world.new }
 {
     match present {
-        [true, true, false, false] => replace_with(world, piece, two_vanilla),
-        [true, true, true, false] => replace_with(world, piece, three_vanilla),
-        [true, true, true, true] => replace_with(world, piece, four_vanilla),
-        _ => replace_with(world, (piece, present), any_vanilla),
-    }
-}
-
-/// Steps a world by rows of any players in version 111.
-fn any_long_tics<'a, W: World>(world: W, given: (&'a [u8], [bool; 4])) -> (W, &'a [u8])
-    requires { 0 < player_count given.1 }
-    ensures { StepsRows W.state W.physics long_tics given.entry.1 world given.entry.0.now result.1.now result.0 }
-{
-    let (piece, present) = given;
-    step_rows(world, piece, Layout::LongTics, present)
-}
-
-/// Steps the world by rows of version 111.
-fn step_long_tics<'a, W: World>(world: &mut W, piece: &'a [u8], present: [bool; 4]) -> &'a [u8]
-    requires { 0 < player_count present }
-    ensures { StepsRows W.state W.physics long_tics present world.old piece.now result.now world.new }
-{
-    match present {
-        [true, true, false, false] => replace_with(world, piece, two_long_tics),
-        [true, true, true, false] => replace_with(world, piece, three_long_tics),
-        [true, true, true, true] => replace_with(world, piece, four_long_tics),
-        _ => replace_with(world, (piece, present), any_long_tics),
+        [true, true, false, false] => replace_with(
+            world,
+            piece,
+            step_seated::<W, LONG, false, false>,
+        ),
+        [true, true, true, false] => replace_with(
+            world,
+            piece,
+            step_seated::<W, LONG, true, false>,
+        ),
+        [true, true, true, true] => replace_with(world, piece, step_seated::<W, LONG, true, true>),
+        _ => replace_with(world, (piece, present), step_any::<W, LONG>),
     }
 }
 
@@ -164,7 +113,7 @@ pub(crate) fn step_all<'a, W: World>(
     ensures { StepsRows W.state W.physics (layout_of layout) present world.old piece.now result.now world.new }
 {
     match layout {
-        Layout::Vanilla => step_vanilla(world, piece, present),
-        Layout::LongTics => step_long_tics(world, piece, present),
+        Layout::Vanilla => step_in::<W, false>(world, piece, present),
+        Layout::LongTics => step_in::<W, true>(world, piece, present),
     }
 }

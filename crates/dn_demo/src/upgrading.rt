@@ -43,8 +43,7 @@ pub fn upgrade(alloc: Global, demo: &Demo, limit: u32) -> Result<Recorder, Upgra
     recorder.head(&demo.start(), demo.view(), present);
     let bytes = demo.bytes.as_slice();
     for tic in 0..tics {
-        // this fits, since all tics do
-        recorder.row(&reading::row(bytes, demo.layout, present, players * tic));
+        recorder.add_row(&reading::row(bytes, demo.layout, present, players * tic));
     }
     recorder.close();
     Ok(recorder)

@@ -4,12 +4,12 @@ ghost use Rattle.std.specs.Prelude.{◌≡◌, ◌≤◌, length};
 ghost use Rattle.dn_demo.specs.Layout.{long_tics, spell};
 ghost use Rattle.dn_demo.specs.Text.{header, move_bytes, row_bytes};
 
-use crate::layout::COMMAND;
+use crate::layout::{COMMAND, HEADER};
 use dn_setup::{Start, VERSION};
 use dn_tic::Move;
 
 /// The bytes that a demo begins with.
-pub(crate) fn header_bytes(start: &Start, view: u8, present: [bool; 4]) -> [u8; 13]
+pub(crate) fn header_bytes(start: &Start, view: u8, present: [bool; 4]) -> [u8; HEADER]
     ensures { result ≡ header long_tics start.now view present }
 {
     let [a, b, c, d] = present;
@@ -31,7 +31,7 @@ pub(crate) fn header_bytes(start: &Start, view: u8, present: [bool; 4]) -> [u8; 
 }
 
 /// The bytes of a move.
-pub(crate) fn command_bytes(step: Move) -> [u8; 5]
+pub(crate) fn command_bytes(step: Move) -> [u8; COMMAND]
     ensures { result ≡ spell long_tics step }
 {
     let [low, high] = step.turn.cast_unsigned().to_le_bytes();

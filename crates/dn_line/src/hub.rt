@@ -4,11 +4,14 @@ ghost use Rattle.std.specs.Prelude.{◌≡◌, ◌⊎◌, ◌<◌, ◌≤◌, �
 ghost use Rattle.dn_line.specs.Hub.{empty_hub, is_taken, queue, hub_taken, hub_given, HubSends, HubPolls, front};
 ghost use Rattle.dn_line.specs.declared.hub.HubFault.TheVariants.{Players};
 
-use crate::line::{Datagram, KEPT, Line, LineFault};
+use crate::line::{Datagram, KEPT, Line, LineFault, count_after};
 use arrayvec::ArrayVec;
 use std::alloc::Global;
 use std::marker::Model;
 use thiserror::Error;
+
+/// How many datagrams a queue holds.
+const QUEUE: usize = 64;
 
 /// Why there is no hub.
 #[derive(Clone, Copy, Debug, PartialEq, Eq, Error)]
@@ -24,7 +27,7 @@ pub enum HubFault {
 /// A line in memory: a queue of 64 datagrams for each player. It loses nothing that it took.
 #[derive(Debug, Drop)]
 pub struct MemoryHub {
-    queues: Vec<ArrayVec<Datagram, 64>>,
+    queues: Vec<ArrayVec<Datagram, QUEUE>>,
     failed: u64,
 }
 
@@ -123,17 +126,13 @@ impl Line for MemoryHub {
 
     fn send(&mut self, me: u8, to: u8, bytes: &[u8]) -> Result<(), LineFault> {
         let answer = self.take(me, to, bytes);
-        if answer.is_err() {
-            self.failed = self.failed.wrapping_add(1);
-        }
+        self.failed = count_after(&answer, self.failed);
         answer
     }
 
     fn poll(&mut self, me: u8) -> Result<Option<Datagram>, LineFault> {
         let answer = self.give(me);
-        if answer.is_err() {
-            self.failed = self.failed.wrapping_add(1);
-        }
+        self.failed = count_after(&answer, self.failed);
         answer
     }
 }

@@ -4,7 +4,7 @@ ghost use Rattle.std.specs.Prelude.{◌≡◌, ◌⊎◌, ◌<◌, ◌≤◌, �
 ghost use Rattle.dn_line.specs.Udp.{IsBase, is_bound, is_route, UdpSends, UdpPolls};
 ghost use Rattle.dn_line.specs.declared.line.LineFault.TheVariants.{Bind, Send, Poll};
 
-use crate::line::{Datagram, KEPT, Line, LineFault};
+use crate::line::{Datagram, KEPT, Line, LineFault, count_after};
 use arrayvec::ArrayVec;
 use std::alloc::Global;
 use std::io;
@@ -178,17 +178,13 @@ impl Line for UdpLine {
 
     fn send(&mut self, me: u8, to: u8, bytes: &[u8]) -> Result<(), LineFault> {
         let answer = self.put(me, to, bytes);
-        if answer.is_err() {
-            self.failed = self.failed.wrapping_add(1);
-        }
+        self.failed = count_after(&answer, self.failed);
         answer
     }
 
     fn poll(&mut self, me: u8) -> Result<Option<Datagram>, LineFault> {
         let answer = self.get(me);
-        if answer.is_err() {
-            self.failed = self.failed.wrapping_add(1);
-        }
+        self.failed = count_after(&answer, self.failed);
         answer
     }
 }

@@ -1,12 +1,12 @@
 use Rattle.std.proofs.lemmas.Bool.Decides.{nat_tests}
-use Rattle.std.proofs.Common.{◌≡◌, ◌<◌, ◌+◌, ◌*◌, ◌∙◌, [], false, true, length, nat_le, Some, sym, ap, arith, rules, take, length-append, ℕ, List, Option}
+use Rattle.std.proofs.Common.{◌≡◌, ◌<◌, ◌*◌, ◌∙◌, [], false, true, length, nat_le, Some, sym, ap, arith, rules, take, length-append, ℕ, List, Option}
 use Rattle.std.proofs.Math.Seq.{take-length}
 use Rattle.std.proofs.lemmas.Bool.{le-leb}
 use Rattle.dn_tic.specs.declared.command.Move.{Move}
 use Rattle.dn_demo.specs.Layout.{layout_of, long_tics, command_size}
 use Rattle.dn_demo.specs.Rows.{player_count}
 use Rattle.dn_demo.specs.Places.{seats_in}
-use Rattle.dn_demo.specs.Text.{demo_text, row_bytes}
+use Rattle.dn_demo.specs.Text.{demo_text}
 use Rattle.dn_demo.specs.Recorded.{Recorded, recorded_size}
 use Rattle.dn_demo.specs.Upgraded.{upgraded_size}
 use Rattle.dn_demo.proofs.Kept.{row_kept}
@@ -36,41 +36,46 @@ row-requires c =
     c.as_slice-bytes.ensures.value c.present-present.ensures.value c.players-players.ensures.value
     below).0
 
-pub row-requires-in-loop-tic-clause-row : goal.row-requires-in-loop-tic-clause-row
-row-requires-in-loop-tic-clause-row c =
+pub add_row-requires-clause-row : goal.add_row-requires-clause-row
+add_row-requires-clause-row c =
     let below : c.loop-tic.tic < length c.args.demo.now.rows = omega arith in
     row_recordable (layout_of c.demo.inside.layout) _ _ _ _ _ _ _ _ _ c.demo.invariant.0.whole
     c.demo.invariant.1 (λ i. omega (arith, c.type_inv.bytes i))
     c.demo.view_is c.as_slice-bytes.ensures.value c.present-present.ensures.value c.loop-tic.invariant.seats
     c.players-players.ensures.value below c.row.ensures
 
-pub loop-tic-preserved : goal.loop-tic-preserved
-loop-tic-preserved c =
+pub add_row-requires-clause-room : goal.add_row-requires-clause-room
+add_row-requires-clause-room c =
     let demo = c.args.demo.now in
     let l = c.loop-tic in
-    let added = c.row-in-loop-tic.ensures in
     let below : l.tic < length demo.rows = omega arith in
     let players : player_count (seats_in l.recorder.bytes) ≡ player_count demo.present =
     ap player_count l.invariant.seats in
     let count : c.players-players.result ≡ player_count demo.present =
     c.players-players.ensures.value ∙ ap player_count c.present-present.ensures.value in
+    let fits : (n : ℕ) → nat_le (recorded_size (player_count demo.present) n) l.recorder.limit
+    ≡ nat_le n c.capacity.result = λ n. (λ i. nat_le (recorded_size (sym count i) n) (l.invariant.limit i))
+    ∙ c.capacity.ensures.fits n in
+    row_fits l.recorder.limit _ l.tic (length demo.rows) c.capacity.result _ _
+    l.invariant.size (ap (λ n. command_size long_tics * n) players) fits below (omega arith)
+
+pub loop-tic-preserved : goal.loop-tic-preserved
+loop-tic-preserved c =
+    let demo = c.args.demo.now in
+    let l = c.loop-tic in
+    let added = c.add_row.ensures in
+    let below : l.tic < length demo.rows = omega arith in
+    let players : player_count (seats_in l.recorder.bytes) ≡ player_count demo.present =
+    ap player_count l.invariant.seats in
     let row = row_kept (layout_of c.demo.inside.layout) _ _ _ _ _ _ _ c.demo.invariant.0.whole c.demo.view_is
     c.as_slice-bytes.ensures.value c.present-present.ensures.value c.players-players.ensures.value
     below in
     let size = added.size ∙ ap (λ n. command_size long_tics * n) players in
-    let fits : (n : ℕ) → nat_le (recorded_size (player_count demo.present) n) c.args.limit
-    ≡ nat_le n c.capacity.result = λ n. ap (λ p. nat_le (recorded_size p n) c.args.limit) (sym count)
-    ∙ c.capacity.ensures.fits n in
-    let done : c.row-in-loop-tic.result ≡ true = added.fits
-    ∙ ap (λ n. nat_le (length l.recorder.bytes + length (row_bytes long_tics c.row.result) + 1) n)
-    l.invariant.limit
-    ∙ row_fits c.args.limit (player_count demo.present) l.tic (length demo.rows) c.capacity.result _ _
-    l.invariant.size size fits below (omega arith) in
-    let new = added.written done in
+    let new = added.written in
     record {
       limit = ap (λ (r : Recorded). r.limit) new ∙ l.invariant.limit;
       stage = ap (λ (r : Recorded). r.stage) new ∙ l.invariant.stage;
-      text = one_more _ _ demo.start demo.view demo.present demo.rows l.tic _ (added.text done)
+      text = one_more _ _ demo.start demo.view demo.present demo.rows l.tic _ added.text
           l.invariant.text (ap (λ x. Some x) c.row.ensures ∙ row.1);
       size = ap (λ (r : Recorded). length r.bytes) new ∙ length-append l.recorder.bytes _
           ∙ omega (arith, l.invariant.size, size);

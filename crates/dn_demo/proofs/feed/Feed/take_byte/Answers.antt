@@ -14,11 +14,6 @@ returns-in_default-clause-listed g c =
     let long : 13 ≤ c.args.self.now.taken = search rules in
     lists_none g.W.World.state g.W.World.physics _ _ _ long c.pass.ensures.tics
 
-pub returns-then-self-2-clause-listed : goal.returns-then-self-2-clause-listed
-returns-then-self-2-clause-listed g c =
-    let long : 13 ≤ c.args.self.now.taken = search rules in
-    lists_none g.W.World.state g.W.World.physics _ _ _ long c.pass-then-self-2.ensures.tics
-
 pub returns-clause-listed : goal.returns-clause-listed
 returns-clause-listed g c =
     let long : 13 ≤ c.args.self.now.taken = search rules in
