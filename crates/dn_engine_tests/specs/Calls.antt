@@ -91,7 +91,7 @@ pub record HandsIn (parcel : Parcel) (old new : Contents) : Type 0 where
       → (answer : Heard) × Hears parcel.from parcel.bytes.items old new answer
   pub far : is_near_aim (made old) parcel.aim ≡ false → new ≡ old
 
--- and so does none
+-- and where there is none, nothing changes
 abbrev pub Hands : Option Parcel → Contents → Contents → Type 0
 Hands None old new = new ≡ old
 Hands (Some parcel) old new = HandsIn parcel old new

@@ -119,8 +119,8 @@ impl Pair {
     }
 }
 
-/// A game in this window, of as many rounds as there are pairs of commands, which the second player leaves at the
-/// end.
+/// A game in this window, of as many rounds as there are pairs of commands, which the second player leaves at
+/// the end.
 pub fn play(
     alloc: Global,
     settings: Settings,

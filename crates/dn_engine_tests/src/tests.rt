@@ -64,8 +64,8 @@ fn two_play_and_one_leaves(rt: HostRuntime) -> Result<(), Fail> {
         assert_eq!(&rt; first.phase(), Phase::Playing);
         assert_eq!(&rt; second.phase(), Phase::Ended(Cause::Quit));
         assert_eq!(&rt; first.end(1), Some(39));
-        // The last command that the second player made, as the first has it: its mark is the number of tics that the
-        // second player's world had run twelve tics earlier.
+        // The last command that the second player made, as the first has it: its mark is the number of tics
+        // that the second player's world had run twelve tics earlier.
         let Some(last) = first.command(1, 38) else {
             return Err("no command".into());
         };

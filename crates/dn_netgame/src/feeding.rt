@@ -1,6 +1,6 @@
 //! Demos that are played as they come as input.
 
-ghost use Rattle.std.specs.Prelude.{◌≡◌, ◌≤◌, ℕ, ◌+◌, List, length, Ok, Err, IfOk, IfErr};
+ghost use Rattle.std.specs.Prelude.{◌≡◌, ℕ, ◌+◌, List, Ok, Err, IfOk, IfErr};
 ghost use Rattle.dn_world.specs.Plane.{walking};
 ghost use Rattle.dn_demo.specs.Reading.{Recording};
 ghost use Rattle.dn_demo.specs.Feeding.{Shows};

@@ -1,6 +1,6 @@
 //! Demos that come as input.
 
-ghost use Rattle.std.specs.Prelude.{◌≡◌, codes, IfOk, IfErr};
+ghost use Rattle.std.specs.Prelude.{IfOk, IfErr};
 ghost use Rattle.dn_demo.specs.Fed.{fault_of};
 ghost use Rattle.dn_netgame.specs.DemoShown.{IsFaultLine, IsDemoInput, IsDemoRefused};
 

@@ -1,6 +1,6 @@
 //! One player's node over UDP.
 
-ghost use Rattle.std.specs.Prelude.{◌≡◌, ◌≢◌, ◌<◌, ◌∷◌, false, length, Err, IfOk, IfErr, IfSome, OnOk};
+ghost use Rattle.std.specs.Prelude.{◌≡◌, ◌<◌, false, length, Err, IfOk, IfErr, IfSome};
 ghost use Rattle.std.specs.String.{string_bytes};
 ghost use Rattle.dn_demo.specs.Recorded.{IsLimit};
 ghost use Rattle.dn_node.specs.Contents.{contents};

@@ -1,5 +1,5 @@
-//! Tests of `dn_text`, `dn_netgame`, `dn_options` and `dn_program`, in a crate of their own, since a crate that has
-//! tests is proved twice.
+//! Tests of `dn_text`, `dn_netgame`, `dn_options` and `dn_program`, in a crate of their own, since a crate that
+//! has tests is proved twice.
 #![tactic(auto)]
 
 #[cfg(test)]

@@ -1,6 +1,6 @@
 //! Reading a script: the text of a list of events.
 
-ghost use Rattle.std.specs.Prelude.{◌≡◌, List, Result};
+ghost use Rattle.std.specs.Prelude.{List, Result};
 ghost use Rattle.dn_machine.specs.declared.events.Event.{Event};
 ghost use Rattle.dn_script.specs.declared.script.ScriptFault.{ScriptFault};
 ghost use Rattle.dn_script.specs.Script.{IsReadAs, IsSameButMemory, answered};

@@ -1,6 +1,6 @@
 //! Events in the words of a script.
 
-ghost use Rattle.std.specs.Prelude.{◌≡◌, ◌<◌, ℕ, ◌++◌, [], ◌∷◌, OnOk, get_or};
+ghost use Rattle.std.specs.Prelude.{◌≡◌, ◌<◌, ◌++◌, [], ◌∷◌, OnOk, get_or};
 ghost use Rattle.std.specs.String.{string_bytes};
 ghost use Rattle.dn_script.specs.Words.{letters};
 ghost use Rattle.dn_script.specs.Written.{letters_down, keys_word, event_words, event_line};

@@ -1,5 +1,5 @@
-//! The lines that the program prints of a packet, a demo, a row, a node, an event, an answer and a game, and the
-//! bad line of a script.
+//! The lines that the program prints of a packet, a demo, a row, a node, an event, an answer and a game, and
+//! the bad line of a script.
 #![tactic(auto)]
 
 mod answers;

@@ -26,8 +26,8 @@ known_told command = record { known = bit (is_some command); command = command_t
 abbrev pub CanBuild : Contents → Bool → Type 0
 CanBuild n can = (can ≡ can_make n) × Tells n (λ limits me m. (input : Input) → can ≡ makes limits me m input)
 
--- the command that it has of a player for a tic, if it is one of the last that it keeps; that of the next tic to
--- be run is told as soon as it is there
+-- the command that it has of a player for a tic, if it is one of the last that it keeps; that of the next tic
+-- to be run is told as soon as it is there
 abbrev pub TellsCommand : Contents → ℕ → ℕ → Option TicCmd → Type 0
 TellsCommand n player tic command =
     (command ≡ told.command_told n player tic)

@@ -48,7 +48,8 @@ abbrev pub IsFresh : Config → ℕ → Contents → Type 0
 IsFresh config ahead n = (settings : Settings) → (config.me ≡ 0 → config.settings ≡ Some settings)
     → Represents (limits_within config ahead) config.me n (fresh settings config.me)
 
--- 0 and the node that was made, of the player and the game that configuration and window say, or why there is none
+-- 0 and the node that was made, of the player and the game that configuration and window say, or why there is
+-- none
 abbrev pub IsMade : Config → ℕ → Result Contents NodeFault → ℕ → Option Contents → Type 0
 IsMade config ahead (Ok made) code node = (code ≡ 0) × (node ≡ Some made) × IsFresh config ahead made
     × (whose made ≡ whose_within config ahead)

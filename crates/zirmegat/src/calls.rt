@@ -1,6 +1,6 @@
 //! The calls that move a game on.
 
-ghost use Rattle.std.specs.Prelude.{◌≡◌, ◌<◌, ◌≤◌, ℕ, ◌%◌, ◌^◌, Bool, List, length, map, Option, None, is_some};
+ghost use Rattle.std.specs.Prelude.{◌≡◌, ◌<◌, ◌≤◌, ◌%◌, ◌^◌, Bool, List, length, map, Option, None, is_some};
 ghost use Rattle.std.specs.Option.{option_map};
 ghost use Rattle.dn_tic.specs.declared.command.Move.{Move as Step};
 ghost use Rattle.dn_tic.specs.declared.input.Input.TheVariants.{Pressed};
@@ -15,7 +15,7 @@ ghost use Rattle.dn_lockstep.specs.declared.lockstep.aiming.Aim.{Aim as Aimed};
 ghost use Rattle.dn_lockstep.specs.Sent.{sent_to, aim_of};
 ghost use Rattle.dn_lockstep.specs.Giving.{gives};
 ghost use Rattle.dn_lockstep.specs.Runs.{told_by};
-ghost use Rattle.dn_lockstep.specs.Steps.{Steps};
+ghost use Rattle.dn_lockstep.specs.Steps.{Tells};
 ghost use Rattle.zirmegat.specs.Calls.{node_of, Calls, Reads};
 ghost use Rattle.zirmegat.specs.Answers.{made_told, aim_told, heard_told, ran_told, move_told, row_told_over};
 ghost use Rattle.zirmegat.specs.Going.{Builds, Sends, Hears, Runs, Quits};
@@ -48,7 +48,7 @@ pub extern "C" fn zmg_node_build(node: &mut NodeHandle, keys: u32) -> BuildAnswe
 pub extern "C" fn zmg_node_aim(node: &mut NodeHandle, to: u8) -> AimAnswer
     ensures { Reads (node_of node.old) (node_of node.new)
         (λ n. (aim : Option Aimed) × (result ≡ aim_told aim)
-        × Steps n n (λ limits me m. (m, (sent_to to limits me m).1)) (λ flight. aim ≡ option_map aim_of flight)
+        × Tells n (λ limits me m. aim ≡ option_map aim_of (sent_to to limits me m).1)
         × (is_some aim ≡ gives n to))
         (result ≡ aim_told None) }
 {

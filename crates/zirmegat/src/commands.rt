@@ -78,8 +78,8 @@ pub extern "C" fn zmg_node_can_build(node: &mut NodeHandle) -> u32
     }
 }
 
-/// A player's command for a tic: one of the last that the node keeps of the player, and so that of the next tic to
-/// be run as soon as it is there.
+/// A player's command for a tic: one of the last that the node keeps of the player, and so that of the next tic
+/// to be run as soon as it is there.
 #[unsafe(no_mangle)]
 pub extern "C" fn zmg_node_command(node: &mut NodeHandle, player: u8, tic: u32) -> KnownCommand
     ensures { Reads (node_of node.old) (node_of node.new)

@@ -34,8 +34,8 @@ pub extern "C" fn zmg_node_new(alloc: Global, node: &mut NodeHandle, config: &No
     zmg_node_new_within(alloc, node, config, MOST_AHEAD)
 }
 
-/// The same for a node whose player may be so many commands ahead of the tics run, 1 to 12, the same for all
-/// players of the game. Answers 10 for another number, where player 0's settings are in range.
+/// The same for a node whose player may be so many commands ahead of the tics that it ran, 1 to 12, the same
+/// for all players of the game. Answers 10 for another number, where player 0's settings are in range.
 #[unsafe(no_mangle)]
 pub extern "C" fn zmg_node_new_within(
     alloc: Global,

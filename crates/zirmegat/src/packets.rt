@@ -1,16 +1,16 @@
 //! Datagrams as fields, with no node.
 
-ghost use Rattle.std.specs.Prelude.{◌≡◌, ◌<◌, ◌≤◌, ℕ, length, map, slice_get, Result};
+ghost use Rattle.std.specs.Prelude.{◌≡◌, ◌<◌, ◌≤◌, length, map, slice_get, Result};
 ghost use Rattle.dn_packet.specs.declared.packet.Packet.{Packet as Sent};
 ghost use Rattle.dn_packet.specs.declared.packet.PacketFault.{PacketFault as Fault};
 ghost use Rattle.dn_packet.specs.Read.{IsReadAs};
 ghost use Rattle.dn_packet.specs.Text.{text};
-ghost use Rattle.zirmegat.specs.Fields.{command_told, command_in, fields_of, packet_in, packet_code, IsDecodedAs};
+ghost use Rattle.zirmegat.specs.Fields.{command_told, command_in, fields_of, packet_in, IsDecodedAs};
 ghost use Rattle.dn_packet.specs.Written.{IsWritten};
 
 use crate::bytes;
 use arrayvec::ArrayVec;
-use dn_packet::{Packet, PacketFault, decode, encode};
+use dn_packet::{MAX_COMMANDS, Packet, PacketFault, decode, encode};
 use dn_tic::TicCmd;
 
 /// A tic command.
@@ -92,7 +92,7 @@ pub struct PacketFields {
     /// How many commands there are, 0 to 12.
     pub count: u8,
     /// The commands, and all 0 behind the last.
-    pub commands: [CommandFields; 12],
+    pub commands: [CommandFields; MAX_COMMANDS],
 }
 
 impl PacketFields {
@@ -138,7 +138,7 @@ impl PacketFields {
     }
 }
 
-fn commands(fields: &[CommandFields]) -> ArrayVec<TicCmd, 12>
+fn commands(fields: &[CommandFields]) -> ArrayVec<TicCmd, MAX_COMMANDS>
     requires { length fields.now ≤ 12 }
     ensures { result.items ≡ map command_in fields.now }
 {
@@ -181,7 +181,7 @@ pub extern "C" fn zmg_packet_encode(packet: &PacketFields, out: &mut [u8]) -> us
     ensures no_room { length out.old < length (text (packet_in packet.now))
         → (result ≡ 0) × (out.new ≡ out.old) }
 {
-    if packet.flags >= 16 || packet.count > 12 {
+    if packet.flags >= 16 || usize::from(packet.count) > MAX_COMMANDS {
         return 0;
     }
     let text = encode(&packet.packet());

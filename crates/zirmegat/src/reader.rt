@@ -1,7 +1,7 @@
 //! A demo that is fed in pieces, and then read.
 
 ghost use Rattle.std.specs.Prelude.{◌≡◌, ◌≢◌, Option};
-ghost use Rattle.zirmegat.specs.Demos.{Reading, reading_of, reading_told, row_by, IsPushed, IsReadOut};
+ghost use Rattle.zirmegat.specs.Demos.{reading_of, reading_told, row_by, IsPushed, IsReadOut};
 
 use crate::demo_answers::{DemoAnswer, code_of};
 use dn_demo::Demo;

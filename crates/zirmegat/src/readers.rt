@@ -1,9 +1,8 @@
 //! What a node tells of itself. A handle that holds none tells 0.
 
-ghost use Rattle.std.specs.Prelude.{◌≡◌, pos, Some, None, nat_lt, if◌then◌else◌, length, map, take, drop};
+ghost use Rattle.std.specs.Prelude.{◌≡◌, pos, Some, None, nat_lt, if◌then◌else◌, length, take, drop};
 ghost use Rattle.dn_lockstep.specs.Contents.{end_in};
 ghost use Rattle.dn_lockstep.specs.Rings.{count_of};
-ghost use Rattle.dn_lockstep.specs.Rows.{seats_of};
 ghost use Rattle.zirmegat.specs.Calls.{node_of, Reads};
 ghost use Rattle.zirmegat.specs.Answers.{phase_told, phase_at, number_told, settings_told};
 ghost use Rattle.dn_packet.specs.Written.{IsWritten};

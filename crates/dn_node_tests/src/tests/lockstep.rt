@@ -23,8 +23,8 @@ use std::alloc::Global;
 use std::process::Abort;
 use std::test::Fail;
 
-/// Builds with these keys. This call has no contract, nor have `run`, `received`, `quit` and `given`: a test that
-/// calls a node itself has all that the node promises in its own proof, which takes seconds.
+/// Builds with these keys. This call has no contract, nor have `run`, `received`, `quit` and `given`: a test
+/// that calls a node itself has all that the node promises in its own proof, which takes seconds.
 fn build(node: &mut Lockstep, keys: u32) -> Made {
     node.build(Keys::from_bits(keys))
 }

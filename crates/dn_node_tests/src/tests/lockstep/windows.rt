@@ -148,8 +148,8 @@ fn what_is_kept_is_reported(rt: HostRuntime) {
     }
 }
 
-/// Two nodes on a slow line, and all packets that they gave each other. The packet of a turn comes `delay` turns
-/// later.
+/// Two nodes on a slow line, and all packets that they gave each other. The packet of a turn comes `delay`
+/// turns later.
 #[derive(Drop)]
 struct Slow {
     key: Lockstep,

@@ -57,8 +57,8 @@ const READERS: [(Run, u8); 6] = [
     (Run::SimTraced, 6),
 ];
 
-/// Runs it, a storm for one event, which sends a packet. The reader gives at most `most` bytes a call, and fails
-/// at one call.
+/// Runs it, a storm for one event, which sends a packet. The reader gives at most `most` bytes a call, and
+/// fails at one call.
 fn ended(
     alloc: Global,
     game: GameConfig,
