@@ -19,15 +19,15 @@ static struct zmg_block block(void *at) {
     return b;
 }
 
-struct zmg_block rattle_alloc(size_t size, size_t align);
-struct zmg_block rattle_realloc(void *at, size_t kept, size_t size, size_t align);
-void rattle_dealloc(void *at);
+struct zmg_block zmg_alloc(size_t size, size_t align);
+struct zmg_block zmg_realloc(void *at, size_t kept, size_t size, size_t align);
+void zmg_dealloc(void *at);
 
-struct zmg_block rattle_alloc(size_t size, size_t align) { return block(malloc(size ? size : align)); }
+struct zmg_block zmg_alloc(size_t size, size_t align) { return block(malloc(size ? size : align)); }
 
-struct zmg_block rattle_realloc(void *at, size_t kept, size_t size, size_t align) {
+struct zmg_block zmg_realloc(void *at, size_t kept, size_t size, size_t align) {
     (void)kept;
     return block(realloc(at, size ? size : align));
 }
 
-void rattle_dealloc(void *at) { free(at); }
+void zmg_dealloc(void *at) { free(at); }

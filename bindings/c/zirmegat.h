@@ -16,6 +16,7 @@
  *     zmg_node_quit(&node);  give packets and hear datagrams for a second more;  zmg_node_free(&node);
  *
  * What the caller owes:
+ *   - Each player of a game has one node, made once. players, extra, limit and the window are the same for all.
  *   - Pointers are valid and aligned for what they point to, and not NULL, also where a length is 0. What a
  *     call writes overlaps nothing else that it is given.
  *   - A handle (zmg_node, zmg_demo) is ZMG_NODE_NONE or ZMG_DEMO_NONE at first, and then as the library
@@ -27,8 +28,8 @@
  *   - malloc, realloc and free come from one allocator, and work on each thread that uses a handle, also for
  *     blocks of another thread. malloc and realloc align a block to each power of two up to 16 that divides
  *     its size, as to 8 for 24 bytes.
- *   - What zmg_node_receive is given is a datagram of this game as zmg_node_packet gave it, from its sender, and
- *     for this player; and it is not old, as is said there.
+ *   - What zmg_node_receive is given is a datagram of this game as zmg_node_packet gave it, from its sender,
+ *     and for this player; and it is not old, as is said there.
  *   - The marks that zmg_node_run is given are of the caller's own world: one that began with the start of
  *     zmg_node_settings and the players 0 to zmg_node_players - 1 when zmg_node_receive answered
  *     ZMG_RECEIVE_STARTED, was stepped by every row that zmg_node_run told and by nothing else, and has
@@ -192,8 +193,9 @@ typedef struct zmg_number {
 } zmg_number;
 
 /* The full tic numbers of a packet, of which it carries only the low bytes. known: 1, or 0 where there is no
- * packet, and then all is 0. ask: the tic from which commands are asked for again, at most 5 before start.
- * start: the tic of the first command; 0 for set-up. count: how many commands. flags: as in zmg_packet. */
+ * packet, and then all is 0. ask: the tic from which commands are asked for again; while all callers keep
+ * what they owe, at most the window (5, or that of zmg_node_new_within) before start. start: the tic of the
+ * first command; 0 for set-up. count: how many commands. flags: as in zmg_packet. */
 typedef struct zmg_aim {
     uint32_t known;
     zmg_number ask;
@@ -241,12 +243,16 @@ typedef struct zmg_heard {
  * bytes of tics, so the transport hands in none whose start or ask lies more than 64 tics from zmg_node_made.
  * With a window of w (ZMG_MOST_AHEAD, or that of zmg_node_new_within) a node keeps k commands of each player:
  * 12, or 2 * w where that is more. A transport that sends zmg_aim.start along drops at receipt what starts
- * more than 64 - w away (59 with five), since ask lies at most w before start. One that goes by age drops
- * what is older than 64 - k - w tics (47: 1.3 seconds at 35 builds a second), since a new packet may already
- * lie k + w away (17), and hands a node that has ended nothing later than 64 - w tics after its end (59),
- * since those who play on leave its zmg_node_made behind. The packets of a player who has left keep their
- * start while the others play on, so their age does not tell how far away it lies: once zmg_node_ran has
- * reached that player's zmg_node_end, the transport drops them. A set-up packet may come at any time. */
+ * more than 64 - w away (59 with five), since ask lies at most w before start, and never past zmg_node_made.
+ * One that goes by age drops what is older than 64 - k - w tics (47: 1.3 seconds at 35 builds a second), since
+ * a new packet may already lie up to k + w away (17), and hands a node that has ended nothing later than 64 - w
+ * tics after its end (59), since those who play on leave its zmg_node_made behind. These tics are commands:
+ * those that the receiver has made since the packet was given, and those that a sender makes after the
+ * receiver's end. A node that makes several in a tic, as after a pause, counts each. What a player gives after
+ * it has left keeps its start while the others play on, so its age does not tell how far away it lies. Once
+ * zmg_node_ran has reached that player's zmg_node_end, the transport drops all packets of that player. Until
+ * then what was given after the player left is near at any age at a node that has not ended, and what was given
+ * before goes by age. A set-up packet may come at any time. */
 zmg_heard zmg_node_receive(zmg_node *node, uint8_t from, const uint8_t *bytes, size_t length);
 
 /* A player's move in one tic, where present is 1; else all 0. forward and side in units of 2048 in a world

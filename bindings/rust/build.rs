@@ -1,9 +1,22 @@
-//! Links the archive that `bindings/build` makes, or the one in the folder that `ZIRMEGAT_LIB` names.
+//! Links the archive in the folder that `ZIRMEGAT_LIB` names; else the one that `bindings/build` made, where
+//! this crate lies in the repository, or the one of the prefix in whose share/zirmegat it lies.
+
+use std::path::Path;
 
 fn main() {
     let here = std::env::var("CARGO_MANIFEST_DIR").unwrap();
-    let folder = std::env::var("ZIRMEGAT_LIB").unwrap_or(format!("{here}/../out"));
+    let named = std::env::var("ZIRMEGAT_LIB").ok();
+    let folders = match &named {
+        Some(folder) => vec![folder.clone()],
+        None => vec![format!("{here}/../out"), format!("{here}/../../../lib")],
+    };
     println!("cargo:rerun-if-env-changed=ZIRMEGAT_LIB");
-    println!("cargo:rerun-if-changed={folder}/libzirmegat.a");
-    println!("cargo:rustc-link-search=native={folder}");
+    for folder in &folders {
+        println!("cargo:rerun-if-changed={folder}/libzirmegat.a");
+    }
+    let has_archive = |folder: &&String| Path::new(folder).join("libzirmegat.a").exists();
+    match folders.iter().find(has_archive) {
+        Some(folder) => println!("cargo:rustc-link-search=native={folder}"),
+        None => panic!("no libzirmegat.a in {folders:?}: run bindings/build, or set ZIRMEGAT_LIB"),
+    }
 }

@@ -30,22 +30,22 @@ static struct zmg_block block(void *at) {
     return b;
 }
 
-struct zmg_block rattle_alloc(size_t size, size_t align);
-struct zmg_block rattle_realloc(void *at, size_t kept, size_t size, size_t align);
-void rattle_dealloc(void *at);
+struct zmg_block zmg_alloc(size_t size, size_t align);
+struct zmg_block zmg_realloc(void *at, size_t kept, size_t size, size_t align);
+void zmg_dealloc(void *at);
 
-struct zmg_block rattle_alloc(size_t size, size_t align) {
+struct zmg_block zmg_alloc(size_t size, size_t align) {
     struct zmg_block b = block(is_refused() ? NULL : malloc(size ? size : align));
     held += b.given;
     return b;
 }
 
-struct zmg_block rattle_realloc(void *at, size_t kept, size_t size, size_t align) {
+struct zmg_block zmg_realloc(void *at, size_t kept, size_t size, size_t align) {
     (void)kept;
     return block(is_refused() ? NULL : realloc(at, size ? size : align));
 }
 
-void rattle_dealloc(void *at) {
+void zmg_dealloc(void *at) {
     held--;
     free(at);
 }

@@ -61,14 +61,14 @@
 //!
 //! Nothing here waits, prints or opens anything. A player's memory is all taken by `Player::new` or `within`,
 //! but for the copy that `demo` returns; readers of demos, `upgrade` and packets take their own. A [`Node`],
-//! [`Player`], [`Reader`] or [`Demo`] may go to another thread, and one thread at a time uses it: they are `Send`
-//! and not `Sync`. None is used in the forked child of a process with threads.
+//! [`Player`], [`Reader`] or [`Demo`] may go to another thread, and one thread at a time uses it: they are
+//! `Send` and not `Sync`. None is used in the forked child of a process with threads.
 //!
 //! A later library may answer codes that this crate has no name for. Each enum that is made of a code has
 //! `Unknown` with the code for them; so no unknown code is taken for a known one, and none ends the program.
 //!
-//! The library under it is proved: see the repository. This crate is not; it only passes references as
-//! pointers and numbers as enums.
+//! The library under it is proved, but for what the README trusts. This crate is not; it only passes
+//! references as pointers and numbers as enums.
 
 #![deny(missing_docs)]
 #![deny(unsafe_op_in_unsafe_fn)]

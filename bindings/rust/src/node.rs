@@ -91,8 +91,8 @@ impl Node {
     }
 
     /// The same in a window of this width: how many commands this player may be ahead of the tics that the node
-    /// ran, 1 to [`WIDEST_AHEAD`](crate::WIDEST_AHEAD), in place of [`MOST_AHEAD`](crate::MOST_AHEAD). It must be
-    /// the same for all players of the game.
+    /// ran, 1 to [`WIDEST_AHEAD`](crate::WIDEST_AHEAD), in place of [`MOST_AHEAD`](crate::MOST_AHEAD). It
+    /// must be the same for all players of the game.
     pub fn within(config: Config, ahead: u8) -> Result<Node, NodeError> {
         let node = Node(raw::Held::nothing());
         // SAFETY: the call has the handle alone (`Held`), and the configuration is valid for the call.
@@ -123,9 +123,9 @@ impl Node {
         unsafe { raw::zmg_node_can_build(self.0.at()) != 0 }
     }
 
-    /// A player's command for a tic, with its chat: one of the last twelve that the node has of the player, or of
-    /// as many as twice its window where that is more. That of the next tic to be run, [`ran`](Node::ran), is told as
-    /// soon as it has come.
+    /// A player's command for a tic, with its chat: one of the last twelve that the node has of the player,
+    /// or of as many as twice its window where that is more. That of the next tic to be run,
+    /// [`ran`](Node::ran), is told as soon as it has come.
     pub fn command(&self, player: u8, tic: u32) -> Option<Command> {
         // SAFETY: the call has the handle alone (`Held`).
         let raw = unsafe { raw::zmg_node_command(self.0.at(), player, tic) };

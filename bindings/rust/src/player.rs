@@ -51,22 +51,23 @@ impl<W: World> Player<W> {
 
     /// Takes a whole command for the next tic, in place of `build`: for an engine that makes its commands
     /// itself, of a mouse, a stick, keys of its own or chat. Its mark is not read, since the node puts in its
-    /// own, and a forward of -128 counts as -127; [`command`](Player::command) tells what was made. For the turns
-    /// of later builds it counts as a build with no key down.
+    /// own, and a forward of -128 counts as -127; [`command`](Player::command) tells what was made. For the
+    /// turns of later builds it counts as a build with no key down.
     pub fn give(&mut self, command: Command) -> Made {
         self.node.give(command)
     }
 
     /// Whether `build` and `give` would make a command now: the game runs, and fewer commands of this player
-    /// wait to be run than the window allows, [`MOST_AHEAD`](crate::MOST_AHEAD) if none was asked for. An engine
-    /// asks before it takes up the motion of a mouse, which would be lost with a command that is not made.
+    /// wait to be run than the window allows, [`MOST_AHEAD`](crate::MOST_AHEAD) if none was asked for. An
+    /// engine asks before it takes up the motion of a mouse, which would be lost with a command that is not
+    /// made.
     pub fn can_build(&self) -> bool {
         self.node.can_build()
     }
 
-    /// A player's command for a tic, with its chat: one of the last twelve that the node has of the player, or of
-    /// as many as twice its window where that is more. That of the next tic to be run, [`ran`](Player::ran), is told as
-    /// soon as it has come.
+    /// A player's command for a tic, with its chat: one of the last twelve that the node has of the player,
+    /// or of as many as twice its window where that is more. That of the next tic to be run,
+    /// [`ran`](Player::ran), is told as soon as it has come.
     pub fn command(&self, player: u8, tic: u32) -> Option<Command> {
         self.node.command(player, tic)
     }

@@ -16,8 +16,8 @@ pub struct Handle {
 /// `Sync`, no call calls back, and no answer points to the handle or to what it holds.
 pub struct Held(UnsafeCell<Handle>);
 
-// SAFETY: nothing in the library is bound to a thread (bindings/archive looks), and what malloc gave on one thread
-// free takes back on another.
+// SAFETY: nothing in the library is bound to a thread (bindings/archive looks), and what malloc gave on one
+// thread free takes back on another.
 unsafe impl Send for Held {}
 
 impl Held {

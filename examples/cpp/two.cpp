@@ -1,0 +1,98 @@
+/* Two players in one process, in C++: two [TICS]. Each datagram is handed to the other player as it is given.
+ * Fails where the worlds or the demos come to differ, and prints where the players stand. */
+#include "zirmegat.h"
+#include <array>
+#include <cstdio>
+#include <cstdlib>
+#include <stdexcept>
+#include <vector>
+
+namespace {
+
+/* A node, which gives its memory back. */
+class Node {
+public:
+    explicit Node(const zmg_config &config) {
+        if (zmg_node_new(&node, &config) != ZMG_NEW_OK) throw std::runtime_error("there is no node");
+    }
+    ~Node() { zmg_node_free(&node); }
+    Node(const Node &) = delete;
+    Node &operator=(const Node &) = delete;
+    operator zmg_node *() { return &node; }
+
+private:
+    zmg_node node = ZMG_NODE_NONE;
+};
+
+/* A line, along which each player goes. */
+struct World {
+    std::array<std::int32_t, 4> at{};
+    void step(const zmg_move *row) {
+        for (std::size_t p = 0; p < at.size(); p++) at[p] += row[p].present ? row[p].forward : 0;
+    }
+    std::int16_t mark(std::size_t p) const { return static_cast<std::int16_t>(at[p] & 0x7fff); }
+};
+
+class Player {
+public:
+    explicit Player(std::uint8_t me) : me(me), node(config(me)) {}
+
+    /* What an engine does 35 times a second. */
+    void turn(Player &other, std::uint32_t keys, std::uint32_t tics) {
+        std::uint8_t bytes[ZMG_PACKET_SIZE];
+        if (zmg_node_made(node) < tics && zmg_node_can_build(node)) zmg_node_build(node, keys);
+        if (std::size_t length = zmg_node_packet(node, other.me, bytes, sizeof bytes))
+            if (zmg_node_receive(other.node, me, bytes, length).code == ZMG_RECEIVE_STARTED)
+                other.world = World();
+        for (;;) {
+            const std::int16_t marks[4] = {world.mark(0), world.mark(1), world.mark(2), world.mark(3)};
+            zmg_move row[4];
+            const zmg_ran ran = zmg_node_run(node, marks, row);
+            if (ran.code == ZMG_RUN_INCONSISTENT) throw std::runtime_error("the worlds differ");
+            if (ran.code != ZMG_RUN_RAN) return;
+            world.step(row);
+        }
+    }
+
+    std::uint32_t ran() { return zmg_node_ran(node); }
+    void quit() { zmg_node_quit(node); }
+    std::vector<std::uint8_t> demo() {
+        std::vector<std::uint8_t> bytes(zmg_node_demo_length(node));
+        zmg_node_demo(node, 0, bytes.data(), bytes.size());
+        return bytes;
+    }
+
+    World world;
+
+private:
+    static zmg_config config(std::uint8_t me) {
+        zmg_config config = zmg_config();
+        config.limit = 1u << 20;
+        config.players = 2;
+        config.me = me;
+        config.settings.skill = 2;
+        config.settings.episode = config.settings.map = 1;
+        return config;
+    }
+
+    std::uint8_t me;
+    Node node;
+};
+
+}  // namespace
+
+int main(int argc, char **argv) {
+    const std::uint32_t tics = argc > 1 ? static_cast<std::uint32_t>(std::strtoul(argv[1], nullptr, 10)) : 100;
+    Player key(0), other(1);
+    for (std::uint32_t round = 0; key.ran() < tics || other.ran() < tics; round++) {
+        if (round > tics + 20) throw std::runtime_error("the game does not go on");
+        key.turn(other, ZMG_KEY_FORWARD, tics);
+        other.turn(key, round % 3 ? ZMG_KEY_FORWARD | ZMG_KEY_SPEED : ZMG_KEY_BACK, tics);
+    }
+    key.quit();
+    other.quit();
+    std::vector<std::uint8_t> one = key.demo(), two = other.demo();
+    one.at(8) = two.at(8) = 0; /* whose view it is */
+    if (key.world.at != other.world.at || one != two) throw std::runtime_error("the players differ");
+    std::printf("%u tics, at %d and %d\n", tics, key.world.at[0], key.world.at[1]);
+}
