@@ -9,7 +9,8 @@ use Rattle.dn_packet.specs.Text.{text, sum_of, body_of, weighted, words}
 use Rattle.dn_setup.specs.Setup.{setup_packet}
 use Rattle.dn_machine.specs.Flight.{Kind, SetUp, Play, Exit, Flight, commands_packet, request_flag}
 use Rattle.dn_open.specs.Arrivals.{is_alike}
-use Rattle.dn_open.proofs.Sealables.{opened_of}
+use Rattle.dn_open.specs.Sealed.{opened_of}
+use Rattle.dn_open.proofs.Sealables.{}
 
 -- the upper half of the fourth byte has the flags
 flags_at : (p : Packet) → p.flags < 16 → slice_index (text p) 3 / 16 ≡ p.flags

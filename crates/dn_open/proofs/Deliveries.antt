@@ -26,7 +26,8 @@ use Rattle.dn_seal.specs.declared.seal.Seal.{Seal}
 use Rattle.dn_open.specs.OpenGames.{IsGenuine, Arrives, arrived_if}
 use Rattle.dn_open.specs.Arrivals.{is_alike}
 use Rattle.dn_open.proofs.Alikes.{alike}
-use Rattle.dn_open.proofs.Sealables.{IsSealable, opened_of, opened_is}
+use Rattle.dn_open.specs.Sealed.{opened_of}
+use Rattle.dn_open.proofs.Sealables.{IsSealable, opened_is}
 
 -- a node that is put where it stands changes nothing
 put_same : {A : Type 0} (all : ℕ → A) (place : ℕ) → put all place (all place) ≡ all
@@ -38,7 +39,7 @@ put_same {A} all place = λ i other. at other i
       | inr n ↦ let off = ne_eqb other place n in rw off refl
     ]
 
-same_game : (game : Game) (place : ℕ) → with_node game place (game.nodes place) ≡ game
+pub same_game : (game : Game) (place : ℕ) → with_node game place (game.nodes place) ≡ game
 same_game game place = λ i. record game { nodes = put_same game.nodes place i }
 
 -- settings are found again in their packet, and nothing else is

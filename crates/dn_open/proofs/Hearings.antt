@@ -21,11 +21,11 @@ use Rattle.dn_seal.specs.declared.seal.Seal.{Seal}
 use Rattle.dn_seal.specs.Opening.{IsOpenedAs}
 use Rattle.dn_open.specs.Arrivals.{HearsSealed, HearsPacket, heard, on_opened}
 use Rattle.dn_open.specs.declared.arrived.Arrived.{Arrived}
-use Rattle.dn_open.specs.Sealed.{sealing_of, envelope_of}
+use Rattle.dn_open.specs.Sealed.{sealing_of, envelope_of, opened_of}
 use Rattle.dn_open.proofs.Alikes.{alike}
 use Rattle.dn_open.proofs.Deliveries.{near_if}
 use Rattle.dn_open.proofs.Fairness.{are_sealable}
-use Rattle.dn_open.proofs.Sealables.{IsSealable, opened_of, is_opened_of}
+use Rattle.dn_open.proofs.Sealables.{IsSealable, is_opened_of}
 
 -- an answer tells what was heard
 told_once : (a b : Heard) → Arrived.Heard a ≡ Arrived.Heard b → a ≡ b

@@ -13,7 +13,9 @@ use Rattle.dn_machine.specs.Limits.{IsWindow}
 use Rattle.dn_lockstep.specs.Opening.{FitsPackets}
 use Rattle.dn_open.specs.Playable.{IsPlayable}
 use Rattle.dn_seal.specs.declared.seal.Seal.{Seal}
-use Rattle.dn_open.specs.OpenGames.{OpenEvent, Own, Arrive, LeadsOpen, RunsOpen, StandFor}
+use Rattle.dn_open.specs.declared.open_event.OpenEvent.{OpenEvent}
+use Rattle.dn_open.specs.declared.open_event.OpenEvent.TheVariants.{Own, Arrive}
+use Rattle.dn_open.specs.OpenGames.{LeadsOpen, RunsOpen, StandFor}
 use Rattle.dn_open.proofs.Deliveries.{AreFound, arrives}
 use Rattle.dn_open.proofs.Ranges.{AllInputs, inputs_next, opening-inputs}
 use Rattle.dn_open.proofs.Fairness.{always_sealable}
@@ -36,7 +38,7 @@ module _ {S : Type 0} (rules : Rules S) (seal : Seal) (settings : Settings)
       (inputs_next rules game next event ranged inputs step) rest in
       (event ∷ on.0, (on.0, refl, on.1), (next, step, on.2))
   stand (Arrive node bytes ∷ events) before game last run inputs (next, step, rest) =
-      elim (arrives rules game seal node bytes next found
+      elim (arrives rules game seal node bytes.now next found
       (always_sealable rules settings playable marks window room before game run inputs) step.0 step.1) [
         | inl same ↦
             let on = stand events before game last run inputs

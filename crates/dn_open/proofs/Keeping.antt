@@ -95,7 +95,7 @@ module _ (marking : Marking) (limits : Limits) (settings : Settings) {session : 
   given_here bytes genuine =
       subst (λ (fs : List Flight). IsGenuine seal fs player bytes) (sym game.flights) genuine
 
-  arrival_keeps : AreFound → IsSmall (session.locksteps player) → (bytes : List ℕ)
+  pub arrival_keeps : AreFound → IsSmall (session.locksteps player) → (bytes : List ℕ)
       (opened : Result Opened SealFault) (read : Result Packet PacketFault) (tells : Result Settings SetupFault)
       (new : Contents) → IsGenuine seal game.last.flights player bytes
       → IsOpenedAs (sealing_of seal player) bytes opened → IsRead opened read tells

@@ -10,3 +10,4 @@ pub mod Giving
 pub mod Keeping
 pub mod Hearings
 pub mod Receiving
+pub mod Letters

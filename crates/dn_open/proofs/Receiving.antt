@@ -1,4 +1,4 @@
--- What a sealed lockstep does with any bytes, by what they are opened as.
+-- What a sealed lockstep makes of a letter, and of any bytes.
 use Rattle.std.proofs.Common.{◌≡◌, ◌<◌, ◌&&◌, ℕ, List, length, get_or, Bool, true, false, refl, ap, sym, ◌∙◌, subst}
 use Rattle.std.specs.Prelude.{Result, Ok, Err, if◌then◌else◌}
 use Rattle.std.proofs.lemmas.List.Elements.{All-from_get_or}
@@ -18,7 +18,7 @@ use Rattle.dn_seal.specs.declared.seal.Seal.{Seal}
 use Rattle.dn_seal.specs.declared.opened.Opened.{Opened}
 use Rattle.dn_seal.specs.declared.opened.SealFault.{SealFault}
 use Rattle.dn_seal.specs.Opening.{Sealing, IsOpenedAs}
-use Rattle.dn_open.specs.Arrivals.{AreTyped, HearsSealed, IsRead, heard, is_alike, on_opened}
+use Rattle.dn_open.specs.Arrivals.{AreTyped, HearsOpened, HearsSealed, IsRead, heard, is_alike, on_opened}
 use Rattle.dn_open.specs.declared.arrived.Arrived.{Arrived}
 use Rattle.dn_open.specs.Sealed.{sealing_of}
 use Rattle.dn_packet.specs.declared.packet.Packet.{Packet}
@@ -34,6 +34,62 @@ typed_by seal list n fits sixteen small = record {
   game = sixteen;
   small = small;
 }
+
+-- what was opened, by what the two tests say of it
+module _ (old : Contents) (small : IsSmall old) (below : old.me < old.players) (o : Opened) where
+  module _ (test like : Bool)
+      (is_test : (is_close (made old) o.start && is_request_close (made old) o.ask) ≡ test)
+      (is_like : is_alike o ≡ like) where
+    -- the test by the machine's node
+    tested : (limits : Limits) (me : ℕ) (m : machine.Node) → Represents limits me old m
+        → (is_close (machine.made me m) o.start && is_request_close (machine.made me m) o.ask) ≡ test
+    tested limits me m r =
+        ap (λ (k : ℕ). is_close k o.start && is_request_close k o.ask) (sym (made_is limits me old m r below))
+        ∙ is_test
+
+    -- hence what comes of it
+    abbrev outcome : Limits → ℕ → machine.Node → Result Packet PacketFault → Result Settings SetupFault
+        → Bool → Bool → machine.Node × Arrived
+    outcome limits me m read told close same =
+        if close
+        then (if same then heard (received limits me m o.from told read) else (m, Arrived.Unlike))
+        else (m, Arrived.Late)
+
+    pub opened_so : (new : Contents) (answer : Arrived) → whose new ≡ whose old
+        → ((read : Result Packet PacketFault) (told : Result Settings SetupFault) → IsRead (Ok o) read told
+        → (limits : Limits) (me : ℕ) (m : machine.Node) → Represents limits me old m
+        → IsAfter limits me new (outcome limits me m read told test like) (λ x. answer ≡ x))
+        → HearsOpened o old new answer
+    opened_so new answer same step = record {
+      same = same;
+      step = λ read told reads limits me m r.
+          let on : on_opened limits me m (Ok o) read told ≡ outcome limits me m read told test like =
+          (λ i. outcome limits me m read told (tested limits me m r i) (is_like i)) in
+          subst (λ (x : machine.Node × Arrived). IsAfter limits me new x (λ x. answer ≡ x)) (sym on)
+          (step read told reads limits me m r);
+      small = small;
+    }
+
+  -- what is too old
+  pub late : (is_close (made old) o.start && is_request_close (made old) o.ask) ≡ false
+      → HearsOpened o old old Arrived.Late
+  late far = opened_so false (is_alike o) far refl old Arrived.Late refl
+      (λ read told reads limits me m r. record { node = r; answer = refl })
+
+  -- what tells other than its envelope
+  pub unlike : (is_close (made old) o.start && is_request_close (made old) o.ask) ≡ true → is_alike o ≡ false
+      → HearsOpened o old old Arrived.Unlike
+  unlike close other = opened_so true false close other old Arrived.Unlike refl
+      (λ read told reads limits me m r. record { node = r; answer = refl })
+
+  -- and what is heard
+  pub hears : (is_close (made old) o.start && is_request_close (made old) o.ask) ≡ true → is_alike o ≡ true
+      → (new : Contents) (told : Heard) → HearsAny o.from o.datagram.items old new told
+      → HearsOpened o old new (Arrived.Heard told)
+  hears close like new told any = opened_so true true close like new (Arrived.Heard told) any.same
+      (λ read tells reads limits me m r.
+      let after = any.step read tells reads.0 reads.1 limits me m r in
+      record { node = after.node; answer = ap Arrived.Heard after.answer })
 
 module _ (sealing : Sealing) (bytes : List ℕ) (old : Contents) (own : sealing.me ≡ old.me)
     (typed : AreTyped sealing.seal bytes old) where
@@ -58,62 +114,16 @@ module _ (sealing : Sealing) (bytes : List ℕ) (old : Contents) (own : sealing.
     typed = typed;
   }
 
-  module _ (below : old.me < old.players) (o : Opened) (only : IsOnly (Ok o)) (test like : Bool)
-      (is_test : (is_close (made old) o.start && is_request_close (made old) o.ask) ≡ test)
-      (is_like : is_alike o ≡ like) where
-    -- the test by the machine's node
-    tested : (limits : Limits) (me : ℕ) (m : machine.Node) → Represents limits me old m
-        → (is_close (machine.made me m) o.start && is_request_close (machine.made me m) o.ask) ≡ test
-    tested limits me m r =
-        ap (λ (k : ℕ). is_close k o.start && is_request_close k o.ask) (sym (made_is limits me old m r below))
-        ∙ is_test
-
-    -- hence what comes of it
-    abbrev outcome : Limits → ℕ → machine.Node → Result Packet PacketFault → Result Settings SetupFault
-        → Bool → Bool → machine.Node × Arrived
-    outcome limits me m read told close same =
-        if close
-        then (if same then heard (received limits me m o.from told read) else (m, Arrived.Unlike))
-        else (m, Arrived.Late)
-
-    pub opened_so : (new : Contents) (answer : Arrived) → whose new ≡ whose old
-        → ((read : Result Packet PacketFault) (told : Result Settings SetupFault) → IsRead (Ok o) read told
-        → (limits : Limits) (me : ℕ) (m : machine.Node) → Represents limits me old m
-        → IsAfter limits me new (outcome limits me m read told test like) (λ x. answer ≡ x))
-        → HearsSealed sealing.seal bytes old new answer
-    opened_so new answer same step = record {
-      same = same;
-      step = λ opened read told is reads limits me m r.
-          let one : Ok o ≡ opened = only_so (Ok o) opened only is in
-          let mine : IsRead (Ok o) read told =
-          subst (λ (x : Result Opened SealFault). IsRead x read told) (sym one) reads in
-          let on : on_opened limits me m (Ok o) read told ≡ outcome limits me m read told test like =
-          (λ i. outcome limits me m read told (tested limits me m r i) (is_like i)) in
-          subst (λ (x : Result Opened SealFault). IsAfter limits me new (on_opened limits me m x read told)
-          (λ x. answer ≡ x)) one
-          (subst (λ (x : machine.Node × Arrived). IsAfter limits me new x (λ x. answer ≡ x)) (sym on)
-          (step read told mine limits me m r));
-      typed = typed;
-    }
-
-  module _ (below : old.me < old.players) (o : Opened) (only : IsOnly (Ok o)) where
-    -- what is too old
-    pub late : (is_close (made old) o.start && is_request_close (made old) o.ask) ≡ false
-        → HearsSealed sealing.seal bytes old old Arrived.Late
-    late far = opened_so below o only false (is_alike o) far refl old Arrived.Late refl
-        (λ read told reads limits me m r. record { node = r; answer = refl })
-
-    -- what tells other than its envelope
-    pub unlike : (is_close (made old) o.start && is_request_close (made old) o.ask) ≡ true → is_alike o ≡ false
-        → HearsSealed sealing.seal bytes old old Arrived.Unlike
-    unlike close other = opened_so below o only true false close other old Arrived.Unlike refl
-        (λ read told reads limits me m r. record { node = r; answer = refl })
-
-    -- and what is heard
-    pub hears : (is_close (made old) o.start && is_request_close (made old) o.ask) ≡ true → is_alike o ≡ true
-        → (new : Contents) (told : Heard) → HearsAny o.from o.datagram.items old new told
-        → HearsSealed sealing.seal bytes old new (Arrived.Heard told)
-    hears close like new told any = opened_so below o only true true close like new (Arrived.Heard told) any.same
-        (λ read tells reads limits me m r.
-        let after = any.step read tells reads.0 reads.1 limits me m r in
-        record { node = after.node; answer = ap Arrived.Heard after.answer })
+  -- and what is one, by what is made of the letter in it
+  pub hears_sealed : (o : Opened) → IsOnly (Ok o) → (new : Contents) (answer : Arrived)
+      → HearsOpened o old new answer → HearsSealed sealing.seal bytes old new answer
+  hears_sealed o only new answer hears = record {
+    same = hears.same;
+    step = λ opened read told is reads limits me m r.
+        let one : Ok o ≡ opened = only_so (Ok o) opened only is in
+        subst (λ (x : Result Opened SealFault). IsAfter limits me new (on_opened limits me m x read told)
+        (λ x. answer ≡ x)) one
+        (hears.step read told (subst (λ (x : Result Opened SealFault). IsRead x read told) (sym one) reads)
+        limits me m r);
+    typed = typed;
+  }

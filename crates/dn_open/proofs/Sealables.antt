@@ -13,7 +13,7 @@ use Rattle.dn_seal.specs.Opening.{IsOpenedAs}
 use Rattle.dn_seal.proofs.Envelopes.{to-envelope}
 use Rattle.dn_seal.proofs.Openings.{only_opened, opened-tagged}
 use Rattle.dn_seal.specs.declared.seal.Seal.{Seal}
-use Rattle.dn_open.specs.Sealed.{sealing_of, letter_of, envelope_of}
+use Rattle.dn_open.specs.Sealed.{sealing_of, letter_of, envelope_of, opened_of}
 
 -- a packet whose numbers fit into an envelope
 pub record IsSealable (flight : Flight) : Type 0 where
@@ -22,16 +22,6 @@ pub record IsSealable (flight : Flight) : Type 0 where
   pub to : flight.to < 2 ^ 8
   pub start : flight.start < 2 ^ 32
   pub ask : IfSome flight.request (λ tic. tic < 2 ^ 32)
-
--- what its envelope is opened as
-abbrev pub opened_of : Flight → Opened
-opened_of flight =
-    record {
-      from = flight.from;
-      start = flight.start;
-      ask = flight.request;
-      datagram = record { items = bytes_of flight };
-    }
 
 short_bytes : (flight : Flight) → IsFair flight → length (bytes_of flight) ≤ 104
 short_bytes flight fair =

@@ -71,6 +71,13 @@ pub record AreTyped (seal : Seal) (list : List ℕ) (n : Contents) : Type 0 wher
   pub game : length seal.game ≡ 16
   pub small : IsSmall n
 
+-- what was opened so is heard, and the lockstep stays the same player's
+pub record HearsOpened (opened : Opened) (old new : Contents) (answer : Arrived) : Type 0 where
+  pub same : whose new ≡ whose old
+  pub step : (read : Result Packet PacketFault) (told : Result Settings SetupFault) → IsRead (Ok opened) read told
+      → Simulates old new (λ limits me m. on_opened limits me m (Ok opened) read told) (λ x. answer ≡ x)
+  pub small : IsSmall old
+
 -- the bytes are heard as what they are opened and read as, by a lockstep of the game with this seal
 pub record HearsSealed (seal : Seal) (bytes : List ℕ) (old new : Contents) (answer : Arrived) : Type 0 where
   pub same : whose new ≡ whose old

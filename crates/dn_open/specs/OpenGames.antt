@@ -19,12 +19,8 @@ use Rattle.dn_seal.specs.Opening.{IsOpenedAs}
 use Rattle.dn_seal.specs.declared.seal.Seal.{Seal}
 use Rattle.dn_open.specs.Sealed.{sealing_of, WasSealed}
 use Rattle.dn_open.specs.Arrivals.{on_opened, IsRead}
-
--- what may happen next: an event of a game, or bytes, whatever they are and wherever they are from, come to a
--- node
-pub data OpenEvent : Type 0 where
-  Own : (event : Event) → OpenEvent
-  Arrive : (node : ℕ) → (bytes : List ℕ) → OpenEvent
+use Rattle.dn_open.specs.declared.open_event.OpenEvent.{OpenEvent}
+use Rattle.dn_open.specs.declared.open_event.OpenEvent.TheVariants.{Own, Arrive}
 
 -- the one thing that is asked of the network, and of whoever has it in hand: what a node opens was sealed in
 -- this game before, as one of these packets. No tag was forged
@@ -57,7 +53,7 @@ Arrives rules seal game node bytes next =
 abbrev pub NextOpen : {S : Type 0} → Rules S → Seal → Game → OpenEvent → Game → Type 0
 NextOpen rules seal game (Own event) next = IsInRange event × Next rules game event next
 NextOpen rules seal game (Arrive node bytes) next =
-    IsGenuine seal game.flights node bytes × Arrives rules seal game node bytes next
+    IsGenuine seal game.flights node bytes.now × Arrives rules seal game node bytes.now next
 
 -- a list of open events leads from a game to another
 abbrev pub LeadsOpen : {S : Type 0} → Rules S → Seal → Game → List OpenEvent → Game → Type 0

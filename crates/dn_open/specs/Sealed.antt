@@ -2,6 +2,7 @@
 use Rattle.std.specs.Prelude.{◌≡◌, ℕ, List, Some, slice_get}
 use Rattle.dn_machine.specs.Flight.{Flight}
 use Rattle.dn_lockstep.specs.Sent.{bytes_of}
+use Rattle.dn_seal.specs.declared.opened.Opened.{Opened}
 use Rattle.dn_seal.specs.declared.seal.Seal.{Seal}
 use Rattle.dn_seal.specs.Envelope.{Letter, envelope}
 use Rattle.dn_seal.specs.Opening.{Sealing}
@@ -25,6 +26,16 @@ letter_of seal flight =
 
 abbrev pub envelope_of : Seal → Flight → List ℕ
 envelope_of seal flight = envelope seal.key (letter_of seal flight)
+
+-- what its receiver opens that envelope as
+abbrev pub opened_of : Flight → Opened
+opened_of sent =
+    record {
+      from = sent.from;
+      start = sent.start;
+      ask = sent.request;
+      datagram = record { items = bytes_of sent };
+    }
 
 -- the bytes are the envelope of one of these packets, which nodes of a game have sent
 abbrev pub WasSealed : Seal → List Flight → List ℕ → Type 0

@@ -25,7 +25,7 @@ fn has_flag(bytes: &[u8], flag: u8) -> bool
 
 /// Whether a datagram tells the same start as its envelope, by the low byte, and whether it asks for commands again.
 /// Of an honest sender each does; this finds who seals what they did not build.
-pub(crate) fn is_alike(opened: &Opened) -> bool
+pub fn is_alike(opened: &Opened) -> bool
     ensures { result ≡ is_alike opened.now }
 {
     let bytes = opened.datagram.as_slice();

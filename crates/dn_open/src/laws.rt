@@ -19,12 +19,13 @@ ghost use Rattle.dn_lockstep.specs.Sent.{sent_to};
 ghost use Rattle.dn_lockstep.specs.Steps.{Tells};
 ghost use Rattle.dn_lockstep.specs.Told.{made};
 ghost use Rattle.dn_lockstep.specs.Marking.{Marking};
-ghost use Rattle.dn_open.specs.Arrivals.{HearsSealed, HearsPacket, SendsSealed};
+ghost use Rattle.dn_open.specs.Arrivals.{HearsOpened, HearsSealed, HearsPacket, SendsSealed};
 ghost use Rattle.dn_open.specs.declared.arrived.Arrived.{Arrived};
-ghost use Rattle.dn_open.specs.OpenGames.{OpenEvent, IsGenuine, RunsOpen, StandFor};
+ghost use Rattle.dn_open.specs.declared.open_event.OpenEvent.{OpenEvent};
+ghost use Rattle.dn_open.specs.OpenGames.{IsGenuine, RunsOpen, StandFor};
 ghost use Rattle.dn_open.specs.Playable.{IsPlayable};
 ghost use Rattle.dn_seal.specs.declared.seal.Seal.{Seal};
-ghost use Rattle.dn_open.specs.Sealed.{WasSealed, envelope_of};
+ghost use Rattle.dn_open.specs.Sealed.{WasSealed, envelope_of, opened_of};
 
 use dn_setup::settings_found_again;
 use dn_world::World;
@@ -93,6 +94,19 @@ pub fn arrivals_keep_one_game()
         → IsGenuine seal session.given player bytes
         → HearsSealed seal bytes (session.locksteps player) new answer
         → AreOneGame marking limits settings (with_lockstep session player new) }
+{
+    settings_found_again();
+}
+
+/// So does what `hear` does with the contents of an envelope of a packet that was given to this player,
+/// whether or not there was such an envelope.
+pub fn letters_keep_one_game()
+    ensures { (marking : Marking) (limits : Limits) (settings : Settings) (session : Session) (which : ℕ)
+        (flight : Flight) (new : Contents) (answer : Arrived)
+        → AreOneGame marking limits settings session
+        → slice_get session.given which ≡ Some flight
+        → HearsOpened (opened_of flight) (session.locksteps flight.to) new answer
+        → AreOneGame marking limits settings (with_lockstep session flight.to new) }
 {
     settings_found_again();
 }

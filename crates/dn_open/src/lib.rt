@@ -5,12 +5,17 @@
 
 mod alike;
 mod arrived;
+mod hearing;
 mod laws;
+mod open_event;
 mod sealed;
 
+pub use alike::is_alike;
 pub use arrived::Arrived;
+pub use hearing::hear;
 pub use laws::{
-    arrivals_keep_one_game, open_games_agree, open_windows_agree, sealed_packets_are_genuine,
-    sealed_packets_are_heard, sends_keep_one_game,
+    arrivals_keep_one_game, letters_keep_one_game, open_games_agree, open_windows_agree,
+    sealed_packets_are_genuine, sealed_packets_are_heard, sends_keep_one_game,
 };
+pub use open_event::OpenEvent;
 pub use sealed::SealedLockstep;

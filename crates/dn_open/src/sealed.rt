@@ -10,10 +10,10 @@ ghost use Rattle.dn_lockstep.specs.Sent.{sent_to};
 ghost use Rattle.dn_lockstep.specs.Opening.{IsAdmitted, IsAdmittedWithin, limits_in, limits_within, whose_in, whose_within};
 ghost use Rattle.dn_seal.specs.Sealing.{sealing};
 
-use crate::alike::is_alike;
 use crate::arrived::Arrived;
+use crate::hearing::hear;
 use arrayvec::ArrayVec;
-use dn_lockstep::{Config, Lockstep, NodeFault, are_tics_near};
+use dn_lockstep::{Config, Lockstep, NodeFault};
 use dn_machine::{Made, Ran};
 use dn_packet::MAX_DATAGRAM;
 use dn_seal::{MAX_ENVELOPE, Seal, Sealer};
@@ -191,16 +191,6 @@ impl SealedLockstep {
             Ok(opened) => opened,
             Err(fault) => return Arrived::Unopened(fault),
         };
-        let made = self.lockstep.made();
-        if !are_tics_near(made, opened.start, opened.ask) {
-            return Arrived::Late;
-        }
-        if !is_alike(&opened) {
-            return Arrived::Unlike;
-        }
-        Arrived::Heard(
-            self.lockstep
-                .receive(opened.from, opened.datagram.as_slice()),
-        )
+        hear(&mut self.lockstep, &opened)
     }
 }

@@ -22,7 +22,7 @@ length-tag key m =
     length-take-le 16 _ (omega (arith, long))
 
 -- eight bytes of a list, one by one
-eight : (xs : List ℕ) → 8 ≤ length xs → (P : List ℕ → Type 0)
+pub eight : (xs : List ℕ) → 8 ≤ length xs → (P : List ℕ → Type 0)
     → ((a b c d e f g h : ℕ) → P (a ∷ b ∷ c ∷ d ∷ e ∷ f ∷ g ∷ h ∷ [])) → P (take 8 xs)
 eight (a ∷ b ∷ c ∷ d ∷ e ∷ f ∷ g ∷ h ∷ rest) long P holds = holds a b c d e f g h
 eight _ long P holds = absurd (omega arith)

@@ -123,7 +123,7 @@ four_fit a b c d ha hb hc hd (suc (suc zero)) = hc
 four_fit a b c d ha hb hc hd (suc (suc (suc zero))) = hd
 four_fit a b c d ha hb hc hd (suc (suc (suc (suc i)))) = omega arith
 
-four_bytes : (a b c d n : ℕ) → a < 256 → b < 256 → c < 256 → d < 256
+pub four_bytes : (a b c d n : ℕ) → a < 256 → b < 256 → c < 256 → d < 256
     → n ≡ from_le_bytes w32 (a ∷ b ∷ c ∷ d ∷ []) → a ∷ b ∷ c ∷ d ∷ [] ≡ to_le_bytes w32 n
 four_bytes a b c d n ha hb hc hd e =
     sym (le_bytes_4 (a ∷ b ∷ c ∷ d ∷ []) n refl (four_fit a b c d ha hb hc hd) e)
@@ -154,7 +154,7 @@ no_request q a b c d ask e = elim (cases_eq q 0) [
 ]
 
 -- the bytes of a request that was read
-ask_is : (q a b c d : ℕ) (ask : Option ℕ) → a < 256 → b < 256 → c < 256 → d < 256
+pub ask_is : (q a b c d : ℕ) (ask : Option ℕ) → a < 256 → b < 256 → c < 256 → d < 256
     → ask_in q (from_le_bytes w32 (a ∷ b ∷ c ∷ d ∷ [])) ≡ Some ask → q ∷ a ∷ b ∷ c ∷ d ∷ [] ≡ ask_bytes ask
 ask_is q a b c d ask ha hb hc hd e =
     let tic : ℕ = from_le_bytes w32 (a ∷ b ∷ c ∷ d ∷ []) in

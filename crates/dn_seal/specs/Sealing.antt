@@ -1,9 +1,9 @@
 -- What a sealer is.
-use Rattle.std.specs.Prelude.{ℕ, List}
+use Rattle.std.specs.Prelude.{ℕ, List, ◌∷◌, take}
 use Rattle.dn_seal.specs.declared.seal.Seal.{Seal}
 use Rattle.dn_seal.specs.declared.sealer.Sealer.{Sealer}
 use Rattle.dn_seal.specs.declared.suite.Suite.{Suite}
-use Rattle.dn_seal.specs.Keys.{game_key}
+use Rattle.dn_seal.specs.Keys.{game_key, suite_byte}
 use Rattle.dn_seal.specs.Opening.{Sealing}
 
 -- what the players of a game seal by, of this suite, secret and number
@@ -13,3 +13,7 @@ sealed_with suite secret number =
 
 abbrev pub sealing : Sealer → Sealing
 sealing sealer = record { seal = sealer.seal; me = sealer.me }
+
+-- the suite, the kind of what follows, and the front of the game's number
+abbrev pub front_bytes : Seal → ℕ → List ℕ
+front_bytes seal kind = suite_byte seal.suite ∷ kind ∷ take 8 seal.game

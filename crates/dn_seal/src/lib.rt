@@ -16,5 +16,5 @@ pub use laws::every_list_is_opened;
 pub use mac::hmac;
 pub use opened::{Opened, SealFault};
 pub use seal::Seal;
-pub use sealer::{MAX_ENVELOPE, OVERHEAD, Sealer};
+pub use sealer::{MAX_ENVELOPE, OVERHEAD, Sealer, ask_bytes, ask_in, tic_at};
 pub use suite::Suite;

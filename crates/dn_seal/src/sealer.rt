@@ -38,6 +38,9 @@ const KIND: u8 = 1;
 /// How many bytes of a game's number an envelope tells.
 const TOLD: usize = 8;
 
+/// How many bytes tell the suite, the kind and the game.
+const FRONT: usize = 10;
+
 /// What a player seals and opens by: what all players of the game have in common, and the player's own number.
 #[derive(Drop)]
 pub struct Sealer {
@@ -61,7 +64,7 @@ fn first_bytes(code: &[u8; 32]) -> [u8; 16]
 }
 
 /// Whether there is a request, and its tic.
-fn ask_bytes(ask: Option<u32>) -> [u8; 5]
+pub fn ask_bytes(ask: Option<u32>) -> [u8; 5]
     ensures { result ≡ ask_bytes ask }
 {
     match ask {
@@ -74,7 +77,7 @@ fn ask_bytes(ask: Option<u32>) -> [u8; 5]
 }
 
 /// The tic that four bytes from a place on are.
-fn tic_at(bytes: &[u8], place: usize) -> u32
+pub fn tic_at(bytes: &[u8], place: usize) -> u32
     requires { place + 4 ≤ length bytes.now }
     ensures { result ≡ from_le_bytes w32 (take 4 (drop place bytes.now)) }
 {
@@ -84,7 +87,7 @@ fn tic_at(bytes: &[u8], place: usize) -> u32
 }
 
 /// The request that a byte and a tic are, and none where they are none.
-fn ask_in(flag: u8, tic: u32) -> Option<Option<u32>>
+pub fn ask_in(flag: u8, tic: u32) -> Option<Option<u32>>
     ensures { result ≡ ask_in flag tic }
 {
     if flag == 1 {
@@ -117,7 +120,7 @@ fn datagram_in(bytes: &[u8]) -> ArrayVec<u8, 104>
 }
 
 impl Sealer {
-    ghost use Rattle.dn_seal.specs.Sealing.{sealing, sealed_with};
+    ghost use Rattle.dn_seal.specs.Sealing.{sealing, sealed_with, front_bytes};
 
     /// The sealer of a player whose game's players share a secret.
     pub fn new(secret: [u8; 32], number: [u8; 16], me: u8) -> Sealer
@@ -147,6 +150,24 @@ impl Sealer {
         }
     }
 
+    /// The number of the player who seals and opens.
+    pub fn me(&self) -> u8
+        ensures { result ≡ (sealing self.now).me }
+    {
+        self.me
+    }
+
+    /// The first ten bytes of every envelope: the suite, the kind of what follows, and the front of the game's number.
+    pub fn front(&self, kind: u8) -> [u8; 10]
+        ensures { result ≡ front_bytes (sealing self.now).seal kind }
+    {
+        let mut front = [0; FRONT];
+        front[0] = suite_byte(self.seal.suite);
+        front[1] = kind;
+        front[2..].copy_from_slice(&self.seal.game[..TOLD]);
+        front
+    }
+
     /// A hasher that has taken the key, for a message.
     fn inner(&self) -> Sha256
         ensures { HasTaken 0x36 (sealing self.now).seal.key result }
@@ -167,15 +188,16 @@ impl Sealer {
         }
     }
 
-    /// The tag of bytes.
-    fn tag(&self, bytes: &[u8]) -> [u8; 16]
+    /// The tag of bytes. Whoever seals another kind of thing by it writes the suite, the kind and the game's number
+    /// first, as every envelope does, so that no two kinds have bytes in common.
+    pub fn tag(&self, bytes: &[u8]) -> [u8; 16]
         ensures { result ≡ tag_of (sealing self.now).seal.key bytes.now }
     {
         first_bytes(&finished(self.inner(), self.outer(), bytes))
     }
 
     /// Whether the last 16 bytes are the tag of those before them.
-    fn is_tagged(&self, bytes: &[u8]) -> bool
+    pub fn is_tagged(&self, bytes: &[u8]) -> bool
         requires { 16 ≤ length bytes.now }
         ensures { IsTrue result ↔ (told_tag bytes.now
             ≡ tag_of (sealing self.now).seal.key (told_body bytes.now)) }
