@@ -1,0 +1,36 @@
+-- What a node gives, with its exact numbers.
+use Rattle.std.proofs.Common.{◌≡◌, ℕ, List, ◌∙◌, Option, Some, None}
+use Rattle.std.specs.Option.{option_map}
+use Rattle.std.proofs.lemmas.Option.{same_Some}
+use Rattle.arrayvec.specs.ArrayVec.{ArrayVec}
+use Rattle.dn_machine.specs.Flight.{Flight}
+use Rattle.dn_machine.specs.Limits.{Limits}
+use Rattle.dn_machine.specs.Node as machine
+use Rattle.dn_lockstep.specs.declared.lockstep.aiming.Aim.{Aim}
+use Rattle.dn_lockstep.specs.Contents.{Contents}
+use Rattle.dn_lockstep.specs.Represents.{Represents}
+use Rattle.dn_lockstep.specs.Sent.{sent_to, aim_of, bytes_of}
+use Rattle.dn_lockstep.specs.Steps.{IsAfter}
+use Rattle.dn_link.specs.Giving.{carried_of}
+
+-- a node that gives a packet
+pub gives_some : (limits : Limits) (me to : ℕ) (new : Contents) (m : machine.Node)
+    → Represents limits me new (sent_to to limits me m).0 → (aim : Aim) (given : ArrayVec ℕ) (shown : List ℕ)
+    → Some aim ≡ option_map aim_of (sent_to to limits me m).1
+    → Some shown ≡ option_map bytes_of (sent_to to limits me m).1 → given.items ≡ shown
+    → IsAfter limits me new (sent_to to limits me m)
+    (λ flight. Some (record { start = aim.start; ask = aim.ask; datagram = given }) ≡ option_map carried_of flight)
+gives_some limits me to new m node aim given shown aimed told is =
+    record { node = node; answer = go (sent_to to limits me m).1 aimed told }
+  where
+    go : (flight : Option Flight) → Some aim ≡ option_map aim_of flight → Some shown ≡ option_map bytes_of flight
+        → Some (record { start = aim.start; ask = aim.ask; datagram = given }) ≡ option_map carried_of flight
+    go None a b = absurd (cc)
+    go (Some f) a b =
+        let numbers = same_Some aim (aim_of f) a in
+        let text = is ∙ same_Some shown (bytes_of f) b in
+        (λ i. Some (record {
+          start = (numbers i).start;
+          ask = (numbers i).ask;
+          datagram = record { items = text i };
+        }))

@@ -1,0 +1,146 @@
+-- What a lockstep has of another player, with the player's end, never grows less.
+use Rattle.std.proofs.Common.{◌≡◌, ◌≢◌, ◌<◌, ◌≤◌, ℕ, Bool, true, false, List, [], ◌∷◌, refl, ap, sym, ◌∙◌, subst, arith, Some, All, inl, inr, ◌&&◌}
+use Rattle.std.specs.Prelude.{Ok, ◌==◌, slice_get}
+use Rattle.std.proofs.lemmas.Bool.{cases_lt, cond-false, lt-ltb, le-ltb, ne_eqb}
+use Rattle.std.proofs.lemmas.List.Elements.{All-head, All-tail}
+use Rattle.dn_setup.specs.Settings.{Settings}
+use Rattle.dn_machine.specs.Flight.{Flight, packet_of, is_close, is_request_close}
+use Rattle.dn_machine.specs.Limits.{Limits}
+use Rattle.dn_machine.specs.Hearing.{on_packet}
+use Rattle.dn_machine.specs.Node as machine
+use Rattle.dn_machine.specs.Node.{known_end, ends_of}
+use Rattle.dn_machine.proofs.Put.{put_at}
+use Rattle.dn_lockstep.specs.Contents.{Contents, end_in}
+use Rattle.dn_lockstep.specs.Marking.{Marking}
+use Rattle.dn_lockstep.specs.Near.{IsFair}
+use Rattle.dn_lockstep.specs.OneGame.{AreOneGame}
+use Rattle.dn_lockstep.specs.Represents.{Represents}
+use Rattle.dn_lockstep.specs.Session.{Session, with_lockstep}
+use Rattle.dn_lockstep.proofs.Counting.{got_is}
+use Rattle.dn_lockstep.proofs.Nearby.{told_by, told_is, near_received}
+use Rattle.dn_lockstep.proofs.Shown.{end_is}
+use Rattle.dn_seal.specs.declared.opened.Opened.{Opened}
+use Rattle.dn_open.specs.Arrivals.{HearsOpened, IsRead, heard, on_opened}
+use Rattle.dn_open.specs.declared.arrived.Arrived.{Arrived}
+use Rattle.dn_open.specs.Playable.{IsSmall}
+use Rattle.dn_open.specs.Sealed.{opened_of}
+use Rattle.dn_open.proofs.Alikes.{alike}
+use Rattle.dn_open.proofs.Deliveries.{near_if}
+use Rattle.dn_open.proofs.Fairness.{are_sealable}
+use Rattle.dn_link.specs.Bundles.{WasGiven}
+use Rattle.dn_link.specs.Counting.{has_of, with_end}
+use Rattle.dn_link.specs.Hearing.{ByTest, HearsUntil, HearsAll, is_start}
+use Rattle.dn_link.proofs.Holding.{Holds, held_of, holds_same, hear_holds}
+use Rattle.dn_link.proofs.Keeping.{LettersKeep, as_it_is, keeps_one, until_keeps}
+
+-- as the node that it represents
+has_is : (limits : Limits) (me : ℕ) (n : Contents) (m : machine.Node) → Represents limits me n m
+    → me < limits.players → (p : ℕ) → p ≢ me → p < limits.players → has_of n p ≡ held_of m p
+has_is limits me n m r mine p other below =
+    let here : p < n.players = omega (arith, below, r.whose.players) in
+    let count = got_is limits me n m r p here in
+    let end : end_in n p ≡ ends_of m p = end_is limits me n m r mine p below
+    ∙ cond-false (p == me) _ _ (ne_eqb p me other) in
+    rw (lt-ltb p n.players here) (λ i. with_end (count i) (end i))
+
+has_none : (n : Contents) (p : ℕ) → n.players ≤ p → has_of n p ≡ 0
+has_none n p past = rw (le-ltb p n.players past) refl
+
+-- whoever has as much as a node has as much as a lockstep
+abbrev pub HasAsMuch : ℕ → Contents → Contents → Type 0
+HasAsMuch me old new = (which : ℕ) → which ≢ me → has_of old which ≤ has_of new which
+
+pub grows : (limits : Limits) (me : ℕ) (old new : Contents) (m next : machine.Node) → Represents limits me old m
+    → Represents limits me new next → me < limits.players → Holds m next → HasAsMuch me old new
+grows limits me old new m next before after mine holds which other = elim (cases_lt which limits.players) [
+  | inl below ↦ omega (
+    arith,
+    holds which,
+    has_is limits me old m before mine which other below,
+    has_is limits me new next after mine which other below,
+  )
+  | inr past ↦ omega (arith, has_none old which (omega (arith, past, before.whose.players)))
+]
+
+-- what is opened of a fair packet, by the tests that it passes or not
+opened_holds : (limits : Limits) (me : ℕ) (m : machine.Node) (flight : Flight) → IsFair flight
+    → flight.from < limits.players → flight.from ≢ me
+    → Holds m (on_opened limits me m (Ok (opened_of flight)) (Ok (packet_of flight)) (told_by flight.kind)).0
+opened_holds limits me m flight fair peer other =
+    go (is_close (machine.made me m) flight.start && is_request_close (machine.made me m) flight.request) refl
+  where
+    go : (test : Bool)
+        → (is_close (machine.made me m) flight.start && is_request_close (machine.made me m) flight.request) ≡ test
+        → Holds m (on_opened limits me m (Ok (opened_of flight)) (Ok (packet_of flight)) (told_by flight.kind)).0
+    go true close =
+        let step : on_opened limits me m (Ok (opened_of flight)) (Ok (packet_of flight)) (told_by flight.kind)
+        ≡ heard (on_packet limits me m flight) =
+        rw (close, alike flight) (ap heard (near_received limits me m flight fair peer other
+        (near_if (machine.made me m) flight close))) in
+        subst (λ (x : machine.Node × Arrived). Holds m x.0) (sym step) (hear_holds limits me m flight)
+    go false far =
+        let step : on_opened limits me m (Ok (opened_of flight)) (Ok (packet_of flight)) (told_by flight.kind)
+        ≡ (m, Arrived.Late) = rw far refl in
+        subst (λ (x : machine.Node × Arrived). Holds m x.0) (sym step) (holds_same m)
+
+module _ (letters : LettersKeep) (marking : Marking) (limits : Limits) (settings : Settings) (session : Session)
+    (player : ℕ) (mine : player < limits.players) where
+  abbrev at : Contents → Session
+  at now = with_lockstep session player now
+
+  one_grows : (packet : Opened) (now next : Contents) (answer : Arrived)
+      → AreOneGame marking limits settings (at now) → WasGiven session.given player packet
+      → HearsOpened packet now next answer → HasAsMuch player now next
+  one_grows packet now next answer game (which, flight, found, to, is) hears =
+      let m = game.last.nodes player in
+      let r : Represents limits player now m = subst (λ (n : Contents). Represents limits player n m)
+      (put_at session.locksteps player player now refl) (game.nodes player mine) in
+      let there : slice_get game.last.flights which ≡ Some flight =
+      ap (λ (fs : List Flight). slice_get fs which) game.flights ∙ found in
+      let small = subst (λ (n : Contents). IsSmall n) (sym (put_at session.locksteps player player now refl)) hears.small in
+      let good = are_sealable marking limits settings game player mine small which flight there in
+      let reads : IsRead (Ok (opened_of flight)) (Ok (packet_of flight)) (told_by flight.kind) =
+      ((good.0.fair.packet, refl), told_is flight flight.kind good.0.fair.kind) in
+      let after = (subst (λ (p : Opened). HearsOpened p now next answer) is hears).step (Ok (packet_of flight))
+      (told_by flight.kind) reads limits player m r in
+      grows limits player now next m _ r after.node mine
+      (opened_holds limits player m flight good.0.fair good.1.from (λ e. good.1.apart (e ∙ sym to)))
+
+  pub until_grows : (packets : List Opened) (now new : Contents) (started : Bool)
+      → AreOneGame marking limits settings (at now) → All (WasGiven session.given player) packets
+      → HearsUntil packets now new started → HasAsMuch player now new
+  until_grows [] now new started game all hears =
+      subst (λ (n : Contents). HasAsMuch player now n) (sym hears.0) (λ which other. omega arith)
+  until_grows (packet ∷ packets) now new started game all (next, answer, hears, then) =
+      let given = All-head (WasGiven session.given player) packet packets all in
+      let first = one_grows packet now next answer game given hears in
+      go (is_start answer) first (until_grows packets next new started
+      (keeps_one letters marking limits settings session player packet now next answer game given hears)
+      (All-tail (WasGiven session.given player) packet packets all)) then
+    where
+      go : (test : Bool) → HasAsMuch player now next → (HearsUntil packets next new started → HasAsMuch player next new)
+          → ByTest test ((new ≡ next) × (started ≡ true)) (HearsUntil packets next new started)
+          → HasAsMuch player now new
+      go true first later then = subst (λ (n : Contents). HasAsMuch player now n) (sym then.0) first
+      go false first later then = λ which other. omega (arith, first which other, later then which other)
+
+  pub all_grows : (packets : List Opened) (new : Contents) (started : Bool)
+      → AreOneGame marking limits settings session → All (WasGiven session.given player) packets
+      → HearsAll packets (session.locksteps player) new started → HasAsMuch player (session.locksteps player) new
+  all_grows packets new started game all (next, first, then) =
+      let begun = subst (AreOneGame marking limits settings)
+      (sym (as_it_is letters marking limits settings session player)) game in
+      let one = until_grows packets (session.locksteps player) next started begun all first in
+      let here = until_keeps letters marking limits settings session player packets (session.locksteps player) next
+      started begun all first in
+      go started one here then
+    where
+      go : (test : Bool) → HasAsMuch player (session.locksteps player) next
+          → AreOneGame marking limits settings (at next)
+          → ByTest test ((again : Bool) × HearsUntil packets next new again) (new ≡ next)
+          → HasAsMuch player (session.locksteps player) new
+      go true one here then =
+          let other = until_grows packets next new then.0 here all then.1 in
+          λ which apart. omega (arith, one which apart, other which apart)
+      go false one here then =
+          subst (λ (n : Contents). HasAsMuch player (session.locksteps player) n) (sym then) one

@@ -1,0 +1,120 @@
+-- What a node has of a player, with the player's end, never grows less.
+use Rattle.std.proofs.Common.{ℤ, ◌≤◌, ◌&&◌, ℕ, eqb, Bool, true, false, List, ◌++◌, length, ap, arith, Option, Some, None, inl, inr}
+use Rattle.std.proofs.lemmas.Bool.{cases_eq, cond_both}
+use Rattle.std.proofs.lemmas.List.{length-append}
+use Rattle.dn_tic.specs.declared.command.TicCmd.{TicCmd}
+use Rattle.dn_tic.specs.declared.input.Input.{Input}
+use Rattle.dn_machine.specs.declared.answers.Heard.{Heard}
+use Rattle.dn_machine.specs.declared.peer.Peer.{Peer}
+use Rattle.dn_machine.specs.Limits.{Limits}
+use Rattle.dn_machine.specs.Flight.{Flight, is_exit, end_of}
+use Rattle.dn_machine.specs.Node.{Node, put, with_peer, made, ends_of}
+use Rattle.dn_machine.specs.Building.{on_build}
+use Rattle.dn_machine.specs.Sending.{after_sent, on_send}
+use Rattle.dn_machine.specs.Hearing.{is_within, after_request, after_exit, on_packet}
+use Rattle.dn_machine.specs.Running.{on_run, on_quit}
+use Rattle.dn_machine.proofs.Put.{put_at, put_off}
+use Rattle.dn_machine.proofs.Calls.{build_cases, send_cases, run_cases, quit_cases, packet_cases, sender_after}
+use Rattle.dn_link.specs.Counting.{with_end}
+
+-- what it has of a player, by the node
+abbrev pub held_of : Node → ℕ → ℕ
+held_of node p = with_end (length (node.held p)) (ends_of node p)
+
+-- it has as much of each player as before
+abbrev pub Holds : Node → Node → Type 0
+Holds old new = (p : ℕ) → held_of old p ≤ held_of new p
+
+pub holds_same : (node : Node) → Holds node node
+holds_same node p = omega arith
+
+more_counts : (one other : ℕ) (end : Option ℕ) → one ≤ other → with_end one end ≤ with_end other end
+more_counts one other None less = less
+more_counts one other (Some end) less = omega (arith, less)
+
+-- no end is forgotten
+abbrev Knows : Option ℕ → Option ℕ → Type 0
+Knows old new = (count : ℕ) → with_end count old ≤ with_end count new
+
+knows_some : (old : Option ℕ) (end : ℕ) → Knows old (Some end)
+knows_some None end count = omega arith
+knows_some (Some other) end count = omega arith
+
+longer : (held : ℕ → List TicCmd) (from : ℕ) (more : List TicCmd) (p : ℕ)
+    → length (held p) ≤ length (put held from (held from ++ more) p)
+longer held from more p = elim (cases_eq p from) [
+  | inl e ↦
+      let at = ap (length {A = TicCmd}) (put_at held from p (held from ++ more) e) in
+      let both = length-append (held from) more in
+      let same = ap (λ (k : ℕ). length (held k)) e in
+      omega (arith, at, both, same)
+  | inr n ↦ let off = ap (length {A = TicCmd}) (put_off held from p (held from ++ more) n) in omega (arith, off)
+]
+
+module _ (limits : Limits) (i : ℕ) (node : Node) where
+  peer_holds : (player : ℕ) (peer : Peer) (held : ℕ → List TicCmd)
+      → ((p : ℕ) → length (node.held p) ≤ length (held p))
+      → Knows (node.peers player).end peer.end
+      → Holds node (record (with_peer node player peer) { held = held })
+  peer_holds player peer held more known p = elim (cases_eq p player) [
+    | inl e ↦
+        let at = ap (λ (k : Peer). with_end (length (held p)) k.end) (put_at node.peers player p peer e) in
+        let same = ap (λ (k : ℕ). with_end (length (held p)) (node.peers k).end) e in
+        let first = more_counts (length (node.held p)) (length (held p)) (node.peers p).end (more p) in
+        omega (arith, first, same, known (length (held p)), at)
+    | inr n ↦
+        let off = ap (λ (k : Peer). with_end (length (held p)) k.end) (put_off node.peers player p peer n) in
+        let first = more_counts (length (node.held p)) (length (held p)) (node.peers p).end (more p) in
+        omega (arith, first, off)
+  ]
+
+  pub build_holds : (input : Input) → Holds node (on_build limits i node input).0
+  build_holds input = build_cases limits i node (λ (new : Node). Holds node new) input
+      (λ full. holds_same node)
+      (λ plays free p. more_counts _ _ (ends_of node p) (longer node.held i _ p))
+
+  pub send_holds : (to : ℕ) → Holds node (on_send limits i node to).0
+  send_holds to = send_cases limits i node (λ (r : Node × Option Flight). Holds node r.0) to
+      (holds_same node) (λ other e. holds_same node) (λ other e. sent) (λ other left. sent)
+    where
+      sent : Holds node (after_sent limits i node to)
+      sent = peer_holds to _ node.held (λ p. omega arith) (λ count. omega arith)
+
+  pub run_holds : (marks : ℕ → ℤ) → Holds node (on_run limits node marks).0
+  run_holds marks = run_cases limits i node marks (λ (new : Node). Holds node new)
+      (λ waits. holds_same node) (λ player plays none off p. omega arith) (λ plays none full p. omega arith)
+      (λ plays none free p. omega arith)
+
+  pub quit_holds : Holds node (on_quit node).0
+  quit_holds = quit_cases limits i node (λ (new : Node). Holds node new) (holds_same node) (λ goes_on p. omega arith)
+
+  request_known : (peer : Peer) (request : Option ℕ)
+      → Knows peer.end (after_request limits.places (made i node) peer request).end
+  request_known peer request count = cond_both (eqb peer.pause 0 && is_within limits.places (made i node) request) _ _
+      (λ (p : Peer). with_end count peer.end ≤ with_end count p.end) (λ met. omega arith) (λ not_met. omega arith)
+
+  exit_known : (peer : Peer) (exit : Bool) (end : ℕ) → Knows peer.end (after_exit peer exit end).end
+  exit_known peer true end = knows_some peer.end end
+  exit_known peer false end = λ count. omega arith
+
+  pub hear_holds : (flight : Flight) → Holds node (on_packet limits i node flight).0
+  hear_holds flight =
+      let known : Knows (node.peers flight.from).end (sender_after limits i node flight).end = (λ count.
+      let a = request_known (node.peers flight.from) flight.request count in
+      let b = exit_known (after_request limits.places (made i node) (node.peers flight.from) flight.request)
+      (is_exit flight.kind) (end_of flight) count in
+      omega (arith, a, b)) in
+      packet_cases limits i node flight (λ (r : Node × Heard). Holds node r.0) (record {
+        dropped = λ number why. holds_same node;
+        starts = λ s e k p. omega arith;
+        completes = λ word e all p. omega arith;
+        notes = λ word e some p. omega arith;
+        commands = λ plays. record {
+          dropped = λ number why. holds_same node;
+          stale = λ l. peer_holds flight.from _ node.held (λ p. omega arith) known;
+          gap = λ l. peer_holds flight.from _ node.held (λ p. omega arith) known;
+          takes = λ l m. peer_holds flight.from _ _ (longer node.held flight.from _) known;
+        };
+        requests = λ ended. peer_holds flight.from _ node.held (λ p. omega arith)
+            (request_known (node.peers flight.from) flight.request);
+      })

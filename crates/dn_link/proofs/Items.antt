@@ -1,0 +1,210 @@
+-- Parts are read back, and what is read is what stands there.
+use Rattle.std.proofs.Common.{◌≡◌, ◌≢◌, ◌≤◌, ◌+◌, ◌*◌, ◌/◌, ℕ, zero, suc, List, [], ◌∷◌, ◌++◌, length, take, drop, refl, ap, sym, ◌∙◌, subst, arith, append_assoc, Option, Some, None, All, inl, inr}
+use Rattle.std.specs.Option.{option_map}
+use Rattle.std.specs.List.{flat_map}
+use Rattle.std.specs.Int.{w32, from_le_bytes, to_le_bytes}
+use Rattle.std.proofs.lemmas.Bool.{cases_eq, cases_lt, eq-eqb, ne_eqb, lt-ltb, le-ltb}
+use Rattle.std.proofs.lemmas.List.Elements.{All-nil, All-cons, All-head, All-tail}
+use Rattle.std.proofs.lemmas.List.{take-append-drop, length-take-le, length-append}
+use Rattle.std.proofs.lemmas.Nat.{from_le_bytes-to_le_bytes_4}
+use Rattle.std.proofs.lemmas.Option.{same_Some, none-some}
+use Rattle.std.proofs.Math.Seq.{take-append_seam, drop-append_seam}
+use Rattle.dn_seal.proofs.Openings.{four_bytes}
+use Rattle.dn_link.specs.declared.bundle.Carried.{Carried}
+use Rattle.dn_link.specs.declared.bundle.Part.{Part}
+use Rattle.dn_link.specs.declared.bundle.Part.TheVariants.{Whole, Run}
+use Rattle.dn_link.specs.declared.bundle.Run as run
+use Rattle.dn_link.specs.Text.{carried_bytes, part_bytes, IsPart, IsRun}
+use Rattle.dn_link.specs.Told.{number_at, told_whole, told_run, told_part, told_all}
+use Rattle.dn_link.proofs.Parts.{Fit, fit_drop, small}
+use Rattle.dn_link.proofs.Packets.{told_first, first_told, written_first, first_is, first_fits, length-carried}
+
+run_back : (r : run.Run) (rest : List ℕ) → IsRun r → told_part (part_bytes (Run r) ++ rest) ≡ Some (Run r)
+run_back r rest is =
+    let n : ℕ = length r.commands.items / 8 in
+    let whole = is.whole in
+    let some = is.some in
+    let few = is.few in
+    let off = ne_eqb n 0 (λ e. absurd (omega (arith, e, whole, some))) in
+    let a = le-ltb 24 n (omega (arith, whole, few)) in
+    let both = length-append (to_le_bytes w32 r.start ++ r.commands.items) rest in
+    let one = length-append (to_le_bytes w32 r.start) r.commands.items in
+    let four : length (to_le_bytes w32 r.start) ≡ 4 = refl in
+    let b = le-ltb (length (to_le_bytes w32 r.start ++ r.commands.items ++ rest)) (4 + 8 * n)
+    (omega (arith, whole, both, one, four)) in
+    let start = from_le_bytes-to_le_bytes_4 r.start is.start in
+    let items : take (8 * n) (r.commands.items ++ rest) ≡ r.commands.items =
+    ap (λ (k : ℕ). take k (r.commands.items ++ rest)) whole ∙ take-append_seam r.commands.items rest in
+    rw (off, a, b) (λ i. Some (Run (record { start = start i; commands = record { items = items i } })))
+
+pub part_back : (part : Part) (rest : List ℕ) → IsPart part → told_part (part_bytes part ++ rest) ≡ Some part
+part_back (Whole packet) rest is =
+    ap (option_map Whole) (told_first (carried_bytes packet ++ rest) packet (written_first packet rest is))
+part_back (Run r) rest is = run_back r rest is
+
+-- what is read as a part is that part's bytes
+pub record IsPlaced (bytes : List ℕ) (part : Part) : Type 0 where
+  pub is : IsPart part
+  pub spelled : bytes ≡ part_bytes part ++ drop (length (part_bytes part)) bytes
+
+whole_is : (rest : List ℕ) (part : Part) → Fit rest → option_map Whole (told_whole rest) ≡ Some part
+    → IsPlaced (0 ∷ rest) part
+whole_is rest part fits e = go (told_whole rest) refl e
+  where
+    go : (one : Option Carried) → told_whole rest ≡ one → option_map Whole one ≡ Some part
+        → IsPlaced (0 ∷ rest) part
+    go None is e = absurd (none-some part e)
+    go (Some packet) is e =
+        let first = first_told rest packet is in
+        subst (IsPlaced (0 ∷ rest)) (same_Some (Whole packet) part e) (record {
+          is = first_fits rest packet fits first;
+          spelled = ap (λ (xs : List ℕ). 0 ∷ xs) (first_is rest packet fits first
+              ∙ ap (λ (k : ℕ). carried_bytes packet ++ drop k rest) (sym (length-carried packet)));
+        })
+
+run_at : (n : ℕ) (rest : List ℕ) → n ≢ 0 → Fit rest → n ≤ 24 → 4 + 8 * n ≤ length rest
+    → IsPlaced (n ∷ rest)
+    (Run (record { start = number_at 0 rest; commands = record { items = take (8 * n) (drop 4 rest) } }))
+run_at n (s0 ∷ s1 ∷ s2 ∷ s3 ∷ more) some fits few long =
+    let start : ℕ = from_le_bytes w32 (s0 ∷ s1 ∷ s2 ∷ s3 ∷ []) in
+    let starts = four_bytes s0 s1 s2 s3 start (fits 0) (fits 1) (fits 2) (fits 3) refl in
+    let one : 1 ≤ n = positive n some in
+    let long_1 : 8 * n ≤ length more = omega (arith, long) in
+    let sized : length (take (8 * n) more) ≡ 8 * n = length-take-le (8 * n) more long_1 in
+    let eighth : n ≡ length (take (8 * n) more) / 8 = omega (arith, sized) in
+    let items : more ≡ take (8 * n) more ++ drop (length (take (8 * n) more)) more =
+    sym (take-append-drop (8 * n) more) ∙ ap (λ (k : ℕ). take (8 * n) more ++ drop k more) (sym sized) in
+    record {
+      is = record {
+        start = small s0 s1 s2 s3 (fits 0) (fits 1) (fits 2) (fits 3);
+        some = omega (arith, sized, one);
+        few = omega (arith, sized, few);
+        whole = omega (arith, sized);
+      };
+      spelled = λ i. eighth i ∷ (starts i ++ items i);
+    }
+  where
+    positive : (k : ℕ) → k ≢ 0 → 1 ≤ k
+    positive zero is = absurd (is refl)
+    positive (suc k) is = omega arith
+run_at n _ some fits few long = absurd (omega arith)
+
+run_is : (n : ℕ) (rest : List ℕ) (part : Part) → n ≢ 0 → Fit rest → told_run n rest ≡ Some part
+    → IsPlaced (n ∷ rest) part
+run_is n rest part some fits e = elim (cases_lt 24 n) [
+  | inl many ↦
+      let a = lt-ltb 24 n many in
+      let none : ◌≡◌ {A = Option Part} None (Some part) = rw a at e in absurd (none-some part none)
+  | inr few ↦
+      let a = le-ltb 24 n few in
+      elim (cases_lt (length rest) (4 + 8 * n)) [
+        | inl less ↦
+            let b = lt-ltb (length rest) (4 + 8 * n) less in
+            let none : ◌≡◌ {A = Option Part} None (Some part) = rw (a, b) at e in absurd (none-some part none)
+        | inr long ↦
+            let b = le-ltb (length rest) (4 + 8 * n) long in
+            subst (IsPlaced (n ∷ rest)) (same_Some _ part (rw (a, b) at e)) (run_at n rest some fits few long)
+      ]
+]
+
+pub part_is : (bytes : List ℕ) (part : Part) → Fit bytes → told_part bytes ≡ Some part → IsPlaced bytes part
+part_is [] part fits e = absurd (none-some part e)
+part_is (n ∷ rest) part fits e = elim (cases_eq n 0) [
+  | inl none ↦
+      let on = eq-eqb n 0 none in
+      subst (λ (k : ℕ). IsPlaced (k ∷ rest) part) (sym none)
+      (whole_is rest part (fit_drop 1 (n ∷ rest) fits) (rw on at e))
+  | inr some ↦
+      let off = ne_eqb n 0 some in run_is n rest part some (fit_drop 1 (n ∷ rest) fits) (rw off at e)
+]
+
+-- a part that is read lies within the bytes
+pub part_room : (bytes : List ℕ) (part : Part) → Fit bytes → told_part bytes ≡ Some part
+    → length (part_bytes part) ≤ length bytes
+part_room bytes part fits e =
+    let all = ap (length {A = ℕ}) (part_is bytes part fits e).spelled in
+    let both = length-append (part_bytes part) (drop (length (part_bytes part)) bytes) in
+    omega (arith, all, both)
+
+-- what follows a part, or none
+abbrev pub opened : ℕ → List ℕ → Option Part → Option (List Part)
+opened n bytes one =
+    elim one [
+      | None ↦ None
+      | Some part ↦ option_map (λ parts. part ∷ parts) (told_all n (drop (length (part_bytes part)) bytes))
+    ]
+
+-- all parts are read back
+pub all_back : (parts : List Part) → All IsPart parts
+    → told_all (length parts) (flat_map part_bytes parts) ≡ Some parts
+all_back [] all = refl
+all_back (part ∷ parts) all =
+    let rest : List ℕ = flat_map part_bytes parts in
+    let one = part_back part rest (All-head IsPart part parts all) in
+    let seam = drop-append_seam (part_bytes part) rest in
+    let others = all_back parts (All-tail IsPart part parts all) in
+    ap (opened (length parts) (part_bytes part ++ rest)) one
+    ∙ ap (λ (xs : List ℕ). option_map (λ (more : List Part). part ∷ more) (told_all (length parts) xs)) seam
+    ∙ ap (option_map (λ (more : List Part). part ∷ more)) others
+
+-- and what is read is their bytes
+pub record Alls (n : ℕ) (bytes : List ℕ) (parts : List Part) : Type 0 where
+  pub count : length parts ≡ n
+  pub fit : All IsPart parts
+  pub spelled : bytes ≡ flat_map part_bytes parts
+
+abbrev Recur : ℕ → Type 0
+Recur n = (rest : List ℕ) (more : List Part) → Fit rest → told_all n rest ≡ Some more → Alls n rest more
+
+pub all_is : (n : ℕ) (bytes : List ℕ) (parts : List Part) → Fit bytes → told_all n bytes ≡ Some parts
+    → Alls n bytes parts
+all_is zero [] parts fits e =
+    subst (Alls 0 []) (same_Some [] parts e) (record { count = refl; fit = All-nil IsPart; spelled = refl })
+all_is zero (x ∷ bytes) parts fits e = absurd (none-some parts e)
+all_is (suc n) bytes parts fits e =
+    first (λ rest more fit told. all_is n rest more fit told) (told_part bytes) refl e
+  where
+    next : Recur n → (part : Part) → IsPlaced bytes part → (others : Option (List Part))
+        → told_all n (drop (length (part_bytes part)) bytes) ≡ others
+        → option_map (λ (more : List Part). part ∷ more) others ≡ Some parts → Alls (suc n) bytes parts
+    next recur part is None they e = absurd (none-some parts e)
+    next recur part is (Some more) they e =
+        let rest = recur (drop (length (part_bytes part)) bytes) more
+        (fit_drop (length (part_bytes part)) bytes fits) they in
+        subst (Alls (suc n) bytes) (same_Some (part ∷ more) parts e) (record {
+          count = omega (arith, rest.count);
+          fit = All-cons IsPart part more is.is rest.fit;
+          spelled = is.spelled ∙ ap (λ (xs : List ℕ). part_bytes part ++ xs) rest.spelled;
+        })
+
+    first : Recur n → (one : Option Part) → told_part bytes ≡ one
+        → (elim one [
+          | None ↦ None
+          | Some part ↦ option_map (λ parts. part ∷ parts)
+              (told_all n (drop (length (part_bytes part)) bytes))
+        ]) ≡ Some parts
+        → Alls (suc n) bytes parts
+    first recur None is e = absurd (none-some parts e)
+    first recur (Some part) is e =
+        next recur part (part_is bytes part fits is) (told_all n (drop (length (part_bytes part)) bytes)) refl e
+
+-- parts are written one after the other: there is room for the next, and with it the whole is still to come
+module _ (bytes whole : List ℕ) (rest : List Part) (part : Part) (after : List Part) (split : rest ≡ part ∷ after)
+    (so : bytes ++ flat_map part_bytes rest ≡ whole) where
+  pub part_fits : length whole ≤ 1200 → length bytes + length (part_bytes part) ≤ 1200
+  part_fits room =
+      let both = length-append bytes (flat_map part_bytes rest) in
+      let all = ap (length {A = ℕ}) so in
+      let one = ap (λ (xs : List Part). length (flat_map part_bytes xs)) split in
+      let two = length-append (part_bytes part) (flat_map part_bytes after) in
+      omega (arith, both, all, one, two, room)
+
+  pub one_more : (new : List ℕ) → new ≡ bytes ++ part_bytes part → new ++ flat_map part_bytes after ≡ whole
+  one_more new e =
+      ap (λ (xs : List ℕ). xs ++ flat_map part_bytes after) e
+      ∙ append_assoc bytes (part_bytes part) (flat_map part_bytes after)
+      ∙ ap (λ (xs : List Part). bytes ++ flat_map part_bytes xs) (sym split)
+      ∙ so
+
+  pub still_fit : All IsPart rest → All IsPart after
+  still_fit fit = All-tail IsPart part after (subst (All IsPart) split fit)

@@ -1,0 +1,16 @@
+pub mod Parts
+pub mod Packets
+pub mod Items
+pub mod Turns
+pub mod Wholes
+pub mod Openings
+pub mod Hearings
+pub mod Keeping
+pub mod Packings
+pub mod Carrying
+pub mod Linked
+pub mod Relinking
+pub mod Linking
+pub mod Holding
+pub mod Growing
+pub mod Leaving

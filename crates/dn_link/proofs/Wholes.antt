@@ -1,0 +1,240 @@
+-- A bundle is read back, and what is read is what stands there.
+use Rattle.std.proofs.Common.{◌≡◌, ◌<◌, ◌≤◌, ◌+◌, ◌^◌, ℕ, List, [], ◌∷◌, ◌++◌, length, take, drop, refl, ap, sym, ◌∙◌, subst, arith, append_assoc, Option, Some, None, All, inl, inr, w8, ℤ, to_z, of_z}
+use Rattle.std.specs.Prelude.{slice_index, FitsSigned}
+use Rattle.std.specs.Option.{option_map}
+use Rattle.std.specs.Int.{w32, cast_signed, cast_unsigned, to_le_bytes}
+use Rattle.std.proofs.lemmas.Bool.{cases_lt, lt-ltb, le-ltb}
+use Rattle.std.proofs.lemmas.Int.{to_z-of_z, of_z-to_z}
+use Rattle.std.proofs.lemmas.List.{take-append-drop, length-drop, drop-drop}
+use Rattle.std.proofs.lemmas.Nat.{from_le_bytes-to_le_bytes_4}
+use Rattle.std.proofs.lemmas.Option.{same_Some, none-some}
+use Rattle.std.proofs.Math.Seq.{drop-append_seam}
+use Rattle.dn_seal.specs.declared.seal.Seal.{Seal}
+use Rattle.dn_seal.specs.Keys.{suite_byte}
+use Rattle.dn_seal.specs.Opening.{told_game}
+use Rattle.dn_seal.proofs.Envelopes.{eight}
+use Rattle.dn_seal.proofs.Openings.{four_bytes}
+use Rattle.dn_link.specs.declared.bundle.Bundle.{Bundle}
+use Rattle.dn_link.specs.declared.bundle.Message.{Message}
+use Rattle.dn_link.specs.declared.bundle.Part.{Part}
+use Rattle.dn_link.specs.Text.{counts_bytes, message_bytes, parts_bytes, bundle_bytes, IsBundle, IsPart}
+use Rattle.dn_link.specs.Told.{number_at, told_counts, told_message, told_parts, bundle_with, told_with, told_bundle}
+use Rattle.dn_link.proofs.Parts.{Fit, fit_drop, small, counts_back, length-counts, counts_is, message_back, message_is}
+use Rattle.dn_link.proofs.Items.{all_back, all_is}
+
+-- the eighteen bytes in front, with this suite and these bytes of the game's number
+abbrev pub headed : ℕ → List ℕ → Bundle → List ℕ
+headed suite game b =
+    (suite ∷ 2 ∷ game) ++ (b.from ∷ b.to ∷ []) ++ to_le_bytes w32 b.number
+    ++ (cast_unsigned w8 b.lead ∷ b.holes ∷ [])
+
+abbrev pub head_bytes : Seal → Bundle → List ℕ
+head_bytes seal b = headed (suite_byte seal.suite) (take 8 seal.game) b
+
+-- and what follows them
+abbrev pub rest_bytes : Bundle → List ℕ
+rest_bytes b = counts_bytes b.counts ++ (message_bytes b.message ++ parts_bytes b.parts.items)
+
+pub parted : (seal : Seal) (b : Bundle) → bundle_bytes seal b ≡ head_bytes seal b ++ rest_bytes b
+parted seal b =
+    append_assoc (head_bytes seal b ++ counts_bytes b.counts) (message_bytes b.message)
+    (parts_bytes b.parts.items)
+    ∙ append_assoc (head_bytes seal b) (counts_bytes b.counts)
+    (message_bytes b.message ++ parts_bytes b.parts.items)
+
+module _ (seal : Seal) (b : Bundle) (long : 8 ≤ length seal.game) where
+  -- what is told by the bytes in front, whatever the game's number is
+  pub by_head : {A : Type 0} (f : List ℕ → A) (a : A)
+      → ((x0 x1 x2 x3 x4 x5 x6 x7 : ℕ)
+      → f (headed (suite_byte seal.suite) (x0 ∷ x1 ∷ x2 ∷ x3 ∷ x4 ∷ x5 ∷ x6 ∷ x7 ∷ []) b ++ rest_bytes b) ≡ a)
+      → f (bundle_bytes seal b) ≡ a
+  by_head f a each =
+      ap f (parted seal b)
+      ∙ eight seal.game long (λ g. f (headed (suite_byte seal.suite) g b ++ rest_bytes b) ≡ a) each
+
+  pub length-head : length (head_bytes seal b) ≡ 18
+  length-head = eight seal.game long (λ g. length (headed (suite_byte seal.suite) g b) ≡ 18)
+      (λ x0 x1 x2 x3 x4 x5 x6 x7. refl)
+
+module _ (seal : Seal) (b : Bundle) (long : 8 ≤ length seal.game) (is : IsBundle b) where
+  abbrev tail : List ℕ
+  tail = message_bytes b.message ++ parts_bytes b.parts.items
+
+  after_head : drop 18 (bundle_bytes seal b) ≡ rest_bytes b
+  after_head = by_head seal b long (drop 18) (rest_bytes b) (λ x0 x1 x2 x3 x4 x5 x6 x7. refl)
+
+  after_counts : drop 42 (bundle_bytes seal b) ≡ message_bytes b.message ++ parts_bytes b.parts.items
+  after_counts =
+      let size = length-counts b.counts is.counts.four in
+      sym (drop-drop 24 18 (bundle_bytes seal b)) ∙ ap (drop 24) after_head
+      ∙ ap (λ (n : ℕ). drop n (rest_bytes b)) (sym size)
+      ∙ drop-append_seam (counts_bytes b.counts) (message_bytes b.message ++ parts_bytes b.parts.items)
+
+  after_message : drop (42 + length (message_bytes b.message)) (bundle_bytes seal b) ≡ parts_bytes b.parts.items
+  after_message =
+      sym (drop-drop (length (message_bytes b.message)) 42 (bundle_bytes seal b))
+      ∙ ap (drop (length (message_bytes b.message))) after_counts
+      ∙ drop-append_seam (message_bytes b.message) (parts_bytes b.parts.items)
+
+  parts_back : told_parts (parts_bytes b.parts.items) ≡ Some b.parts.items
+  parts_back =
+      let few = le-ltb 24 (length b.parts.items) is.few in
+      rw few (all_back b.parts.items is.parts)
+
+  from : slice_index (bundle_bytes seal b) 10 ≡ b.from
+  from = by_head seal b long (λ xs. slice_index xs 10) b.from (λ x0 x1 x2 x3 x4 x5 x6 x7. refl)
+
+  to : slice_index (bundle_bytes seal b) 11 ≡ b.to
+  to = by_head seal b long (λ xs. slice_index xs 11) b.to (λ x0 x1 x2 x3 x4 x5 x6 x7. refl)
+
+  number : number_at 12 (bundle_bytes seal b) ≡ b.number
+  number = by_head seal b long (number_at 12) b.number
+      (λ x0 x1 x2 x3 x4 x5 x6 x7. from_le_bytes-to_le_bytes_4 b.number is.number)
+
+  lead : cast_signed w8 (slice_index (bundle_bytes seal b) 16) ≡ b.lead
+  lead = ap (cast_signed w8) (by_head seal b long (λ xs. slice_index xs 16) (cast_unsigned w8 b.lead)
+      (λ x0 x1 x2 x3 x4 x5 x6 x7. refl)) ∙ to_z-of_z w8 b.lead is.lead
+
+  holes : slice_index (bundle_bytes seal b) 17 ≡ b.holes
+  holes = by_head seal b long (λ xs. slice_index xs 17) b.holes (λ x0 x1 x2 x3 x4 x5 x6 x7. refl)
+
+  pub bundle_back : told_bundle (bundle_bytes seal b) ≡ Some b
+  bundle_back =
+      let body : List ℕ = bundle_bytes seal b in
+      let message : told_message (drop 42 body) ≡ Some b.message =
+      ap told_message after_counts ∙ message_back b.message (parts_bytes b.parts.items) is.message in
+      let parts : told_parts (drop (42 + length (message_bytes b.message)) body) ≡ Some b.parts.items =
+      ap told_parts after_message ∙ parts_back in
+      let counts : told_counts (drop 18 body) ≡ b.counts =
+      ap told_counts after_head ∙ counts_back b.counts tail is.counts in
+      ap (told_with body) message
+      ∙ ap (option_map (bundle_with body b.message)) parts
+      ∙ (λ i. Some (record {
+        from = from i;
+        to = to i;
+        number = number i;
+        lead = lead i;
+        holes = holes i;
+        counts = counts i;
+        message = b.message;
+        parts = record { items = b.parts.items };
+      }))
+
+-- the eighteen bytes in front, by what was tested of them
+head_is : (body : List ℕ) (seal : Seal) (b : Bundle) → Fit body → 18 ≤ length body
+    → slice_index body 0 ≡ suite_byte seal.suite → slice_index body 1 ≡ 2
+    → told_game body ≡ take 8 seal.game → slice_index body 10 ≡ b.from → slice_index body 11 ≡ b.to
+    → b.number ≡ number_at 12 body → cast_unsigned w8 b.lead ≡ slice_index body 16
+    → slice_index body 17 ≡ b.holes
+    → take 18 body ≡ head_bytes seal b
+head_is (v ∷ k ∷ g0 ∷ g1 ∷ g2 ∷ g3 ∷ g4 ∷ g5 ∷ g6 ∷ g7 ∷ f ∷ t ∷ n0 ∷ n1 ∷ n2 ∷ n3 ∷ l ∷ h ∷ rest) seal b
+    fits long suite kind told from to number lead holes =
+    let numbers = four_bytes n0 n1 n2 n3 b.number (fits 12) (fits 13) (fits 14) (fits 15) number in
+    λ i. (suite i ∷ kind i ∷ told i) ++ (from i ∷ to i ∷ []) ++ numbers i ++ (sym lead i ∷ holes i ∷ [])
+head_is _ seal b fits long suite kind told from to number lead holes = absurd (omega arith)
+
+number_small : (body : List ℕ) → Fit body → 16 ≤ length body → number_at 12 body < 2 ^ 32
+number_small (v ∷ k ∷ g0 ∷ g1 ∷ g2 ∷ g3 ∷ g4 ∷ g5 ∷ g6 ∷ g7 ∷ f ∷ t ∷ n0 ∷ n1 ∷ n2 ∷ n3 ∷ rest) fits long =
+    small n0 n1 n2 n3 (fits 12) (fits 13) (fits 14) (fits 15)
+number_small _ fits long = absurd (omega arith)
+
+signed_fits : (byte : ℕ) → byte < 256 → FitsSigned w8 (cast_signed w8 byte)
+signed_fits byte below = omega (arith, Rattle.std.proofs.lemmas.Int.ints)
+
+-- bytes that are read as a bundle
+pub record IsWhole (seal : Seal) (body : List ℕ) (b : Bundle) : Type 0 where
+  pub fits : IsBundle b
+  pub to : slice_index body 11 ≡ b.to
+  pub spelled : body ≡ bundle_bytes seal b
+
+module _ (seal : Seal) (body : List ℕ) (fits : Fit body) (long : 44 ≤ length body)
+    (suite : slice_index body 0 ≡ suite_byte seal.suite) (kind : slice_index body 1 ≡ 2)
+    (told : told_game body ≡ take 8 seal.game) where
+  counted : (bytes : List ℕ) (parts : List Part) → told_parts bytes ≡ Some parts → Fit bytes
+      → (length parts ≤ 24) × All IsPart parts × (bytes ≡ parts_bytes parts)
+  counted [] parts e fit = absurd (none-some parts e)
+  counted (count ∷ bytes) parts e fit = elim (cases_lt 24 count) [
+    | inl many ↦ let on = lt-ltb 24 count many in
+        let none : ◌≡◌ {A = Option (List Part)} None (Some parts) = rw on at e in absurd (none-some parts none)
+    | inr few ↦
+        let off = le-ltb 24 count few in
+        let all = all_is count bytes parts (fit_drop 1 (count ∷ bytes) fit) (rw off at e) in
+        (omega (arith, all.count), all.fit, λ i. sym all.count i ∷ all.spelled i)
+  ]
+
+  with_parts : (message : Message) → told_message (drop 42 body) ≡ Some message → (b : Bundle)
+      (o : Option (List Part)) → told_parts (drop (42 + length (message_bytes message)) body) ≡ o
+      → option_map (bundle_with body message) o ≡ Some b → IsWhole seal body b
+  with_parts message m b None is e = absurd (none-some b e)
+  with_parts message m b (Some parts) is e =
+      let spelled = message_is (drop 42 body) message (fit_drop 42 body fits) m in
+      let rest = counted (drop (42 + length (message_bytes message)) body) parts is
+      (fit_drop (42 + length (message_bytes message)) body fits) in
+      let eighteen = length-drop 18 body in
+      let counts = counts_is (drop 18 body) (fit_drop 18 body fits) (omega (arith, eighteen)) in
+      let bundle : Bundle = bundle_with body message parts in
+      let lead : cast_unsigned w8 (cast_signed w8 (slice_index body 16)) ≡ slice_index body 16 =
+      of_z-to_z w8 (slice_index body 16) (fits 16) in
+      let head = head_is body seal bundle fits (omega arith) suite kind told refl refl refl lead refl in
+      let last : drop (42 + length (message_bytes message)) body ≡ parts_bytes parts = rest.2 in
+      let tail : drop 42 body ≡ message_bytes message ++ parts_bytes parts =
+      spelled.spelled
+      ∙ ap (λ (xs : List ℕ). message_bytes message ++ xs)
+      (drop-drop (length (message_bytes message)) 42 body ∙ last) in
+      let middle : drop 18 body ≡ rest_bytes bundle =
+      sym (take-append-drop 24 (drop 18 body))
+      ∙ (λ i. counts.spelled i ++ (drop-drop 24 18 body ∙ tail) i) in
+      subst (IsWhole seal body) (same_Some bundle b e) (record {
+        fits = record {
+          number = number_small body fits (omega arith);
+          lead = signed_fits (slice_index body 16) (fits 16);
+          counts = counts.are;
+          message = spelled.is;
+          few = rest.0;
+          parts = rest.1;
+        };
+        to = refl;
+        spelled = sym (take-append-drop 18 body) ∙ (λ i. head i ++ middle i) ∙ sym (parted seal bundle);
+      })
+
+  with_message : (b : Bundle) (o : Option Message) → told_message (drop 42 body) ≡ o → told_with body o ≡ Some b
+      → IsWhole seal body b
+  with_message b None is e = absurd (none-some b e)
+  with_message b (Some message) is e =
+      with_parts message is b (told_parts (drop (42 + length (message_bytes message)) body)) refl e
+
+  pub bundle_is : (b : Bundle) → told_bundle body ≡ Some b → IsWhole seal body b
+  bundle_is b e = with_message b (told_message (drop 42 body)) refl e
+
+-- what a reading step by step tells
+module _ (body : List ℕ) where
+  pub no_message : told_message (drop 42 body) ≡ None → None ≡ told_bundle body
+  no_message e = sym (ap (told_with body) e)
+
+  pub no_parts : (message : Message) → told_message (drop 42 body) ≡ Some message
+      → told_parts (drop (42 + length (message_bytes message)) body) ≡ None → None ≡ told_bundle body
+  no_parts message e none =
+      sym (ap (told_with body) e ∙ ap (option_map (bundle_with body message)) none)
+
+  pub all_told : (message : Message) (b : Bundle) → told_message (drop 42 body) ≡ Some message
+      → told_parts (drop (42 + length (message_bytes message)) body) ≡ Some b.parts.items
+      → b.from ≡ slice_index body 10 → b.to ≡ slice_index body 11 → b.number ≡ number_at 12 body
+      → b.lead ≡ cast_signed w8 (slice_index body 16) → b.holes ≡ slice_index body 17
+      → b.counts ≡ told_counts (drop 18 body) → b.message ≡ message → Some b ≡ told_bundle body
+  all_told message b e all from to number lead holes counts same =
+      sym (ap (told_with body) e ∙ ap (option_map (bundle_with body message)) all
+      ∙ (λ i. Some (record {
+        from = sym from i;
+        to = sym to i;
+        number = sym number i;
+        lead = sym lead i;
+        holes = sym holes i;
+        counts = sym counts i;
+        message = sym same i;
+        parts = record { items = b.parts.items };
+      })))
+
+  -- a byte that was read as signed
+  pub signed : (byte : ℕ) (z : ℤ) → byte < 256 → z ≡ cast_signed w8 byte
+      → to_z w8 (of_z w8 z) ≡ cast_signed w8 byte
+  signed byte z below e = ap (λ (x : ℤ). to_z w8 (of_z w8 x)) e ∙ to_z-of_z w8 (cast_signed w8 byte) (signed_fits byte below)

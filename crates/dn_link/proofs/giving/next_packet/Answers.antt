@@ -1,0 +1,36 @@
+use Rattle.std.proofs.Common.{ℕ, List, ◌++◌, take, ap, sym, ◌∙◌}
+use Rattle.std.specs.Option.{option_map}
+use Rattle.dn_lockstep.specs.Contents.{contents}
+use Rattle.dn_lockstep.specs.Giving.{aim_in}
+use Rattle.dn_lockstep.specs.Sent.{aim_of}
+use Rattle.dn_lockstep.proofs.Giving.{no_flight, some_given}
+use Rattle.dn_link.specs.Giving.{carried_of}
+use Rattle.dn_link.proofs.Carrying.{gives_some}
+use Rattle.dn_link.proofs.giving.next_packet.Goals as goal
+
+pub returns-in_default-clause-step : goal.returns-in_default-clause-step
+returns-in_default-clause-step c =
+    let given = c.packet_with_aim.ensures in
+    record {
+      same = given.sent.2.same;
+      step = λ limits me m r.
+          record {
+            node = (given.sent.2.step limits me m r).node;
+            answer = sym (ap (option_map carried_of) (no_flight aim_of _
+                (ap aim_in (sym c.in_default.is) ∙ given.aimed limits me m r)));
+          };
+    }
+
+pub returns-clause-step : goal.returns-clause-step
+returns-clause-step c =
+    let given = c.in-Some.ensures in
+    record {
+      same = given.sent.2.same;
+      step = λ limits me m r.
+          let after = given.sent.2.step limits me m r in
+          gives_some limits me c.args.to (contents c.packet_with_aim.new.self) m after.node c.in-Some.aim _ _
+          (given.aimed limits me m r)
+          (some_given given.sent.0 _ _ _ given.sent.1 _ _ after.answer (given.aimed limits me m r))
+          (c.append.ensures
+          ∙ ap (λ (xs : List ℕ). xs ++ take c.in-Some.size c.packet_with_aim.new.room) c.new-datagram.ensures);
+    }

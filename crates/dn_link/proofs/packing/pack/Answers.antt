@@ -1,0 +1,34 @@
+use Rattle.std.proofs.Common.{rules, ◌≡◌, ◌≤◌, ◌<◌, ◌∷◌, [], refl, length, arith}
+use Rattle.dn_link.specs.Text.{parts_bytes}
+use Rattle.dn_link.proofs.Packings.{packs_on, packs_all}
+use Rattle.dn_link.proofs.packing.pack.Goals as goal
+use Rattle.dn_link.proofs.packing.pack.Goals.{in-Some+then-is_full, in_default}
+
+pub packets-init : goal.packets-init
+packets-init c = record {
+  fits = c.new-packing.ensures.fits;
+  parts = c.new-packing.ensures.parts;
+  done = [];
+  split = refl;
+  told = c.new-packing.ensures.none c.args.from;
+}
+
+pub packets-preserved : goal.packets-preserved
+packets-preserved c =
+    let split : c.packets.rest.now ≡ c.in-Some.packet.now ∷ c.in-Some.after.now = search rules in
+    packs_on c.args.from c.args.packets.now c.packets.packing c.packets.rest.now c.packets.invariant c.add.new.self
+    c.in-Some.packet.now c.in-Some.after.now split c.add.ensures.fits c.add.ensures.parts c.add.ensures.more
+
+pub returns-clause-packed : goal.returns-clause-packed
+returns-clause-packed c =
+    let end = c.end_run.ensures in
+    let all : 1 ≤ length c.packets.rest.now → length c.end_run.new.self.parts.items < 22
+    → 998 < length (parts_bytes c.end_run.new.self.parts.items) =
+    elim c.match-split_first.branch [
+      | in-Some+then-is_full w ↦ λ some few.
+          let full = w.is_full.ensures.full w.if-is_full.true (omega (arith, end.many, few)) in
+          omega (arith, full, end.grown, end.fits.bytes)
+      | in_default w ↦ λ some few. absurd (omega (arith, some, w.in_default.ensures.cases))
+    ] in
+    packs_all c.args.from c.args.packets.now c.packets.packing c.packets.rest.now c.packets.invariant
+    c.end_run.new.self end.none (end.same c.args.from) all

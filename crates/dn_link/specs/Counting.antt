@@ -1,0 +1,24 @@
+-- How far a lockstep is.
+use Rattle.std.specs.Prelude.{ℕ, ◌+◌, nat_lt, if◌then◌else◌, [], ◌∷◌, Option, Some, None}
+use Rattle.dn_lockstep.specs.Contents.{Contents, end_in}
+use Rattle.dn_lockstep.specs.Rings.{count_of}
+use Rattle.dn_lockstep.specs.Told.{made}
+use Rattle.dn_link.specs.declared.bundle.Counts.{Counts}
+
+-- one more for an end that is known
+abbrev pub with_end : ℕ → Option ℕ → ℕ
+with_end count None = count
+with_end count (Some end) = count + 1
+
+-- how many commands it has of a player, and of its own how many it made; a known end counts as one more
+abbrev pub has_of : Contents → ℕ → ℕ
+has_of n player =
+    if nat_lt player n.players then with_end (count_of n.rings player) (end_in n player) else 0
+
+abbrev pub counts_of : Contents → Counts
+counts_of n =
+    record {
+      made = made n;
+      ran = n.ran;
+      got = has_of n 0 ∷ has_of n 1 ∷ has_of n 2 ∷ has_of n 3 ∷ [];
+    }

@@ -1,0 +1,14 @@
+pub mod Text
+pub mod Told
+pub mod Reading
+pub mod Packets
+pub mod Giving
+pub mod Counting
+pub mod Linked
+pub mod Linking
+pub mod Packing
+pub mod Kept
+pub mod Keeping
+pub mod Hearing
+pub mod Bundles
+pub mod LinkedGame

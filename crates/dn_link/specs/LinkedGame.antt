@@ -1,0 +1,31 @@
+-- The links of one game.
+use Rattle.std.specs.Prelude.{◌≡◌, ◌≢◌, ◌<◌, ◌≤◌, ℕ, All, Some, slice_get, slice_index}
+use Rattle.dn_setup.specs.Settings.{Settings}
+use Rattle.dn_machine.specs.Flight.{Flight}
+use Rattle.dn_machine.specs.Limits.{Limits}
+use Rattle.dn_lockstep.specs.Marking.{Marking}
+use Rattle.dn_lockstep.specs.OneGame.{AreOneGame}
+use Rattle.dn_lockstep.specs.Session.{Session}
+use Rattle.dn_link.specs.Bundles.{WasGiven}
+use Rattle.dn_link.specs.Counting.{has_of}
+use Rattle.dn_link.specs.Linked.{Linked}
+use Rattle.dn_link.specs.Packets.{opened_from}
+
+-- each player's link has the player's lockstep of one game, keeps for each peer nothing but packets that were given
+-- to that peer in it, and was told of no more than the peer has of any other player
+pub record AreLinked (marking : Marking) (limits : Limits) (settings : Settings) (session : Session) (links : ℕ → Linked)
+    : Type 0 where
+  pub game : AreOneGame marking limits settings session
+  pub nodes : (player : ℕ) → player < limits.players → (links player).node ≡ session.locksteps player
+  pub kept : (player peer : ℕ) → player < limits.players
+      → All (λ packet. WasGiven session.given peer (opened_from player packet))
+      ((links player).peers peer).kept.packets
+  pub told : (player peer which : ℕ) → player < limits.players → which ≢ peer
+      → slice_index ((links player).peers peer).told which ≤ has_of (session.locksteps peer) which
+
+-- what was given was given, and each player has as much of each other as before
+pub record IsLater (session later : Session) : Type 0 where
+  pub given : (which : ℕ) (flight : Flight) → slice_get session.given which ≡ Some flight
+      → slice_get later.given which ≡ Some flight
+  pub got : (player which : ℕ) → which ≢ player
+      → has_of (session.locksteps player) which ≤ has_of (later.locksteps player) which

@@ -1,0 +1,127 @@
+//! What one datagram of a link tells, and why bytes are none.
+
+use arrayvec::ArrayVec;
+use thiserror::Error;
+
+/// A packet of 1997 with its exact numbers in front.
+#[derive(Debug, Default, Drop, PartialEq, Eq)]
+pub struct Carried {
+    /// The exact tic of the packet's first command.
+    pub start: u32,
+    /// The exact tic from which commands are asked for again.
+    pub ask: Option<u32>,
+    /// The packet.
+    pub datagram: ArrayVec<u8, 104>,
+}
+
+/// Consecutive packets of one command each, which ask for nothing: the first is of the tic `start`, and each
+/// other of the tic after.
+#[derive(Debug, Drop, PartialEq, Eq)]
+pub struct Run {
+    /// The tic of the first command.
+    pub start: u32,
+    /// The commands, each of eight bytes.
+    pub commands: ArrayVec<u8, 192>,
+}
+
+/// A part of what a datagram carries.
+#[derive(Debug, Drop, PartialEq, Eq)]
+pub enum Part {
+    /// A packet as it is.
+    Whole(Carried),
+    /// Packets that their commands tell.
+    Run(Run),
+}
+
+impl Default for Part {
+    fn default() -> Part {
+        Part::Whole(Carried::default())
+    }
+}
+
+/// How far a player is.
+#[derive(Clone, Copy, Debug, PartialEq, Eq)]
+pub struct Counts {
+    /// How many commands it has made.
+    pub made: u32,
+    /// How many tics it has run.
+    pub ran: u32,
+    /// How many commands it has of each player; a known end counts as one more.
+    pub got: [u32; 4],
+}
+
+/// What must be the same at all players of a game.
+#[derive(Clone, Copy, Debug, PartialEq, Eq)]
+pub struct Identity {
+    /// How many players the game has.
+    pub players: u8,
+    /// Whether packets repeat commands.
+    pub extra: bool,
+    /// How many commands a player makes ahead of its runs.
+    pub ahead: u8,
+    /// How many tics the demo has room for.
+    pub limit: u32,
+    /// What the host adds: a digest of its own version, files and options.
+    pub host: [u8; 16],
+}
+
+/// What a datagram is for.
+#[derive(Clone, Copy, Debug, PartialEq, Eq)]
+pub enum Message {
+    /// A player of this identity is there.
+    Hello(Identity),
+    /// The game goes on.
+    Game,
+    /// The sender has left, for this cause.
+    Goodbye(u8),
+}
+
+/// What one datagram tells.
+#[derive(Debug, Drop, PartialEq, Eq)]
+pub struct Bundle {
+    /// The number of the sender.
+    pub from: u8,
+    /// The number of the receiver.
+    pub to: u8,
+    /// The number of the datagram, among those of the sender to the receiver.
+    pub number: u32,
+    /// By how many commands the sender was ahead of the receiver at its last tick.
+    pub lead: i8,
+    /// How many datagrams of the receiver the sender misses.
+    pub holes: u8,
+    /// How far the sender is.
+    pub counts: Counts,
+    /// What the datagram is for.
+    pub message: Message,
+    /// The packets that the receiver has not acknowledged, oldest first.
+    pub parts: ArrayVec<Part, 24>,
+}
+
+/// Why bytes are no datagram of this game and to this player: the first of these faults that they have.
+#[derive(Clone, Copy, Debug, PartialEq, Eq, Error)]
+pub enum BundleFault {
+    /// Fewer than 60 bytes.
+    #[error("short")]
+    Short,
+    /// More than 1,200 bytes.
+    #[error("long")]
+    Long,
+    /// Another suite.
+    #[error("suite")]
+    Suite,
+    /// No link's datagram, but another kind of thing.
+    #[error("kind")]
+    Kind,
+    /// Another game's number.
+    #[error("game")]
+    Game,
+    /// Another receiver.
+    #[error("receiver")]
+    Receiver,
+    /// A tag that is not that of the bytes before it.
+    #[error("tag")]
+    Tag,
+    /// Under the tag stands what no datagram has.
+    #[error("form")]
+    Form,
+}

@@ -1,0 +1,61 @@
+//! How far a lockstep is.
+
+ghost use Rattle.std.specs.Prelude.{◌≡◌, ◌≢◌, ◌<◌, ℕ, ◌+◌, nat_lt, nat_le, false, None, Some, IfOk, IfSome, Option};
+ghost use Rattle.dn_lockstep.specs.Contents.{contents, end_in};
+ghost use Rattle.dn_lockstep.specs.Rings.{count_of};
+ghost use Rattle.dn_seal.specs.Sealing.{sealing};
+ghost use Rattle.dn_link.specs.Counting.{counts_of, has_of};
+ghost use Rattle.dn_link.specs.Linked.{certain, tells_end};
+
+use crate::bundle::{Bundle, Counts};
+use dn_lockstep::Lockstep;
+
+/// How many commands a lockstep has of a player; a known end counts as one more. 0 for a number that is no player's.
+fn has_of(lockstep: &Lockstep, player: u8) -> u32
+    ensures { result ≡ has_of (contents lockstep.now) player }
+{
+    let Some(got) = lockstep.got(player) else {
+        return 0;
+    };
+    match lockstep.end(player) {
+        Some(_) => got + 1,
+        None => got,
+    }
+}
+
+/// How far a lockstep is.
+pub(crate) fn counts_of(lockstep: &Lockstep) -> Counts
+    ensures { result ≡ counts_of (contents lockstep.now) }
+{
+    Counts {
+        made: lockstep.made(),
+        ran: lockstep.ran(),
+        got: [
+            has_of(lockstep, 0),
+            has_of(lockstep, 1),
+            has_of(lockstep, 2),
+            has_of(lockstep, 3),
+        ],
+    }
+}
+
+/// How many of a lockstep's own commands a peer has for certain that tells this count of them.
+pub(crate) fn certain(lockstep: &Lockstep, count: u32) -> u32
+    ensures { result ≡ certain (contents lockstep.now) count }
+{
+    let told = match lockstep.end(lockstep.me()) {
+        Some(_) => count.saturating_sub(1),
+        None => count,
+    };
+    told.min(lockstep.made())
+}
+
+/// Whether a datagram tells that its sender has left.
+pub(crate) fn tells_end(bundle: &Bundle) -> bool
+    ensures { result ≡ tells_end bundle.now }
+{
+    match bundle.counts.got.get(bundle.from as usize) {
+        Some(own) => bundle.counts.made < *own,
+        None => false,
+    }
+}

@@ -1,0 +1,105 @@
+//! Hearing what a datagram carries.
+
+ghost use Rattle.std.specs.Prelude.{◌≡◌};
+ghost use Rattle.std.specs.List.{flat_map};
+ghost use Rattle.dn_lockstep.specs.Contents.{contents};
+ghost use Rattle.dn_open.specs.Arrivals.{HearsOpened};
+ghost use Rattle.dn_open.specs.declared.arrived.Arrived.{Arrived};
+ghost use Rattle.dn_link.specs.Hearing.{HearsUntil, HearsAll, is_start};
+ghost use Rattle.dn_link.specs.Packets.{opened_from, packets_of, packets_in};
+ghost use Rattle.dn_link.specs.declared.bundle.Part.TheVariants.{Run as of_run};
+
+use crate::append::append;
+use crate::bundle::{Bundle, Carried, Part, Run};
+use crate::short::short_packet;
+use arrayvec::ArrayVec;
+use dn_lockstep::Lockstep;
+use dn_machine::Heard;
+use dn_open::{Arrived, hear};
+use dn_seal::Opened;
+
+/// Whether the game starts with what was heard.
+fn is_start(answer: Arrived) -> bool
+    ensures { result ≡ is_start answer }
+{
+    matches!(answer, Arrived::Heard(Heard::Started))
+}
+
+/// A packet as it would be opened, had it come alone.
+fn opened_from(from: u8, packet: &Carried) -> Opened
+    ensures { result ≡ opened_from from packet.now }
+{
+    let mut datagram = ArrayVec::new();
+    append(&mut datagram, packet.datagram.as_slice());
+    Opened {
+        from,
+        start: packet.start,
+        ask: packet.ask,
+        datagram,
+    }
+}
+
+/// Hears a packet, and answers whether the game starts with it.
+fn starts(lockstep: &mut Lockstep, from: u8, packet: &Carried) -> bool
+    ensures { (answer : Arrived)
+        × HearsOpened (opened_from from packet.now) (contents lockstep.old) (contents lockstep.new) answer
+        × (result ≡ is_start answer) }
+{
+    is_start(hear(lockstep, &opened_from(from, packet)))
+}
+
+/// Hears the packets of a run.
+fn hear_run(lockstep: &mut Lockstep, from: u8, run: &Run) -> bool
+    ensures { HearsUntil (packets_of from (of_run run.now)) (contents lockstep.old) (contents lockstep.new) result }
+{
+    let mut start = run.start;
+    let mut rest = run.commands.as_slice();
+    'commands: for done in 0..rest.len() / 8 {
+        let mut command = [0; 8];
+        command.copy_from_slice(&rest[..8]);
+        if starts(lockstep, from, &short_packet(from, start, &command)) {
+            return true;
+        }
+        start = start.wrapping_add(1);
+        rest = &rest[8..];
+    }
+    false
+}
+
+/// Hears the packets of a part.
+fn hear_part(lockstep: &mut Lockstep, from: u8, part: &Part) -> bool
+    ensures { HearsUntil (packets_of from part.now) (contents lockstep.old) (contents lockstep.new) result }
+{
+    match part {
+        Part::Whole(packet) => starts(lockstep, from, packet),
+        Part::Run(run) => hear_run(lockstep, from, run),
+    }
+}
+
+/// Hears the packets of parts, up to the one that starts the game, and answers whether one did.
+fn hear_parts(lockstep: &mut Lockstep, from: u8, parts: &[Part]) -> bool
+    ensures { HearsUntil (flat_map (packets_of from) parts.now) (contents lockstep.old) (contents lockstep.new)
+        result }
+{
+    let mut rest = parts;
+    'parts: while let Some((part, after)) = rest.split_first() {
+        if hear_part(lockstep, from, part) {
+            return true;
+        }
+        rest = after;
+    }
+    false
+}
+
+/// Hears what a datagram carries, oldest first, and once more from the first where the game starts with one of them:
+/// those before it came too early. Answers whether the game started.
+pub(crate) fn hear_bundle(lockstep: &mut Lockstep, bundle: &Bundle) -> bool
+    ensures { HearsAll (packets_in bundle.now) (contents lockstep.old) (contents lockstep.new) result }
+{
+    let parts = bundle.parts.as_slice();
+    let started = hear_parts(lockstep, bundle.from, parts);
+    if started {
+        hear_parts(lockstep, bundle.from, parts);
+    }
+    started
+}

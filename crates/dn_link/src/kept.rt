@@ -1,0 +1,101 @@
+//! The packets that a peer has not acknowledged.
+
+ghost use Rattle.std.specs.Prelude.{◌≡◌, ◌≤◌, ◌<◌, ◌+◌, ◌∷◌, [], ℕ, All, length, nat_le, Option};
+ghost use Rattle.std.specs.Option.{option_map};
+ghost use Rattle.dn_link.specs.Kept.{acknowledged, commands_in, end_of, going, is_news, kept_after, without};
+ghost use Rattle.dn_link.specs.Packing.{ArePacked};
+ghost use Rattle.dn_link.specs.Text.{IsPart, parts_bytes};
+
+use crate::bundle::{Carried, Part};
+use crate::packing::pack;
+use arrayvec::ArrayVec;
+
+/// How many packets are kept for a peer: as many as commands are kept in the widest window.
+const MOST_KEPT: usize = 24;
+
+/// How many bytes stand in front of a packet's commands.
+const HEAD_BYTES: usize = 8;
+
+/// How many bytes a command has.
+const COMMAND_BYTES: usize = 8;
+
+/// How many commands a packet has.
+fn commands_in(packet: &Carried) -> u64
+    ensures value { result ≡ commands_in packet.now }
+    ensures few { result ≤ 12 }
+{
+    (packet.datagram.len().saturating_sub(HEAD_BYTES) / COMMAND_BYTES) as u64
+}
+
+/// The tic after a packet's last command.
+fn end_of(packet: &Carried) -> u64
+    ensures { result ≡ end_of packet.now }
+{
+    u64::from(packet.start) + commands_in(packet)
+}
+
+/// The packets that were given to a peer, and of whose commands it has not acknowledged all, oldest first.
+#[derive(Drop)]
+pub(crate) struct Kept {
+    packets: ArrayVec<Carried, 25>,
+    /// How many commands these packets and those before them cover.
+    covered: u64,
+    ghost few: { length packets.items ≤ 24 },
+}
+
+impl Kept {
+    ghost use Rattle.dn_link.specs.Keeping.{kept};
+
+    /// None.
+    pub(crate) fn new() -> Kept
+        ensures packets { (kept result).packets ≡ [] }
+        ensures covered { (kept result).covered ≡ 0 }
+    {
+        Kept {
+            packets: ArrayVec::new(),
+            covered: 0,
+        }
+    }
+
+    /// Whether a packet has a command that none of these has, and there is room to keep it.
+    fn is_news(&self, packet: &Carried) -> bool
+        ensures { result ≡ is_news (kept self.now) packet.now }
+    {
+        commands_in(packet) > 0 && end_of(packet) > self.covered && self.packets.len() < MOST_KEPT
+    }
+
+    /// What goes to the peer now, of this player: these packets, and the one of the moment, which is kept if it has news.
+    pub(crate) fn parts(&mut self, from: u8, packet: Option<Carried>) -> ArrayVec<Part, 24>
+        ensures kept { kept self.new ≡ kept_after (kept self.old) packet }
+        ensures fit { All IsPart result.items }
+        ensures short { length (parts_bytes result.items) ≤ 1118 }
+        ensures packed { ArePacked from (going (kept self.old) packet) result.items }
+    {
+        let Some(packet) = packet else {
+            return pack(from, self.packets.as_slice());
+        };
+        let news = self.is_news(&packet);
+        let end = end_of(&packet);
+        self.packets.push(packet);
+        let parts = pack(from, self.packets.as_slice());
+        if news {
+            self.covered = end;
+        } else {
+            self.packets.pop();
+        }
+        parts
+    }
+
+    /// The peer has so many commands.
+    pub(crate) fn acknowledge(&mut self, count: u32)
+        ensures { kept self.new ≡ acknowledged (kept self.old) count }
+    {
+        'packets: while let Some(packet) = self.packets.first() {
+            if end_of(packet) > u64::from(count) {
+                break;
+            }
+            self.packets.remove(0);
+        }
+        self.covered = self.covered.max(u64::from(count));
+    }
+}

@@ -1,0 +1,160 @@
+//! What holds of datagrams.
+
+ghost use Rattle.std.specs.Prelude.{◌≡◌, ◌≢◌, ◌<◌, ◌≤◌, ℕ, ℤ, pos, Bool, true, false, List, All, get_or, length, Option, None, Some, IfSome, Result, Ok, Err};
+ghost use Rattle.dn_tic.specs.declared.command.Move.{Move};
+ghost use Rattle.dn_tic.specs.declared.input.Input.{Input};
+ghost use Rattle.dn_setup.specs.Settings.{Settings};
+ghost use Rattle.dn_machine.specs.declared.answers.Made.{Made};
+ghost use Rattle.dn_machine.specs.declared.answers.Ran.{Ran};
+ghost use Rattle.dn_machine.specs.Building.{on_build};
+ghost use Rattle.dn_machine.specs.Flight.{Flight};
+ghost use Rattle.dn_machine.specs.Game.{fresh};
+ghost use Rattle.dn_machine.specs.Limits.{Limits, IsWindow};
+ghost use Rattle.dn_machine.specs.Node.{put};
+ghost use Rattle.dn_machine.specs.Running.{is_over, on_run, on_quit};
+ghost use Rattle.dn_lockstep.specs.Agreed.{AreAgreed};
+ghost use Rattle.dn_lockstep.specs.Contents.{Contents, end_in};
+ghost use Rattle.dn_lockstep.specs.Marking.{Marking};
+ghost use Rattle.dn_lockstep.specs.Near.{IsFair};
+ghost use Rattle.dn_lockstep.specs.OneGame.{AreOneGame, world_told};
+ghost use Rattle.dn_lockstep.specs.Represents.{Represents};
+ghost use Rattle.dn_lockstep.specs.Runs.{RunsBy};
+ghost use Rattle.dn_lockstep.specs.Session.{Session, after_build, after_packet, after_run, opening_session, with_lockstep};
+ghost use Rattle.dn_lockstep.specs.Sent.{sent_to};
+ghost use Rattle.dn_lockstep.specs.Steps.{Steps, Tells};
+ghost use Rattle.dn_lockstep.specs.Told.{got, made};
+ghost use Rattle.dn_seal.specs.declared.opened.Opened.{Opened};
+ghost use Rattle.dn_seal.specs.declared.seal.Seal.{Seal};
+ghost use Rattle.dn_open.specs.Sealed.{sealing_of};
+ghost use Rattle.dn_seal.specs.Opening.{Sealing};
+ghost use Rattle.dn_link.specs.declared.bundle.Bundle.{Bundle};
+ghost use Rattle.dn_link.specs.declared.bundle.BundleFault.{BundleFault};
+ghost use Rattle.dn_link.specs.declared.received.Received.{Received};
+ghost use Rattle.dn_link.specs.Bundles.{IsGenuineDatagram, WasBundled, WasGiven};
+ghost use Rattle.dn_link.specs.Linked.{Gives, Linked, Receives, may_leave};
+ghost use Rattle.dn_link.specs.LinkedGame.{AreLinked, IsLater};
+ghost use Rattle.dn_link.specs.Linking.{new_peer};
+ghost use Rattle.dn_link.specs.Hearing.{HearsAll};
+ghost use Rattle.dn_link.specs.Reading.{IsBundledAs};
+ghost use Rattle.dn_link.specs.Text.{IsBundle, sealed_bytes};
+
+use dn_lockstep::{locksteps_agree, one_game_goes_on, one_game_opens};
+use dn_open::letters_keep_one_game;
+
+/// What was written is read back: the datagram of a bundle is read by its receiver as that bundle, and as nothing
+/// else.
+pub fn bundles_are_read_back()
+    ensures { (sealing : Sealing) (bundle : Bundle) → 8 ≤ length sealing.seal.game → IsBundle bundle
+        → bundle.to ≡ sealing.me → length (sealed_bytes sealing.seal bundle) ≤ 1200
+        → (read : Result Bundle BundleFault) → IsBundledAs sealing (sealed_bytes sealing.seal bundle) read
+        → read ≡ Ok bundle }
+{}
+
+/// Hearing the packets of a datagram, each of which was given to this player in the game, leaves the locksteps those of
+/// one game.
+pub fn datagrams_keep_one_game()
+    ensures { (marking : Marking) (limits : Limits) (settings : Settings) (session : Session) (player : ℕ)
+        (packets : List Opened) (new : Contents) (started : Bool)
+        → AreOneGame marking limits settings session → player < limits.players
+        → All (WasGiven session.given player) packets
+        → HearsAll packets (session.locksteps player) new started
+        → AreOneGame marking limits settings (with_lockstep session player new) }
+{
+    letters_keep_one_game();
+}
+
+/// New links of the same limits, one for each player, of which player 0's has these settings, are those of one game.
+pub fn linked_game_opens()
+    ensures { (marking : Marking) (limits : Limits) (settings : Settings) (links : ℕ → Linked)
+        → IsWindow limits
+        → ((player : ℕ) → player < limits.players
+        → Represents limits player (links player).node (fresh settings player))
+        → ((player peer : ℕ) → player < limits.players → (links player).peers peer ≡ new_peer)
+        → AreLinked marking limits settings (opening_session (λ player. (links player).node)) links }
+{
+    one_game_opens();
+}
+
+/// And so they stay after each call on one of them, whatever bytes come in, as long as what it opens was sealed in this
+/// game before; what `Link::datagram` gives was. At a run the caller hands in the marks of a world that moved on by the
+/// rows that it was told.
+pub fn linked_game_goes_on()
+    ensures built { (marking : Marking) (limits : Limits) (settings : Settings) (session : Session) (links : ℕ → Linked)
+        (player : ℕ) (new : Linked) (input : Input) (made : Made)
+        → AreLinked marking limits settings session links → player < limits.players
+        → Steps (links player).node new.node (λ limits me m. on_build limits me m input) (λ answer. made ≡ answer)
+        → new.peers ≡ (links player).peers
+        → AreLinked marking limits settings (after_build session player input made new.node) (put links player new)
+        × IsLater session (after_build session player input made new.node) }
+    ensures ran { (marking : Marking) (limits : Limits) (settings : Settings) (session : Session) (links : ℕ → Linked)
+        (player : ℕ) (new : Linked) (marks : List ℤ) (ran : Ran) (row : Option (List (Option Move)))
+        → AreLinked marking limits settings session links → player < limits.players
+        → ((tic : ℕ) (other : ℕ) → ran ≡ Ran.Ran tic → other < limits.players
+        → is_over (end_in (links player).node other) (links player).node.ran ≡ false
+        → get_or marks other (pos 0) ≡ marking (world_told limits settings (session.told player)) other)
+        → RunsBy marks (links player).node new.node (λ limits m marks. on_run limits m marks)
+        (λ answer told. (ran ≡ answer) × (row ≡ told))
+        → new.peers ≡ (links player).peers
+        → AreLinked marking limits settings (after_run session player row new.node) (put links player new)
+        × IsLater session (after_run session player row new.node) }
+    ensures quit { (marking : Marking) (limits : Limits) (settings : Settings) (session : Session) (links : ℕ → Linked)
+        (player : ℕ) (new : Linked) (quit : Bool)
+        → AreLinked marking limits settings session links → player < limits.players
+        → Steps (links player).node new.node (λ limits me m. on_quit m) (λ answer. quit ≡ answer)
+        → new.peers ≡ (links player).peers
+        → AreLinked marking limits settings (with_lockstep session player new.node) (put links player new)
+        × IsLater session (with_lockstep session player new.node) }
+    ensures gave { (marking : Marking) (limits : Limits) (settings : Settings) (session : Session) (links : ℕ → Linked)
+        (player to : ℕ) (seal : Seal) (new : Linked) (bytes : List ℕ)
+        → AreLinked marking limits settings session links → player < limits.players
+        → Tells (links player).node (λ limits me m. IfSome (sent_to to limits me m).1 IsFair)
+        → Gives seal to (links player) new bytes
+        → (flight : Option Flight) × WasBundled seal (after_packet session player flight new.node) bytes
+        × AreLinked marking limits settings (after_packet session player flight new.node) (put links player new)
+        × IsLater session (after_packet session player flight new.node) }
+    ensures received { (marking : Marking) (limits : Limits) (settings : Settings) (session : Session) (links : ℕ → Linked)
+        (player : ℕ) (seal : Seal) (bytes : List ℕ) (new : Linked) (answer : Received)
+        → AreLinked marking limits settings session links → player < limits.players
+        → IsGenuineDatagram seal session player bytes
+        → Receives seal bytes (links player) new answer
+        → AreLinked marking limits settings (with_lockstep session player new.node) (put links player new)
+        × IsLater session (with_lockstep session player new.node) }
+{
+    one_game_goes_on();
+    letters_keep_one_game();
+}
+
+/// What was sealed in a game may come to any link of it at any later time, and so may bytes that a link refuses.
+pub fn sealed_datagrams_are_genuine()
+    ensures stay { (seal : Seal) (session later : Session) (bytes : List ℕ) → IsLater session later
+        → WasBundled seal session bytes → WasBundled seal later bytes }
+    ensures genuine { (seal : Seal) (session : Session) (player : ℕ) (bytes : List ℕ)
+        → WasBundled seal session bytes → IsGenuineDatagram seal session player bytes }
+    ensures refused { (seal : Seal) (session : Session) (player : ℕ) (bytes : List ℕ) (fault : BundleFault)
+        → IsBundledAs (sealing_of seal player) bytes (Err fault) → IsGenuineDatagram seal session player bytes }
+{}
+
+/// The locksteps of linked players agree, in all that `locksteps_agree` says.
+pub fn links_agree()
+    ensures { (marking : Marking) (limits : Limits) (settings : Settings) (session : Session) (links : ℕ → Linked)
+        → AreLinked marking limits settings session links
+        → AreAgreed limits settings session.inputs session.locksteps }
+{
+    locksteps_agree();
+}
+
+/// Who may leave is needed by nobody who has not left: each other player, if neither an EXIT packet nor its datagrams told
+/// that it has left, has all commands of this one and knows its end. A game has at most four players, as every lockstep's
+/// has.
+pub fn leaving_is_safe()
+    ensures { (marking : Marking) (limits : Limits) (settings : Settings) (session : Session) (links : ℕ → Linked)
+        (player other : ℕ)
+        → AreLinked marking limits settings session links → limits.players ≤ 4
+        → player < limits.players → other < limits.players → other ≢ player
+        → may_leave (links player) ≡ true → end_in (links player).node other ≡ None
+        → ((links player).peers other).left ≡ false
+        → (got (session.locksteps other) player ≡ made (session.locksteps player))
+        × (end_in (session.locksteps other) player ≡ Some (made (session.locksteps player))) }
+{
+    locksteps_agree();
+}

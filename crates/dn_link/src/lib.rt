@@ -1,0 +1,29 @@
+//! The link of a lockstep: what goes to each peer in one sealed datagram, and what comes in one.
+#![tactic(auto)]
+
+mod append;
+mod bundle;
+mod counting;
+mod giving;
+mod hearing;
+mod kept;
+mod laws;
+mod link;
+mod packing;
+mod peer;
+mod reading;
+mod received;
+mod short;
+#[cfg(test)]
+mod tests;
+mod writing;
+
+pub use bundle::{Bundle, BundleFault, Carried, Counts, Identity, Message, Part, Run};
+pub use laws::{
+    bundles_are_read_back, datagrams_keep_one_game, leaving_is_safe, linked_game_goes_on,
+    linked_game_opens, links_agree, sealed_datagrams_are_genuine,
+};
+pub use link::Link;
+pub use reading::open_bundle;
+pub use received::Received;
+pub use writing::seal_bundle;

@@ -1,0 +1,196 @@
+//! Writing packets compactly, as parts of a datagram.
+
+ghost use Rattle.std.specs.Prelude.{◌≡◌, ◌≤◌, ◌<◌, ◌+◌, ◌/◌, ◌%◌, ◌^◌, ◌++◌, ◌∷◌, [], ℕ, All, length, false, true, IfSome};
+ghost use Rattle.std.specs.List.{flat_map};
+ghost use Rattle.dn_link.specs.Packets.{opened_from, packets_of, short_packet};
+ghost use Rattle.dn_link.specs.Packing.{ArePacked, HasRoom, IsPacking, packed};
+ghost use Rattle.dn_link.specs.Text.{IsPart, parts_bytes};
+
+use crate::append::append;
+use crate::bundle::{Carried, Part, Run};
+use crate::short::{SHORT_BYTES, short_packet};
+use arrayvec::ArrayVec;
+use std::mem;
+
+/// How many bytes of a datagram are left for its parts.
+const PARTS_BYTES: usize = 1118;
+
+/// How many bytes a part takes at most: a whole packet with its numbers.
+const MOST_BYTES: usize = 115;
+
+/// How many bytes a run takes beside its commands.
+const RUN_BYTES: usize = 5;
+
+/// How many bytes a whole packet takes beside its datagram.
+const WHOLE_BYTES: usize = 11;
+
+/// The command of a packet that is told by it alone.
+fn short_command(from: u8, packet: &Carried) -> Option<[u8; 8]>
+    ensures { IfSome result (λ command. packet.now ≡ short_packet from packet.now.start command) }
+{
+    if packet.datagram.len() != SHORT_BYTES {
+        return None;
+    }
+    let mut command = [0; 8];
+    command.copy_from_slice(&packet.datagram.as_slice()[8..16]);
+    if *packet == short_packet(from, packet.start, &command) {
+        Some(command)
+    } else {
+        None
+    }
+}
+
+/// Packets that are written as parts: those that are done, how many bytes they take, and a run that may go on.
+#[derive(Drop)]
+struct Packing {
+    parts: ArrayVec<Part, 24>,
+    bytes: usize,
+    run: Run,
+}
+
+/// A run without commands, from a tic on.
+fn empty_run(start: u32) -> Run
+    ensures start { result.start ≡ start }
+    ensures none { result.commands.items ≡ [] }
+{
+    Run {
+        start,
+        commands: ArrayVec::new(),
+    }
+}
+
+/// A copy of a packet.
+fn copy_of(packet: &Carried) -> Carried
+    ensures { result ≡ packet.now }
+{
+    let mut datagram = ArrayVec::new();
+    append(&mut datagram, packet.datagram.as_slice());
+    Carried {
+        start: packet.start,
+        ask: packet.ask,
+        datagram,
+    }
+}
+
+impl Packing {
+    /// Of no packets.
+    fn new() -> Packing
+        ensures fits { IsPacking result }
+        ensures parts { length result.parts.items ≤ 23 }
+        ensures none { (from : ℕ) → packed from result ≡ [] }
+    {
+        Packing {
+            parts: ArrayVec::new(),
+            bytes: 1,
+            run: empty_run(0),
+        }
+    }
+
+    /// Whether there may be no room for another packet.
+    fn is_full(&self) -> bool
+        requires { IsPacking self.now }
+        ensures room { result ≡ false → HasRoom self.now }
+        ensures full { result ≡ true → length self.now.parts.items < 22
+            → 1118 < self.now.bytes + 5 + length self.now.run.commands.items + 115 }
+    {
+        self.parts.len() > 21
+            || self.bytes + RUN_BYTES + self.run.commands.len() + MOST_BYTES > PARTS_BYTES
+    }
+
+    /// Ends the run, and begins another.
+    fn end_run(&mut self, start: u32)
+        requires fits { IsPacking self.old }
+        requires few { length self.old.parts.items ≤ 23 }
+        ensures fits { IsPacking self.new }
+        ensures few { length self.new.parts.items ≤ length self.old.parts.items + 1 }
+        ensures many { length self.old.parts.items ≤ length self.new.parts.items }
+        ensures room { self.new.bytes ≤ self.old.bytes + 5 + length self.old.run.commands.items }
+        ensures grown { self.old.bytes + length self.old.run.commands.items ≤ self.new.bytes }
+        ensures none { self.new.run.commands.items ≡ [] }
+        ensures start { self.new.run.start ≡ start }
+        ensures same { (from : ℕ) → packed from self.new ≡ packed from self.old }
+    {
+        let run = mem::replace(&mut self.run, empty_run(start));
+        if !run.commands.is_empty() {
+            self.bytes += RUN_BYTES + run.commands.len();
+            self.parts.push(Part::Run(run));
+        }
+    }
+
+    /// Makes way for the command of a tic, which the run goes on with.
+    fn make_way(&mut self, start: u32)
+        requires fits { IsPacking self.old }
+        requires room { HasRoom self.old }
+        ensures fits { IsPacking self.new }
+        ensures room { self.new.bytes + 5 + length self.new.run.commands.items + 8 ≤ 1118 }
+        ensures few { length self.new.run.commands.items ≤ 184 }
+        ensures parts { length self.new.parts.items ≤ 22 }
+        ensures follows { (self.new.run.start + length self.new.run.commands.items / 8) % 2 ^ 32 ≡ start }
+        ensures same { (from : ℕ) → packed from self.new ≡ packed from self.old }
+    {
+        let count = self.run.commands.len() / 8;
+        if count == 24 || self.run.start.wrapping_add(count as u32) != start {
+            self.end_run(start);
+        }
+    }
+
+    /// Adds a packet that is told by its command.
+    fn add_short(&mut self, start: u32, command: &[u8; 8])
+        requires fits { IsPacking self.old }
+        requires room { HasRoom self.old }
+        ensures fits { IsPacking self.new }
+        ensures parts { length self.new.parts.items ≤ 23 }
+        ensures more { (from : ℕ) → packed from self.new
+            ≡ packed from self.old ++ opened_from from (short_packet from start command.now) ∷ [] }
+    {
+        self.make_way(start);
+        append(&mut self.run.commands, command);
+    }
+
+    /// Adds any packet as it is.
+    fn add_whole(&mut self, packet: &Carried)
+        requires fits { IsPacking self.old }
+        requires room { HasRoom self.old }
+        ensures fits { IsPacking self.new }
+        ensures parts { length self.new.parts.items ≤ 23 }
+        ensures more { (from : ℕ) → packed from self.new
+            ≡ packed from self.old ++ opened_from from packet.now ∷ [] }
+    {
+        self.end_run(packet.start);
+        self.bytes += WHOLE_BYTES + packet.datagram.len();
+        self.parts.push(Part::Whole(copy_of(packet)));
+    }
+
+    /// Adds a packet of a player.
+    fn add(&mut self, from: u8, packet: &Carried)
+        requires fits { IsPacking self.old }
+        requires room { HasRoom self.old }
+        ensures fits { IsPacking self.new }
+        ensures parts { length self.new.parts.items ≤ 23 }
+        ensures more { packed from self.new ≡ packed from self.old ++ opened_from from packet.now ∷ [] }
+    {
+        match short_command(from, packet) {
+            Some(command) => self.add_short(packet.start, &command),
+            None => self.add_whole(packet),
+        }
+    }
+}
+
+/// The parts that tell packets of a player, oldest first, as many as there is room for.
+pub(crate) fn pack(from: u8, packets: &[Carried]) -> ArrayVec<Part, 24>
+    ensures fit { All IsPart result.items }
+    ensures short { length (parts_bytes result.items) ≤ 1118 }
+    ensures packed { ArePacked from packets.now result.items }
+{
+    let mut packing = Packing::new();
+    let mut rest = packets;
+    'packets: while let Some((packet, after)) = rest.split_first() {
+        if packing.is_full() {
+            break;
+        }
+        packing.add(from, packet);
+        rest = after;
+    }
+    packing.end_run(0);
+    packing.parts
+}

@@ -1,0 +1,34 @@
+//! The packet of one command that asks for nothing, by its command alone.
+
+ghost use Rattle.std.specs.Prelude.{◌≡◌};
+ghost use Rattle.dn_link.specs.Packets.{short_packet};
+
+use crate::append::append;
+use crate::bundle::Carried;
+use arrayvec::ArrayVec;
+use dn_packet::{Head, encode_parts};
+use dn_tic::TicCmd;
+
+/// How many bytes such a packet has.
+pub(crate) const SHORT_BYTES: usize = 16;
+
+/// The packet of one command, which a player sends for a tic.
+pub(crate) fn short_packet(from: u8, start: u32, command: &[u8; 8]) -> Carried
+    ensures { result ≡ short_packet from start command.now }
+{
+    let head = Head {
+        flags: 0,
+        ask: 0,
+        start: (start % 256) as u8,
+        player: from,
+    };
+    let mut room = [0; SHORT_BYTES];
+    let size = encode_parts(&head, &[TicCmd::from_bytes(command)], &[], &mut room);
+    let mut datagram = ArrayVec::new();
+    append(&mut datagram, &room);
+    Carried {
+        start,
+        ask: None,
+        datagram,
+    }
+}

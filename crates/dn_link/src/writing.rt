@@ -1,0 +1,129 @@
+//! Writing the datagram of a bundle.
+
+ghost use Rattle.std.specs.Prelude.{◌≤◌, ◌≡◌, ◌+◌, ◌++◌, All, length};
+ghost use Rattle.dn_seal.specs.Sealing.{sealing};
+ghost use Rattle.dn_link.specs.Text.{AreCounts, IsBundle, IsIdentity, IsMessage, IsPart, carried_bytes, counts_bytes, identity_bytes, message_bytes, part_bytes, parts_bytes, sealed_bytes};
+
+use crate::append::append;
+use crate::bundle::{Bundle, Carried, Counts, Identity, Message, Part};
+use arrayvec::ArrayVec;
+use dn_seal::{Sealer, ask_bytes};
+
+/// The kind of a link's datagrams among envelopes.
+pub(crate) const KIND: u8 = 2;
+
+/// Appends how far the sender is.
+fn append_counts(bytes: &mut ArrayVec<u8, 1200>, counts: &Counts)
+    requires { length bytes.old.items + 24 ≤ 1200 }
+    ensures more { bytes.new.items ≡ bytes.old.items ++ counts_bytes counts.now }
+    ensures fits { AreCounts counts.now }
+    ensures long { length bytes.new.items ≡ length bytes.old.items + 24 }
+{
+    let [a, b, c, d] = counts.got;
+    append(bytes, &counts.made.to_le_bytes());
+    append(bytes, &counts.ran.to_le_bytes());
+    append(bytes, &a.to_le_bytes());
+    append(bytes, &b.to_le_bytes());
+    append(bytes, &c.to_le_bytes());
+    append(bytes, &d.to_le_bytes());
+}
+
+/// Appends what must be the same at all players.
+fn append_identity(bytes: &mut ArrayVec<u8, 1200>, identity: &Identity)
+    requires { length bytes.old.items + 23 ≤ 1200 }
+    ensures more { bytes.new.items ≡ bytes.old.items ++ identity_bytes identity.now }
+    ensures fits { IsIdentity identity.now }
+    ensures long { length bytes.new.items ≡ length bytes.old.items + 23 }
+{
+    append(
+        bytes,
+        &[identity.players, u8::from(identity.extra), identity.ahead],
+    );
+    append(bytes, &identity.limit.to_le_bytes());
+    append(bytes, &identity.host);
+}
+
+/// Appends what the datagram is for.
+fn append_message(bytes: &mut ArrayVec<u8, 1200>, message: &Message)
+    requires { length bytes.old.items + 24 ≤ 1200 }
+    ensures more { bytes.new.items ≡ bytes.old.items ++ message_bytes message.now }
+    ensures fits { IsMessage message.now }
+    ensures long { length bytes.new.items ≤ length bytes.old.items + 24 }
+{
+    match message {
+        Message::Hello(identity) => {
+            append(bytes, &[0]);
+            append_identity(bytes, identity);
+        }
+        Message::Game => append(bytes, &[1]),
+        Message::Goodbye(cause) => append(bytes, &[2, *cause]),
+    }
+}
+
+/// Appends a packet as it is.
+fn append_carried(bytes: &mut ArrayVec<u8, 1200>, packet: &Carried)
+    requires short { length packet.now.datagram.items ≤ 104 }
+    requires room { length bytes.old.items + length (carried_bytes packet.now) ≤ 1200 }
+    ensures { bytes.new.items ≡ bytes.old.items ++ carried_bytes packet.now }
+{
+    append(bytes, &packet.start.to_le_bytes());
+    append(bytes, &ask_bytes(packet.ask));
+    append(bytes, &[packet.datagram.len() as u8]);
+    append(bytes, packet.datagram.as_slice());
+}
+
+/// Appends a part.
+fn append_part(bytes: &mut ArrayVec<u8, 1200>, part: &Part)
+    requires fits { IsPart part.now }
+    requires room { length bytes.old.items + length (part_bytes part.now) ≤ 1200 }
+    ensures { bytes.new.items ≡ bytes.old.items ++ part_bytes part.now }
+{
+    match part {
+        Part::Whole(packet) => {
+            append(bytes, &[0]);
+            append_carried(bytes, packet);
+        }
+        Part::Run(run) => {
+            append(bytes, &[(run.commands.len() / 8) as u8]);
+            append(bytes, &run.start.to_le_bytes());
+            append(bytes, run.commands.as_slice());
+        }
+    }
+}
+
+/// Appends parts.
+fn append_parts(bytes: &mut ArrayVec<u8, 1200>, parts: &[Part])
+    requires fit { All IsPart parts.now }
+    requires few { length parts.now ≤ 24 }
+    requires room { length bytes.old.items + length (parts_bytes parts.now) ≤ 1200 }
+    ensures more { bytes.new.items ≡ bytes.old.items ++ parts_bytes parts.now }
+    ensures long { length bytes.new.items ≡ length bytes.old.items + length (parts_bytes parts.now) }
+{
+    append(bytes, &[parts.len() as u8]);
+    let mut rest = parts;
+    'parts: while let Some((part, after)) = rest.split_first() {
+        append_part(bytes, part);
+        rest = after;
+    }
+}
+
+/// The datagram of a bundle. What a datagram has beside its parts is at most 66 bytes, and the tag.
+pub fn seal_bundle(sealer: &Sealer, bundle: &Bundle) -> ArrayVec<u8, 1200>
+    requires from { bundle.now.from ≡ (sealing sealer.now).me }
+    requires fit { All IsPart bundle.now.parts.items }
+    requires room { length (parts_bytes bundle.now.parts.items) ≤ 1118 }
+    ensures text { result.items ≡ sealed_bytes (sealing sealer.now).seal bundle.now }
+    ensures fits { IsBundle bundle.now }
+{
+    let mut bytes = ArrayVec::new();
+    append(&mut bytes, &sealer.front(KIND));
+    append(&mut bytes, &[sealer.me(), bundle.to]);
+    append(&mut bytes, &bundle.number.to_le_bytes());
+    append(&mut bytes, &[bundle.lead.cast_unsigned(), bundle.holes]);
+    append_counts(&mut bytes, &bundle.counts);
+    append_message(&mut bytes, &bundle.message);
+    append_parts(&mut bytes, bundle.parts.as_slice());
+    let tag = sealer.tag(bytes.as_slice());
+    append(&mut bytes, &tag);
+    bytes
+}
