@@ -54,7 +54,7 @@ module _ {W S : Type 0} (state : W → S) (rules : Rules S) (g : Contents W) (m 
       (sym (ap lockstep_in found.1)) (r.nodes p found.0 found.1).lockstep
 
   -- there is a node for four players at most, with no more room than may be
-  few : rules.players ≤ 4
+  pub few : rules.players ≤ 4
   few = elim (cases_lt 0 rules.players) [
     | inl some ↦
         let first = there_is g.nodes 0 (omega (arith, some, r.players)) in
@@ -63,7 +63,7 @@ module _ {W S : Type 0} (state : W → S) (rules : Rules S) (g : Contents W) (m 
     | inr none ↦ omega arith
   ]
 
-  short : 0 < rules.players → rules.capacity ≤ tic_limit
+  pub short : 0 < rules.players → rules.capacity ≤ tic_limit
   short some =
       let first = there_is g.nodes 0 (omega (arith, some, r.players)) in
       omega (arith, (r.nodes 0 first.0 first.1).lockstep.whose.capacity, first.0.lockstep.short)

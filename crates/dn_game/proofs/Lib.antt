@@ -24,3 +24,6 @@ pub mod Following
 pub mod Observed
 pub mod NeverStopping
 pub mod Vanilla
+pub mod OpenArriving
+pub mod OpenAnswering
+pub mod OpenStanding

@@ -17,3 +17,7 @@ pub mod Stormed
 pub mod Observed
 pub mod Pool
 pub mod Room
+pub mod Sealed
+pub mod Arrived
+pub mod OpenPlayed
+pub mod OpenPromised

@@ -4,7 +4,10 @@ ghost use Rattle.std.specs.Prelude.{◌≡◌, ◌<◌, ◌+◌, ◌^◌, OnOk};
 
 use crate::game::Game;
 use crate::observing::Observer;
+use crate::open_done::OpenDone;
 use dn_machine::{Done, Event, Refusal};
+use dn_open::OpenEvent;
+use dn_seal::Seal;
 use dn_world::World;
 use std::alloc::AllocError;
 
@@ -21,6 +24,7 @@ pub struct Played<W> {
 
 impl<W: World> Played<W> {
     ghost use Rattle.dn_game.specs.Observed.{ObservesOne};
+    ghost use Rattle.dn_game.specs.OpenPlayed.{AppliesOpen};
     ghost use Rattle.dn_game.specs.Played.{AppliesOne};
 
     /// Applies one more event, and answers what it did.
@@ -58,5 +62,23 @@ impl<W: World> Played<W> {
         let number = self.done + self.refused;
         let answer = self.apply(*event);
         observer.observe(number, *event, answer)
+    }
+
+    /// Applies one more open event, and answers what it did.
+    pub(crate) fn apply_open(&mut self, seal: Seal, event: &OpenEvent) -> Result<OpenDone, Refusal>
+        requires { self.old.done + self.old.refused + 1 < 2 ^ 64 }
+        ensures applied { AppliesOpen W.state W.physics seal self.old self.new event.now result }
+        ensures counted { self.new.done + self.new.refused ≡ self.old.done + self.old.refused + 1 }
+    {
+        match self.game.apply_open(seal, event) {
+            Ok(done) => {
+                self.done += 1;
+                Ok(done)
+            }
+            Err(refusal) => {
+                self.refused += 1;
+                Err(refusal)
+            }
+        }
     }
 }

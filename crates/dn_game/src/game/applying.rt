@@ -27,7 +27,7 @@ impl<W: World> Game<W> {
     }
 
     /// Why an event of one node is refused, if it is.
-    fn refused_at(&self, node: u32) -> Option<Refusal>
+    pub(crate) fn refused_at(&self, node: u32) -> Option<Refusal>
         ensures told { Tells W.state W.physics (contents self.now)
             (λ rules m. result ≡ refused_at rules.players m node) }
         ensures not_memory { result ≢ Some Refusal.Memory }

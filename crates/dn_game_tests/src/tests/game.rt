@@ -8,6 +8,7 @@ mod given;
 mod leaving;
 mod memory;
 mod old_packets;
+mod open;
 mod opening;
 mod playing;
 mod rounds;

@@ -1,0 +1,52 @@
+use Rattle.std.proofs.Common.{◌<◌, [], ◌∷◌, ◌++◌, length, take, ap, refl, sym, ◌∙◌, arith}
+use Rattle.std.proofs.lemmas.List.{take_all, take_more}
+use Rattle.dn_open.specs.declared.open_event.OpenEvent.{OpenEvent}
+use Rattle.dn_game.specs.Contents.{contents}
+use Rattle.dn_game.specs.Opening.{rules_in}
+use Rattle.dn_game.proofs.Agreeing.{few, short}
+use Rattle.dn_game.proofs.OpenAnswering.{open_played_more}
+use Rattle.dn_game.proofs.OpenStanding.{open_promised}
+use Rattle.dn_game.proofs.open_playing.play_open.Goals as goal
+
+pub loop-event-init : goal.loop-event-init
+loop-event-init g c = (
+  refl,
+  record {
+    last = _;
+    answers = [];
+    plays = refl;
+    game = c.in_ok-game.ensures.opened;
+    done = refl;
+    refused = refl;
+  },
+)
+
+pub loop-event-preserved : goal.loop-event-preserved
+loop-event-preserved g c =
+    let before = c.loop-event.invariant in
+    let config = c.args.config in
+    let events = c.args.events.now in
+    let at = c.loop-event.event-index in
+    let next = c.apply_open.new.self in
+    let one = c.apply_open.ensures.applied in
+    let counted = c.apply_open.ensures.counted in
+    let longer = take_more events at c.event-item.result c.loop-event-test.true
+    ∙ ap (λ (event : OpenEvent). take at events ++ event ∷ []) (sym c.event-item.is) in (
+      omega (arith, counted, before.0),
+      rw longer (open_played_more _ _ c.args.seal config.settings (take at events) _ _ c.loop-event.played next before.1
+          (one.applied _ _ _ before.1.last before.1.game) one.done one.refused),
+    )
+
+pub returns-clause-promised : goal.returns-clause-promised
+returns-clause-promised g c =
+    let rules = rules_in g.W.World.physics c.args.config (length c.args.worlds.items) in
+    let all = rw (take_all c.loop-event.event-index c.args.events.now c.loop-event-test.false)
+    at c.loop-event.invariant.1 in
+    let g_left = contents c.loop-event.played.game in
+    let some : 0 < rules.players = omega (arith, c.in_ok-game.ensures.admitted.0.0) in
+    record {
+      events_played = all;
+      promised = open_promised _ rules c.args.seal c.args.config.settings c.args.events.now all.answers all.last g_left
+          (few _ rules g_left all.last all.game) (short _ rules g_left all.last all.game some)
+          c.settings_found_again.ensures.only all.plays all.game;
+    }

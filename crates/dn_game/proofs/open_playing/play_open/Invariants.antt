@@ -1,0 +1,10 @@
+use Rattle.std.proofs.Common.{◌≡◌, ◌+◌, length, take}
+use Rattle.dn_game.specs.Opening.{rules_in}
+use Rattle.dn_game.specs.OpenPlayed.{IsPlayedOpen}
+use Rattle.dn_game.proofs.open_playing.play_open.Given as goal
+
+abbrev pub invariant-loop-event : goal.invariant-loop-event
+invariant-loop-event g l =
+    (l.played.done + l.played.refused ≡ l.event-index)
+    × IsPlayedOpen g.W.World.state (rules_in g.W.World.physics l.fn.config (length l.fn.worlds.items)) l.fn.seal
+    l.fn.config.settings (take l.event-index l.events) l.played

@@ -1,0 +1,61 @@
+-- Bytes come to a node of a game.
+use Rattle.std.specs.Prelude.{◌≡◌, ◌≢◌, ℕ, List, Option, Some, None, Result, Ok, Err}
+use Rattle.dn_packet.specs.declared.packet.Packet.{Packet}
+use Rattle.dn_packet.specs.declared.packet.PacketFault.{PacketFault}
+use Rattle.dn_setup.specs.Settings.{Settings}
+use Rattle.dn_setup.specs.declared.setup.SetupFault.{SetupFault}
+use Rattle.dn_machine.specs.declared.events.Refusal.{Refusal}
+use Rattle.dn_machine.specs.Game as machine
+use Rattle.dn_machine.specs.Game.{refused_at}
+use Rattle.dn_machine.specs.Worlds.{Rules}
+use Rattle.dn_seal.specs.declared.opened.Opened.{Opened}
+use Rattle.dn_seal.specs.declared.opened.SealFault.{SealFault}
+use Rattle.dn_seal.specs.declared.seal.Seal.{Seal}
+use Rattle.dn_seal.specs.Opening.{IsOpenedAs}
+use Rattle.dn_open.specs.Arrivals.{on_opened, IsRead}
+use Rattle.dn_open.specs.OpenGames.{arrived_if}
+use Rattle.dn_open.specs.Sealed.{sealing_of}
+use Rattle.dn_open.specs.declared.arrived.Arrived.{Arrived}
+use Rattle.dn_game.specs.Applied.{IsAfter}
+use Rattle.dn_game.specs.Contents.{Contents}
+
+-- the answer to bytes that come to a node, and are opened and read so: the refusal, if there is one
+abbrev pub answer_if : {S : Type 0} → Rules S → machine.Game → ℕ → Result Opened SealFault
+    → Result Packet PacketFault → Result Settings SetupFault → Option Refusal → Result Arrived Refusal
+answer_if rules game node opened read told (Some refusal) = Err refusal
+answer_if rules game node opened read told None =
+    Ok (on_opened rules.limits node (game.nodes node) opened read told).1
+
+-- the game after such bytes came to a node, and the answer
+abbrev pub after_arrival : {S : Type 0} → Rules S → machine.Game → ℕ → Result Opened SealFault
+    → Result Packet PacketFault → Result Settings SetupFault → machine.Game × Result Arrived Refusal
+after_arrival rules game node opened read told = (
+  arrived_if rules game node opened read told (refused_at rules.players game node),
+  answer_if rules game node opened read told (refused_at rules.players game node),
+)
+
+-- what the bytes are opened as by a node of the game with this seal, what the datagram in them is read as, and
+-- the settings that it tells
+pub record IsOpened (seal : Seal) (node : ℕ) (bytes : List ℕ) (opened : Result Opened SealFault)
+    (read : Result Packet PacketFault) (told : Result Settings SetupFault) : Type 0 where
+  pub is_opened : IsOpenedAs (sealing_of seal node) bytes opened
+  pub is_read : IsRead opened read told
+
+-- they are opened and read as something
+pub record Opening (seal : Seal) (node : ℕ) (bytes : List ℕ) : Type 0 where
+  pub opened : Result Opened SealFault
+  pub read : Result Packet PacketFault
+  pub told : Result Settings SetupFault
+  pub is : IsOpened seal node bytes opened read told
+
+-- whatever they are opened and read as, the game represents what the machine makes of it, and this is the answer
+abbrev pub IsArrived : {W S : Type 0} → (W → S) → Rules S → Seal → machine.Game → ℕ → List ℕ → Contents W
+    → Result Arrived Refusal → Type 0
+IsArrived state rules seal m node bytes new answer =
+    (opened : Result Opened SealFault) (read : Result Packet PacketFault) (told : Result Settings SetupFault)
+    → IsOpened seal node bytes opened read told
+    → IsAfter state rules new (after_arrival rules m node opened read told) answer
+
+-- what the node does not hear changes nothing
+abbrev pub SparesArrived : {W : Type 0} → Contents W → Contents W → Result Arrived Refusal → Type 0
+SparesArrived old new answer = ((heard : _) → answer ≢ Ok (Arrived.Heard heard)) → new ≡ old

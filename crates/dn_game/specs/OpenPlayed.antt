@@ -1,0 +1,72 @@
+-- A game that has played a list of open events.
+use Rattle.std.specs.Prelude.{◌≡◌, ◌+◌, ℕ, List, [], ◌∷◌, count_by, Result, Ok, Err, is_ok, is_err}
+use Rattle.dn_setup.specs.Settings.{Settings}
+use Rattle.dn_world.specs.Physics.{Physics}
+use Rattle.dn_machine.specs.declared.events.Refusal.{Refusal}
+use Rattle.dn_machine.specs.Game as machine
+use Rattle.dn_machine.specs.Game.{opening_game}
+use Rattle.dn_machine.specs.Worlds.{Rules}
+use Rattle.dn_seal.specs.declared.seal.Seal.{Seal}
+use Rattle.dn_open.specs.declared.arrived.Arrived.{Arrived}
+use Rattle.dn_open.specs.declared.open_event.OpenEvent.{OpenEvent}
+use Rattle.dn_open.specs.declared.open_event.OpenEvent.TheVariants.{Own, Arrive}
+use Rattle.dn_game.specs.declared.open_done.OpenDone.{OpenDone}
+use Rattle.dn_game.specs.declared.played.Played.{Played}
+use Rattle.dn_game.specs.Applied.{Tells}
+use Rattle.dn_game.specs.Arrived.{Opening, after_arrival}
+use Rattle.dn_game.specs.Contents.{Contents, contents}
+use Rattle.dn_game.specs.Played.{Answers}
+use Rattle.dn_game.specs.Represents.{Represents}
+
+-- bytes that come to a node lead from a game to the next with this answer
+pub record ArrivesSo {S : Type 0} (rules : Rules S) (seal : Seal) (game : machine.Game) (node : ℕ)
+    (bytes : List ℕ) (answer : Result Arrived Refusal) (next : machine.Game) : Type 0 where
+  pub opening : Opening seal node bytes
+  pub leads : next ≡ (after_arrival rules game node opening.opened opening.read opening.told).0
+  pub answered : answer ≡ (after_arrival rules game node opening.opened opening.read opening.told).1
+
+-- an open event leads from a game to the next with this answer
+abbrev pub AnswersOpen : {S : Type 0} → Rules S → Seal → machine.Game → OpenEvent → Result OpenDone Refusal
+    → machine.Game → Type 0
+AnswersOpen rules seal game (Own event) (Ok (OpenDone.Own done)) next = Answers rules game event (Ok done) next
+AnswersOpen rules seal game (Own event) (Ok (OpenDone.Arrived arrived)) next = ⊥
+AnswersOpen rules seal game (Own event) (Err refusal) next = Answers rules game event (Err refusal) next
+AnswersOpen rules seal game (Arrive node bytes) (Ok (OpenDone.Own done)) next = ⊥
+AnswersOpen rules seal game (Arrive node bytes) (Ok (OpenDone.Arrived arrived)) next =
+    ArrivesSo rules seal game node bytes.now (Ok arrived) next
+AnswersOpen rules seal game (Arrive node bytes) (Err refusal) next =
+    ArrivesSo rules seal game node bytes.now (Err refusal) next
+
+-- a list of open events leads from a game to another, and each event has its answer
+abbrev pub PlaysOpen : {S : Type 0} → Rules S → Seal → machine.Game → List OpenEvent
+    → List (Result OpenDone Refusal) → machine.Game → Type 0
+PlaysOpen rules seal game [] [] last = last ≡ game
+PlaysOpen rules seal game (event ∷ events) (answer ∷ answers) last =
+    (next : machine.Game) × AnswersOpen rules seal game event answer next
+    × PlaysOpen rules seal next events answers last
+PlaysOpen rules seal game [] (answer ∷ answers) last = ⊥
+PlaysOpen rules seal game (event ∷ events) [] last = ⊥
+
+-- the game represents one that the open event leads to with this answer
+abbrev pub IsAppliedOpen : {W S : Type 0} → (W → S) → Rules S → Seal → machine.Game → OpenEvent
+    → Result OpenDone Refusal → Contents W → Type 0
+IsAppliedOpen state rules seal m event answer new =
+    (next : machine.Game) × AnswersOpen rules seal m event answer next × Represents state rules new next
+
+-- one more open event was applied, and counted by its answer
+pub record AppliesOpen {W S : Type 0} (state : W → S) (physics : Physics S) (seal : Seal) (old new : Played W)
+    (event : OpenEvent) (answer : Result OpenDone Refusal) : Type 0 where
+  pub applied : Tells state physics (contents old.game)
+      (λ rules m. IsAppliedOpen state rules seal m event answer (contents new.game))
+  pub done : new.done ≡ old.done + count_by is_ok (answer ∷ [])
+  pub refused : new.refused ≡ old.refused + count_by is_err (answer ∷ [])
+
+-- the game that is left represents one that the open events lead to, and the answers are counted
+pub record IsPlayedOpen {W S : Type 0} (state : W → S) (rules : Rules S) (seal : Seal) (settings : Settings)
+    (events : List OpenEvent) (played : Played W) : Type 0 where
+  pub last : machine.Game
+  pub answers : List (Result OpenDone Refusal)
+  pub plays : PlaysOpen rules seal (opening_game settings) events answers last
+  pub game : Represents state rules (contents played.game) last
+  pub done : played.done ≡ count_by is_ok answers
+  pub refused : played.refused ≡ count_by is_err answers

@@ -1,0 +1,45 @@
+//! Playing a list of open events: what is promised on an open network.
+
+ghost use Rattle.std.specs.Prelude.{length, IfOk};
+ghost use Rattle.dn_game.specs.Opening.{IsAdmitted, rules_in};
+ghost use Rattle.dn_game.specs.OpenPromised.{HasPlayedOpen};
+
+use crate::config::{GameConfig, GameFault};
+use crate::game::Game;
+use crate::played::Played;
+use dn_open::OpenEvent;
+use dn_seal::Seal;
+use dn_setup::settings_found_again;
+use dn_world::World;
+use std::alloc::Global;
+
+/// Applies all open events in order, to a new game with this seal. Whatever the network does - lose, repeat,
+/// reorder, delay for a week, alter, forge, misattribute - the games of nodes that seal their packets agree, as
+/// long as what a node opens was sealed in this game before.
+pub fn play_open<W: World>(
+    alloc: Global,
+    config: GameConfig,
+    worlds: Vec<W>,
+    seal: Seal,
+    events: &[OpenEvent],
+) -> Result<Played<W>, GameFault>
+    ensures admitted { IsAdmitted config (length worlds.items) result }
+    // Each event is applied as the machine applies it, but for sends that are left out since memory was refused,
+    // and each is counted by its answer. Bytes that are not heard count as applied. If what each node opened was
+    // the envelope of a packet that was sent before, all that `play` promises is promised of the game that is
+    // left.
+    ensures promised { IfOk result (λ played. HasPlayedOpen W.state
+        (rules_in W.physics config (length worlds.items)) seal config.settings events.now played) }
+{
+    settings_found_again();
+    let game = Game::new(alloc, config, worlds)?;
+    let mut played = Played {
+        game,
+        done: 0,
+        refused: 0,
+    };
+    for event in events {
+        let _ = played.apply_open(seal, event);
+    }
+    Ok(played)
+}
