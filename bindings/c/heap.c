@@ -1,16 +1,8 @@
 /* The three functions by which the library asks for memory, over malloc, realloc and free. */
-#include <stddef.h>
-#include <stdint.h>
+#include "zirmegat_memory.h"
 #include <stdlib.h>
 
-/* How the library reads an answer: a byte that is 1 for memory and 0 for none, and the pointer, which is
- * never NULL. */
-struct zmg_block {
-    uint8_t given;
-    void *at;
-};
-
-static const char nowhere[16];
+static const char nowhere[16] = { 0 };
 
 static struct zmg_block block(void *at) {
     struct zmg_block b;
@@ -18,10 +10,6 @@ static struct zmg_block block(void *at) {
     b.at = at != NULL ? at : (void *)nowhere;
     return b;
 }
-
-struct zmg_block zmg_alloc(size_t size, size_t align);
-struct zmg_block zmg_realloc(void *at, size_t kept, size_t size, size_t align);
-void zmg_dealloc(void *at);
 
 struct zmg_block zmg_alloc(size_t size, size_t align) { return block(malloc(size ? size : align)); }
 

@@ -2,8 +2,8 @@
  *
  * A node is one player's part of a game of two to four. For each tic it takes a command or builds one from
  * keys. It gives and takes Doom's datagrams, says when a tic runs and by which moves, checks the marks of the
- * worlds, and records a demo. Maps, monsters and physics stay yours, and so does the network: the library opens
- * nothing, waits for nothing and prints nothing. A tic is 1/35 second.
+ * worlds, and records a demo. Maps, monsters and physics stay yours, and so does the network: the library
+ * opens nothing, waits for nothing and prints nothing. A tic is 1/35 second.
  *
  *     zmg_node node = ZMG_NODE_NONE;
  *     if (zmg_node_new(&node, &config) != ZMG_NEW_OK) there is no node
@@ -16,11 +16,12 @@
  *     zmg_node_quit(&node);  give packets and hear datagrams for a second more;  zmg_node_free(&node);
  *
  * What the caller owes:
- *   - Each player of a game has one node, made once. players, extra, limit and the window are the same for all.
+ *   - Each player of a game has one node, made once. players, extra, limit and the window are the same for
+ *     all.
  *   - Pointers are valid and aligned for what they point to, and not NULL, also where a length is 0. What a
  *     call writes overlaps nothing else that it is given.
- *   - A handle (zmg_node, zmg_demo) is ZMG_NODE_NONE or ZMG_DEMO_NONE at first, and then as the library
- *     left it. It may be moved in memory. Of copies of it only one is used.
+ *   - A handle (zmg_node, zmg_sealed_node, zmg_demo) is ZMG_NODE_NONE, ZMG_SEALED_NODE_NONE or ZMG_DEMO_NONE
+ *     at first, and then as the library left it. It may be moved in memory. Of copies of it only one is used.
  *   - One thread at a time uses a handle. It may go from one thread to another, by whatever orders the calls
  *     of the one before those of the other: a lock, or a thread's start or end. Different handles may be used
  *     by different threads at once.
@@ -29,7 +30,7 @@
  *     blocks of another thread. malloc and realloc align a block to each power of two up to 16 that divides
  *     its size, as to 8 for 24 bytes.
  *   - What zmg_node_receive is given is a datagram of this game as zmg_node_packet gave it, from its sender,
- *     and for this player; and it is not old, as is said there.
+ *     and for this player; and it is not old, as is said there. A sealed node sees to all of this itself.
  *   - The marks that zmg_node_run is given are of the caller's own world: one that began with the start of
  *     zmg_node_settings and the players 0 to zmg_node_players - 1 when zmg_node_receive answered
  *     ZMG_RECEIVE_STARTED, was stepped by every row that zmg_node_run told and by nothing else, and has
@@ -38,8 +39,9 @@
  * call: a node's calls answer as a node that does not play, with ZMG_PHASE_NO_NODE or 0 where they only read;
  * a reader's answer ZMG_DEMO_NO_READER, or 0.
  *
- * The codes of a call carry its name: ZMG_RUN_ are the answers of zmg_node_run, ZMG_DEMO_ those of the calls on
- * demos. ZMG_DROP_ says why zmg_node_receive or zmg_packet_decode refused a datagram.
+ * The codes of a call carry its name: ZMG_RUN_ are the answers of zmg_node_run, ZMG_DEMO_ those of the calls
+ * on demos. ZMG_DROP_ says why zmg_node_receive or zmg_packet_decode refused a datagram, and ZMG_SEAL_ why
+ * bytes are no envelope to a sealed node.
  * Names and numbers of this header do not change. New ones may be added.
  */
 #ifndef ZIRMEGAT_H
@@ -89,8 +91,9 @@ typedef struct zmg_config {
     zmg_settings settings;
 } zmg_config;
 
-/* Answers of zmg_node_new and zmg_node_new_within. Player 0's settings are looked at first, and then the
- * window. ZMG_NEW_BAD_KEY is never answered, and ZMG_NEW_BAD_AHEAD by zmg_node_new_within alone. */
+/* Answers of the calls that make a node. Player 0's settings are looked at first, and then the window; by
+ * zmg_sealed_node_new the secret before all. ZMG_NEW_BAD_KEY is never answered, ZMG_NEW_BAD_AHEAD only by
+ * calls with a window, and ZMG_NEW_BAD_SECRET by zmg_sealed_node_new alone. */
 #define ZMG_NEW_OK 0u
 #define ZMG_NEW_BAD_PLAYERS 1u
 #define ZMG_NEW_BAD_ME 2u
@@ -102,6 +105,7 @@ typedef struct zmg_config {
 #define ZMG_NEW_BAD_EPISODE 8u
 #define ZMG_NEW_BAD_MAP 9u
 #define ZMG_NEW_BAD_AHEAD 10u
+#define ZMG_NEW_BAD_SECRET 11u
 
 /* Makes a node in the handle. A node that the handle holds is given up first. All memory is taken here: no
  * later call on the node needs any. Where the answer is not ZMG_NEW_OK the handle holds none. */
@@ -161,8 +165,8 @@ typedef struct zmg_command {
  * begin slowly, it counts as a build with no key down. */
 zmg_made zmg_node_give(zmg_node *node, const zmg_command *command);
 
-/* 1 where zmg_node_build and zmg_node_give would make a command now: the node plays, and fewer of
- * its commands wait to be run than its window allows. Else 0. An engine asks before it takes up the motion of a
+/* 1 where zmg_node_build and zmg_node_give would make a command now: the node plays, and fewer of its
+ * commands wait to be run than its window allows. Else 0. An engine asks before it takes up the motion of a
  * mouse or a letter of chat, which would be lost with a command that is not made. */
 uint32_t zmg_node_can_build(zmg_node *node);
 
@@ -173,9 +177,9 @@ typedef struct zmg_known_command {
 } zmg_known_command;
 
 /* A player's command for a tic, with its chat and mark, which zmg_move lacks. Known are the last twelve that
- * the node has of each player, its own among them, or twice the window where that is more. That of the next tic
- * to be run, zmg_node_ran, is known as soon as it has come: an engine reads it before zmg_node_run and uses it
- * where that tic is run. From the tic of zmg_node_end on there is none. */
+ * the node has of each player, its own among them, or twice the window where that is more. That of the next
+ * tic to be run, zmg_node_ran, is known as soon as it has come: an engine reads it before zmg_node_run and
+ * uses it where that tic is run. From the tic of zmg_node_end on there is none. */
 zmg_known_command zmg_node_command(zmg_node *node, uint8_t player, uint32_t tic);
 
 /* How many bytes of room a packet needs at most. */
@@ -244,15 +248,15 @@ typedef struct zmg_heard {
  * With a window of w (ZMG_MOST_AHEAD, or that of zmg_node_new_within) a node keeps k commands of each player:
  * 12, or 2 * w where that is more. A transport that sends zmg_aim.start along drops at receipt what starts
  * more than 64 - w away (59 with five), since ask lies at most w before start, and never past zmg_node_made.
- * One that goes by age drops what is older than 64 - k - w tics (47: 1.3 seconds at 35 builds a second), since
- * a new packet may already lie up to k + w away (17), and hands a node that has ended nothing later than 64 - w
- * tics after its end (59), since those who play on leave its zmg_node_made behind. These tics are commands:
- * those that the receiver has made since the packet was given, and those that a sender makes after the
- * receiver's end. A node that makes several in a tic, as after a pause, counts each. What a player gives after
- * it has left keeps its start while the others play on, so its age does not tell how far away it lies. Once
- * zmg_node_ran has reached that player's zmg_node_end, the transport drops all packets of that player. Until
- * then what was given after the player left is near at any age at a node that has not ended, and what was given
- * before goes by age. A set-up packet may come at any time. */
+ * One that goes by age drops what is older than 64 - k - w tics (47: 1.3 seconds at 35 builds a second),
+ * since a new packet may already lie up to k + w away (17), and hands a node that has ended nothing later
+ * than 64 - w tics after its end (59), since those who play on leave its zmg_node_made behind. These tics are
+ * commands: those that the receiver has made since the packet was given, and those that a sender makes after
+ * the receiver's end. A node that makes several in a tic, as after a pause, counts each. What a player gives
+ * after it has left keeps its start while the others play on, so its age does not tell how far away it lies.
+ * Once zmg_node_ran has reached that player's zmg_node_end, the transport drops all packets of that player.
+ * Until then what was given after the player left is near at any age at a node that has not ended, and what
+ * was given before goes by age. A set-up packet may come at any time. */
 zmg_heard zmg_node_receive(zmg_node *node, uint8_t from, const uint8_t *bytes, size_t length);
 
 /* A player's move in one tic, where present is 1; else all 0. forward and side in units of 2048 in a world
@@ -334,6 +338,106 @@ size_t zmg_node_demo_length(zmg_node *node);
  * is complete, with its end marker, once a node that has played has ended, or a tic without some player was
  * run. Before the start, and of a node that ended before it, it has no bytes. */
 size_t zmg_node_demo(zmg_node *node, size_t from, uint8_t *out, size_t room);
+
+/* ---- A sealed node ------------------------------------------------------------------------------------- */
+
+/* A node and its seal, for an untrusted network. Its packets go out in envelopes: the datagram, its sender,
+ * its receiver and its full tic numbers, under a tag that only the players of the game can make
+ * (HMAC-SHA-256, of which 16 bytes are sent). Any bytes may come in, from anywhere and at any time. What is
+ * no envelope to this player in this game is dropped, and so is what is old: zmg_node_aim and a table of
+ * senders are not needed. As long as nobody without the secret makes a tag, the games of the nodes agree,
+ * whatever the network loses, repeats, reorders, holds back, alters, forges or gives another sender. In
+ * place of what zmg_node_receive asks for, the caller owes:
+ *   - Delivery. Where nothing gets through, the game waits, and nothing worse happens.
+ *   - One node. A player makes one in a game: no second one of the same number, and none that goes on from
+ *     a copy of memory. All its packets come from zmg_sealed_node_packet: a player who seals otherwise than
+ *     by these calls can tell the others different commands.
+ *   - One number for each game. Player 0's machine draws sixteen bytes at random and tells them to the
+ *     others. It need not be secret, but each player must get the host's own: whoever can hand a player an
+ *     old number can play that game to it again. Send it by a line that cannot be altered. Under a number
+ *     that is used again the packets of the old game open in the new one.
+ *   - A secret that is kept: 32 bytes at random, known to the players alone and used for nothing else.
+ *     Whoever has it can send as any player, and whoever records an envelope can try guesses against it.
+ * Commands and chat can be read by whoever sees the line. Keys are not wiped from memory. The marks of
+ * zmg_sealed_node_run are owed as ever.
+ *
+ * The calls are those of a node, and answer as they do, with the same structs and codes; but there is no
+ * aim, and packet and receive are these. A handle that holds no sealed node answers as one that holds no
+ * node. */
+typedef struct zmg_sealed_node {
+    uint8_t live;
+    void *at;
+} zmg_sealed_node;
+#define ZMG_SEALED_NODE_NONE { 0, NULL }
+
+/* How many bytes a secret and a game's number have. */
+#define ZMG_SECRET_SIZE 32
+#define ZMG_NUMBER_SIZE 16
+
+/* Makes a sealed node in the handle, in a window of `ahead` commands: ZMG_MOST_AHEAD is that of zmg_node_new.
+ * All players of a game have the same secret, number and window. Answers ZMG_NEW_BAD_SECRET where all bytes
+ * of the secret are 0, as those of one that was never set, and else as zmg_node_new_within. Neither the
+ * secret nor the number is kept by reference. */
+uint32_t zmg_sealed_node_new(zmg_sealed_node *node, const zmg_config *config, uint8_t ahead,
+    const uint8_t secret[ZMG_SECRET_SIZE], const uint8_t number[ZMG_NUMBER_SIZE]);
+
+/* The same for an open game, whose players share no secret. Its envelopes say so: a node of
+ * zmg_sealed_node_new opens none of them, and this one none of those. Damaged and old packets, and those of
+ * other games and to other players, are dropped as ever; but whoever knows the number can send as any
+ * player. Answers as zmg_node_new_within. */
+uint32_t zmg_sealed_node_new_open(zmg_sealed_node *node, const zmg_config *config, uint8_t ahead,
+    const uint8_t number[ZMG_NUMBER_SIZE]);
+
+void zmg_sealed_node_free(zmg_sealed_node *node);
+zmg_made zmg_sealed_node_build(zmg_sealed_node *node, uint32_t keys);
+zmg_made zmg_sealed_node_give(zmg_sealed_node *node, const zmg_command *command);
+uint32_t zmg_sealed_node_can_build(zmg_sealed_node *node);
+zmg_known_command zmg_sealed_node_command(zmg_sealed_node *node, uint8_t player, uint32_t tic);
+zmg_ran zmg_sealed_node_run(zmg_sealed_node *node, const int16_t marks[4], zmg_move row[4]);
+uint32_t zmg_sealed_node_quit(zmg_sealed_node *node);
+
+/* How many bytes of room an envelope needs at most, and how many it has beside its datagram. */
+#define ZMG_MAX_ENVELOPE 141u
+#define ZMG_ENVELOPE_OVERHEAD 37u
+
+/* Writes the next packet to player `to` in its envelope to the front of out, and answers how many bytes it
+ * has. Each packet is taken as sent. 0, with the node and out as they were, where room is below
+ * ZMG_MAX_ENVELOPE, and where zmg_node_packet would answer 0. */
+size_t zmg_sealed_node_packet(zmg_sealed_node *node, uint8_t to, uint8_t *out, size_t room);
+
+/* Further codes of zmg_heard, which zmg_sealed_node_receive alone answers. At each nothing changed. */
+#define ZMG_RECEIVE_UNOPENED 7u /* no envelope to this player in this game; number says why, as ZMG_SEAL_ */
+#define ZMG_RECEIVE_LATE 8u     /* its start or ask lies more than 64 tics from what the node has made */
+#define ZMG_RECEIVE_UNLIKE 9u   /* the datagram's own start byte or request flag contradicts the envelope (the
+                                 * tic of the request is not compared; set-up has neither): its sender did
+                                 * not make it by zmg_sealed_node_packet */
+
+/* Why bytes are no envelope: the first of these that holds. */
+#define ZMG_SEAL_SHORT 1u    /* fewer than 37 bytes */
+#define ZMG_SEAL_LONG 2u     /* more than ZMG_MAX_ENVELOPE */
+#define ZMG_SEAL_SUITE 3u    /* another suite, as of an open game where this one has a secret, or no envelope
+                              * at all */
+#define ZMG_SEAL_KIND 4u     /* something else than a datagram is in it */
+#define ZMG_SEAL_GAME 5u     /* another game's number: its first eight bytes differ */
+#define ZMG_SEAL_RECEIVER 6u /* to another player */
+#define ZMG_SEAL_TAG 7u      /* altered or forged, or the secrets or the last eight bytes of the numbers
+                              * differ */
+#define ZMG_SEAL_REQUEST 8u  /* byte 16 is neither 0 nor 1, or a tic without a request */
+
+/* Hears any bytes, whoever sent them. ZMG_RECEIVE_STARTED to ZMG_RECEIVE_DROPPED are as of
+ * zmg_node_receive. Of an envelope that was opened, byte 10 is the number of the sender. */
+zmg_heard zmg_sealed_node_receive(zmg_sealed_node *node, const uint8_t *bytes, size_t length);
+
+zmg_phase zmg_sealed_node_phase(zmg_sealed_node *node);
+uint32_t zmg_sealed_node_me(zmg_sealed_node *node);
+uint32_t zmg_sealed_node_players(zmg_sealed_node *node);
+uint32_t zmg_sealed_node_made(zmg_sealed_node *node);
+uint32_t zmg_sealed_node_ran(zmg_sealed_node *node);
+zmg_number zmg_sealed_node_got(zmg_sealed_node *node, uint8_t player);
+zmg_number zmg_sealed_node_end(zmg_sealed_node *node, uint8_t player);
+zmg_known_settings zmg_sealed_node_settings(zmg_sealed_node *node);
+size_t zmg_sealed_node_demo_length(zmg_sealed_node *node);
+size_t zmg_sealed_node_demo(zmg_sealed_node *node, size_t from, uint8_t *out, size_t room);
 
 /* ---- Datagrams, with no node --------------------------------------------------------------------------- */
 

@@ -1,14 +1,8 @@
 /* The library's memory over malloc, which refuses what failing.h says: linked before the library, in place
  * of heap.c. */
 #include "failing.h"
-#include <stddef.h>
-#include <stdint.h>
+#include "zirmegat_memory.h"
 #include <stdlib.h>
-
-struct zmg_block {
-    uint8_t given;
-    void *at;
-};
 
 static const char nowhere[16];
 static unsigned long asked, every, once;
@@ -29,10 +23,6 @@ static struct zmg_block block(void *at) {
     b.at = at != NULL ? at : (void *)nowhere;
     return b;
 }
-
-struct zmg_block zmg_alloc(size_t size, size_t align);
-struct zmg_block zmg_realloc(void *at, size_t kept, size_t size, size_t align);
-void zmg_dealloc(void *at);
 
 struct zmg_block zmg_alloc(size_t size, size_t align) {
     struct zmg_block b = block(is_refused() ? NULL : malloc(size ? size : align));

@@ -16,6 +16,7 @@
 
 static void sizes(void) {
     IS(sizeof(zmg_node), 2 * sizeof(void *));
+    IS(sizeof(zmg_sealed_node), 2 * sizeof(void *));
     IS(sizeof(zmg_demo), 2 * sizeof(void *));
     IS(sizeof(zmg_settings), 6);
     IS(sizeof(zmg_config), 16);
@@ -39,6 +40,8 @@ static void sizes(void) {
 static void offsets(void) {
     IS(offsetof(zmg_node, live), 0);
     IS(offsetof(zmg_node, at), sizeof(size_t));
+    IS(offsetof(zmg_sealed_node, live), 0);
+    IS(offsetof(zmg_sealed_node, at), sizeof(size_t));
     IS(offsetof(zmg_demo, live), 0);
     IS(offsetof(zmg_demo, at), sizeof(size_t));
     IS(offsetof(zmg_settings, skill), 0);
@@ -510,6 +513,133 @@ static void packets(void) {
 
 /* A demo of version 109, with players 0 and 2, one tic, a command of a cut tic, and two bytes behind the
  * marker. */
+static zmg_sealed_node sealed_key = ZMG_SEALED_NODE_NONE, sealed_other = ZMG_SEALED_NODE_NONE;
+static uint8_t secret[ZMG_SECRET_SIZE] = { 1, 2, 3 }, number[ZMG_NUMBER_SIZE] = { 4, 5, 6 };
+
+static size_t envelope(zmg_sealed_node *from, uint8_t to) {
+    return zmg_sealed_node_packet(from, to, bytes, ZMG_MAX_ENVELOPE);
+}
+
+static zmg_heard open_by(zmg_sealed_node *to, size_t length) {
+    return zmg_sealed_node_receive(to, bytes, length);
+}
+
+static void unopened(size_t length, uint32_t why) {
+    zmg_heard heard = open_by(&sealed_other, length);
+    IS(heard.code, ZMG_RECEIVE_UNOPENED);
+    IS(heard.number, why);
+}
+
+/* A handle that holds nothing answers as a node that does not play. */
+static void no_sealed_node(void) {
+    zmg_move row[4];
+    zmg_command c = { 0, 0, 0, 0, 0, 0 };
+    IS(zmg_sealed_node_phase(&sealed_key).code, ZMG_PHASE_NO_NODE);
+    IS(zmg_sealed_node_build(&sealed_key, 0).code, ZMG_BUILD_NOT_PLAYING);
+    IS(zmg_sealed_node_give(&sealed_key, &c).code, ZMG_BUILD_NOT_PLAYING);
+    IS(zmg_sealed_node_can_build(&sealed_key), 0);
+    IS(zmg_sealed_node_run(&sealed_key, no_marks, row).code, ZMG_RUN_NOT_PLAYING);
+    IS(open_by(&sealed_key, 0).code, ZMG_RECEIVE_DROPPED);
+    IS(open_by(&sealed_key, 0).number, ZMG_DROP_NOT_PLAYING);
+    IS(zmg_sealed_node_quit(&sealed_key), 0);
+    IS(envelope(&sealed_key, 1), 0);
+    IS(zmg_sealed_node_settings(&sealed_key).known, 0);
+    IS(zmg_sealed_node_demo_length(&sealed_key), 0);
+    zmg_sealed_node_free(&sealed_key);
+}
+
+static void sealed_tic(void) {
+    zmg_move row[4];
+    zmg_sealed_node_build(&sealed_key, ZMG_KEY_FORWARD);
+    zmg_sealed_node_build(&sealed_other, 0);
+    IS(open_by(&sealed_other, envelope(&sealed_key, 1)).code, ZMG_RECEIVE_TAKEN);
+    IS(open_by(&sealed_key, envelope(&sealed_other, 0)).code, ZMG_RECEIVE_TAKEN);
+    IS(zmg_sealed_node_run(&sealed_key, no_marks, row).code, ZMG_RUN_RAN);
+    IS(row[0].forward, 25);
+    IS(zmg_sealed_node_run(&sealed_other, no_marks, row).code, ZMG_RUN_RAN);
+}
+
+/* A secret of zeros is refused before all, and gives up what the handle held; one with any other byte is not. */
+static void unset_secrets(const zmg_config *c) {
+    uint8_t zeros[ZMG_SECRET_SIZE] = { 0 };
+    IS(zmg_sealed_node_new(&sealed_key, c, ZMG_MOST_AHEAD, secret, number), ZMG_NEW_OK);
+    IS(zmg_sealed_node_new(&sealed_key, c, 0, zeros, number), ZMG_NEW_BAD_SECRET);
+    IS(zmg_sealed_node_phase(&sealed_key).code, ZMG_PHASE_NO_NODE);
+    for (unsigned k = 0; k < sizeof zeros; k++) {
+        zeros[k] = 1;
+        IS(zmg_sealed_node_new(&sealed_key, c, 0, zeros, number), ZMG_NEW_BAD_AHEAD);
+        zeros[k] = 0;
+    }
+}
+
+/* An envelope with each of its parts altered, one that is old, and one of an open game. */
+static void seals(void) {
+    static const uint8_t places[] = { 0, 1, 2, 9, 11, 10, 12, 16, 20, 21, 28, 44 };
+    static const uint32_t faults[] = { ZMG_SEAL_SUITE, ZMG_SEAL_KIND, ZMG_SEAL_GAME, ZMG_SEAL_GAME,
+        ZMG_SEAL_RECEIVER, ZMG_SEAL_TAG, ZMG_SEAL_TAG, ZMG_SEAL_TAG, ZMG_SEAL_TAG, ZMG_SEAL_TAG,
+        ZMG_SEAL_TAG, ZMG_SEAL_TAG };
+    uint8_t old[ZMG_MAX_ENVELOPE];
+    zmg_config c = config_of(0);
+    size_t n;
+    no_sealed_node();
+    c.settings.map = 0;
+    IS(zmg_sealed_node_new(&sealed_key, &c, 0, secret, number), ZMG_NEW_BAD_MAP);
+    c = config_of(2);
+    IS(zmg_sealed_node_new_open(&sealed_key, &c, 0, number), ZMG_NEW_BAD_AHEAD);
+    IS(zmg_sealed_node_new(&sealed_key, &c, ZMG_WIDEST_AHEAD, secret, number), ZMG_NEW_BAD_ME);
+    c = config_of(0);
+    unset_secrets(&c);
+    IS(zmg_sealed_node_new(&sealed_key, &c, ZMG_MOST_AHEAD, secret, number), ZMG_NEW_OK);
+    IS(zmg_sealed_node_phase(&sealed_key).code, ZMG_PHASE_GATHERING);
+    IS(zmg_sealed_node_settings(&sealed_key).settings.map, 9);
+    IS(zmg_sealed_node_packet(&sealed_key, 1, bytes, ZMG_MAX_ENVELOPE - 1), 0);
+    c.me = 1;
+    IS(zmg_sealed_node_new_open(&sealed_other, &c, ZMG_MOST_AHEAD, number), ZMG_NEW_OK);
+    n = envelope(&sealed_key, 1);
+    IS(n, ZMG_ENVELOPE_OVERHEAD + 8);
+    unopened(n, ZMG_SEAL_SUITE);
+    IS(zmg_sealed_node_new(&sealed_other, &c, ZMG_MOST_AHEAD, secret, number), ZMG_NEW_OK);
+    unopened(ZMG_ENVELOPE_OVERHEAD - 1, ZMG_SEAL_SHORT);
+    unopened(ZMG_MAX_ENVELOPE + 1, ZMG_SEAL_LONG);
+    unopened(n - 1, ZMG_SEAL_TAG);
+    for (unsigned k = 0; k < sizeof places; k++) {
+        bytes[places[k]] ^= 64;
+        unopened(n, faults[k]);
+        bytes[places[k]] ^= 64;
+    }
+    IS(open_by(&sealed_key, n).number, ZMG_SEAL_RECEIVER);
+    IS(open_by(&sealed_other, n).code, ZMG_RECEIVE_STARTED);
+    IS(open_by(&sealed_key, envelope(&sealed_other, 0)).code, ZMG_RECEIVE_STARTED);
+    for (int k = 0; k < 66; k++) {
+        if (k == 1) {
+            n = envelope(&sealed_other, 0);
+            memcpy(old, bytes, n);
+            IS(old[12], 1); /* the start: what was sent is not sent again */
+        }
+        sealed_tic();
+    }
+    IS(zmg_sealed_node_made(&sealed_key), 66);
+    IS(zmg_sealed_node_ran(&sealed_other), 66);
+    IS(zmg_sealed_node_got(&sealed_key, 1).value, 66);
+    IS(zmg_sealed_node_me(&sealed_other), 1);
+    IS(zmg_sealed_node_players(&sealed_other), 2);
+    IS(zmg_sealed_node_end(&sealed_other, 0).known, 0);
+    IS(zmg_sealed_node_command(&sealed_other, 0, 65).command.forward, 25);
+    IS(zmg_sealed_node_demo_length(&sealed_key), 13 + 66 * 10);
+    memcpy(bytes, old, n);
+    IS(open_by(&sealed_key, n).code, ZMG_RECEIVE_LATE);
+    IS(open_by(&sealed_key, n).number, 0);
+    IS(zmg_sealed_node_quit(&sealed_key), 1);
+    IS(zmg_sealed_node_quit(&sealed_key), 0);
+    IS(zmg_sealed_node_phase(&sealed_key).cause, ZMG_CAUSE_QUIT);
+    IS(zmg_sealed_node_demo(&sealed_key, 13 + 66 * 10, bytes, sizeof bytes), 1);
+    IS(bytes[0], 0x80);
+    IS(open_by(&sealed_other, envelope(&sealed_key, 1)).code, ZMG_RECEIVE_LEFT);
+    IS(zmg_sealed_node_end(&sealed_other, 0).value, 66);
+    zmg_sealed_node_free(&sealed_key);
+    zmg_sealed_node_free(&sealed_other);
+}
+
 static void demos(void) {
     static const uint8_t old[] = { 109, 4, 2, 5, 1, 6, 7, 8, 2, 1, 0, 1, 0, 10, 20, 30, 40, 0xf6, 1, 0x80, 3,
         9, 9, 9, 9, 0x80, 1, 2 };
@@ -604,6 +734,15 @@ static void no_memory(void) {
     IS(n, 4);
     for (n = 1, code = 1; code; n++) {
         fail_once(n);
+        code = zmg_sealed_node_new(&sealed_key, &c, ZMG_MOST_AHEAD, secret, number);
+        if (!code) continue;
+        IS(code, ZMG_NEW_NO_MEMORY);
+        IS(zmg_sealed_node_phase(&sealed_key).code, ZMG_PHASE_NO_NODE);
+    }
+    IS(n, 4);
+    zmg_sealed_node_free(&sealed_key);
+    for (n = 1, code = 1; code; n++) {
+        fail_once(n);
         code = zmg_demo_new(&demo);
         if (code) IS(code, ZMG_DEMO_NO_MEMORY);
     }
@@ -640,6 +779,7 @@ int main(void) {
     drops();
     ends();
     packets();
+    seals();
     demos();
     no_memory();
     printf("layout: ok\n");

@@ -59,10 +59,15 @@
 //! # }
 //! ```
 //!
-//! Nothing here waits, prints or opens anything. A player's memory is all taken by `Player::new` or `within`,
-//! but for the copy that `demo` returns; readers of demos, `upgrade` and packets take their own. A [`Node`],
-//! [`Player`], [`Reader`] or [`Demo`] may go to another thread, and one thread at a time uses it: they are
-//! `Send` and not `Sync`. None is used in the forked child of a process with threads.
+//! A datagram must come as it was sent, from the sender that is named, and not old. On a network that nobody
+//! answers for, as the internet, a [`SealedPlayer`] sees to that itself: its packets go out in envelopes
+//! under a [`Seal`], and [`SealedPlayer::receive`] takes any bytes.
+//!
+//! Nothing here waits, prints or opens anything. A player's memory is all taken by `new` or `within`, but for
+//! the copy that `demo` returns; readers of demos, `upgrade` and packets take their own. A [`Node`],
+//! [`Player`], [`SealedNode`], [`SealedPlayer`], [`Reader`] or [`Demo`] may go to another thread, and one
+//! thread at a time uses it: they are `Send` and not `Sync`. None is used in the forked child of a process
+//! with threads.
 //!
 //! A later library may answer codes that this crate has no name for. Each enum that is made of a code has
 //! `Unknown` with the code for them; so no unknown code is taken for a known one, and none ends the program.
@@ -74,20 +79,23 @@
 #![deny(unsafe_op_in_unsafe_fn)]
 #![deny(clippy::undocumented_unsafe_blocks)]
 
+mod calls;
 mod demo;
 mod node;
 mod packet;
 mod player;
 mod raw;
+mod sealed;
 mod values;
 
 pub use demo::{upgrade, Demo, DemoError, Reader, UpgradeError};
 pub use node::{Datagram, Node, NodeError};
 pub use packet::{Command, Packet, PacketError, EXIT, KILL, RETRANSMIT, SETUP};
 pub use player::{Player, World};
+pub use sealed::{Envelope, Seal, SealedNode, SealedPlayer};
 pub use values::{
-    Aim, Cause, Config, Dropped, Heard, Keys, Made, Move, Phase, Ran, Settings, Start, MOST_AHEAD,
-    WIDEST_AHEAD,
+    Aim, Arrived, Cause, Config, Dropped, Heard, Keys, Made, Move, Phase, Ran, Settings, Start,
+    Unopened, MOST_AHEAD, WIDEST_AHEAD,
 };
 
 /// The version of the library that is linked: 65,536 times the first number, plus the second.

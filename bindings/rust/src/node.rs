@@ -1,12 +1,13 @@
 //! A node without a world.
 
+use crate::calls::node_calls;
 use crate::packet::Command;
 use crate::raw;
 use crate::values::{self, Aim, Config, Heard, Keys, Made, Move, Phase, Ran, Settings};
 use std::error::Error;
 use std::fmt;
 
-/// Why there is no node. Player 0's settings are looked at first.
+/// Why there is no node. A secret is looked at first, and then player 0's settings.
 #[derive(Clone, Copy, Debug, PartialEq, Eq)]
 #[non_exhaustive]
 pub enum NodeError {
@@ -28,6 +29,8 @@ pub enum NodeError {
     Map,
     /// A window that no node has.
     Ahead,
+    /// A secret of zeros, as of one that was never set.
+    Secret,
     /// A code that this crate has no name for.
     Unknown(u32),
 }
@@ -44,6 +47,7 @@ impl fmt::Display for NodeError {
             NodeError::Episode => "the episode is not 1 to 3",
             NodeError::Map => "the map is not 1 to 32",
             NodeError::Ahead => "no node has a window of this width",
+            NodeError::Secret => "all bytes of the secret are zero",
             NodeError::Unknown(code) => {
                 return write!(f, "the node was refused with the unknown code {code}");
             }
@@ -65,6 +69,7 @@ pub(crate) fn opened(code: u32) -> Result<(), NodeError> {
         8 => Err(NodeError::Episode),
         9 => Err(NodeError::Map),
         10 => Err(NodeError::Ahead),
+        11 => Err(NodeError::Secret),
         code => Err(NodeError::Unknown(code)),
     }
 }
@@ -98,38 +103,6 @@ impl Node {
         // SAFETY: the call has the handle alone (`Held`), and the configuration is valid for the call.
         opened(unsafe { raw::zmg_node_new_within(node.0.at(), &config.raw(), ahead) })?;
         Ok(node)
-    }
-
-    /// Builds the command of these keys for the next tic.
-    pub fn build(&mut self, keys: Keys) -> Made {
-        // SAFETY: the call has the handle alone (`Held`).
-        values::made(unsafe { raw::zmg_node_build(self.0.at(), keys.0) })
-    }
-
-    /// Takes a whole command for the next tic, in place of `build`: for an engine that makes its commands
-    /// itself, of a mouse, a stick, keys of its own or chat. Its mark is not read, since the node puts in its
-    /// own, and a forward of -128 counts as -127; [`command`](Node::command) tells what was made. For the turns
-    /// of later builds it counts as a build with no key down.
-    pub fn give(&mut self, command: Command) -> Made {
-        // SAFETY: the call has the handle alone (`Held`), and the command is valid for the call.
-        values::made(unsafe { raw::zmg_node_give(self.0.at(), &command.raw()) })
-    }
-
-    /// Whether `build` and `give` would make a command now: the game runs, and fewer commands of this player
-    /// wait to be run than its window allows. An engine asks before it takes up the motion of a mouse, which
-    /// would be lost with a command that is not made.
-    pub fn can_build(&self) -> bool {
-        // SAFETY: the call has the handle alone (`Held`).
-        unsafe { raw::zmg_node_can_build(self.0.at()) != 0 }
-    }
-
-    /// A player's command for a tic, with its chat: one of the last twelve that the node has of the player,
-    /// or of as many as twice its window where that is more. That of the next tic to be run,
-    /// [`ran`](Node::ran), is told as soon as it has come.
-    pub fn command(&self, player: u8, tic: u32) -> Option<Command> {
-        // SAFETY: the call has the handle alone (`Held`).
-        let raw = unsafe { raw::zmg_node_command(self.0.at(), player, tic) };
-        (raw.known != 0).then(|| Command::of(&raw.command))
     }
 
     /// The next packet to a player. Each call is taken as sent. None for this node's own number, for a number
@@ -169,94 +142,14 @@ impl Node {
             raw::zmg_node_receive(self.0.at(), from, bytes.as_ptr(), bytes.len())
         })
     }
-
-    /// Runs the next tic by each player's mark in the caller's world as it stands. Where it was run, the
-    /// caller steps the world by the row.
-    pub fn run(&mut self, marks: [i16; 4]) -> (Ran, Option<[Option<Move>; 4]>) {
-        let mut row = [raw::Move::default(); 4];
-        // SAFETY: the call has the handle alone (`Held`), and both arrays have four elements.
-        let ran = values::ran(unsafe {
-            raw::zmg_node_run(self.0.at(), marks.as_ptr(), row.as_mut_ptr())
-        });
-        match ran {
-            Ran::Ran(_) => (ran, Some(row.map(Move::of))),
-            _ => (ran, None),
-        }
-    }
-
-    /// Ends the node; true if it had not ended before. If it has played, it still gives packets, which tell the
-    /// others of its end.
-    pub fn quit(&mut self) -> bool {
-        // SAFETY: the call has the handle alone (`Held`).
-        unsafe { raw::zmg_node_quit(self.0.at()) != 0 }
-    }
-
-    /// Where it stands.
-    pub fn phase(&self) -> Phase {
-        // SAFETY: the call has the handle alone (`Held`).
-        values::phase(unsafe { raw::zmg_node_phase(self.0.at()) })
-    }
-
-    /// The number of its player.
-    pub fn me(&self) -> u8 {
-        // SAFETY: the call has the handle alone (`Held`).
-        unsafe { raw::zmg_node_me(self.0.at()) as u8 }
-    }
-
-    /// How many players the game has.
-    pub fn players(&self) -> u8 {
-        // SAFETY: the call has the handle alone (`Held`).
-        unsafe { raw::zmg_node_players(self.0.at()) as u8 }
-    }
-
-    /// How many commands it built.
-    pub fn made(&self) -> u32 {
-        // SAFETY: the call has the handle alone (`Held`).
-        unsafe { raw::zmg_node_made(self.0.at()) }
-    }
-
-    /// How many tics it ran.
-    pub fn ran(&self) -> u32 {
-        // SAFETY: the call has the handle alone (`Held`).
-        unsafe { raw::zmg_node_ran(self.0.at()) }
-    }
-
-    /// How many commands it has of a player; None for a number that is no player's.
-    pub fn got(&self, player: u8) -> Option<u32> {
-        // SAFETY: the call has the handle alone (`Held`).
-        values::number(unsafe { raw::zmg_node_got(self.0.at(), player) })
-    }
-
-    /// The tic after a player's last command, where it is known.
-    pub fn end(&self, player: u8) -> Option<u32> {
-        // SAFETY: the call has the handle alone (`Held`).
-        values::number(unsafe { raw::zmg_node_end(self.0.at(), player) })
-    }
-
-    /// The choice of game: player 0's own from the beginning, another's from the start on.
-    pub fn settings(&self) -> Option<Settings> {
-        // SAFETY: the call has the handle alone (`Held`).
-        let raw = unsafe { raw::zmg_node_settings(self.0.at()) };
-        (raw.known != 0).then_some(Settings::of(raw.settings))
-    }
-
-    /// A copy of its demo so far.
-    pub fn demo(&self) -> Vec<u8> {
-        // SAFETY: the call has the handle alone (`Held`).
-        let length = unsafe { raw::zmg_node_demo_length(self.0.at()) };
-        let mut bytes = vec![0; length];
-        // SAFETY: the call has the handle alone (`Held`), and the vector is valid for its length.
-        let copied = unsafe { raw::zmg_node_demo(self.0.at(), 0, bytes.as_mut_ptr(), bytes.len()) };
-        bytes.truncate(copied);
-        bytes
-    }
 }
 
-impl Drop for Node {
-    fn drop(&mut self) {
-        // SAFETY: the call has the handle alone (`Held`).
-        unsafe { raw::zmg_node_free(self.0.at()) }
-    }
+node_calls! {
+    Node
+    zmg_node_build zmg_node_give zmg_node_can_build zmg_node_command zmg_node_run
+    zmg_node_quit zmg_node_phase zmg_node_me zmg_node_players zmg_node_made zmg_node_ran
+    zmg_node_got zmg_node_end zmg_node_settings zmg_node_demo_length zmg_node_demo
+    zmg_node_free
 }
 
 impl fmt::Debug for Node {

@@ -272,6 +272,44 @@ pub enum Heard {
     Unknown(u32),
 }
 
+/// Why bytes are no envelope to a sealed node: the first of these that holds.
+#[derive(Clone, Copy, Debug, PartialEq, Eq)]
+#[non_exhaustive]
+pub enum Unopened {
+    /// They are fewer than 37.
+    Short,
+    /// They are more than 141.
+    Long,
+    /// They are of an open game where this one has a secret, or the reverse.
+    Suite,
+    /// Something else than a datagram is in it.
+    Kind,
+    /// They have another game's number.
+    Game,
+    /// They are for another player.
+    Receiver,
+    /// They were altered or forged, or the secrets differ.
+    Tag,
+    /// They have a request that is neither there nor not there.
+    Request,
+    /// A code that this crate has no name for.
+    Unknown(u32),
+}
+
+/// What came of bytes at a sealed node.
+#[derive(Clone, Copy, Debug, PartialEq, Eq)]
+#[non_exhaustive]
+pub enum Arrived {
+    /// They were an envelope, whose datagram was heard so.
+    Heard(Heard),
+    /// They are no envelope to this player in this game, and changed nothing.
+    Unopened(Unopened),
+    /// They tell of a tic that is more than 64 from what the node has made, and changed nothing.
+    Late,
+    /// The envelope and its datagram tell of different tics, as no node makes them, and it changed nothing.
+    Unlike,
+}
+
 /// What a run answers.
 #[derive(Clone, Copy, Debug, PartialEq, Eq)]
 #[non_exhaustive]
@@ -378,6 +416,29 @@ pub(crate) fn heard(raw: raw::Coded) -> Heard {
         5 => Heard::Noted,
         6 => Heard::Dropped(dropped(raw.number)),
         code => Heard::Unknown(code),
+    }
+}
+
+fn unopened(number: u32) -> Unopened {
+    match number {
+        1 => Unopened::Short,
+        2 => Unopened::Long,
+        3 => Unopened::Suite,
+        4 => Unopened::Kind,
+        5 => Unopened::Game,
+        6 => Unopened::Receiver,
+        7 => Unopened::Tag,
+        8 => Unopened::Request,
+        code => Unopened::Unknown(code),
+    }
+}
+
+pub(crate) fn arrived(raw: raw::Coded) -> Arrived {
+    match raw.code {
+        7 => Arrived::Unopened(unopened(raw.number)),
+        8 => Arrived::Late,
+        9 => Arrived::Unlike,
+        _ => Arrived::Heard(heard(raw)),
     }
 }
 

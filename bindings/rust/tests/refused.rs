@@ -1,9 +1,12 @@
 //! Memory that is refused, to the library and to the crate itself. To be linked with an archive that has
-//! bindings/c/tests/failing.c in place of heap.c: the feature `failing` says so, and bindings/test makes it.
+//! bindings/c/tests/failing.c in place of heap.c: the feature `_failing` says so, and bindings/test makes it.
 
 use std::alloc::{GlobalAlloc, Layout, System};
 use std::cell::Cell;
-use zirmegat::{upgrade, Config, DemoError, Keys, Node, NodeError, Reader, Settings, UpgradeError};
+use zirmegat::{
+    upgrade, Config, DemoError, Keys, Node, NodeError, Reader, Seal, SealedNode, Settings,
+    UpgradeError,
+};
 
 mod failing {
     extern "C" {
@@ -102,6 +105,9 @@ fn refused_memory_is_told_and_given_back() {
     let demo = demo();
     let node = || Node::new(Config::other(2, 1));
     assert_eq!(refused(NodeError::Memory, node), 2);
+    let seal = Seal::Open { number: [1; 16] };
+    let sealed = || SealedNode::new(Config::other(2, 1), seal);
+    assert_eq!(refused(NodeError::Memory, sealed), 2);
     assert_eq!(refused(DemoError::Memory, Reader::new), 1);
     let read = || {
         let mut reader = Reader::new()?;

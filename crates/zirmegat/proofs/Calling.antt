@@ -1,15 +1,20 @@
 -- What a call does to a handle, by what it does to what the handle held.
-use Rattle.std.proofs.Common.{◌≡◌, sym, ap, subst}
+use Rattle.std.proofs.Common.{◌≡◌, refl, sym, ap, subst}
 use Rattle.std.specs.Prelude.{Bool, true, Option, Some, None, if◌then◌else◌}
+use Rattle.std.specs.Option.{option_map}
 use Rattle.dn_machine.specs.declared.answers.Made.{Made}
 use Rattle.dn_tic.specs.declared.input.Input.{Input}
 use Rattle.dn_machine.specs.Building.{on_build}
 use Rattle.dn_lockstep.specs.declared.lockstep.Lockstep.{Lockstep}
 use Rattle.dn_lockstep.specs.Contents.{Contents, contents}
 use Rattle.dn_lockstep.specs.Steps.{Steps}
+use Rattle.dn_open.specs.declared.sealed.SealedLockstep.{SealedLockstep}
+use Rattle.dn_open.specs.Locked.{locked}
 use Rattle.zirmegat.specs.declared.handle.NodeHandle.{NodeHandle}
-use Rattle.zirmegat.specs.Calls.{node_of, Calls}
-use Rattle.zirmegat.specs.Lends.{with_node}
+use Rattle.zirmegat.specs.declared.sealed_handle.SealedHandle.{SealedHandle}
+use Rattle.zirmegat.specs.Calls.{node_of, Calls, Reads}
+use Rattle.zirmegat.specs.Lends.{with_node, with_sealed}
+use Rattle.zirmegat.specs.Sealed.{Locked, locked_of, sealed_of}
 
 -- a handle that held something is called as what it held
 pub calls_held : {A : Type 0} {old new : Option A} (Step : A → A → Type 0) (Empty : Type 0) (n k : A)
@@ -19,14 +24,33 @@ calls_held {A} {old} {new} Step Empty n k held left step =
     let Q : Option A → Type 0 = λ o. Calls (Some n) o Step Empty in
     subst P (sym held) (subst Q (sym left) step)
 
--- the same of a node that the handle lends
+-- the same of what a handle lends, of which this is shown
+pub lent : {A B : Type 0} (shown : A → B) (live : Bool) (value : Option A) (n m : A) (Step : B → B → Type 0)
+    (Empty : Type 0) → live ≡ true → (if live then option_map shown value else None) ≡ Some (shown n)
+    → Step (shown n) (shown m)
+    → Calls (if live then option_map shown value else None) (if live then Some (shown m) else None) Step Empty
+lent {A} {B} shown live value n m Step Empty lives held step =
+    let left : (if live then Some (shown m) else None) ≡ Some (shown m) =
+    ap (λ (b : Bool). if b then Some (shown m) else None) lives in
+    calls_held Step Empty (shown n) (shown m) held left step
+
 pub calls_lent : (h : NodeHandle) (n m : Lockstep) (Step : Contents → Contents → Type 0) (Empty : Type 0)
     → h.live ≡ true → node_of h ≡ Some (contents n) → Step (contents n) (contents m)
     → Calls (node_of h) (node_of (with_node h m)) Step Empty
-calls_lent h n m Step Empty live held step =
-    let left : node_of (with_node h m) ≡ Some (contents m) =
-    ap (λ (b : Bool). if b then Some (contents m) else None) live in
-    calls_held Step Empty (contents n) (contents m) held left step
+calls_lent h = lent contents h.live h.node
+
+pub sealed_lent : (h : SealedHandle) (n m : SealedLockstep) (Step : Locked → Locked → Type 0) (Empty : Type 0)
+    → h.live ≡ true → sealed_of h ≡ Some (locked_of n) → Step (locked_of n) (locked_of m)
+    → Calls (sealed_of h) (sealed_of (with_sealed h m)) Step Empty
+sealed_lent h = lent locked_of h.live h.node
+
+-- and where its lockstep is read
+pub sealed_read : (h : SealedHandle) (n : SealedLockstep) (lockstep : Lockstep) (IsAnswer : Contents → Type 0)
+    (Empty : Type 0) → h.live ≡ true → sealed_of h ≡ Some (locked_of n) → contents lockstep ≡ locked n
+    → IsAnswer (contents lockstep)
+    → Reads (sealed_of h) (sealed_of (with_sealed h n)) (λ n. IsAnswer n.lockstep) Empty
+sealed_read h n lockstep IsAnswer Empty live held same answer =
+    sealed_lent h n n (λ n k. (k ≡ n) × IsAnswer n.lockstep) Empty live held (refl, subst IsAnswer same answer)
 
 -- the same input is built the same
 pub builds_same : {old new : Contents} {made : Made} {input other : Input} → input ≡ other

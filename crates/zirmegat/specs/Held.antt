@@ -8,6 +8,8 @@ use Rattle.std.specs.contracts.impls.GlobalAllocator.TheImpl.{ghosts}
 use Rattle.std.specs.Box.Ownership.{box_owns}
 use Rattle.dn_lockstep.specs.declared.lockstep.Lockstep.{Lockstep}
 use Rattle.dn_lockstep.specs.contracts.lockstep.Lockstep as lockstep
+use Rattle.dn_open.specs.declared.sealed.SealedLockstep.{SealedLockstep}
+use Rattle.dn_open.specs.contracts.sealed.SealedLockstep as sealed
 use Rattle.zirmegat.specs.declared.reader.DemoReader.{DemoReader}
 use Rattle.zirmegat.specs.contracts.reader.DemoReader as reader
 
@@ -26,3 +28,6 @@ held_node = held lockstep.the_row
 
 abbrev pub held_reader : Bool → Ptr → Option DemoReader → Fml
 held_reader = held reader.the_row
+
+abbrev pub held_sealed : Bool → Ptr → Option SealedLockstep → Fml
+held_sealed = held sealed.the_row

@@ -5,6 +5,10 @@ use Rattle.dn_lockstep.specs.declared.lockstep.Lockstep.{Lockstep}
 use Rattle.dn_lockstep.specs.contracts.lockstep.Lockstep as lockstep
 use Rattle.zirmegat.specs.declared.handle.NodeHandle.{NodeHandle}
 use Rattle.zirmegat.specs.contracts.handle.NodeHandle as handle
+use Rattle.dn_open.specs.declared.sealed.SealedLockstep.{SealedLockstep}
+use Rattle.dn_open.specs.contracts.sealed.SealedLockstep as sealed
+use Rattle.zirmegat.specs.declared.sealed_handle.SealedHandle.{SealedHandle}
+use Rattle.zirmegat.specs.contracts.sealed_handle.SealedHandle as sealed_handle
 
 -- the handle with another node
 abbrev pub with_node : NodeHandle → Lockstep → NodeHandle
@@ -17,3 +21,13 @@ lends_node h r = Lends handle.the_row lockstep.the_row h r (with_node h.now)
 -- the same where a node is lent, and else the handle stays as it is
 abbrev pub lends_held : MutBor NodeHandle → Option (MutBor Lockstep) → Fml
 lends_held h r = LendsIf handle.the_row lockstep.the_row h r (with_node h.now) h.now
+
+-- the same of a sealed node
+abbrev pub with_sealed : SealedHandle → SealedLockstep → SealedHandle
+with_sealed h node = record h { node = Some node }
+
+abbrev pub lends_sealed : MutBor SealedHandle → MutBor SealedLockstep → Fml
+lends_sealed h r = Lends sealed_handle.the_row sealed.the_row h r (with_sealed h.now)
+
+abbrev pub lends_held_sealed : MutBor SealedHandle → Option (MutBor SealedLockstep) → Fml
+lends_held_sealed h r = LendsIf sealed_handle.the_row sealed.the_row h r (with_sealed h.now) h.now

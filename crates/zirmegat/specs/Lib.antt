@@ -8,3 +8,4 @@ pub mod Fields
 pub mod Commands
 pub mod Upgrading
 pub mod Demos
+pub mod Sealed

@@ -3,8 +3,11 @@
 ghost use Rattle.std.specs.Prelude.{◌≡◌};
 ghost use Rattle.dn_setup.specs.Starts.{bit};
 ghost use Rattle.zirmegat.specs.Answers.{phase_told, ended_told, made_told, heard_told, ran_told, number_told, move_told, aim_told};
+ghost use Rattle.zirmegat.specs.Sealed.{arrived_told, seal_code};
 
 use dn_lockstep::{Aim, Cause, Heard, Made, Phase, Ran};
+use dn_open::Arrived;
+use dn_seal::SealFault;
 use dn_tic::Move;
 
 /// Where a node stands. `code` is 0 for no node, 1 for one that listens, 2 for one that gathers, 3 for one
@@ -102,13 +105,15 @@ impl BuildAnswer {
 /// What a node answers to a datagram: 0 where it has started, 1 where it took `number` new commands, 2
 /// where no command was new, 3 where earlier commands are missing, 4 where the sender has left and all its
 /// commands are here, 5 where a gathering node noted the sender, or where the node has ended, 6 where it
-/// dropped the datagram, for the reason `number`.
+/// dropped the datagram, for the reason `number`. A sealed node also answers 7 to bytes that are no envelope to
+/// it, for the fault `number`, 8 to one that is too old, and 9 to one whose datagram tells another start or
+/// request than the envelope.
 #[repr(C)]
 #[derive(Clone, Copy, Debug, PartialEq, Eq)]
 pub struct HeardAnswer {
-    /// 0 to 6, as above.
+    /// 0 to 9, as above.
     pub code: u32,
-    /// How many commands were new, or the number of the drop.
+    /// How many commands were new, or the number of the drop or of the fault.
     pub number: u32,
 }
 
@@ -126,6 +131,34 @@ impl HeardAnswer {
             Heard::Dropped(number) => (6, u32::from(number)),
         };
         HeardAnswer { code, number }
+    }
+
+    pub(crate) fn arrived(arrived: Arrived) -> HeardAnswer
+        ensures { result ≡ arrived_told arrived }
+    {
+        let (code, number) = match arrived {
+            Arrived::Heard(heard) => return HeardAnswer::of(heard),
+            Arrived::Unopened(fault) => (7, seal_code(fault)),
+            Arrived::Late => (8, 0),
+            Arrived::Unlike => (9, 0),
+        };
+        HeardAnswer { code, number }
+    }
+}
+
+/// Why bytes are no envelope.
+fn seal_code(fault: SealFault) -> u32
+    ensures { result ≡ seal_code fault }
+{
+    match fault {
+        SealFault::Short => 1,
+        SealFault::Long => 2,
+        SealFault::Suite => 3,
+        SealFault::Kind => 4,
+        SealFault::Game => 5,
+        SealFault::Receiver => 6,
+        SealFault::Tag => 7,
+        SealFault::Request => 8,
     }
 }
 

@@ -27,7 +27,7 @@ use dn_packet::MAX_DATAGRAM;
 use dn_tic::{Keys, Move};
 
 /// The number of the drop where a node does not play.
-const NOT_PLAYING: u8 = 13;
+pub(crate) const NOT_PLAYING: u8 = 13;
 
 /// Builds the command of these keys for the next tic.
 #[unsafe(no_mangle)]
@@ -136,7 +136,7 @@ pub(crate) fn tell_row(row: &mut [MoveAnswer; 4], moves: Option<[Option<Move>; 4
 }
 
 /// Tells the moves of a tic that was run.
-fn tell_run(row: &mut [MoveAnswer; 4], ran: Ran, moves: &[Option<Move>; 4])
+pub(crate) fn tell_run(row: &mut [MoveAnswer; 4], ran: Ran, moves: &[Option<Move>; 4])
     ensures { row.new ≡ row_told_over row.old (told_by ran moves.now) }
 {
     if let Ran::Ran(_) = ran {

@@ -28,7 +28,7 @@ pub struct KnownCommand {
 }
 
 impl KnownCommand {
-    fn of(command: Option<TicCmd>) -> KnownCommand
+    pub(crate) fn of(command: Option<TicCmd>) -> KnownCommand
         ensures { result ≡ known_told command }
     {
         KnownCommand {
@@ -39,7 +39,7 @@ impl KnownCommand {
 }
 
 /// What a caller chooses of a command. Its mark is the node's own.
-fn given(command: &CommandFields) -> Command
+pub(crate) fn given(command: &CommandFields) -> Command
     ensures { result ≡ given_in command.now }
 {
     Command {

@@ -100,6 +100,36 @@ fn codes_of_drops_have_their_names() {
 }
 
 #[test]
+fn codes_of_arrivals_have_their_names() {
+    let unopened = [
+        Unopened::Short,
+        Unopened::Long,
+        Unopened::Suite,
+        Unopened::Kind,
+        Unopened::Game,
+        Unopened::Receiver,
+        Unopened::Tag,
+        Unopened::Request,
+    ];
+    for (number, unopened) in (1..).zip(unopened) {
+        assert_eq!(
+            values::arrived(coded(7, number)),
+            Arrived::Unopened(unopened)
+        );
+    }
+    for number in [0, 9].into_iter().chain(STRANGE) {
+        let unopened = Arrived::Unopened(Unopened::Unknown(number));
+        assert_eq!(values::arrived(coded(7, number)), unopened);
+    }
+    assert_eq!(values::arrived(coded(8, 0)), Arrived::Late);
+    assert_eq!(values::arrived(coded(9, 0)), Arrived::Unlike);
+    for code in (0..7).chain([10]).chain(STRANGE) {
+        let heard = values::heard(coded(code, 7));
+        assert_eq!(values::arrived(coded(code, 7)), Arrived::Heard(heard));
+    }
+}
+
+#[test]
 fn codes_of_phases_have_their_names() {
     assert_eq!(phase_of(1, 0), Phase::Listening);
     assert_eq!(phase_of(2, 0), Phase::Gathering);
@@ -134,7 +164,8 @@ fn codes_of_errors_have_their_names() {
         NodeError::Episode,
         NodeError::Map,
         NodeError::Ahead,
-        NodeError::Unknown(11),
+        NodeError::Secret,
+        NodeError::Unknown(12),
     ];
     assert_eq!(node::opened(0), Ok(()));
     for (code, error) in (1..).zip(node) {

@@ -1,0 +1,171 @@
+//! What a sealed node tells of itself, as other nodes do. A handle that holds none tells 0.
+
+ghost use Rattle.std.specs.Prelude.{◌≡◌, pos, Bool, Option, Some, None, nat_lt, if◌then◌else◌, length, map, take, drop};
+ghost use Rattle.dn_tic.specs.declared.command.TicCmd.{TicCmd as Cmd};
+ghost use Rattle.dn_setup.specs.Starts.{bit};
+ghost use Rattle.dn_lockstep.specs.Contents.{end_in};
+ghost use Rattle.dn_lockstep.specs.Rings.{count_of};
+ghost use Rattle.zirmegat.specs.Calls.{Reads};
+ghost use Rattle.zirmegat.specs.Commands.{known_told, CanBuild, TellsCommand};
+ghost use Rattle.zirmegat.specs.Sealed.{sealed_of};
+ghost use Rattle.zirmegat.specs.Answers.{phase_told, phase_at, number_told, settings_told};
+ghost use Rattle.dn_packet.specs.Written.{IsWritten};
+
+use crate::answers::{Number, PhaseAnswer, flag};
+use crate::bytes;
+use crate::commands::KnownCommand;
+use crate::config::SettingsAnswer;
+use crate::sealed_handle::SealedHandle;
+
+/// The number of its player.
+#[unsafe(no_mangle)]
+pub extern "C" fn zmg_sealed_node_me(node: &mut SealedHandle) -> u32
+    ensures { Reads (sealed_of node.old) (sealed_of node.new) (λ n. result ≡ n.lockstep.me) (result ≡ 0) }
+{
+    match node.held() {
+        Some(held) => u32::from(held.lockstep().me()),
+        None => 0,
+    }
+}
+
+/// How many players the game has.
+#[unsafe(no_mangle)]
+pub extern "C" fn zmg_sealed_node_players(node: &mut SealedHandle) -> u32
+    ensures { Reads (sealed_of node.old) (sealed_of node.new) (λ n. result ≡ n.lockstep.players) (result ≡ 0) }
+{
+    match node.held() {
+        Some(held) => u32::from(held.lockstep().players()),
+        None => 0,
+    }
+}
+
+/// Where it stands.
+#[unsafe(no_mangle)]
+pub extern "C" fn zmg_sealed_node_phase(node: &mut SealedHandle) -> PhaseAnswer
+    ensures { Reads (sealed_of node.old) (sealed_of node.new)
+        (λ n. result ≡ phase_told n.lockstep.phase) (result ≡ phase_at 0 0 (pos 0) (pos 0) 0) }
+{
+    match node.held() {
+        Some(held) => PhaseAnswer::of(held.lockstep().phase()),
+        None => PhaseAnswer::NONE,
+    }
+}
+
+/// How many commands it built.
+#[unsafe(no_mangle)]
+pub extern "C" fn zmg_sealed_node_made(node: &mut SealedHandle) -> u32
+    ensures { Reads (sealed_of node.old) (sealed_of node.new) (λ n. result ≡ count_of n.lockstep.rings n.lockstep.me) (result ≡ 0) }
+{
+    match node.held() {
+        Some(held) => held.lockstep().made(),
+        None => 0,
+    }
+}
+
+/// How many tics it ran.
+#[unsafe(no_mangle)]
+pub extern "C" fn zmg_sealed_node_ran(node: &mut SealedHandle) -> u32
+    ensures { Reads (sealed_of node.old) (sealed_of node.new) (λ n. result ≡ n.lockstep.ran) (result ≡ 0) }
+{
+    match node.held() {
+        Some(held) => held.lockstep().ran(),
+        None => 0,
+    }
+}
+
+/// How many commands it has of a player, where the game has the player.
+#[unsafe(no_mangle)]
+pub extern "C" fn zmg_sealed_node_got(node: &mut SealedHandle, player: u8) -> Number
+    ensures { Reads (sealed_of node.old) (sealed_of node.new)
+        (λ n. result ≡ number_told (if nat_lt player n.lockstep.players then Some (count_of n.lockstep.rings player) else None))
+        (result ≡ number_told None) }
+{
+    match node.held() {
+        Some(held) => Number::of(held.lockstep().got(player)),
+        None => Number::of(None),
+    }
+}
+
+/// The tic after a player's last command, where the node knows it. From that tic on no tic has a move of the
+/// player.
+#[unsafe(no_mangle)]
+pub extern "C" fn zmg_sealed_node_end(node: &mut SealedHandle, player: u8) -> Number
+    ensures { Reads (sealed_of node.old) (sealed_of node.new)
+        (λ n. result ≡ number_told (if nat_lt player n.lockstep.players then end_in n.lockstep player else None))
+        (result ≡ number_told None) }
+{
+    match node.held() {
+        Some(held) => Number::of(held.lockstep().end(player)),
+        None => Number::of(None),
+    }
+}
+
+/// The choice of game, from the start on; player 0 knows it from the beginning.
+#[unsafe(no_mangle)]
+pub extern "C" fn zmg_sealed_node_settings(node: &mut SealedHandle) -> SettingsAnswer
+    ensures { Reads (sealed_of node.old) (sealed_of node.new)
+        (λ n. result ≡ settings_told n.lockstep.settings) (result ≡ settings_told None) }
+{
+    match node.held() {
+        Some(held) => SettingsAnswer::of(held.lockstep().settings()),
+        None => SettingsAnswer::of(None),
+    }
+}
+
+/// How many bytes its demo has so far.
+#[unsafe(no_mangle)]
+pub extern "C" fn zmg_sealed_node_demo_length(node: &mut SealedHandle) -> usize
+    ensures { Reads (sealed_of node.old) (sealed_of node.new) (λ n. result ≡ length n.lockstep.demo.bytes) (result ≡ 0) }
+{
+    match node.held() {
+        Some(held) => held.lockstep().demo().len(),
+        None => 0,
+    }
+}
+
+/// Copies its demo so far from this byte on, as many bytes as there is room for, and answers how many.
+#[unsafe(no_mangle)]
+pub extern "C" fn zmg_sealed_node_demo(
+    node: &mut SealedHandle,
+    from: usize,
+    out: &mut [u8],
+) -> usize
+    ensures { Reads (sealed_of node.old) (sealed_of node.new)
+        (λ n. IsWritten (take (length out.old) (drop from n.lockstep.demo.bytes)) out.old out.new result)
+        ((result ≡ 0) × (out.new ≡ out.old)) }
+{
+    match node.held() {
+        Some(held) => bytes::write_from(held.lockstep().demo(), from, out),
+        None => 0,
+    }
+}
+
+/// As `zmg_node_can_build`.
+#[unsafe(no_mangle)]
+pub extern "C" fn zmg_sealed_node_can_build(node: &mut SealedHandle) -> u32
+    ensures { Reads (sealed_of node.old) (sealed_of node.new)
+        (λ n. (can : Bool) × (result ≡ bit can) × CanBuild n.lockstep can) (result ≡ 0) }
+{
+    match node.held() {
+        Some(held) => flag(held.lockstep().can_build()),
+        None => 0,
+    }
+}
+
+/// As `zmg_node_command`.
+#[unsafe(no_mangle)]
+pub extern "C" fn zmg_sealed_node_command(
+    node: &mut SealedHandle,
+    player: u8,
+    tic: u32,
+) -> KnownCommand
+    ensures { Reads (sealed_of node.old) (sealed_of node.new)
+        (λ n. (command : Option Cmd) × (result ≡ known_told command)
+        × TellsCommand n.lockstep player tic command)
+        (result ≡ known_told None) }
+{
+    match node.held() {
+        Some(held) => KnownCommand::of(held.lockstep().command(player, tic)),
+        None => KnownCommand::of(None),
+    }
+}
