@@ -7,16 +7,16 @@ use thiserror::Error;
 #[derive(Clone, Copy, Debug, PartialEq, Eq, Error)]
 pub enum FeedFault {
     /// There are fewer than 13 bytes.
-    #[error("short")]
+    #[error("shorter than a demo's header")]
     Short,
     /// The first byte is neither 109 nor 111.
-    #[error("version")]
+    #[error("a demo of neither version 109 nor 111")]
     Version,
     /// No in-game byte is set.
-    #[error("no players")]
+    #[error("no player is present in the demo")]
     NoPlayers,
     /// No command begins with 0x80.
-    #[error("no marker")]
+    #[error("the demo has no end marker")]
     NoMarker,
 }
 

@@ -20,7 +20,7 @@ use thiserror::Error;
 #[derive(Clone, Copy, Debug, PartialEq, Eq, Error)]
 pub enum RecorderFault {
     /// The limit is not 1,024 to 16,777,216 bytes.
-    #[error("limit")]
+    #[error("the demo's limit is out of range")]
     Limit,
     /// There was no room for `limit` bytes.
     #[error("out of memory")]
@@ -125,6 +125,7 @@ impl Recorder {
     }
 
     /// Writes the moves of a tic.
+    #[inline(always)]
     fn add_all(&mut self, moves: &[Option<Move>; 4])
         requires open { self.old.stage ≡ Open }
         requires room { length self.old.bytes + length (row_bytes long_tics moves.now) + 1 ≤ self.old.limit }
@@ -139,6 +140,7 @@ impl Recorder {
 
     /// Writes the moves of a tic, for which and for the marker there is room. There is a move for each player
     /// who is present.
+    #[inline(always)]
     pub fn add_row(&mut self, moves: &[Option<Move>; 4])
         requires open { self.old.stage ≡ Open }
         requires row { IsRow (seats_in self.old.bytes) moves.now }

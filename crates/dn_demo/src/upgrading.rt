@@ -13,10 +13,10 @@ use thiserror::Error;
 #[derive(Clone, Copy, Debug, PartialEq, Eq, Error)]
 pub enum UpgradeFault {
     /// The limit is not 1,024 to 16,777,216 bytes.
-    #[error("limit")]
+    #[error("the demo's limit is out of range")]
     Limit,
     /// The upgraded demo has more bytes than the limit.
-    #[error("full")]
+    #[error("the upgraded demo is longer than its limit")]
     Full,
     /// There was no room for `limit` bytes.
     #[error("out of memory")]

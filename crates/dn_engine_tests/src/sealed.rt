@@ -10,7 +10,7 @@ use dn_open::{Arrived, SealedLockstep, arrivals_keep_one_game, sends_keep_one_ga
 
 /// Gives the next packet to a peer in its envelope.
 pub fn seal_packet(sealed: &mut SealedLockstep, to: u8) -> Option<ArrayVec<u8, 141>>
-    ensures one_game { SealsOn (seal_of sealed.old) (locked sealed.old) (locked sealed.new) result }
+    ensures one_game { SealsOn (seal_of sealed.old) to (locked sealed.old) (locked sealed.new) result }
     ensures step { SendsSealed (seal_of sealed.old) to (locked sealed.old) (locked sealed.new) result }
     ensures idle { result ≡ None → locked sealed.new ≡ locked sealed.old }
     ensures seal { seal_of sealed.new ≡ seal_of sealed.old }

@@ -17,7 +17,7 @@ const QUEUE: usize = 64;
 #[derive(Clone, Copy, Debug, PartialEq, Eq, Error)]
 pub enum HubFault {
     /// There are not 2 to 4 players.
-    #[error("players")]
+    #[error("there are not two to four players")]
     Players,
     /// There was no room for the queues.
     #[error("out of memory")]

@@ -24,6 +24,7 @@ pub(crate) fn close(demo: &mut Recorder)
 }
 
 /// Writes a row that is whole, for which there is room, and closes the demo before any other.
+#[inline(always)]
 pub(crate) fn write(demo: &mut Recorder, row: &[Option<Move>; 4], whole: bool)
     requires begun { demo.old.stage ≢ Blank }
     requires open { whole ≡ true → demo.old.stage ≡ Open }

@@ -14,10 +14,10 @@ use thiserror::Error;
 #[derive(Clone, Copy, Debug, PartialEq, Eq, Error)]
 pub enum ScriptFault {
     /// The text has more than 1,048,576 bytes.
-    #[error("too long")]
+    #[error("the script is too long")]
     TooLong,
     /// This line, counted from 1, is the first bad one.
-    #[error("line {0}")]
+    #[error("line {0} of the script is not an event")]
     Line(usize),
     /// Memory was refused for the event of a line before the first bad one.
     #[error("out of memory")]

@@ -21,16 +21,16 @@ pub struct Settings {
 #[derive(Clone, Copy, Debug, PartialEq, Eq, Error)]
 pub enum SettingsFault {
     /// Skill above 4.
-    #[error("skill")]
+    #[error("the skill is out of range")]
     Skill,
     /// Deathmatch above 2.
-    #[error("deathmatch")]
+    #[error("deathmatch is out of range")]
     Deathmatch,
     /// Episode other than 1 to 3.
-    #[error("episode")]
+    #[error("the episode is out of range")]
     Episode,
     /// Map other than 1 to 32.
-    #[error("map")]
+    #[error("the map is out of range")]
     Map,
 }
 

@@ -18,13 +18,13 @@ pub const VERSION: u8 = 111;
 #[derive(Clone, Copy, Debug, PartialEq, Eq, Error)]
 pub enum SetupFault {
     /// SETUP is absent.
-    #[error("no set-up")]
+    #[error("not a set-up packet")]
     NotSetup,
     /// The version is not 111.
-    #[error("version")]
+    #[error("set-up of another version")]
     Version,
     /// The ask or start byte is that of no choice.
-    #[error("range")]
+    #[error("set-up of a game out of range")]
     Range,
 }
 

@@ -29,6 +29,7 @@ impl Lockstep {
     }
 
     /// Builds the command of these keys for the next tic. A node that builds none stays as it is.
+    #[inline(always)]
     pub fn build(&mut self, keys: Keys) -> Made
         ensures step { Steps (contents self.old) (contents self.new)
             (λ limits me m. on_build limits me m (Pressed keys)) (λ made. result ≡ made) }

@@ -36,6 +36,7 @@ impl Lockstep {
 
     /// Hears a datagram that came from player `from`. A datagram that is dropped changes nothing. At `Started`
     /// the caller begins its world with the start of `settings` and the seats of `present`.
+    #[inline(always)]
     pub fn receive(&mut self, from: u8, bytes: &[u8]) -> Heard
         ensures any { HearsAny from bytes.now (contents self.old) (contents self.new) result }
         ensures near { HearsNear from bytes.now (contents self.old) (contents self.new) result }

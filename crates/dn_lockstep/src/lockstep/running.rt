@@ -49,6 +49,7 @@ impl Lockstep {
     /// as it stands, and where it answers `Ran`, it has filled in the row of moves by which that world goes
     /// on. Where it waits or does not play, it stays as it is, and so does the row; at `DemoFull` and
     /// `Inconsistent` the row means nothing.
+    #[inline(always)]
     pub fn run_into(&mut self, marks: &[i16; 4], row: &mut [Option<Move>; 4]) -> Ran
         ensures step { RunsBy marks.now (contents self.old) (contents self.new)
             (λ limits m marks. on_run limits m marks) (λ ran told. (result ≡ ran) × (told_by result row.new ≡ told)) }
@@ -84,6 +85,7 @@ impl Lockstep {
 
     /// Runs the row of the next tic, whose commands are there. A row that lacks a player closes the demo, and
     /// only a row that lacks nobody needs room in it.
+    #[inline(always)]
     fn run_row(&mut self, marks: &[i16; 4], row: &mut [Option<Move>; 4]) -> Ran
         requires plays { (contents self.old).phase ≡ Playing }
         requires there { lowest (contents self.old).players
