@@ -20,27 +20,27 @@ pub struct Opened {
 #[derive(Clone, Copy, Debug, PartialEq, Eq, Error)]
 pub enum SealFault {
     /// Fewer than 37 bytes.
-    #[error("short")]
+    #[error("too short for an envelope")]
     Short,
     /// More than 141 bytes.
-    #[error("long")]
+    #[error("too long for an envelope")]
     Long,
     /// Another suite.
-    #[error("suite")]
+    #[error("sealed by another suite")]
     Suite,
     /// No datagram is in it, but another kind of thing.
-    #[error("kind")]
+    #[error("sealed, but no datagram")]
     Kind,
     /// Another game's number.
-    #[error("game")]
+    #[error("sealed in another game")]
     Game,
     /// Another receiver.
-    #[error("receiver")]
+    #[error("sealed to another receiver")]
     Receiver,
     /// A tag that is not that of the bytes before it.
-    #[error("tag")]
+    #[error("the tag is wrong")]
     Tag,
     /// A request that is neither there nor not there.
-    #[error("request")]
+    #[error("the request flag is neither 0 nor 1")]
     Request,
 }
