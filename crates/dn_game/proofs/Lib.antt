@@ -13,6 +13,8 @@ pub mod Recent
 pub mod Scheduling
 pub mod Moving
 pub mod Whose
+pub mod Framing
+pub mod Roomy
 pub mod Posting
 pub mod Applying
 pub mod Delivering
@@ -26,4 +28,7 @@ pub mod NeverStopping
 pub mod Vanilla
 pub mod OpenArriving
 pub mod OpenAnswering
+pub mod OpenSending
+pub mod OpenSteps
 pub mod OpenStanding
+pub mod Giving

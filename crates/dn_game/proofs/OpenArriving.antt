@@ -27,12 +27,12 @@ use Rattle.dn_seal.specs.declared.seal.Seal.{Seal}
 use Rattle.dn_seal.specs.Opening.{Sealing, IsOpenedAs, letter_to, told_body}
 use Rattle.dn_seal.proofs.Envelopes.{datagram-envelope}
 use Rattle.dn_open.specs.Arrivals.{IsRead, is_alike, on_opened}
-use Rattle.dn_open.specs.OpenGames.{arrived_if}
+use Rattle.dn_open.specs.OpenGames.{answer_if, arrived_if}
 use Rattle.dn_open.specs.Sealed.{sealing_of}
 use Rattle.dn_open.specs.declared.arrived.Arrived.{Arrived}
 use Rattle.dn_open.proofs.Deliveries.{same_game}
 use Rattle.dn_game.specs.Applied.{IsAfter}
-use Rattle.dn_game.specs.Arrived.{Opening, IsArrived, answer_if}
+use Rattle.dn_game.specs.Arrived.{Opening, IsArrived}
 use Rattle.dn_game.specs.Contents.{Contents}
 use Rattle.dn_game.specs.Represents.{Represents}
 use Rattle.dn_game.proofs.Moving.{places}

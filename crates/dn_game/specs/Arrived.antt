@@ -1,9 +1,10 @@
 -- Bytes come to a node of a game.
-use Rattle.std.specs.Prelude.{◌≡◌, ◌≢◌, ℕ, List, Option, Some, None, Result, Ok, Err}
+use Rattle.std.specs.Prelude.{◌≡◌, ℕ, List, Result, Ok, Err}
 use Rattle.dn_packet.specs.declared.packet.Packet.{Packet}
 use Rattle.dn_packet.specs.declared.packet.PacketFault.{PacketFault}
 use Rattle.dn_setup.specs.Settings.{Settings}
 use Rattle.dn_setup.specs.declared.setup.SetupFault.{SetupFault}
+use Rattle.dn_machine.specs.declared.answers.Heard.{Heard}
 use Rattle.dn_machine.specs.declared.events.Refusal.{Refusal}
 use Rattle.dn_machine.specs.Game as machine
 use Rattle.dn_machine.specs.Game.{refused_at}
@@ -12,21 +13,15 @@ use Rattle.dn_seal.specs.declared.opened.Opened.{Opened}
 use Rattle.dn_seal.specs.declared.opened.SealFault.{SealFault}
 use Rattle.dn_seal.specs.declared.seal.Seal.{Seal}
 use Rattle.dn_seal.specs.Opening.{IsOpenedAs}
-use Rattle.dn_open.specs.Arrivals.{on_opened, IsRead}
-use Rattle.dn_open.specs.OpenGames.{arrived_if}
+use Rattle.dn_open.specs.Arrivals.{IsRead}
+use Rattle.dn_open.specs.OpenGames.{answer_if, arrived_if}
 use Rattle.dn_open.specs.Sealed.{sealing_of}
 use Rattle.dn_open.specs.declared.arrived.Arrived.{Arrived}
 use Rattle.dn_game.specs.Applied.{IsAfter}
 use Rattle.dn_game.specs.Contents.{Contents}
+use Rattle.dn_game.specs.Frame.{HoldsTheSame}
 
--- the answer to bytes that come to a node, and are opened and read so: the refusal, if there is one
-abbrev pub answer_if : {S : Type 0} → Rules S → machine.Game → ℕ → Result Opened SealFault
-    → Result Packet PacketFault → Result Settings SetupFault → Option Refusal → Result Arrived Refusal
-answer_if rules game node opened read told (Some refusal) = Err refusal
-answer_if rules game node opened read told None =
-    Ok (on_opened rules.limits node (game.nodes node) opened read told).1
-
--- the game after such bytes came to a node, and the answer
+-- the game after bytes that are opened and read so came to a node, and the answer
 abbrev pub after_arrival : {S : Type 0} → Rules S → machine.Game → ℕ → Result Opened SealFault
     → Result Packet PacketFault → Result Settings SetupFault → machine.Game × Result Arrived Refusal
 after_arrival rules game node opened read told = (
@@ -56,6 +51,11 @@ IsArrived state rules seal m node bytes new answer =
     → IsOpened seal node bytes opened read told
     → IsAfter state rules new (after_arrival rules m node opened read told) answer
 
--- what the node does not hear changes nothing
+-- what the node does not hear changes nothing, and no node holds anything else after a datagram that is dropped
 abbrev pub SparesArrived : {W : Type 0} → Contents W → Contents W → Result Arrived Refusal → Type 0
-SparesArrived old new answer = ((heard : _) → answer ≢ Ok (Arrived.Heard heard)) → new ≡ old
+SparesArrived old new (Ok (Arrived.Unopened fault)) = new ≡ old
+SparesArrived old new (Ok Arrived.Late) = new ≡ old
+SparesArrived old new (Ok Arrived.Unlike) = new ≡ old
+SparesArrived old new (Ok (Arrived.Heard heard)) =
+    (number : ℕ) → heard ≡ Heard.Dropped number → HoldsTheSame old new
+SparesArrived old new (Err refusal) = new ≡ old

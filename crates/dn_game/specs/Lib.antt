@@ -3,6 +3,7 @@ pub mod Represents
 pub mod Opening
 pub mod Fresh
 pub mod Applied
+pub mod Frame
 pub mod Played
 pub mod InputsMade
 pub mod Promised
@@ -21,3 +22,4 @@ pub mod Sealed
 pub mod Arrived
 pub mod OpenPlayed
 pub mod OpenPromised
+pub mod Given

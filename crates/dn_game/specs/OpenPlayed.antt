@@ -1,11 +1,13 @@
 -- A game that has played a list of open events.
-use Rattle.std.specs.Prelude.{◌≡◌, ◌+◌, ℕ, List, [], ◌∷◌, count_by, Result, Ok, Err, is_ok, is_err}
+use Rattle.std.specs.Prelude.{◌≡◌, ◌+◌, ◌++◌, ℕ, Bool, false, List, [], ◌∷◌, count_by, Result, Ok, Err, is_ok, is_err}
 use Rattle.dn_setup.specs.Settings.{Settings}
 use Rattle.dn_world.specs.Physics.{Physics}
+use Rattle.dn_machine.specs.declared.events.Done.{Done}
 use Rattle.dn_machine.specs.declared.events.Refusal.{Refusal}
 use Rattle.dn_machine.specs.Game as machine
 use Rattle.dn_machine.specs.Game.{opening_game}
-use Rattle.dn_machine.specs.Worlds.{Rules}
+use Rattle.dn_machine.specs.Runs.{is_send}
+use Rattle.dn_machine.specs.Worlds.{Rules, rules_of}
 use Rattle.dn_seal.specs.declared.seal.Seal.{Seal}
 use Rattle.dn_open.specs.declared.arrived.Arrived.{Arrived}
 use Rattle.dn_open.specs.declared.open_event.OpenEvent.{OpenEvent}
@@ -13,7 +15,7 @@ use Rattle.dn_open.specs.declared.open_event.OpenEvent.TheVariants.{Own, Arrive}
 use Rattle.dn_game.specs.declared.open_done.OpenDone.{OpenDone}
 use Rattle.dn_game.specs.declared.played.Played.{Played}
 use Rattle.dn_game.specs.Applied.{Tells}
-use Rattle.dn_game.specs.Arrived.{Opening, after_arrival}
+use Rattle.dn_game.specs.Arrived.{Opening, SparesArrived, after_arrival}
 use Rattle.dn_game.specs.Contents.{Contents, contents}
 use Rattle.dn_game.specs.Played.{Answers}
 use Rattle.dn_game.specs.Represents.{Represents}
@@ -47,11 +49,49 @@ PlaysOpen rules seal game (event ∷ events) (answer ∷ answers) last =
 PlaysOpen rules seal game [] (answer ∷ answers) last = ⊥
 PlaysOpen rules seal game (event ∷ events) [] last = ⊥
 
+-- an open event that sends: bytes that come send nothing
+abbrev pub sends : OpenEvent → Bool
+sends (Own event) = is_send event
+sends (Arrive node bytes) = false
+
 -- the game represents one that the open event leads to with this answer
 abbrev pub IsAppliedOpen : {W S : Type 0} → (W → S) → Rules S → Seal → machine.Game → OpenEvent
     → Result OpenDone Refusal → Contents W → Type 0
 IsAppliedOpen state rules seal m event answer new =
     (next : machine.Game) × AnswersOpen rules seal m event answer next × Represents state rules new next
+
+-- the answer to an event of the game, and to bytes that came, as one to an open event
+abbrev pub own_answer : Result Done Refusal → Result OpenDone Refusal
+own_answer (Ok done) = Ok (OpenDone.Own done)
+own_answer (Err refusal) = Err refusal
+
+abbrev pub arrival_answer : Result Arrived Refusal → Result OpenDone Refusal
+arrival_answer (Ok arrived) = Ok (OpenDone.Arrived arrived)
+arrival_answer (Err refusal) = Err refusal
+
+-- what is refused, and bytes that the node does not hear, change nothing, and no node holds anything else after a
+-- datagram that came and is dropped
+abbrev pub SparesOpen : {W : Type 0} → Contents W → Contents W → Result OpenDone Refusal → Type 0
+SparesOpen old new (Ok (OpenDone.Own done)) = Unit {0}
+SparesOpen old new (Ok (OpenDone.Arrived arrived)) = SparesArrived old new (Ok arrived)
+SparesOpen old new (Err refusal) = new ≡ old
+
+-- the open events lead from the opening to the game that this one represents, and each has its answer
+pub record IsReachedOpen {W S : Type 0} (state : W → S) (rules : Rules S) (seal : Seal) (settings : Settings)
+    (events : List OpenEvent) (answers : List (Result OpenDone Refusal)) (g : Contents W) : Type 0 where
+  pub last : machine.Game
+  pub plays : PlaysOpen rules seal (opening_game settings) events answers last
+  pub game : Represents state rules g last
+
+-- whatever open events led to a game, they and this one lead to the next, with its answer
+abbrev pub IsCarriedOnOpen : {W S : Type 0} → (W → S) → Physics S → Seal → Contents W → Contents W → OpenEvent
+    → Result OpenDone Refusal → Type 0
+IsCarriedOnOpen state physics seal old new event answer =
+    (players : ℕ) (extra : Bool) (capacity : ℕ) (settings : Settings) (events : List OpenEvent)
+    (answers : List (Result OpenDone Refusal))
+    → IsReachedOpen state (rules_of physics players extra capacity) seal settings events answers old
+    → IsReachedOpen state (rules_of physics players extra capacity) seal settings (events ++ event ∷ [])
+    (answers ++ answer ∷ []) new
 
 -- one more open event was applied, and counted by its answer
 pub record AppliesOpen {W S : Type 0} (state : W → S) (physics : Physics S) (seal : Seal) (old new : Played W)

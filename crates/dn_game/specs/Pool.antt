@@ -1,5 +1,5 @@
 -- The pool of a game: the bytes of all packets in one list, and a record of each.
-use Rattle.std.specs.Prelude.{◌≡◌, ◌<◌, ◌≤◌, ◌⊎◌, ℕ, ◌+◌, max, nat_le, if◌then◌else◌, List, length, map, take, drop, All}
+use Rattle.std.specs.Prelude.{◌≡◌, ◌<◌, ◌≤◌, ◌⊎◌, ℕ, ◌+◌, ◌*◌, max, nat_le, if◌then◌else◌, List, length, map, take, drop, All}
 use Rattle.std.specs.List.{flat_map}
 use Rattle.dn_game.specs.declared.flight.Flight.{Flight}
 use Rattle.dn_game.specs.declared.pool.Record.{Record}
@@ -22,6 +22,11 @@ grown count more room = if nat_le (count + more) room then room else count + max
 pub record HasGrown (flights : List Flight) (old new : Room) : Type 0 where
   pub bytes : (new.bytes ≡ old.bytes) ⊎ (new.bytes ≡ grown (length (joined flights)) 104 old.bytes)
   pub records : (new.records ≡ old.records) ⊎ (new.records ≡ grown (length flights) 1 old.records)
+
+-- room for no more than twice the packets that there are, and one
+pub record IsWithinTwice (flights : List Flight) (room : Room) : Type 0 where
+  pub bytes : room.bytes ≤ 2 * length (joined flights) + 104
+  pub records : room.records ≤ 2 * length flights + 1
 
 -- no memory for one more packet, however long it is: for 104 more bytes, or for one more record
 abbrev pub LacksRoom : Room → List Flight → Type 0

@@ -22,10 +22,10 @@ pub struct GameConfig {
 #[derive(Clone, Copy, Debug, PartialEq, Eq, Error)]
 pub enum GameFault {
     /// There are not 2 to 4 worlds.
-    #[error("players")]
+    #[error("there are not two to four worlds")]
     Players,
     /// The demos' limit is out of range.
-    #[error("limit")]
+    #[error("the demos' limit is out of range")]
     Limit,
     /// There was no room for the nodes or their demos.
     #[error("out of memory")]

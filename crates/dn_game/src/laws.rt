@@ -8,11 +8,18 @@ ghost use Rattle.dn_machine.specs.declared.events.Refusal.{Refusal};
 ghost use Rattle.dn_machine.specs.Game.{applied};
 ghost use Rattle.dn_machine.specs.Promise.{inputs_of};
 ghost use Rattle.dn_machine.specs.Worlds.{rules_of};
+ghost use Rattle.dn_lockstep.specs.Opening.{IsGame};
+ghost use Rattle.dn_seal.specs.declared.seal.Seal.{Seal};
+ghost use Rattle.dn_open.specs.declared.open_event.OpenEvent.{OpenEvent};
 ghost use Rattle.dn_game.specs.Agreed.{AreAgreed};
 ghost use Rattle.dn_game.specs.Contents.{Contents};
+ghost use Rattle.dn_game.specs.declared.open_done.OpenDone.{OpenDone};
+ghost use Rattle.dn_game.specs.OpenPlayed.{IsReachedOpen};
+ghost use Rattle.dn_game.specs.OpenPromised.{AreGenuine, IsPromisedOpen};
 ghost use Rattle.dn_game.specs.Played.{IsReachedWith};
 ghost use Rattle.dn_game.specs.Promised.{IsReached, IsPromised, IsSteady};
 
+use dn_setup::settings_found_again;
 use dn_world::World;
 
 /// Whatever game of the machine a game represents: if a list of events may lead to that one, all that is
@@ -42,3 +49,18 @@ pub fn reached_games_agree<W: World>()
         → (event : Event) → IsSteady (applied (rules_of W.physics players extra capacity) reached.last
         event).1 }
 {}
+
+/// Whatever open events led to a game, one by one, with these answers: if what the nodes opened was sealed in that game
+/// before, all that `play_open` promises holds of it.
+pub fn reached_open_games_agree<W: World>()
+    ensures { (players : ℕ) (extra : Bool) (capacity : ℕ) (seal : Seal) (settings : Settings)
+        (events : List OpenEvent) (answers : List (Result OpenDone Refusal)) (g : Contents W)
+        → IsGame players
+        → (reached : IsReachedOpen W.state (rules_of W.physics players extra capacity) seal settings events answers
+        g)
+        → AreGenuine seal g.flights 0 events answers
+        → IsPromisedOpen W.state (rules_of W.physics players extra capacity) seal settings events answers
+        reached.last g }
+{
+    settings_found_again();
+}

@@ -2,7 +2,11 @@
 
 ghost use Rattle.std.specs.Prelude.{length, IfOk};
 ghost use Rattle.dn_game.specs.Opening.{IsAdmitted, rules_in};
+ghost use Rattle.dn_game.specs.Given.{KeepsGiven};
 ghost use Rattle.dn_game.specs.OpenPromised.{HasPlayedOpen};
+ghost use Rattle.dn_game.specs.Contents.{contents};
+ghost use Rattle.dn_game.specs.Pool.{IsWithinTwice};
+ghost use Rattle.dn_game.specs.Room.{room_of};
 
 use crate::config::{GameConfig, GameFault};
 use crate::game::Game;
@@ -30,6 +34,12 @@ pub fn play_open<W: World>(
     // left.
     ensures promised { IfOk result (λ played. HasPlayedOpen W.state
         (rules_in W.physics config (length worlds.items)) seal config.settings events.now played) }
+    // A node has the world that was given for it, unless an answer to an event that names it tells that it started,
+    // or that it may have run.
+    ensures given { IfOk result (λ played. KeepsGiven W.state
+        (rules_in W.physics config (length worlds.items)) seal config.settings worlds.items events.now played) }
+    // There is memory for no more than twice the packets that were sent, and one.
+    ensures room { IfOk result (λ played. IsWithinTwice (contents played.game).flights (room_of played.game)) }
 {
     settings_found_again();
     let game = Game::new(alloc, config, worlds)?;

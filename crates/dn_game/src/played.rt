@@ -23,9 +23,13 @@ pub struct Played<W> {
 }
 
 impl<W: World> Played<W> {
+    ghost use Rattle.dn_game.specs.Contents.{contents};
+    ghost use Rattle.dn_game.specs.Frame.{KeepsFlights, KeepsOthers, KeepsWorlds, MovesNoWorldOpen, named_by_open};
     ghost use Rattle.dn_game.specs.Observed.{ObservesOne};
     ghost use Rattle.dn_game.specs.OpenPlayed.{AppliesOpen};
     ghost use Rattle.dn_game.specs.Played.{AppliesOne};
+    ghost use Rattle.dn_game.specs.Pool.{HasGrown};
+    ghost use Rattle.dn_game.specs.Room.{room_of};
 
     /// Applies one more event, and answers what it did.
     #[inline(always)]
@@ -68,6 +72,13 @@ impl<W: World> Played<W> {
     pub(crate) fn apply_open(&mut self, seal: Seal, event: &OpenEvent) -> Result<OpenDone, Refusal>
         requires { self.old.done + self.old.refused + 1 < 2 ^ 64 }
         ensures applied { AppliesOpen W.state W.physics seal self.old self.new event.now result }
+        ensures grown { HasGrown (contents self.old.game).flights (room_of self.old.game)
+            (room_of self.new.game) }
+        ensures more { KeepsFlights (contents self.old.game) (contents self.new.game) }
+        ensures others { KeepsOthers (named_by_open (contents self.old.game) event.now) (contents self.old.game)
+            (contents self.new.game) }
+        ensures worlds { MovesNoWorldOpen result
+            → KeepsWorlds (contents self.old.game) (contents self.new.game) }
         ensures counted { self.new.done + self.new.refused ≡ self.old.done + self.old.refused + 1 }
     {
         match self.game.apply_open(seal, event) {

@@ -84,7 +84,8 @@ impl Model for Pool {
 impl Pool {
     /// Nothing was sent.
     pub(crate) fn new(alloc: Global) -> Pool
-        ensures { result.flights ≡ [] }
+        ensures flights { result.flights ≡ [] }
+        ensures room { result.room ≡ record { bytes = 0; records = 0 } }
     {
         Pool {
             bytes: Vec::new(alloc),

@@ -25,7 +25,7 @@ pub enum RoundFault {
     #[error("out of memory")]
     Memory,
     /// 2^32 packets were sent, and no event can name the next.
-    #[error("too many packets")]
+    #[error("2^32 packets were sent")]
     Packets,
 }
 

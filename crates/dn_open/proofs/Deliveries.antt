@@ -10,6 +10,7 @@ use Rattle.dn_setup.specs.Setup.{setup_packet, IsSetupReadAs}
 use Rattle.dn_setup.specs.declared.setup.SetupFault.{SetupFault}
 use Rattle.dn_setup.specs.declared.setup.SetupFault.TheVariants.{NotSetup, Version, Range}
 use Rattle.dn_machine.specs.declared.answers.Heard.{Heard}
+use Rattle.dn_machine.specs.declared.events.Done.{Done}
 use Rattle.dn_machine.specs.declared.events.Event.TheVariants.{Deliver}
 use Rattle.dn_machine.specs.declared.events.Refusal.{Refusal}
 use Rattle.dn_machine.specs.Flight.{Kind, SetUp, Play, Exit, Flight, packet_of, is_near, is_close, is_request_close}
@@ -23,10 +24,12 @@ use Rattle.dn_lockstep.proofs.Nearby.{told_by, told_is, near_received}
 use Rattle.dn_seal.specs.declared.opened.Opened.{Opened}
 use Rattle.dn_seal.specs.declared.opened.SealFault.{SealFault}
 use Rattle.dn_seal.specs.declared.seal.Seal.{Seal}
-use Rattle.dn_open.specs.OpenGames.{IsGenuine, Arrives, arrived_if}
-use Rattle.dn_open.specs.Arrivals.{is_alike}
+use Rattle.dn_open.specs.OpenGames.{IsEnvelope, IsGenuine, answer_if, arrived_if}
+use Rattle.dn_open.specs.Arrivals.{IsRead, is_alike}
+use Rattle.dn_open.specs.declared.arrived.Arrived.{Arrived}
 use Rattle.dn_open.proofs.Alikes.{alike}
-use Rattle.dn_open.specs.Sealed.{opened_of}
+use Rattle.dn_seal.specs.Opening.{IsOpenedAs}
+use Rattle.dn_open.specs.Sealed.{envelope_of, opened_of, sealing_of}
 use Rattle.dn_open.proofs.Sealables.{IsSealable, opened_is}
 
 -- a node that is put where it stands changes nothing
@@ -83,9 +86,24 @@ near_if made flight close = go flight.kind
     go Play = close
     go Exit = close
 
--- what arrived happened, or nothing did
-abbrev pub Happens : {S : Type 0} → Rules S → Game → Game → Type 0
-Happens rules game next = (next ≡ game) ⊎ ((which : ℕ) × (next ≡ (applied rules game (Deliver which)).0))
+-- an answer to bytes that were not heard
+abbrev pub IsUnheard : Result Arrived Refusal → Type 0
+IsUnheard answer = (heard : Heard) → answer ≢ Ok (Arrived.Heard heard)
+
+-- bytes are heard as the packet whose envelope they are
+pub record IsDelivery {S : Type 0} (rules : Rules S) (seal : Seal) (game : Game) (node : ℕ) (bytes : List ℕ)
+    (answer : Result Arrived Refusal) (next : Game) : Type 0 where
+  pub which : ℕ
+  pub heard : Heard
+  pub envelope : IsEnvelope seal game.flights node bytes which
+  pub answered : answer ≡ Ok (Arrived.Heard heard)
+  pub leads : next ≡ (applied rules game (Deliver which)).0
+  pub delivered : (applied rules game (Deliver which)).1 ≡ Ok (Done.Heard heard)
+
+-- what arrived was delivered, or nothing happened
+abbrev pub Happens : {S : Type 0} → Rules S → Seal → Game → ℕ → List ℕ → Result Arrived Refusal → Game → Type 0
+Happens rules seal game node bytes answer next =
+    ((next ≡ game) × IsUnheard answer) ⊎ IsDelivery rules seal game node bytes answer next
 
 module _ {S : Type 0} (rules : Rules S) (game : Game) where
   -- who is refused nothing has not stopped
@@ -99,39 +117,45 @@ module _ {S : Type 0} (rules : Rules S) (game : Game) where
       go true true e = absurd (cc)
       go false stopped e = absurd (cc)
 
+  -- what a packet does to its receiver, and the answer
+  abbrev after_packet : Flight → Node × Heard
+  after_packet flight = on_packet rules.limits flight.to (game.nodes flight.to) flight
+
   -- a near packet to a node that stands is delivered
   delivers : (which : ℕ) (flight : Flight) → slice_get game.flights which ≡ Some flight
       → is_near (made flight.to (game.nodes flight.to)) flight ≡ true → game.stopped flight.to ≡ false
-      → (applied rules game (Deliver which)).0
-      ≡ with_node game flight.to (on_packet rules.limits flight.to (game.nodes flight.to) flight).0
+      → applied rules game (Deliver which)
+      ≡ (with_node game flight.to (after_packet flight).0, Ok (Done.Heard (after_packet flight).1))
   unfolding applied
   delivers which flight there near stands =
       let free : refused rules.players game (Deliver which) ≡ None = rw (there, near, stands) refl in
-      rw free (ap (λ (o : Option Flight). (delivered rules game o).0) there)
+      rw free (ap (λ (o : Option Flight). ((delivered rules game o).0, Ok (delivered rules game o).1)) there)
 
   hears : (flight : Flight) → IsSealable flight → IsBetween rules.players flight
       → is_near (made flight.to (game.nodes flight.to)) flight ≡ true
-      → (received rules.limits flight.to (game.nodes flight.to) flight.from (told_by flight.kind) (Ok (packet_of flight))).0
-      ≡ (on_packet rules.limits flight.to (game.nodes flight.to) flight).0
+      → received rules.limits flight.to (game.nodes flight.to) flight.from (told_by flight.kind) (Ok (packet_of flight))
+      ≡ after_packet flight
   hears flight sealable between near =
-      ap (λ (x : Node × Heard). x.0)
-      (near_received rules.limits flight.to (game.nodes flight.to) flight sealable.fair between.from between.apart near)
+      near_received rules.limits flight.to (game.nodes flight.to) flight sealable.fair between.from between.apart near
 
-  module _ (seal : Seal) (node : ℕ) (bytes : List ℕ) (next : Game) where
+  module _ (seal : Seal) (node : ℕ) (bytes : List ℕ) (answer : Result Arrived Refusal) (next : Game) where
     -- by the refusal of what comes to the node
-    abbrev Comes : Result Opened SealFault → Result Packet PacketFault → Result Settings SetupFault
+    abbrev pub Comes : Result Opened SealFault → Result Packet PacketFault → Result Settings SetupFault
         → Option Refusal → Type 0
-    Comes opened read told refusal = next ≡ arrived_if rules game node opened read told refusal
+    Comes opened read told refusal =
+        (next ≡ arrived_if rules game node opened read told refusal)
+        × (answer ≡ answer_if rules game node opened read told refusal)
 
     -- a packet that was sealed comes to its receiver
     module _ (opened : Opened) (which : ℕ) (flight : Flight) (there : slice_get game.flights which ≡ Some flight)
         (sealable : IsSealable flight) (between : IsBetween rules.players flight) (to : node ≡ flight.to)
-        (same : opened ≡ opened_of flight) where
+        (same : opened ≡ opened_of flight) (sealed : bytes ≡ envelope_of seal flight) where
       on_time : (timely : Bool)
           → (is_close (made node (game.nodes node)) opened.start
           && is_request_close (made node (game.nodes node)) opened.ask) ≡ timely
           → game.stopped node ≡ false
-          → Comes (Ok opened) (Ok (packet_of flight)) (told_by flight.kind) None → Happens rules game next
+          → Comes (Ok opened) (Ok (packet_of flight)) (told_by flight.kind) None
+          → Happens rules seal game node bytes answer next
       on_time true is free comes =
           let close : (is_close (made flight.to (game.nodes flight.to)) flight.start
           && is_request_close (made flight.to (game.nodes flight.to)) flight.request) ≡ true =
@@ -139,48 +163,57 @@ module _ {S : Type 0} (rules : Rules S) (game : Game) where
           && is_request_close (made (to i) (game.nodes (to i))) (same i).ask) ∙ is in
           let near = near_if (made flight.to (game.nodes flight.to)) flight close in
           let like : is_alike opened ≡ true = ap is_alike same ∙ alike flight in
-          let step : next ≡ with_node game node (received rules.limits node (game.nodes node) opened.from
-          (told_by flight.kind) (Ok (packet_of flight))).0 = rw (is, like) at comes in
-          inr (
-            which,
-            step
-                ∙ (λ i. with_node game (to i) (received rules.limits (to i) (game.nodes (to i)) (same i).from
-                (told_by flight.kind) (Ok (packet_of flight))).0)
-                ∙ ap (with_node game flight.to) (hears flight sealable between near)
-                ∙ sym (delivers which flight there near (sym (ap game.stopped to) ∙ free)),
-          )
+          let took = received rules.limits node (game.nodes node) opened.from (told_by flight.kind)
+          (Ok (packet_of flight)) in
+          let step : (next ≡ with_node game node took.0) × (answer ≡ Ok (Arrived.Heard took.1)) =
+          rw (is, like) at comes in
+          let moved : took ≡ after_packet flight = (λ i. received rules.limits (to i) (game.nodes (to i)) (same i).from
+          (told_by flight.kind) (Ok (packet_of flight))) ∙ hears flight sealable between near in
+          let applies = delivers which flight there near (sym (ap game.stopped to) ∙ free) in
+          inr (record {
+            which = which;
+            heard = (after_packet flight).1;
+            envelope = record { flight = flight; sent = there; receiver = sym to; same = sealed };
+            answered = step.1 ∙ ap (λ (x : Node × Heard). Ok (Arrived.Heard x.1)) moved;
+            leads = step.0 ∙ (λ i. with_node game (to i) (moved i).0) ∙ sym (λ i. (applies i).0);
+            delivered = λ i. (applies i).1;
+          })
       on_time false is free comes =
-          let step : next ≡ with_node game node (game.nodes node) = rw is at comes in
-          inl (step ∙ same_game game node)
+          let step : (next ≡ with_node game node (game.nodes node)) × (answer ≡ Ok Arrived.Late) =
+          rw is at comes in
+          inl (step.0 ∙ same_game game node, λ heard e. let clash = sym step.1 ∙ e in absurd (cc))
 
-      comes_to : (refusal : Option Refusal) → refused_at rules.players game node ≡ refusal
-          → Comes (Ok opened) (Ok (packet_of flight)) (told_by flight.kind) refusal → Happens rules game next
-      comes_to (Some r) is comes = inl comes
-      comes_to None is comes = on_time (is_close (made node (game.nodes node)) opened.start
-          && is_request_close (made node (game.nodes node)) opened.ask) refl (stands node is) comes
-
-    -- what is no envelope changes nothing
-    unopened : (fault : SealFault) (read : Result Packet PacketFault) (told : Result Settings SetupFault)
-        (refusal : Option Refusal) → Comes (Err fault) read told refusal → Happens rules game next
-    unopened fault read told (Some r) comes = inl comes
-    unopened fault read told None comes = inl (comes ∙ same_game game node)
-
-    pub arrives : AreFound → AreSealable rules.players game.flights → IsGenuine seal game.flights node bytes
-        → Arrives rules seal game node bytes next → Happens rules game next
-    arrives found are genuine (Ok opened, read, told, is, reads, leads) =
-        let sent = genuine opened is in
-        let flight = sent.1 in
-        let good = are sent.0 flight sent.2 in
-        let fair = good.0.fair in
-        let same = opened_is seal node bytes opened flight is good.0 sent.3 in
-        let items = ap (λ (o : Opened). o.datagram.items) same.1 in
-        let packet = only_packet opened.datagram.items (packet_of flight) fair.packet items read reads.0 in
-        let tells : IsTold (Ok (packet_of flight)) told =
-        subst (λ (r : Result Packet PacketFault). IsTold r told) (sym packet) reads.1 in
-        let settings = only_told found flight flight.kind fair.kind told tells in
-        comes_to opened sent.0 flight sent.2 good.0 good.1 same.0 same.1
-        (refused_at rules.players game node) refl
-        (leads ∙ (λ i. arrived_if rules game node (Ok opened) (sym packet i) (settings i)
-        (refused_at rules.players game node)))
-    arrives found are genuine (Err fault, read, told, is, reads, leads) =
-        unopened fault read told (refused_at rules.players game node) leads
+    -- bytes that come are delivered, or nothing happens; of those that come to nobody nothing is asked
+    pub arrives : AreFound → AreSealable rules.players game.flights
+        → (refused_at rules.players game node ≡ None → IsGenuine seal game.flights node bytes)
+        → (opened : Result Opened SealFault) (read : Result Packet PacketFault) (told : Result Settings SetupFault)
+        → IsOpenedAs (sealing_of seal node) bytes opened → IsRead opened read told
+        → Comes opened read told (refused_at rules.players game node)
+        → Happens rules seal game node bytes answer next
+    arrives found are genuine opened read told is reads comes =
+        go opened is reads (refused_at rules.players game node) refl comes
+      where
+        go : (opened : Result Opened SealFault) → IsOpenedAs (sealing_of seal node) bytes opened
+            → IsRead opened read told → (refusal : Option Refusal) → refused_at rules.players game node ≡ refusal
+            → Comes opened read told refusal → Happens rules seal game node bytes answer next
+        go opened is reads (Some refusal) at comes =
+            inl (comes.0, λ heard e. let clash = sym comes.1 ∙ e in absurd (cc))
+        go (Err fault) is reads None at comes =
+            inl (comes.0 ∙ same_game game node, λ heard e. let clash = sym comes.1 ∙ e in absurd (cc))
+        go (Ok opened) is reads None at comes =
+            let sent = genuine at opened is in
+            let flight = sent.1 in
+            let good = are sent.0 flight sent.2 in
+            let fair = good.0.fair in
+            let same = opened_is seal node bytes opened flight is good.0 sent.3 in
+            let items = ap (λ (o : Opened). o.datagram.items) same.1 in
+            let packet = only_packet opened.datagram.items (packet_of flight) fair.packet items read reads.0 in
+            let tells : IsTold (Ok (packet_of flight)) told =
+            subst (λ (r : Result Packet PacketFault). IsTold r told) (sym packet) reads.1 in
+            let settings = only_told found flight flight.kind fair.kind told tells in
+            on_time opened sent.0 flight sent.2 good.0 good.1 same.0 same.1 sent.3
+            (is_close (made node (game.nodes node)) opened.start
+            && is_request_close (made node (game.nodes node)) opened.ask) refl (stands node at) (
+              comes.0 ∙ (λ i. arrived_if rules game node (Ok opened) (sym packet i) (settings i) None),
+              comes.1 ∙ (λ i. answer_if rules game node (Ok opened) (sym packet i) (settings i) None),
+            )

@@ -29,7 +29,7 @@ use Rattle.dn_lockstep.specs.Represents.{Represents}
 use Rattle.dn_lockstep.specs.Sent.{sent_to}
 use Rattle.dn_lockstep.specs.Steps.{IsAfter, Tells}
 use Rattle.dn_lockstep.proofs.Nearby.{told_by, told_is}
-use Rattle.dn_lockstep.proofs.OneGame.{moves, stays, IsQuiet, hear_quiet, gave}
+use Rattle.dn_lockstep.proofs.OneGame.{moves, stays, IsQuiet, hear_quiet, gave, sent_between}
 use Rattle.dn_seal.specs.declared.opened.Opened.{Opened}
 use Rattle.dn_seal.specs.declared.opened.SealFault.{SealFault}
 use Rattle.dn_seal.specs.Opening.{IsOpenedAs}
@@ -39,7 +39,7 @@ use Rattle.dn_open.specs.declared.arrived.Arrived.{Arrived}
 use Rattle.dn_open.specs.OpenGames.{IsGenuine, arrived_if}
 use Rattle.dn_open.specs.Playable.{IsSmall}
 use Rattle.dn_seal.specs.declared.seal.Seal.{Seal}
-use Rattle.dn_open.specs.Sealed.{sealing_of, envelope_of, WasSealed}
+use Rattle.dn_open.specs.Sealed.{sealing_of, envelope_of, IsSealedAs, WasSealed}
 use Rattle.dn_open.proofs.Deliveries.{AreFound, AreSealable, arrives}
 use Rattle.dn_open.proofs.Sealables.{opened_is}
 use Rattle.dn_open.proofs.Fairness.{are_sealable}
@@ -110,18 +110,19 @@ module _ (marking : Marking) (limits : Limits) (settings : Settings) {session : 
       let leads : next ≡ arrived_if rules last player opened read tells (refused_at limits.players last player) =
       rw free refl in
       let at : after ≡ next.nodes player = sym (put_at last.nodes player player after refl) in
-      elim (arrives rules last seal player bytes next found (are_sealable marking limits settings game player mine small) genuine
-      (opened, read, tells, is, reads, leads)) [
-        | inl same ↦
+      elim (arrives rules last seal player bytes _ next found
+      (are_sealable marking limits settings game player mine small) (λ at. genuine) opened read tells is reads
+      (leads, refl)) [
+        | inl (same, unheard) ↦
             let node = at ∙ ap (λ (g : Game). g.nodes player) same in
             stays marking limits settings game player mine new
             (subst (λ (m : machine.Node). Represents limits player new m) node shows)
         | inr delivery ↦
-            let there = at ∙ ap (λ (g : Game). g.nodes player) delivery.1 in
-            let quiet = after_deliver rules IsQuiet (λ m. (refl, refl)) last player delivery.0
+            let there = at ∙ ap (λ (g : Game). g.nodes player) delivery.leads in
+            let quiet = after_deliver rules IsQuiet (λ m. (refl, refl)) last player delivery.which
             (λ flight. hear_quiet limits flight.to (last.nodes flight.to) flight) in
-            moves marking limits settings game player mine (Deliver delivery.0) after new
-            (sym delivery.1) shows
+            moves marking limits settings game player mine (Deliver delivery.which) after new
+            (sym delivery.leads) shows
             (subst (λ (m : machine.Node). IsQuiet (last.nodes player) m) (sym there) quiet)
       ]
 
@@ -129,11 +130,14 @@ module _ (marking : Marking) (limits : Limits) (settings : Settings) {session : 
       → IsAfter limits player new (sent_to to limits player (game.last.nodes player))
       (λ flight. option_map (λ (bytes : ArrayVec ℕ). bytes.items) sent ≡ option_map (envelope_of seal) flight)
       → IfSome (sent_to to limits player (game.last.nodes player)).1 IsFair
-      → (flight : Option Flight) × IfSome sent (λ bytes. WasSealed seal (given_on session.given flight) bytes.items)
+      → (flight : Option Flight)
+      × IsSealedAs seal player to (option_map (λ (bytes : ArrayVec ℕ). bytes.items) sent) flight
+      × IfSome sent (λ bytes. WasSealed seal (given_on session.given flight) bytes.items)
       × AreOneGame marking limits settings (after_packet session player flight new)
   send_keeps to new sent step fair =
       let flight : Option Flight = (sent_to to limits player (game.last.nodes player)).1 in (
         flight,
+        record { players = sent_between limits player (game.last.nodes player) to; bytes = step.answer },
         was_sealed seal session.given flight sent step.answer,
         gave marking limits settings game player mine to new step.node fair,
       )
@@ -162,7 +166,9 @@ pub sends_keep : (marking : Marking) (limits : Limits) (settings : Settings) (se
     → AreOneGame marking limits settings session → player < limits.players
     → SendsSealed seal to (session.locksteps player) new sent
     → Tells (session.locksteps player) (λ limits me m. IfSome (sent_to to limits me m).1 IsFair)
-    → (flight : Option Flight) × IfSome sent (λ bytes. WasSealed seal (given_on session.given flight) bytes.items)
+    → (flight : Option Flight)
+    × IsSealedAs seal player to (option_map (λ (bytes : ArrayVec ℕ). bytes.items) sent) flight
+    × IfSome sent (λ bytes. WasSealed seal (given_on session.given flight) bytes.items)
     × AreOneGame marking limits settings (after_packet session player flight new)
 sends_keep marking limits settings session seal player to new sent game mine sends fair =
     let r = game.nodes player mine in

@@ -8,7 +8,7 @@ use Rattle.dn_packet.specs.Flags as flag
 use Rattle.dn_packet.specs.Read as packet
 use Rattle.dn_setup.specs.Settings.{Settings}
 use Rattle.dn_setup.specs.declared.setup.SetupFault.{SetupFault}
-use Rattle.dn_machine.specs.Flight.{Flight, is_close, is_request_close}
+use Rattle.dn_machine.specs.Flight.{Flight, request_byte, is_close, is_request_close}
 use Rattle.dn_machine.specs.Hearing.{on_packet}
 use Rattle.dn_machine.specs.Node.{Node, made}
 use Rattle.dn_machine.specs.Limits.{Limits}
@@ -33,15 +33,20 @@ heard after = (after.0, Arrived.Heard after.1)
 abbrev pub flag_in : List ℕ → ℕ → Bool
 flag_in bytes which = not (bit_and (slice_index bytes 3 / 16) which == 0)
 
--- a datagram tells the same start as its envelope, by the low byte, and whether it asks for commands again; one of
--- set-up tells neither
+-- a datagram asks for commands again as its envelope does: from the tic of this low byte, or not at all
+abbrev pub asks_alike : List ℕ → Option ℕ → Bool
+asks_alike datagram ask =
+    slice_index datagram 4 == request_byte ask
+    && (if is_some ask then flag_in datagram flag.retransmit else not (flag_in datagram flag.retransmit))
+
+-- a datagram tells the same sender as its envelope, the same start, by the low byte, and the same request; one of
+-- set-up tells none of these
 abbrev pub is_alike : Opened → Bool
 is_alike opened =
     flag_in opened.datagram.items flag.set_up
-    || (slice_index opened.datagram.items 5 == opened.start % 256
-    && (if is_some opened.ask
-    then flag_in opened.datagram.items flag.retransmit
-    else not (flag_in opened.datagram.items flag.retransmit)))
+    || (slice_index opened.datagram.items 6 == opened.from
+    && (slice_index opened.datagram.items 5 == opened.start % 256
+    && asks_alike opened.datagram.items opened.ask))
 
 -- what is like its envelope
 abbrev pub on_close : Limits → ℕ → Node → Opened → Result Packet PacketFault → Result Settings SetupFault

@@ -1,5 +1,5 @@
 -- A game on an open network: any bytes come to any node at any time.
-use Rattle.std.specs.Prelude.{◌≡◌, ◌⊎◌, ℕ, pos, List, [], ◌∷◌, Option, Some, None, Result, Ok}
+use Rattle.std.specs.Prelude.{◌≡◌, ◌⊎◌, ℕ, pos, List, [], ◌∷◌, slice_get, Option, Some, None, Result, Ok, Err}
 use Rattle.dn_tic.specs.Command.{IsCommand}
 use Rattle.dn_tic.specs.Inputs.{given}
 use Rattle.dn_packet.specs.declared.packet.Packet.{Packet}
@@ -17,8 +17,9 @@ use Rattle.dn_seal.specs.declared.opened.Opened.{Opened}
 use Rattle.dn_seal.specs.declared.opened.SealFault.{SealFault}
 use Rattle.dn_seal.specs.Opening.{IsOpenedAs}
 use Rattle.dn_seal.specs.declared.seal.Seal.{Seal}
-use Rattle.dn_open.specs.Sealed.{sealing_of, WasSealed}
+use Rattle.dn_open.specs.Sealed.{sealing_of, envelope_of, WasSealed}
 use Rattle.dn_open.specs.Arrivals.{on_opened, IsRead}
+use Rattle.dn_open.specs.declared.arrived.Arrived.{Arrived}
 use Rattle.dn_open.specs.declared.open_event.OpenEvent.{OpenEvent}
 use Rattle.dn_open.specs.declared.open_event.OpenEvent.TheVariants.{Own, Arrive}
 
@@ -41,6 +42,13 @@ arrived_if rules game node opened read told (Some refusal) = game
 arrived_if rules game node opened read told None =
     with_node game node (on_opened rules.limits node (game.nodes node) opened read told).0
 
+-- and what is answered to them: the refusal, if there is one
+abbrev pub answer_if : {S : Type 0} → Rules S → Game → ℕ → Result Opened SealFault → Result Packet PacketFault
+    → Result Settings SetupFault → Option Refusal → Result Arrived Refusal
+answer_if rules game node opened read told (Some refusal) = Err refusal
+answer_if rules game node opened read told None =
+    Ok (on_opened rules.limits node (game.nodes node) opened read told).1
+
 -- the bytes lead from a game to the next: they are opened so, and the datagram in them is read so
 abbrev pub Arrives : {S : Type 0} → Rules S → Seal → Game → ℕ → List ℕ → Game → Type 0
 Arrives rules seal game node bytes next =
@@ -49,11 +57,12 @@ Arrives rules seal game node bytes next =
     × IsRead opened read told
     × (next ≡ arrived_if rules game node opened read told (refused_at rules.players game node))
 
--- an open event leads from a game to the next
+-- an open event leads from a game to the next; of bytes that come to nobody nothing is asked
 abbrev pub NextOpen : {S : Type 0} → Rules S → Seal → Game → OpenEvent → Game → Type 0
 NextOpen rules seal game (Own event) next = IsInRange event × Next rules game event next
 NextOpen rules seal game (Arrive node bytes) next =
-    IsGenuine seal game.flights node bytes.now × Arrives rules seal game node bytes.now next
+    (refused_at rules.players game node ≡ None → IsGenuine seal game.flights node bytes.now)
+    × Arrives rules seal game node bytes.now next
 
 -- a list of open events leads from a game to another
 abbrev pub LeadsOpen : {S : Type 0} → Rules S → Seal → Game → List OpenEvent → Game → Type 0
@@ -65,10 +74,22 @@ LeadsOpen rules seal game (event ∷ events) last =
 abbrev pub RunsOpen : {S : Type 0} → Rules S → Seal → Settings → List OpenEvent → Game → Type 0
 RunsOpen rules seal settings events game = LeadsOpen rules seal (opening_game settings) events game
 
--- events of a game stand for open ones: the same, but for each arrival a delivery, or nothing
-abbrev pub StandFor : List Event → List OpenEvent → Type 0
-StandFor plain [] = plain ≡ []
-StandFor plain (Own event ∷ events) = (rest : List Event) × (plain ≡ event ∷ rest) × StandFor rest events
-StandFor plain (Arrive node bytes ∷ events) =
-    StandFor plain events
-    ⊎ ((which : ℕ) × (rest : List Event) × (plain ≡ Deliver which ∷ rest) × StandFor rest events)
+-- the packet of this number is one of these, goes to the node, and the bytes are its envelope
+pub record IsEnvelope (seal : Seal) (flights : List Flight) (node : ℕ) (bytes : List ℕ) (which : ℕ) : Type 0 where
+  pub flight : Flight
+  pub sent : slice_get flights which ≡ Some flight
+  pub receiver : flight.to ≡ node
+  pub same : bytes ≡ envelope_of seal flight
+
+-- events of a game lead from a game to another in place of open ones: the same events, but for each arrival the
+-- delivery of the packet whose envelope came, one of those that were sent before, or nothing
+abbrev pub StandFor : {S : Type 0} → Rules S → Seal → Game → List Event → List OpenEvent → Game → Type 0
+StandFor rules seal game plain [] last = (plain ≡ []) × (last ≡ game)
+StandFor rules seal game plain (Own event ∷ events) last =
+    (rest : List Event) × (next : Game) × (plain ≡ event ∷ rest) × Next rules game event next
+    × StandFor rules seal next rest events last
+StandFor rules seal game plain (Arrive node bytes ∷ events) last =
+    StandFor rules seal game plain events last
+    ⊎ ((which : ℕ) × (rest : List Event) × (next : Game) × (plain ≡ Deliver which ∷ rest)
+    × IsEnvelope seal game.flights node bytes.now which × Next rules game (Deliver which) next
+    × StandFor rules seal next rest events last)

@@ -1,5 +1,6 @@
 -- The envelopes of a game.
-use Rattle.std.specs.Prelude.{◌≡◌, ℕ, List, Some, slice_get}
+use Rattle.std.specs.Prelude.{◌≡◌, ℕ, List, Option, Some, IfSome, slice_get}
+use Rattle.std.specs.Option.{option_map}
 use Rattle.dn_machine.specs.Flight.{Flight}
 use Rattle.dn_lockstep.specs.Sent.{bytes_of}
 use Rattle.dn_seal.specs.declared.opened.Opened.{Opened}
@@ -42,3 +43,10 @@ abbrev pub WasSealed : Seal → List Flight → List ℕ → Type 0
 WasSealed seal flights bytes =
     (which : ℕ) × (flight : Flight) × (slice_get flights which ≡ Some flight)
     × (bytes ≡ envelope_of seal flight)
+
+-- what a caller has of the packet that a sealed lockstep gave it, if there is one: who it is from and goes to, and
+-- its envelope
+pub record IsSealedAs (seal : Seal) (sender receiver : ℕ) (given : Option (List ℕ)) (flight : Option Flight)
+    : Type 0 where
+  pub players : IfSome flight (λ flight. (flight.from ≡ sender) × (flight.to ≡ receiver))
+  pub bytes : given ≡ option_map (envelope_of seal) flight

@@ -1,7 +1,8 @@
 //! Whether a datagram tells what its envelope does.
 
 ghost use Rattle.std.specs.Prelude.{◌≡◌, slice_index};
-ghost use Rattle.dn_open.specs.Arrivals.{flag_in, is_alike};
+ghost use Rattle.dn_machine.specs.Flight.{request_byte};
+ghost use Rattle.dn_open.specs.Arrivals.{asks_alike, flag_in, is_alike};
 
 use dn_packet::{RETRANSMIT, SETUP};
 use dn_seal::Opened;
@@ -23,7 +24,25 @@ fn has_flag(bytes: &[u8], flag: u8) -> bool
     byte_at(bytes, 3) / 16 & flag != 0
 }
 
-/// Whether a datagram tells the same start as its envelope, by the low byte, and whether it asks for commands again.
+/// The low byte of a request, and 0 for none.
+fn request_byte(ask: Option<u32>) -> u32
+    ensures { result ≡ request_byte ask }
+{
+    match ask {
+        Some(tic) => tic % 256,
+        None => 0,
+    }
+}
+
+/// Whether a datagram asks for commands again as its envelope does: from the same tic, by the low byte, or not at all.
+fn asks_alike(bytes: &[u8], ask: Option<u32>) -> bool
+    ensures { result ≡ asks_alike bytes.now ask }
+{
+    u32::from(byte_at(bytes, 4)) == request_byte(ask)
+        && has_flag(bytes, RETRANSMIT) == ask.is_some()
+}
+
+/// Whether a datagram tells the same sender as its envelope, the same start, by the low byte, and the same request.
 /// Of an honest sender each does; this finds who seals what they did not build.
 pub fn is_alike(opened: &Opened) -> bool
     ensures { result ≡ is_alike opened.now }
@@ -32,6 +51,7 @@ pub fn is_alike(opened: &Opened) -> bool
     if has_flag(bytes, SETUP) {
         return true;
     }
-    u32::from(byte_at(bytes, 5)) == opened.start % 256
-        && has_flag(bytes, RETRANSMIT) == opened.ask.is_some()
+    byte_at(bytes, 6) == opened.from
+        && u32::from(byte_at(bytes, 5)) == opened.start % 256
+        && asks_alike(bytes, opened.ask)
 }

@@ -11,8 +11,8 @@ pub enum Arrived {
     /// The packet's first tic, or the tic that it asks for, is more than 64 from the number of commands that
     /// the node has made, and the packet changed nothing.
     Late,
-    /// The datagram tells another start than its envelope, or a request where that has none, or none where it has one,
-    /// and changed nothing.
+    /// The datagram tells another sender than its envelope, another start or another request, by the low byte, or a
+    /// request where that has none, or none where it has one, and changed nothing.
     Unlike,
     /// The node's answer to the datagram in the envelope.
     Heard(Heard),

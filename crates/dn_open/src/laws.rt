@@ -1,10 +1,11 @@
 //! What holds on an open network.
 
 ghost use Rattle.std.specs.Prelude.{◌≡◌, ◌<◌, ◌&&◌, ℕ, Bool, List, true, Option, Some, IfSome, slice_get};
+ghost use Rattle.std.specs.Option.{option_map};
 ghost use Rattle.arrayvec.specs.ArrayVec.{ArrayVec};
 ghost use Rattle.dn_setup.specs.Settings.{Settings};
 ghost use Rattle.dn_machine.specs.declared.events.Event.{Event};
-ghost use Rattle.dn_machine.specs.Game.{Game};
+ghost use Rattle.dn_machine.specs.Game.{Game, opening_game};
 ghost use Rattle.dn_machine.specs.Promise.{Agree, Fits, Steady};
 ghost use Rattle.dn_machine.specs.Runs.{Runs};
 ghost use Rattle.dn_machine.specs.Worlds.{rules_of, rules_within};
@@ -25,22 +26,23 @@ ghost use Rattle.dn_open.specs.declared.open_event.OpenEvent.{OpenEvent};
 ghost use Rattle.dn_open.specs.OpenGames.{IsGenuine, RunsOpen, StandFor};
 ghost use Rattle.dn_open.specs.Playable.{IsPlayable};
 ghost use Rattle.dn_seal.specs.declared.seal.Seal.{Seal};
-ghost use Rattle.dn_open.specs.Sealed.{WasSealed, envelope_of, opened_of};
+ghost use Rattle.dn_open.specs.Sealed.{IsSealedAs, WasSealed, envelope_of, opened_of};
 
 use dn_setup::settings_found_again;
 use dn_world::World;
 
 /// Whatever the network does - lose, repeat, reorder, delay, alter, forge, misattribute - a game in which any
-/// bytes come to any node at any time is a game that is led to by events of its own, with a delivery in place
-/// of an arrival, or nothing: so the nodes agree, no ring overwrites a command that is still needed, and no
-/// check fails. The one premise on the network, within `RunsOpen`, is that what a node opens was sealed in this
-/// game before; and each command that a caller gives has the ranges of its type.
+/// bytes come to any node at any time is a game that is led to by events of its own, with the delivery of the
+/// packet whose envelope came in place of an arrival, or nothing: so the nodes agree, no ring overwrites a command
+/// that is still needed, and no check fails. The one premise on the network, within `RunsOpen`, is that what a node
+/// opens was sealed in this game before; and each command that a caller gives has the ranges of its type.
 pub fn open_games_agree<W: World>()
     ensures stand { (players : ℕ) (extra : Bool) (capacity : ℕ) (seal : Seal) (settings : Settings)
         (events : List OpenEvent) (game : Game)
         → IsPlayable players capacity settings
         → RunsOpen (rules_of W.physics players extra capacity) seal settings events game
-        → (plain : List Event) × StandFor plain events
+        → (plain : List Event)
+        × StandFor (rules_of W.physics players extra capacity) seal (opening_game settings) plain events game
         × Runs (rules_of W.physics players extra capacity) settings plain game }
     ensures agree { (players : ℕ) (extra : Bool) (capacity : ℕ) (seal : Seal) (settings : Settings)
         (events : List OpenEvent) (game : Game)
@@ -67,7 +69,8 @@ pub fn open_windows_agree<W: World>()
     ensures stand { (limits : Limits) (seal : Seal) (settings : Settings) (events : List OpenEvent) (game : Game)
         → IsWindow limits → FitsPackets limits → IsPlayable limits.players limits.capacity settings
         → RunsOpen (rules_within W.physics limits) seal settings events game
-        → (plain : List Event) × StandFor plain events
+        → (plain : List Event)
+        × StandFor (rules_within W.physics limits) seal (opening_game settings) plain events game
         × Runs (rules_within W.physics limits) settings plain game }
     ensures agree { (limits : Limits) (seal : Seal) (settings : Settings) (events : List OpenEvent) (game : Game)
         → IsWindow limits → FitsPackets limits → IsPlayable limits.players limits.capacity settings
@@ -111,7 +114,8 @@ pub fn letters_keep_one_game()
     settings_found_again();
 }
 
-/// And so does what `SealedLockstep::packet` does; what it gives was sealed in that game.
+/// And so does what `SealedLockstep::packet` does: what it gives is the envelope of a packet from this player to
+/// that peer, which was sealed in that game. Where it gives nothing there is no such packet.
 pub fn sends_keep_one_game()
     ensures { (marking : Marking) (limits : Limits) (settings : Settings) (session : Session) (seal : Seal)
         (player to : ℕ) (new : Contents) (sent : Option (ArrayVec ℕ))
@@ -119,6 +123,7 @@ pub fn sends_keep_one_game()
         → SendsSealed seal to (session.locksteps player) new sent
         → Tells (session.locksteps player) (λ limits me m. IfSome (sent_to to limits me m).1 IsFair)
         → (flight : Option Flight)
+        × IsSealedAs seal player to (option_map (λ (bytes : ArrayVec ℕ). bytes.items) sent) flight
         × IfSome sent (λ bytes. WasSealed seal (given_on session.given flight) bytes.items)
         × AreOneGame marking limits settings (after_packet session player flight new) }
 {}

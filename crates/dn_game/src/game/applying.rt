@@ -1,11 +1,15 @@
 //! What an event does to a game.
 
 ghost use Rattle.std.specs.Prelude.{◌≡◌, ◌≢◌, ◌<◌, ◌⊎◌, false, Some, None, Ok, Err, length, nat_lt, slice_get, OnErr};
+ghost use Rattle.dn_machine.specs.declared.answers.Heard.TheVariants.{Started};
 ghost use Rattle.dn_machine.specs.declared.events.Event.TheVariants.{Send, Deliver};
 ghost use Rattle.dn_machine.specs.declared.events.Done.{Done};
 ghost use Rattle.dn_machine.specs.Game.{refused, refused_at, refused_flight, on_event};
 ghost use Rattle.dn_machine.specs.Runs.{is_send};
 ghost use Rattle.dn_machine.specs.declared.events.Refusal.{Refusal};
+ghost use Rattle.dn_seal.specs.declared.seal.Seal.{Seal as AnySeal};
+ghost use Rattle.dn_open.specs.declared.open_event.OpenEvent.TheVariants.{Own};
+ghost use Rattle.dn_game.specs.OpenPlayed.{IsCarriedOnOpen, own_answer};
 ghost use Rattle.dn_game.specs.Pool.{HasGrown};
 
 use super::Game;
@@ -16,6 +20,7 @@ use dn_world::World;
 impl<W: World> Game<W> {
     ghost use Rattle.dn_game.specs.Contents.{contents};
     ghost use Rattle.dn_game.specs.Applied.{Tells, IsAfter, IsLeftOut, IsApplied, IsAddressed};
+    ghost use Rattle.dn_game.specs.Frame.{KeepsOthers, KeepsWorlds, KeepsFlights, MovesNoWorld, named_by};
     ghost use Rattle.dn_game.specs.Promised.{IsCarriedOn};
     ghost use Rattle.dn_game.specs.Room.{room_of, IsFull, KeepsWhose};
 
@@ -95,6 +100,9 @@ impl<W: World> Game<W> {
         ensures memory { OnErr result (IsFull self.new) }
         ensures grown { HasGrown (contents self.old).flights (room_of self.old) (room_of self.new) }
         ensures whose { KeepsWhose (contents self.old) (contents self.new) }
+        ensures others { KeepsOthers (Some node) (contents self.old) (contents self.new) }
+        ensures worlds { KeepsWorlds (contents self.old) (contents self.new) }
+        ensures more { KeepsFlights (contents self.old) (contents self.new) }
     {
         let Ok(()) = self.pool.reserve() else {
             return Err(Refusal::Memory);
@@ -118,6 +126,10 @@ impl<W: World> Game<W> {
             (Done.Heard result)) }
         ensures room { room_of self.new ≡ room_of self.old }
         ensures whose { KeepsWhose (contents self.old) (contents self.new) }
+        ensures others { KeepsOthers (named_by (contents self.old) (Deliver which)) (contents self.old)
+            (contents self.new) }
+        ensures worlds { result ≢ Started → KeepsWorlds (contents self.old) (contents self.new) }
+        ensures flights { (contents self.new).flights ≡ (contents self.old).flights }
     {
         let which = which as usize;
         let flight = self.pool.record(which);
@@ -141,6 +153,15 @@ impl<W: World> Game<W> {
         ensures room { is_send event ≡ false → room_of self.new ≡ room_of self.old }
         ensures grown { HasGrown (contents self.old).flights (room_of self.old) (room_of self.new) }
         ensures whose { KeepsWhose (contents self.old) (contents self.new) }
+        // And whatever open events led to the game, in whichever game of sealed nodes.
+        ensures carried_open { (seal : AnySeal) → IsCarriedOnOpen W.state W.physics seal (contents self.old)
+            (contents self.new) (Own event) (own_answer result) }
+        // Each node but the one that the event names is as it was, and each has the world that it had, but for a
+        // node that starts, runs a tic, or ends as it runs one.
+        ensures others { KeepsOthers (named_by (contents self.old) event) (contents self.old)
+            (contents self.new) }
+        ensures worlds { MovesNoWorld result → KeepsWorlds (contents self.old) (contents self.new) }
+        ensures more { KeepsFlights (contents self.old) (contents self.new) }
     {
         if let Some(refusal) = self.refused(event) {
             return Err(refusal);

@@ -1,9 +1,14 @@
 //! Any bytes come to a node of a game.
 
-ghost use Rattle.std.specs.Prelude.{◌≡◌, OnErr, slice_get};
+ghost use Rattle.std.specs.Prelude.{◌≡◌, ◌≢◌, false, Some, Ok, Err, OnErr, slice_get};
 ghost use Rattle.std.specs.Option.{option_map};
 ghost use Rattle.dn_game.specs.Arrived.{Opening, IsArrived, SparesArrived};
-ghost use Rattle.dn_game.specs.OpenPlayed.{IsAppliedOpen};
+ghost use Rattle.dn_machine.specs.declared.answers.Heard.TheVariants.{Started};
+ghost use Rattle.dn_machine.specs.declared.events.Refusal.{Refusal};
+ghost use Rattle.dn_open.specs.declared.arrived.Arrived.TheVariants as came;
+ghost use Rattle.dn_open.specs.declared.open_event.OpenEvent.TheVariants.{Arrive};
+ghost use Rattle.dn_game.specs.OpenPlayed.{IsAppliedOpen, IsCarriedOnOpen, SparesOpen, arrival_answer, sends};
+ghost use Rattle.dn_game.specs.Pool.{HasGrown};
 ghost use Rattle.dn_game.specs.Sealed.{sealed};
 
 use super::Game;
@@ -29,7 +34,8 @@ fn are_opened(seal: Seal, node: u32, bytes: &[u8])
 impl<W: World> Game<W> {
     ghost use Rattle.dn_game.specs.Contents.{contents};
     ghost use Rattle.dn_game.specs.Applied.{Tells};
-    ghost use Rattle.dn_game.specs.Room.{room_of, KeepsWhose};
+    ghost use Rattle.dn_game.specs.Frame.{KeepsOthers, KeepsWorlds, KeepsFlights, MovesNoWorldOpen, named_by_open};
+    ghost use Rattle.dn_game.specs.Room.{room_of, IsFull, KeepsWhose};
 
     /// The envelope of the packet of this number, in the game with this seal; None where no packet has it.
     pub fn sealed(&self, seal: Seal, which: usize) -> Option<ArrayVec<u8, 141>>
@@ -54,10 +60,18 @@ impl<W: World> Game<W> {
             (λ rules m. IsArrived W.state rules seal m node bytes.now (contents self.new) result) }
         ensures opened { Opening seal node bytes.now }
         ensures unchanged { OnErr result (contents self.new ≡ contents self.old) }
+        ensures not_memory { result ≢ Err Refusal.Memory }
         ensures spared { SparesArrived (contents self.old) (contents self.new) result }
         ensures flights { (contents self.new).flights ≡ (contents self.old).flights }
         ensures room { room_of self.new ≡ room_of self.old }
         ensures whose { KeepsWhose (contents self.old) (contents self.new) }
+        // Whatever open events led to the game: they and this arrival lead to what it is afterwards.
+        ensures carried { IsCarriedOnOpen W.state W.physics seal (contents self.old) (contents self.new)
+            (Arrive node bytes.entry) (arrival_answer result) }
+        // Each other node is as it was, and each has the world that it had, but for a node that starts.
+        ensures others { KeepsOthers (Some node) (contents self.old) (contents self.new) }
+        ensures worlds { result ≢ Ok (came.Heard Started)
+            → KeepsWorlds (contents self.old) (contents self.new) }
     {
         are_opened(seal, node, bytes);
         if let Some(refusal) = self.refused_at(node) {
@@ -83,7 +97,19 @@ impl<W: World> Game<W> {
         ensures applied { Tells W.state W.physics (contents self.old)
             (λ rules m. IsAppliedOpen W.state rules seal m event.now result (contents self.new)) }
         ensures unchanged { OnErr result (contents self.new ≡ contents self.old) }
+        // `Memory` is answered only where there is no room for one more packet, as by `apply`.
+        ensures memory { result ≡ Err Refusal.Memory → IsFull self.new }
+        // Whatever open events led to the game: they and this one lead to what it is afterwards.
+        ensures carried { IsCarriedOnOpen W.state W.physics seal (contents self.old) (contents self.new)
+            event.now result }
+        ensures room { sends event.now ≡ false → room_of self.new ≡ room_of self.old }
+        ensures grown { HasGrown (contents self.old).flights (room_of self.old) (room_of self.new) }
         ensures whose { KeepsWhose (contents self.old) (contents self.new) }
+        ensures spared { SparesOpen (contents self.old) (contents self.new) result }
+        ensures others { KeepsOthers (named_by_open (contents self.old) event.now) (contents self.old)
+            (contents self.new) }
+        ensures worlds { MovesNoWorldOpen result → KeepsWorlds (contents self.old) (contents self.new) }
+        ensures more { KeepsFlights (contents self.old) (contents self.new) }
     {
         Ok(match event {
             OpenEvent::Own(event) => OpenDone::Own(self.apply(*event)?),

@@ -20,6 +20,7 @@ impl<W: World> Game<W> {
     ghost use Rattle.dn_machine.specs.Game.{opening_game};
     ghost use Rattle.dn_game.specs.Contents.{contents};
     ghost use Rattle.dn_game.specs.Represents.{Represents};
+    ghost use Rattle.dn_game.specs.Room.{room_of};
 
     /// A game with a node for each world, in the players' order. The worlds are given up where there is
     /// no game.
@@ -30,6 +31,8 @@ impl<W: World> Game<W> {
             (opening_game config.settings)) }
         ensures given { IfOk result (λ game. worlds_of (contents game).nodes ≡ worlds.items) }
         ensures limits { IfOk result (λ game. AreLimited config.limit (contents game).nodes) }
+        // No memory is taken for packets yet.
+        ensures room { IfOk result (λ game. room_of game ≡ record { bytes = 0; records = 0 }) }
     {
         if !is_game(worlds.len()) {
             return Err(GameFault::Players);

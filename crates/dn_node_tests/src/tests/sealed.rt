@@ -134,6 +134,27 @@ fn sealed_packets_are_heard_by_their_own_numbers(rt: HostRuntime) {
     }
 }
 
+/// A packet of player 1 that starts at tic 0 and asks for none, but for one byte: its ask, its start and its player
+/// are held against the envelope, and what tells the envelope's numbers is looked into, and has a wrong sum.
+#[test]
+fn packets_are_held_against_their_envelopes(rt: HostRuntime) {
+    let rt = &rt;
+    let (mut key, _, one) = playing(rt, rt.alloc(), Seal::new(SECRET, GAME));
+    let by = Sealer::new(SECRET, GAME, 1);
+    for (place, wanted) in [
+        (4, Arrived::Unlike),
+        (5, Arrived::Unlike),
+        (6, Arrived::Unlike),
+        (8, Arrived::Heard(Heard::Dropped(4))),
+    ] {
+        let mut datagram = [0; 16];
+        datagram.copy_from_slice(one.as_slice().get(21..37).unwrap_or(&[0; 16]));
+        datagram[place] ^= 1;
+        let envelope = by.seal(0, 0, None, &datagram);
+        same!(rt; arrives(&mut key, &envelope), wanted, place);
+    }
+}
+
 #[test]
 fn given_commands_go_in_envelopes(rt: HostRuntime) {
     let rt = &rt;
@@ -177,14 +198,18 @@ fn round(rt: &impl Abort, one: &mut SealedLockstep, other: &mut SealedLockstep) 
     let _ = other.run(&[0; 4]);
 }
 
+/// An envelope whose packet starts 64 tics before what its receiver has made is heard, and a tic later it is not.
 #[test]
 fn old_envelopes_are_late(rt: HostRuntime) {
     let rt = &rt;
     let (mut key, mut other, one) = playing(rt, rt.alloc(), Seal::new(SECRET, GAME));
-    for _ in 0..80 {
+    for _ in 0..64 {
         round(rt, &mut key, &mut other);
     }
-    same!(rt; key.lockstep().made(), 80);
+    same!(rt; key.lockstep().made(), 64);
+    same!(rt; arrives(&mut key, &one), Arrived::Heard(Heard::Stale));
+    round(rt, &mut key, &mut other);
+    same!(rt; key.lockstep().made(), 65);
     same!(rt; arrives(&mut key, &one), Arrived::Late);
 }
 

@@ -4,7 +4,8 @@ use super::playing::events;
 use super::told::all_told;
 use super::{applies, config, opened, send, walks};
 use crate::tests::finds_no_memory;
-use dn_game::{Done, Event, Game, GameFault, Refusal, play, storm};
+use dn_game::{Done, Event, Game, GameFault, OpenEvent, Refusal, play, play_open, storm};
+use dn_seal::Seal;
 use dn_world::Walk;
 use std::process::Abort;
 
@@ -78,6 +79,33 @@ fn play_goes_on_without_a_packet(rt: HostRuntime) {
         Err(fault) => {
             same!(rt; fault, GameFault::Memory);
             finds_no_memory(rt, "play");
+        }
+    }
+}
+
+/// And out of a list of open events, of which no more is left out than memory is refused for.
+#[test]
+fn play_open_goes_on_without_a_packet(rt: HostRuntime) {
+    let rt = &rt;
+    let Ok(worlds) = walks(rt.alloc(), 2) else {
+        return;
+    };
+    let seal = Seal::new([7; 32], [9; 16]);
+    let list = [
+        OpenEvent::Own(send(0, 1)),
+        OpenEvent::Own(send(0, 1)),
+        OpenEvent::Own(send(0, 1)),
+        OpenEvent::Own(send(0, 1)),
+    ];
+    match play_open(rt.alloc(), must!(rt; config(1_024)), worlds, seal, &list) {
+        Ok(played) => {
+            all_counted(rt, "a send of play_open", (played.done, played.refused), 4);
+            same!(rt; played.game.flights(), played.done);
+            holds!(rt; played.refused <= 1);
+        }
+        Err(fault) => {
+            same!(rt; fault, GameFault::Memory);
+            finds_no_memory(rt, "play_open");
         }
     }
 }

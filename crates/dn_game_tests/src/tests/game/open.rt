@@ -1,10 +1,11 @@
 //! Tests of games on an open network.
 
+use super::far::{play_rounds, started};
 use super::playing::events;
-use super::{config, opened, walks};
+use super::{build, config, opened, walks};
 use dn_game::{Arrived, Event, Game, OpenDone, OpenEvent, Refusal, play_open};
 use dn_node::{Heard, Phase};
-use dn_seal::{Seal, SealFault};
+use dn_seal::{Seal, SealFault, Sealer};
 use dn_world::Walk;
 use std::process::Abort;
 
@@ -81,6 +82,32 @@ fn forged_envelopes_change_nothing(rt: HostRuntime) {
     same!(rt; game.arrive(seal(), 1, bytes.as_slice()), Ok(Arrived::Heard(Heard::Started)));
 }
 
+/// Bytes come to node 1.
+fn comes(game: &mut Game<Walk>, bytes: &[u8]) -> Result<Arrived, Refusal> {
+    game.arrive(seal(), 1, bytes)
+}
+
+/// An envelope whose packet starts 64 tics before what its receiver has made is heard, and a tic later it is not. One
+/// that tells another start, another request or another sender than its packet never is.
+#[test]
+fn late_and_unlike_envelopes_are_not_heard(rt: HostRuntime) {
+    let rt = &rt;
+    let mut game = must!(rt; started(rt.alloc()));
+    play_rounds(&mut game, 64);
+    // The first packet of the rounds has the first command of node 0.
+    let (Some(flight), Some(envelope)) = (game.flight(2), game.sealed(seal(), 2)) else {
+        panic!(rt; "no packet");
+    };
+    for (from, start, ask) in [(0, 1, None), (0, 0, Some(0)), (2, 0, None)] {
+        let other = Sealer::of(seal(), from).seal(1, start, ask, flight.bytes.as_slice());
+        same!(rt; comes(&mut game, other.as_slice()), Ok(Arrived::Unlike), (from, start, ask));
+    }
+    same!(rt; comes(&mut game, envelope.as_slice()), Ok(Arrived::Heard(Heard::Stale)));
+    let _ = game.apply(build(1, 0));
+    same!(rt; comes(&mut game, envelope.as_slice()), Ok(Arrived::Late));
+    same!(rt; game.node(1).map(|node| node.made()), Some(65));
+}
+
 /// Player 0 sends a packet to player 1.
 fn sends() -> Event {
     Event::Send { node: 0, to: 1 }
@@ -106,9 +133,11 @@ fn open_lists_are_played(rt: HostRuntime) {
         OpenEvent::Arrive { node: 1, bytes },
         OpenEvent::Arrive { node: 7, bytes },
         OpenEvent::Own(Event::Deliver(9)),
+        OpenEvent::Own(Event::Stop(1)),
+        OpenEvent::Arrive { node: 1, bytes },
     ];
     let played =
         must!(rt; play_open(rt.alloc(), must!(rt; config(131_072)), must!(rt; walks(rt.alloc(), 2)), seal(), &list));
-    same!(rt; (played.done, played.refused), (4, 2));
+    same!(rt; (played.done, played.refused), (5, 3));
     same!(rt; played.game.node(1).map(|node| node.phase()), Some(Phase::Playing));
 }

@@ -1,11 +1,14 @@
-use Rattle.std.proofs.Common.{◌<◌, inl, refl, ap, sym, ◌∙◌, subst, arith, length}
+use Rattle.std.proofs.Common.{◌<◌, [], append-nil, inl, refl, ap, sym, ◌∙◌, subst, arith, length}
 use Rattle.dn_machine.specs.declared.events.Done.{Done}
 use Rattle.dn_machine.specs.Game.{refused}
 use Rattle.dn_machine.specs.Worlds.{rules_of}
 use Rattle.dn_game.specs.Contents.{contents}
 use Rattle.dn_game.specs.Applied.{IsAddressed}
+use Rattle.dn_game.specs.Frame.{named_by}
 use Rattle.dn_game.proofs.Answering.{carries}
 use Rattle.dn_game.proofs.Applying.{after_refused, after_event, after_send, after_step, stops}
+use Rattle.dn_game.proofs.Framing.{others_step, worlds_step, run_keeps}
+use Rattle.dn_game.proofs.OpenAnswering.{carries_own}
 use Rattle.dn_game.proofs.Whose.{whose_step}
 use Rattle.dn_game.proofs.game.Game.apply.Goals as goal
 
@@ -113,3 +116,117 @@ returns-in-Quit-clause-whose g c =
 
 pub returns-in-Stop-clause-whose : goal.returns-in-Stop-clause-whose
 returns-in-Stop-clause-whose g c = refl
+
+pub returns-in-Some-clause-carried_open : goal.returns-in-Some-clause-carried_open
+returns-in-Some-clause-carried_open g c seal =
+    carries_own _ _ seal _ _ _ _ (returns-in-Some-clause-applied g c)
+
+pub returns-in-Send-clause-carried_open : goal.returns-in-Send-clause-carried_open
+returns-in-Send-clause-carried_open g c seal =
+    carries_own _ _ seal _ _ _ _ (returns-in-Send-clause-applied g c)
+
+pub returns-in-Build-clause-carried_open : goal.returns-in-Build-clause-carried_open
+returns-in-Build-clause-carried_open g c seal =
+    carries_own _ _ seal _ _ _ _ (returns-in-Build-clause-applied g c)
+
+pub returns-in-Give-clause-carried_open : goal.returns-in-Give-clause-carried_open
+returns-in-Give-clause-carried_open g c seal =
+    carries_own _ _ seal _ _ _ _ (returns-in-Give-clause-applied g c)
+
+pub returns-in-Deliver-clause-carried_open : goal.returns-in-Deliver-clause-carried_open
+returns-in-Deliver-clause-carried_open g c seal =
+    carries_own _ _ seal _ _ _ _ (returns-in-Deliver-clause-applied g c)
+
+pub returns-in-Run-clause-carried_open : goal.returns-in-Run-clause-carried_open
+returns-in-Run-clause-carried_open g c seal =
+    carries_own _ _ seal _ _ _ _ (returns-in-Run-clause-applied g c)
+
+pub returns-in-Quit-clause-carried_open : goal.returns-in-Quit-clause-carried_open
+returns-in-Quit-clause-carried_open g c seal =
+    carries_own _ _ seal _ _ _ _ (returns-in-Quit-clause-applied g c)
+
+pub returns-in-Stop-clause-carried_open : goal.returns-in-Stop-clause-carried_open
+returns-in-Stop-clause-carried_open g c seal =
+    carries_own _ _ seal _ _ _ _ (returns-in-Stop-clause-applied g c)
+
+pub returns-in-Send-clause-others : goal.returns-in-Send-clause-others
+returns-in-Send-clause-others g c i apart =
+    c.send.ensures.others i (λ same. apart (ap (named_by (contents c.args.self.now)) c.in-Send.is ∙ same))
+
+pub returns-in-Deliver-clause-others : goal.returns-in-Deliver-clause-others
+returns-in-Deliver-clause-others g c i apart =
+    c.deliver.ensures.others i (λ same. apart (ap (named_by (contents c.args.self.now)) c.in-Deliver.is ∙ same))
+
+pub returns-in-Deliver-clause-worlds : goal.returns-in-Deliver-clause-worlds
+returns-in-Deliver-clause-worlds g c moves = c.deliver.ensures.worlds moves
+
+pub returns-in-Send-clause-worlds : goal.returns-in-Send-clause-worlds
+returns-in-Send-clause-worlds g c moves = c.send.ensures.worlds
+
+pub returns-in-Send-clause-more : goal.returns-in-Send-clause-more
+returns-in-Send-clause-more g c = c.send.ensures.more
+
+pub returns-in-Deliver-clause-more : goal.returns-in-Deliver-clause-more
+returns-in-Deliver-clause-more g c = ([], c.deliver.ensures.flights ∙ sym (append-nil _))
+
+pub returns-in-Build-clause-others : goal.returns-in-Build-clause-others
+returns-in-Build-clause-others g c i apart =
+    others_step _ _ _ _ (ap (named_by (contents c.args.self.now)) c.in-Build.is) i apart
+
+pub returns-in-Build-clause-worlds : goal.returns-in-Build-clause-worlds
+returns-in-Build-clause-worlds g c moves =
+    worlds_step _ _ _ _ c.index_mut.ensures.value c.build.ensures.world
+
+pub returns-in-Give-clause-others : goal.returns-in-Give-clause-others
+returns-in-Give-clause-others g c i apart =
+    others_step _ _ _ _ (ap (named_by (contents c.args.self.now)) c.in-Give.is) i apart
+
+pub returns-in-Give-clause-worlds : goal.returns-in-Give-clause-worlds
+returns-in-Give-clause-worlds g c moves =
+    worlds_step _ _ _ _ c.index_mut-in-Give.ensures.value c.give.ensures.world
+
+pub returns-in-Run-clause-others : goal.returns-in-Run-clause-others
+returns-in-Run-clause-others g c i apart =
+    others_step _ _ _ _ (ap (named_by (contents c.args.self.now)) c.in-Run.is) i apart
+
+pub returns-in-Run-clause-worlds : goal.returns-in-Run-clause-worlds
+returns-in-Run-clause-worlds g c moves =
+    worlds_step _ _ _ _ c.index_mut-in-Run.ensures.value (run_keeps _ _ _ c.run.ensures.waits c.run.ensures.idle moves)
+
+pub returns-in-Quit-clause-others : goal.returns-in-Quit-clause-others
+returns-in-Quit-clause-others g c i apart =
+    others_step _ _ _ _ (ap (named_by (contents c.args.self.now)) c.in-Quit.is) i apart
+
+pub returns-in-Quit-clause-worlds : goal.returns-in-Quit-clause-worlds
+returns-in-Quit-clause-worlds g c moves =
+    worlds_step _ _ _ _ c.index_mut-in-Quit.ensures.value c.quit.ensures.world
+
+pub returns-in-Some-clause-others : goal.returns-in-Some-clause-others
+returns-in-Some-clause-others g c i apart = refl
+
+pub returns-in-Some-clause-worlds : goal.returns-in-Some-clause-worlds
+returns-in-Some-clause-worlds g c moves = refl
+
+pub returns-in-Stop-clause-others : goal.returns-in-Stop-clause-others
+returns-in-Stop-clause-others g c i apart = refl
+
+pub returns-in-Stop-clause-worlds : goal.returns-in-Stop-clause-worlds
+returns-in-Stop-clause-worlds g c moves = refl
+
+pub returns-in-Some-clause-more : goal.returns-in-Some-clause-more
+returns-in-Some-clause-more g c = ([], sym (append-nil _))
+
+pub returns-in-Build-clause-more : goal.returns-in-Build-clause-more
+returns-in-Build-clause-more g c = ([], sym (append-nil _))
+
+pub returns-in-Give-clause-more : goal.returns-in-Give-clause-more
+returns-in-Give-clause-more g c = ([], sym (append-nil _))
+
+pub returns-in-Run-clause-more : goal.returns-in-Run-clause-more
+returns-in-Run-clause-more g c = ([], sym (append-nil _))
+
+pub returns-in-Quit-clause-more : goal.returns-in-Quit-clause-more
+returns-in-Quit-clause-more g c = ([], sym (append-nil _))
+
+pub returns-in-Stop-clause-more : goal.returns-in-Stop-clause-more
+returns-in-Stop-clause-more g c = ([], sym (append-nil _))

@@ -1,9 +1,13 @@
-use Rattle.std.proofs.Common.{◌<◌, ◌&&◌, ℕ, List, length, refl, ap, sym, ◌∙◌, subst, arith}
+use Rattle.std.proofs.Common.{◌<◌, ◌&&◌, ℕ, List, Ok, length, refl, ap, sym, ◌∙◌, subst, arith}
 use Rattle.dn_machine.specs.Flight.{is_close, is_request_close}
 use Rattle.dn_machine.specs.Worlds.{rules_of}
+use Rattle.dn_machine.specs.declared.answers.Heard.{Heard}
+use Rattle.dn_open.specs.declared.arrived.Arrived.{Arrived}
 use Rattle.dn_packet.specs.Read.{IsReadAs}
 use Rattle.dn_game.specs.Contents.{contents}
 use Rattle.dn_game.proofs.OpenArriving.{only_at, comes_to_nobody, unopened, late, unlike, hears}
+use Rattle.dn_game.proofs.Framing.{others_step, worlds_step, holds_step}
+use Rattle.dn_game.proofs.OpenAnswering.{carries_arrival}
 use Rattle.dn_game.proofs.Standing.{node_at, made_at}
 use Rattle.dn_game.proofs.Whose.{whose_step}
 use Rattle.dn_game.proofs.game.Game.arrive.Goals as goal
@@ -70,4 +74,37 @@ pub returns-clause-whose : goal.returns-clause-whose
 returns-clause-whose g c = whose_step _ _ _ _ c.index_mut.ensures.value c.receive-heard.ensures.any.same
 
 pub returns-clause-spared : goal.returns-clause-spared
-returns-clause-spared g c = λ never. absurd (never _ refl)
+returns-clause-spared g c number dropped =
+    record {
+      nodes = holds_step _ _ _ _ c.index_mut.ensures.value (c.receive-heard.ensures.dropped number dropped);
+      stopped = refl;
+      flights = refl;
+    }
+
+pub returns-in-Some-clause-carried : goal.returns-in-Some-clause-carried
+returns-in-Some-clause-carried g c =
+    carries_arrival _ _ _ _ _ _ _ _ c.are_opened.ensures (returns-in-Some-clause-arrived g c)
+
+pub returns-in-Err-clause-carried : goal.returns-in-Err-clause-carried
+returns-in-Err-clause-carried g c =
+    carries_arrival _ _ _ _ _ _ _ _ c.are_opened.ensures (returns-in-Err-clause-arrived g c)
+
+pub returns-then-not-are_tics_near-clause-carried : goal.returns-then-not-are_tics_near-clause-carried
+returns-then-not-are_tics_near-clause-carried g c =
+    carries_arrival _ _ _ _ _ _ _ _ c.are_opened.ensures (returns-then-not-are_tics_near-clause-arrived g c)
+
+pub returns-then-not-is_alike-clause-carried : goal.returns-then-not-is_alike-clause-carried
+returns-then-not-is_alike-clause-carried g c =
+    carries_arrival _ _ _ _ _ _ _ _ c.are_opened.ensures (returns-then-not-is_alike-clause-arrived g c)
+
+pub returns-clause-carried : goal.returns-clause-carried
+returns-clause-carried g c =
+    carries_arrival _ _ _ _ _ _ _ _ c.are_opened.ensures (returns-clause-arrived g c)
+
+pub returns-clause-others : goal.returns-clause-others
+returns-clause-others g c i apart = others_step _ _ _ _ refl i apart
+
+pub returns-clause-worlds : goal.returns-clause-worlds
+returns-clause-worlds g c quiet =
+    worlds_step _ _ _ _ c.index_mut.ensures.value
+    (c.receive-heard.ensures.world (λ same. quiet (ap (λ (heard : Heard). Ok (Arrived.Heard heard)) same)))

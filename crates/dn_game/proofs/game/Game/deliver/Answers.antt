@@ -1,4 +1,8 @@
-use Rattle.std.proofs.Common.{length, arith}
+use Rattle.std.proofs.Common.{ap, sym, ◌∙◌, length, Some, arith}
+use Rattle.std.specs.Option.{option_map}
+use Rattle.dn_game.specs.declared.flight.Flight.{Flight}
+use Rattle.dn_game.proofs.Framing.{others_step, worlds_step}
+use Rattle.dn_game.proofs.Places.{there_is}
 use Rattle.dn_game.proofs.Delivering.{delivers}
 use Rattle.dn_game.proofs.Whose.{whose_step}
 use Rattle.dn_game.proofs.Packing.{receiver_below}
@@ -19,3 +23,13 @@ returns-clause-heard g c players extra capacity m r free =
 
 pub returns-clause-whose : goal.returns-clause-whose
 returns-clause-whose g c = whose_step _ _ _ _ c.index_mut.ensures.value c.receive.ensures.any.same
+
+pub returns-clause-others : goal.returns-clause-others
+returns-clause-others g c i apart =
+    let at = there_is c.args.self.now.pool.flights c.args.which c.requires in
+    let to = c.from.ensures ∙ (c.record-flight.ensures at.0 at.1).to in
+    others_step _ _ _ _ (ap (option_map (λ (flight : Flight). flight.to)) at.1 ∙ ap Some (sym to)) i apart
+
+pub returns-clause-worlds : goal.returns-clause-worlds
+returns-clause-worlds g c quiet =
+    worlds_step _ _ _ _ c.index_mut.ensures.value (c.receive.ensures.world quiet)

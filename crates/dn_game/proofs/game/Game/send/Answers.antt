@@ -1,9 +1,10 @@
-use Rattle.std.proofs.Common.{length, inl, refl, ap, sym, ◌∙◌}
+use Rattle.std.proofs.Common.{[], append-nil, length, inl, refl, ap, sym, ◌∙◌}
 use Rattle.dn_machine.specs.declared.events.Done.{Done}
 use Rattle.dn_machine.specs.Worlds.{rules_of}
 use Rattle.dn_lockstep.specs.Giving.{aim_in}
 use Rattle.dn_lockstep.specs.Sent.{aim_of}
 use Rattle.dn_lockstep.proofs.Giving.{no_flight, some_given}
+use Rattle.dn_game.proofs.Framing.{others_step, worlds_step, sent_after}
 use Rattle.dn_game.proofs.Whose.{whose_step}
 use Rattle.dn_game.proofs.Sending.{sends_none, sends_packet, joins}
 use Rattle.dn_game.proofs.Standing.{node_at}
@@ -49,3 +50,21 @@ returns-in_default-packet_with_aim-clause-whose g c =
 pub returns-clause-whose : goal.returns-clause-whose
 returns-clause-whose g c =
     whose_step _ _ _ _ c.index_mut.ensures.value c.packet_with_aim.ensures.sent.2.same
+
+pub returns-in_default-packet_with_aim-clause-others : goal.returns-in_default-packet_with_aim-clause-others
+returns-in_default-packet_with_aim-clause-others g c i apart = others_step _ _ _ _ refl i apart
+
+pub returns-in_default-packet_with_aim-clause-worlds : goal.returns-in_default-packet_with_aim-clause-worlds
+returns-in_default-packet_with_aim-clause-worlds g c = worlds_step _ _ _ _ c.index_mut.ensures.value c.packet_with_aim.ensures.world
+
+pub returns-clause-others : goal.returns-clause-others
+returns-clause-others g c i apart = others_step _ _ _ _ refl i apart
+
+pub returns-clause-worlds : goal.returns-clause-worlds
+returns-clause-worlds g c = worlds_step _ _ _ _ c.index_mut.ensures.value c.packet_with_aim.ensures.world
+
+pub returns-in_default-packet_with_aim-clause-more : goal.returns-in_default-packet_with_aim-clause-more
+returns-in_default-packet_with_aim-clause-more g c = ([], c.in-Ok.ensures.kept ∙ sym (append-nil _))
+
+pub returns-clause-more : goal.returns-clause-more
+returns-clause-more g c = sent_after _ _ _ _ c.push.ensures.flights c.in-Ok.ensures.kept

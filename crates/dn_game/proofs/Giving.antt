@@ -1,0 +1,111 @@
+-- A node that did not start has the world that was given for it.
+use Rattle.std.proofs.Common.{◌≡◌, ◌≢◌, ◌⊎◌, ◌++◌, ℕ, zero, suc, List, [], ◌∷◌, Option, Some, None, Result, length, ap, sym, ◌∙◌, refl, inl, inr}
+use Rattle.std.specs.Prelude.{slice_get}
+use Rattle.std.specs.Option.{option_map}
+use Rattle.std.proofs.lemmas.Bool.{cases_eq}
+use Rattle.std.proofs.lemmas.Option.{none-some, same_Some, slice_get-map}
+use Rattle.dn_machine.specs.declared.events.Event.{Event}
+use Rattle.dn_machine.specs.declared.events.Event.TheVariants.{Build, Give, Send, Deliver, Run, Quit, Stop}
+use Rattle.dn_machine.specs.declared.events.Refusal.{Refusal}
+use Rattle.dn_machine.specs.Game.{Game}
+use Rattle.dn_machine.specs.Worlds.{Rules}
+use Rattle.dn_node.specs.declared.node.Node.{Node}
+use Rattle.dn_node.specs.Contents as node
+use Rattle.dn_seal.specs.declared.seal.Seal.{Seal}
+use Rattle.dn_open.specs.declared.open_event.OpenEvent.{OpenEvent}
+use Rattle.dn_open.specs.declared.open_event.OpenEvent.TheVariants.{Own, Arrive}
+use Rattle.dn_game.specs.declared.flight.Flight.{Flight}
+use Rattle.dn_game.specs.declared.open_done.OpenDone.{OpenDone}
+use Rattle.dn_game.specs.Contents.{Contents}
+use Rattle.dn_game.specs.Frame.{KeepsOthers, KeepsWorlds, MovesNoWorldOpen, named_in, named_in_open, named_by_open}
+use Rattle.dn_game.specs.Fresh.{worlds_of}
+use Rattle.dn_game.specs.Given.{NeverMoves}
+use Rattle.dn_game.specs.OpenPlayed.{PlaysOpen}
+
+-- this node is named, or it is not
+named_or : (o : Option ℕ) (i : ℕ) → (o ≡ Some i) ⊎ (o ≢ Some i)
+named_or None i = inr (λ e. none-some i e)
+named_or (Some k) i = elim (cases_eq k i) [
+  | inl e ↦ inl (ap Some e)
+  | inr n ↦ inr (λ e. n (same_Some k i e))
+]
+
+-- what stands in equal lists
+pub same_at : {X : Type 0} (xs ys : List X) (i : ℕ) → xs ≡ ys → slice_get xs i ≡ slice_get ys i
+same_at {X} xs ys i same = ap (λ (zs : List X). slice_get zs i) same
+
+module _ {X : Type 0} where
+  -- what stood in a list stands there when more follows
+  at_front : (xs more : List X) (k : ℕ) (x : X) → slice_get xs k ≡ Some x → slice_get (xs ++ more) k ≡ Some x
+  at_front [] more k x h = absurd (none-some x h)
+  at_front (y ∷ xs) more zero x h = h
+  at_front (y ∷ xs) more (suc k) x h = at_front xs more k x h
+
+  at_end : (xs : List X) (y : X) → slice_get (xs ++ y ∷ []) (length xs) ≡ Some y
+  at_end [] y = refl
+  at_end (x ∷ xs) y = at_end xs y
+
+receiver_stays : (flights more : List Flight) (which i : ℕ)
+    → option_map (λ (flight : Flight). flight.to) (slice_get flights which) ≡ Some i
+    → option_map (λ (flight : Flight). flight.to) (slice_get (flights ++ more) which) ≡ Some i
+receiver_stays [] more which i h = absurd (none-some i h)
+receiver_stays (f ∷ flights) more zero i h = h
+receiver_stays (f ∷ flights) more (suc which) i h = receiver_stays flights more which i h
+
+own_stays : (flights more : List Flight) (event : Event) (i : ℕ) → named_in flights event ≡ Some i
+    → named_in (flights ++ more) event ≡ Some i
+own_stays flights more (Build node keys) i h = h
+own_stays flights more (Give node command) i h = h
+own_stays flights more (Send node to) i h = h
+own_stays flights more (Deliver which) i h = receiver_stays flights more which i h
+own_stays flights more (Run node) i h = h
+own_stays flights more (Quit node) i h = h
+own_stays flights more (Stop node) i h = h
+
+-- who is named is named when more packets were sent
+named_stays : (flights more : List Flight) (event : OpenEvent) (i : ℕ) → named_in_open flights event ≡ Some i
+    → named_in_open (flights ++ more) event ≡ Some i
+named_stays flights more (Own event) i h = own_stays flights more event i h
+named_stays flights more (Arrive node bytes) i h = h
+
+-- each event has an answer
+as_many : {S : Type 0} (rules : Rules S) (seal : Seal) (events : List OpenEvent)
+    (answers : List (Result OpenDone Refusal)) (game last : Game) → PlaysOpen rules seal game events answers last
+    → length events ≡ length answers
+as_many rules seal [] [] game last way = refl
+as_many rules seal [] (a ∷ answers) game last way = absurd way
+as_many rules seal (e ∷ events) [] game last way = absurd way
+as_many rules seal (e ∷ events) (a ∷ answers) game last way =
+    ap suc (as_many rules seal events answers way.0 last way.2)
+
+module _ {W : Type 0} (old new : Contents W) (event : OpenEvent) (answer : Result OpenDone Refusal)
+    (others : KeepsOthers (named_by_open old event) old new) (quiet : MovesNoWorldOpen answer → KeepsWorlds old new)
+    (more : List Flight) (sent : new.flights ≡ old.flights ++ more) where
+  -- the world of a node that this event does not move
+  stays_at : (i : ℕ) → (named_by_open old event ≡ Some i → MovesNoWorldOpen answer)
+      → slice_get (worlds_of new.nodes) i ≡ slice_get (worlds_of old.nodes) i
+  stays_at i still =
+      let own = λ (n : Node W). (node.contents n).world in
+      elim (named_or (named_by_open old event) i) [
+        | inl is ↦ same_at _ _ i (quiet (still is))
+        | inr apart ↦ slice_get-map own new.nodes i ∙ ap (option_map own) (others i apart)
+            ∙ sym (slice_get-map own old.nodes i)
+      ]
+
+  -- one event more
+  pub given_more : {S : Type 0} (rules : Rules S) (seal : Seal) (game last : Game) (worlds : List W)
+      (events : List OpenEvent) (answers : List (Result OpenDone Refusal))
+      → PlaysOpen rules seal game events answers last
+      → ((i : ℕ) → NeverMoves old.flights i events answers
+      → slice_get (worlds_of old.nodes) i ≡ slice_get worlds i)
+      → (i : ℕ) → NeverMoves new.flights i (events ++ event ∷ []) (answers ++ answer ∷ [])
+      → slice_get (worlds_of new.nodes) i ≡ slice_get worlds i
+  given_more rules seal game last worlds events answers way before i never =
+      let later : (e : OpenEvent) → named_in_open old.flights e ≡ Some i → named_in_open new.flights e ≡ Some i =
+      λ e is. rw sent (named_stays old.flights more e i is) in
+      let last_answer : slice_get (answers ++ answer ∷ []) (length events) ≡ Some answer =
+      ap (slice_get (answers ++ answer ∷ [])) (as_many rules seal events answers game last way)
+      ∙ at_end answers answer in
+      stays_at i (λ is. never (length events) event answer (at_end events event) last_answer (later event is))
+      ∙ before i (λ k e a here answered is. never k e a (at_front events (event ∷ []) k e here)
+      (at_front answers (answer ∷ []) k a answered) (later e is))

@@ -1,0 +1,68 @@
+-- What an event leaves as it is.
+use Rattle.std.specs.Prelude.{◌≡◌, ◌≢◌, ◌++◌, ℕ, List, Option, Some, Result, Ok, map, slice_get}
+use Rattle.std.specs.Option.{option_map}
+use Rattle.dn_machine.specs.declared.answers.Heard.{Heard}
+use Rattle.dn_machine.specs.declared.answers.Ran.{Ran}
+use Rattle.dn_machine.specs.declared.events.Done.{Done}
+use Rattle.dn_machine.specs.declared.events.Event.{Event}
+use Rattle.dn_machine.specs.declared.events.Event.TheVariants.{Build, Give, Send, Deliver, Run, Quit, Stop}
+use Rattle.dn_machine.specs.declared.events.Refusal.{Refusal}
+use Rattle.dn_open.specs.declared.arrived.Arrived.{Arrived}
+use Rattle.dn_open.specs.declared.open_event.OpenEvent.{OpenEvent}
+use Rattle.dn_open.specs.declared.open_event.OpenEvent.TheVariants.{Own, Arrive}
+use Rattle.dn_node.specs.Contents as node
+use Rattle.dn_game.specs.declared.flight.Flight.{Flight}
+use Rattle.dn_game.specs.declared.open_done.OpenDone.{OpenDone}
+use Rattle.dn_game.specs.Contents.{Contents}
+use Rattle.dn_game.specs.Fresh.{worlds_of}
+
+-- the node that an event names; a delivery names the receiver of its packet
+abbrev pub named_in : List Flight → Event → Option ℕ
+named_in flights (Build node keys) = Some node
+named_in flights (Give node command) = Some node
+named_in flights (Send node to) = Some node
+named_in flights (Deliver which) = option_map (λ (flight : Flight). flight.to) (slice_get flights which)
+named_in flights (Run node) = Some node
+named_in flights (Quit node) = Some node
+named_in flights (Stop node) = Some node
+
+abbrev pub named_in_open : List Flight → OpenEvent → Option ℕ
+named_in_open flights (Own event) = named_in flights event
+named_in_open flights (Arrive node bytes) = Some node
+
+abbrev pub named_by : {W : Type 0} → Contents W → Event → Option ℕ
+named_by g event = named_in g.flights event
+
+abbrev pub named_by_open : {W : Type 0} → Contents W → OpenEvent → Option ℕ
+named_by_open g event = named_in_open g.flights event
+
+-- each node but the one that is named is as it was
+abbrev pub KeepsOthers : {W : Type 0} → Option ℕ → Contents W → Contents W → Type 0
+KeepsOthers named old new = (i : ℕ) → named ≢ Some i → slice_get new.nodes i ≡ slice_get old.nodes i
+
+-- each node has the very world that it had
+abbrev pub KeepsWorlds : {W : Type 0} → Contents W → Contents W → Type 0
+KeepsWorlds old new = worlds_of new.nodes ≡ worlds_of old.nodes
+
+-- an answer that tells of no node that began its world, and of none that may have taken it a tic further
+abbrev pub MovesNoWorld : Result Done Refusal → Type 0
+MovesNoWorld (Ok (Done.Heard heard)) = heard ≢ Heard.Started
+MovesNoWorld (Ok (Done.Ran (Ran.Waiting player))) = Unit {0}
+MovesNoWorld (Ok (Done.Ran Ran.NotPlaying)) = Unit {0}
+MovesNoWorld (Ok (Done.Ran ran)) = ⊥
+MovesNoWorld answer = Unit {0}
+
+abbrev pub MovesNoWorldOpen : Result OpenDone Refusal → Type 0
+MovesNoWorldOpen (Ok (OpenDone.Own done)) = MovesNoWorld (Ok done)
+MovesNoWorldOpen (Ok (OpenDone.Arrived (Arrived.Heard heard))) = heard ≢ Heard.Started
+MovesNoWorldOpen answer = Unit {0}
+
+-- the packets that were sent stay, and others may follow them
+abbrev pub KeepsFlights : {W : Type 0} → Contents W → Contents W → Type 0
+KeepsFlights old new = (more : List Flight) × (new.flights ≡ old.flights ++ more)
+
+-- each node holds what it held, the same have stopped, and no packet was sent
+pub record HoldsTheSame {W : Type 0} (old new : Contents W) : Type 0 where
+  pub nodes : map node.contents new.nodes ≡ map node.contents old.nodes
+  pub stopped : new.stopped ≡ old.stopped
+  pub flights : new.flights ≡ old.flights
