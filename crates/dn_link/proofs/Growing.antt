@@ -1,4 +1,4 @@
--- What a lockstep has of another player, with the player's end, never grows less.
+-- What a lockstep has of another player, with the player's end, never grows less; and one that has ended stays so.
 use Rattle.std.proofs.Common.{◌≡◌, ◌≢◌, ◌<◌, ◌≤◌, ℕ, Bool, true, false, List, [], ◌∷◌, refl, ap, sym, ◌∙◌, subst, arith, Some, All, inl, inr, ◌&&◌}
 use Rattle.std.specs.Prelude.{Ok, ◌==◌, slice_get}
 use Rattle.std.proofs.lemmas.Bool.{cases_lt, cond-false, lt-ltb, le-ltb, ne_eqb}
@@ -8,7 +8,7 @@ use Rattle.dn_machine.specs.Flight.{Flight, packet_of, is_close, is_request_clos
 use Rattle.dn_machine.specs.Limits.{Limits}
 use Rattle.dn_machine.specs.Hearing.{on_packet}
 use Rattle.dn_machine.specs.Node as machine
-use Rattle.dn_machine.specs.Node.{known_end, ends_of}
+use Rattle.dn_machine.specs.Node.{known_end, ends_of, has_left, is_ended}
 use Rattle.dn_machine.proofs.Put.{put_at}
 use Rattle.dn_lockstep.specs.Contents.{Contents, end_in}
 use Rattle.dn_lockstep.specs.Marking.{Marking}
@@ -28,13 +28,13 @@ use Rattle.dn_open.proofs.Alikes.{alike}
 use Rattle.dn_open.proofs.Deliveries.{near_if}
 use Rattle.dn_open.proofs.Fairness.{are_sealable}
 use Rattle.dn_link.specs.Bundles.{WasGiven}
-use Rattle.dn_link.specs.Counting.{has_of, with_end}
+use Rattle.dn_link.specs.Counting.{has_ended, has_of, with_end}
 use Rattle.dn_link.specs.Hearing.{ByTest, HearsUntil, HearsAll, is_start}
 use Rattle.dn_link.proofs.Holding.{Holds, held_of, holds_same, hear_holds}
 use Rattle.dn_link.proofs.Keeping.{LettersKeep, as_it_is, keeps_one, until_keeps}
 
 -- as the node that it represents
-has_is : (limits : Limits) (me : ℕ) (n : Contents) (m : machine.Node) → Represents limits me n m
+pub has_is : (limits : Limits) (me : ℕ) (n : Contents) (m : machine.Node) → Represents limits me n m
     → me < limits.players → (p : ℕ) → p ≢ me → p < limits.players → has_of n p ≡ held_of m p
 has_is limits me n m r mine p other below =
     let here : p < n.players = omega (arith, below, r.whose.players) in
@@ -43,24 +43,40 @@ has_is limits me n m r mine p other below =
     ∙ cond-false (p == me) _ _ (ne_eqb p me other) in
     rw (lt-ltb p n.players here) (λ i. with_end (count i) (end i))
 
-has_none : (n : Contents) (p : ℕ) → n.players ≤ p → has_of n p ≡ 0
+pub has_none : (n : Contents) (p : ℕ) → n.players ≤ p → has_of n p ≡ 0
 has_none n p past = rw (le-ltb p n.players past) refl
 
--- whoever has as much as a node has as much as a lockstep
+-- whoever has as much as a node has as much as a lockstep, and has ended, if it had
 abbrev pub HasAsMuch : ℕ → Contents → Contents → Type 0
-HasAsMuch me old new = (which : ℕ) → which ≢ me → has_of old which ≤ has_of new which
+HasAsMuch me old new =
+    ((which : ℕ) → which ≢ me → has_of old which ≤ has_of new which)
+    × (has_ended old ≡ true → has_ended new ≡ true)
+
+ended_is : (limits : Limits) (me : ℕ) (n : Contents) (m : machine.Node) → Represents limits me n m
+    → has_ended n ≡ has_left m
+ended_is limits me n m r = λ i. r.stands.played i && is_ended (r.stands.phase i)
+
+pub as_much : (me : ℕ) (n : Contents) → HasAsMuch me n n
+as_much me n = ((λ which other. omega arith), (λ ended. ended))
+
+pub much_on : (me : ℕ) (old mid new : Contents) → HasAsMuch me old mid → HasAsMuch me mid new → HasAsMuch me old new
+much_on me old mid new first later =
+    ((λ which other. omega (arith, first.0 which other, later.0 which other)), (λ ended. later.1 (first.1 ended)))
 
 pub grows : (limits : Limits) (me : ℕ) (old new : Contents) (m next : machine.Node) → Represents limits me old m
     → Represents limits me new next → me < limits.players → Holds m next → HasAsMuch me old new
-grows limits me old new m next before after mine holds which other = elim (cases_lt which limits.players) [
-  | inl below ↦ omega (
-    arith,
-    holds which,
-    has_is limits me old m before mine which other below,
-    has_is limits me new next after mine which other below,
-  )
-  | inr past ↦ omega (arith, has_none old which (omega (arith, past, before.whose.players)))
-]
+grows limits me old new m next before after mine holds = (
+  (λ which other. elim (cases_lt which limits.players) [
+    | inl below ↦ omega (
+      arith,
+      holds.0 which,
+      has_is limits me old m before mine which other below,
+      has_is limits me new next after mine which other below,
+    )
+    | inr past ↦ omega (arith, has_none old which (omega (arith, past, before.whose.players)))
+  ]),
+  (λ ended. ended_is limits me new next after ∙ holds.1 (sym (ended_is limits me old m before) ∙ ended)),
+)
 
 -- what is opened of a fair packet, by the tests that it passes or not
 opened_holds : (limits : Limits) (me : ℕ) (m : machine.Node) (flight : Flight) → IsFair flight
@@ -110,8 +126,8 @@ module _ (letters : LettersKeep) (marking : Marking) (limits : Limits) (settings
       → AreOneGame marking limits settings (at now) → All (WasGiven session.given player) packets
       → HearsUntil packets now new started → HasAsMuch player now new
   until_grows [] now new started game all hears =
-      subst (λ (n : Contents). HasAsMuch player now n) (sym hears.0) (λ which other. omega arith)
-  until_grows (packet ∷ packets) now new started game all (next, answer, hears, then) =
+      subst (λ (n : Contents). HasAsMuch player now n) (sym hears.0) (as_much player now)
+  until_grows (packet ∷ packets) now new started game all (next, answer, hears, spares, then) =
       let given = All-head (WasGiven session.given player) packet packets all in
       let first = one_grows packet now next answer game given hears in
       go (is_start answer) first (until_grows packets next new started
@@ -122,7 +138,7 @@ module _ (letters : LettersKeep) (marking : Marking) (limits : Limits) (settings
           → ByTest test ((new ≡ next) × (started ≡ true)) (HearsUntil packets next new started)
           → HasAsMuch player now new
       go true first later then = subst (λ (n : Contents). HasAsMuch player now n) (sym then.0) first
-      go false first later then = λ which other. omega (arith, first which other, later then which other)
+      go false first later then = much_on player now next new first (later then)
 
   pub all_grows : (packets : List Opened) (new : Contents) (started : Bool)
       → AreOneGame marking limits settings session → All (WasGiven session.given player) packets
@@ -141,6 +157,6 @@ module _ (letters : LettersKeep) (marking : Marking) (limits : Limits) (settings
           → HasAsMuch player (session.locksteps player) new
       go true one here then =
           let other = until_grows packets next new then.0 here all then.1 in
-          λ which apart. omega (arith, one which apart, other which apart)
+          much_on player (session.locksteps player) next new one other
       go false one here then =
           subst (λ (n : Contents). HasAsMuch player (session.locksteps player) n) (sym then) one

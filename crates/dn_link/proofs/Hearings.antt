@@ -3,7 +3,7 @@ use Rattle.std.proofs.Common.{◌≡◌, ◌<◌, ◌≤◌, ◌+◌, ◌*◌, �
 use Rattle.std.proofs.lemmas.List.{length-drop}
 use Rattle.dn_lockstep.specs.Contents.{Contents, whose}
 use Rattle.dn_seal.specs.declared.opened.Opened.{Opened}
-use Rattle.dn_open.specs.Arrivals.{HearsOpened}
+use Rattle.dn_open.specs.Arrivals.{HearsOpened, SparesSealed}
 use Rattle.dn_open.specs.declared.arrived.Arrived.{Arrived}
 use Rattle.dn_link.specs.declared.bundle.Run as run
 use Rattle.dn_link.specs.declared.bundle.Part.TheVariants.{Run}
@@ -17,23 +17,25 @@ LeadsOn packets old rest now =
 
 -- by what the first of the rest comes to
 pub goes_on : (packet : Opened) (rest : List Opened) (now next : Contents) (answer : Arrived) (test : Bool)
-    → HearsOpened packet now next answer → test ≡ is_start answer → test ≡ false
+    → HearsOpened packet now next answer → SparesSealed now next answer → test ≡ is_start answer → test ≡ false
     → LeadsOn (packet ∷ rest) now rest next
-goes_on packet rest now next answer test hears is no_so new started then = (
+goes_on packet rest now next answer test hears spares is no_so new started then = (
   next,
   answer,
   hears,
+  spares,
   subst (λ (b : Bool). ByTest b ((new ≡ next) × (started ≡ true)) (HearsUntil rest next new started))
       (sym no_so ∙ is) then,
 )
 
 pub stops_at : (packet : Opened) (rest : List Opened) (now next : Contents) (answer : Arrived) (test : Bool)
-    → HearsOpened packet now next answer → test ≡ is_start answer → test ≡ true
+    → HearsOpened packet now next answer → SparesSealed now next answer → test ≡ is_start answer → test ≡ true
     → HearsUntil (packet ∷ rest) now next true
-stops_at packet rest now next answer test hears is yes_so = (
+stops_at packet rest now next answer test hears spares is yes_so = (
   next,
   answer,
   hears,
+  spares,
   subst (λ (b : Bool). ByTest b ((next ≡ next) × (true ≡ true)) (HearsUntil rest next next true))
       (sym yes_so ∙ is) (refl, refl),
 )
@@ -59,6 +61,7 @@ module _ (from : ℕ) (part : run.Run) (old : Contents) (done start : ℕ) (rest
     (at : InRun from part old done start rest now) (below : done < length part.commands.items / 8)
     (next : Contents) (answer : Arrived) (test : Bool)
     (hears : HearsOpened (opened_from from (short_packet from start (take 8 rest))) now next answer)
+    (spares : SparesSealed now next answer)
     (is : test ≡ is_start answer) where
   pub run_goes_on : test ≡ false → InRun from part old (done + 1) ((start + 1) % 2 ^ 32) (drop 8 rest) next
   run_goes_on no_so = go at.left at.adds at.long at.on
@@ -73,7 +76,7 @@ module _ (from : ℕ) (part : run.Run) (old : Contents) (done start : ℕ) (rest
         long = omega (arith, length-drop 8 rest);
         on = λ new started then. on new started
             (goes_on (opened_from from (short_packet from start (take 8 rest)))
-            (short_packets left from ((start + 1) % 2 ^ 32) (drop 8 rest)) now next answer test hears is no_so new
+            (short_packets left from ((start + 1) % 2 ^ 32) (drop 8 rest)) now next answer test hears spares is no_so new
             started then);
       }
 
@@ -85,7 +88,7 @@ module _ (from : ℕ) (part : run.Run) (old : Contents) (done start : ℕ) (rest
           → HearsUntil (packets_of from (Run part)) old next true
       go zero adds on = absurd (omega arith)
       go (suc left) adds on = on next true (stops_at (opened_from from (short_packet from start (take 8 rest)))
-          (short_packets left from ((start + 1) % 2 ^ 32) (drop 8 rest)) now next answer test hears is yes_so)
+          (short_packets left from ((start + 1) % 2 ^ 32) (drop 8 rest)) now next answer test hears spares is yes_so)
 
 pub run_ends : (from : ℕ) (part : run.Run) (old : Contents) (done start : ℕ) (rest : List ℕ) (now : Contents)
     → InRun from part old done start rest now → length part.commands.items / 8 ≤ done
@@ -103,8 +106,8 @@ pub parts_go_on : (first rest : List Opened) (now next : Contents) → HearsUnti
     → LeadsOn (first ++ rest) now rest next
 parts_go_on [] rest now next hears new started then =
     subst (λ (n : Contents). HearsUntil rest n new started) hears.0 then
-parts_go_on (packet ∷ first) rest now next (one, answer, hears, then) new started more =
-    (one, answer, hears, go (is_start answer) (λ later. parts_go_on first rest one next later new started more) then)
+parts_go_on (packet ∷ first) rest now next (one, answer, hears, spares, then) new started more =
+    (one, answer, hears, spares, go (is_start answer) (λ later. parts_go_on first rest one next later new started more) then)
   where
     go : (test : Bool) → (HearsUntil first one next false → HearsUntil (first ++ rest) one new started)
         → ByTest test ((next ≡ one) × (false ≡ true)) (HearsUntil first one next false)
@@ -115,8 +118,8 @@ parts_go_on (packet ∷ first) rest now next (one, answer, hears, then) new star
 pub parts_stop : (first rest : List Opened) (now next : Contents) → HearsUntil first now next true
     → HearsUntil (first ++ rest) now next true
 parts_stop [] rest now next hears = absurd (cc)
-parts_stop (packet ∷ first) rest now next (one, answer, hears, then) =
-    (one, answer, hears, go (is_start answer) (parts_stop first rest one next) then)
+parts_stop (packet ∷ first) rest now next (one, answer, hears, spares, then) =
+    (one, answer, hears, spares, go (is_start answer) (parts_stop first rest one next) then)
   where
     go : (test : Bool) → (HearsUntil first one next true → HearsUntil (first ++ rest) one next true)
         → ByTest test ((next ≡ one) × (true ≡ true)) (HearsUntil first one next true)
@@ -128,7 +131,7 @@ parts_stop (packet ∷ first) rest now next (one, answer, hears, then) =
 until_same : (packets : List Opened) (old new : Contents) (started : Bool) → HearsUntil packets old new started
     → whose new ≡ whose old
 until_same [] old new started hears = ap whose hears.0
-until_same (packet ∷ packets) old new started (next, answer, hears, then) =
+until_same (packet ∷ packets) old new started (next, answer, hears, spares, then) =
     go (is_start answer) (until_same packets next new started) then
   where
     go : (test : Bool) → (HearsUntil packets next new started → whose new ≡ whose next)

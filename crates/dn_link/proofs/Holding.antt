@@ -1,5 +1,5 @@
--- What a node has of a player, with the player's end, never grows less.
-use Rattle.std.proofs.Common.{ℤ, ◌≤◌, ◌&&◌, ℕ, eqb, Bool, true, false, List, ◌++◌, length, ap, arith, Option, Some, None, inl, inr}
+-- What a node has of a player, with the player's end, never grows less; and one that has left stays so.
+use Rattle.std.proofs.Common.{ℤ, ◌≡◌, ◌≤◌, ◌&&◌, ℕ, eqb, refl, Bool, true, false, List, ◌++◌, length, ap, arith, Option, Some, None, inl, inr}
 use Rattle.std.proofs.lemmas.Bool.{cases_eq, cond_both}
 use Rattle.std.proofs.lemmas.List.{length-append}
 use Rattle.dn_tic.specs.declared.command.TicCmd.{TicCmd}
@@ -8,7 +8,7 @@ use Rattle.dn_machine.specs.declared.answers.Heard.{Heard}
 use Rattle.dn_machine.specs.declared.peer.Peer.{Peer}
 use Rattle.dn_machine.specs.Limits.{Limits}
 use Rattle.dn_machine.specs.Flight.{Flight, is_exit, end_of}
-use Rattle.dn_machine.specs.Node.{Node, put, with_peer, made, ends_of}
+use Rattle.dn_machine.specs.Node.{Node, put, with_peer, made, ends_of, has_left, is_ended}
 use Rattle.dn_machine.specs.Building.{on_build}
 use Rattle.dn_machine.specs.Sending.{after_sent, on_send}
 use Rattle.dn_machine.specs.Hearing.{is_within, after_request, after_exit, on_packet}
@@ -22,11 +22,25 @@ abbrev pub held_of : Node → ℕ → ℕ
 held_of node p = with_end (length (node.held p)) (ends_of node p)
 
 -- it has as much of each player as before
+abbrev HasMore : Node → Node → Type 0
+HasMore old new = (p : ℕ) → held_of old p ≤ held_of new p
+
+-- and has left, if it had
 abbrev pub Holds : Node → Node → Type 0
-Holds old new = (p : ℕ) → held_of old p ≤ held_of new p
+Holds old new = HasMore old new × (has_left old ≡ true → has_left new ≡ true)
 
 pub holds_same : (node : Node) → Holds node node
-holds_same node p = omega arith
+holds_same node = ((λ p. omega arith), (λ left. left))
+
+-- one that ends has left, if it had played
+played_ends : (played ended : Bool) → (played && ended) ≡ true → (played && true) ≡ true
+played_ends true ended left = refl
+played_ends false ended left = left
+
+-- one that plays has not left
+not_left : {A : Type 0} (played ended : Bool) → ended ≡ false → (played && ended) ≡ true → A
+not_left true ended goes_on left = absurd (cc)
+not_left false ended goes_on left = absurd (cc)
 
 more_counts : (one other : ℕ) (end : Option ℕ) → one ≤ other → with_end one end ≤ with_end other end
 more_counts one other None less = less
@@ -55,7 +69,7 @@ module _ (limits : Limits) (i : ℕ) (node : Node) where
   peer_holds : (player : ℕ) (peer : Peer) (held : ℕ → List TicCmd)
       → ((p : ℕ) → length (node.held p) ≤ length (held p))
       → Knows (node.peers player).end peer.end
-      → Holds node (record (with_peer node player peer) { held = held })
+      → HasMore node (record (with_peer node player peer) { held = held })
   peer_holds player peer held more known p = elim (cases_eq p player) [
     | inl e ↦
         let at = ap (λ (k : Peer). with_end (length (held p)) k.end) (put_at node.peers player p peer e) in
@@ -71,22 +85,25 @@ module _ (limits : Limits) (i : ℕ) (node : Node) where
   pub build_holds : (input : Input) → Holds node (on_build limits i node input).0
   build_holds input = build_cases limits i node (λ (new : Node). Holds node new) input
       (λ full. holds_same node)
-      (λ plays free p. more_counts _ _ (ends_of node p) (longer node.held i _ p))
+      (λ plays free. ((λ p. more_counts _ _ (ends_of node p) (longer node.held i _ p)), (λ left. left)))
 
   pub send_holds : (to : ℕ) → Holds node (on_send limits i node to).0
   send_holds to = send_cases limits i node (λ (r : Node × Option Flight). Holds node r.0) to
       (holds_same node) (λ other e. holds_same node) (λ other e. sent) (λ other left. sent)
     where
       sent : Holds node (after_sent limits i node to)
-      sent = peer_holds to _ node.held (λ p. omega arith) (λ count. omega arith)
+      sent = (peer_holds to _ node.held (λ p. omega arith) (λ count. omega arith), (λ left. left))
 
   pub run_holds : (marks : ℕ → ℤ) → Holds node (on_run limits node marks).0
   run_holds marks = run_cases limits i node marks (λ (new : Node). Holds node new)
-      (λ waits. holds_same node) (λ player plays none off p. omega arith) (λ plays none full p. omega arith)
-      (λ plays none free p. omega arith)
+      (λ waits. holds_same node)
+      (λ player plays none off. ((λ p. omega arith), played_ends node.played (is_ended node.phase)))
+      (λ plays none full. ((λ p. omega arith), played_ends node.played (is_ended node.phase)))
+      (λ plays none free. ((λ p. omega arith), (λ left. left)))
 
   pub quit_holds : Holds node (on_quit node).0
-  quit_holds = quit_cases limits i node (λ (new : Node). Holds node new) (holds_same node) (λ goes_on p. omega arith)
+  quit_holds = quit_cases limits i node (λ (new : Node). Holds node new) (holds_same node)
+      (λ goes_on. ((λ p. omega arith), played_ends node.played (is_ended node.phase)))
 
   request_known : (peer : Peer) (request : Option ℕ)
       → Knows peer.end (after_request limits.places (made i node) peer request).end
@@ -106,15 +123,19 @@ module _ (limits : Limits) (i : ℕ) (node : Node) where
       omega (arith, a, b)) in
       packet_cases limits i node flight (λ (r : Node × Heard). Holds node r.0) (record {
         dropped = λ number why. holds_same node;
-        starts = λ s e k p. omega arith;
-        completes = λ word e all p. omega arith;
-        notes = λ word e some p. omega arith;
+        starts = λ s e k. ((λ p. omega arith), not_left node.played (is_ended node.phase) (ap is_ended e));
+        completes = λ word e all.
+            ((λ p. omega arith), not_left node.played (is_ended node.phase) (ap is_ended e));
+        notes = λ word e some. ((λ p. omega arith), (λ left. left));
         commands = λ plays. record {
           dropped = λ number why. holds_same node;
-          stale = λ l. peer_holds flight.from _ node.held (λ p. omega arith) known;
-          gap = λ l. peer_holds flight.from _ node.held (λ p. omega arith) known;
-          takes = λ l m. peer_holds flight.from _ _ (longer node.held flight.from _) known;
+          stale = λ l. (peer_holds flight.from _ node.held (λ p. omega arith) known, (λ left. left));
+          gap = λ l. (peer_holds flight.from _ node.held (λ p. omega arith) known, (λ left. left));
+          takes = λ l m. (peer_holds flight.from _ _ (longer node.held flight.from _) known, (λ left. left));
         };
-        requests = λ ended. peer_holds flight.from _ node.held (λ p. omega arith)
-            (request_known (node.peers flight.from) flight.request);
+        requests = λ ended. (
+          peer_holds flight.from _ node.held (λ p. omega arith)
+              (request_known (node.peers flight.from) flight.request),
+          (λ left. left),
+        );
       })

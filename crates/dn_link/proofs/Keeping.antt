@@ -62,7 +62,7 @@ module _ (letters : LettersKeep) (marking : Marking) (limits : Limits) (settings
       → HearsUntil packets now new started → AreOneGame marking limits settings (at new)
   until_keeps [] now new started game all hears =
       subst (λ (n : Contents). AreOneGame marking limits settings (at n)) (sym hears.0) game
-  until_keeps (packet ∷ packets) now new started game all (next, answer, hears, then) =
+  until_keeps (packet ∷ packets) now new started game all (next, answer, hears, spares, then) =
       go (is_start answer) (until_keeps packets next new started
       (keeps_one packet now next answer game (All-head (WasGiven session.given player) packet packets all) hears)
       (All-tail (WasGiven session.given player) packet packets all))

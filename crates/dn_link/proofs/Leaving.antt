@@ -1,7 +1,8 @@
--- Who may leave is needed by nobody who has not left.
-use Rattle.std.proofs.Common.{◌≡◌, ◌≢◌, ◌<◌, ◌≤◌, ◌+◌, ℕ, zero, suc, Bool, true, false, refl, ap, sym, ◌∙◌, arith, Option, Some, None, ◌&&◌}
-use Rattle.std.specs.Prelude.{◌==◌, is_some, nat_le, slice_index}
-use Rattle.std.proofs.lemmas.Bool.{lt-ltb, lt-leb, ltb-true, ne_eqb}
+-- Who may leave is needed by nobody who has not left, and what is acknowledged is there.
+use Rattle.std.proofs.Common.{◌≡◌, ◌≢◌, ◌<◌, ◌≤◌, ◌+◌, ◌-◌, ℕ, zero, suc, Bool, true, false, refl, ap, sym, ◌∙◌, arith, Option, Some, None, ◌&&◌, ◌||◌}
+use Rattle.std.specs.Prelude.{◌==◌, if◌then◌else◌, is_some, min, nat_lt, slice_index}
+use Rattle.std.proofs.lemmas.Bool.{lt-ltb, ltb-true, ne_eqb}
+use Rattle.std.proofs.lemmas.Option.{none-some}
 use Rattle.dn_setup.specs.Settings.{Settings}
 use Rattle.dn_machine.specs.Limits.{Limits}
 use Rattle.dn_lockstep.specs.Agreed.{AreAgreed}
@@ -10,16 +11,27 @@ use Rattle.dn_lockstep.specs.Marking.{Marking}
 use Rattle.dn_lockstep.specs.Rings.{count_of}
 use Rattle.dn_lockstep.specs.Session.{Session}
 use Rattle.dn_lockstep.specs.Told.{got, made}
-use Rattle.dn_link.specs.Counting.{has_of, with_end}
-use Rattle.dn_link.specs.Linked.{Linked, may_leave, needs_nothing}
+use Rattle.dn_link.specs.declared.presence.Presence.{Presence}
+use Rattle.dn_link.specs.declared.presence.Presence.TheVariants.{Unknown, There, Playing, Different, Away, Left, Forgotten}
+use Rattle.dn_link.specs.Counting.{has_ended, has_of, with_end}
+use Rattle.dn_link.specs.Linked.{Linked, certain, is_out, may_leave, needs_nothing, never_played, none_needs}
 use Rattle.dn_link.specs.LinkedGame.{AreLinked}
+use Rattle.dn_link.specs.Presence.{has_gone, has_left}
+use Rattle.dn_link.proofs.Lefts.{unended}
+
+clash : {A : Type 0} {test : Bool} → test ≡ true → test ≡ false → A
+clash one other = absurd (cc)
 
 and_both : (a b : Bool) → (a && b) ≡ true → (a ≡ true) × (b ≡ true)
 and_both true b e = (refl, e)
 and_both false b e = absurd (cc)
 
+or_other : (a b : Bool) → a ≡ false → (a || b) ≡ true → b ≡ true
+or_other true b out e = absurd (cc)
+or_other false b out e = e
+
 -- each of the four
-each_needs : (link : Linked) → may_leave link ≡ true → (other : ℕ) → other < 4 → needs_nothing link other ≡ true
+each_needs : (link : Linked) → none_needs link ≡ true → (other : ℕ) → other < 4 → needs_nothing link other ≡ true
 each_needs link all other few =
     let one = and_both (needs_nothing link 0) _ all in
     let two = and_both (needs_nothing link 1) _ one.1 in
@@ -40,9 +52,20 @@ both_there : (count all : ℕ) (end : Option ℕ) → all + 1 ≤ with_end count
 both_there count all None more few = absurd (omega (arith, more, few))
 both_there count all (Some end) more few = (omega (arith, more, few), refl)
 
+min_first : (a b bound : ℕ) → a ≤ bound → min a b ≤ bound
+min_first a b bound less = grind (arith, less)
+
+-- a count that is no larger than what is there, with the end where that is known to both
+at_most_there : (test : Bool) (count all there : ℕ) (end : Option ℕ) → count ≤ with_end there end
+    → (is_some end ≡ true → test ≡ true) → min (if test then count - 1 else count) all ≤ there
+at_most_there true count all there None few known = min_first (count - 1) all there (omega (arith, few))
+at_most_there true count all there (Some end) few known = min_first (count - 1) all there (omega (arith, few))
+at_most_there false count all there None few known = min_first count all there few
+at_most_there false count all there (Some end) few known = absurd (let so = known refl in cc)
+
 module _ (marking : Marking) (limits : Limits) (settings : Settings) (session : Session) (links : ℕ → Linked)
     (player other : ℕ) (linked : AreLinked marking limits settings session links)
-    (agreed : AreAgreed limits settings session.inputs session.locksteps) (few : limits.players ≤ 4)
+    (agreed : AreAgreed limits settings session.inputs session.locksteps)
     (mine : player < limits.players) (below : other < limits.players) (apart : other ≢ player) where
   abbrev link : Linked
   link = links player
@@ -51,28 +74,77 @@ module _ (marking : Marking) (limits : Limits) (settings : Settings) (session : 
   node = linked.nodes player mine
 
   -- it has told that it has one more than all
-  has_told : needs_nothing link other ≡ true → end_in link.node other ≡ None → (link.peers other).left ≡ false
-      → made link.node < slice_index (link.peers other).told link.node.me
+  has_told : needs_nothing link other ≡ true → end_in link.node other ≡ None
+      → is_out link other ≡ false
+      → made link.node < slice_index (link.peers other).reported link.node.me
   has_told needs stays here =
       let number : link.node.me ≡ player = ap (λ (n : Contents). n.me) node ∙ agreed.numbers player mine in
       let count : link.node.players ≡ limits.players =
       ap (λ (n : Contents). n.players) node ∙ agreed.several player mine in
-      let in_game : nat_le link.node.players other ≡ false = lt-leb link.node.players other (omega (arith, below, count)) in
+      let in_game : nat_lt other link.node.players ≡ true = lt-ltb other link.node.players (omega (arith, below, count)) in
       let another : (other == link.node.me) ≡ false = ne_eqb other link.node.me (λ e. apart (e ∙ number)) in
       let unknown : is_some (end_in link.node other) ≡ false = ap is_some stays in
-      ltb-true (made link.node) (slice_index (link.peers other).told link.node.me)
-      (sym (rw (unknown, in_game, another, here) refl) ∙ needs)
+      ltb-true (made link.node) (slice_index (link.peers other).reported link.node.me)
+      (sym (rw (in_game, unknown, another, here) refl) ∙ needs)
 
-  pub leaves : may_leave link ≡ true → end_in link.node other ≡ None → (link.peers other).left ≡ false
+  own : link.node.me ≡ player
+  own = ap (λ (n : Contents). n.me) node ∙ agreed.numbers player mine
+
+  -- what the other knows to be the end is the end
+  ends : (end : Option ℕ) → end_in (session.locksteps other) player ≡ end → is_some end ≡ true
+      → is_some (end_in link.node link.node.me) ≡ true
+  ends None is known = absurd (cc)
+  ends (Some end) is known =
+      ap is_some ((λ i. end_in (node i) (own i)) ∙ (agreed.ends other player end below mine is).0)
+
+  pub acknowledged : certain link.node (slice_index (link.peers other).reported link.node.me)
+      ≤ got (session.locksteps other) player
+  acknowledged =
+      let n = session.locksteps other in
+      let is = linked.reported player other player mine (λ e. apart (sym e)) in
+      let same = ap (λ (k : ℕ). slice_index (link.peers other).reported k) own in
+      let has : has_of n player ≡ with_end (count_of n.rings player) (end_in n player) =
+      rw (lt-ltb player n.players (omega (arith, mine, agreed.several other below))) refl in
+      at_most_there (is_some (end_in link.node link.node.me)) (slice_index (link.peers other).reported link.node.me)
+      (made link.node) (count_of n.rings player) (end_in n player) (omega (arith, is, same, has))
+      (ends (end_in n player) refl)
+
+  -- it knows no end of one that has not ended
+  goes_on : has_ended (session.locksteps other) ≡ false → end_in link.node other ≡ None
+  goes_on here = go (end_in link.node other) refl
+    where
+      go : (end : Option ℕ) → end_in link.node other ≡ end → end_in link.node other ≡ None
+      go None is = is
+      go (Some end) is =
+          let known = agreed.ends player other end mine below (ap (λ (n : Contents). end_in n other) (sym node) ∙ is) in
+          absurd (none-some end (sym (unended (session.locksteps other) other (agreed.numbers other below) here)
+          ∙ known.0))
+
+  -- nor takes it to have left
+  stays : has_ended (session.locksteps other) ≡ false → (link.peers other).presence ≢ Forgotten
+      → has_left (link.peers other).presence ≡ false
+  stays here remembered = go (link.peers other).presence refl
+    where
+      go : (presence : Presence) → (link.peers other).presence ≡ presence → has_left presence ≡ false
+      go (Left cause) is = clash (linked.left player other cause mine is) here
+      go Forgotten is = absurd (remembered is)
+      go Unknown is = refl
+      go There is = refl
+      go Playing is = refl
+      go (Different identity) is = refl
+      go (Away cause) is = refl
+
+  leaves : limits.players ≤ 4 → may_leave link ≡ true → never_played link.node ≡ false → end_in link.node other ≡ None
+      → is_out link other ≡ false
       → (got (session.locksteps other) player ≡ made (session.locksteps player))
       × (end_in (session.locksteps other) player ≡ Some (made (session.locksteps player)))
-  leaves all stays here =
-      let needs = each_needs link all other (omega (arith, few, below)) in
+  leaves few all played stays here =
+      let needs = each_needs link (or_other (never_played link.node) (none_needs link) played all) other (omega (arith, few, below)) in
       let told = has_told needs stays here in
       let number : link.node.me ≡ player = ap (λ (n : Contents). n.me) node ∙ agreed.numbers player mine in
       let n = session.locksteps other in
-      let is = linked.told player other player mine (λ e. apart (sym e)) in
-      let same = ap (λ (k : ℕ). slice_index (link.peers other).told k) number in
+      let is = linked.reported player other player mine (λ e. apart (sym e)) in
+      let same = ap (λ (k : ℕ). slice_index (link.peers other).reported k) number in
       let count = ap made node in
       let held = agreed.held other player below mine in
       let has : has_of n player ≡ with_end (count_of n.rings player) (end_in n player) =
@@ -85,3 +157,11 @@ module _ (marking : Marking) (limits : Limits) (settings : Settings) (session : 
           → end_in (session.locksteps other) player ≡ Some (made (session.locksteps player))
       end_known None known is = absurd (cc)
       end_known (Some end) known is = is ∙ ap Some (agreed.ends other player end below mine is).1
+
+  pub safe : limits.players ≤ 4 → may_leave link ≡ true → never_played link.node ≡ false
+      → has_ended (session.locksteps other) ≡ false → (link.peers other).presence ≢ Forgotten
+      → has_gone (link.peers 0).presence ≡ false
+      → (got (session.locksteps other) player ≡ made (session.locksteps player))
+      × (end_in (session.locksteps other) player ≡ Some (made (session.locksteps player)))
+  safe few all played here remembered key =
+      leaves few all played (goes_on here) (λ i. stays here remembered i || key i)

@@ -6,11 +6,16 @@ pub mod Wholes
 pub mod Openings
 pub mod Hearings
 pub mod Keeping
+pub mod Tight
 pub mod Packings
 pub mod Carrying
 pub mod Linked
 pub mod Relinking
+pub mod Lefts
 pub mod Linking
 pub mod Holding
 pub mod Growing
 pub mod Leaving
+pub mod Places
+pub mod Unplayed
+pub mod Empty

@@ -14,9 +14,10 @@ use Rattle.dn_link.specs.declared.bundle.Part.TheVariants.{Whole, Run}
 use Rattle.dn_link.specs.declared.bundle.Run as run
 use Rattle.dn_link.specs.declared.packing.Packing.{Packing}
 use Rattle.dn_link.specs.Packets.{opened_from, packets_of, short_packet, short_packets}
-use Rattle.dn_link.specs.Packing.{ArePacked, IsOpenRun, IsPacking, packed}
+use Rattle.dn_link.specs.Packing.{ArePacked, IsOpenRun, IsPacking, IsTight, packed, part_of}
 use Rattle.dn_link.specs.Text.{IsCarried, IsPart, part_bytes, parts_bytes}
 use Rattle.dn_link.proofs.Packets.{length-carried}
+use Rattle.dn_link.proofs.Tight.{IsClosed, closed}
 
 -- parts with one more
 pub pushed_bytes : (parts : List Part) (part : Part)
@@ -178,13 +179,15 @@ pub record InPacking (from : ℕ) (packets : List Carried) (p : Packing) (rest :
   pub done : List Carried
   pub split : packets ≡ done ++ rest
   pub told : packed from p ≡ map (opened_from from) done
+  pub tight : IsTight from p
 
 module _ (from : ℕ) (packets : List Carried) (p : Packing) (rest : List Carried)
     (at : InPacking from packets p rest) where
   pub packs_on : (q : Packing) (packet : Carried) (after : List Carried) → rest ≡ packet ∷ after
       → IsPacking q → length q.parts.items ≤ 23
-      → packed from q ≡ packed from p ++ opened_from from packet ∷ [] → InPacking from packets q after
-  packs_on q packet after next fits parts more =
+      → packed from q ≡ packed from p ++ opened_from from packet ∷ [] → IsTight from q
+      → InPacking from packets q after
+  packs_on q packet after next fits parts more tight =
       record {
         fits = fits;
         parts = parts;
@@ -193,25 +196,30 @@ module _ (from : ℕ) (packets : List Carried) (p : Packing) (rest : List Carrie
             ∙ sym (append_assoc at.done (packet ∷ []) after);
         told = more ∙ ap (λ (ps : List Opened). ps ++ opened_from from packet ∷ []) at.told
             ∙ sym (map-append (opened_from from) at.done (packet ∷ []));
+        tight = tight;
       }
 
   -- the run is ended, and no packet is left, or there is no room
   pub packs_all : (q : Packing) → q.run.commands.items ≡ [] → packed from q ≡ packed from p
-      → (1 ≤ length rest → length q.parts.items < 22 → 998 < length (parts_bytes q.parts.items))
+      → q.parts.items ≡ p.parts.items ++ part_of p.run
+      → (1 ≤ length rest → length q.parts.items < 22 → 1118 < length (parts_bytes q.parts.items) + (5 + 115))
       → ArePacked from packets q.parts.items
-  packs_all q none same all =
+  packs_all q none same now all =
       let count = ap (length {A = Carried}) at.split in
       let both = length-append at.done rest in
       let empty : packets_of from (Run q.run) ≡ [] =
       ap (λ (cs : List ℕ). short_packets (length cs / 8) from q.run.start cs) none in
       let parts = sym (append-nil (flat_map (packets_of from) q.parts.items))
       ∙ ap (λ (ps : List Opened). flat_map (packets_of from) q.parts.items ++ ps) (sym empty) in
+      let end = subst (IsClosed from) (sym now) (closed from p at.tight) in
       record {
         count = length at.done;
         some = omega (arith, count, both);
         front = parts ∙ same ∙ at.told ∙ sym (take-map at.done)
             ∙ ap (λ (ps : List Carried). take (length at.done) (map (opened_from from) ps)) (sym at.split);
         all = λ more few. all (omega (arith, count, both, more)) few;
+        needed = end.needed;
+        ended = end.ended;
       }
     where
       take-map : (done : List Carried)

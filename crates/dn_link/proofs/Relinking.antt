@@ -23,7 +23,8 @@ use Rattle.dn_link.specs.Bundles.{WasGiven}
 use Rattle.dn_link.specs.Giving.{carried_of}
 use Rattle.dn_link.specs.Kept.{Unacknowledged, going, is_news, kept_after, without, end_of}
 use Rattle.dn_link.specs.Linked.{Linked}
-use Rattle.dn_link.specs.Counting.{has_of}
+use Rattle.dn_link.specs.Counting.{has_ended, has_of}
+use Rattle.dn_link.specs.declared.presence.Presence.TheVariants.{Left}
 use Rattle.dn_link.specs.LinkedGame.{AreLinked, IsLater}
 use Rattle.dn_link.specs.Packets.{opened_from, packets_of, packets_in}
 use Rattle.dn_link.specs.Packing.{ArePacked}
@@ -76,7 +77,8 @@ without_given given from to count (packet ∷ packets) all =
 
 -- the packet of the moment, and what goes to the peer and is kept
 module _ (given : List Flight) (flight : Option Flight) (from to : ℕ) (kept : Unacknowledged) (packet : Option Carried)
-    (between : GoesBetween from to flight) (is : packet ≡ option_map carried_of flight)
+    (between : GoesBetween from to flight)
+    (is : (carried : Carried) → packet ≡ Some carried → Some carried ≡ option_map carried_of flight)
     (all : AreGiven given from to kept.packets) where
   abbrev P : Carried → Type 0
   P packet = WasGiven (given_on given flight) to (opened_from from packet)
@@ -92,7 +94,7 @@ module _ (given : List Flight) (flight : Option Flight) (from to : ℕ) (kept : 
   moment None e = all_stay given flight from to kept.packets all
   moment (Some carried) e =
       All-append P kept.packets (carried ∷ []) (all_stay given flight from to kept.packets all)
-      (All-cons P carried [] (it_is flight carried between (e ∙ is)) (All-nil P))
+      (All-cons P carried [] (it_is flight carried between (is carried (sym e))) (All-nil P))
 
   pub goes_given : AreGiven (given_on given flight) from to (going kept packet)
   goes_given = moment packet refl
@@ -150,12 +152,17 @@ later_by session later player new locksteps given much =
             let now = ap (λ (f : ℕ → Contents). has_of (f other) which) locksteps
             ∙ ap (λ (n : Contents). has_of n which) (put_at session.locksteps player other new at) in
             let was = ap (λ (k : ℕ). has_of (session.locksteps k) which) at in
-            let more = much which (subst (λ (k : ℕ). which ≢ k) at apart) in
+            let more = much.0 which (subst (λ (k : ℕ). which ≢ k) at apart) in
             omega (arith, now, was, more)
         | inr off ↦
             let now = ap (λ (f : ℕ → Contents). has_of (f other) which) locksteps
             ∙ ap (λ (n : Contents). has_of n which) (put_off session.locksteps player other new off) in
             omega (arith, now)
+      ];
+      ended = λ other was. ap (λ (f : ℕ → Contents). has_ended (f other)) locksteps ∙ elim (cases_eq other player) [
+        | inl at ↦ ap has_ended (put_at session.locksteps player other new at)
+            ∙ much.1 (ap (λ (k : ℕ). has_ended (session.locksteps k)) (sym at) ∙ was)
+        | inr off ↦ ap has_ended (put_off session.locksteps player other new off) ∙ was
       ];
     }
 
@@ -166,9 +173,10 @@ pub relinked : (marking : Marking) (limits : Limits) (settings : Settings) (sess
     → IsLater session later
     → ((peer : ℕ) → AreGiven later.given player peer (new.peers peer).kept.packets)
     → ((peer which : ℕ) → which ≢ peer
-    → slice_index (new.peers peer).told which ≤ has_of (later.locksteps peer) which)
+    → slice_index (new.peers peer).reported which ≤ has_of (later.locksteps peer) which)
+    → ((peer cause : ℕ) → (new.peers peer).presence ≡ Left cause → has_ended (later.locksteps peer) ≡ true)
     → AreLinked marking limits settings later (put links player new)
-relinked marking limits settings session later links player new linked game locksteps is kept told =
+relinked marking limits settings session later links player new linked game locksteps is kept told left =
     record {
       game = game;
       nodes = λ other below. elim (cases_eq other player) [
@@ -186,12 +194,18 @@ relinked marking limits settings session later links player new linked game lock
             (all_later session.given later.given is.given other peer ((links other).peers peer).kept.packets
             (linked.kept other peer below))
       ];
-      told = λ other peer which below apart. elim (cases_eq other player) [
-        | inl at ↦ subst (λ (l : Linked). slice_index (l.peers peer).told which ≤ has_of (later.locksteps peer) which)
+      reported = λ other peer which below apart. elim (cases_eq other player) [
+        | inl at ↦ subst (λ (l : Linked). slice_index (l.peers peer).reported which ≤ has_of (later.locksteps peer) which)
             (sym (put_at links player other new at)) (told peer which apart)
-        | inr off ↦ subst (λ (l : Linked). slice_index (l.peers peer).told which ≤ has_of (later.locksteps peer) which)
+        | inr off ↦ subst (λ (l : Linked). slice_index (l.peers peer).reported which ≤ has_of (later.locksteps peer) which)
             (sym (put_off links player other new off))
-            (still (linked.told other peer which below apart) (is.got peer which apart))
+            (still (linked.reported other peer which below apart) (is.got peer which apart))
+      ];
+      left = λ other peer cause below. elim (cases_eq other player) [
+        | inl at ↦ subst (λ (l : Linked). (l.peers peer).presence ≡ Left cause → has_ended (later.locksteps peer) ≡ true)
+            (sym (put_at links player other new at)) (left peer cause)
+        | inr off ↦ subst (λ (l : Linked). (l.peers peer).presence ≡ Left cause → has_ended (later.locksteps peer) ≡ true)
+            (sym (put_off links player other new off)) (λ was. is.ended peer (linked.left other peer cause below was))
       ];
     }
   where

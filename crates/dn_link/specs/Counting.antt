@@ -1,5 +1,6 @@
 -- How far a lockstep is.
-use Rattle.std.specs.Prelude.{ℕ, ◌+◌, nat_lt, if◌then◌else◌, [], ◌∷◌, Option, Some, None}
+use Rattle.std.specs.Prelude.{ℕ, ◌+◌, ◌&&◌, nat_lt, if◌then◌else◌, Bool, [], ◌∷◌, Option, Some, None}
+use Rattle.dn_machine.specs.Node.{is_ended}
 use Rattle.dn_lockstep.specs.Contents.{Contents, end_in}
 use Rattle.dn_lockstep.specs.Rings.{count_of}
 use Rattle.dn_lockstep.specs.Told.{made}
@@ -14,6 +15,10 @@ with_end count (Some end) = count + 1
 abbrev pub has_of : Contents → ℕ → ℕ
 has_of n player =
     if nat_lt player n.players then with_end (count_of n.rings player) (end_in n player) else 0
+
+-- it has played, and has ended
+abbrev pub has_ended : Contents → Bool
+has_ended n = n.played && is_ended n.phase
 
 abbrev pub counts_of : Contents → Counts
 counts_of n =

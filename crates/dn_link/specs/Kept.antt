@@ -1,6 +1,8 @@
 -- The packets that a peer has not acknowledged.
-use Rattle.std.specs.Prelude.{ℕ, ◌+◌, ◌-◌, ◌/◌, ◌&&◌, nat_lt, nat_le, if◌then◌else◌, Bool, List, [], ◌∷◌, ◌++◌, length, max, Option, Some, None}
+use Rattle.std.specs.Prelude.{ℕ, ◌+◌, ◌-◌, ◌/◌, ◌&&◌, ◌==◌, nat_lt, nat_le, if◌then◌else◌, Bool, not, true, false, List, [], ◌∷◌, ◌++◌, length, slice_index, max, Option, Some, None, is_none}
 use Rattle.dn_link.specs.declared.bundle.Carried.{Carried}
+use Rattle.dn_link.specs.declared.presence.Presence.{Presence}
+use Rattle.dn_link.specs.declared.presence.Presence.TheVariants.{Playing, Left, Forgotten}
 
 -- how many commands a packet has, behind its head of eight bytes, and the tic after the last of them
 abbrev pub commands_in : Carried → ℕ
@@ -8,6 +10,23 @@ commands_in packet = (length packet.datagram.items - 8) / 8
 
 abbrev pub end_of : Carried → ℕ
 end_of packet = packet.start + commands_in packet
+
+-- it has no command, asks for nothing, and has no flag, which would stand in the high bits of its fourth byte
+abbrev pub is_idle : Carried → Bool
+is_idle packet =
+    commands_in packet == 0 && (is_none packet.ask && nat_lt (slice_index packet.datagram.items 3) 16)
+
+-- a peer takes no packet once it has played and left. One that is idle tells that this player has started, which only a
+-- peer needs that has not
+abbrev pub takes_packet : Presence → Carried → Bool
+takes_packet (Left cause) packet = false
+takes_packet Playing packet = not (is_idle packet)
+takes_packet Forgotten packet = not (is_idle packet)
+takes_packet presence packet = true
+
+abbrev pub taken_by : Presence → Option Carried → Option Carried
+taken_by presence None = None
+taken_by presence (Some packet) = if takes_packet presence packet then Some packet else None
 
 -- the packets to one peer that it has not acknowledged, oldest first, and how many commands they and those before
 -- them cover

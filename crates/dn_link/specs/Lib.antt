@@ -12,3 +12,15 @@ pub mod Keeping
 pub mod Hearing
 pub mod Bundles
 pub mod LinkedGame
+pub mod Line
+pub mod Leaning
+pub mod Stretching
+pub mod Lines
+pub mod Pace
+pub mod Pacing
+pub mod Places
+pub mod Paced
+pub mod Presence
+pub mod Ends
+pub mod Tally
+pub mod Figures

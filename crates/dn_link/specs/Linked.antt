@@ -1,6 +1,8 @@
 -- What a link keeps, and what its calls do.
-use Rattle.std.specs.Prelude.{◌≡◌, ℕ, pos, ◌+◌, ◌-◌, ◌%◌, ◌^◌, ◌==◌, ◌&&◌, ◌||◌, if◌then◌else◌, nat_lt, nat_le, min, max, Bool, not, List, [], ◌∷◌, slice_index, Option, is_some, Result, Ok, Err}
-use Rattle.dn_machine.specs.Node.{put}
+use Rattle.std.specs.Prelude.{◌≡◌, ℕ, ◌+◌, ◌-◌, ◌%◌, ◌^◌, ◌==◌, ◌&&◌, ◌||◌, if◌then◌else◌, nat_lt, min, max, Bool, not, List, [], ◌∷◌, slice_index, Option, is_none, is_some, None, true, false, Result, Ok, Err}
+use Rattle.dn_machine.specs.declared.answers.Phase.{Phase}
+use Rattle.dn_machine.specs.declared.answers.Phase.TheVariants.{Gathering}
+use Rattle.dn_machine.specs.Node.{is_ended, put}
 use Rattle.dn_lockstep.specs.Contents.{Contents, end_in}
 use Rattle.dn_lockstep.specs.Told.{made}
 use Rattle.dn_seal.specs.declared.seal.Seal.{Seal}
@@ -8,24 +10,31 @@ use Rattle.dn_open.specs.Sealed.{sealing_of}
 use Rattle.dn_link.specs.declared.bundle.Bundle.{Bundle}
 use Rattle.dn_link.specs.declared.bundle.BundleFault.{BundleFault}
 use Rattle.dn_link.specs.declared.bundle.Carried.{Carried}
-use Rattle.dn_link.specs.declared.bundle.Message.TheVariants.{Game}
+use Rattle.dn_link.specs.declared.bundle.Identity.{Identity}
+use Rattle.dn_link.specs.declared.presence.Presence.{Presence}
+use Rattle.dn_link.specs.declared.presence.Presence.TheVariants.{Left}
 use Rattle.dn_link.specs.declared.received.Received.{Received}
-use Rattle.dn_link.specs.declared.received.Received.TheVariants.{Unopened, Stranger, Heard}
+use Rattle.dn_link.specs.declared.received.Received.TheVariants.{Unopened, Stranger, Different, Heard}
 use Rattle.dn_link.specs.Reading.{IsBundledAs}
 use Rattle.dn_link.specs.Counting.{counts_of}
 use Rattle.dn_link.specs.Giving.{SendsCarried}
 use Rattle.dn_link.specs.Hearing.{ByTest, HearsAll}
-use Rattle.dn_link.specs.Kept.{Unacknowledged, acknowledged, going, kept_after}
+use Rattle.dn_link.specs.Kept.{Unacknowledged, acknowledged, going, kept_after, taken_by}
+use Rattle.dn_link.specs.Line.{missing}
+use Rattle.dn_link.specs.Paced.{PaceState}
 use Rattle.dn_link.specs.Packets.{packets_in}
 use Rattle.dn_link.specs.Packing.{ArePacked}
+use Rattle.dn_link.specs.Presence.{Becomes, Differs, given_up, has_gone, has_left, is_fresh, is_there, message_of, still_given}
 use Rattle.dn_link.specs.Text.{IsBundle, sealed_bytes}
 
 -- what it keeps of a peer: the packets that the peer has not acknowledged, the most that the peer's datagrams told that
--- it has of each of four players, whether they told that it has left, and the number of the next datagram to it
+-- it has of each of four players, whether it is there, whether it was given the settings, and the number of the
+-- next datagram to it
 pub record PeerState : Type 0 where
   pub kept : Unacknowledged
-  pub told : List ℕ
-  pub left : Bool
+  pub reported : List ℕ
+  pub presence : Presence
+  pub gave : Bool
   pub number : ℕ
 
 pub record Linked : Type 0 where
@@ -36,23 +45,49 @@ pub record Linked : Type 0 where
 abbrev pub is_peer : Contents → ℕ → Bool
 is_peer n player = nat_lt player n.players && not (player == n.me)
 
--- a datagram to a peer: what is kept for the peer, with the packet of the moment, and how far the node is. The lead and
--- the holes are for the pace, and a game that goes on is all that it is for
-pub record Gives (seal : Seal) (to : ℕ) (old new : Linked) (bytes : List ℕ) : Type 0 where
+-- whom it need not wait for before its game: no peer, or one that is there
+abbrev pub is_ready : Linked → ℕ → Bool
+is_ready link player = not (is_peer link.node player) || is_there (link.peers player).presence
+
+abbrev pub all_ready : Linked → Bool
+all_ready link =
+    is_ready link 0 && (is_ready link 1 && (is_ready link 2 && is_ready link 3))
+
+-- the player with the settings waits for all others
+abbrev pub is_gathering : Phase → Bool
+is_gathering Gathering = true
+is_gathering phase = false
+
+-- and gives no settings before all are there
+abbrev pub holds_back : Linked → Bool
+holds_back link = is_gathering link.node.phase && not (all_ready link)
+
+-- the packet of the moment, if it is not held back
+abbrev pub SendsReady : ℕ → Linked → Contents → Option Carried → Type 0
+SendsReady to old new given =
+    ByTest (holds_back old) ((new ≡ old.node) × (given ≡ None)) (SendsCarried to old.node new given)
+
+-- a datagram to a peer: what is kept for the peer, with the packet of the moment if the peer takes it, how far the node is, by how many
+-- commands it led at its last tick, how many datagrams of the peer are missing, and who or where it is
+pub record Gives (seal : Seal) (identity : Identity) (pace : PaceState) (to : ℕ) (old new : Linked) (bytes : List ℕ) : Type 0 where
   pub given : Option Carried
-  pub step : SendsCarried to old.node new.node given
+  pub step : SendsReady to old new.node given
+  pub idle : given ≡ None → new.node ≡ old.node
   pub bundle : Bundle
   pub is : bytes ≡ sealed_bytes seal bundle
   pub fits : IsBundle bundle
   pub from : bundle.from ≡ old.node.me
   pub goes : bundle.to ≡ to
   pub number : bundle.number ≡ (old.peers to).number
-  pub paceless : (bundle.lead ≡ pos 0) × (bundle.holes ≡ 0)
-  pub message : bundle.message ≡ Game
+  pub lead : bundle.lead ≡ (pace.lines to).own_lead
+  pub holes : bundle.holes ≡ missing (pace.lines to)
+  pub message : bundle.message ≡ message_of identity old.node.phase
   pub counts : bundle.counts ≡ counts_of new.node
-  pub packed : ArePacked old.node.me (going (old.peers to).kept given) bundle.parts.items
+  pub packed : ArePacked old.node.me (going (old.peers to).kept (taken_by (old.peers to).presence given))
+      bundle.parts.items
   pub peers : new.peers ≡ put old.peers to (record (old.peers to) {
-    kept = kept_after (old.peers to).kept given;
+    kept = kept_after (old.peers to).kept (taken_by (old.peers to).presence given);
+    gave = (old.peers to).gave || (is_gathering old.node.phase && is_some given);
     number = ((old.peers to).number + 1) % 2 ^ 32;
   })
 
@@ -67,52 +102,103 @@ larger one other =
 abbrev pub certain : Contents → ℕ → ℕ
 certain node count = min (if is_some (end_in node node.me) then count - 1 else count) (made node)
 
--- a datagram tells that its sender has left
-abbrev pub tells_end : Bundle → Bool
-tells_end bundle = nat_lt bundle.counts.made (slice_index bundle.counts.got bundle.from)
+-- how many commands of the node a peer needs no more: all, once it has played and left
+abbrev pub done_with : Presence → Contents → ℕ → ℕ
+done_with (Left cause) node count = made node
+done_with presence node count = certain node count
 
--- the peer tells what it has
-abbrev pub told_by : Contents → Bundle → PeerState → PeerState
-told_by node bundle peer =
-    record {
-      kept = acknowledged peer.kept (certain node (slice_index bundle.counts.got node.me));
-      told = larger peer.told bundle.counts.got;
-      left = peer.left || tells_end bundle;
-      number = peer.number;
+-- the peer tells what it has, and who it is
+abbrev pub after_report : Contents → Bundle → Presence → PeerState → PeerState
+after_report node bundle presence peer =
+    record peer {
+      kept = acknowledged peer.kept (done_with presence node (slice_index bundle.counts.got node.me));
+      reported = larger peer.reported bundle.counts.got;
+      presence = presence;
+      gave = still_given presence peer.gave;
     }
 
--- a datagram of a peer is taken in
-pub record TakesIn (bundle : Bundle) (old new : Linked) (started : Bool) : Type 0 where
-  pub heard : HearsAll (packets_in bundle) old.node new.node started
-  pub peers : new.peers ≡ put old.peers bundle.from (told_by old.node bundle (old.peers bundle.from))
+-- who it is, if nothing else of a datagram is taken
+abbrev pub known_by : Bool → Contents → Bundle → Presence → PeerState → PeerState
+known_by true node bundle presence peer =
+    record peer { presence = presence; gave = still_given presence peer.gave }
+known_by false node bundle presence peer = after_report node bundle presence peer
+
+abbrev pub met : Bool → Bundle → Presence → Linked → Linked
+met differs bundle presence link =
+    record link {
+      peers = put link.peers bundle.from (known_by differs link.node bundle presence (link.peers bundle.from));
+    }
+
+-- while players gather no packet is heard before all are there, and none of one that leaves without having played
+abbrev pub hears : Linked → Presence → Bool
+hears link presence = not (is_gathering link.node.phase) || (all_ready link && is_there presence)
+
+-- a datagram of a peer is taken in. Where it greets with another identity, or its sender differs, none of its packets is
+-- heard, and none of its counts is taken
+pub record TakesIn (identity : Identity) (fresh : Bool) (bundle : Bundle) (old new : Linked) (presence : Presence)
+    (differs started : Bool) : Type 0 where
+  pub becomes : Becomes identity (old.peers bundle.from).gave fresh bundle bundle.message
+      (old.peers bundle.from).presence presence
+  pub alike : Differs identity bundle.message presence differs
+  pub heard : ByTest (not differs && hears (met differs bundle presence old) presence)
+      (HearsAll (packets_in bundle) old.node new.node started) ((new.node ≡ old.node) × (started ≡ false))
+  pub peers : new.peers ≡ (met differs bundle presence old).peers
+
+abbrev pub received_of : Bool → ℕ → Bool → Received
+received_of differs from started = if differs then Different from else Heard from started
 
 -- any bytes are opened as a datagram or for a fault, and what a peer's tells is taken in; all else changes nothing
-abbrev pub ReceivesAs : Result Bundle BundleFault → Linked → Linked → Received → Type 0
-ReceivesAs (Err fault) old new answer = (answer ≡ Unopened fault) × (new ≡ old)
-ReceivesAs (Ok bundle) old new answer =
+abbrev pub ReceivesAs : Identity → PaceState → Result Bundle BundleFault → Linked → Linked → Received → Type 0
+ReceivesAs identity pace (Err fault) old new answer = (answer ≡ Unopened fault) × (new ≡ old)
+ReceivesAs identity pace (Ok bundle) old new answer =
     ByTest (is_peer old.node bundle.from)
-    ((started : Bool) × (answer ≡ Heard bundle.from started) × TakesIn bundle old new started)
+    ((presence : Presence) × (differs : Bool) × (started : Bool)
+    × (answer ≡ received_of differs bundle.from started)
+    × TakesIn identity (is_fresh (pace.lines bundle.from).newest bundle.number) bundle old new presence differs started)
     ((answer ≡ Stranger bundle.from) × (new ≡ old))
 
-abbrev pub Receives : Seal → List ℕ → Linked → Linked → Received → Type 0
-Receives seal bytes old new answer =
+abbrev pub Receives : Seal → Identity → PaceState → List ℕ → Linked → Linked → Received → Type 0
+Receives seal identity pace bytes old new answer =
     (opened : Result Bundle BundleFault) × IsBundledAs (sealing_of seal old.node.me) bytes opened
-    × ReceivesAs opened old new answer
+    × ReceivesAs identity pace opened old new answer
 
--- a player needs nothing more of the node: it is the node's own, has left, as an EXIT packet or its datagrams told, or
--- has told that it has one command more than the node made: all of them, and the end
-abbrev pub is_served : Linked → ℕ → Bool
-is_served link player =
-    player == link.node.me
-    || (is_some (end_in link.node player)
-    || ((link.peers player).left
-    || nat_lt (made link.node) (slice_index (link.peers player).told link.node.me)))
+-- the tic after a player's last command, where a node knows it
+abbrev pub end_known : Contents → ℕ → Option ℕ
+end_known node player = if nat_lt player node.players then end_in node player else None
 
--- or it is no player at all
+-- nothing more is expected of a player: it has played and left, or was given up; or player 0 said goodbye before the
+-- game, which then never starts
+abbrev pub is_out : Linked → ℕ → Bool
+is_out link player = has_left (link.peers player).presence || has_gone (link.peers 0).presence
+
+-- a player needs nothing more of the node: it is no peer, has left, as an EXIT packet or its datagrams told, or has told
+-- that it has one command more than the node made: all of them, and the end
 abbrev pub needs_nothing : Linked → ℕ → Bool
-needs_nothing link player = nat_le link.node.players player || is_served link player
+needs_nothing link player =
+    not (is_peer link.node player)
+    || (is_some (end_known link.node player)
+    || (is_out link player
+    || nat_lt (made link.node) (slice_index (link.peers player).reported link.node.me)))
+
+-- the node has ended before its game started
+abbrev pub never_played : Contents → Bool
+never_played node = is_ended node.phase && is_none (end_known node node.me)
 
 -- nobody needs anything more of the node
-abbrev pub may_leave : Linked → Bool
-may_leave link =
+abbrev pub none_needs : Linked → Bool
+none_needs link =
     needs_nothing link 0 && (needs_nothing link 1 && (needs_nothing link 2 && needs_nothing link 3))
+
+abbrev pub may_leave : Linked → Bool
+may_leave link = never_played link.node || none_needs link
+
+-- a peer is given up
+abbrev pub forgotten : ℕ → Linked → Linked
+forgotten player link =
+    if is_peer link.node player
+    then record link {
+      peers = put link.peers player (record (link.peers player) {
+        presence = given_up (link.peers player).gave link.node.phase (link.peers player).presence;
+      });
+    }
+    else link

@@ -1,18 +1,20 @@
 -- The links of one game.
-use Rattle.std.specs.Prelude.{◌≡◌, ◌≢◌, ◌<◌, ◌≤◌, ℕ, All, Some, slice_get, slice_index}
+use Rattle.std.specs.Prelude.{◌≡◌, ◌≢◌, ◌<◌, ◌≤◌, ℕ, true, All, Some, slice_get, slice_index}
 use Rattle.dn_setup.specs.Settings.{Settings}
 use Rattle.dn_machine.specs.Flight.{Flight}
 use Rattle.dn_machine.specs.Limits.{Limits}
 use Rattle.dn_lockstep.specs.Marking.{Marking}
 use Rattle.dn_lockstep.specs.OneGame.{AreOneGame}
 use Rattle.dn_lockstep.specs.Session.{Session}
+use Rattle.dn_link.specs.declared.presence.Presence.TheVariants.{Left}
 use Rattle.dn_link.specs.Bundles.{WasGiven}
-use Rattle.dn_link.specs.Counting.{has_of}
+use Rattle.dn_link.specs.Counting.{has_ended, has_of}
 use Rattle.dn_link.specs.Linked.{Linked}
 use Rattle.dn_link.specs.Packets.{opened_from}
 
 -- each player's link has the player's lockstep of one game, keeps for each peer nothing but packets that were given
--- to that peer in it, and was told of no more than the peer has of any other player
+-- to that peer in it, and was told of no more than the peer has of any other player, and of none that it has left but one
+-- that has
 pub record AreLinked (marking : Marking) (limits : Limits) (settings : Settings) (session : Session) (links : ℕ → Linked)
     : Type 0 where
   pub game : AreOneGame marking limits settings session
@@ -20,12 +22,16 @@ pub record AreLinked (marking : Marking) (limits : Limits) (settings : Settings)
   pub kept : (player peer : ℕ) → player < limits.players
       → All (λ packet. WasGiven session.given peer (opened_from player packet))
       ((links player).peers peer).kept.packets
-  pub told : (player peer which : ℕ) → player < limits.players → which ≢ peer
-      → slice_index ((links player).peers peer).told which ≤ has_of (session.locksteps peer) which
+  pub reported : (player peer which : ℕ) → player < limits.players → which ≢ peer
+      → slice_index ((links player).peers peer).reported which ≤ has_of (session.locksteps peer) which
+  pub left : (player peer cause : ℕ) → player < limits.players
+      → ((links player).peers peer).presence ≡ Left cause → has_ended (session.locksteps peer) ≡ true
 
--- what was given was given, and each player has as much of each other as before
+-- what was given was given, each player has as much of each other as before, and who had ended has
 pub record IsLater (session later : Session) : Type 0 where
   pub given : (which : ℕ) (flight : Flight) → slice_get session.given which ≡ Some flight
       → slice_get later.given which ≡ Some flight
   pub got : (player which : ℕ) → which ≢ player
       → has_of (session.locksteps player) which ≤ has_of (later.locksteps player) which
+  pub ended : (player : ℕ) → has_ended (session.locksteps player) ≡ true
+      → has_ended (later.locksteps player) ≡ true

@@ -1,30 +1,39 @@
 -- What a link is.
-use Rattle.std.specs.Prelude.{ℕ, zero, suc, List, [], ◌∷◌, false}
+use Rattle.std.specs.Prelude.{ℕ, List, [], ◌∷◌, false}
 use Rattle.dn_lockstep.specs.Contents.{contents}
 use Rattle.dn_seal.specs.declared.seal.Seal.{Seal}
 use Rattle.dn_seal.specs.Sealing.{sealing}
 use Rattle.dn_link.specs.declared.link.Link.{Link}
+use Rattle.dn_link.specs.declared.bundle.Identity.{Identity}
 use Rattle.dn_link.specs.declared.peer.Peer.{Peer}
+use Rattle.dn_link.specs.declared.presence.Presence.TheVariants.{Unknown}
 use Rattle.dn_link.specs.Keeping.{kept}
 use Rattle.dn_link.specs.Linked.{Linked, PeerState}
+use Rattle.dn_link.specs.Places.{by_place}
 
 abbrev pub state_of : Peer → PeerState
-state_of peer = record { kept = kept peer.kept; told = peer.told; left = peer.left; number = peer.number }
+state_of peer =
+    record {
+      kept = kept peer.kept;
+      reported = peer.reported;
+      presence = peer.presence;
+      gave = peer.gave;
+      number = peer.number;
+    }
 
 -- a peer of which nothing is known
 abbrev pub new_peer : PeerState
 new_peer =
     record {
       kept = record { packets = []; covered = 0 };
-      told = 0 ∷ 0 ∷ 0 ∷ 0 ∷ [];
-      left = false;
+      reported = 0 ∷ 0 ∷ 0 ∷ 0 ∷ [];
+      presence = Unknown;
+      gave = false;
       number = 0;
     }
 
 abbrev pub peers_of : List Peer → ℕ → PeerState
-peers_of [] place = new_peer
-peers_of (peer ∷ peers) zero = state_of peer
-peers_of (peer ∷ peers) (suc place) = peers_of peers place
+peers_of peers = by_place state_of new_peer peers
 
 abbrev pub linked : Link → Linked
 linked link = record { node = contents link.lockstep; peers = peers_of link.peers }
@@ -32,3 +41,6 @@ linked link = record { node = contents link.lockstep; peers = peers_of link.peer
 -- what it has in common with the others of its game
 abbrev pub seal_of : Link → Seal
 seal_of link = (sealing link.sealer).seal
+
+abbrev pub identity_of : Link → Identity
+identity_of link = link.identity

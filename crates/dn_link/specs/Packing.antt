@@ -1,13 +1,13 @@
 -- Packets that are written as parts.
-use Rattle.std.specs.Prelude.{◌≡◌, ◌<◌, ◌≤◌, ℕ, ◌+◌, ◌*◌, ◌/◌, ◌^◌, List, ◌++◌, length, take, map, All}
+use Rattle.std.specs.Prelude.{◌≡◌, ◌≢◌, ◌<◌, ◌≤◌, ℕ, ◌+◌, ◌*◌, ◌/◌, ◌%◌, ◌^◌, nat_lt, if◌then◌else◌, List, [], ◌∷◌, ◌++◌, length, take, map, All}
 use Rattle.std.specs.List.{flat_map}
 use Rattle.dn_seal.specs.declared.opened.Opened.{Opened}
 use Rattle.dn_link.specs.declared.bundle.Carried.{Carried}
 use Rattle.dn_link.specs.declared.bundle.Run as run
 use Rattle.dn_link.specs.declared.bundle.Part.{Part}
-use Rattle.dn_link.specs.declared.bundle.Part.TheVariants.{Run}
+use Rattle.dn_link.specs.declared.bundle.Part.TheVariants.{Whole, Run}
 use Rattle.dn_link.specs.declared.packing.Packing.{Packing}
-use Rattle.dn_link.specs.Packets.{opened_from, packets_of}
+use Rattle.dn_link.specs.Packets.{opened_from, packets_of, short_packet}
 use Rattle.dn_link.specs.Text.{IsPart, parts_bytes}
 
 -- up to twenty-four commands of eight bytes
@@ -20,12 +20,48 @@ pub record IsOpenRun (one : run.Run) : Type 0 where
 abbrev pub packed : ℕ → Packing → List Opened
 packed from p = flat_map (packets_of from) p.parts.items ++ packets_of from (Run p.run)
 
--- the parts stand for these packets, oldest first: for all of them, unless there is hardly room for more
+-- a packet stands whole only where no command of eight bytes tells it
+abbrev pub IsNeeded : ℕ → Part → Type 0
+IsNeeded from (Whole packet) =
+    (command : List ℕ) → length command ≡ 8 → packet ≢ short_packet from packet.start command
+IsNeeded from (Run run) = Unit {0}
+
+-- a run that another goes on with, one tic after its last, has all of its twenty-four commands
+abbrev pub IsEnded : Part → Part → Type 0
+IsEnded (Run one) (Run other) =
+    (one.start + length one.commands.items / 8) % 2 ^ 32 ≡ other.start → length one.commands.items ≡ 192
+IsEnded (Run one) (Whole packet) = Unit {0}
+IsEnded (Whole packet) other = Unit {0}
+
+-- each part, by the one behind it
+abbrev pub AreEnded : List Part → Type 0
+AreEnded [] = Unit {0}
+AreEnded (one ∷ []) = Unit {0}
+AreEnded (one ∷ other ∷ parts) = IsEnded one other × AreEnded (other ∷ parts)
+
+-- the parts stand for these packets, oldest first, and no fewer parts could. They stand for all of them, unless there
+-- are twenty-two parts, or of 1,118 bytes fewer are left than a run without commands and a packet of 104 bytes take
 pub record ArePacked (from : ℕ) (packets : List Carried) (parts : List Part) : Type 0 where
   pub count : ℕ
   pub some : count ≤ length packets
   pub front : flat_map (packets_of from) parts ≡ take count (map (opened_from from) packets)
-  pub all : count < length packets → length parts < 22 → 998 < length (parts_bytes parts)
+  pub all : count < length packets → length parts < 22 → 1118 < length (parts_bytes parts) + (5 + 115)
+  pub needed : All (IsNeeded from) parts
+  pub ended : AreEnded parts
+
+-- a run that has commands is a part
+abbrev pub part_of : run.Run → List Part
+part_of run = if nat_lt 0 (length run.commands.items) then Run run ∷ [] else []
+
+-- behind these parts a run from this tic on is one that is needed
+pub record MayFollow (from : ℕ) (parts : List Part) (start : ℕ) : Type 0 where
+  pub needed : All (IsNeeded from) parts
+  pub ended : (next : run.Run) → next.start ≡ start → AreEnded (parts ++ Run next ∷ [])
+
+-- and so is what was written so far, with its open run; where that has no commands, a run may start at any tic
+abbrev pub IsTight : ℕ → Packing → Type 0
+IsTight from p =
+    (start : ℕ) → (1 ≤ length p.run.commands.items → start ≡ p.run.start) → MayFollow from p.parts.items start
 
 -- it fits: the parts have so many bytes, and with the run no more than there is room for
 pub record IsPacking (p : Packing) : Type 0 where

@@ -59,7 +59,7 @@ pub struct Identity {
     pub extra: bool,
     /// How many commands a player makes ahead of its runs.
     pub ahead: u8,
-    /// How many tics the demo has room for.
+    /// How many bytes the demo may have.
     pub limit: u32,
     /// What the host adds: a digest of its own version, files and options.
     pub host: [u8; 16],
@@ -101,27 +101,27 @@ pub struct Bundle {
 #[derive(Clone, Copy, Debug, PartialEq, Eq, Error)]
 pub enum BundleFault {
     /// Fewer than 60 bytes.
-    #[error("short")]
+    #[error("too short for a datagram of a link")]
     Short,
     /// More than 1,200 bytes.
-    #[error("long")]
+    #[error("too long for a datagram of a link")]
     Long,
     /// Another suite.
-    #[error("suite")]
+    #[error("sealed by another suite")]
     Suite,
     /// No link's datagram, but another kind of thing.
-    #[error("kind")]
+    #[error("sealed, but no datagram of a link")]
     Kind,
     /// Another game's number.
-    #[error("game")]
+    #[error("sealed in another game")]
     Game,
     /// Another receiver.
-    #[error("receiver")]
+    #[error("sealed to another receiver")]
     Receiver,
     /// A tag that is not that of the bytes before it.
-    #[error("tag")]
+    #[error("the tag is wrong")]
     Tag,
     /// Under the tag stands what no datagram has.
-    #[error("form")]
+    #[error("sealed, but malformed")]
     Form,
 }

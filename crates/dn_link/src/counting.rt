@@ -5,7 +5,8 @@ ghost use Rattle.dn_lockstep.specs.Contents.{contents, end_in};
 ghost use Rattle.dn_lockstep.specs.Rings.{count_of};
 ghost use Rattle.dn_seal.specs.Sealing.{sealing};
 ghost use Rattle.dn_link.specs.Counting.{counts_of, has_of};
-ghost use Rattle.dn_link.specs.Linked.{certain, tells_end};
+ghost use Rattle.dn_link.specs.Ends.{tells_end};
+ghost use Rattle.dn_link.specs.Linked.{certain};
 
 use crate::bundle::{Bundle, Counts};
 use dn_lockstep::Lockstep;
@@ -43,11 +44,11 @@ pub(crate) fn counts_of(lockstep: &Lockstep) -> Counts
 pub(crate) fn certain(lockstep: &Lockstep, count: u32) -> u32
     ensures { result ≡ certain (contents lockstep.now) count }
 {
-    let told = match lockstep.end(lockstep.me()) {
+    let commands = match lockstep.end(lockstep.me()) {
         Some(_) => count.saturating_sub(1),
         None => count,
     };
-    told.min(lockstep.made())
+    commands.min(lockstep.made())
 }
 
 /// Whether a datagram tells that its sender has left.

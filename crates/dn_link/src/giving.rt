@@ -1,11 +1,12 @@
 //! What a lockstep gives to a peer.
 
-ghost use Rattle.std.specs.Prelude.{◌≡◌, None, IfSome};
+ghost use Rattle.std.specs.Prelude.{◌≡◌, ◌&&◌, None, false, IfSome, is_some};
 ghost use Rattle.dn_lockstep.specs.Contents.{contents};
 ghost use Rattle.dn_lockstep.specs.Near.{IsFair};
 ghost use Rattle.dn_lockstep.specs.Sent.{sent_to};
 ghost use Rattle.dn_lockstep.specs.Steps.{Tells};
 ghost use Rattle.dn_link.specs.Giving.{SendsCarried};
+ghost use Rattle.dn_link.specs.Hearing.{ByTest};
 
 use crate::append::append;
 use crate::bundle::Carried;
@@ -14,8 +15,9 @@ use dn_lockstep::Lockstep;
 use dn_packet::MAX_DATAGRAM;
 
 /// The next packet to a peer, with its exact numbers; None where there is none.
-pub(crate) fn next_packet(lockstep: &mut Lockstep, to: u8) -> Option<Carried>
+fn next_packet(lockstep: &mut Lockstep, to: u8) -> Option<Carried>
     ensures step { SendsCarried to (contents lockstep.old) (contents lockstep.new) result }
+    ensures idle { result ≡ None → contents lockstep.new ≡ contents lockstep.old }
     ensures fair { Tells (contents lockstep.old) (λ limits me m. IfSome (sent_to to limits me m).1 IsFair) }
 {
     let mut room = [0; MAX_DATAGRAM];
@@ -29,4 +31,25 @@ pub(crate) fn next_packet(lockstep: &mut Lockstep, to: u8) -> Option<Carried>
         ask: aim.ask,
         datagram,
     })
+}
+
+/// Whether a packet is the settings: one that a gathering lockstep gives.
+pub(crate) fn is_settings(gathers: bool, packet: &Option<Carried>) -> bool
+    ensures { result ≡ (gathers && is_some packet.now) }
+{
+    gathers && packet.is_some()
+}
+
+/// The next packet to a peer, unless it is held back.
+pub(crate) fn next_unless(held: bool, lockstep: &mut Lockstep, to: u8) -> Option<Carried>
+    ensures step { ByTest held ((contents lockstep.new ≡ contents lockstep.old) × (result ≡ None))
+        (SendsCarried to (contents lockstep.old) (contents lockstep.new) result) }
+    ensures idle { result ≡ None → contents lockstep.new ≡ contents lockstep.old }
+    ensures fair { held ≡ false
+        → Tells (contents lockstep.old) (λ limits me m. IfSome (sent_to to limits me m).1 IsFair) }
+{
+    if held {
+        return None;
+    }
+    next_packet(lockstep, to)
 }

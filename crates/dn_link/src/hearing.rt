@@ -3,7 +3,7 @@
 ghost use Rattle.std.specs.Prelude.{◌≡◌};
 ghost use Rattle.std.specs.List.{flat_map};
 ghost use Rattle.dn_lockstep.specs.Contents.{contents};
-ghost use Rattle.dn_open.specs.Arrivals.{HearsOpened};
+ghost use Rattle.dn_open.specs.Arrivals.{HearsOpened, SparesSealed};
 ghost use Rattle.dn_open.specs.declared.arrived.Arrived.{Arrived};
 ghost use Rattle.dn_link.specs.Hearing.{HearsUntil, HearsAll, is_start};
 ghost use Rattle.dn_link.specs.Packets.{opened_from, packets_of, packets_in};
@@ -43,6 +43,7 @@ fn opened_from(from: u8, packet: &Carried) -> Opened
 fn starts(lockstep: &mut Lockstep, from: u8, packet: &Carried) -> bool
     ensures { (answer : Arrived)
         × HearsOpened (opened_from from packet.now) (contents lockstep.old) (contents lockstep.new) answer
+        × SparesSealed (contents lockstep.old) (contents lockstep.new) answer
         × (result ≡ is_start answer) }
 {
     is_start(hear(lockstep, &opened_from(from, packet)))

@@ -1,13 +1,14 @@
 //! The packets that a peer has not acknowledged.
 
-ghost use Rattle.std.specs.Prelude.{◌≡◌, ◌≤◌, ◌<◌, ◌+◌, ◌∷◌, [], ℕ, All, length, nat_le, Option};
+ghost use Rattle.std.specs.Prelude.{◌≡◌, ◌≤◌, ◌<◌, ◌+◌, ◌∷◌, [], ℕ, All, length, nat_le, slice_index, Option};
 ghost use Rattle.std.specs.Option.{option_map};
-ghost use Rattle.dn_link.specs.Kept.{acknowledged, commands_in, end_of, going, is_news, kept_after, without};
+ghost use Rattle.dn_link.specs.Kept.{acknowledged, commands_in, end_of, going, is_idle, is_news, kept_after, takes_packet, without};
 ghost use Rattle.dn_link.specs.Packing.{ArePacked};
 ghost use Rattle.dn_link.specs.Text.{IsPart, parts_bytes};
 
 use crate::bundle::{Carried, Part};
 use crate::packing::pack;
+use crate::presence::Presence;
 use arrayvec::ArrayVec;
 
 /// How many packets are kept for a peer: as many as commands are kept in the widest window.
@@ -18,6 +19,23 @@ const HEAD_BYTES: usize = 8;
 
 /// How many bytes a command has.
 const COMMAND_BYTES: usize = 8;
+
+/// Where in a packet its flags stand, and the lowest of them.
+const FLAG_BYTE: usize = 3;
+
+const FIRST_FLAG: u8 = 16;
+
+/// The byte of a packet whose high bits are its flags.
+fn flag_byte(packet: &Carried) -> u8
+    ensures { result ≡ slice_index packet.now.datagram.items 3 }
+{
+    packet
+        .datagram
+        .as_slice()
+        .get(FLAG_BYTE)
+        .copied()
+        .unwrap_or(0)
+}
 
 /// How many commands a packet has.
 fn commands_in(packet: &Carried) -> u64
@@ -32,6 +50,24 @@ fn end_of(packet: &Carried) -> u64
     ensures { result ≡ end_of packet.now }
 {
     u64::from(packet.start) + commands_in(packet)
+}
+
+/// Whether a packet tells nothing: it has no command, no request and no flag.
+fn is_idle(packet: &Carried) -> bool
+    ensures { result ≡ is_idle packet.now }
+{
+    commands_in(packet) == 0 && packet.ask.is_none() && flag_byte(packet) < FIRST_FLAG
+}
+
+/// Whether a peer takes a packet. One that tells nothing is for a peer whose game has not started.
+pub(crate) fn takes_packet(presence: Presence, packet: &Carried) -> bool
+    ensures { result ≡ takes_packet presence packet.now }
+{
+    match presence {
+        Presence::Left(_) => false,
+        Presence::Playing | Presence::Forgotten => !is_idle(packet),
+        _ => true,
+    }
 }
 
 /// The packets that were given to a peer, and of whose commands it has not acknowledged all, oldest first.

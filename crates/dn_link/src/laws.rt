@@ -1,6 +1,6 @@
 //! What holds of datagrams.
 
-ghost use Rattle.std.specs.Prelude.{◌≡◌, ◌≢◌, ◌<◌, ◌≤◌, ℕ, ℤ, pos, Bool, true, false, List, All, get_or, length, Option, None, Some, IfSome, Result, Ok, Err};
+ghost use Rattle.std.specs.Prelude.{◌≡◌, ◌≢◌, ◌<◌, ◌≤◌, ℕ, ℤ, pos, Bool, true, false, List, [], slice_index, All, get_or, length, Option, None, Some, IfSome, Result, Ok, Err};
 ghost use Rattle.dn_tic.specs.declared.command.Move.{Move};
 ghost use Rattle.dn_tic.specs.declared.input.Input.{Input};
 ghost use Rattle.dn_setup.specs.Settings.{Settings};
@@ -29,12 +29,17 @@ ghost use Rattle.dn_open.specs.Sealed.{sealing_of};
 ghost use Rattle.dn_seal.specs.Opening.{Sealing};
 ghost use Rattle.dn_link.specs.declared.bundle.Bundle.{Bundle};
 ghost use Rattle.dn_link.specs.declared.bundle.BundleFault.{BundleFault};
+ghost use Rattle.dn_link.specs.declared.bundle.Identity.{Identity};
 ghost use Rattle.dn_link.specs.declared.received.Received.{Received};
-ghost use Rattle.dn_link.specs.Bundles.{IsGenuineDatagram, WasBundled, WasGiven};
-ghost use Rattle.dn_link.specs.Linked.{Gives, Linked, Receives, may_leave};
+ghost use Rattle.dn_link.specs.Bundles.{IsEmpty, IsGenuineDatagram, WasBundled, WasGiven};
+ghost use Rattle.dn_link.specs.declared.presence.Presence.TheVariants.{Forgotten};
+ghost use Rattle.dn_link.specs.Counting.{has_ended};
+ghost use Rattle.dn_link.specs.Presence.{has_gone};
+ghost use Rattle.dn_link.specs.Linked.{Gives, Linked, Receives, certain, forgotten, holds_back, may_leave, never_played};
 ghost use Rattle.dn_link.specs.LinkedGame.{AreLinked, IsLater};
 ghost use Rattle.dn_link.specs.Linking.{new_peer};
 ghost use Rattle.dn_link.specs.Hearing.{HearsAll};
+ghost use Rattle.dn_link.specs.Paced.{PaceState};
 ghost use Rattle.dn_link.specs.Reading.{IsBundledAs};
 ghost use Rattle.dn_link.specs.Text.{IsBundle, sealed_bytes};
 
@@ -104,19 +109,27 @@ pub fn linked_game_goes_on()
         → new.peers ≡ (links player).peers
         → AreLinked marking limits settings (with_lockstep session player new.node) (put links player new)
         × IsLater session (with_lockstep session player new.node) }
-    ensures gave { (marking : Marking) (limits : Limits) (settings : Settings) (session : Session) (links : ℕ → Linked)
-        (player to : ℕ) (seal : Seal) (new : Linked) (bytes : List ℕ)
+    ensures forgot { (marking : Marking) (limits : Limits) (settings : Settings) (session : Session) (links : ℕ → Linked)
+        (player peer : ℕ) (new : Linked)
         → AreLinked marking limits settings session links → player < limits.players
-        → Tells (links player).node (λ limits me m. IfSome (sent_to to limits me m).1 IsFair)
-        → Gives seal to (links player) new bytes
+        → new ≡ forgotten peer (links player)
+        → AreLinked marking limits settings (with_lockstep session player new.node) (put links player new)
+        × IsLater session (with_lockstep session player new.node) }
+    ensures gave { (marking : Marking) (limits : Limits) (settings : Settings) (session : Session) (links : ℕ → Linked)
+        (player to : ℕ) (seal : Seal) (identity : Identity) (pace : PaceState) (new : Linked) (bytes : List ℕ)
+        → AreLinked marking limits settings session links → player < limits.players
+        → (holds_back (links player) ≡ false
+        → Tells (links player).node (λ limits me m. IfSome (sent_to to limits me m).1 IsFair))
+        → Gives seal identity pace to (links player) new bytes
         → (flight : Option Flight) × WasBundled seal (after_packet session player flight new.node) bytes
         × AreLinked marking limits settings (after_packet session player flight new.node) (put links player new)
         × IsLater session (after_packet session player flight new.node) }
     ensures received { (marking : Marking) (limits : Limits) (settings : Settings) (session : Session) (links : ℕ → Linked)
-        (player : ℕ) (seal : Seal) (bytes : List ℕ) (new : Linked) (answer : Received)
+        (player : ℕ) (seal : Seal) (identity : Identity) (pace : PaceState) (bytes : List ℕ) (new : Linked)
+        (answer : Received)
         → AreLinked marking limits settings session links → player < limits.players
         → IsGenuineDatagram seal session player bytes
-        → Receives seal bytes (links player) new answer
+        → Receives seal identity pace bytes (links player) new answer
         → AreLinked marking limits settings (with_lockstep session player new.node) (put links player new)
         × IsLater session (with_lockstep session player new.node) }
 {
@@ -124,14 +137,28 @@ pub fn linked_game_goes_on()
     letters_keep_one_game();
 }
 
-/// What was sealed in a game may come to any link of it at any later time, and so may bytes that a link refuses.
+/// What was sealed in a game may come to any link of it at any later time, and so may bytes that a link refuses, and a
+/// datagram without packets that tells of no commands of others.
 pub fn sealed_datagrams_are_genuine()
     ensures stay { (seal : Seal) (session later : Session) (bytes : List ℕ) → IsLater session later
         → WasBundled seal session bytes → WasBundled seal later bytes }
+    ensures empty { (seal : Seal) (session : Session) (bytes : List ℕ) → IsEmpty seal bytes
+        → WasBundled seal session bytes }
     ensures genuine { (seal : Seal) (session : Session) (player : ℕ) (bytes : List ℕ)
         → WasBundled seal session bytes → IsGenuineDatagram seal session player bytes }
     ensures refused { (seal : Seal) (session : Session) (player : ℕ) (bytes : List ℕ) (fault : BundleFault)
         → IsBundledAs (sealing_of seal player) bytes (Err fault) → IsGenuineDatagram seal session player bytes }
+{}
+
+/// A link that has ended before its game, and keeps no packet for a peer, gives the peer such a datagram. So that of a
+/// player who came and went may come to the links of any later game of the same seal.
+pub fn unplayed_links_give_nothing()
+    ensures { (marking : Marking) (limits : Limits) (settings : Settings) (session : Session) (links : ℕ → Linked)
+        (player to : ℕ) (seal : Seal) (identity : Identity) (pace : PaceState) (new : Linked) (bytes : List ℕ)
+        → AreLinked marking limits settings session links → player < limits.players
+        → never_played (links player).node ≡ true → ((links player).peers to).kept.packets ≡ []
+        → Gives seal identity pace to (links player) new bytes
+        → IsEmpty seal bytes }
 {}
 
 /// The locksteps of linked players agree, in all that `locksteps_agree` says.
@@ -143,16 +170,29 @@ pub fn links_agree()
     locksteps_agree();
 }
 
-/// Who may leave is needed by nobody who has not left: each other player, if neither an EXIT packet nor its datagrams told
-/// that it has left, has all commands of this one and knows its end. A game has at most four players, as every lockstep's
-/// has.
+/// What a link takes as acknowledged is there: the other player has at least so many commands of this one, who has made them.
+pub fn acknowledged_is_there()
+    ensures { (marking : Marking) (limits : Limits) (settings : Settings) (session : Session) (links : ℕ → Linked)
+        (player other : ℕ)
+        → AreLinked marking limits settings session links → player < limits.players → other < limits.players
+        → other ≢ player
+        → certain (links player).node (slice_index ((links player).peers other).reported (links player).node.me)
+        ≤ got (session.locksteps other) player }
+{
+    locksteps_agree();
+}
+
+/// Who has played and may leave is needed by nobody who plays on: each other player whose lockstep has not played and ended
+/// has all commands of this one and knows its end, if this link has not given it up, and player 0 has not said goodbye to
+/// this link before the game. A game has at most four players, as every lockstep's has.
 pub fn leaving_is_safe()
     ensures { (marking : Marking) (limits : Limits) (settings : Settings) (session : Session) (links : ℕ → Linked)
         (player other : ℕ)
         → AreLinked marking limits settings session links → limits.players ≤ 4
         → player < limits.players → other < limits.players → other ≢ player
-        → may_leave (links player) ≡ true → end_in (links player).node other ≡ None
-        → ((links player).peers other).left ≡ false
+        → may_leave (links player) ≡ true → never_played (links player).node ≡ false
+        → has_ended (session.locksteps other) ≡ false
+        → ((links player).peers other).presence ≢ Forgotten → has_gone ((links player).peers 0).presence ≡ false
         → (got (session.locksteps other) player ≡ made (session.locksteps player))
         × (end_in (session.locksteps other) player ≡ Some (made (session.locksteps player))) }
 {

@@ -4,26 +4,35 @@
 mod append;
 mod bundle;
 mod counting;
+mod figures;
 mod giving;
 mod hearing;
 mod kept;
 mod laws;
+mod leaning;
+mod line;
 mod link;
+mod pace;
 mod packing;
 mod peer;
+mod presence;
 mod reading;
 mod received;
 mod short;
+mod stretching;
+mod tally;
 #[cfg(test)]
 mod tests;
 mod writing;
 
 pub use bundle::{Bundle, BundleFault, Carried, Counts, Identity, Message, Part, Run};
+pub use figures::Figures;
 pub use laws::{
-    bundles_are_read_back, datagrams_keep_one_game, leaving_is_safe, linked_game_goes_on,
-    linked_game_opens, links_agree, sealed_datagrams_are_genuine,
+    acknowledged_is_there, bundles_are_read_back, datagrams_keep_one_game, leaving_is_safe,
+    linked_game_goes_on, linked_game_opens, links_agree, sealed_datagrams_are_genuine,
 };
 pub use link::Link;
+pub use presence::Presence;
 pub use reading::open_bundle;
 pub use received::Received;
 pub use writing::seal_bundle;

@@ -1,14 +1,15 @@
 //! Writing packets compactly, as parts of a datagram.
 
-ghost use Rattle.std.specs.Prelude.{◌≡◌, ◌≤◌, ◌<◌, ◌+◌, ◌/◌, ◌%◌, ◌^◌, ◌++◌, ◌∷◌, [], ℕ, All, length, false, true, IfSome};
+ghost use Rattle.std.specs.Prelude.{◌≡◌, ◌≤◌, ◌<◌, ◌+◌, ◌/◌, ◌%◌, ◌^◌, ◌++◌, ◌∷◌, [], ℕ, All, length, false, true};
 ghost use Rattle.std.specs.List.{flat_map};
 ghost use Rattle.dn_link.specs.Packets.{opened_from, packets_of, short_packet};
-ghost use Rattle.dn_link.specs.Packing.{ArePacked, HasRoom, IsPacking, packed};
+ghost use Rattle.dn_link.specs.declared.bundle.Part.TheVariants.{Whole};
+ghost use Rattle.dn_link.specs.Packing.{ArePacked, HasRoom, IsNeeded, IsPacking, IsTight, MayFollow, packed, part_of};
 ghost use Rattle.dn_link.specs.Text.{IsPart, parts_bytes};
 
 use crate::append::append;
 use crate::bundle::{Carried, Part, Run};
-use crate::short::{SHORT_BYTES, short_packet};
+use crate::short::short_command;
 use arrayvec::ArrayVec;
 use std::mem;
 
@@ -23,22 +24,6 @@ const RUN_BYTES: usize = 5;
 
 /// How many bytes a whole packet takes beside its datagram.
 const WHOLE_BYTES: usize = 11;
-
-/// The command of a packet that is told by it alone.
-fn short_command(from: u8, packet: &Carried) -> Option<[u8; 8]>
-    ensures { IfSome result (λ command. packet.now ≡ short_packet from packet.now.start command) }
-{
-    if packet.datagram.len() != SHORT_BYTES {
-        return None;
-    }
-    let mut command = [0; 8];
-    command.copy_from_slice(&packet.datagram.as_slice()[8..16]);
-    if *packet == short_packet(from, packet.start, &command) {
-        Some(command)
-    } else {
-        None
-    }
-}
 
 /// Packets that are written as parts: those that are done, how many bytes they take, and a run that may go on.
 #[derive(Drop)]
@@ -78,6 +63,7 @@ impl Packing {
         ensures fits { IsPacking result }
         ensures parts { length result.parts.items ≤ 23 }
         ensures none { (from : ℕ) → packed from result ≡ [] }
+        ensures tight { (from : ℕ) → IsTight from result }
     {
         Packing {
             parts: ArrayVec::new(),
@@ -108,6 +94,7 @@ impl Packing {
         ensures grown { self.old.bytes + length self.old.run.commands.items ≤ self.new.bytes }
         ensures none { self.new.run.commands.items ≡ [] }
         ensures start { self.new.run.start ≡ start }
+        ensures parts { self.new.parts.items ≡ self.old.parts.items ++ part_of self.old.run }
         ensures same { (from : ℕ) → packed from self.new ≡ packed from self.old }
     {
         let run = mem::replace(&mut self.run, empty_run(start));
@@ -126,6 +113,7 @@ impl Packing {
         ensures few { length self.new.run.commands.items ≤ 184 }
         ensures parts { length self.new.parts.items ≤ 22 }
         ensures follows { (self.new.run.start + length self.new.run.commands.items / 8) % 2 ^ 32 ≡ start }
+        ensures tight { (from : ℕ) → IsTight from self.old → MayFollow from self.new.parts.items self.new.run.start }
         ensures same { (from : ℕ) → packed from self.new ≡ packed from self.old }
     {
         let count = self.run.commands.len() / 8;
@@ -142,6 +130,7 @@ impl Packing {
         ensures parts { length self.new.parts.items ≤ 23 }
         ensures more { (from : ℕ) → packed from self.new
             ≡ packed from self.old ++ opened_from from (short_packet from start command.now) ∷ [] }
+        ensures tight { (from : ℕ) → IsTight from self.old → IsTight from self.new }
     {
         self.make_way(start);
         append(&mut self.run.commands, command);
@@ -155,6 +144,7 @@ impl Packing {
         ensures parts { length self.new.parts.items ≤ 23 }
         ensures more { (from : ℕ) → packed from self.new
             ≡ packed from self.old ++ opened_from from packet.now ∷ [] }
+        ensures tight { (from : ℕ) → IsTight from self.old → IsNeeded from (Whole packet.now) → IsTight from self.new }
     {
         self.end_run(packet.start);
         self.bytes += WHOLE_BYTES + packet.datagram.len();
@@ -168,6 +158,7 @@ impl Packing {
         ensures fits { IsPacking self.new }
         ensures parts { length self.new.parts.items ≤ 23 }
         ensures more { packed from self.new ≡ packed from self.old ++ opened_from from packet.now ∷ [] }
+        ensures tight { IsTight from self.old → IsTight from self.new }
     {
         match short_command(from, packet) {
             Some(command) => self.add_short(packet.start, &command),

@@ -4,7 +4,8 @@ ghost use Rattle.std.specs.Prelude.{◌≡◌};
 ghost use Rattle.dn_link.specs.Linked.{larger};
 
 use crate::bundle::{Carried, Part};
-use crate::kept::Kept;
+use crate::kept::{Kept, takes_packet};
+use crate::presence::Presence;
 use arrayvec::ArrayVec;
 
 /// What a link keeps of a peer.
@@ -13,9 +14,11 @@ pub(crate) struct Peer {
     /// The packets that the peer has not acknowledged.
     kept: Kept,
     /// The most that its datagrams told that it has of each player.
-    pub(crate) told: [u32; 4],
-    /// Whether they told that it has left.
-    pub(crate) left: bool,
+    reported: [u32; 4],
+    /// Whether it is there.
+    pub(crate) presence: Presence,
+    /// Whether it was given the settings.
+    pub(crate) gave: bool,
     /// The number of the next datagram to it.
     number: u32,
 }
@@ -33,10 +36,11 @@ fn larger(one: &[u32; 4], other: &[u32; 4]) -> [u32; 4]
 }
 
 impl Peer {
-    ghost use Rattle.std.specs.Prelude.{All, length, ◌≤◌, ◌<◌, ◌+◌, ◌%◌, ◌^◌, ◌||◌, nat_lt, min};
-    ghost use Rattle.dn_link.specs.Kept.{acknowledged, going, kept_after};
+    ghost use Rattle.std.specs.Prelude.{All, length, ◌≤◌, ◌<◌, ◌+◌, ◌%◌, ◌^◌, ◌||◌, slice_index};
+    ghost use Rattle.dn_link.specs.Kept.{acknowledged, going, kept_after, taken_by};
     ghost use Rattle.dn_link.specs.Linking.{new_peer, state_of};
     ghost use Rattle.dn_link.specs.Packing.{ArePacked};
+    ghost use Rattle.dn_link.specs.Presence.{still_given};
     ghost use Rattle.dn_link.specs.Text.{IsPart, parts_bytes};
 
     /// Of which nothing is known.
@@ -45,8 +49,9 @@ impl Peer {
     {
         Peer {
             kept: Kept::new(),
-            told: [0; 4],
-            left: false,
+            reported: [0; 4],
+            presence: Presence::Unknown,
+            gave: false,
             number: 0,
         }
     }
@@ -62,32 +67,72 @@ impl Peer {
         number
     }
 
-    /// What goes to it now, of this player, and the number of the datagram.
-    pub(crate) fn parts(&mut self, from: u8, packet: Option<Carried>) -> (u32, ArrayVec<Part, 24>)
+    /// The packet of the moment, if the peer takes it.
+    fn taken(&self, packet: Option<Carried>) -> Option<Carried>
+        ensures { result ≡ taken_by (state_of self.now).presence packet }
+    {
+        let Some(packet) = packet else {
+            return None;
+        };
+        if takes_packet(self.presence, &packet) {
+            Some(packet)
+        } else {
+            None
+        }
+    }
+
+    /// What goes to it now, of this player, who gives the settings or not, and the number of the datagram.
+    pub(crate) fn parts(
+        &mut self,
+        from: u8,
+        packet: Option<Carried>,
+        settings: bool,
+    ) -> (u32, ArrayVec<Part, 24>)
         ensures number { result.0 ≡ (state_of self.old).number }
         ensures peer { state_of self.new ≡ record (state_of self.old) {
-          kept = kept_after (state_of self.old).kept packet;
+          kept = kept_after (state_of self.old).kept (taken_by (state_of self.old).presence packet);
+          gave = (state_of self.old).gave || settings;
           number = ((state_of self.old).number + 1) % 2 ^ 32;
         } }
         ensures fit { All IsPart result.1.items }
         ensures short { length (parts_bytes result.1.items) ≤ 1118 }
-        ensures packed { ArePacked from (going (state_of self.old).kept packet) result.1.items }
+        ensures packed { ArePacked from
+            (going (state_of self.old).kept (taken_by (state_of self.old).presence packet)) result.1.items }
     {
-        let parts = self.kept.parts(from, packet);
+        self.gave = self.gave || settings;
+        let taken = self.taken(packet);
+        let parts = self.kept.parts(from, taken);
         (self.next_number(), parts)
     }
 
-    /// It tells what it has of each player, and whether it has left; so many commands of this player it has for certain.
-    pub(crate) fn tells(&mut self, certain: u32, got: &[u32; 4], left: bool)
-        ensures { state_of self.new ≡ record {
-          kept = acknowledged (state_of self.old).kept certain;
-          told = larger (state_of self.old).told got.now;
-          left = (state_of self.old).left || left;
-          number = (state_of self.old).number;
+    /// How many commands of a player it told that it has.
+    pub(crate) fn reported_of(&self, player: u8) -> u32
+        requires { player < 4 }
+        ensures { result ≡ slice_index (state_of self.now).reported player }
+    {
+        self.reported[player as usize]
+    }
+
+    /// It tells who it is.
+    pub(crate) fn is_now(&mut self, presence: Presence)
+        ensures { state_of self.new
+            ≡ record (state_of self.old) { presence = presence; gave = still_given presence (state_of self.old).gave } }
+    {
+        self.presence = presence;
+        self.gave = presence.still_given(self.gave);
+    }
+
+    /// It tells what it has of each player, and who it is; so many commands of this player it needs no more.
+    pub(crate) fn tells(&mut self, done: u32, got: &[u32; 4], presence: Presence)
+        ensures { state_of self.new ≡ record (state_of self.old) {
+          kept = acknowledged (state_of self.old).kept done;
+          reported = larger (state_of self.old).reported got.now;
+          presence = presence;
+          gave = still_given presence (state_of self.old).gave;
         } }
     {
-        self.kept.acknowledge(certain);
-        self.told = larger(&self.told, got);
-        self.left = self.left || left;
+        self.kept.acknowledge(done);
+        self.reported = larger(&self.reported, got);
+        self.is_now(presence);
     }
 }

@@ -1,7 +1,9 @@
 //! The packet of one command that asks for nothing, by its command alone.
 
-ghost use Rattle.std.specs.Prelude.{◌≡◌};
+ghost use Rattle.std.specs.Prelude.{◌≡◌, IfSome, None};
+ghost use Rattle.dn_link.specs.declared.bundle.Part.TheVariants.{Whole};
 ghost use Rattle.dn_link.specs.Packets.{short_packet};
+ghost use Rattle.dn_link.specs.Packing.{IsNeeded};
 
 use crate::append::append;
 use crate::bundle::Carried;
@@ -10,7 +12,7 @@ use dn_packet::{Head, encode_parts};
 use dn_tic::TicCmd;
 
 /// How many bytes such a packet has.
-pub(crate) const SHORT_BYTES: usize = 16;
+const SHORT_BYTES: usize = 16;
 
 /// The packet of one command, which a player sends for a tic.
 pub(crate) fn short_packet(from: u8, start: u32, command: &[u8; 8]) -> Carried
@@ -30,5 +32,22 @@ pub(crate) fn short_packet(from: u8, start: u32, command: &[u8; 8]) -> Carried
         start,
         ask: None,
         datagram,
+    }
+}
+
+/// The command of a packet that is told by it alone.
+pub(crate) fn short_command(from: u8, packet: &Carried) -> Option<[u8; 8]>
+    ensures some { IfSome result (λ command. packet.now ≡ short_packet from packet.now.start command) }
+    ensures none { result ≡ None → IsNeeded from (Whole packet.now) }
+{
+    if packet.datagram.len() != SHORT_BYTES {
+        return None;
+    }
+    let mut command = [0; 8];
+    command.copy_from_slice(&packet.datagram.as_slice()[8..16]);
+    if *packet == short_packet(from, packet.start, &command) {
+        Some(command)
+    } else {
+        None
     }
 }

@@ -4,6 +4,8 @@ ghost use Rattle.std.specs.Prelude.{◌≡◌, []};
 ghost use Rattle.dn_seal.specs.Sealing.{sealing};
 
 mod links;
+mod lobby;
+mod pace;
 
 use crate::{Bundle, BundleFault, Counts, Identity, Message, open_bundle, seal_bundle};
 use arrayvec::ArrayVec;

@@ -10,28 +10,36 @@ use dn_tic::Keys;
 use std::alloc::Global;
 use std::process::Abort;
 
-type Bytes = ArrayVec<u8, 1200>;
+pub(super) type Bytes = ArrayVec<u8, 1200>;
 
-/// A link of a game of two in the window of 1997.
-fn link(rt: &impl Abort, alloc: Global, me: u8) -> Link {
+/// A link of a game of so many players in the window of 1997, with this byte as the host's.
+pub(super) fn link_of(rt: &impl Abort, alloc: Global, players: u8, me: u8, host: u8) -> Link {
     let Ok(settings) = Settings::new(2, 0, false, false, 1, 1) else {
         panic!(rt; "no settings");
     };
     let config = Config {
-        players: 2,
+        players,
         me,
         extra: false,
         limit: 131_072,
         settings: if me == 0 { Some(settings) } else { None },
     };
-    let Ok(link) = Link::new(alloc, config, 5, Seal::new([7; 32], [3; 16])) else {
+    let Ok(link) = Link::new(alloc, config, 5, [host; 16], Seal::new([7; 32], [3; 16])) else {
         panic!(rt; "no link");
     };
     link
 }
 
+/// The datagram of one to the other, which need not tell who that is.
+pub(super) fn meets(rt: &impl Abort, from: &mut Link, at: &mut Link) {
+    let to = at.lockstep().me();
+    let player = from.lockstep().me();
+    let bytes = datagram(rt, from, to);
+    arrives(rt, at, player, &bytes, false);
+}
+
 /// The datagram to the other player.
-fn datagram(rt: &impl Abort, from: &mut Link, to: u8) -> Bytes {
+pub(super) fn datagram(rt: &impl Abort, from: &mut Link, to: u8) -> Bytes {
     let Some(bytes) = from.datagram(to) else {
         panic!(rt; "no datagram");
     };
@@ -39,7 +47,7 @@ fn datagram(rt: &impl Abort, from: &mut Link, to: u8) -> Bytes {
 }
 
 /// A datagram that arrives.
-fn arrives(rt: &impl Abort, at: &mut Link, from: u8, bytes: &Bytes, starts: bool) {
+pub(super) fn arrives(rt: &impl Abort, at: &mut Link, from: u8, bytes: &Bytes, starts: bool) {
     let received = at.receive(bytes.as_slice());
     assert!(rt;
         received
@@ -52,7 +60,7 @@ fn arrives(rt: &impl Abort, at: &mut Link, from: u8, bytes: &Bytes, starts: bool
 }
 
 /// Runs all that can be run, and tells how many tics were run so far.
-fn run_all(at: &mut Link) -> u32 {
+pub(super) fn run_all(at: &mut Link) -> u32 {
     for _ in 0..12 {
         let _ = at.run(&[0; 4]);
     }
@@ -60,9 +68,10 @@ fn run_all(at: &mut Link) -> u32 {
 }
 
 /// Both links, once the game has started.
-fn playing(rt: &impl Abort, alloc: Global) -> (Link, Link) {
-    let mut key = link(rt, alloc, 0);
-    let mut other = link(rt, alloc, 1);
+pub(super) fn playing(rt: &impl Abort, alloc: Global) -> (Link, Link) {
+    let mut key = link_of(rt, alloc, 2, 0, 1);
+    let mut other = link_of(rt, alloc, 2, 1, 1);
+    meets(rt, &mut other, &mut key);
     let first = datagram(rt, &mut key, 1);
     arrives(rt, &mut other, 0, &first, true);
     let second = datagram(rt, &mut other, 0);
@@ -71,7 +80,7 @@ fn playing(rt: &impl Abort, alloc: Global) -> (Link, Link) {
 }
 
 /// A command of each.
-fn build(rt: &impl Abort, one: &mut Link, other: &mut Link, tic: u32) {
+pub(super) fn build(rt: &impl Abort, one: &mut Link, other: &mut Link, tic: u32) {
     assert!(rt; one.build(Keys::from_bits(1)) == Made::Made(tic));
     assert!(rt; other.build(Keys::from_bits(1)) == Made::Made(tic));
 }
@@ -135,6 +144,25 @@ fn two_who_quit_at_once_may_leave(rt: HostRuntime) {
     assert_eq!(rt; key.lockstep().end(1), None);
     assert!(rt; key.may_leave());
     assert!(rt; other.may_leave());
+}
+
+/// Between two who play a datagram without news has 60 bytes, and no parts; before, it tells that its sender has started.
+/// A run of one command takes 13 bytes. Who has left gets no packets.
+#[test]
+fn what_tells_nothing_is_left_out(rt: HostRuntime) {
+    let rt = &rt;
+    let (mut key, mut other) = playing(rt, rt.alloc());
+    assert_eq!(rt; datagram(rt, &mut other, 0).len(), 79);
+    let idle = datagram(rt, &mut key, 1);
+    assert_eq!(rt; idle.len(), 60);
+    arrives(rt, &mut other, 0, &idle, false);
+    assert_eq!(rt; datagram(rt, &mut other, 0).len(), 60);
+    build(rt, &mut key, &mut other, 0);
+    assert_eq!(rt; datagram(rt, &mut key, 1).len(), 73);
+    assert!(rt; other.quit());
+    meets(rt, &mut other, &mut key);
+    assert!(rt; key.build(Keys::from_bits(1)) == Made::Made(1));
+    assert_eq!(rt; datagram(rt, &mut key, 1).len(), 60);
 }
 
 /// The datagram of a player who is none, and of another game's.

@@ -1,4 +1,5 @@
 use Rattle.std.proofs.Common.{ℕ, List, ◌++◌, take, ap, sym, ◌∙◌}
+use Rattle.std.specs.Prelude.{is_some}
 use Rattle.std.specs.Option.{option_map}
 use Rattle.dn_lockstep.specs.Contents.{contents}
 use Rattle.dn_lockstep.specs.Giving.{aim_in}
@@ -20,6 +21,10 @@ returns-in_default-clause-step c =
                 (ap aim_in (sym c.in_default.is) ∙ given.aimed limits me m r)));
           };
     }
+
+pub returns-in_default-clause-idle : goal.returns-in_default-clause-idle
+returns-in_default-clause-idle c = λ none.
+    (c.packet_with_aim.ensures.silent.1 (sym c.packet_with_aim.ensures.known ∙ ap is_some c.in_default.is)).1
 
 pub returns-clause-step : goal.returns-clause-step
 returns-clause-step c =

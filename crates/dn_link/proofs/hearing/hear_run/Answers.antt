@@ -24,7 +24,7 @@ returns-then-starts c =
     (omega (arith, c.commands-test.true, ap (length {A = ℕ}) c.as_slice-rest.ensures.value))
     (contents c.starts.new.lockstep) heard.0 c.starts.result
     (subst (λ (p : Carried). HearsOpened (opened_from c.args.from p) (contents c.commands.lockstep)
-    (contents c.starts.new.lockstep) heard.0) packet heard.1) heard.2 c.if-starts.true
+    (contents c.starts.new.lockstep) heard.0) packet heard.1) heard.2 heard.3 c.if-starts.true
 
 pub commands-preserved : goal.commands-preserved
 commands-preserved c =
@@ -39,4 +39,4 @@ commands-preserved c =
     (omega (arith, c.commands-test.true, ap (length {A = ℕ}) c.as_slice-rest.ensures.value))
     (contents c.starts.new.lockstep) heard.0 c.starts.result
     (subst (λ (p : Carried). HearsOpened (opened_from c.args.from p) (contents c.commands.lockstep)
-    (contents c.starts.new.lockstep) heard.0) packet heard.1) heard.2 c.if-starts.false)
+    (contents c.starts.new.lockstep) heard.0) packet heard.1) heard.2 heard.3 c.if-starts.false)

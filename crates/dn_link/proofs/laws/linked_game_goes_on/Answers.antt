@@ -8,7 +8,7 @@ use Rattle.dn_lockstep.specs.Session.{after_build, after_run, with_lockstep}
 use Rattle.dn_lockstep.specs.Runs.{RunsBy, marks_in, with_row}
 use Rattle.dn_lockstep.specs.Steps.{Steps}
 use Rattle.dn_link.proofs.Holding.{build_holds, run_holds, quit_holds}
-use Rattle.dn_link.proofs.Linking.{called, gave_to, much_by, received}
+use Rattle.dn_link.proofs.Linking.{called, forgot, gave_to, much_by, received}
 use Rattle.dn_link.proofs.laws.linked_game_goes_on.Goals as goal
 
 pub returns : goal.returns
@@ -46,10 +46,16 @@ returns c =
           (much_by marking limits settings session links player linked mine new.node
           (λ limits me m. on_quit m) (λ answer. quit ≡ answer) step.step
           (quit_holds limits player (linked.game.last.nodes player)));
-      gave = λ marking limits settings session links player to seal new bytes linked mine fair gives.
-          gave_to marking limits settings session links player linked mine seal to new bytes fair gives;
-      received = λ marking limits settings session links player seal bytes new answer linked mine genuine receives.
+      forgot = λ marking limits settings session links player peer new linked mine is_new.
+          forgot marking limits settings session links player linked mine
+          (λ now same. on.kept marking limits settings session player now linked.game same) peer new is_new;
+      gave = λ marking limits settings session links player to seal identity pace new bytes linked mine fair gives.
+          gave_to marking limits settings session links player linked mine
+          (λ now same. on.kept marking limits settings session player now linked.game same) seal identity pace to new
+          bytes fair gives;
+      received = λ marking limits settings session links player seal identity pace bytes new answer linked mine genuine
+          receives.
           received marking limits settings session links player linked mine c.letters_keep_one_game.ensures
-          (λ now same. on.kept marking limits settings session player now linked.game same) seal bytes new answer
-          genuine receives;
+          (λ now same. on.kept marking limits settings session player now linked.game same) seal identity pace bytes
+          new answer genuine receives;
     }

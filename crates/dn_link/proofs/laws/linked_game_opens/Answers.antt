@@ -1,6 +1,8 @@
-use Rattle.std.proofs.Common.{◌≤◌, ℕ, zero, suc, [], refl, sym, subst, arith}
+use Rattle.std.proofs.Common.{◌≡◌, ◌≤◌, ℕ, zero, suc, [], refl, ap, sym, ◌∙◌, subst, arith}
 use Rattle.std.specs.Prelude.{slice_index}
 use Rattle.std.proofs.lemmas.List.Elements.{All-nil}
+use Rattle.dn_link.specs.declared.presence.Presence.{Presence}
+use Rattle.dn_link.specs.declared.presence.Presence.TheVariants.{Left, Unknown}
 use Rattle.dn_link.specs.Bundles.{WasGiven}
 use Rattle.dn_link.specs.Counting.{has_of}
 use Rattle.dn_link.specs.Linked.{PeerState}
@@ -15,11 +17,16 @@ returns c = λ marking limits settings links window shows nothing. record {
   nodes = λ player below. refl;
   kept = λ player peer below. subst (λ (t : PeerState). AreGiven [] player peer t.kept.packets)
       (sym (nothing player peer below)) (All-nil (λ packet. WasGiven [] peer (opened_from player packet)));
-  told = λ player peer which below apart. subst (λ (t : PeerState). slice_index t.told which
+  reported = λ player peer which below apart. subst (λ (t : PeerState). slice_index t.reported which
       ≤ has_of (links peer).node which) (sym (nothing player peer below)) (none which (has_of (links peer).node which));
+  left = λ player peer cause below is. absurd (unknown cause (ap (λ (t : PeerState). t.presence)
+      (sym (nothing player peer below)) ∙ is));
 }
   where
-    none : (which bound : ℕ) → slice_index new_peer.told which ≤ bound
+    unknown : (cause : ℕ) → ◌≡◌ {A = Presence} Unknown (Left cause) → ⊥
+    unknown cause e = cc
+
+    none : (which bound : ℕ) → slice_index new_peer.reported which ≤ bound
     none zero bound = omega arith
     none (suc zero) bound = omega arith
     none (suc (suc zero)) bound = omega arith

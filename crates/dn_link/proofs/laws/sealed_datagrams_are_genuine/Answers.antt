@@ -1,8 +1,13 @@
-use Rattle.std.proofs.Common.{◌≡◌}
+use Rattle.std.proofs.Common.{◌≡◌, ◌≤◌, ℕ, true, false, List, All, sym, ◌∙◌, subst, arith}
+use Rattle.std.specs.List.{flat_map}
+use Rattle.std.proofs.lemmas.List.Elements.{All-nil}
 use Rattle.std.specs.Prelude.{Result, Ok, Err}
 use Rattle.dn_open.specs.Sealed.{sealing_of}
 use Rattle.dn_link.specs.declared.bundle.Bundle.{Bundle}
 use Rattle.dn_link.specs.declared.bundle.BundleFault.{BundleFault}
+use Rattle.dn_link.specs.declared.bundle.Part.{Part}
+use Rattle.dn_link.specs.Bundles.{WasGiven}
+use Rattle.dn_link.specs.Packets.{packets_of}
 use Rattle.dn_link.proofs.Openings.{only_bundle}
 use Rattle.dn_link.proofs.Linking.{bundled_on}
 use Rattle.dn_link.proofs.laws.sealed_datagrams_are_genuine.Goals as goal
@@ -10,10 +15,27 @@ use Rattle.dn_link.proofs.laws.sealed_datagrams_are_genuine.Goals as goal
 pub returns : goal.returns
 returns c = record {
   stay = bundled_on;
+  empty = λ seal session bytes (bundle, fits, is, none, nothing, no_end). (
+    bundle,
+    fits,
+    is,
+    subst (λ (parts : List Part). All (WasGiven session.given bundle.to) (flat_map (packets_of bundle.from) parts)) (sym none)
+        (All-nil (WasGiven session.given bundle.to)),
+    record {
+      got = λ which apart. at_most_any (nothing which apart);
+      end = λ tells. absurd (never (sym tells ∙ no_end));
+    },
+  );
   genuine = λ seal session player bytes was bundle is. was;
   refused = λ seal session player bytes fault refuses bundle is.
       absurd (not_both fault bundle (only_bundle (sealing_of seal player) bytes bundle is (Err fault) refuses));
 }
   where
+    at_most_any : {a b : ℕ} → a ≡ 0 → a ≤ b
+    at_most_any e = omega (arith, e)
+
+    never : true ≡ false → ⊥
+    never e = cc
+
     not_both : (fault : BundleFault) (bundle : Bundle) → ◌≡◌ {A = Result Bundle BundleFault} (Ok bundle) (Err fault) → ⊥
     not_both fault bundle e = cc

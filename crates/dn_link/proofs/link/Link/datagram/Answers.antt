@@ -1,9 +1,13 @@
-use Rattle.std.proofs.Common.{rules, ◌≡◌, ◌<◌, ◌+◌, ◌%◌, ◌^◌, ℕ, pos, length, get_or, refl, ap, ◌∙◌, subst, arith}
+use Rattle.std.proofs.Common.{rules, ◌≡◌, ◌<◌, ◌+◌, ◌%◌, ◌^◌, ℕ, length, get_or, w8, to_z, of_z, refl, ap, ◌∙◌, subst, arith}
 use Rattle.dn_machine.specs.Node.{put}
-use Rattle.dn_link.specs.declared.bundle.Message.TheVariants.{Game}
-use Rattle.dn_link.specs.Kept.{going, kept_after}
-use Rattle.dn_link.specs.Linked.{PeerState}
-use Rattle.dn_link.specs.Linking.{peers_of, state_of}
+use Rattle.std.specs.Prelude.{Bool, None, ◌&&◌, ◌||◌, is_some}
+use Rattle.dn_lockstep.specs.Contents.{contents}
+use Rattle.dn_link.specs.Giving.{SendsCarried}
+use Rattle.dn_link.specs.Hearing.{ByTest}
+use Rattle.dn_link.specs.Presence.{message_of}
+use Rattle.dn_link.specs.Kept.{going, kept_after, taken_by}
+use Rattle.dn_link.specs.Linked.{PeerState, is_gathering}
+use Rattle.dn_link.specs.Linking.{identity_of, peers_of, state_of}
 use Rattle.dn_link.specs.Packing.{ArePacked}
 use Rattle.dn_link.proofs.Linked.{peer_at, peers_put}
 use Rattle.dn_link.proofs.link.Link.datagram.Goals as goal
@@ -11,22 +15,28 @@ use Rattle.dn_link.proofs.link.Link.datagram.Goals as goal
 pub returns-clause-gives : goal.returns-clause-gives
 returns-clause-gives c =
     let peers = c.args.self.now.peers in
-    let packet = c.next_packet-packet.result in
+    let packet = c.next_unless-packet.result in
     let four : length peers ≡ 4 = search rules in
     let below : c.args.to < length peers = omega (arith, four, c.if-to-players.false, c.players.ensures, c.args.self.now.lockstep.few) in
     let here = peer_at peers c.args.to c.index-self-to.result below in
     let after = c.parts-number.ensures in
+    let settings : c.is_settings-settings.result ≡ (is_gathering (contents c.args.self.now.lockstep).phase && is_some packet) =
+    c.is_settings-settings.ensures ∙ (λ i. c.is_gathering-gathers.ensures i && is_some packet) in
+    let led : to_z w8 (of_z w8 c.own_lead.result) ≡ c.own_lead.result = search rules in
     record {
       given = packet;
-      step = c.next_packet-packet.ensures.step;
+      step = subst (λ (held : Bool). ByTest held ((contents c.next_unless-packet.new.lockstep ≡ contents c.args.self.now.lockstep)
+          × (packet ≡ None)) (SendsCarried c.args.to (contents c.args.self.now.lockstep)
+          (contents c.next_unless-packet.new.lockstep) packet)) c.holds_back-held.ensures c.next_unless-packet.ensures.step;
+      idle = c.next_unless-packet.ensures.idle;
       bundle = record {
         from = c.me-me.result;
         to = c.args.to;
         number = c.parts-number.result.0;
-        lead = pos 0;
-        holes = 0;
+        lead = to_z w8 (of_z w8 c.own_lead.result);
+        holes = c.missing.result;
         counts = c.counts_of.result;
-        message = Game;
+        message = c.message_of-message.result;
         parts = c.parts-number.result.1;
       };
       is = c.seal_bundle.ensures.text;
@@ -34,16 +44,23 @@ returns-clause-gives c =
       from = c.me-me.ensures;
       goes = refl;
       number = after.number ∙ ap (λ (t : PeerState). t.number) here;
-      paceless = (refl, refl);
-      message = refl;
+      lead = led ∙ c.own_lead.ensures;
+      holes = c.missing.ensures;
+      message = c.message_of-message.ensures ∙ ap (message_of (identity_of c.args.self.now)) c.phase.ensures;
       counts = c.counts_of.ensures;
-      packed = subst (λ (t : PeerState). ArePacked c.args.self.now.lockstep.me (going t.kept packet)
-          c.parts-number.result.1.items) here
-          (subst (λ (k : ℕ). ArePacked k (going (state_of (get_or peers c.args.to c.index-self-to.result)).kept packet)
+      packed = subst (λ (t : PeerState). ArePacked c.args.self.now.lockstep.me
+          (going t.kept (taken_by t.presence packet)) c.parts-number.result.1.items) here
+          (subst (λ (k : ℕ). ArePacked k (going (state_of (get_or peers c.args.to c.index-self-to.result)).kept
+          (taken_by (state_of (get_or peers c.args.to c.index-self-to.result)).presence packet))
           c.parts-number.result.1.items) c.me-me.ensures after.packed);
       peers = peers_put peers c.args.to c.parts-number.new.self below
-          ∙ ap (put (peers_of peers) c.args.to) (after.peer ∙ ap (λ (t : PeerState). record t {
-            kept = kept_after t.kept packet;
-            number = (t.number + 1) % 2 ^ 32;
-          }) here);
+          ∙ ap (put (peers_of peers) c.args.to) (after.peer ∙ (λ i. record (here i) {
+            kept = kept_after (here i).kept (taken_by (here i).presence packet);
+            gave = (here i).gave || settings i;
+            number = ((here i).number + 1) % 2 ^ 32;
+          }));
     }
+
+pub returns-clause-fair : goal.returns-clause-fair
+returns-clause-fair c = λ ready limits me m shows.
+    c.next_unless-packet.ensures.fair (c.holds_back-held.ensures ∙ ready) limits me m shows

@@ -1,0 +1,44 @@
+use Rattle.std.proofs.Common.{rules, ◌≡◌, ◌<◌, ℕ, length, ap, ◌∙◌, arith}
+use Rattle.dn_machine.specs.Node.{put}
+use Rattle.dn_lockstep.specs.Contents.{contents}
+use Rattle.std.specs.Prelude.{slice_index}
+use Rattle.dn_link.specs.Kept.{acknowledged}
+use Rattle.dn_link.specs.Linked.{PeerState, done_with, larger}
+use Rattle.dn_link.specs.Linking.{linked, peers_of}
+use Rattle.dn_link.specs.Presence.{still_given}
+use Rattle.dn_link.proofs.Linked.{peer_at, peers_put}
+use Rattle.dn_link.proofs.link.Link.meet.Goals as goal
+
+pub returns-then-differs-clause-link : goal.returns-then-differs-clause-link
+returns-then-differs-clause-link c =
+    let peers = c.args.self.now.peers in
+    let bundle = c.args.bundle.now in
+    let four : length peers ≡ 4 = search rules in
+    let below : bundle.from < length peers = omega (arith, four, c.requires) in
+    let here = peer_at peers bundle.from c.index-self-bundle.result below in
+    rw c.if-differs.true (ap (λ (f : ℕ → PeerState). record (linked c.args.self.now) { peers = f })
+    (peers_put peers bundle.from c.is_now.new.self below
+    ∙ ap (put (peers_of peers) bundle.from) (c.is_now.ensures ∙ (λ i. record (here i) {
+      presence = c.args.presence;
+      gave = still_given c.args.presence (here i).gave;
+    }))))
+
+pub returns-clause-link : goal.returns-clause-link
+returns-clause-link c =
+    let peers = c.args.self.now.peers in
+    let bundle = c.args.bundle.now in
+    let n = contents c.args.self.now.lockstep in
+    let four : length peers ≡ 4 = search rules in
+    let below : bundle.from < length peers = omega (arith, four, c.requires) in
+    let here = peer_at peers bundle.from c.index-self-bundle-2.result below in
+    let done = c.done_with-done.ensures
+    ∙ ap (λ (k : ℕ). done_with c.args.presence n (slice_index bundle.counts.got k)) c.me-me.ensures in
+    let tells = c.tells.ensures ∙ (λ i. record {
+      kept = acknowledged (here i).kept (done i);
+      reported = larger (here i).reported bundle.counts.got;
+      presence = c.args.presence;
+      gave = still_given c.args.presence (here i).gave;
+      number = (here i).number;
+    }) in
+    rw c.if-differs.false (ap (λ (f : ℕ → PeerState). record (linked c.args.self.now) { peers = f })
+    (peers_put peers bundle.from c.tells.new.self below ∙ ap (put (peers_of peers) bundle.from) tells))

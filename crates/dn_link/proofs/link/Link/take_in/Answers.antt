@@ -1,0 +1,43 @@
+use Rattle.std.proofs.Common.{◌≡◌, false, ap, ◌∙◌, subst}
+use Rattle.std.specs.Prelude.{Bool, not, ◌&&◌}
+use Rattle.dn_lockstep.specs.Contents.{contents}
+use Rattle.dn_link.specs.Hearing.{ByTest, HearsAll}
+use Rattle.dn_link.specs.Linked.{Linked, PeerState, hears}
+use Rattle.dn_link.specs.Linking.{identity_of, linked}
+use Rattle.dn_link.specs.Pace.{after_datagram}
+use Rattle.dn_link.specs.Packets.{packets_in}
+use Rattle.dn_link.specs.Presence.{Becomes, is_fresh, may_come}
+use Rattle.dn_link.proofs.link.Link.take_in.Goals as goal
+
+pub returns-clause-heard : goal.returns-clause-heard
+returns-clause-heard c =
+    let b = c.args.bundle.now in
+    let own = identity_of c.args.self.now in
+    let presence = c.after-presence.result in
+    let differs = c.differs-differs.result in
+    let known = (linked c.args.self.now).peers b.from in
+    let started = c.hear-started.result in
+    let node = contents c.hear-started.new.self.lockstep in
+    let fresh = c.is_fresh-fresh.ensures ∙ (λ i. is_fresh (c.newest.ensures i) b.number) in
+    rw c.requires.peer (
+      presence,
+      differs,
+      started,
+      c.received_of.ensures,
+      record {
+        becomes = subst (λ (f : Bool). Becomes own known.gave f b b.message known.presence presence) fresh
+            (subst (λ (t : PeerState). Becomes own t.gave c.is_fresh-fresh.result b b.message t.presence presence)
+            c.peer-peer.ensures c.after-presence.ensures);
+        alike = c.differs-differs.ensures;
+        heard = subst (λ (l : Linked). ByTest (not differs && hears l presence) (HearsAll (packets_in b) l.node node started)
+            ((node ≡ l.node) × (started ≡ false))) c.meet.ensures.link c.hear-started.ensures.heard;
+        peers = c.hear-started.ensures.peers ∙ ap (λ (l : Linked). l.peers) c.meet.ensures.link;
+      },
+    )
+
+pub returns-clause-pace : goal.returns-clause-pace
+returns-clause-pace c =
+    let b = c.args.bundle.now in
+    let may = c.may_come-may_come.ensures ∙ ap (λ (t : PeerState). may_come t.gave t.presence) c.peer-peer.ensures in
+    c.hear-started.ensures.pace ∙ c.hear.ensures
+    ∙ (λ i. after_datagram b (may i) (c.meet.ensures.pace i))

@@ -1,0 +1,35 @@
+use Rattle.std.proofs.Common.{rules, ◌≡◌, ◌≤◌, ℕ, zero, suc, ◌∷◌, [], length, refl, ap, sym, ◌∙◌, arith}
+use Rattle.std.specs.Prelude.{false, nat_lt, pos}
+use Rattle.dn_machine.proofs.Put.{same_functions}
+use Rattle.dn_lockstep.specs.Contents.{contents}
+use Rattle.dn_link.specs.Line.{LineState, lead_over}
+use Rattle.dn_link.specs.Lines.{line_of}
+use Rattle.dn_link.specs.Pacing.{lines_of, new_line, state_of}
+use Rattle.dn_link.proofs.Places.{place_past}
+use Rattle.dn_link.proofs.pace.Pace.see_leads.Goals as goal
+
+not_below : (one other : ℕ) → other ≤ one → nat_lt one other ≡ false
+not_below one other past = grind (arith, past)
+
+pub returns : goal.returns
+returns c =
+    let old = state_of c.args.self.now in
+    let n = contents c.args.lockstep.now in
+    let four : length c.args.self.now.lines ≡ 4 = search rules in
+    let new : ℕ → LineState = lines_of (c.at_tick.result ∷ c.at_tick-2.result ∷ c.at_tick-3.result ∷ c.at_tick-4.result ∷ []) in
+    let seen : ℕ → LineState = (λ player. record (old.lines player) { own_lead = lead_over n player }) in
+    let past : (player : ℕ) → 4 ≤ player → new_line ≡ seen player =
+    (λ player beyond.
+    let none : nat_lt player n.players ≡ false = not_below player n.players (omega (arith, beyond, c.args.lockstep.now.few)) in
+    let unled : lead_over n player ≡ pos 0 = rw none refl in
+    (λ i. record (sym (place_past line_of new_line c.args.self.now.lines player (omega (arith, four, beyond))) i) {
+      own_lead = sym unled i;
+    })) in
+    let go : (player : ℕ) → new player ≡ seen player = (λ player. elim player as (λ k. new k ≡ seen k) [
+      | zero ↦ c.at_tick.ensures ∙ (λ i. record (c.line.ensures i) { own_lead = lead_over n 0 })
+      | suc zero ↦ c.at_tick-2.ensures ∙ (λ i. record (c.line-2.ensures i) { own_lead = lead_over n 1 })
+      | suc (suc zero) ↦ c.at_tick-3.ensures ∙ (λ i. record (c.line-3.ensures i) { own_lead = lead_over n 2 })
+      | suc (suc (suc zero)) ↦ c.at_tick-4.ensures ∙ (λ i. record (c.line-4.ensures i) { own_lead = lead_over n 3 })
+      | suc (suc (suc (suc player))) ↦ past (suc (suc (suc (suc player)))) (omega arith)
+    ]) in
+    ap (λ (f : ℕ → LineState). record old { lines = f }) (same_functions go)

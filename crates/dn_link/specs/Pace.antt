@@ -1,0 +1,122 @@
+-- How the pace of a link changes.
+use Rattle.std.specs.Prelude.{◌≡◌, ℕ, ◌+◌, ◌&&◌, ◌||◌, if◌then◌else◌, Bool, List, nat_le, is_none, is_some, ◌+ℤ◌, ◌-ℤ◌, ℤ, pos, Option, None, Some, Result, Ok, Err}
+use Rattle.dn_tic.specs.declared.input.Input.{Input}
+use Rattle.dn_machine.specs.declared.answers.Made.{Made}
+use Rattle.dn_machine.specs.declared.answers.Made.TheVariants.{Full}
+use Rattle.dn_machine.specs.Node.{put}
+use Rattle.dn_lockstep.specs.Contents.{Contents}
+use Rattle.dn_seal.specs.declared.seal.Seal.{Seal}
+use Rattle.dn_open.specs.Sealed.{sealing_of}
+use Rattle.dn_link.specs.declared.bundle.Bundle.{Bundle}
+use Rattle.dn_link.specs.declared.bundle.BundleFault.{BundleFault}
+use Rattle.dn_link.specs.Hearing.{ByTest}
+use Rattle.dn_link.specs.Leaning.{LeaningState, looks, step_of, worked_off}
+use Rattle.dn_link.specs.Line.{LineState, heard_on, lead_over, missing}
+use Rattle.dn_link.specs.Linked.{Linked, end_known, is_peer}
+use Rattle.dn_link.specs.Paced.{PaceState}
+use Rattle.dn_link.specs.Presence.{is_playing, may_come}
+use Rattle.dn_link.specs.Reading.{IsBundledAs}
+use Rattle.dn_link.specs.Stretching.{StretchingState, drops, stretches}
+use Rattle.dn_link.specs.Tally.{stops}
+
+-- an input for which there was no room is owed
+abbrev pub owed_after : Input → Made → Option Input
+owed_after input Full = Some input
+owed_after input made = None
+
+-- the input of a tick: one that is still owed is dropped for it
+abbrev pub after_input : Input → Made → PaceState → PaceState
+after_input input made pace =
+    record pace {
+      owed = owed_after input made;
+      stretching = if is_some pace.owed then drops pace.stretching else pace.stretching;
+    }
+
+-- one that is owed stays so until there is room for it
+abbrev pub still_owed : Made → Option Input → Option Input
+still_owed Full owed = owed
+still_owed made owed = None
+
+-- a datagram of a peer came
+abbrev pub after_datagram : Bundle → Bool → PaceState → PaceState
+after_datagram bundle may_come pace =
+    record pace { lines = put pace.lines bundle.from (heard_on bundle may_come (pace.lines bundle.from)) }
+
+-- bytes came that were no datagram
+abbrev pub after_refusal : PaceState → PaceState
+after_refusal pace = record pace { refused = stops (pace.refused + 1) }
+
+abbrev pub PacesAs : Result Bundle BundleFault → Linked → PaceState → PaceState → Type 0
+PacesAs (Err fault) link old new = new ≡ after_refusal old
+PacesAs (Ok bundle) link old new =
+    ByTest (is_peer link.node bundle.from)
+    (new ≡ after_datagram bundle (may_come (link.peers bundle.from).gave (link.peers bundle.from).presence) old)
+    (new ≡ old)
+
+-- any bytes came
+abbrev pub Paces : Seal → List ℕ → Linked → PaceState → PaceState → Type 0
+Paces seal bytes link old new =
+    (opened : Result Bundle BundleFault) × IsBundledAs (sealing_of seal link.node.me) bytes opened
+    × PacesAs opened link old new
+
+-- a peer that plays, as far as it was heard
+abbrev pub is_paced : Linked → PaceState → ℕ → Bool
+is_paced link pace player =
+    is_peer link.node player && (is_some (pace.lines player).newest
+    && (is_none (end_known link.node player) && is_playing (link.peers player).presence))
+
+-- the difference between the two leads, as seen at the last tick of each side
+abbrev pub difference : Linked → PaceState → ℕ → ℤ
+difference link pace player =
+    if is_paced link pace player then lead_over link.node player -ℤ (pace.lines player).lead else pos 0
+
+-- of all peers together
+abbrev pub differences : Linked → PaceState → ℤ
+differences link pace =
+    difference link pace 0 +ℤ difference link pace 1 +ℤ difference link pace 2 +ℤ difference link pace 3
+
+abbrev pub one_if : Bool → ℕ
+one_if test = if test then 1 else 0
+
+-- this player and its peers
+abbrev pub playing : Linked → PaceState → ℕ
+playing link pace =
+    1 + one_if (is_paced link pace 0) + one_if (is_paced link pace 1) + one_if (is_paced link pace 2)
+    + one_if (is_paced link pace 3)
+
+-- the newest datagram of a peer that plays told that two or more of the last ones to it are missing
+abbrev pub wants_second : Linked → PaceState → ℕ → Bool
+wants_second link pace player = is_paced link pace player && nat_le 2 (pace.lines player).reported_holes
+
+-- datagrams are missing on a line, there or here
+abbrev pub is_lossy_line : LineState → Bool
+is_lossy_line line = nat_le 2 line.reported_holes || nat_le 2 (missing line)
+
+-- datagrams are missing on the line of a peer that plays
+abbrev pub is_lossy_to : Linked → PaceState → ℕ → Bool
+is_lossy_to link pace player = is_paced link pace player && is_lossy_line (pace.lines player)
+
+abbrev pub is_lossy : Linked → PaceState → Bool
+is_lossy link pace =
+    is_lossy_to link pace 0 || (is_lossy_to link pace 1
+    || (is_lossy_to link pace 2 || is_lossy_to link pace 3))
+
+-- this player's leads as seen at a tick
+abbrev pub with_leads : Contents → PaceState → PaceState
+with_leads node pace =
+    record pace { lines = λ player. record (pace.lines player) { own_lead = lead_over node player } }
+
+abbrev pub leaned : Linked → PaceState → LeaningState
+leaned link pace = looks (differences link pace) (playing link pace) pace.leaning
+
+abbrev pub stretched : Linked → PaceState → StretchingState
+stretched link pace = stretches (is_lossy link pace) pace.stretching
+
+-- a tick
+abbrev pub after_tick : Linked → PaceState → PaceState
+after_tick link pace =
+    record (with_leads link.node pace) { leaning = worked_off (leaned link pace); stretching = stretched link pace }
+
+-- by how many 32nds of a tick the next tick comes later
+abbrev pub lean : Linked → PaceState → ℤ
+lean link pace = step_of (leaned link pace) +ℤ pos (stretched link pace).slow

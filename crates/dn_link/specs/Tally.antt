@@ -1,0 +1,64 @@
+-- What came over a line, in numbers for the screen.
+use Rattle.std.specs.Prelude.{ℕ, ◌+◌, ◌-◌, ◌*◌, ◌/◌, ◌%◌, ◌^◌, ◌==◌, if◌then◌else◌, nat_lt, nat_le, min, Bool, Option, None, Some}
+use Rattle.std.specs.Prelude.{bit_and, bit_or}
+
+-- how many datagrams came; how many numbers before the newest did not; how many came twice, or too late to tell; and
+-- which of the last sixty-four numbers came, the newest in the lowest bit
+pub record TallyState : Type 0 where
+  pub came : ℕ
+  pub lost : ℕ
+  pub repeated : ℕ
+  pub too_old : ℕ
+  pub seen : ℕ
+
+-- counts stop at the largest of 32 bits
+abbrev pub stops : ℕ → ℕ
+stops n = min n (2 ^ 32 - 1)
+
+abbrev pub begins : TallyState → TallyState
+begins tally = record tally { came = stops (tally.came + 1); seen = 1 }
+
+-- which came, so many numbers later
+abbrev pub seen_later : ℕ → ℕ → ℕ
+seen_later step seen = if nat_lt step 64 then bit_or (seen * 2 ^ step % 2 ^ 64) 1 else 1
+
+-- a newer one came: those between are missing so far
+abbrev pub goes_on : ℕ → TallyState → TallyState
+goes_on step tally =
+    record tally {
+      came = stops (tally.came + 1);
+      lost = stops (tally.lost + (step - 1));
+      seen = seen_later step tally.seen;
+    }
+
+-- the number so far behind the newest came
+abbrev pub was_seen : ℕ → ℕ → Bool
+was_seen back seen = bit_and (seen / 2 ^ back) 1 == 1
+
+-- one that was missing came late
+abbrev pub comes_late : ℕ → TallyState → TallyState
+comes_late back tally =
+    record tally {
+      came = stops (tally.came + 1);
+      lost = tally.lost - 1;
+      seen = bit_or tally.seen (2 ^ back);
+    }
+
+abbrev pub comes_again : TallyState → TallyState
+comes_again tally = record tally { repeated = stops (tally.repeated + 1) }
+
+abbrev pub comes_too_late : TallyState → TallyState
+comes_too_late tally = record tally { too_old = stops (tally.too_old + 1) }
+
+-- one that is no newer than the newest
+abbrev pub falls_back : ℕ → TallyState → TallyState
+falls_back back tally =
+    if nat_le 64 back
+    then comes_too_late tally
+    else (if was_seen back tally.seen then comes_again tally else comes_late back tally)
+
+-- a datagram of this number came, after the newest
+abbrev pub tallied : Option ℕ → ℕ → TallyState → TallyState
+tallied None number tally = begins tally
+tallied (Some newest) number tally =
+    if nat_lt newest number then goes_on (number - newest) tally else falls_back (newest - number) tally

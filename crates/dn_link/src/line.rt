@@ -1,0 +1,177 @@
+//! What is known of the line from a peer.
+
+ghost use Rattle.std.specs.Prelude.{◌≡◌, ◌<◌, ◌≤◌, ◌+ℤ◌, ◌-ℤ◌, None, nat_abs, pos};
+ghost use Rattle.dn_lockstep.specs.Contents.{contents};
+ghost use Rattle.dn_link.specs.Line.{after_old, byte_of, counted, heard_on, lead_over, missing, after_newest, with_tally};
+ghost use Rattle.dn_link.specs.Lines.{line_of};
+
+use crate::bundle::Bundle;
+use crate::presence::LATEST;
+use crate::tally::Tally;
+use dn_lockstep::Lockstep;
+
+/// How many numbers a block has.
+const BLOCK: u32 = 64;
+
+/// A number of at most one byte.
+fn byte_of(number: u64) -> u8
+    ensures { result ≡ byte_of number }
+{
+    number.min(255) as u8
+}
+
+/// By how many commands a player leads another.
+pub(crate) fn lead_over(lockstep: &Lockstep, player: u8) -> i8
+    ensures { result ≡ lead_over (contents lockstep.now) player }
+{
+    match lockstep.got(player) {
+        Some(got) => (i64::from(lockstep.made()) - i64::from(got)).clamp(-128, 127) as i8,
+        None => 0,
+    }
+}
+
+/// By how much one lead is more than another.
+pub(crate) fn apart(one: i8, other: i8) -> i32
+    ensures value { result ≡ one -ℤ other }
+    ensures small { nat_abs result ≤ 255 }
+{
+    i32::from(one) - i32::from(other)
+}
+
+/// Four of them together.
+pub(crate) fn total(first: i32, second: i32, third: i32, fourth: i32) -> i32
+    requires first { nat_abs first ≤ 255 }
+    requires second { nat_abs second ≤ 255 }
+    requires third { nat_abs third ≤ 255 }
+    requires fourth { nat_abs fourth ≤ 255 }
+    ensures value { result ≡ first +ℤ second +ℤ third +ℤ fourth }
+    ensures small { nat_abs result ≤ 1024 }
+{
+    first + second + third + fourth
+}
+
+/// What is known of the line from a peer.
+#[derive(Clone, Copy)]
+pub(crate) struct Line {
+    /// The number of the newest datagram that came.
+    pub(crate) newest: Option<u32>,
+    /// How many numbers before it are missing, in its block.
+    holes: u8,
+    /// How many were in the block before.
+    before: u8,
+    /// How many its sender misses.
+    pub(crate) reported_holes: u8,
+    /// By how many commands its sender led.
+    pub(crate) lead: i8,
+    /// By how many commands this player led at its last tick.
+    pub(crate) own_lead: i8,
+    /// What came.
+    pub(crate) tally: Tally,
+}
+
+impl Line {
+    /// From which nothing came.
+    pub(crate) fn new() -> Line
+        ensures { line_of result ≡ record {
+          newest = None;
+          holes = 0;
+          before = 0;
+          reported_holes = 0;
+          lead = pos 0;
+          own_lead = pos 0;
+          tally = record { came = 0; lost = 0; repeated = 0; too_old = 0; seen = 0 };
+        } }
+    {
+        Line {
+            newest: None,
+            holes: 0,
+            before: 0,
+            reported_holes: 0,
+            lead: 0,
+            own_lead: 0,
+            tally: Tally::new(),
+        }
+    }
+
+    /// The same line, at a tick at which this player leads its peer as the lockstep tells.
+    pub(crate) fn at_tick(&self, lockstep: &Lockstep, player: u8) -> Line
+        ensures { line_of result ≡ record (line_of self.now) { own_lead = lead_over (contents lockstep.now) player } }
+    {
+        Line {
+            own_lead: lead_over(lockstep, player),
+            ..*self
+        }
+    }
+
+    /// How many of the peer's datagrams are missing.
+    pub(crate) fn missing(&self) -> u8
+        ensures { result ≡ missing (line_of self.now) }
+    {
+        self.holes.max(self.before)
+    }
+
+    /// Counts what is missing between two datagrams.
+    fn count(&mut self, newest: u32, number: u32)
+        requires { newest < number }
+        ensures { line_of self.new ≡ counted newest number (line_of self.old) }
+    {
+        let holes = byte_of(u64::from(self.holes) + u64::from(number - newest - 1));
+        if number / BLOCK == newest / BLOCK {
+            self.holes = holes;
+        } else {
+            self.holes = 0;
+            self.before = holes;
+        }
+    }
+
+    /// What a datagram told is the newest.
+    fn tell(&mut self, bundle: &Bundle)
+        ensures { line_of self.new ≡ after_newest bundle.now (line_of self.old) }
+    {
+        self.newest = Some(bundle.number);
+        self.reported_holes = bundle.holes;
+        self.lead = bundle.lead;
+    }
+
+    /// Counts a datagram.
+    fn tally(&mut self, bundle: &Bundle)
+        ensures { line_of self.new ≡ with_tally bundle.now (line_of self.old) }
+    {
+        self.tally.count(self.newest, bundle.number);
+    }
+
+    /// An old datagram came.
+    fn hear_old(&mut self, newest: u32, may_come: bool, bundle: &Bundle)
+        ensures { line_of self.new ≡ after_old newest may_come bundle.now (line_of self.old) }
+    {
+        if may_come && u64::from(bundle.number) + LATEST <= u64::from(newest) {
+            self.holes = 0;
+            self.before = 0;
+            self.tally.begin();
+            self.tell(bundle);
+        } else {
+            self.tally(bundle);
+        }
+    }
+
+    /// A datagram came, of a player in whose place another may come, or of one that stays.
+    pub(crate) fn hear(&mut self, bundle: &Bundle, may_come: bool)
+        ensures { line_of self.new ≡ heard_on bundle.now may_come (line_of self.old) }
+    {
+        match self.newest {
+            None => {
+                self.tally(bundle);
+                self.tell(bundle);
+            }
+            Some(newest) => {
+                if bundle.number > newest {
+                    self.tally(bundle);
+                    self.count(newest, bundle.number);
+                    self.tell(bundle);
+                } else {
+                    self.hear_old(newest, may_come, bundle);
+                }
+            }
+        }
+    }
+}

@@ -1,0 +1,56 @@
+//! What goes to a peer.
+
+use super::Link;
+use crate::bundle::Bundle;
+use crate::counting::counts_of;
+use crate::giving::{is_settings, next_unless};
+use crate::presence::message_of;
+use crate::writing::seal_bundle;
+use arrayvec::ArrayVec;
+
+impl Link {
+    ghost use Rattle.std.specs.Prelude.{◌<◌, false, None, Some, IfSome, is_some, ◌≡◌};
+    ghost use Rattle.dn_lockstep.specs.Near.{IsFair};
+    ghost use Rattle.dn_lockstep.specs.Sent.{sent_to};
+    ghost use Rattle.dn_lockstep.specs.Steps.{Tells};
+    ghost use Rattle.dn_link.specs.Linked.{Gives, holds_back, is_peer};
+    ghost use Rattle.dn_link.specs.Linking.{identity_of, linked, seal_of};
+    ghost use Rattle.dn_link.specs.Pacing.{pace_of};
+
+    /// The datagram to a peer, for each tick: every packet that it has not acknowledged, and how far this player is. Before
+    /// the game starts it says who is there, and player 0 gives the settings once all are. After the end it says goodbye.
+    /// None to a number that is no peer's.
+    pub fn datagram(&mut self, to: u8) -> Option<ArrayVec<u8, 1200>>
+        ensures gives { IfSome result (λ bytes. Gives (seal_of self.old) (identity_of self.old) (pace_of self.old) to
+            (linked self.old) (linked self.new) bytes.items) }
+        ensures fair { IfSome result (λ bytes. holds_back (linked self.old) ≡ false → Tells (linked self.old).node
+            (λ limits me m. IfSome (sent_to to limits me m).1 IsFair)) }
+        ensures peer { is_some result ≡ is_peer (linked self.old).node to }
+        ensures idle { result ≡ None → linked self.new ≡ linked self.old }
+        ensures pace { pace_of self.new ≡ pace_of self.old }
+        ensures seal { seal_of self.new ≡ seal_of self.old }
+        ensures identity { identity_of self.new ≡ identity_of self.old }
+    {
+        let me = self.lockstep.me();
+        if to == me || to >= self.lockstep.players() {
+            return None;
+        }
+        let message = message_of(&self.identity, self.lockstep.phase());
+        let held = self.holds_back();
+        let gathers = self.is_gathering();
+        let packet = next_unless(held, &mut self.lockstep, to);
+        let settings = is_settings(gathers, &packet);
+        let (number, parts) = self.peers[to as usize].parts(me, packet, settings);
+        let bundle = Bundle {
+            from: me,
+            to,
+            number,
+            lead: self.pace.own_lead(to),
+            holes: self.pace.missing(to),
+            counts: counts_of(&self.lockstep),
+            message,
+            parts,
+        };
+        Some(seal_bundle(&self.sealer, &bundle))
+    }
+}

@@ -1,0 +1,97 @@
+//! How ticks are paced.
+
+use super::Link;
+use crate::line::{apart, lead_over, total};
+
+impl Link {
+    ghost use Rattle.std.specs.Prelude.{◌<◌, ◌≤◌, ◌+◌, ◌&&◌, nat_abs, nat_lt, ◌≡◌};
+    ghost use Rattle.dn_link.specs.Linking.{identity_of, linked, seal_of};
+    ghost use Rattle.dn_link.specs.Pace.{after_tick, difference, is_paced, lean, playing, differences, is_lossy, is_lossy_to, wants_second};
+    ghost use Rattle.dn_link.specs.Pacing.{pace_of};
+
+    /// Whether a player is a peer that plays, as far as it was heard.
+    fn is_paced(&self, player: u8) -> bool
+        ensures { result ≡ is_paced (linked self.now) (pace_of self.now) player }
+    {
+        self.is_peer(player)
+            && self.pace.is_heard(player)
+            && self.lockstep.end(player).is_none()
+            && self.peer(player).presence.is_playing()
+    }
+
+    /// The difference between this player's lead and a peer's, as each saw its own at its last tick.
+    fn difference(&self, player: u8) -> i32
+        requires { player < 4 }
+        ensures value { result ≡ difference (linked self.now) (pace_of self.now) player }
+        ensures small { nat_abs result ≤ 255 }
+    {
+        if !self.is_paced(player) {
+            return 0;
+        }
+        apart(lead_over(&self.lockstep, player), self.pace.lead(player))
+    }
+
+    /// Of all peers together.
+    fn differences(&self) -> i32
+        ensures value { result ≡ differences (linked self.now) (pace_of self.now) }
+        ensures small { nat_abs result ≤ 1024 }
+    {
+        total(
+            self.difference(0),
+            self.difference(1),
+            self.difference(2),
+            self.difference(3),
+        )
+    }
+
+    /// How many play: this player and its peers.
+    fn playing(&self) -> u8
+        ensures value { result ≡ playing (linked self.now) (pace_of self.now) }
+        ensures some { 1 ≤ result }
+    {
+        1 + u8::from(self.is_paced(0))
+            + u8::from(self.is_paced(1))
+            + u8::from(self.is_paced(2))
+            + u8::from(self.is_paced(3))
+    }
+
+    /// Whether datagrams are missing on the line of a peer that plays.
+    fn is_lossy_to(&self, player: u8) -> bool
+        requires { player < 4 }
+        ensures { result ≡ is_lossy_to (linked self.now) (pace_of self.now) player }
+    {
+        self.is_paced(player) && self.pace.is_lossy(player)
+    }
+
+    /// Whether they are on some line.
+    fn is_lossy(&self) -> bool
+        ensures { result ≡ is_lossy (linked self.now) (pace_of self.now) }
+    {
+        self.is_lossy_to(0) || self.is_lossy_to(1) || self.is_lossy_to(2) || self.is_lossy_to(3)
+    }
+
+    /// For each tick, after the build: by how many 32nds of a tick the next tick comes later than usual; earlier where it is
+    /// below 0. So players whose clocks differ come to lead each other by the same, and on a line that is longer than the
+    /// window ticks are stretched in place of dropped.
+    pub fn lean(&mut self) -> i8
+        ensures leans { result ≡ lean (linked self.old) (pace_of self.old) }
+        ensures range { nat_abs result ≤ 34 }
+        ensures pace { pace_of self.new ≡ after_tick (linked self.old) (pace_of self.old) }
+        ensures link { linked self.new ≡ linked self.old }
+        ensures seal { seal_of self.new ≡ seal_of self.old }
+        ensures identity { identity_of self.new ≡ identity_of self.old }
+    {
+        let differences = self.differences();
+        let playing = self.playing();
+        let lossy = self.is_lossy();
+        self.pace.tick(&self.lockstep, differences, playing, lossy)
+    }
+
+    /// Whether a peer that plays tells that two or more of the last datagrams to it are missing: one more, half of a tick
+    /// after the tick's own, then makes good for those that will be.
+    pub fn wants_second(&self, player: u8) -> bool
+        ensures { result ≡ wants_second (linked self.now) (pace_of self.now) player }
+    {
+        self.is_paced(player) && self.pace.misses(player)
+    }
+}

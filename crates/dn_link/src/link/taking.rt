@@ -1,0 +1,118 @@
+//! What comes in.
+
+use super::Link;
+use crate::bundle::Bundle;
+use crate::counting::certain;
+use crate::hearing::hear_bundle;
+use crate::presence::{Presence, differs, is_fresh};
+use crate::reading::open_bundle;
+use crate::received::{Received, received_of};
+
+impl Link {
+    ghost use Rattle.dn_link.specs.Presence.{may_come};
+    ghost use Rattle.std.specs.Prelude.{◌<◌, ◌&&◌, not, true, false, Ok, ◌≡◌};
+    ghost use Rattle.dn_machine.specs.Game.{fresh};
+    ghost use Rattle.dn_link.specs.Hearing.{ByTest, HearsAll};
+    ghost use Rattle.dn_link.specs.Packets.{packets_in};
+    ghost use Rattle.dn_link.specs.Linked.{Receives, ReceivesAs, done_with, hears, is_peer, met};
+    ghost use Rattle.dn_link.specs.Linking.{identity_of, linked, seal_of};
+    ghost use Rattle.dn_link.specs.Pace.{Paces, after_datagram};
+    ghost use Rattle.dn_link.specs.Pacing.{pace_of};
+
+    /// How many commands of this player a peer needs no more, of which this is known and which tells this count.
+    fn done_with(&self, presence: Presence, count: u32) -> u32
+        ensures { result ≡ done_with presence (linked self.now).node count }
+    {
+        match presence {
+            Presence::Left(_) => self.lockstep.made(),
+            _ => certain(&self.lockstep, count),
+        }
+    }
+
+    /// A peer tells who it is and what it has; where its datagram differs only the former is taken.
+    fn meet(&mut self, bundle: &Bundle, presence: Presence, differs: bool)
+        requires { bundle.now.from < 4 }
+        ensures link { linked self.new ≡ met differs bundle.now presence (linked self.old) }
+        ensures pace { pace_of self.new ≡ pace_of self.old }
+        ensures seal { seal_of self.new ≡ seal_of self.old }
+        ensures identity { identity_of self.new ≡ identity_of self.old }
+    {
+        if differs {
+            self.peers[bundle.from as usize].is_now(presence);
+            return;
+        }
+        let me = self.lockstep.me();
+        let done = self.done_with(presence, bundle.counts.got[me as usize]);
+        self.peers[bundle.from as usize].tells(done, &bundle.counts.got, presence);
+    }
+
+    /// Whether the packets of a peer's datagram are heard, of whom this is known.
+    fn hears(&self, presence: Presence) -> bool
+        ensures { result ≡ hears (linked self.now) presence }
+    {
+        !self.is_gathering() || (self.all_ready() && presence.is_there())
+    }
+
+    /// Hears the packets of a datagram, if it does, and the datagram does not differ.
+    fn hear(&mut self, bundle: &Bundle, presence: Presence, differs: bool) -> bool
+        ensures heard { ByTest (not differs && hears (linked self.old) presence)
+            (HearsAll (packets_in bundle.now) (linked self.old).node (linked self.new).node result)
+            (((linked self.new).node ≡ (linked self.old).node) × (result ≡ false)) }
+        ensures peers { (linked self.new).peers ≡ (linked self.old).peers }
+        ensures pace { pace_of self.new ≡ pace_of self.old }
+        ensures seal { seal_of self.new ≡ seal_of self.old }
+        ensures identity { identity_of self.new ≡ identity_of self.old }
+    {
+        !differs && self.hears(presence) && hear_bundle(&mut self.lockstep, bundle)
+    }
+
+    /// Takes in the datagram of a peer.
+    fn take_in(&mut self, bundle: &Bundle) -> Received
+        requires peer { is_peer (linked self.old).node bundle.now.from ≡ true }
+        requires few { bundle.now.from < 4 }
+        ensures heard { ReceivesAs (identity_of self.old) (pace_of self.old) (Ok bundle.now) (linked self.old) (linked self.new) result }
+        ensures pace { pace_of self.new ≡ after_datagram bundle.now
+            (may_come ((linked self.old).peers bundle.now.from).gave ((linked self.old).peers bundle.now.from).presence)
+            (pace_of self.old) }
+        ensures seal { seal_of self.new ≡ seal_of self.old }
+        ensures identity { identity_of self.new ≡ identity_of self.old }
+    {
+        let from = bundle.from;
+        let fresh = is_fresh(self.pace.newest(from), bundle.number);
+        let peer = self.peer(from);
+        let may_come = peer.presence.may_come(peer.gave);
+        let presence = peer
+            .presence
+            .after(&self.identity, peer.gave, fresh, bundle);
+        let differs = differs(&self.identity, &bundle.message, presence);
+        self.meet(bundle, presence, differs);
+        self.pace.hear(bundle, may_come);
+        let started = self.hear(bundle, presence, differs);
+        received_of(differs, from, started)
+    }
+
+    /// Takes in any bytes, wherever they come from. Answers which peer's datagram they are, and whether the game started
+    /// with it. Bytes that are no datagram to this player in this game, and a datagram whose sender is no peer, change
+    /// nothing but what `refused` counts.
+    pub fn receive(&mut self, bytes: &[u8]) -> Received
+        ensures heard { Receives (seal_of self.old) (identity_of self.old) (pace_of self.old) bytes.now (linked self.old)
+            (linked self.new) result }
+        ensures pace { Paces (seal_of self.old) bytes.now (linked self.old) (pace_of self.old) (pace_of self.new) }
+        ensures seal { seal_of self.new ≡ seal_of self.old }
+        ensures identity { identity_of self.new ≡ identity_of self.old }
+    {
+        match open_bundle(&self.sealer, bytes) {
+            Err(fault) => {
+                self.pace.refuse();
+                Received::Unopened(fault)
+            }
+            Ok(bundle) => {
+                if self.is_peer(bundle.from) {
+                    self.take_in(&bundle)
+                } else {
+                    Received::Stranger(bundle.from)
+                }
+            }
+        }
+    }
+}

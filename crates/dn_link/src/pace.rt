@@ -1,0 +1,142 @@
+//! What a link keeps for its pace.
+
+ghost use Rattle.std.specs.Prelude.{◌≡◌, ◌≤◌, ◌+ℤ◌, pos, nat_abs};
+ghost use Rattle.dn_machine.specs.declared.answers.Made.{Made as AnyMade};
+ghost use Rattle.dn_lockstep.specs.Contents.{contents};
+ghost use Rattle.dn_link.specs.Leaning.{looks, step_of, worked_off};
+ghost use Rattle.dn_link.specs.Pace.{after_input, after_refusal, owed_after, still_owed, with_leads};
+ghost use Rattle.dn_link.specs.Pacing.{new_pace, state_of};
+ghost use Rattle.dn_link.specs.Stretching.{stretches};
+
+mod lines;
+
+use crate::leaning::Leaning;
+use crate::line::Line;
+use crate::stretching::Stretching;
+use dn_lockstep::Lockstep;
+use dn_machine::Made;
+use dn_tic::Input;
+
+/// An input for which there was no room is owed.
+fn owed_after(input: Input, made: Made) -> Option<Input>
+    ensures { result ≡ owed_after input made }
+{
+    match made {
+        Made::Full => Some(input),
+        _ => None,
+    }
+}
+
+/// Two parts of a tick.
+fn together(lean: i8, slow: i8) -> i8
+    requires lean { nat_abs lean ≤ 2 }
+    requires slow { nat_abs slow ≤ 32 }
+    ensures value { result ≡ lean +ℤ slow }
+    ensures range { nat_abs result ≤ 34 }
+{
+    lean + slow
+}
+
+/// What a link keeps for its pace.
+#[derive(Drop)]
+pub(crate) struct Pace {
+    /// The line from each player.
+    lines: [Line; 4],
+    /// The input of which a command is owed.
+    owed: Option<Input>,
+    leaning: Leaning,
+    stretching: Stretching,
+    /// How often bytes came that were no datagram.
+    refused: u32,
+}
+
+impl Pace {
+    /// Before the first tick.
+    pub(crate) fn new() -> Pace
+        ensures { state_of result ≡ new_pace }
+    {
+        Pace {
+            lines: [Line::new(), Line::new(), Line::new(), Line::new()],
+            owed: None,
+            leaning: Leaning::new(),
+            stretching: Stretching::new(),
+            refused: 0,
+        }
+    }
+
+    /// The input of which a command is owed.
+    pub(crate) fn owed(&self) -> Option<Input>
+        ensures { result ≡ (state_of self.now).owed }
+    {
+        self.owed
+    }
+
+    /// The input of a tick, and what came of it.
+    pub(crate) fn take(&mut self, input: Input, made: Made)
+        ensures { state_of self.new ≡ after_input input made (state_of self.old) }
+    {
+        if self.owed.is_some() {
+            self.stretching.drop_input();
+        }
+        self.owed = owed_after(input, made);
+    }
+
+    /// What came of the input that was owed.
+    pub(crate) fn settle(&mut self, made: Made)
+        ensures { state_of self.new ≡ record (state_of self.old) { owed = still_owed made (state_of self.old).owed } }
+    {
+        if made != Made::Full {
+            self.owed = None;
+        }
+    }
+
+    /// How often bytes came that were no datagram.
+    pub(crate) fn refused(&self) -> u32
+        ensures { result ≡ (state_of self.now).refused }
+    {
+        self.refused
+    }
+
+    /// Bytes came that were no datagram.
+    pub(crate) fn refuse(&mut self)
+        ensures { state_of self.new ≡ after_refusal (state_of self.old) }
+    {
+        self.refused = self.refused.saturating_add(1);
+    }
+
+    /// By how many commands this player leads each other.
+    fn see_leads(&mut self, lockstep: &Lockstep)
+        ensures { state_of self.new ≡ with_leads (contents lockstep.now) (state_of self.old) }
+    {
+        self.lines = [
+            self.line(0).at_tick(lockstep, 0),
+            self.line(1).at_tick(lockstep, 1),
+            self.line(2).at_tick(lockstep, 2),
+            self.line(3).at_tick(lockstep, 3),
+        ];
+    }
+
+    /// A tick, at which the leads of so many players differ by so much in all, and on whose lines datagrams are missing or
+    /// not. Answers by how many 32nds of a tick the next tick comes later.
+    pub(crate) fn tick(
+        &mut self,
+        lockstep: &Lockstep,
+        differences: i32,
+        playing: u8,
+        lossy: bool,
+    ) -> i8
+        requires few { 1 ≤ playing }
+        requires small { nat_abs differences ≤ 1024 }
+        ensures leans { result ≡ step_of (looks differences playing (state_of self.old).leaning)
+            +ℤ pos (stretches lossy (state_of self.old).stretching).slow }
+        ensures range { nat_abs result ≤ 34 }
+        ensures next { state_of self.new ≡ record (with_leads (contents lockstep.now) (state_of self.old)) {
+          leaning = worked_off (looks differences playing (state_of self.old).leaning);
+          stretching = stretches lossy (state_of self.old).stretching;
+        } }
+    {
+        self.see_leads(lockstep);
+        let lean = self.leaning.tick(differences, playing);
+        together(lean, self.stretching.tick(lossy))
+    }
+}

@@ -1,0 +1,227 @@
+//! Who is there.
+
+ghost use Rattle.std.specs.Prelude.{◌≡◌, Option};
+ghost use Rattle.dn_link.specs.Ends.{tells_end};
+ghost use Rattle.dn_link.specs.Presence.{Becomes, Differs, Greets, cause_byte, given_up, goes, has_gone, has_left, has_played, is_fresh, is_playing, is_there, may_come, message_of, plays_on, still_given, takes_part};
+ghost use Rattle.dn_machine.specs.declared.answers.Cause.{Cause as AnyCause};
+ghost use Rattle.dn_machine.specs.declared.answers.Phase.{Phase as AnyPhase};
+
+use crate::bundle::{Bundle, Identity, Message};
+use crate::counting::tells_end;
+use dn_machine::{Cause, Phase};
+
+/// How far a late datagram may lie behind the newest. One that lies farther behind comes from a player who has begun anew.
+pub(crate) const LATEST: u64 = 64;
+
+/// What is known of another player.
+#[derive(Clone, Copy, Debug, PartialEq, Eq)]
+pub enum Presence {
+    /// Nothing came from it.
+    Unknown,
+    /// It is there, with the same identity, and its game has not started.
+    There,
+    /// Its game has started.
+    Playing,
+    /// It is there with another identity, and takes no part.
+    Different(Identity),
+    /// It left before its game started, for this cause, or was given up then (0). Another may take its place.
+    Away(u8),
+    /// It has played and left, for this cause.
+    Left(u8),
+    /// It was given up in the game, or after it was given the settings: nobody takes its place.
+    Forgotten,
+}
+
+/// A player says hello.
+fn greets(own: &Identity, identity: Identity) -> Presence
+    ensures { Greets own.now identity result }
+{
+    if *own == identity {
+        Presence::There
+    } else {
+        Presence::Different(identity)
+    }
+}
+
+/// Whether nothing of a datagram is taken but who its sender is: it greets with another identity, or its sender, of whom this
+/// is known by now, differs.
+pub(crate) fn differs(own: &Identity, message: &Message, presence: Presence) -> bool
+    ensures { Differs own.now message.now presence result }
+{
+    match message {
+        Message::Hello(identity) => {
+            if *own == *identity {
+                !presence.takes_part()
+            } else {
+                true
+            }
+        }
+        _ => !presence.takes_part(),
+    }
+}
+
+/// Whether a datagram is not late.
+pub(crate) fn is_fresh(newest: Option<u32>, number: u32) -> bool
+    ensures { result ≡ is_fresh newest number }
+{
+    match newest {
+        Some(newest) => number > newest || u64::from(number) + LATEST <= u64::from(newest),
+        None => true,
+    }
+}
+
+/// The byte that tells a cause.
+fn cause_byte(cause: Cause) -> u8
+    ensures { result ≡ cause_byte cause }
+{
+    match cause {
+        Cause::Quit => 1,
+        Cause::Full => 2,
+        Cause::Inconsistent { .. } => 3,
+    }
+}
+
+/// What a player in this phase tells others.
+pub(crate) fn message_of(identity: &Identity, phase: Phase) -> Message
+    ensures { result ≡ message_of identity.now phase }
+{
+    match phase {
+        Phase::Listening => Message::Hello(*identity),
+        Phase::Gathering => Message::Hello(*identity),
+        Phase::Playing => Message::Game,
+        Phase::Ended(cause) => Message::Goodbye(cause_byte(cause)),
+    }
+}
+
+impl Presence {
+    /// Whether it plays, has played and left, or was given up in the game.
+    fn has_played(self) -> bool
+        ensures { result ≡ has_played self }
+    {
+        matches!(
+            self,
+            Presence::Playing | Presence::Left(_) | Presence::Forgotten
+        )
+    }
+
+    /// Whether it may come anew, or another in its place, where it was given the settings or not.
+    pub(crate) fn may_come(self, gave: bool) -> bool
+        ensures { result ≡ may_come gave self }
+    {
+        !gave && !self.has_played()
+    }
+
+    /// Its game goes on.
+    fn plays_on(self, fresh: bool) -> Presence
+        ensures { result ≡ plays_on fresh self }
+    {
+        match self {
+            Presence::Left(cause) => Presence::Left(cause),
+            Presence::Forgotten if !fresh => Presence::Forgotten,
+            _ => Presence::Playing,
+        }
+    }
+
+    /// It says goodbye, having played or not.
+    fn goes(self, played: bool, cause: u8) -> Presence
+        ensures { result ≡ goes played cause self }
+    {
+        if played {
+            return Presence::Left(cause);
+        }
+        if self.has_played() || !self.takes_part() {
+            self
+        } else {
+            Presence::Away(cause)
+        }
+    }
+
+    /// A datagram came from it, which is late or `fresh`; it was given the settings or not.
+    pub(crate) fn after(self, own: &Identity, gave: bool, fresh: bool, bundle: &Bundle) -> Presence
+        ensures { Becomes own.now gave fresh bundle.now bundle.now.message self result }
+    {
+        match bundle.message {
+            Message::Hello(identity) => {
+                if fresh && self.may_come(gave) {
+                    greets(own, identity)
+                } else {
+                    self
+                }
+            }
+            Message::Game => self.plays_on(fresh),
+            Message::Goodbye(cause) => {
+                let played = tells_end(bundle);
+                if fresh || played {
+                    self.goes(played, cause)
+                } else {
+                    self
+                }
+            }
+        }
+    }
+
+    /// Whether it has the settings that it was given: not if it said goodbye before its game.
+    pub(crate) fn still_given(self, gave: bool) -> bool
+        ensures { result ≡ still_given self gave }
+    {
+        match self {
+            Presence::Away(_) => false,
+            _ => gave,
+        }
+    }
+
+    /// Whether it may take part.
+    pub(crate) fn takes_part(self) -> bool
+        ensures { result ≡ takes_part self }
+    {
+        !matches!(self, Presence::Different(_))
+    }
+
+    /// Whether it is there, plays, or has played.
+    pub(crate) fn is_there(self) -> bool
+        ensures { result ≡ is_there self }
+    {
+        matches!(
+            self,
+            Presence::There | Presence::Playing | Presence::Left(_)
+        )
+    }
+
+    /// Whether it has played and left, or was given up in the game.
+    pub(crate) fn has_left(self) -> bool
+        ensures { result ≡ has_left self }
+    {
+        matches!(self, Presence::Left(_) | Presence::Forgotten)
+    }
+
+    /// Whether its game goes on.
+    pub(crate) fn is_playing(self) -> bool
+        ensures { result ≡ is_playing self }
+    {
+        matches!(self, Presence::Playing)
+    }
+
+    /// Whether it said goodbye before its game.
+    pub(crate) fn has_gone(self) -> bool
+        ensures { result ≡ has_gone self }
+    {
+        match self {
+            Presence::Away(cause) => cause > 0,
+            _ => false,
+        }
+    }
+
+    /// It is given up, by a player in this phase, who gave it the settings or not.
+    pub(crate) fn given_up(self, gave: bool, phase: Phase) -> Presence
+        ensures { result ≡ given_up gave phase self }
+    {
+        match self {
+            Presence::Left(cause) => Presence::Left(cause),
+            Presence::Playing => Presence::Forgotten,
+            _ => match phase {
+                Phase::Listening | Phase::Gathering if !gave => Presence::Away(0),
+                _ => Presence::Forgotten,
+            },
+        }
+    }
+}

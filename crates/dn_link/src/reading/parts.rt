@@ -1,0 +1,109 @@
+//! Reading the parts of a datagram.
+
+ghost use Rattle.std.specs.Prelude.{◌≤◌, ◌≡◌, length};
+ghost use Rattle.std.specs.Option.{option_map};
+ghost use Rattle.dn_link.specs.Text.{part_bytes};
+ghost use Rattle.dn_link.specs.Told.{told_all, told_part, told_parts, told_run, told_whole};
+
+use crate::bundle::{Carried, Part, Run};
+use arrayvec::ArrayVec;
+use dn_seal::{ask_in, tic_at};
+
+/// The packet at the front of bytes.
+fn whole_in(bytes: &[u8]) -> Option<Carried>
+    ensures { result ≡ told_whole bytes.now }
+{
+    if bytes.len() < 10 {
+        return None;
+    }
+    let size = usize::from(bytes[9]);
+    if size > 104 || bytes.len() < 10 + size {
+        return None;
+    }
+    let Some(ask) = ask_in(bytes[4], tic_at(bytes, 5)) else {
+        return None;
+    };
+    let mut datagram = ArrayVec::new();
+    let _ = datagram.try_extend_from_slice(&bytes[10..10 + size]);
+    Some(Carried {
+        start: tic_at(bytes, 0),
+        ask,
+        datagram,
+    })
+}
+
+/// The run of so many commands at the front of bytes.
+fn run_in(count: u8, bytes: &[u8]) -> Option<Part>
+    ensures { result ≡ told_run count bytes.now }
+{
+    let size = 8 * usize::from(count);
+    if count > 24 || bytes.len() < 4 + size {
+        return None;
+    }
+    let mut commands = ArrayVec::new();
+    let _ = commands.try_extend_from_slice(&bytes[4..4 + size]);
+    Some(Part::Run(Run {
+        start: tic_at(bytes, 0),
+        commands,
+    }))
+}
+
+/// The part at the front of bytes.
+fn part_in(bytes: &[u8]) -> Option<Part>
+    ensures { result ≡ told_part bytes.now }
+{
+    if bytes.is_empty() {
+        return None;
+    }
+    if bytes[0] != 0 {
+        return run_in(bytes[0], &bytes[1..]);
+    }
+    match whole_in(&bytes[1..]) {
+        Some(packet) => Some(Part::Whole(packet)),
+        None => None,
+    }
+}
+
+/// How many bytes tell it.
+fn part_len(part: &Part) -> usize
+    ensures { result ≡ length (part_bytes part.now) }
+{
+    match part {
+        Part::Whole(packet) => 11 + packet.datagram.len(),
+        Part::Run(run) => 5 + run.commands.len(),
+    }
+}
+
+/// So many parts, and nothing after them.
+fn all_in(bytes: &[u8], count: u8) -> Option<ArrayVec<Part, 24>>
+    requires { count ≤ 24 }
+    ensures { option_map (λ found. found.items) result ≡ told_all count bytes.now }
+{
+    let mut found = ArrayVec::new();
+    let mut rest = bytes;
+    'parts: for done in 0..count {
+        let Some(part) = part_in(rest) else {
+            return None;
+        };
+        rest = &rest[part_len(&part)..];
+        found.push(part);
+    }
+    if !rest.is_empty() {
+        return None;
+    }
+    Some(found)
+}
+
+/// The parts whose number stands in front.
+pub(super) fn parts_in(bytes: &[u8]) -> Option<ArrayVec<Part, 24>>
+    ensures { option_map (λ found. found.items) result ≡ told_parts bytes.now }
+{
+    if bytes.is_empty() {
+        return None;
+    }
+    let count = bytes[0];
+    if count > 24 {
+        return None;
+    }
+    all_in(&bytes[1..], count)
+}

@@ -1,0 +1,110 @@
+//! What came over a line, in numbers for the screen.
+
+ghost use Rattle.std.specs.Prelude.{◌≡◌, ◌<◌, ◌≤◌};
+ghost use Rattle.dn_link.specs.Tally.{begins, comes_again, comes_late, comes_too_late, falls_back, goes_on, seen_later, tallied, was_seen};
+ghost use Rattle.dn_link.specs.Lines.{tally_of};
+
+/// How many of the last numbers are known one by one.
+const KNOWN: u32 = 64;
+
+/// What came over a line.
+#[derive(Clone, Copy)]
+pub(crate) struct Tally {
+    /// How many datagrams came.
+    pub(crate) came: u32,
+    /// How many numbers before the newest did not.
+    pub(crate) lost: u32,
+    /// How many came twice.
+    pub(crate) repeated: u32,
+    /// How many came too late to tell.
+    pub(crate) too_old: u32,
+    /// Which of the last numbers came, the newest in the lowest bit.
+    seen: u64,
+}
+
+/// Which came, so many numbers later.
+fn seen_later(step: u32, seen: u64) -> u64
+    ensures { result ≡ seen_later step seen }
+{
+    if step < KNOWN { seen << step | 1 } else { 1 }
+}
+
+/// Whether the number so far behind the newest came.
+fn was_seen(back: u32, seen: u64) -> bool
+    requires { back < 64 }
+    ensures { result ≡ was_seen back seen }
+{
+    (seen >> back) & 1 == 1
+}
+
+impl Tally {
+    /// Nothing.
+    pub(crate) fn new() -> Tally
+        ensures { tally_of result ≡ record { came = 0; lost = 0; repeated = 0; too_old = 0; seen = 0 } }
+    {
+        Tally {
+            came: 0,
+            lost: 0,
+            repeated: 0,
+            too_old: 0,
+            seen: 0,
+        }
+    }
+
+    /// The first came, or the first of one who begins anew.
+    pub(crate) fn begin(&mut self)
+        ensures { tally_of self.new ≡ begins (tally_of self.old) }
+    {
+        self.came = self.came.saturating_add(1);
+        self.seen = 1;
+    }
+
+    /// A newer one came.
+    fn go_on(&mut self, step: u32)
+        requires { 1 ≤ step }
+        ensures { tally_of self.new ≡ goes_on step (tally_of self.old) }
+    {
+        self.came = self.came.saturating_add(1);
+        self.lost = self.lost.saturating_add(step - 1);
+        self.seen = seen_later(step, self.seen);
+    }
+
+    /// One that was missing came late.
+    fn come_late(&mut self, back: u32)
+        requires { back < 64 }
+        ensures { tally_of self.new ≡ comes_late back (tally_of self.old) }
+    {
+        self.came = self.came.saturating_add(1);
+        self.lost = self.lost.saturating_sub(1);
+        self.seen |= 1 << back;
+    }
+
+    /// One that is no newer than the newest came.
+    fn fall_back(&mut self, back: u32)
+        ensures { tally_of self.new ≡ falls_back back (tally_of self.old) }
+    {
+        if back >= KNOWN {
+            self.too_old = self.too_old.saturating_add(1);
+        } else if was_seen(back, self.seen) {
+            self.repeated = self.repeated.saturating_add(1);
+        } else {
+            self.come_late(back);
+        }
+    }
+
+    /// A datagram of this number came, after the newest.
+    pub(crate) fn count(&mut self, newest: Option<u32>, number: u32)
+        ensures { tally_of self.new ≡ tallied newest number (tally_of self.old) }
+    {
+        match newest {
+            None => self.begin(),
+            Some(newest) => {
+                if number > newest {
+                    self.go_on(number - newest);
+                } else {
+                    self.fall_back(newest - number);
+                }
+            }
+        }
+    }
+}
