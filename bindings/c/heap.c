@@ -1,4 +1,4 @@
-/* The three functions by which the library asks for memory, over malloc, realloc and free. */
+/* The three functions through which the library asks for memory, over malloc, realloc and free. */
 #include "zirmegat_memory.h"
 #include <stdlib.h>
 

@@ -1,9 +1,9 @@
-/* zirmegat.h: the network play of vanilla Doom for an engine with a world of its own. C99 and C++.
+/* zirmegat.h: vanilla Doom's network play for an engine that has a world of its own. C99 and C++.
  *
- * A node is one player's part of a game of two to four. For each tic it takes a command or builds one from
- * keys. It gives and takes Doom's datagrams, says when a tic runs and by which moves, checks the marks of the
- * worlds, and records a demo. Maps, monsters and physics stay yours, and so does the network: the library
- * opens nothing, waits for nothing and prints nothing. A tic is 1/35 second.
+ * A node is one player's part of a game of two to four players. For each tic it takes a command, or builds
+ * one from keys. It writes and reads Doom's datagrams, reports when a tic runs and by which moves, checks the
+ * marks of the worlds, and records a demo. Maps, monsters and physics stay yours, and so does the network:
+ * the library opens nothing, never waits, and prints nothing. A tic is 1/35 second.
  *
  *     zmg_node node = ZMG_NODE_NONE;
  *     if (zmg_node_new(&node, &config) != ZMG_NEW_OK) there is no node
@@ -13,36 +13,40 @@
  *         each datagram: if (zmg_node_receive(&node, sender, bytes, n).code == ZMG_RECEIVE_STARTED)
  *             begin the world
  *         while (zmg_node_run(&node, marks of the world, row).code == ZMG_RUN_RAN) step the world by row
- *     zmg_node_quit(&node);  give packets and hear datagrams for a second more;  zmg_node_free(&node);
+ *     zmg_node_quit(&node);  send and receive for a second more;  zmg_node_free(&node);
  *
  * What the caller owes:
  *   - Each player of a game has one node, made once. players, extra, limit and the window are the same for
  *     all.
- *   - Pointers are valid and aligned for what they point to, and not NULL, also where a length is 0. What a
- *     call writes overlaps nothing else that it is given.
- *   - A handle (zmg_node, zmg_sealed_node, zmg_demo) is ZMG_NODE_NONE, ZMG_SEALED_NODE_NONE or ZMG_DEMO_NONE
- *     at first, and then as the library left it. It may be moved in memory. Of copies of it only one is used.
- *   - One thread at a time uses a handle. It may go from one thread to another, by whatever orders the calls
- *     of the one before those of the other: a lock, or a thread's start or end. Different handles may be used
- *     by different threads at once.
- *   - No call is made from a signal handler, or from the forked child of a process with threads.
+ *   - Pointers are valid and aligned for what they point to, and not NULL, even if a length is 0. Memory that
+ *     a call writes overlaps nothing else that the call is given.
+ *   - A handle (zmg_node, zmg_sealed_node, zmg_link, zmg_demo) is ZMG_NODE_NONE, ZMG_SEALED_NODE_NONE,
+ *     ZMG_LINK_NONE or ZMG_DEMO_NONE at first, and then as the library left it. You may move it in memory; if
+ *     you copy it, use only one of the copies.
+ *   - Only one thread at a time uses a handle. A handle may pass from one thread to another if something
+ *     orders the calls of the first before those of the second: a lock, or a thread's start or end. Different
+ *     threads may use different handles at once.
+ *   - No call is made from a signal handler, or from a forked child of a process with threads.
  *   - malloc, realloc and free come from one allocator, and work on each thread that uses a handle, also for
- *     blocks of another thread. malloc and realloc align a block to each power of two up to 16 that divides
- *     its size, as to 8 for 24 bytes.
- *   - What zmg_node_receive is given is a datagram of this game as zmg_node_packet gave it, from its sender,
- *     and for this player; and it is not old, as is said there. A sealed node sees to all of this itself.
- *   - The marks that zmg_node_run is given are of the caller's own world: one that began with the start of
- *     zmg_node_settings and the players 0 to zmg_node_players - 1 when zmg_node_receive answered
- *     ZMG_RECEIVE_STARTED, was stepped by every row that zmg_node_run told and by nothing else, and has
- *     marks that follow from its state alone (no clock, no random numbers but the world's own, no pointers).
- * The library checks every number and every byte itself. A handle that holds nothing may be given to every
- * call: a node's calls answer as a node that does not play, with ZMG_PHASE_NO_NODE or 0 where they only read;
- * a reader's answer ZMG_DEMO_NO_READER, or 0.
+ *     blocks that another thread allocated. malloc and realloc align a block to each power of two up to 16
+ *     that divides its size: for 24 bytes, to 8.
+ *   - zmg_node_receive is given datagrams of this game as zmg_node_packet returned them, each with the number
+ *     of its sender, and only those for this player; and none that is old, as described there. A sealed node
+ *     and a link take care of all of this themselves.
+ *   - zmg_node_run is given the marks of the caller's own world. That world began with zmg_node_settings and
+ *     the players 0 to zmg_node_players - 1 when zmg_node_receive returned ZMG_RECEIVE_STARTED. It was
+ *     stepped by every row that zmg_node_run returned, and by nothing else. Its marks follow from its state
+ *     alone (no clock, no random numbers but the world's own, no pointers).
+ * The library checks every number and every byte itself. A handle that holds nothing may be passed to every
+ * call. Build, give and run then return NOT_PLAYING; zmg_node_receive and zmg_sealed_node_receive
+ * ZMG_RECEIVE_DROPPED with ZMG_DROP_NOT_PLAYING; zmg_link_receive ZMG_RECEIVED_UNOPENED with reason 0;
+ * zmg_link_catch_up ZMG_BUILD_NONE_OWED; every other call on nodes and links ZMG_PHASE_NO_NODE or 0. The calls
+ * on demos return ZMG_DEMO_NO_READER or 0.
  *
- * The codes of a call carry its name: ZMG_RUN_ are the answers of zmg_node_run, ZMG_DEMO_ those of the calls
- * on demos. ZMG_DROP_ says why zmg_node_receive or zmg_packet_decode refused a datagram, and ZMG_SEAL_ why
- * bytes are no envelope to a sealed node.
- * Names and numbers of this header do not change. New ones may be added.
+ * The codes that a call returns carry its name: ZMG_RUN_ are those of zmg_node_run, ZMG_DEMO_ those of the
+ * calls on demos. ZMG_DROP_ says why zmg_node_receive or zmg_packet_decode refused a datagram, ZMG_SEAL_ why
+ * a sealed node did not take bytes for an envelope, and ZMG_LINK_ why a link did not take them for a
+ * datagram. The names and numbers of this header do not change. New ones may be added.
  */
 #ifndef ZIRMEGAT_H
 #define ZIRMEGAT_H
@@ -54,74 +58,78 @@
 extern "C" {
 #endif
 
-/* The version of this header: 65,536 times the first number, plus the second. The first changes only where a
- * program that was written for another would no longer work. */
+/* The version of this header: 65,536 times the first number, plus the second. The first number changes only
+ * if a program that was written for an earlier one would no longer work. */
 #define ZMG_VERSION 65536u
-/* The version of the library that is linked. */
+/* Returns the version of the library that is linked. Check once that zmg_version() / 65536 is ZMG_VERSION /
+ * 65536. */
 uint32_t zmg_version(void);
 
 /* ---- A node ------------------------------------------------------------------------------------------- */
 
-/* A node, or none. The fields are the library's own. ZMG_NODE_NONE is an initialiser, for a handle that
- * holds nothing yet. Overwriting a handle that holds a node, be it with ZMG_NODE_NONE or with another handle,
- * leaks the node's memory. zmg_node_free empties a handle. */
+/* A handle that holds a node, or none. The fields are the library's own. ZMG_NODE_NONE is an initialiser, for
+ * a handle that holds nothing yet. Overwriting a handle that holds a node, with ZMG_NODE_NONE or with another
+ * handle, leaks the node's memory. zmg_node_free empties a handle. */
 typedef struct zmg_node {
     uint8_t live;
     void *at;
 } zmg_node;
 #define ZMG_NODE_NONE { 0, NULL }
 
-/* The choice of game. skill: 0 to 4, 0 the easiest. deathmatch: 0 cooperative, 1, or 2 for deathmatch 2.0.
- * no_monsters and respawn: 0 or not. episode: 1 to 3. map: 1 to 32. Monsters are never fast. */
+/* The choice of game. skill: 0 to 4, 0 the easiest. deathmatch: 0 for cooperative play, 1, or 2 for
+ * deathmatch 2.0. no_monsters and respawn: 0 for no, else yes. episode: 1 to 3. map: 1 to 32. Monsters are
+ * never fast. */
 typedef struct zmg_settings {
     uint8_t skill, deathmatch, no_monsters, respawn, episode, map;
 } zmg_settings;
 
-/* limit: how many bytes the demo may have, 1,024 to 16,777,216. The same for all players. A tic takes 5 for
- *     each player, and a full demo ends the node: 1 MiB lasts 50 minutes for two players, 25 for four. The
- *     memory for them is taken when the node is made.
+/* limit: how many bytes the demo may have, 1,024 to 16,777,216. The same for all players. A tic takes 5
+ *     bytes for each player, and a full demo ends the node: 1 MiB lasts 50 minutes for two players, 25 for
+ *     four. The memory for the demo is allocated when the node is made.
  * players: 2 to 4. The same for all players.
  * me: the number of this player, 0 to players - 1.
  * extra: if not 0, each packet repeats the last command, which helps on lines that lose packets. The same for
- *     all players.
- * settings: of player 0, who sends them to the others; of another they are not read. */
+ *     all players. A link gains nothing by it: each of its datagrams has every unacknowledged packet anyway.
+ * settings: those of player 0, who sends them to the others; those of other players are not read. */
 typedef struct zmg_config {
     uint32_t limit;
     uint8_t players, me, extra;
     zmg_settings settings;
 } zmg_config;
 
-/* Answers of the calls that make a node. Player 0's settings are looked at first, and then the window; by
- * zmg_sealed_node_new the secret before all. ZMG_NEW_BAD_KEY is never answered, ZMG_NEW_BAD_AHEAD only by
- * calls with a window, and ZMG_NEW_BAD_SECRET by zmg_sealed_node_new alone. */
+/* What the calls return that make a node or a link: the first fault, or ZMG_NEW_OK. Player 0's settings are
+ * checked first, then the window, then the rest; calls that take a secret check it before all else.
+ * ZMG_NEW_BAD_KEY is never returned, ZMG_NEW_BAD_AHEAD only by calls with a window, and ZMG_NEW_BAD_SECRET
+ * only by zmg_sealed_node_new and zmg_link_new. */
 #define ZMG_NEW_OK 0u
-#define ZMG_NEW_BAD_PLAYERS 1u
-#define ZMG_NEW_BAD_ME 2u
+#define ZMG_NEW_BAD_PLAYERS 1u    /* not 2 to 4 players */
+#define ZMG_NEW_BAD_ME 2u         /* me is not below players */
 #define ZMG_NEW_BAD_KEY 3u
-#define ZMG_NEW_BAD_LIMIT 4u
-#define ZMG_NEW_NO_MEMORY 5u
-#define ZMG_NEW_BAD_SKILL 6u
+#define ZMG_NEW_BAD_LIMIT 4u      /* not 1,024 to 16,777,216 bytes */
+#define ZMG_NEW_NO_MEMORY 5u      /* all else was in range */
+#define ZMG_NEW_BAD_SKILL 6u      /* this and the next three: player 0's settings are out of range */
 #define ZMG_NEW_BAD_DEATHMATCH 7u
 #define ZMG_NEW_BAD_EPISODE 8u
 #define ZMG_NEW_BAD_MAP 9u
-#define ZMG_NEW_BAD_AHEAD 10u
-#define ZMG_NEW_BAD_SECRET 11u
+#define ZMG_NEW_BAD_AHEAD 10u     /* the window is not 1 to ZMG_WIDEST_AHEAD */
+#define ZMG_NEW_BAD_SECRET 11u    /* all bytes of the secret are 0 */
 
-/* Makes a node in the handle. A node that the handle holds is given up first. All memory is taken here: no
- * later call on the node needs any. Where the answer is not ZMG_NEW_OK the handle holds none. */
+/* Makes a node in the handle. A node that the handle holds is freed first. All memory is allocated here: no
+ * later call on the node allocates any. If the call returns anything but ZMG_NEW_OK, the handle holds no
+ * node. */
 uint32_t zmg_node_new(zmg_node *node, const zmg_config *config);
 
-/* The same in a window of its own: this player may be `ahead` commands ahead of the tics that the node ran, 1
- * to ZMG_WIDEST_AHEAD, in place of ZMG_MOST_AHEAD. The same for all players: of a game with two windows
- * nothing is promised. Each further command hides 1/35 second more of the line's delay, and costs as much
- * until a key is felt, once it is used. */
+/* The same with a window of its own: this player may be `ahead` commands ahead of the tics that the node ran,
+ * 1 to ZMG_WIDEST_AHEAD, instead of ZMG_MOST_AHEAD. The same for all players: nothing is promised of a game
+ * with two windows. Each further command hides 1/35 second more of the line's delay; once it is used, a key
+ * is felt 1/35 second later. */
 #define ZMG_WIDEST_AHEAD 12u
 uint32_t zmg_node_new_within(zmg_node *node, const zmg_config *config, uint8_t ahead);
 
-/* Gives up the node and its memory. The handle then holds none, and a new node may be made in it. */
+/* Frees the node and its memory. The handle then holds none, and a new node may be made in it. */
 void zmg_node_free(zmg_node *node);
 
-/* The bits of keys. */
+/* The bits of the keys for zmg_node_build. */
 #define ZMG_KEY_FORWARD (1u << 0)
 #define ZMG_KEY_BACK (1u << 1)
 #define ZMG_KEY_LEFT (1u << 2)
@@ -134,8 +142,9 @@ void zmg_node_free(zmg_node *node);
 #define ZMG_KEY_USE (1u << 9)
 #define ZMG_KEY_WEAPON(n) (1u << (9 + (n))) /* n is 1 to 8 */
 
-/* code: ZMG_BUILD_MADE where the command of `tic` was made, ZMG_BUILD_AHEAD where as many commands wait
- * to be run as the window allows, and ZMG_BUILD_NOT_PLAYING. tic is 0 but for ZMG_BUILD_MADE. */
+/* code: ZMG_BUILD_MADE if the command of `tic` was made, ZMG_BUILD_AHEAD if as many commands are waiting to
+ * be run as the window allows, ZMG_BUILD_NOT_PLAYING if the node does not play. tic is 0 except with
+ * ZMG_BUILD_MADE. */
 #define ZMG_BUILD_MADE 0u
 #define ZMG_BUILD_AHEAD 1u
 #define ZMG_BUILD_NOT_PLAYING 2u
@@ -143,63 +152,64 @@ typedef struct zmg_made {
     uint32_t code, tic;
 } zmg_made;
 
-/* Builds the command of these keys for the next tic. Bits from 18 on are no keys. */
+/* Builds the command of these keys for the next tic. Bits from 18 on are ignored. If no command is made, the
+ * node stays as it is. */
 zmg_made zmg_node_build(zmg_node *node, uint32_t keys);
 
-/* How many commands may wait to be run at a node of zmg_node_new. */
+/* The window of a node of zmg_node_new: how many of its commands may be waiting to be run. */
 #define ZMG_MOST_AHEAD 5u
 
-/* A tic command. The move as in zmg_move. mark: the consistency mark of the player's own world twelve tics
- * before. chat: a letter of chat, which the library carries and does not read. */
+/* A tic command. The fields of the move are as in zmg_move. mark: the consistency mark of the player's own
+ * world twelve tics before. chat: a letter of chat, which the library carries and does not read. */
 typedef struct zmg_command {
     int16_t turn, mark;
     int8_t forward, side;
     uint8_t chat, buttons;
 } zmg_command;
 
-/* Takes a whole command for the next tic, in place of zmg_node_build: for an engine that makes its commands
- * itself, of a mouse, a stick, keys of its own, chat, pause or save. It answers as zmg_node_build does. All
- * numbers are taken as they are but two: mark is not read, since the node puts in its own; and a forward of
- * -128 counts as -127, since -128 would end a demo. What was made is read back by
- * zmg_node_command(node, me, tic) with the tic of the answer. For the turns of later builds from keys, which
- * begin slowly, it counts as a build with no key down. */
+/* Takes a whole command for the next tic, instead of zmg_node_build: for an engine that makes its commands
+ * itself, from a mouse, a stick, keys of its own, chat, pause or save. Returns what zmg_node_build returns.
+ * All numbers are taken as they are except two: mark is not read, since the node puts in its own; and a
+ * forward of -128 counts as -127, since -128 would end a demo. To read back what was made, call
+ * zmg_node_command(node, me, tic) with the tic that was returned. Turns by keys begin slowly: for later
+ * builds from keys, a given command counts as a build with no key down. */
 zmg_made zmg_node_give(zmg_node *node, const zmg_command *command);
 
-/* 1 where zmg_node_build and zmg_node_give would make a command now: the node plays, and fewer of its
- * commands wait to be run than its window allows. Else 0. An engine asks before it takes up the motion of a
- * mouse or a letter of chat, which would be lost with a command that is not made. */
+/* Returns 1 if zmg_node_build and zmg_node_give would make a command now: the node plays, and fewer of its
+ * commands are waiting to be run than its window allows. Else returns 0. Ask before you consume the motion of
+ * a mouse or a letter of chat, which would be lost with a command that is not made. */
 uint32_t zmg_node_can_build(zmg_node *node);
 
-/* A command where known is 1; where there is none all is 0. */
+/* A command, if known is 1; if there is none, all fields are 0. */
 typedef struct zmg_known_command {
     uint32_t known;
     zmg_command command;
 } zmg_known_command;
 
-/* A player's command for a tic, with its chat and mark, which zmg_move lacks. Known are the last twelve that
- * the node has of each player, its own among them, or twice the window where that is more. That of the next
- * tic to be run, zmg_node_ran, is known as soon as it has come: an engine reads it before zmg_node_run and
- * uses it where that tic is run. From the tic of zmg_node_end on there is none. */
+/* Returns a player's command for a tic, with its chat and mark, which zmg_move lacks. The last twelve
+ * commands that the node has of each player are known, its own among them, or twice the window if that is
+ * more. The command of the next tic to be run, zmg_node_ran, is known as soon as it has arrived: read it
+ * before zmg_node_run, and use it if that tic is run. From the tic of zmg_node_end on there is none. */
 zmg_known_command zmg_node_command(zmg_node *node, uint8_t player, uint32_t tic);
 
-/* How many bytes of room a packet needs at most. */
+/* How many bytes of room zmg_node_packet needs: a packet has no more. */
 #define ZMG_PACKET_SIZE 104u
 
-/* Writes the next packet to player `to` to the front of out, and answers how many bytes it has. Each packet
- * is taken as sent. 0, with the node and out as they were, where room is below ZMG_PACKET_SIZE, and where
- * there is none: to the node's own player, to a number that is no player's, at ZMG_PHASE_LISTENING, and at
- * ZMG_PHASE_ENDED where no game had started. */
+/* Writes the next packet to player `to` to the front of out, and returns how many bytes it has. The packet
+ * then counts as sent. Returns 0, and leaves the node and out as they were, if room is below
+ * ZMG_PACKET_SIZE or if there is no packet: to the node's own player, to a number that belongs to no player,
+ * at ZMG_PHASE_LISTENING, and at ZMG_PHASE_ENDED if no game had started. */
 size_t zmg_node_packet(zmg_node *node, uint8_t to, uint8_t *out, size_t room);
 
-/* A number where known is 1; where there is none both are 0. */
+/* A number, if known is 1; if there is none, both fields are 0. */
 typedef struct zmg_number {
     uint32_t known, value;
 } zmg_number;
 
-/* The full tic numbers of a packet, of which it carries only the low bytes. known: 1, or 0 where there is no
- * packet, and then all is 0. ask: the tic from which commands are asked for again; while all callers keep
- * what they owe, at most the window (5, or that of zmg_node_new_within) before start. start: the tic of the
- * first command; 0 for set-up. count: how many commands. flags: as in zmg_packet. */
+/* The full tic numbers of a packet, which itself carries only their low bytes. known: 1, or 0 if there is no
+ * packet, and then all fields are 0. ask: the first tic whose command is asked for again, if any; as long as
+ * all callers do what they owe, at most the window (5, or that of zmg_node_new_within) before start. start:
+ * the tic of the first command; 0 for set-up. count: how many commands. flags: as in zmg_packet. */
 typedef struct zmg_aim {
     uint32_t known;
     zmg_number ask;
@@ -207,20 +217,21 @@ typedef struct zmg_aim {
     uint8_t flags, count;
 } zmg_aim;
 
-/* What zmg_node_packet would give to player `to` now; to be called before it, since that call moves on. A
- * transport may send start along, so that its receiver can tell old datagrams: see zmg_node_receive. */
+/* Returns the numbers of the packet that zmg_node_packet would write for player `to` now. Call it before
+ * zmg_node_packet, which moves on to the next packet. A transport may send start along, so that the receiver
+ * recognises old datagrams: see zmg_node_receive. */
 zmg_aim zmg_node_aim(zmg_node *node, uint8_t to);
 
-/* code: what came of a datagram. number: how many commands were new (ZMG_RECEIVE_TAKEN), why it was dropped
- * (ZMG_RECEIVE_DROPPED), and else 0. */
+/* code: what became of a datagram. number: how many commands were new (ZMG_RECEIVE_TAKEN), or why it was
+ * dropped (ZMG_RECEIVE_DROPPED; see ZMG_DROP_), else 0. */
 #define ZMG_RECEIVE_STARTED 0u /* the game starts: begin your world */
 #define ZMG_RECEIVE_TAKEN 1u   /* commands were new, and are kept */
 #define ZMG_RECEIVE_STALE 2u   /* no command was new */
-#define ZMG_RECEIVE_GAP 3u     /* commands before it are missing, and are asked for; the sender may have
-                                * left: see zmg_node_end */
+#define ZMG_RECEIVE_GAP 3u     /* commands before its first are missing, and are asked for; the sender may
+                                * have left: see zmg_node_end */
 #define ZMG_RECEIVE_LEFT 4u    /* the sender has left, and all its commands are here: see zmg_node_end */
-#define ZMG_RECEIVE_NOTED 5u   /* at ZMG_PHASE_GATHERING: the sender was heard, others not yet; else this
-                                * node has ended */
+#define ZMG_RECEIVE_NOTED 5u   /* at ZMG_PHASE_GATHERING: the sender was heard, but not yet all others; else
+                                * this node has ended */
 #define ZMG_RECEIVE_DROPPED 6u
 typedef struct zmg_heard {
     uint32_t code, number;
@@ -229,50 +240,53 @@ typedef struct zmg_heard {
 /* Why a datagram was dropped. It changed nothing. */
 #define ZMG_DROP_SHORT 1u        /* fewer than 8 bytes */
 #define ZMG_DROP_MANY 2u         /* it announces more than twelve commands */
-#define ZMG_DROP_LENGTH 3u       /* its length is not that of the commands it announces */
+#define ZMG_DROP_LENGTH 3u       /* its length does not match the commands that it announces */
 #define ZMG_DROP_SUM 4u          /* its sum is wrong */
-#define ZMG_DROP_STRANGER 5u     /* not from another player of the game, or it names another player than
-                                  * from */
-#define ZMG_DROP_OUT_OF_PLACE 6u /* settings, not from player 0 or once the game runs */
+#define ZMG_DROP_STRANGER 5u     /* `from` is not another player of the game, or is not the player that it
+                                  * names */
+#define ZMG_DROP_OUT_OF_PLACE 6u /* settings that are not from player 0, or that come once the game runs */
 #define ZMG_DROP_VERSION 7u      /* the sender plays another version */
 #define ZMG_DROP_SETTINGS 8u     /* settings out of range */
 #define ZMG_DROP_KILL 9u         /* a KILL packet, which no node obeys */
-#define ZMG_DROP_BEFORE 10u      /* a tic below 0 */
+#define ZMG_DROP_BEFORE 10u      /* its start is a tic below 0 */
 #define ZMG_DROP_STOP 11u        /* a command that would end a demo */
 #define ZMG_DROP_OVERRUN 12u     /* more tics ahead than the node keeps commands */
 #define ZMG_DROP_NOT_PLAYING 13u /* the game has not started here, or this node has ended */
-#define ZMG_DROP_END 14u         /* contradicts the sender's end */
+#define ZMG_DROP_END 14u         /* it contradicts the sender's end */
 
-/* Hears a datagram of player `from`. Who sent it is for the transport to know. A packet carries only low
- * bytes of tics, so the transport hands in none whose start or ask lies more than 64 tics from zmg_node_made.
- * With a window of w (ZMG_MOST_AHEAD, or that of zmg_node_new_within) a node keeps k commands of each player:
- * 12, or 2 * w where that is more. A transport that sends zmg_aim.start along drops at receipt what starts
- * more than 64 - w away (59 with five), since ask lies at most w before start, and never past zmg_node_made.
- * One that goes by age drops what is older than 64 - k - w tics (47: 1.3 seconds at 35 builds a second),
- * since a new packet may already lie up to k + w away (17), and hands a node that has ended nothing later
- * than 64 - w tics after its end (59), since those who play on leave its zmg_node_made behind. These tics are
- * commands: those that the receiver has made since the packet was given, and those that a sender makes after
- * the receiver's end. A node that makes several in a tic, as after a pause, counts each. What a player gives
- * after it has left keeps its start while the others play on, so its age does not tell how far away it lies.
- * Once zmg_node_ran has reached that player's zmg_node_end, the transport drops all packets of that player.
- * Until then what was given after the player left is near at any age at a node that has not ended, and what
- * was given before goes by age. A set-up packet may come at any time. */
+/* Takes in a datagram from player `from`. It is up to the transport to know who sent it. A packet carries
+ * only the low bytes of tics, so the transport passes in none whose start or ask lies more than 64 tics from
+ * zmg_node_made. A set-up packet may come at any time. Let w be the window (ZMG_MOST_AHEAD, or that of
+ * zmg_node_new_within), and k the number of commands that a node keeps of each player: 12, or 2 * w if that
+ * is more. Either of two rules will do:
+ *   - By number. The transport sends zmg_aim.start along, and drops at receipt what starts more than 64 - w
+ *     away (59 with five), since ask lies at most w before start, and never past zmg_node_made.
+ *   - By age. It drops what is older than 64 - k - w tics (47: 1.3 seconds at 35 builds a second), since a
+ *     new packet may already lie up to k + w away (17). To a node that has ended it passes nothing later than
+ *     64 - w tics after its end (59), since those who play on leave its zmg_node_made behind. These tics are
+ *     commands: those that the receiver has made since the packet was given, and those that a sender makes
+ *     after the receiver's end. A node that makes several in a tic, as after a pause, counts each.
+ * What a player gives after it has left keeps its start while the others play on, so its age does not show
+ * how far away it lies. Once zmg_node_ran has reached that player's zmg_node_end, the transport drops all
+ * packets of that player. Until then, what was given after the player left is near at any age at a node that
+ * has not ended, and what was given before goes by age. */
 zmg_heard zmg_node_receive(zmg_node *node, uint8_t from, const uint8_t *bytes, size_t length);
 
-/* A player's move in one tic, where present is 1; else all 0. forward and side in units of 2048 in a world
- * of 16 fractional bits, side to the right; turn to the left in 65,536ths of a full turn. buttons: bit 0
- * attack, bit 1 use, bit 2 a change to the weapon in bits 3 to 5, which is that of ZMG_KEY_WEAPON less 1;
- * other players' commands may set any bits. */
+/* A player's move in one tic, if present is 1; else all fields are 0. forward and side are in units of 2048
+ * in a world of 16 fractional bits, side to the right; turn is to the left, in 65,536ths of a full turn.
+ * buttons: bit 0 is attack, bit 1 use, bit 2 a change to the weapon in bits 3 to 5, which is the n of
+ * ZMG_KEY_WEAPON(n) minus 1; other players' commands may set any bits. */
 typedef struct zmg_move {
     int16_t turn;
     int8_t forward, side;
     uint8_t buttons, present;
 } zmg_move;
 
-/* code: ZMG_RUN_RAN where `tic` was run; ZMG_RUN_WAITING where the command of `player` is missing;
- * ZMG_RUN_DEMO_FULL and ZMG_RUN_INCONSISTENT, where the node has ended; ZMG_RUN_NOT_PLAYING. At
- * ZMG_RUN_INCONSISTENT the mark of `player` for the next tic was `was` in place of `should`: the worlds
- * differ since twelve tics before, or earlier. Fields that are not named for a code are 0. */
+/* code: ZMG_RUN_RAN if `tic` was run; ZMG_RUN_WAITING if the command of `player` is missing;
+ * ZMG_RUN_DEMO_FULL or ZMG_RUN_INCONSISTENT if this call ended the node; ZMG_RUN_NOT_PLAYING if it does not
+ * play. With ZMG_RUN_INCONSISTENT the command of `player` for the next tic carries the mark `was` instead of
+ * `should`: the worlds have differed since twelve tics before, or earlier. Fields that are not named for a
+ * code are 0. */
 #define ZMG_RUN_RAN 0u
 #define ZMG_RUN_WAITING 1u
 #define ZMG_RUN_DEMO_FULL 2u
@@ -284,20 +298,21 @@ typedef struct zmg_ran {
     uint8_t player;
 } zmg_ran;
 
-/* Runs the next tic. marks: each player's mark in the caller's world as it stands; any number for a seat
- * without a player. At ZMG_RUN_RAN row has the moves by which the world is stepped next; else row stays as
- * it is. */
+/* Runs the next tic, if it can. marks: each player's mark in the caller's world as it stands; any number for
+ * a seat without a player. With ZMG_RUN_RAN, row has the moves by which the world is stepped next; with any
+ * other code row stays as it is. */
 zmg_ran zmg_node_run(zmg_node *node, const int16_t marks[4], zmg_move row[4]);
 
-/* Ends the node: 1 where it had not ended, else 0. If it has played, it still gives packets, which tell the
- * others of its end, and hears datagrams, which may ask for its last commands again. */
+/* Ends the node. Returns 1 if it had not ended before, else 0. If it has played, it still gives packets,
+ * which show the others where its commands end, and still takes datagrams, which may ask for its last
+ * commands again. So go on sending and receiving for a second or so. */
 uint32_t zmg_node_quit(zmg_node *node);
 
-/* What a node tells of itself. */
+/* The calls that read a node. */
 
 #define ZMG_PHASE_NO_NODE 0u
 #define ZMG_PHASE_LISTENING 1u /* waits for player 0's settings */
-#define ZMG_PHASE_GATHERING 2u /* player 0, which waits to hear every other */
+#define ZMG_PHASE_GATHERING 2u /* player 0, which waits to hear from every other */
 #define ZMG_PHASE_PLAYING 3u
 #define ZMG_PHASE_ENDED 4u
 #define ZMG_CAUSE_NONE 0u
@@ -312,79 +327,81 @@ typedef struct zmg_phase {
 } zmg_phase;
 
 zmg_phase zmg_node_phase(zmg_node *node);
-/* The number of its player; 0 for no node. */
+/* Returns the number of the node's player; 0 for no node. */
 uint32_t zmg_node_me(zmg_node *node);
-/* How many players the game has; 0 for no node. */
+/* Returns how many players the game has; 0 for no node. */
 uint32_t zmg_node_players(zmg_node *node);
-/* How many commands it built. */
+/* Returns how many commands the node has made, from keys or given. */
 uint32_t zmg_node_made(zmg_node *node);
-/* How many tics it ran. */
+/* Returns how many tics it has run. */
 uint32_t zmg_node_ran(zmg_node *node);
-/* How many commands it has of a player. */
+/* Returns how many commands it has of a player; known is 0 for a number that belongs to no player. */
 zmg_number zmg_node_got(zmg_node *node, uint8_t player);
-/* The tic after a player's last command, where it is known: the tic from which on the player has no moves. */
+/* Returns the tic after a player's last command, if it is known: from this tic on the player has no moves. */
 zmg_number zmg_node_end(zmg_node *node, uint8_t player);
 
-/* The choice of game, where known is 1: for player 0 from the beginning, for others from the start on. */
+/* The choice of game, if known is 1: for player 0 from the beginning, for the others once the game has
+ * started. */
 typedef struct zmg_known_settings {
     uint32_t known;
     zmg_settings settings;
 } zmg_known_settings;
 zmg_known_settings zmg_node_settings(zmg_node *node);
 
-/* How many bytes the demo has so far. */
+/* Returns how many bytes the demo has so far. */
 size_t zmg_node_demo_length(zmg_node *node);
-/* Copies the demo from byte `from` on, as far as there is room, and answers how many bytes were copied. It
- * is complete, with its end marker, once a node that has played has ended, or a tic without some player was
- * run. Before the start, and of a node that ended before it, it has no bytes. */
+/* Copies the demo from byte `from` on, as far as there is room, and returns how many bytes it copied. The
+ * demo is complete, with its end marker, once a node that has played has ended, or a tic without some player
+ * was run. It has no bytes before the start, nor at a node that ended before the start. Save it before
+ * zmg_node_free. */
 size_t zmg_node_demo(zmg_node *node, size_t from, uint8_t *out, size_t room);
 
 /* ---- A sealed node ------------------------------------------------------------------------------------- */
 
 /* A node and its seal, for an untrusted network. Its packets go out in envelopes: the datagram, its sender,
  * its receiver and its full tic numbers, under a tag that only the players of the game can make
- * (HMAC-SHA-256, of which 16 bytes are sent). Any bytes may come in, from anywhere and at any time. What is
- * no envelope to this player in this game is dropped, and so is what is old: zmg_node_aim and a table of
- * senders are not needed. As long as nobody without the secret makes a tag, the games of the nodes agree,
- * whatever the network loses, repeats, reorders, holds back, alters, forges or gives another sender. In
- * place of what zmg_node_receive asks for, the caller owes:
- *   - Delivery. Where nothing gets through, the game waits, and nothing worse happens.
- *   - One node. A player makes one in a game: no second one of the same number, and none that goes on from
- *     a copy of memory. All its packets come from zmg_sealed_node_packet: a player who seals otherwise than
- *     by these calls can tell the others different commands.
- *   - One number for each game. Player 0's machine draws sixteen bytes at random and tells them to the
- *     others. It need not be secret, but each player must get the host's own: whoever can hand a player an
- *     old number can play that game to it again. Send it by a line that cannot be altered. Under a number
- *     that is used again the packets of the old game open in the new one.
- *   - A secret that is kept: 32 bytes at random, known to the players alone and used for nothing else.
- *     Whoever has it can send as any player, and whoever records an envelope can try guesses against it.
- * Commands and chat can be read by whoever sees the line. Keys are not wiped from memory. The marks of
- * zmg_sealed_node_run are owed as ever.
+ * (HMAC-SHA-256, of which 16 bytes are sent). Any bytes may come in, from anywhere and at any time. Bytes
+ * that are not an envelope to this player in this game are dropped, and so is an old envelope: zmg_node_aim
+ * and a table of senders are not needed. As long as nobody without the secret makes a tag, the games of the
+ * nodes agree, whatever the network loses, repeats, reorders, delays, alters, forges or gives another sender.
+ * Instead of what zmg_node_receive requires, the caller owes:
+ *   - Delivery. If nothing gets through, the game waits, and nothing worse happens.
+ *   - One node. A player makes one node in a game: no second one with the same number, and none that goes on
+ *     from a copy of memory. All its packets come from zmg_sealed_node_packet: a player who seals packets
+ *     other than by these calls can send the others different commands.
+ *   - One number for each game. Player 0's machine draws sixteen random bytes and sends them to the others.
+ *     The number need not be secret, but each player must get the one that was drawn: whoever can hand a
+ *     player an old number can replay that old game to the player. Send it over a channel that nobody can
+ *     alter. If a number is used again, the packets of the old game open in the new one.
+ *   - A secret that is kept: 32 random bytes, known to the players alone and used for nothing else. Whoever
+ *     has it can send as any player, and whoever records an envelope can try guesses against it.
+ * Nothing is encrypted: whoever sees the line can read commands and chat. Keys are not wiped from memory. The
+ * marks of zmg_sealed_node_run are owed as those of zmg_node_run are.
  *
- * The calls are those of a node, and answer as they do, with the same structs and codes; but there is no
- * aim, and packet and receive are these. A handle that holds no sealed node answers as one that holds no
- * node. */
+ * The calls do and return what those of a node do, with the same structs and codes; but there is no aim, and
+ * packet and receive are the ones described here. A call on a handle that holds no sealed node returns what
+ * it returns on a handle that holds no node. */
 typedef struct zmg_sealed_node {
     uint8_t live;
     void *at;
 } zmg_sealed_node;
 #define ZMG_SEALED_NODE_NONE { 0, NULL }
 
-/* How many bytes a secret and a game's number have. */
+/* The sizes in bytes of a secret and of a game's number. */
 #define ZMG_SECRET_SIZE 32
 #define ZMG_NUMBER_SIZE 16
 
-/* Makes a sealed node in the handle, in a window of `ahead` commands: ZMG_MOST_AHEAD is that of zmg_node_new.
- * All players of a game have the same secret, number and window. Answers ZMG_NEW_BAD_SECRET where all bytes
- * of the secret are 0, as those of one that was never set, and else as zmg_node_new_within. Neither the
- * secret nor the number is kept by reference. */
+/* Makes a sealed node in the handle, with a window of `ahead` commands: ZMG_MOST_AHEAD is that of
+ * zmg_node_new. All players of a game have the same secret, number and window. Returns ZMG_NEW_BAD_SECRET if
+ * all bytes of the secret are 0, as in a buffer that was never filled; else returns what zmg_node_new_within
+ * returns. Neither the secret nor the number is kept by reference. */
 uint32_t zmg_sealed_node_new(zmg_sealed_node *node, const zmg_config *config, uint8_t ahead,
     const uint8_t secret[ZMG_SECRET_SIZE], const uint8_t number[ZMG_NUMBER_SIZE]);
 
 /* The same for an open game, whose players share no secret. Its envelopes say so: a node of
- * zmg_sealed_node_new opens none of them, and this one none of those. Damaged and old packets, and those of
- * other games and to other players, are dropped as ever; but whoever knows the number can send as any
- * player. Answers as zmg_node_new_within. */
+ * zmg_sealed_node_new opens none of them, and this node opens none of that one's. Damaged packets, old
+ * packets, and packets of other games or to other players are dropped all the same; but whoever knows the
+ * number can send as any player. Returns what zmg_node_new_within returns. */
 uint32_t zmg_sealed_node_new_open(zmg_sealed_node *node, const zmg_config *config, uint8_t ahead,
     const uint8_t number[ZMG_NUMBER_SIZE]);
 
@@ -396,36 +413,38 @@ zmg_known_command zmg_sealed_node_command(zmg_sealed_node *node, uint8_t player,
 zmg_ran zmg_sealed_node_run(zmg_sealed_node *node, const int16_t marks[4], zmg_move row[4]);
 uint32_t zmg_sealed_node_quit(zmg_sealed_node *node);
 
-/* How many bytes of room an envelope needs at most, and how many it has beside its datagram. */
+/* How many bytes of room zmg_sealed_node_packet needs (an envelope has no more), and how many bytes an
+ * envelope has besides its datagram. */
 #define ZMG_MAX_ENVELOPE 141u
 #define ZMG_ENVELOPE_OVERHEAD 37u
 
-/* Writes the next packet to player `to` in its envelope to the front of out, and answers how many bytes it
- * has. Each packet is taken as sent. 0, with the node and out as they were, where room is below
- * ZMG_MAX_ENVELOPE, and where zmg_node_packet would answer 0. */
+/* Writes the next packet to player `to`, in its envelope, to the front of out, and returns how many bytes the
+ * envelope has. The packet then counts as sent. Returns 0, and leaves the node and out as they were, if
+ * room is below ZMG_MAX_ENVELOPE or if there is no packet, as for zmg_node_packet. */
 size_t zmg_sealed_node_packet(zmg_sealed_node *node, uint8_t to, uint8_t *out, size_t room);
 
-/* Further codes of zmg_heard, which zmg_sealed_node_receive alone answers. At each nothing changed. */
-#define ZMG_RECEIVE_UNOPENED 7u /* no envelope to this player in this game; number says why, as ZMG_SEAL_ */
+/* Further codes of zmg_heard, which only zmg_sealed_node_receive returns. With each of them nothing
+ * changed. */
+#define ZMG_RECEIVE_UNOPENED 7u /* not an envelope to this player in this game; number: see ZMG_SEAL_ */
 #define ZMG_RECEIVE_LATE 8u     /* its start or ask lies more than 64 tics from what the node has made */
-#define ZMG_RECEIVE_UNLIKE 9u   /* the datagram's own start byte or request flag contradicts the envelope (the
-                                 * tic of the request is not compared; set-up has neither): its sender did
-                                 * not make it by zmg_sealed_node_packet */
+#define ZMG_RECEIVE_UNLIKE 9u   /* the datagram's own player, start or ask byte or request flag contradicts
+                                 * the envelope (of set-up none is compared): its sender did not make it with
+                                 * zmg_sealed_node_packet */
 
-/* Why bytes are no envelope: the first of these that holds. */
+/* Why bytes are not an envelope: the first of these that holds. */
 #define ZMG_SEAL_SHORT 1u    /* fewer than 37 bytes */
 #define ZMG_SEAL_LONG 2u     /* more than ZMG_MAX_ENVELOPE */
-#define ZMG_SEAL_SUITE 3u    /* another suite, as of an open game where this one has a secret, or no envelope
-                              * at all */
-#define ZMG_SEAL_KIND 4u     /* something else than a datagram is in it */
+#define ZMG_SEAL_SUITE 3u    /* another suite, such as that of an open game where this one has a secret; or
+                              * not an envelope at all */
+#define ZMG_SEAL_KIND 4u     /* it has something other than one datagram in it */
 #define ZMG_SEAL_GAME 5u     /* another game's number: its first eight bytes differ */
 #define ZMG_SEAL_RECEIVER 6u /* to another player */
 #define ZMG_SEAL_TAG 7u      /* altered or forged, or the secrets or the last eight bytes of the numbers
                               * differ */
-#define ZMG_SEAL_REQUEST 8u  /* byte 16 is neither 0 nor 1, or a tic without a request */
+#define ZMG_SEAL_REQUEST 8u  /* byte 16 is neither 0 nor 1, or there is an ask tic without a request */
 
-/* Hears any bytes, whoever sent them. ZMG_RECEIVE_STARTED to ZMG_RECEIVE_DROPPED are as of
- * zmg_node_receive. Of an envelope that was opened, byte 10 is the number of the sender. */
+/* Takes in any bytes, whoever sent them. ZMG_RECEIVE_STARTED to ZMG_RECEIVE_DROPPED are as for
+ * zmg_node_receive. In an envelope that was opened, byte 10 is the number of the sender. */
 zmg_heard zmg_sealed_node_receive(zmg_sealed_node *node, const uint8_t *bytes, size_t length);
 
 zmg_phase zmg_sealed_node_phase(zmg_sealed_node *node);
@@ -439,69 +458,285 @@ zmg_known_settings zmg_sealed_node_settings(zmg_sealed_node *node);
 size_t zmg_sealed_node_demo_length(zmg_sealed_node *node);
 size_t zmg_sealed_node_demo(zmg_sealed_node *node, size_t from, uint8_t *out, size_t room);
 
+/* ---- A link -------------------------------------------------------------------------------------------- */
+
+/* A sealed node that also takes care of delivery, pace and the lobby. It keeps each packet with new commands
+ * until the peer has acknowledged it, and gives each peer one sealed datagram a tick with everything that is
+ * kept for the peer: commands of a lost datagram are in the next one, and nobody has to ask for them. As with a
+ * sealed node, datagrams may be lost, repeated, reordered, delayed, altered or forged, and the same is owed:
+ * that something gets through, one link of a player at a time, and no second one once the first has been
+ * given the settings, unless it said goodbye before its game; one number for each game, a secret that is
+ * kept, and the marks of zmg_link_run. A link and a sealed node do not open each other's bytes: either all
+ * players of a game have links, or none has.
+ *
+ *     a tick, 35 times a second by the caller's own clock, from the start: so the players find each other:
+ *         zmg_link_build(&link, keys);  or zmg_link_give
+ *         later = zmg_link_lean(&link);  the next tick is due (1 + later / 32.0) / 35 s after this one was
+ *         send to each other player what zmg_link_datagram gives
+ *         run
+ *     half a tick later:
+ *         send one more datagram to each player for whom zmg_link_wants_second(&link, player)
+ *     whenever bytes come, also between ticks:
+ *         if (zmg_link_receive(&link, bytes, n).started) begin the world
+ *         run
+ *     to run:
+ *         while (zmg_link_run(&link, marks of the world, row).code == ZMG_RUN_RAN) step the world by row
+ *         if (zmg_link_catch_up(&link).code == ZMG_BUILD_MADE) send to each other player, and run once more
+ *     to leave:
+ *         zmg_link_quit(&link);
+ *         go on with ticks and bytes until zmg_link_may_leave(&link), but not for ever, and two seconds more
+ *         zmg_link_free(&link);
+ *
+ * A mouse: if zmg_link_catch_up returns ZMG_BUILD_AHEAD before a tick's zmg_link_give, the last command was
+ * not made, and this one takes its place. So put the motion of both into it, as the loop in EMBEDDING.md
+ * does.
+ *
+ * The calls that are not described here do and return what the calls of a node with the same names do. A call
+ * on a handle that holds no link returns what it returns on a handle that holds no node. */
+typedef struct zmg_link {
+    uint8_t live;
+    void *at;
+} zmg_link;
+#define ZMG_LINK_NONE { 0, NULL }
+
+/* How many bytes the engine adds to a link's identity. */
+#define ZMG_HOST_SIZE 16u
+
+/* Makes a link in the handle, with a window of `ahead` commands. All players of a game have the same secret
+ * and game (the sixteen random bytes that zmg_sealed_node_new calls a number). host: what else must be the
+ * same for all players, such as a digest of the engine's version, files and options. A player whose players,
+ * extra, limit, window or host differ takes no part: see zmg_link_presence. Returns what zmg_sealed_node_new
+ * returns. A link that the handle holds is freed first. All memory is allocated here. If the call returns
+ * anything but ZMG_NEW_OK, the handle holds no link. Nothing is kept by reference. */
+uint32_t zmg_link_new(zmg_link *link, const zmg_config *config, uint8_t ahead,
+    const uint8_t secret[ZMG_SECRET_SIZE], const uint8_t game[ZMG_NUMBER_SIZE],
+    const uint8_t host[ZMG_HOST_SIZE]);
+
+void zmg_link_free(zmg_link *link);
+
+/* As zmg_node_build and zmg_node_give. With ZMG_BUILD_AHEAD the input is owed: zmg_link_catch_up makes its
+ * command once a run has made room, unless the next of these calls comes first, which drops the input. */
+zmg_made zmg_link_build(zmg_link *link, uint32_t keys);
+zmg_made zmg_link_give(zmg_link *link, const zmg_command *command);
+
+/* Makes the command of the input that is owed. Returns ZMG_BUILD_MADE, and the datagrams with the command
+ * should go at once; ZMG_BUILD_AHEAD if there is still no room, and the input stays owed;
+ * ZMG_BUILD_NOT_PLAYING, once, if the link has ended, and the input is no longer owed; ZMG_BUILD_NONE_OWED if
+ * no input is owed. */
+#define ZMG_BUILD_NONE_OWED 3u
+zmg_made zmg_link_catch_up(zmg_link *link);
+
+/* Call it once a tick, after the build. Returns by how many 32nds of a tick the next tick comes later than
+ * one tick after this one, or sooner if it is below 0: -2 to 34. It evens out how far the players are ahead
+ * of each other, so that nobody carries another's delay, and on a line that is longer than the window it
+ * stretches ticks instead of dropping input. A caller that does not follow the number loses no more than
+ * that; but make the call at each tick all the same, since datagrams report the lead that it takes.
+ *
+ * Count from when this tick was due, not from when you handled it; else each late frame slows the player
+ * down. If ticks were missed, as in a slow frame, make up for them at once, one after another, each with its
+ * build, this call and its datagrams. After a longer standstill let the next tick be due now instead:
+ * Chocolate Doom in engines/ makes up for eight ticks at most. */
+int32_t zmg_link_lean(zmg_link *link);
+
+/* Returns 1 if the player plays, and reports that two or more of the last datagrams to it are missing: one
+ * more, half a tick after the tick's own, makes up for those that will be. Else returns 0. */
+uint32_t zmg_link_wants_second(zmg_link *link, uint8_t player);
+
+uint32_t zmg_link_can_build(zmg_link *link);
+zmg_known_command zmg_link_command(zmg_link *link, uint8_t player, uint32_t tic);
+zmg_ran zmg_link_run(zmg_link *link, const int16_t marks[4], zmg_move row[4]);
+uint32_t zmg_link_quit(zmg_link *link);
+
+/* How many bytes of room zmg_link_datagram needs: a datagram has no more. */
+#define ZMG_LINK_SIZE 1200u
+
+/* Writes the current datagram to player `to` to the front of out, and returns how many bytes it has. It has
+ * every packet that the player has not acknowledged, oldest first, as far as they fit, also once the link has
+ * ended. Returns 0, and leaves the link and out as they were, if room is below ZMG_LINK_SIZE or if `to` is
+ * not another player's number. */
+size_t zmg_link_datagram(zmg_link *link, uint8_t to, uint8_t *out, size_t room);
+
+/* What a link made of bytes. With ZMG_RECEIVED_STRANGER nothing changed, and with ZMG_RECEIVED_UNOPENED
+ * nothing but the count of zmg_link_refused. */
+#define ZMG_RECEIVED_HEARD 0u     /* a datagram of `player`, which was taken in */
+#define ZMG_RECEIVED_STRANGER 1u  /* sealed in this game, under a number that is not another player's */
+#define ZMG_RECEIVED_UNOPENED 2u  /* not a datagram to this player in this game; reason says why */
+#define ZMG_RECEIVED_DIFFERENT 3u /* `player`, or whoever was `player` before, has another identity; none of
+                                   * its commands was taken */
+
+/* Why bytes are not a datagram: the first of these that holds. */
+#define ZMG_LINK_SHORT 1u    /* fewer than 60 bytes */
+#define ZMG_LINK_LONG 2u     /* more than ZMG_LINK_SIZE */
+#define ZMG_LINK_SUITE 3u    /* another suite, or not a sealed datagram at all */
+#define ZMG_LINK_KIND 4u     /* it is not a link's datagram, but an envelope of a sealed node, say */
+#define ZMG_LINK_GAME 5u     /* another game's number: its first eight bytes differ */
+#define ZMG_LINK_RECEIVER 6u /* to another player */
+#define ZMG_LINK_TAG 7u      /* altered or forged, or the secrets or the last eight bytes of the numbers
+                              * differ */
+#define ZMG_LINK_FORM 8u     /* its content has a form that no link writes */
+
+/* reason: see ZMG_LINK_; 0 except with ZMG_RECEIVED_UNOPENED, and with that too if the handle holds no link.
+ * player: the sender; 0 with ZMG_RECEIVED_UNOPENED. started: 1 if the game started with these bytes, and then
+ * the caller begins its world with zmg_link_settings; else 0. */
+typedef struct zmg_received {
+    uint32_t code, reason;
+    uint8_t player, started;
+} zmg_received;
+
+/* Takes in any bytes, whoever sent them and whenever they come. */
+zmg_received zmg_link_receive(zmg_link *link, const uint8_t *bytes, size_t length);
+
+/* Who is there. state is one of these, as far as this link has heard: */
+#define ZMG_PRESENCE_UNKNOWN 0u   /* nothing came from the player, or there is no such other player */
+#define ZMG_PRESENCE_THERE 1u     /* it is there, with the same identity */
+#define ZMG_PRESENCE_PLAYING 2u   /* its game has started */
+#define ZMG_PRESENCE_DIFFERENT 3u /* it is there with another identity, which the other fields have */
+#define ZMG_PRESENCE_AWAY 4u      /* it left before its game started, or was given up before the game of this
+                                   * link did; another may take its place, with a link of its own, and is
+                                   * heard within 64 datagrams; but if cause is 0, only if the link that was
+                                   * given up is gone */
+#define ZMG_PRESENCE_LEFT 5u      /* it has played, and left */
+#define ZMG_PRESENCE_FORGOTTEN 6u /* it was given up when this link played or had ended, or had given it the
+                                   * settings, or had heard that it plays: nobody takes its place */
+/* cause: with ZMG_PRESENCE_AWAY and ZMG_PRESENCE_LEFT why it left, as at ZMG_PHASE_ENDED (ZMG_CAUSE_QUIT,
+ * _FULL, _INCONSISTENT); 0 if it was given up, and in other states. The other fields: with
+ * ZMG_PRESENCE_DIFFERENT those of its zmg_config, its window and its host, else 0. */
+typedef struct zmg_presence {
+    uint32_t state, limit;
+    uint8_t cause, players, extra, ahead;
+    uint8_t host[ZMG_HOST_SIZE];
+} zmg_presence;
+
+/* Returns what is known of another player. Player 0 gives its settings once all others are there: until then
+ * a player may come, go, and come again. Once settings were given, nobody else may take the place of player
+ * 0, which the caller has to see to, nor that of a player who was given them and said no goodbye before its
+ * game, which player 0's link refuses. */
+zmg_presence zmg_link_presence(zmg_link *link, uint8_t player);
+
+/* Gives up a player who has not been heard for too long (`came` of zmg_link_line rises with each new one of
+ * its datagrams). While this link listens or gathers, the player is then ZMG_PRESENCE_AWAY, with cause 0,
+ * until a new hello or a datagram of its game comes, and another may take its place. But if this link plays
+ * or has ended, or has given the player the settings, or has heard that it plays, the player is
+ * ZMG_PRESENCE_FORGOTTEN, until a datagram of its game comes that is newer than its newest, or 64 or more
+ * behind it; zmg_link_may_leave does not wait for it. Then nobody takes its place, since its commands may
+ * have reached others: for another player, make a new game with a new number. Its commands are still missing:
+ * the game goes on without it only if its end is known. A player who is ZMG_PRESENCE_LEFT stays so. For a
+ * number that is not another player's nothing happens. */
+void zmg_link_forget(zmg_link *link, uint8_t player);
+
+/* Returns 1 if no other player needs anything more from this one: each has played and left, is
+ * ZMG_PRESENCE_FORGOTTEN, or has acknowledged all commands of this one and that it has left; or player 0 is
+ * ZMG_PRESENCE_AWAY with a cause above 0, and then there will be no game. Also returns 1 for a link that ended
+ * before its game started. Else returns 0, and 0 if the handle holds no link.
+ *
+ * A peer that has left waits for this link in the same way: give it some more datagrams before the link is
+ * freed, and limit the wait, since the last datagram may be lost. A player who started, and quits while
+ * player 0 still gathers, must stay until the game of all has started, else the game waits for it. A player
+ * who never played may go at once; some 64 more datagrams, in two seconds, let the others see it go. */
+uint32_t zmg_link_may_leave(zmg_link *link);
+
+/* What is known of the line to another player, if known is 1; for a number that is not another player's all
+ * fields are 0. came: how many of its datagrams came, copies and too old ones not counted. lost: how many
+ * numbers between the first that came and the newest did not come within 64, less one for each older than the
+ * first that came after it. repeated: how many copies came. too_old: how many came 64 or more behind the
+ * newest, unless the line began anew with them. missing_there: how many of the last datagrams to it are
+ * missing there. lead, lead_there: how many commands this player was ahead of it, and it of this player, each
+ * at its own last tick. Counts stop at the largest number. To know when a player was last heard, note the
+ * time whenever `came` has risen. */
+typedef struct zmg_line {
+    uint32_t known, came, lost, repeated, too_old;
+    uint8_t missing_there;
+    int8_t lead, lead_there;
+} zmg_line;
+zmg_line zmg_link_line(zmg_link *link, uint8_t player);
+
+/* Returns how often bytes came that were not a datagram to this player in this game: damaged, forged, of
+ * another one. */
+uint32_t zmg_link_refused(zmg_link *link);
+
+/* Returns how many of this player's commands are not yet acknowledged for certain by every player, leaving
+ * out players who need nothing more, as zmg_link_may_leave says. The oldest of them has been on its way for
+ * about so many ticks. Once the link has left, its last command is certain only if its end was acknowledged
+ * too. */
+uint32_t zmg_link_unacknowledged(zmg_link *link);
+
+zmg_phase zmg_link_phase(zmg_link *link);
+uint32_t zmg_link_me(zmg_link *link);
+uint32_t zmg_link_players(zmg_link *link);
+uint32_t zmg_link_made(zmg_link *link);
+uint32_t zmg_link_ran(zmg_link *link);
+zmg_number zmg_link_got(zmg_link *link, uint8_t player);
+zmg_number zmg_link_end(zmg_link *link, uint8_t player);
+zmg_known_settings zmg_link_settings(zmg_link *link);
+size_t zmg_link_demo_length(zmg_link *link);
+size_t zmg_link_demo(zmg_link *link, size_t from, uint8_t *out, size_t room);
+
 /* ---- Datagrams, with no node --------------------------------------------------------------------------- */
 
 #define ZMG_FLAG_KILL 1u       /* ends a game; no node sends or obeys it */
 #define ZMG_FLAG_SETUP 2u      /* player 0's settings */
-#define ZMG_FLAG_RETRANSMIT 4u /* commands from ask on are wanted again */
+#define ZMG_FLAG_RETRANSMIT 4u /* the sender asks for the commands from ask on again */
 #define ZMG_FLAG_EXIT 8u       /* the sender has left, and its commands end with these */
 #define ZMG_MOST_COMMANDS 12
 
-/* A packet. ask and start: low bytes of tics; a set-up packet has the settings in ask, start and player. */
+/* A packet. ask and start: low bytes of tics; a set-up packet has the settings in ask and start, and the
+ * version in player. */
 typedef struct zmg_packet {
     uint8_t flags, ask, start, player, count;
     zmg_command commands[ZMG_MOST_COMMANDS];
 } zmg_packet;
 
-/* Reads a datagram: 0, or why it is none, which leaves *packet as it is: ZMG_DROP_SHORT, ZMG_DROP_MANY,
- * ZMG_DROP_LENGTH, ZMG_DROP_SUM. Commands from count on are 0. */
+/* Reads a datagram into *packet, whose commands from count on are 0, and returns 0. If the bytes are not a
+ * datagram, returns why and leaves *packet as it is: ZMG_DROP_SHORT, ZMG_DROP_MANY, ZMG_DROP_LENGTH or
+ * ZMG_DROP_SUM. */
 uint32_t zmg_packet_decode(const uint8_t *bytes, size_t length, zmg_packet *packet);
-/* Writes a datagram to the front of out: how many bytes it has, at most ZMG_PACKET_SIZE; 0 where flags is
- * above 15, count above 12, or the room too small, and then nothing is written. */
+/* Writes a datagram to the front of out, and returns how many bytes it has, at most ZMG_PACKET_SIZE. Returns
+ * 0 if flags is above 15, count is above 12, or the room is too small, and then writes nothing. */
 size_t zmg_packet_encode(const zmg_packet *packet, uint8_t *out, size_t room);
 
 /* ---- Demos, with no node ------------------------------------------------------------------------------- */
 
-/* A reader of a demo, or none. The fields are the library's own. ZMG_DEMO_NONE is an initialiser, like
- * ZMG_NODE_NONE, and to overwrite a handle that holds a reader leaks its memory. */
+/* A handle that holds a reader of a demo, or none. The fields are the library's own. ZMG_DEMO_NONE is an
+ * initialiser, like ZMG_NODE_NONE, and overwriting a handle that holds a reader leaks its memory. */
 typedef struct zmg_demo {
     uint8_t live;
     void *at;
 } zmg_demo;
 #define ZMG_DEMO_NONE { 0, NULL }
 
-/* Answers of the calls on demos. */
+/* What the calls on demos return. */
 #define ZMG_DEMO_DONE 0u
 #define ZMG_DEMO_SHORT 1u      /* fewer than 13 bytes */
 #define ZMG_DEMO_VERSION 2u    /* neither 109 nor 111 */
 #define ZMG_DEMO_NO_PLAYERS 3u /* no seat is taken */
 #define ZMG_DEMO_NO_MARKER 4u  /* no end marker */
 #define ZMG_DEMO_NO_MEMORY 5u
-#define ZMG_DEMO_LIMIT 6u   /* the room is not 1,024 to 16,777,216 bytes */
-#define ZMG_DEMO_TOO_LONG 7u /* the upgraded demo has more bytes than there is room for */
-#define ZMG_DEMO_IS_READ 8u
-#define ZMG_DEMO_NO_READER 9u
+#define ZMG_DEMO_LIMIT 6u     /* the room is not 1,024 to 16,777,216 bytes */
+#define ZMG_DEMO_TOO_LONG 7u  /* the upgraded demo has more bytes than there is room for */
+#define ZMG_DEMO_IS_READ 8u   /* the demo was already read */
+#define ZMG_DEMO_NO_READER 9u /* the handle holds no reader */
 
-/* Makes a reader in the handle, which gives up the one that it held: ZMG_DEMO_DONE or ZMG_DEMO_NO_MEMORY. */
+/* Makes a reader in the handle, after freeing the one that it holds. Returns ZMG_DEMO_DONE or
+ * ZMG_DEMO_NO_MEMORY. */
 uint32_t zmg_demo_new(zmg_demo *demo);
-/* Gives up the reader and its memory. The handle then holds none. */
+/* Frees the reader and its memory. The handle then holds none. */
 void zmg_demo_free(zmg_demo *demo);
-/* Takes the next piece of the demo's bytes and keeps a copy: ZMG_DEMO_DONE; ZMG_DEMO_NO_MEMORY, and the
- * piece is not taken; ZMG_DEMO_IS_READ; ZMG_DEMO_NO_READER. */
+/* Takes the next piece of the demo's bytes, keeps a copy, and returns ZMG_DEMO_DONE. Else it takes nothing,
+ * and returns ZMG_DEMO_NO_MEMORY, ZMG_DEMO_IS_READ if the demo was already read, or ZMG_DEMO_NO_READER. */
 uint32_t zmg_demo_push(zmg_demo *demo, const uint8_t *bytes, size_t length);
-/* Reads the bytes that came: ZMG_DEMO_DONE, and ZMG_DEMO_DONE again for a demo that was read, which stays;
- * the first fault of ZMG_DEMO_SHORT to ZMG_DEMO_NO_MARKER that they have, and then the reader has no bytes
- * and takes others; ZMG_DEMO_NO_READER. It takes no memory. */
+/* Reads the bytes that were pushed. Returns ZMG_DEMO_DONE, and ZMG_DEMO_DONE again for a demo that was read,
+ * which stays. Else returns the first fault of ZMG_DEMO_SHORT to ZMG_DEMO_NO_MARKER that the bytes have, and
+ * then the reader has no bytes and takes others; or ZMG_DEMO_NO_READER. It allocates no memory. */
 uint32_t zmg_demo_read(zmg_demo *demo);
 
-/* What a game started from, as a demo's header has it. */
+/* How a game started, as a demo's header has it. */
 typedef struct zmg_start {
     uint8_t skill, episode, map, deathmatch, respawn, fast, no_monsters;
 } zmg_start;
 
-/* known: 1 for a demo that was read, else all is 0. tics: how many whole tics it has. cut: how many
- * commands stand between them and the marker. after: how many bytes follow the marker. version: 109, as
- * Doom 1.9 records, or 111, whose turns have both bytes. view: whose view it shows. present: 1 for each
+/* known: 1 for a demo that was read; else all fields are 0. tics: how many whole tics it has. cut: how many
+ * commands lie between them and the marker. after: how many bytes follow the marker. version: 109, as Doom
+ * 1.9 records, or 111, whose turns have both bytes. view: the player whose view it shows. present: 1 for each
  * seat with a player. */
 typedef struct zmg_demo_told {
     size_t tics, cut, after;
@@ -511,8 +746,10 @@ typedef struct zmg_demo_told {
     uint8_t present[4];
 } zmg_demo_told;
 
+/* Returns what a demo that was read has. */
 zmg_demo_told zmg_demo_tell(zmg_demo *demo);
-/* The moves of a tic, counted from 0: 1, or 0 where there is none, which leaves row as it is. */
+/* Writes the moves of a tic, counted from 0, to row, and returns 1. Returns 0, and leaves row as it is, if
+ * there is no such tic. */
 uint32_t zmg_demo_row(zmg_demo *demo, size_t tic, zmg_move row[4]);
 
 /* length: how many bytes were written. code: ZMG_DEMO_DONE, or why nothing was written. */
@@ -522,9 +759,10 @@ typedef struct zmg_upgraded {
 } zmg_upgraded;
 
 /* Writes a demo anew as version 111 to the front of out: the same start, view, players and whole tics. It
- * takes as much memory as out and the demo have bytes, and gives it back. What it refuses first: bytes that
- * are no demo (ZMG_DEMO_SHORT to ZMG_DEMO_NO_MARKER), no memory for their copy (ZMG_DEMO_NO_MEMORY), the
- * room (ZMG_DEMO_LIMIT), more bytes than there is room for (ZMG_DEMO_TOO_LONG), no memory for them
+ * allocates as much memory as out and the demo have bytes, and frees it again. It returns the first of these
+ * that applies, and then writes nothing: the bytes are not a demo (ZMG_DEMO_SHORT to ZMG_DEMO_NO_MARKER),
+ * there is no memory for their copy (ZMG_DEMO_NO_MEMORY), the room is out of range (ZMG_DEMO_LIMIT), the new
+ * demo has more bytes than there is room for (ZMG_DEMO_TOO_LONG), there is no memory for them
  * (ZMG_DEMO_NO_MEMORY). */
 zmg_upgraded zmg_demo_upgrade(const uint8_t *bytes, size_t length, uint8_t *out, size_t room);
 

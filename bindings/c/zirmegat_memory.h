@@ -1,7 +1,9 @@
-/* How the archive asks for memory. It has these three over malloc, realloc and free (heap.c); an engine that
- * defines all three, in front of the archive, has its own in their place. Nothing warns where the types differ
- * from these, since a linker compares names alone: include this where you define them. The shared library does
- * not ask the engine. For C99 and C++11. */
+/* zirmegat_memory.h: the functions through which the archive asks for memory. C99 and C++11.
+ *
+ * The archive defines them over malloc, realloc and free (heap.c). An engine that defines all three itself,
+ * in front of the archive, replaces them by its own. Nothing warns if the types differ from these, since a
+ * linker compares names alone: include this header where you define them. The shared library always uses the
+ * C library's functions. */
 #ifndef ZIRMEGAT_MEMORY_H
 #define ZIRMEGAT_MEMORY_H
 
@@ -12,22 +14,23 @@
 extern "C" {
 #endif
 
-/* How the library reads an answer: a byte that is 1 for memory and 0 for none, and the pointer, which is
- * never NULL, also where there is no memory. */
+/* What zmg_alloc and zmg_realloc return. given: 1, or 0 if there is no memory. at: the block; if there is
+ * none, any pointer but NULL. */
 struct zmg_block {
     uint8_t given;
     void *at;
 };
 
-/* A block of size bytes, aligned as zirmegat.h says of malloc; where size is 0, any pointer that the other two
- * take. They are called on each thread that uses a handle. */
+/* Returns a block of size bytes, aligned as zirmegat.h requires of malloc. If size is 0, returns any pointer
+ * that the other two take. The three are called on each thread that uses a handle, also for blocks that
+ * another thread allocated. */
 struct zmg_block zmg_alloc(size_t size, size_t align);
 
-/* The block at `at` with size bytes in place of kept, of which the first that fit into both stay as they are.
- * Where no memory is given, the block stays as it was. */
+/* Returns the block at `at`, resized from kept bytes to size bytes, which may have moved. The first bytes, as
+ * many as fit into both sizes, stay as they are. If there is no memory, the block stays as it was. */
 struct zmg_block zmg_realloc(void *at, size_t kept, size_t size, size_t align);
 
-/* Gives back a block of one of the two. */
+/* Frees a block that one of the two returned. */
 void zmg_dealloc(void *at);
 
 #ifdef __cplusplus

@@ -42,7 +42,12 @@ static void must(int holds, const char *what, int line) {
     exit(1);
 }
 
-static uint32_t draw(void) { return (seed = seed * 1664525u + 1013904223u) >> 8; }
+static uint32_t draw(void) {
+    seed ^= seed << 13;
+    seed ^= seed >> 17;
+    return seed ^= seed << 5;
+}
+
 static uint8_t byte(void) { return (uint8_t)draw(); }
 static uint32_t below(uint32_t n) { return draw() % n; }
 static unsigned any_node(void) { return below(NODES); }
@@ -488,7 +493,8 @@ static void any_call(void) {
 
 int main(int argc, char **argv) {
     unsigned long wanted = argc > 1 ? strtoul(argv[1], NULL, 10) : 100000;
-    if (argc > 2) seed = (uint32_t)strtoul(argv[2], NULL, 10);
+    /* never 0 */
+    if (argc > 2) seed = 2 * (uint32_t)strtoul(argv[2], NULL, 10) + 1;
     if (argc > 3) fail_every(strtoul(argv[3], NULL, 10));
     pair();
     seal();

@@ -17,11 +17,15 @@
 static void sizes(void) {
     IS(sizeof(zmg_node), 2 * sizeof(void *));
     IS(sizeof(zmg_sealed_node), 2 * sizeof(void *));
+    IS(sizeof(zmg_link), 2 * sizeof(void *));
     IS(sizeof(zmg_demo), 2 * sizeof(void *));
     IS(sizeof(zmg_settings), 6);
     IS(sizeof(zmg_config), 16);
     IS(sizeof(zmg_made), 8);
     IS(sizeof(zmg_heard), 8);
+    IS(sizeof(zmg_received), 12);
+    IS(sizeof(zmg_presence), 28);
+    IS(sizeof(zmg_line), 24);
     IS(sizeof(zmg_number), 8);
     IS(sizeof(zmg_aim), 20);
     IS(sizeof(zmg_move), 6);
@@ -42,6 +46,27 @@ static void offsets(void) {
     IS(offsetof(zmg_node, at), sizeof(size_t));
     IS(offsetof(zmg_sealed_node, live), 0);
     IS(offsetof(zmg_sealed_node, at), sizeof(size_t));
+    IS(offsetof(zmg_link, live), 0);
+    IS(offsetof(zmg_link, at), sizeof(size_t));
+    IS(offsetof(zmg_received, code), 0);
+    IS(offsetof(zmg_received, reason), 4);
+    IS(offsetof(zmg_received, player), 8);
+    IS(offsetof(zmg_received, started), 9);
+    IS(offsetof(zmg_presence, state), 0);
+    IS(offsetof(zmg_presence, limit), 4);
+    IS(offsetof(zmg_presence, cause), 8);
+    IS(offsetof(zmg_presence, players), 9);
+    IS(offsetof(zmg_presence, extra), 10);
+    IS(offsetof(zmg_presence, ahead), 11);
+    IS(offsetof(zmg_presence, host), 12);
+    IS(offsetof(zmg_line, known), 0);
+    IS(offsetof(zmg_line, came), 4);
+    IS(offsetof(zmg_line, lost), 8);
+    IS(offsetof(zmg_line, repeated), 12);
+    IS(offsetof(zmg_line, too_old), 16);
+    IS(offsetof(zmg_line, missing_there), 20);
+    IS(offsetof(zmg_line, lead), 21);
+    IS(offsetof(zmg_line, lead_there), 22);
     IS(offsetof(zmg_demo, live), 0);
     IS(offsetof(zmg_demo, at), sizeof(size_t));
     IS(offsetof(zmg_settings, skill), 0);
@@ -514,7 +539,8 @@ static void packets(void) {
 /* A demo of version 109, with players 0 and 2, one tic, a command of a cut tic, and two bytes behind the
  * marker. */
 static zmg_sealed_node sealed_key = ZMG_SEALED_NODE_NONE, sealed_other = ZMG_SEALED_NODE_NONE;
-static uint8_t secret[ZMG_SECRET_SIZE] = { 1, 2, 3 }, number[ZMG_NUMBER_SIZE] = { 4, 5, 6 };
+static uint8_t secret[ZMG_SECRET_SIZE] = { 1, 2, 3 }, number[ZMG_NUMBER_SIZE] = { 4, 5, 6 },
+    host[ZMG_HOST_SIZE] = { 7, 8, 9 };
 
 static size_t envelope(zmg_sealed_node *from, uint8_t to) {
     return zmg_sealed_node_packet(from, to, bytes, ZMG_MAX_ENVELOPE);
@@ -640,6 +666,261 @@ static void seals(void) {
     zmg_sealed_node_free(&sealed_other);
 }
 
+static zmg_link key_link = ZMG_LINK_NONE, other_link = ZMG_LINK_NONE;
+
+static size_t datagram(zmg_link *from, uint8_t to) {
+    return zmg_link_datagram(from, to, bytes, sizeof bytes);
+}
+
+static void no_datagram(size_t length, uint32_t why) {
+    zmg_received received = zmg_link_receive(&other_link, bytes, length);
+    IS(received.code, ZMG_RECEIVED_UNOPENED);
+    IS(received.reason, why);
+    IS(received.player, 0);
+    IS(received.started, 0);
+}
+
+/* A handle that holds nothing answers as a node that does not play. */
+static void no_link(void) {
+    zmg_move row[4];
+    zmg_command c = { 0, 0, 0, 0, 0, 0 };
+    IS(zmg_link_phase(&other_link).code, ZMG_PHASE_NO_NODE);
+    IS(zmg_link_build(&other_link, 0).code, ZMG_BUILD_NOT_PLAYING);
+    IS(zmg_link_give(&other_link, &c).code, ZMG_BUILD_NOT_PLAYING);
+    IS(zmg_link_catch_up(&other_link).code, ZMG_BUILD_NONE_OWED);
+    IS(zmg_link_lean(&other_link), 0);
+    IS(zmg_link_wants_second(&other_link, 1), 0);
+    IS(zmg_link_presence(&other_link, 1).state, ZMG_PRESENCE_UNKNOWN);
+    IS(zmg_link_line(&other_link, 1).known, 0);
+    IS(zmg_link_refused(&other_link), 0);
+    IS(zmg_link_unacknowledged(&other_link), 0);
+    zmg_link_forget(&other_link, 1);
+    IS(zmg_link_can_build(&other_link), 0);
+    IS(zmg_link_command(&other_link, 0, 0).known, 0);
+    IS(zmg_link_run(&other_link, no_marks, row).code, ZMG_RUN_NOT_PLAYING);
+    no_datagram(0, 0);
+    IS(zmg_link_quit(&other_link), 0);
+    IS(zmg_link_may_leave(&other_link), 0);
+    IS(datagram(&other_link, 0), 0);
+    IS(zmg_link_me(&other_link), 0);
+    IS(zmg_link_players(&other_link), 0);
+    IS(zmg_link_made(&other_link), 0);
+    IS(zmg_link_ran(&other_link), 0);
+    IS(zmg_link_got(&other_link, 0).known, 0);
+    IS(zmg_link_end(&other_link, 0).known, 0);
+    IS(zmg_link_settings(&other_link).known, 0);
+    IS(zmg_link_demo_length(&other_link), 0);
+    IS(zmg_link_demo(&other_link, 0, bytes, sizeof bytes), 0);
+    zmg_link_free(&other_link);
+}
+
+/* The other hears a datagram of player 0, or player 0 one of the other: what is made of it. */
+static zmg_received heard_by(zmg_link *link, zmg_link *from) {
+    size_t n = datagram(from, (uint8_t)zmg_link_me(link));
+    return zmg_link_receive(link, bytes, n);
+}
+
+static void is_there(uint32_t state, uint32_t cause) {
+    zmg_presence p = zmg_link_presence(&other_link, 0);
+    IS(p.state, state);
+    IS(p.cause, cause);
+    IS(p.players + p.extra + p.ahead + (int)p.limit + p.host[0], 0);
+}
+
+/* Every answer of zmg_link_presence, as the other link tells it of player 0. */
+static void presences(void) {
+    uint8_t another[ZMG_HOST_SIZE] = { 1 };
+    zmg_config c = config_of(1);
+    zmg_presence p;
+    IS(zmg_link_new(&other_link, &c, ZMG_MOST_AHEAD, secret, number, host), ZMG_NEW_OK);
+    is_there(ZMG_PRESENCE_UNKNOWN, 0);
+    IS(zmg_link_presence(&other_link, 1).state, ZMG_PRESENCE_UNKNOWN);
+    IS(zmg_link_presence(&other_link, 2).state, ZMG_PRESENCE_UNKNOWN);
+    c = config_of(0);
+    c.limit++;
+    c.extra = 1;
+    IS(zmg_link_new(&key_link, &c, ZMG_WIDEST_AHEAD, secret, number, another), ZMG_NEW_OK);
+    IS(heard_by(&other_link, &key_link).code, ZMG_RECEIVED_DIFFERENT);
+    p = zmg_link_presence(&other_link, 0);
+    IS(p.state, ZMG_PRESENCE_DIFFERENT);
+    IS(p.limit, c.limit);
+    IS(p.cause, 0);
+    IS(p.players, 2);
+    IS(p.extra, 1);
+    IS(p.ahead, ZMG_WIDEST_AHEAD);
+    IS(memcmp(p.host, another, sizeof another), 0);
+    zmg_link_forget(&other_link, 0);
+    is_there(ZMG_PRESENCE_AWAY, 0);
+    c = config_of(0);
+    IS(zmg_link_new(&key_link, &c, ZMG_MOST_AHEAD, secret, number, host), ZMG_NEW_OK);
+    /* its first number is not newer than that of the one before it */
+    IS(heard_by(&other_link, &key_link).code, ZMG_RECEIVED_HEARD);
+    is_there(ZMG_PRESENCE_AWAY, 0);
+    IS(heard_by(&other_link, &key_link).started, 0);
+    is_there(ZMG_PRESENCE_THERE, 0);
+    IS(heard_by(&key_link, &other_link).code, ZMG_RECEIVED_HEARD);
+    IS(heard_by(&other_link, &key_link).started, 1);
+    IS(heard_by(&key_link, &other_link).started, 1);
+    IS(heard_by(&other_link, &key_link).code, ZMG_RECEIVED_HEARD);
+    is_there(ZMG_PRESENCE_PLAYING, 0);
+    zmg_link_forget(&other_link, 0);
+    is_there(ZMG_PRESENCE_FORGOTTEN, 0);
+    IS(heard_by(&other_link, &key_link).code, ZMG_RECEIVED_HEARD);
+    is_there(ZMG_PRESENCE_PLAYING, 0);
+    IS(zmg_link_quit(&key_link), 1);
+    IS(heard_by(&other_link, &key_link).code, ZMG_RECEIVED_HEARD);
+    is_there(ZMG_PRESENCE_LEFT, ZMG_CAUSE_QUIT);
+    zmg_link_forget(&other_link, 0);
+    is_there(ZMG_PRESENCE_LEFT, ZMG_CAUSE_QUIT);
+}
+
+static void line_is(zmg_line line, uint32_t came, uint32_t lost, uint32_t repeated, uint32_t too_old) {
+    IS(line.known, 1);
+    IS(line.came, came);
+    IS(line.lost, lost);
+    IS(line.repeated, repeated);
+    IS(line.too_old, too_old);
+}
+
+/* Of the datagrams of player 0 two are missing, one comes late and then twice, and one comes too late to tell. */
+static void figures(void) {
+    zmg_config c = config_of(0);
+    uint8_t first[ZMG_LINK_SIZE], late[ZMG_LINK_SIZE];
+    size_t length, late_length;
+    IS(zmg_link_new(&key_link, &c, ZMG_MOST_AHEAD, secret, number, host), ZMG_NEW_OK);
+    c = config_of(1);
+    IS(zmg_link_new(&other_link, &c, ZMG_MOST_AHEAD, secret, number, host), ZMG_NEW_OK);
+    line_is(zmg_link_line(&other_link, 0), 0, 0, 0, 0);
+    IS(zmg_link_line(&other_link, 1).known, 0);
+    IS(zmg_link_line(&other_link, 2).known, 0);
+    heard_by(&key_link, &other_link);
+    heard_by(&other_link, &key_link);
+    heard_by(&key_link, &other_link);
+    length = datagram(&key_link, 1);
+    memcpy(first, bytes, length);
+    late_length = datagram(&key_link, 1);
+    memcpy(late, bytes, late_length);
+    for (unsigned k = 0; k < 3; k++) IS(zmg_link_build(&key_link, 0).code, ZMG_BUILD_MADE);
+    IS(zmg_link_unacknowledged(&key_link), 3);
+    zmg_link_lean(&key_link);
+    IS(zmg_link_line(&key_link, 1).lead, 3);
+    heard_by(&other_link, &key_link);
+    line_is(zmg_link_line(&other_link, 0), 2, 2, 0, 0);
+    IS(zmg_link_line(&other_link, 0).lead_there, 3);
+    IS(zmg_link_line(&other_link, 0).missing_there, 0);
+    heard_by(&key_link, &other_link);
+    IS(zmg_link_line(&key_link, 1).missing_there, 2);
+    IS(zmg_link_unacknowledged(&key_link), 0);
+    zmg_link_receive(&other_link, late, late_length);
+    line_is(zmg_link_line(&other_link, 0), 3, 1, 0, 0);
+    zmg_link_receive(&other_link, late, late_length);
+    line_is(zmg_link_line(&other_link, 0), 3, 1, 1, 0);
+    for (unsigned k = 0; k < 64; k++) heard_by(&other_link, &key_link);
+    zmg_link_receive(&other_link, first, length);
+    line_is(zmg_link_line(&other_link, 0), 67, 1, 1, 1);
+    IS(zmg_link_refused(&other_link), 0);
+    zmg_link_receive(&other_link, first, length - 1);
+    zmg_link_receive(&other_link, first, 0);
+    IS(zmg_link_refused(&other_link), 2);
+    line_is(zmg_link_line(&other_link, 0), 67, 1, 1, 1);
+}
+
+/* Another player 0 takes the place of the first, and begins with number 0: nothing is missing, nor too old. */
+static void line_begins_anew(void) {
+    zmg_config c = config_of(1);
+    IS(zmg_link_new(&other_link, &c, ZMG_MOST_AHEAD, secret, number, host), ZMG_NEW_OK);
+    c = config_of(0);
+    IS(zmg_link_new(&key_link, &c, ZMG_MOST_AHEAD, secret, number, host), ZMG_NEW_OK);
+    for (unsigned k = 0; k < 65; k++) heard_by(&other_link, &key_link);
+    datagram(&key_link, 1);
+    heard_by(&other_link, &key_link);
+    line_is(zmg_link_line(&other_link, 0), 66, 1, 0, 0);
+    IS(zmg_link_new(&key_link, &c, ZMG_MOST_AHEAD, secret, number, host), ZMG_NEW_OK);
+    for (unsigned k = 0; k < 3; k++) heard_by(&other_link, &key_link);
+    line_is(zmg_link_line(&other_link, 0), 69, 1, 0, 0);
+    is_there(ZMG_PRESENCE_THERE, 0);
+}
+
+/* A link is owed the input for which it has no room. */
+static void owed(void) {
+    IS(zmg_link_catch_up(&key_link).code, ZMG_BUILD_NONE_OWED);
+    while (zmg_link_can_build(&key_link)) IS(zmg_link_build(&key_link, 0).code, ZMG_BUILD_MADE);
+    IS(zmg_link_catch_up(&key_link).code, ZMG_BUILD_NONE_OWED);
+    IS(zmg_link_build(&key_link, 0).code, ZMG_BUILD_AHEAD);
+    IS(zmg_link_catch_up(&key_link).code, ZMG_BUILD_AHEAD);
+    IS(zmg_link_quit(&key_link), 1);
+    IS(zmg_link_catch_up(&key_link).code, ZMG_BUILD_NOT_PLAYING);
+    IS(zmg_link_catch_up(&key_link).code, ZMG_BUILD_NONE_OWED);
+}
+
+/* A datagram with each of its parts altered, and one of a player that the game has not. */
+static void links(void) {
+    static const uint8_t places[] = { 0, 1, 2, 9, 11, 10, 12, 16, 17, 18, 42, 59 };
+    static const uint32_t faults[] = { ZMG_LINK_SUITE, ZMG_LINK_KIND, ZMG_LINK_GAME, ZMG_LINK_GAME,
+        ZMG_LINK_RECEIVER, ZMG_LINK_TAG, ZMG_LINK_TAG, ZMG_LINK_TAG, ZMG_LINK_TAG, ZMG_LINK_TAG, ZMG_LINK_TAG,
+        ZMG_LINK_TAG };
+    uint8_t zeros[ZMG_SECRET_SIZE] = { 0 };
+    zmg_config c = config_of(0);
+    zmg_received received;
+    size_t n;
+    no_link();
+    IS(zmg_link_new(&key_link, &c, ZMG_MOST_AHEAD, secret, number, host), ZMG_NEW_OK);
+    IS(zmg_link_new(&key_link, &c, 0, zeros, number, host), ZMG_NEW_BAD_SECRET);
+    IS(zmg_link_phase(&key_link).code, ZMG_PHASE_NO_NODE);
+    IS(zmg_link_new(&key_link, &c, 0, secret, number, host), ZMG_NEW_BAD_AHEAD);
+    c.settings.map = 0;
+    IS(zmg_link_new(&key_link, &c, 0, secret, number, host), ZMG_NEW_BAD_MAP);
+    c = config_of(2);
+    IS(zmg_link_new(&key_link, &c, ZMG_WIDEST_AHEAD, secret, number, host), ZMG_NEW_BAD_ME);
+    c.players = 3;
+    IS(zmg_link_new(&key_link, &c, ZMG_MOST_AHEAD, secret, number, host), ZMG_NEW_OK);
+    c = config_of(1);
+    IS(zmg_link_new(&other_link, &c, ZMG_MOST_AHEAD, secret, number, host), ZMG_NEW_OK);
+    n = datagram(&key_link, 1);
+    received = zmg_link_receive(&other_link, bytes, n);
+    IS(received.code, ZMG_RECEIVED_STRANGER);
+    IS(received.player, 2);
+    IS(zmg_link_refused(&other_link), 0);
+    c = config_of(0);
+    IS(zmg_link_new(&key_link, &c, ZMG_MOST_AHEAD, secret, number, host), ZMG_NEW_OK);
+    IS(zmg_link_datagram(&key_link, 1, bytes, ZMG_LINK_SIZE - 1), 0);
+    IS(datagram(&key_link, 0), 0);
+    IS(datagram(&key_link, 2), 0);
+    n = datagram(&key_link, 1);
+    no_datagram(59, ZMG_LINK_SHORT);
+    no_datagram(ZMG_LINK_SIZE + 1, ZMG_LINK_LONG);
+    no_datagram(n - 1, ZMG_LINK_TAG);
+    for (unsigned k = 0; k < sizeof places; k++) {
+        bytes[places[k]] ^= 64;
+        no_datagram(n, faults[k]);
+        bytes[places[k]] ^= 64;
+    }
+    received = zmg_link_receive(&other_link, bytes, n);
+    IS(received.code, ZMG_RECEIVED_HEARD);
+    IS(received.reason, 0);
+    IS(received.player, 0);
+    IS(received.started, 0);
+    IS(heard_by(&key_link, &other_link).started, 0);
+    IS(heard_by(&other_link, &key_link).started, 1);
+    IS(zmg_link_settings(&other_link).settings.map, 9);
+    n = datagram(&other_link, 0);
+    IS(zmg_link_receive(&key_link, bytes, n).started, 1);
+    IS(zmg_link_receive(&key_link, bytes, n).started, 0);
+    IS(zmg_link_phase(&key_link).code, ZMG_PHASE_PLAYING);
+    IS(zmg_link_may_leave(&key_link), 0);
+    owed();
+    zmg_link_free(&key_link);
+    zmg_link_free(&other_link);
+    presences();
+    zmg_link_free(&key_link);
+    zmg_link_free(&other_link);
+    figures();
+    line_begins_anew();
+    zmg_link_free(&key_link);
+    zmg_link_free(&other_link);
+    IS(zmg_link_phase(&key_link).code, ZMG_PHASE_NO_NODE);
+}
+
 static void demos(void) {
     static const uint8_t old[] = { 109, 4, 2, 5, 1, 6, 7, 8, 2, 1, 0, 1, 0, 10, 20, 30, 40, 0xf6, 1, 0x80, 3,
         9, 9, 9, 9, 0x80, 1, 2 };
@@ -743,6 +1024,15 @@ static void no_memory(void) {
     zmg_sealed_node_free(&sealed_key);
     for (n = 1, code = 1; code; n++) {
         fail_once(n);
+        code = zmg_link_new(&key_link, &c, ZMG_MOST_AHEAD, secret, number, host);
+        if (!code) continue;
+        IS(code, ZMG_NEW_NO_MEMORY);
+        IS(zmg_link_phase(&key_link).code, ZMG_PHASE_NO_NODE);
+    }
+    IS(n, 4);
+    zmg_link_free(&key_link);
+    for (n = 1, code = 1; code; n++) {
+        fail_once(n);
         code = zmg_demo_new(&demo);
         if (code) IS(code, ZMG_DEMO_NO_MEMORY);
     }
@@ -780,6 +1070,7 @@ int main(void) {
     ends();
     packets();
     seals();
+    links();
     demos();
     no_memory();
     printf("layout: ok\n");

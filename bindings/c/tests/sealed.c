@@ -1,106 +1,48 @@
 /* Two to four sealed nodes on an untrusted network: `sealed [GAMES [SEED]]`. It loses, repeats and reorders
  * envelopes, holds some back for 500 turns (of all nodes, in which they may make fewer commands), alters bits,
- * cuts, forges, names other senders, and brings envelopes to players that they are not for, and those of
- * another game. All nodes must run the same moves, and nothing may open that no node of the game made. Each
- * node has a twin that is not sealed: it is given the datagrams of the envelopes that were heard, and must
- * answer the same. C99 and C++. Ends with status 0, or names the line that failed. */
-#include "zirmegat.h"
+ * cuts, forges, names other senders, and brings envelopes to players that they are not for, those of another
+ * game, and those that were on the way when the game before ended, which may have had the same secret. In most
+ * games players quit at some tic, and the others play on. All nodes must run the same moves, tell the same ends
+ * and record the same demos, and nothing may open that no node of the game made. Each node has a twin that is not
+ * sealed: it is given the datagrams of the envelopes that were heard, and must answer the same. C99 and C++. Ends
+ * with status 0, or names the line that failed. */
+#include "untrusted.h"
 #include <stdio.h>
 #include <stdlib.h>
-#include <string.h>
 
-enum { NODES = 4, FLIGHTS = 2048, MOST = 400, HELD = 500 };
+enum { NODES = 4, MOST = 400 };
 
-typedef struct flight {
-    uint32_t at;
-    size_t length;
-    uint8_t to, changed, bytes[ZMG_MAX_ENVELOPE + 8];
-} flight;
+/* quits: how many tics a player has run when it quits, and MOST for one who never does */
+static uint32_t players, quits[NODES];
+static uint8_t has_quit[NODES];
+static unsigned long arrived[10], unopened[9], games, left, alone;
 
-static uint32_t seed = 1;
-static zmg_sealed_node nodes[NODES], stranger;
-static zmg_node twins[NODES];
-static flight flights[FLIGHTS];
-static zmg_move rows[MOST][4];
-static uint32_t furthest, players;
-static uint8_t secret[ZMG_SECRET_SIZE], number[ZMG_NUMBER_SIZE], demos[2][ZMG_MAX_ENVELOPE + MOST * NODES * 5];
-static unsigned long arrived[10], unopened[9], named, games;
+#define MUST(holds) must(holds, #holds, __FILE__, __LINE__)
 
-#define MUST(holds) must(holds, #holds, __LINE__)
-
-static void must(int holds, const char *what, int line) {
+static void must(int holds, const char *what, const char *file, int line) {
     if (holds) return;
-    fprintf(stderr, "sealed.c:%d: not so in game %lu: %s\n", line, games, what);
+    fprintf(stderr, "%s:%d: not so in game %lu: %s\n", file, line, games, what);
     exit(1);
 }
 
-static uint32_t draw(void) { return (seed = seed * 1664525u + 1013904223u) >> 8; }
-static uint32_t below(uint32_t n) { return draw() % n; }
+#include "agreed.h"
+#include "sealed_nodes.h"
 
-static void fill(uint8_t *bytes, size_t length) {
-    while (length--) *bytes++ = (uint8_t)draw();
-}
+static agreement common;
 
-static zmg_config config_of(uint8_t me) {
-    zmg_config c;
-    memset(&c, 0, sizeof c);
-    c.limit = 16384;
-    c.players = (uint8_t)players;
-    c.me = me;
-    c.settings.skill = 2;
-    c.settings.episode = c.settings.map = 1;
-    return c;
+/* At least one player never quits. */
+static void draw_quits(void) {
+    for (unsigned k = 0; k < NODES; k++) quits[k] = MOST;
+    for (uint32_t k = below(players); k; k--) quits[below(players)] = below(MOST);
+    memset(has_quit, 0, sizeof has_quit);
 }
 
 static void open_game(int is_open) {
-    uint8_t ahead = (uint8_t)(1 + below(ZMG_WIDEST_AHEAD)), last;
     players = 2 + below(3);
-    furthest = 0;
-    fill(secret, sizeof secret);
-    fill(number, sizeof number);
-    memset(flights, 0, sizeof flights);
-    for (uint8_t me = 0; me < players; me++) {
-        zmg_config c = config_of(me);
-        MUST((is_open ? zmg_sealed_node_new_open(&nodes[me], &c, ahead, number)
-            : zmg_sealed_node_new(&nodes[me], &c, ahead, secret, number)) == ZMG_NEW_OK);
-        MUST(zmg_node_new_within(&twins[me], &c, ahead) == ZMG_NEW_OK);
-    }
-    /* the same but for the last byte of the secret, or of the number where there is no secret */
-    {
-        zmg_config c = config_of(0);
-        uint8_t *byte = is_open ? &number[ZMG_NUMBER_SIZE - 1] : &secret[ZMG_SECRET_SIZE - 1];
-        last = *byte;
-        *byte ^= 1;
-        MUST((is_open ? zmg_sealed_node_new_open(&stranger, &c, ahead, number)
-            : zmg_sealed_node_new(&stranger, &c, ahead, secret, number)) == ZMG_NEW_OK);
-        *byte = last;
-    }
-}
-
-static void close_game(void) {
-    for (uint8_t me = 0; me < players; me++) {
-        zmg_sealed_node_free(&nodes[me]);
-        zmg_node_free(&twins[me]);
-    }
-    zmg_sealed_node_free(&stranger);
-}
-
-static void post(const flight *f) {
-    flight *place = &flights[below(FLIGHTS)];
-    /* where the place is taken, what was there is lost */
-    *place = *f;
-}
-
-/* Turns a bit, cuts, puts bytes behind, makes all anew, or names another of the players as the sender. */
-static void change(flight *f) {
-    f->changed = 1;
-    switch (below(6)) {
-    case 0: f->length = below((uint32_t)f->length); break;
-    case 1: f->bytes[f->length++] = (uint8_t)draw(); break;
-    case 2: fill(f->bytes, f->length); break;
-    case 3: f->bytes[10] = (uint8_t)((f->bytes[10] + 1 + below(players - 1)) % players); named++; break;
-    default: f->bytes[below((uint32_t)f->length)] ^= (uint8_t)(1u << below(8));
-    }
+    begin_agreement(&common);
+    draw_quits();
+    carry_over(players);
+    make_nodes((uint8_t)players, is_open);
 }
 
 static void give(uint8_t from, uint8_t to, uint32_t now) {
@@ -114,17 +56,8 @@ static void give(uint8_t from, uint8_t to, uint32_t now) {
     /* the twin's datagram is in the envelope, after the head */
     MUST(f.length == (length ? length + ZMG_ENVELOPE_OVERHEAD : 0));
     if (length == 0) return;
-    MUST(memcmp(f.bytes + 21, plain, length) == 0 && f.bytes[10] == from && f.bytes[11] == to);
-    for (uint32_t copies = below(10) < 3 ? 0 : 1 + (below(8) == 0); copies; copies--) {
-        flight g = f;
-        g.at = now + below(12) + (below(40) == 0 ? HELD : 0);
-        if (below(6) == 0) change(&g);
-        post(&g);
-        if (below(10) == 0) {
-            g.to = (uint8_t)below(players); /* perhaps to its sender */
-            post(&g);
-        }
-    }
+    MUST(memcmp(f.bytes + DATAGRAM, plain, length) == 0 && f.bytes[FROM] == from && f.bytes[TO] == to);
+    carry(&f, players, now);
     if (below(16) == 0) {
         f.length = zmg_sealed_node_packet(&stranger, 1, f.bytes, ZMG_MAX_ENVELOPE);
         f.to = 1;
@@ -143,13 +76,22 @@ static void hear(uint8_t me, const flight *f) {
         MUST(f->changed || heard.number == ZMG_SEAL_RECEIVER);
         return;
     }
-    MUST(!f->changed && f->bytes[11] == me);
+    MUST(!f->changed && f->bytes[TO] == me);
     if (heard.code != ZMG_RECEIVE_LATE) {
         size_t length = f->length - ZMG_ENVELOPE_OVERHEAD;
-        zmg_heard twin = zmg_node_receive(&twins[me], f->bytes[10], f->bytes + 21, length);
+        zmg_heard twin = zmg_node_receive(&twins[me], f->bytes[FROM], f->bytes + DATAGRAM, length);
         MUST(heard.code == twin.code && heard.number == twin.number);
         MUST(heard.code != ZMG_RECEIVE_DROPPED || heard.number == ZMG_DROP_NOT_PLAYING
             || heard.number == ZMG_DROP_OUT_OF_PLACE);
+    }
+}
+
+/* What a node knows of the players' ends, as its twin does. */
+static void tell_ends(uint8_t me) {
+    for (uint8_t p = 0; p < players; p++) {
+        zmg_number end = zmg_sealed_node_end(&nodes[me], p), twin = zmg_node_end(&twins[me], p);
+        MUST(end.known == twin.known && end.value == twin.value);
+        tells_end(&common, p, end);
     }
 }
 
@@ -157,16 +99,27 @@ static void run(uint8_t me) {
     int16_t marks[4] = { 0, 0, 0, 0 };
     zmg_move row[4], twin[4];
     zmg_ran ran;
+    tell_ends(me);
     while ((ran = zmg_sealed_node_run(&nodes[me], marks, row)).code == ZMG_RUN_RAN) {
         MUST(zmg_node_run(&twins[me], marks, twin).code == ZMG_RUN_RAN && memcmp(row, twin, sizeof row) == 0);
         MUST(ran.tic < MOST);
-        if (ran.tic == furthest) memcpy(rows[furthest++], row, sizeof row);
-        MUST(memcmp(rows[ran.tic], row, sizeof row) == 0);
+        runs_row(&common, players, ran.tic, row);
     }
     MUST(ran.code == ZMG_RUN_WAITING || ran.code == ZMG_RUN_NOT_PLAYING);
 }
 
+/* Quits, once it has run so many tics. */
+static void quit_in_time(uint8_t me) {
+    if (has_quit[me] || quits[me] == MOST || zmg_sealed_node_ran(&nodes[me]) < quits[me]) return;
+    if (zmg_sealed_node_phase(&nodes[me]).code != ZMG_PHASE_PLAYING) return;
+    MUST(zmg_sealed_node_quit(&nodes[me]) == 1 && zmg_node_quit(&twins[me]) == 1);
+    MUST(zmg_sealed_node_quit(&nodes[me]) == 0);
+    has_quit[me] = 1;
+    left++;
+}
+
 static void turn(uint8_t me, uint32_t now) {
+    quit_in_time(me);
     if (zmg_sealed_node_made(&nodes[me]) < MOST && zmg_sealed_node_can_build(&nodes[me])) {
         zmg_command c = { (int16_t)draw(), 0, (int8_t)below(100), (int8_t)below(80), (uint8_t)draw(), 1 };
         zmg_known_command told;
@@ -185,40 +138,63 @@ static void turn(uint8_t me, uint32_t now) {
     run(me);
 }
 
-static int all_ran(void) {
-    for (uint8_t me = 0; me < players; me++) if (zmg_sealed_node_ran(&nodes[me]) < MOST) return 0;
+static int is_over(void) {
+    for (uint8_t me = 0; me < players; me++)
+        if (!has_quit[me] && zmg_sealed_node_ran(&nodes[me]) < MOST) return 0;
     return 1;
 }
 
+/* Who has quit has ended after its last command. Whoever has run that tic knows so, and of the others no end is
+ * told. */
+static void look_at_end(uint8_t player) {
+    uint32_t made = zmg_sealed_node_made(&nodes[player]);
+    MUST(zmg_sealed_node_end(&nodes[player], player).known == has_quit[player]);
+    for (uint8_t me = 0; me < players; me++) {
+        zmg_number end = zmg_sealed_node_end(&nodes[me], player);
+        if (end.known) MUST(has_quit[player] && end.value == made);
+        else MUST(!has_quit[player] || zmg_sealed_node_ran(&nodes[me]) <= made);
+    }
+}
+
+static void look_at_demo(uint8_t me) {
+    static uint8_t demo[MOST_DEMO];
+    size_t length = zmg_sealed_node_demo(&nodes[me], 0, demo, sizeof demo);
+    MUST(length == zmg_sealed_node_demo_length(&nodes[me]) && length == zmg_node_demo_length(&twins[me]));
+    tells_demo(&common, players, zmg_sealed_node_ran(&nodes[me]), has_quit[me], demo, length);
+}
+
 static void game(int is_open) {
-    uint32_t now = 0;
-    size_t length;
+    uint32_t now = 0, quit = 0;
     open_game(is_open);
-    while (!all_ran()) {
+    while (!is_over()) {
         for (uint8_t me = 0; me < players; me++) turn(me, now);
         MUST(++now < 100 * MOST);
     }
-    length = zmg_sealed_node_demo_length(&nodes[0]);
-    MUST(length == 13 + MOST * players * 5 && length <= sizeof demos[0]);
     for (uint8_t me = 0; me < players; me++) {
-        MUST(zmg_sealed_node_demo(&nodes[me], 0, demos[me != 0], sizeof demos[0]) == length);
-        /* the view is each player's own */
-        MUST(memcmp(demos[0] + 9, demos[me != 0] + 9, length - 9) == 0);
-        MUST(zmg_sealed_node_quit(&nodes[me]) == 1);
+        quit += has_quit[me];
+        look_at_end(me);
+        look_at_demo(me);
     }
-    close_game();
+    MUST(common.length == HEAD + (size_t)whole_rows(&common, players) * players * COMMAND);
+    alone += quit == players - 1;
+    for (uint8_t me = 0; me < players; me++) MUST(zmg_sealed_node_quit(&nodes[me]) == !has_quit[me]);
+    free_nodes((uint8_t)players);
     games++;
 }
 
 int main(int argc, char **argv) {
     unsigned long count = argc > 1 ? strtoul(argv[1], NULL, 10) : 200;
-    if (argc > 2) seed = (uint32_t)strtoul(argv[2], NULL, 10);
+    /* never 0 */
+    if (argc > 2) seed = 2 * (uint32_t)strtoul(argv[2], NULL, 10) + 1;
     while (games < count) game(games % 4 == 3);
-    printf("%lu games: taken %lu, late %lu, unopened", games, arrived[ZMG_RECEIVE_TAKEN],
-        arrived[ZMG_RECEIVE_LATE]);
+    printf("%lu games: taken %lu, late %lu, carried over %lu, quit %lu, alone %lu, unopened", games,
+        arrived[ZMG_RECEIVE_TAKEN], arrived[ZMG_RECEIVE_LATE], carried, left, alone);
     for (unsigned k = 1; k <= ZMG_SEAL_REQUEST; k++) printf(" %lu", unopened[k]);
     printf("\n");
     MUST(arrived[ZMG_RECEIVE_LATE] > 0 && unopened[ZMG_SEAL_TAG] > 0 && unopened[ZMG_SEAL_RECEIVER] > 0);
     MUST(named > 0);
+    if (games < 40) return 0;
+    /* in so many games all of it comes */
+    MUST(carried > 0 && left > 0 && alone > 0 && unopened[ZMG_SEAL_GAME] > 0 && arrived[ZMG_RECEIVE_LEFT] > 0);
     return 0;
 }

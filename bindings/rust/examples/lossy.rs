@@ -1,15 +1,15 @@
-//! Two players in one process, over a line that loses, repeats and delays: `lossy [SEED]`. Their world is a
-//! ring road, and each makes its own commands, as of a mouse.
+//! Two players in one process, over a line that loses, repeats and delays datagrams: `lossy [SEED]`. Their
+//! world is a ring road, and each makes its own commands, as from a mouse.
 
 use zirmegat::{Command, Config, Dropped, Heard, Move, Player, Ran, Settings, Start, World};
 
-/// How many commands each player builds.
+/// How many commands each player makes.
 const TICS: u32 = 1000;
 
 /// How long the road is.
 const LENGTH: i32 = 1_000_003;
 
-/// A ring road on which cars drive, with a speed each.
+/// A ring road with cars on it, each at a place and with a speed.
 #[derive(Default, Debug, PartialEq, Clone)]
 struct Road {
     cars: [Option<(i32, i32)>; 4],
@@ -35,7 +35,7 @@ impl World for Road {
     }
 }
 
-/// Numbers for the line and the hands.
+/// Random numbers for the line and the players' hands.
 struct Luck(u64);
 
 impl Luck {
@@ -57,8 +57,8 @@ impl Luck {
     }
 }
 
-/// One way of the line: datagrams with the rounds after which they come. None is older than 16 rounds, so
-/// nothing comes from more than 64 tics away.
+/// One direction of the line: datagrams, each with the round in which it comes. None is older than 16 rounds,
+/// so nothing comes from more than 64 tics away.
 #[derive(Default)]
 struct Way {
     flying: Vec<(u32, Vec<u8>)>,
@@ -113,7 +113,7 @@ fn main() {
                 ways[me].send(&mut luck, round, &packet);
             }
             for bytes in ways[1 - me].arrived(round) {
-                // packets of the set-up may come late, and others before it
+                // set-up packets may come late, and other packets before them
                 match player.receive(1 - me as u8, &bytes) {
                     Heard::Dropped(why) => assert!(
                         matches!(why, Dropped::OutOfPlace | Dropped::NotPlaying),

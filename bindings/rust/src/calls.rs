@@ -1,6 +1,6 @@
-//! The calls that nodes and sealed nodes have in common, and those that their players have.
+//! The calls that nodes, sealed nodes and links share, and the calls of players.
 
-/// The calls of a node of this type, by the library's calls of these names.
+/// The calls of a node of this type, through the library's calls of these names.
 macro_rules! node_calls {
     (
         $node:ident $build:ident $give:ident $can_build:ident $command:ident $run:ident
@@ -8,45 +8,60 @@ macro_rules! node_calls {
         $end:ident $settings:ident $demo_length:ident $demo:ident $free:ident
     ) => {
         impl $node {
-            /// Builds the command of these keys for the next tic.
+            /// Builds the command of these keys for the next tic. Bits from 18 on are ignored. If no command
+            /// is made, a node stays as it is; a link whose window is full owes the command, and
+            /// [`Link::catch_up`](crate::Link::catch_up) makes it.
             pub fn build(&mut self, keys: Keys) -> Made {
-                // SAFETY: the call has the handle alone (`Held`).
+                // SAFETY: the call has exclusive use of the handle (`Held`).
                 values::made(unsafe { raw::$build(self.0.at(), keys.0) })
             }
 
-            /// Takes a whole command for the next tic, in place of `build`: for an engine that makes
-            /// its commands itself, of a mouse, a stick, keys of its own or chat. Its mark is not read,
-            /// since the node puts in its own, and a forward of -128 counts as -127;
-            /// [`command`](Self::command) tells what was made. For the turns of later builds it counts
-            /// as a build with no key down.
+            /// Takes a whole command for the next tic, instead of `build`: for an engine that makes its
+            /// commands itself, from a mouse, a stick, keys of its own, chat, pause or save. Returns what
+            /// `build` returns. All numbers are taken as they are except two: the mark is not read, since
+            /// the node puts in its own; and a forward of -128 counts as -127, since -128 would end a demo.
+            /// To read back what was made, call [`command`](Self::command) with the tic that was returned.
+            /// Turns by keys begin slowly: for later builds from keys, a given command counts as a build
+            /// with no key down.
             pub fn give(&mut self, command: Command) -> Made {
-                // SAFETY: the call has the handle alone (`Held`), and the command is valid for the
+                // SAFETY: the call has exclusive use of the handle (`Held`), and the command is valid for the
                 // call.
                 values::made(unsafe { raw::$give(self.0.at(), &command.raw()) })
             }
 
-            /// Whether `build` and `give` would make a command now: the game runs, and fewer commands
-            /// of this player wait to be run than its window allows. An engine asks before it takes up
-            /// the motion of a mouse, which would be lost with a command that is not made.
+            /// Returns true if `build` and `give` would make a command now: the node plays, and fewer of its
+            /// commands are waiting to be run than its window allows. Ask a node before you consume the
+            /// motion of a mouse or a letter of chat, which would be lost with a command that is not made. A
+            /// link with a full window owes the command instead, so there is no need to ask it.
             pub fn can_build(&self) -> bool {
-                // SAFETY: the call has the handle alone (`Held`).
+                // SAFETY: the call has exclusive use of the handle (`Held`).
                 unsafe { raw::$can_build(self.0.at()) != 0 }
             }
 
-            /// A player's command for a tic, with its chat: one of the last twelve that the node has of
-            /// the player, or of as many as twice its window where that is more. That of the next tic
-            /// to be run, [`ran`](Self::ran), is told as soon as it has come.
+            /// Returns a player's command for a tic, with its chat and mark, which a [`Move`](crate::Move)
+            /// lacks; None if there is none. The last twelve commands that the node has of each player are
+            /// known, its own among them, or twice the window if that is more. The command of the next tic
+            /// to be run, [`ran`](Self::ran), is known as soon as it has arrived: read it before the tic is
+            /// run, and use it if it is. From the tic of [`end`](Self::end) on there is none.
             pub fn command(&self, player: u8, tic: u32) -> Option<Command> {
-                // SAFETY: the call has the handle alone (`Held`).
+                // SAFETY: the call has exclusive use of the handle (`Held`).
                 let raw = unsafe { raw::$command(self.0.at(), player, tic) };
                 (raw.known != 0).then(|| Command::of(&raw.command))
             }
 
-            /// Runs the next tic by each player's mark in the caller's world as it stands. Where it was
-            /// run, the caller steps the world by the row.
+            /// Runs the next tic, if it can. `marks` has each player's mark in the caller's world as it
+            /// stands, and any number for a seat without a player. With [`Ran::Ran`] the call also returns
+            /// the row of moves by which the world is stepped next; with any other result there is no row.
+            ///
+            /// The marks are those of the caller's own world. That world began with the start of
+            /// [`settings`](Self::settings) and the players 0 to [`players`](Self::players) - 1 when
+            /// `receive` reported that the game started, and it was stepped by every row that this call
+            /// returned and by nothing else. Its marks follow from its state alone: no clock, no random
+            /// numbers but the world's own, no addresses.
             pub fn run(&mut self, marks: [i16; 4]) -> (Ran, Option<[Option<Move>; 4]>) {
                 let mut row = [raw::Move::default(); 4];
-                // SAFETY: the call has the handle alone (`Held`), and both arrays have four elements.
+                // SAFETY: the call has exclusive use of the handle (`Held`), and both arrays have four
+                // elements.
                 let ran = values::ran(unsafe {
                     raw::$run(self.0.at(), marks.as_ptr(), row.as_mut_ptr())
                 });
@@ -56,68 +71,75 @@ macro_rules! node_calls {
                 }
             }
 
-            /// Ends the node; true if it had not ended before. If it has played, it still gives
-            /// packets, which tell the others of its end.
+            /// Ends the node. Returns true if it had not ended before. If it has played, it still gives
+            /// packets, which show the others where its commands end, and still takes datagrams, which may
+            /// ask for its last commands again. So go on sending and receiving for a second or so; with a
+            /// link, until [`may_leave`](crate::Link::may_leave) returns true, and two seconds more.
             pub fn quit(&mut self) -> bool {
-                // SAFETY: the call has the handle alone (`Held`).
+                // SAFETY: the call has exclusive use of the handle (`Held`).
                 unsafe { raw::$quit(self.0.at()) != 0 }
             }
 
-            /// Where it stands.
+            /// Returns the node's phase.
             pub fn phase(&self) -> Phase {
-                // SAFETY: the call has the handle alone (`Held`).
+                // SAFETY: the call has exclusive use of the handle (`Held`).
                 values::phase(unsafe { raw::$phase(self.0.at()) })
             }
 
-            /// The number of its player.
+            /// Returns the number of the node's player.
             pub fn me(&self) -> u8 {
-                // SAFETY: the call has the handle alone (`Held`).
+                // SAFETY: the call has exclusive use of the handle (`Held`).
                 unsafe { raw::$me(self.0.at()) as u8 }
             }
 
-            /// How many players the game has.
+            /// Returns how many players the game has.
             pub fn players(&self) -> u8 {
-                // SAFETY: the call has the handle alone (`Held`).
+                // SAFETY: the call has exclusive use of the handle (`Held`).
                 unsafe { raw::$players(self.0.at()) as u8 }
             }
 
-            /// How many commands it built.
+            /// Returns how many commands the node has made, from keys or given.
             pub fn made(&self) -> u32 {
-                // SAFETY: the call has the handle alone (`Held`).
+                // SAFETY: the call has exclusive use of the handle (`Held`).
                 unsafe { raw::$made(self.0.at()) }
             }
 
-            /// How many tics it ran.
+            /// Returns how many tics the node has run.
             pub fn ran(&self) -> u32 {
-                // SAFETY: the call has the handle alone (`Held`).
+                // SAFETY: the call has exclusive use of the handle (`Held`).
                 unsafe { raw::$ran(self.0.at()) }
             }
 
-            /// How many commands it has of a player; None for a number that is no player's.
+            /// Returns how many commands the node has of a player; None for a number that belongs to no
+            /// player.
             pub fn got(&self, player: u8) -> Option<u32> {
-                // SAFETY: the call has the handle alone (`Held`).
+                // SAFETY: the call has exclusive use of the handle (`Held`).
                 values::number(unsafe { raw::$got(self.0.at(), player) })
             }
 
-            /// The tic after a player's last command, where it is known.
+            /// Returns the tic after a player's last command, if it is known: from this tic on the player has
+            /// no moves.
             pub fn end(&self, player: u8) -> Option<u32> {
-                // SAFETY: the call has the handle alone (`Held`).
+                // SAFETY: the call has exclusive use of the handle (`Held`).
                 values::number(unsafe { raw::$end(self.0.at(), player) })
             }
 
-            /// The choice of game: player 0's own from the beginning, another's from the start on.
+            /// Returns the choice of game: for player 0 from the beginning, for the others once the game has
+            /// started; None before.
             pub fn settings(&self) -> Option<Settings> {
-                // SAFETY: the call has the handle alone (`Held`).
+                // SAFETY: the call has exclusive use of the handle (`Held`).
                 let raw = unsafe { raw::$settings(self.0.at()) };
                 (raw.known != 0).then_some(Settings::of(raw.settings))
             }
 
-            /// A copy of its demo so far.
+            /// Returns a copy of the demo so far. The demo is complete, with its end marker, once a node that
+            /// has played has ended, or a tic without some player was run. It has no bytes before the start,
+            /// nor at a node that ended before the start. Save it before the node is dropped.
             pub fn demo(&self) -> Vec<u8> {
-                // SAFETY: the call has the handle alone (`Held`).
+                // SAFETY: the call has exclusive use of the handle (`Held`).
                 let length = unsafe { raw::$demo_length(self.0.at()) };
                 let mut bytes = vec![0; length];
-                // SAFETY: the call has the handle alone (`Held`), and the vector is valid for its
+                // SAFETY: the call has exclusive use of the handle (`Held`), and the vector is valid for its
                 // length.
                 let copied = unsafe { raw::$demo(self.0.at(), 0, bytes.as_mut_ptr(), bytes.len()) };
                 bytes.truncate(copied);
@@ -127,47 +149,55 @@ macro_rules! node_calls {
 
         impl Drop for $node {
             fn drop(&mut self) {
-                // SAFETY: the call has the handle alone (`Held`).
+                // SAFETY: the call has exclusive use of the handle (`Held`).
                 unsafe { raw::$free(self.0.at()) }
             }
         }
     };
 }
 
-/// The calls of a player of this type, which has a node and a world.
+/// The calls of a player of this type, which holds a node and a world.
 macro_rules! player_calls {
     ($player:ident) => {
         impl<W: World> $player<W> {
-            /// Builds the command of these keys for the next tic.
+            /// Builds the command of these keys for the next tic. Bits from 18 on are ignored. If no command
+            /// is made, the player stays as it is; a link player whose window is full owes the command, and
+            /// [`LinkPlayer::catch_up`](crate::LinkPlayer::catch_up) makes it.
             pub fn build(&mut self, keys: Keys) -> Made {
                 self.node.build(keys)
             }
 
-            /// Takes a whole command for the next tic, in place of `build`: for an engine that makes
-            /// its commands itself, of a mouse, a stick, keys of its own or chat. Its mark is not read,
-            /// since the node puts in its own, and a forward of -128 counts as -127;
-            /// [`command`](Self::command) tells what was made. For the turns of later builds it counts
-            /// as a build with no key down.
+            /// Takes a whole command for the next tic, instead of `build`: for an engine that makes its
+            /// commands itself, from a mouse, a stick, keys of its own, chat, pause or save. Returns what
+            /// `build` returns. All numbers are taken as they are except two: the mark is not read, since
+            /// the node puts in its own; and a forward of -128 counts as -127, since -128 would end a demo.
+            /// To read back what was made, call [`command`](Self::command) with the tic that was returned.
+            /// Turns by keys begin slowly: for later builds from keys, a given command counts as a build
+            /// with no key down.
             pub fn give(&mut self, command: Command) -> Made {
                 self.node.give(command)
             }
 
-            /// Whether `build` and `give` would make a command now: the game runs, and fewer commands
-            /// of this player wait to be run than the window allows, [`MOST_AHEAD`](crate::MOST_AHEAD)
-            /// if none was asked for. An engine asks before it takes up the motion of a mouse, which
-            /// would be lost with a command that is not made.
+            /// Returns true if `build` and `give` would make a command now: the node plays, and fewer of its
+            /// commands are waiting to be run than its window allows. Ask before you consume the motion of a
+            /// mouse or a letter of chat, which would be lost with a command that is not made. A
+            /// [`LinkPlayer`](crate::LinkPlayer) with a full window owes the command instead, so there is no
+            /// need to ask it.
             pub fn can_build(&self) -> bool {
                 self.node.can_build()
             }
 
-            /// A player's command for a tic, with its chat: one of the last twelve that the node has of
-            /// the player, or of as many as twice its window where that is more. That of the next tic
-            /// to be run, [`ran`](Self::ran), is told as soon as it has come.
+            /// Returns a player's command for a tic, with its chat and mark, which a [`Move`](crate::Move)
+            /// lacks; None if there is none. The last twelve commands that the node has of each player are
+            /// known, its own among them, or twice the window if that is more. The command of the next tic
+            /// to be run, [`ran`](Self::ran), is known as soon as it has arrived: read it before the tic is
+            /// run, and use it if it is. From the tic of [`end`](Self::end) on there is none.
             pub fn command(&self, player: u8, tic: u32) -> Option<Command> {
                 self.node.command(player, tic)
             }
 
-            /// Runs the next tic if its commands are there, and steps the world by it.
+            /// Runs the next tic, if it can, with the marks of the world as it stands, and steps the world
+            /// by its row.
             pub fn step(&mut self) -> Ran {
                 let players = usize::from(self.node.players());
                 let playing = self.node.phase() == Phase::Playing;
@@ -186,7 +216,7 @@ macro_rules! player_calls {
                 ran
             }
 
-            /// Runs every tic whose commands are there, and returns why the next is not run.
+            /// Runs tics, as [`step`](Self::step) does, until one is not run, and returns why.
             pub fn run(&mut self) -> Ran {
                 loop {
                     match self.step() {
@@ -196,63 +226,70 @@ macro_rules! player_calls {
                 }
             }
 
-            /// Ends the node; true if it had not ended before. If it has played, it still gives
-            /// packets, which tell the others of its end.
+            /// Ends the node. Returns true if it had not ended before. If it has played, it still gives
+            /// packets, which show the others where its commands end, and still takes datagrams, which may
+            /// ask for its last commands again. So go on sending and receiving for a second or so; with a
+            /// link, until [`may_leave`](crate::Link::may_leave) returns true, and two seconds more.
             pub fn quit(&mut self) -> bool {
                 self.node.quit()
             }
 
-            /// The world.
+            /// Returns the world.
             pub fn world(&self) -> &W {
                 &self.world
             }
 
-            /// The number of the player.
+            /// Returns the number of the player.
             pub fn me(&self) -> u8 {
                 self.node.me()
             }
 
-            /// How many players the game has.
+            /// Returns how many players the game has.
             pub fn players(&self) -> u8 {
                 self.node.players()
             }
 
-            /// Where the node stands.
+            /// Returns the node's phase.
             pub fn phase(&self) -> Phase {
                 self.node.phase()
             }
 
-            /// How many commands it built.
+            /// Returns how many commands the node has made, from keys or given.
             pub fn made(&self) -> u32 {
                 self.node.made()
             }
 
-            /// How many tics it ran.
+            /// Returns how many tics the node has run.
             pub fn ran(&self) -> u32 {
                 self.node.ran()
             }
 
-            /// How many commands it has of a player; None for a number that is no player's.
+            /// Returns how many commands the node has of a player; None for a number that belongs to no
+            /// player.
             pub fn got(&self, player: u8) -> Option<u32> {
                 self.node.got(player)
             }
 
-            /// The tic after a player's last command, where it is known.
+            /// Returns the tic after a player's last command, if it is known: from this tic on the player has
+            /// no moves.
             pub fn end(&self, player: u8) -> Option<u32> {
                 self.node.end(player)
             }
 
-            /// The choice of game, once it is known.
+            /// Returns the choice of game: for player 0 from the beginning, for the others once the game has
+            /// started; None before.
             pub fn settings(&self) -> Option<Settings> {
                 self.node.settings()
             }
 
-            /// A copy of the demo so far.
+            /// Returns a copy of the demo so far. The demo is complete, with its end marker, once a node that
+            /// has played has ended, or a tic without some player was run. It has no bytes before the start,
+            /// nor at a node that ended before the start. Save it before the player is dropped.
             pub fn demo(&self) -> Vec<u8> {
                 self.node.demo()
             }
 
-            /// Begins the world where the game starts.
+            /// Begins the world, when the game starts.
             fn begin(&mut self) {
                 if let Some(settings) = self.node.settings() {
                     let players = usize::from(self.node.players());

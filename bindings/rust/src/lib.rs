@@ -1,17 +1,17 @@
-//! The network play of vanilla Doom, as it was released in 1997, for an engine with a world of its own.
+//! Vanilla Doom's network play, as it was released in 1997, for an engine that has a world of its own.
 //!
-//! A [`Player`] is one player's part of a game of two to four: a node of the game and a [`World`], kept in
-//! step. For each tic it takes a [`Command`] or builds one from [`Keys`]. It gives and takes Doom's datagrams,
-//! steps the world by each tic whose commands are there, checks the marks of the other players' worlds, and
-//! records a demo. The network is yours: hand each packet to its player's machine, and each datagram that
-//! comes to [`Player::receive`].
+//! A [`Player`] is one player's part of a game of two to four players: a node of the game and a [`World`],
+//! kept in step. For each tic it takes a [`Command`], or builds one from [`Keys`]. It writes and reads Doom's
+//! datagrams, steps the world by each tic whose commands are there, checks the marks of the other players'
+//! worlds, and records a demo. The network is yours: send each packet to its player's machine, and pass each
+//! datagram that comes to [`Player::receive`]. A tic is 1/35 second; the engine's own clock sets the pace.
 //!
 //! Two players in one process:
 //!
 //! ```
 //! use zirmegat::{Config, Keys, Move, Phase, Player, Settings, Start, World};
 //!
-//! /// Each player is on a line, and goes along it.
+//! /// Players who move along a line.
 //! #[derive(Default)]
 //! struct Line {
 //!     at: [i32; 4],
@@ -51,7 +51,7 @@
 //!     other.run();
 //! }
 //! assert_eq!(key.phase(), Phase::Playing);
-//! assert_eq!(key.ran(), 99); // the first round is that of the set-up
+//! assert_eq!(key.ran(), 99); // the first round is the set-up
 //! assert_eq!(key.world().at, other.world().at);
 //! assert!(key.quit());
 //! assert_eq!(key.demo().len(), 13 + 99 * 2 * 5 + 1);
@@ -59,21 +59,33 @@
 //! # }
 //! ```
 //!
-//! A datagram must come as it was sent, from the sender that is named, and not old. On a network that nobody
-//! answers for, as the internet, a [`SealedPlayer`] sees to that itself: its packets go out in envelopes
-//! under a [`Seal`], and [`SealedPlayer::receive`] takes any bytes.
+//! A player needs its datagrams as they were sent, the number of their sender, and none that is old:
+//! [`Node::receive`] has the rules. On a network that nobody vouches for, such as the internet, a
+//! [`SealedPlayer`] takes care of this itself: its packets go out in envelopes under a [`Seal`], and
+//! [`SealedPlayer::receive`] takes in any bytes. A [`LinkPlayer`] also takes care of delivery, pace and the
+//! lobby: each of its datagrams has everything that is kept for the peer.
 //!
-//! Nothing here waits, prints or opens anything. A player's memory is all taken by `new` or `within`, but for
-//! the copy that `demo` returns; readers of demos, `upgrade` and packets take their own. A [`Node`],
-//! [`Player`], [`SealedNode`], [`SealedPlayer`], [`Reader`] or [`Demo`] may go to another thread, and one
-//! thread at a time uses it: they are `Send` and not `Sync`. None is used in the forked child of a process
-//! with threads.
+//! What the caller owes:
 //!
-//! A later library may answer codes that this crate has no name for. Each enum that is made of a code has
-//! `Unknown` with the code for them; so no unknown code is taken for a known one, and none ends the program.
+//! - Each player of a game has one node, made once. [`Config::players`], [`Config::extra`], [`Config::limit`]
+//!   and the window are the same for all.
+//! - Every world keeps to what [`World`] requires. An engine that steps its own world, over a [`Node`],
+//!   [`SealedNode`] or [`Link`], passes the marks of that world to `run`.
+//! - No call is made from a signal handler, or from a forked child of a process with threads.
 //!
-//! The library under it is proved, but for what the README trusts. This crate is not; it only passes
-//! references as pointers and numbers as enums.
+//! The crate opens nothing, never waits, and prints nothing. `new` and `within` allocate all memory of a node
+//! or link; of the later calls on it only `demo` allocates, for the copy that it returns. Readers of demos,
+//! [`upgrade`] and [`Packet`] allocate their own. A [`Node`], [`Player`], [`SealedNode`], [`SealedPlayer`],
+//! [`Link`], [`LinkPlayer`], [`Reader`] or [`Demo`] may pass to another thread, but only one thread at a time
+//! uses it. The types are not `Sync`; they are `Send`, a player if its world is.
+//!
+//! A later library may return codes that this crate has no name for. Each enum that is made from a code holds
+//! such a code in its variant `Unknown`; in [`Arrived`] it is the one of [`Heard`]. So no unknown code is
+//! taken for a known one, and none makes the program panic.
+//!
+//! The library below this crate is proved, except for what docs/PROMISES.md lists as trusted. The crate
+//! itself is not proved. It passes references as pointers, turns numbers into enums, and calls the [`World`]
+//! of a player.
 
 #![deny(missing_docs)]
 #![deny(unsafe_op_in_unsafe_fn)]
@@ -81,6 +93,7 @@
 
 mod calls;
 mod demo;
+mod link;
 mod node;
 mod packet;
 mod player;
@@ -89,6 +102,9 @@ mod sealed;
 mod values;
 
 pub use demo::{upgrade, Demo, DemoError, Reader, UpgradeError};
+pub use link::{
+    Identity, Line, Link, LinkDatagram, LinkPlayer, Parting, Presence, Received, Unread,
+};
 pub use node::{Datagram, Node, NodeError};
 pub use packet::{Command, Packet, PacketError, EXIT, KILL, RETRANSMIT, SETUP};
 pub use player::{Player, World};
@@ -98,9 +114,9 @@ pub use values::{
     Unopened, MOST_AHEAD, WIDEST_AHEAD,
 };
 
-/// The version of the library that is linked: 65,536 times the first number, plus the second.
+/// Returns the version of the library that is linked: 65,536 times the first number, plus the second.
 pub fn version() -> u32 {
-    // SAFETY: it asks for nothing.
+    // SAFETY: the call requires nothing.
     unsafe { raw::zmg_version() }
 }
 

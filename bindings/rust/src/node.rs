@@ -7,29 +7,31 @@ use crate::values::{self, Aim, Config, Heard, Keys, Made, Move, Phase, Ran, Sett
 use std::error::Error;
 use std::fmt;
 
-/// Why there is no node. A secret is looked at first, and then player 0's settings.
+/// Why a call made no node, link or player: the first fault. A secret is checked before all else, then player
+/// 0's settings, then the window, then the rest.
 #[derive(Clone, Copy, Debug, PartialEq, Eq)]
 #[non_exhaustive]
 pub enum NodeError {
-    /// Not 2 to 4 players.
+    /// There are not 2 to 4 players.
     Players,
     /// `me` is not below `players`.
     Me,
     /// The demo's limit is not 1,024 to 16,777,216 bytes.
     Limit,
-    /// Out of memory.
+    /// Out of memory. All else was in range.
     Memory,
-    /// The skill is not 0 to 4.
+    /// Player 0's skill is not 0 to 4.
     Skill,
-    /// The deathmatch is not 0 to 2.
+    /// Player 0's deathmatch is not 0 to 2.
     Deathmatch,
-    /// The episode is not 1 to 3.
+    /// Player 0's episode is not 1 to 3.
     Episode,
-    /// The map is not 1 to 32.
+    /// Player 0's map is not 1 to 32.
     Map,
-    /// A window that no node has.
+    /// The window is not 1 to [`WIDEST_AHEAD`](crate::WIDEST_AHEAD). Only calls with a window return it.
     Ahead,
-    /// A secret of zeros, as of one that was never set.
+    /// All bytes of the secret are 0, as in a buffer that was never filled. Only calls with a secret return
+    /// it.
     Secret,
     /// A code that this crate has no name for.
     Unknown(u32),
@@ -41,12 +43,12 @@ impl fmt::Display for NodeError {
             NodeError::Players => "the number of players is not 2 to 4",
             NodeError::Me => "the player's number is not below the number of players",
             NodeError::Limit => "the demo's limit is not 1024 to 16777216 bytes",
-            NodeError::Memory => "there is no memory for the node",
+            NodeError::Memory => "out of memory",
             NodeError::Skill => "the skill is not 0 to 4",
             NodeError::Deathmatch => "the deathmatch is not 0 to 2",
             NodeError::Episode => "the episode is not 1 to 3",
             NodeError::Map => "the map is not 1 to 32",
-            NodeError::Ahead => "no node has a window of this width",
+            NodeError::Ahead => "the window is not 1 to 12",
             NodeError::Secret => "all bytes of the secret are zero",
             NodeError::Unknown(code) => {
                 return write!(f, "the node was refused with the unknown code {code}");
@@ -75,9 +77,9 @@ pub(crate) fn opened(code: u32) -> Result<(), NodeError> {
 }
 
 /// One player's node without a world, for an engine that steps its own. [`Player`](crate::Player) keeps a
-/// world in step by itself.
+/// world in step by itself. Dropping a node frees its memory.
 ///
-/// A node may go to another thread, and one thread at a time uses it. Two threads do not share it:
+/// A node may pass to another thread, but only one thread at a time uses it. Two threads cannot share it:
 ///
 /// ```compile_fail,E0277
 /// # use zirmegat::{Config, Node};
@@ -87,42 +89,50 @@ pub(crate) fn opened(code: u32) -> Result<(), NodeError> {
 pub struct Node(raw::Held);
 
 impl Node {
-    /// A node with no history. All memory that it needs is taken here.
+    /// Makes a node with the window [`MOST_AHEAD`](crate::MOST_AHEAD). All its memory is allocated here; of
+    /// the later calls on it only [`demo`](Node::demo) allocates. Returns the first fault of the
+    /// configuration, or [`NodeError::Memory`].
     pub fn new(config: Config) -> Result<Node, NodeError> {
         let node = Node(raw::Held::nothing());
-        // SAFETY: the call has the handle alone (`Held`), and the configuration is valid for the call.
+        // SAFETY: the call has exclusive use of the handle (`Held`), and the configuration is valid for the
+        // call.
         opened(unsafe { raw::zmg_node_new(node.0.at(), &config.raw()) })?;
         Ok(node)
     }
 
-    /// The same in a window of this width: how many commands this player may be ahead of the tics that the node
-    /// ran, 1 to [`WIDEST_AHEAD`](crate::WIDEST_AHEAD), in place of [`MOST_AHEAD`](crate::MOST_AHEAD). It
-    /// must be the same for all players of the game.
+    /// The same with a window of its own: this player may be `ahead` commands ahead of the tics that the node
+    /// ran, 1 to [`WIDEST_AHEAD`](crate::WIDEST_AHEAD), instead of [`MOST_AHEAD`](crate::MOST_AHEAD). The
+    /// same for all players: nothing is promised of a game with two windows. Each further command hides 1/35
+    /// second more of the line's delay; once it is used, a key is felt 1/35 second later.
     pub fn within(config: Config, ahead: u8) -> Result<Node, NodeError> {
         let node = Node(raw::Held::nothing());
-        // SAFETY: the call has the handle alone (`Held`), and the configuration is valid for the call.
+        // SAFETY: the call has exclusive use of the handle (`Held`), and the configuration is valid for the
+        // call.
         opened(unsafe { raw::zmg_node_new_within(node.0.at(), &config.raw(), ahead) })?;
         Ok(node)
     }
 
-    /// The next packet to a player. Each call is taken as sent. None for this node's own number, for a number
-    /// that is no player's, while the node listens, and where it has ended before its game started.
+    /// Returns the next packet to player `to`, which then counts as sent. Returns None, and leaves the node
+    /// as it was, if there is no packet: to the node's own player, to a number that belongs to no player, at
+    /// [`Phase::Listening`], and at [`Phase::Ended`] if no game had started.
     pub fn packet(&mut self, to: u8) -> Option<Datagram> {
         let mut datagram = Datagram {
             bytes: [0; 104],
             length: 0,
         };
         let out = &mut datagram.bytes;
-        // SAFETY: the call has the handle alone (`Held`), and the array is valid for its length.
+        // SAFETY: the call has exclusive use of the handle (`Held`), and the array is valid for its length.
         datagram.length =
             unsafe { raw::zmg_node_packet(self.0.at(), to, out.as_mut_ptr(), out.len()) };
         (datagram.length > 0).then_some(datagram)
     }
 
-    /// The full tic numbers of the packet that [`packet`](Node::packet) would give now: it is called before
-    /// `packet` for the same player.
+    /// Returns the full tic numbers of the packet that [`packet`](Node::packet) would return for player `to`
+    /// now; None if there is no packet. Call it before `packet`, which moves on to the next packet. A
+    /// transport may send [`Aim::start`] along, so that the receiver recognises old datagrams: see
+    /// [`receive`](Node::receive).
     pub fn aim(&self, to: u8) -> Option<Aim> {
-        // SAFETY: the call has the handle alone (`Held`).
+        // SAFETY: the call has exclusive use of the handle (`Held`).
         let raw = unsafe { raw::zmg_node_aim(self.0.at(), to) };
         (raw.known != 0).then_some(Aim {
             flags: raw.flags,
@@ -132,12 +142,15 @@ impl Node {
         })
     }
 
-    /// Hears a datagram of a player. Where it answers [`Heard::Started`], the caller begins its world with
-    /// the start of [`settings`](Node::settings).
+    /// Takes in a datagram from player `from`. If it returns [`Heard::Started`], the caller begins its world
+    /// with the start of [`settings`](Node::settings).
     ///
-    /// The transport knows the sender, and drops what is old: see docs/EMBEDDING.md.
+    /// It is up to the transport to know who sent a datagram. The transport passes in datagrams of this game
+    /// as [`packet`](Node::packet) returned them, only those for this player, and none whose start or ask
+    /// lies more than 64 tics from [`made`](Node::made). A set-up packet may come at any time.
+    /// docs/EMBEDDING.md has rules by which a transport ensures this.
     pub fn receive(&mut self, from: u8, bytes: &[u8]) -> Heard {
-        // SAFETY: the call has the handle alone (`Held`), and the slice is valid for its length.
+        // SAFETY: the call has exclusive use of the handle (`Held`), and the slice is valid for its length.
         values::heard(unsafe {
             raw::zmg_node_receive(self.0.at(), from, bytes.as_ptr(), bytes.len())
         })

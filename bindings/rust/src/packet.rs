@@ -1,40 +1,42 @@
-//! Datagrams as fields, with no node.
+//! Datagrams, with no node.
 
 use crate::raw;
 use std::error::Error;
 use std::fmt;
 
-/// The sender has left the game.
+/// The sender has left, and its commands end with these.
 pub const EXIT: u8 = 8;
-/// The sender asks for commands again, from the tic of the ask byte on.
+/// The sender asks for the commands from [`ask`](Packet::ask) on again.
 pub const RETRANSMIT: u8 = 4;
-/// The packet is a choice of game, in its ask, start and player bytes.
+/// The packet has player 0's settings.
 pub const SETUP: u8 = 2;
-/// The receiver is to end the game. Nodes drop it.
+/// The packet ends a game. No node sends or obeys it.
 pub const KILL: u8 = 1;
 
-/// A tic command: what [`give`](crate::Node::give) takes, [`command`](crate::Node::command) tells and packets
-/// carry.
+/// A tic command, as [`give`](crate::Node::give) takes it, [`command`](crate::Node::command) returns it, and
+/// packets carry it.
 #[derive(Clone, Copy, Debug, Default, PartialEq, Eq)]
 pub struct Command {
-    /// Forward, in units of 2048 in a world of 16 fractional bits.
+    /// The move forward, in units of 2048 in a world of 16 fractional bits.
     pub forward: i8,
-    /// To the right, in the same units.
+    /// The move to the right, in the same units.
     pub side: i8,
-    /// To the left, in 65536ths of a full turn.
+    /// The turn to the left, in 65,536ths of a full turn.
     pub turn: i16,
-    /// The consistency mark of the player's own world twelve tics before.
+    /// The consistency mark of the player's own world twelve tics before. [`give`](crate::Node::give) does
+    /// not read it.
     pub mark: i16,
-    /// A letter of chat, carried unread.
+    /// A letter of chat, which the library carries and does not read.
     pub chat: u8,
-    /// Attack, use and a change of weapon; or, with the highest bit, pause and save.
+    /// As in [`Move`](crate::Move::buttons). With bit 7 it is pause or save, which the engine obeys itself.
     pub buttons: u8,
 }
 
-/// What one node sends another in a datagram.
+/// The fields of a datagram. A set-up packet has the settings in `ask` and `start`, and the version in
+/// `player`.
 #[derive(Clone, Debug, Default, PartialEq, Eq)]
 pub struct Packet {
-    /// Bits of [`EXIT`], [`RETRANSMIT`], [`SETUP`] and [`KILL`].
+    /// The bits of [`EXIT`], [`RETRANSMIT`], [`SETUP`] and [`KILL`].
     pub flags: u8,
     /// The low byte of the tic from which commands are asked for again.
     pub ask: u8,
@@ -42,19 +44,19 @@ pub struct Packet {
     pub start: u8,
     /// The sender's number.
     pub player: u8,
-    /// One command for each tic from the start on, at most 12.
+    /// One command for each tic from `start` on, at most 12.
     pub commands: Vec<Command>,
 }
 
-/// Why bytes are no packet.
+/// Why bytes are not a datagram.
 #[derive(Clone, Copy, Debug, PartialEq, Eq)]
 #[non_exhaustive]
 pub enum PacketError {
     /// Fewer than 8 bytes.
     Short,
-    /// More than 12 commands are told.
+    /// They announce more than 12 commands.
     Many,
-    /// The length is not that of the commands.
+    /// The length does not match the commands that they announce.
     Length,
     /// The sum is wrong.
     Sum,
@@ -67,7 +69,7 @@ impl fmt::Display for PacketError {
         f.write_str(match self {
             PacketError::Short => "the datagram has fewer than 8 bytes",
             PacketError::Many => "the datagram announces more than 12 commands",
-            PacketError::Length => "the datagram's length is not that of its commands",
+            PacketError::Length => "the datagram's length does not match its commands",
             PacketError::Sum => "the datagram's sum is wrong",
             PacketError::Unknown(code) => {
                 return write!(f, "the datagram was refused with the unknown code {code}");
@@ -90,7 +92,7 @@ pub(crate) fn decoded(code: u32) -> Result<(), PacketError> {
 }
 
 impl Packet {
-    /// The packet whose text the bytes are, or the first fault that they have.
+    /// Reads a datagram. Returns the first fault that the bytes have, if they are not one.
     pub fn decode(bytes: &[u8]) -> Result<Packet, PacketError> {
         let mut raw = raw::Packet::default();
         // SAFETY: the slice is valid for its length, and the packet for the call.
@@ -99,7 +101,8 @@ impl Packet {
         Ok(Packet::of(&raw))
     }
 
-    /// The bytes of the packet; None where its flags are above 15, or it has more than 12 commands.
+    /// Returns the bytes of the datagram, at most 104; None if `flags` is above 15, or if there are more than
+    /// 12 commands.
     pub fn encode(&self) -> Option<Vec<u8>> {
         if self.commands.len() > 12 {
             return None;

@@ -5,23 +5,26 @@ use crate::node::{Datagram, Node, NodeError};
 use crate::packet::Command;
 use crate::values::{Aim, Config, Heard, Keys, Made, Move, Phase, Ran, Settings, Start};
 
-/// A world that the moves of four seats step.
+/// A world that is stepped by the moves of four seats.
 ///
-/// Worlds that began alike and were stepped by the same rows are to be alike: nothing in them comes from a
-/// clock, from random numbers but the world's own, or from where things lie in memory.
+/// Worlds that began the same and were stepped by the same rows must be the same. Nothing in them depends on
+/// a clock, on addresses, on floating point that differs between machines, or on random numbers other than
+/// those of a generator that is part of the world's state.
 pub trait World {
-    /// Forgets all that was, and begins a game.
+    /// Discards what was before, and begins a game. `present` is true for each seat with a player.
     fn begin(&mut self, start: &Start, present: [bool; 4]);
 
-    /// Goes on by one tic, 1/35 second.
+    /// Steps the world by one tic, 1/35 second. A seat without a move belongs to nobody, or to a player who
+    /// has left; what becomes of such a player is the same in every world.
     fn step(&mut self, moves: &[Option<Move>; 4]);
 
-    /// The consistency mark of a player, by the world's state alone. Doom's is the low 16 bits of the
-    /// player's x.
+    /// Returns a player's consistency mark, which follows from the world's state alone. Doom's is the low 16
+    /// bits of the player's x. [`Player`], [`SealedPlayer`](crate::SealedPlayer) and
+    /// [`LinkPlayer`](crate::LinkPlayer) call it only while the game runs, for the players of the game.
     fn mark(&self, player: usize) -> i16;
 }
 
-/// One player's node and world.
+/// One player's node and world, kept in step. Dropping a player frees the node's memory.
 #[derive(Debug)]
 pub struct Player<W> {
     node: Node,
@@ -29,7 +32,8 @@ pub struct Player<W> {
 }
 
 impl<W: World> Player<W> {
-    /// A player of a game that has not started.
+    /// Makes a player, with a node as [`Node::new`] makes it. The world begins when the game starts. Returns
+    /// what `Node::new` returns.
     pub fn new(config: Config, world: W) -> Result<Player<W>, NodeError> {
         Ok(Player {
             node: Node::new(config)?,
@@ -37,7 +41,7 @@ impl<W: World> Player<W> {
         })
     }
 
-    /// The same in a window of this width, as [`Node::within`] makes its node.
+    /// The same with a window of its own, as in [`Node::within`].
     pub fn within(config: Config, world: W, ahead: u8) -> Result<Player<W>, NodeError> {
         Ok(Player {
             node: Node::within(config, ahead)?,
@@ -45,20 +49,20 @@ impl<W: World> Player<W> {
         })
     }
 
-    /// The next packet to a player, if there is one. Each call is taken as sent.
+    /// Returns the next packet to player `to`, which then counts as sent; None as for [`Node::packet`].
     pub fn packet(&mut self, to: u8) -> Option<Datagram> {
         self.node.packet(to)
     }
 
-    /// The full tic numbers of the packet that [`packet`](Player::packet) would give now: it is called before
-    /// `packet` for the same player.
+    /// Returns the full tic numbers of the packet that [`packet`](Player::packet) would return for player
+    /// `to` now; None if there is no packet. Call it before `packet`, which moves on to the next packet.
     pub fn aim(&self, to: u8) -> Option<Aim> {
         self.node.aim(to)
     }
 
-    /// Hears a datagram of a player, and begins the world where the game starts.
-    ///
-    /// The transport knows the sender, and drops what is old: see docs/EMBEDDING.md.
+    /// Takes in a datagram from player `from`, and begins the world if the game starts. It needs what
+    /// [`Node::receive`] needs: the true sender, and no datagram that is old, is of another game or is for
+    /// another player.
     pub fn receive(&mut self, from: u8, bytes: &[u8]) -> Heard {
         let heard = self.node.receive(from, bytes);
         if heard == Heard::Started {

@@ -1,4 +1,4 @@
-//! The calls of `zirmegat.h`. The tests compare the layouts with what the header says.
+//! The calls of `zirmegat.h`. Tests compare the layouts with those of the header.
 
 use core::cell::UnsafeCell;
 use core::ffi::c_void;
@@ -9,15 +9,15 @@ pub struct Handle {
     pub at: *mut c_void,
 }
 
-/// A handle, which holds nothing at first, and then is as the library left it.
+/// A handle. It holds nothing at first, and then is as the library left it.
 ///
-/// The calls take a pointer by which they may write, those that read among them. So the handle stands in a
-/// cell, of which a shared reference gives such a pointer. Each call has the handle alone: the type is not
-/// `Sync`, no call calls back, and no answer points to the handle or to what it holds.
+/// Every call takes a pointer through which it may write, also a call that reads. So the handle is in a cell,
+/// which gives such a pointer to a shared reference. Each call has exclusive use of the handle: the type is
+/// not `Sync`, no call calls back, and nothing that a call returns points to the handle or to what it holds.
 pub struct Held(UnsafeCell<Handle>);
 
-// SAFETY: nothing in the library is bound to a thread (bindings/archive looks), and what malloc gave on one
-// thread free takes back on another.
+// SAFETY: nothing in the library is bound to a thread (bindings/archive checks that), and a block that malloc
+// returned on one thread may be freed on another.
 unsafe impl Send for Held {}
 
 impl Held {
@@ -53,11 +53,42 @@ pub struct Config {
     pub settings: Settings,
 }
 
-/// A code with a number: `zmg_made` and `zmg_heard`.
+/// A code and a number: `zmg_made` and `zmg_heard`.
 #[repr(C)]
 pub struct Coded {
     pub code: u32,
     pub number: u32,
+}
+
+#[repr(C)]
+pub struct Received {
+    pub code: u32,
+    pub reason: u32,
+    pub player: u8,
+    pub started: u8,
+}
+
+#[repr(C)]
+pub struct Presence {
+    pub state: u32,
+    pub limit: u32,
+    pub cause: u8,
+    pub players: u8,
+    pub extra: u8,
+    pub ahead: u8,
+    pub host: [u8; 16],
+}
+
+#[repr(C)]
+pub struct Line {
+    pub known: u32,
+    pub came: u32,
+    pub lost: u32,
+    pub repeated: u32,
+    pub too_old: u32,
+    pub missing_there: u8,
+    pub lead: i8,
+    pub lead_there: i8,
 }
 
 #[repr(C)]
@@ -226,6 +257,42 @@ extern "C" {
     pub fn zmg_sealed_node_demo_length(node: *mut Handle) -> usize;
     pub fn zmg_sealed_node_demo(node: *mut Handle, from: usize, out: *mut u8, room: usize)
         -> usize;
+    pub fn zmg_link_new(
+        link: *mut Handle,
+        config: *const Config,
+        ahead: u8,
+        secret: *const u8,
+        game: *const u8,
+        host: *const u8,
+    ) -> u32;
+    pub fn zmg_link_datagram(link: *mut Handle, to: u8, out: *mut u8, room: usize) -> usize;
+    pub fn zmg_link_receive(link: *mut Handle, bytes: *const u8, length: usize) -> Received;
+    pub fn zmg_link_catch_up(link: *mut Handle) -> Coded;
+    pub fn zmg_link_lean(link: *mut Handle) -> i32;
+    pub fn zmg_link_wants_second(link: *mut Handle, player: u8) -> u32;
+    pub fn zmg_link_presence(link: *mut Handle, player: u8) -> Presence;
+    pub fn zmg_link_forget(link: *mut Handle, player: u8);
+    pub fn zmg_link_may_leave(link: *mut Handle) -> u32;
+    pub fn zmg_link_line(link: *mut Handle, player: u8) -> Line;
+    pub fn zmg_link_refused(link: *mut Handle) -> u32;
+    pub fn zmg_link_unacknowledged(link: *mut Handle) -> u32;
+    pub fn zmg_link_free(link: *mut Handle);
+    pub fn zmg_link_build(link: *mut Handle, keys: u32) -> Coded;
+    pub fn zmg_link_give(link: *mut Handle, command: *const Command) -> Coded;
+    pub fn zmg_link_can_build(link: *mut Handle) -> u32;
+    pub fn zmg_link_command(link: *mut Handle, player: u8, tic: u32) -> KnownCommand;
+    pub fn zmg_link_run(link: *mut Handle, marks: *const i16, row: *mut Move) -> Ran;
+    pub fn zmg_link_quit(link: *mut Handle) -> u32;
+    pub fn zmg_link_phase(link: *mut Handle) -> Phase;
+    pub fn zmg_link_me(link: *mut Handle) -> u32;
+    pub fn zmg_link_players(link: *mut Handle) -> u32;
+    pub fn zmg_link_made(link: *mut Handle) -> u32;
+    pub fn zmg_link_ran(link: *mut Handle) -> u32;
+    pub fn zmg_link_got(link: *mut Handle, player: u8) -> Number;
+    pub fn zmg_link_end(link: *mut Handle, player: u8) -> Number;
+    pub fn zmg_link_settings(link: *mut Handle) -> KnownSettings;
+    pub fn zmg_link_demo_length(link: *mut Handle) -> usize;
+    pub fn zmg_link_demo(link: *mut Handle, from: usize, out: *mut u8, room: usize) -> usize;
     pub fn zmg_packet_decode(bytes: *const u8, length: usize, packet: *mut Packet) -> u32;
     pub fn zmg_packet_encode(packet: *const Packet, out: *mut u8, room: usize) -> usize;
     pub fn zmg_demo_new(demo: *mut Handle) -> u32;

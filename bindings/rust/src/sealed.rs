@@ -1,4 +1,4 @@
-//! A sealed node, and a player with one: for an untrusted network.
+//! A sealed node, and a player with one, for an untrusted network.
 
 use crate::calls::{node_calls, player_calls};
 use crate::node::{opened, NodeError};
@@ -8,26 +8,33 @@ use crate::raw;
 use crate::values::{self, Arrived, Config, Heard, Keys, Made, Move, Phase, Ran, Settings};
 use std::fmt;
 
-/// What all players of a game seal and open by.
+/// What the players of a game seal and open envelopes with. It is the same for all of them.
+///
+/// The number is 16 random bytes, drawn anew for each game on player 0's machine and sent to the others. It
+/// need not be secret, but each player must get the one that was drawn: whoever can hand a player an old
+/// number can replay that old game to the player. Send it over a channel that nobody can alter. If a number
+/// is used again, the packets of the old game open in the new one.
 #[derive(Clone, Copy)]
 pub enum Seal {
-    /// The players share a secret, 32 random bytes that nobody else has.
+    /// The players share a secret. Whoever has it can send as any player, and whoever records an envelope
+    /// can try guesses against it.
     Secret {
-        /// The secret, which nothing else is done with. One of zeros is refused ([`NodeError::Secret`]).
+        /// The secret: 32 random bytes, known to the players alone and used for nothing else. If all of them
+        /// are 0 it is refused ([`NodeError::Secret`]).
         secret: [u8; 32],
-        /// The game's number: 16 random bytes, others for each game. They need not be secret.
+        /// The game's number.
         number: [u8; 16],
     },
-    /// An open game: its players share no secret, and its envelopes say so. Damaged and old packets are
-    /// found, and those of other games and to other players; but whoever knows the number can send as
-    /// any player.
+    /// An open game: its players share no secret. Its envelopes say so: a node with a secret opens none of
+    /// them, and this node opens none of that one's. Damaged packets, old packets, and packets of other games
+    /// or to other players are dropped all the same; but whoever knows the number can send as any player.
     Open {
-        /// The game's number: 16 random bytes, others for each game.
+        /// The game's number.
         number: [u8; 16],
     },
 }
 
-/// It shows no secret.
+/// Shows no secret.
 impl fmt::Debug for Seal {
     fn fmt(&self, f: &mut fmt::Formatter<'_>) -> fmt::Result {
         f.write_str(match self {
@@ -37,30 +44,43 @@ impl fmt::Debug for Seal {
     }
 }
 
-/// One player's node without a world, and its seal. Its packets go out in envelopes, and any bytes may
-/// come in, from anywhere and at any time. [`SealedPlayer`] keeps a world in step by itself.
+/// One player's node and its seal, without a world. [`SealedPlayer`] keeps a world in step by itself.
+///
+/// Its packets go out in envelopes: the datagram, its sender, its receiver and its full tic numbers, under a
+/// tag that only the players of the game can make (HMAC-SHA-256, of which 16 bytes are sent); in an [open
+/// game](Seal::Open) whoever knows the number can make it. Any bytes may come in, from anywhere and at any
+/// time. Bytes that are not an envelope to this player in this game are dropped, and so is an old envelope.
 ///
 /// As long as nobody without the secret makes a tag, the games of the nodes agree, whatever the network
-/// loses, repeats, reorders, holds back, alters, forges or gives another sender. It is owed that a
-/// player makes one node in a game, that each game has a number of its own, and that the secret is
-/// kept. Commands and chat can be read by whoever sees the line.
+/// loses, repeats, reorders, delays, alters, forges or gives another sender. Instead of what
+/// [`Node::receive`](crate::Node::receive) requires, the caller owes:
 ///
-/// A sealed node may go to another thread, and one thread at a time uses it.
+/// - Delivery. If nothing gets through, the game waits, and nothing worse happens.
+/// - One node. A player makes one node in a game: no second one with the same number, and none that goes on
+///   from a copy of memory. All its packets come from [`packet`](SealedNode::packet): a player who seals
+///   packets other than by these calls can send the others different commands.
+/// - One number for each game, and a secret that is kept, as [`Seal`] says.
+///
+/// Nothing is encrypted: whoever sees the line can read commands and chat. Keys are not wiped from memory.
+/// Dropping a sealed node frees its memory. It may pass to another thread, but only one thread at a time
+/// uses it.
 pub struct SealedNode(raw::Held);
 
 impl SealedNode {
-    /// A sealed node with no history, in a window of [`MOST_AHEAD`](crate::MOST_AHEAD). All memory that
-    /// it needs is taken here.
+    /// Makes a sealed node with the window [`MOST_AHEAD`](crate::MOST_AHEAD). All its memory is allocated
+    /// here; of the later calls on it only [`demo`](SealedNode::demo) allocates. Returns
+    /// [`NodeError::Secret`] if all bytes of a secret are 0; else what
+    /// [`Node::within`](crate::Node::within) returns.
     pub fn new(config: Config, seal: Seal) -> Result<SealedNode, NodeError> {
         SealedNode::within(config, seal, crate::MOST_AHEAD)
     }
 
-    /// The same in a window of this width, as [`Node::within`](crate::Node::within).
+    /// The same with a window of its own, as in [`Node::within`](crate::Node::within).
     pub fn within(config: Config, seal: Seal, ahead: u8) -> Result<SealedNode, NodeError> {
         let node = SealedNode(raw::Held::nothing());
         let (at, config) = (node.0.at(), config.raw());
-        // SAFETY: the call has the handle alone (`Held`), the configuration is valid for the call, and
-        // so are the arrays, of 32 and 16 bytes.
+        // SAFETY: the call has exclusive use of the handle (`Held`), the configuration is valid for the call,
+        // and so are the arrays, of 32 and 16 bytes.
         opened(unsafe {
             match &seal {
                 Seal::Secret { secret, number } => {
@@ -74,24 +94,24 @@ impl SealedNode {
         Ok(node)
     }
 
-    /// The next packet to a player, in its envelope. Each call is taken as sent. None as of
-    /// [`Node::packet`](crate::Node::packet).
+    /// Returns the next packet to player `to`, in its envelope. The packet then counts as sent. Returns None,
+    /// and leaves the node as it was, if there is no packet, as for [`Node::packet`](crate::Node::packet).
     pub fn packet(&mut self, to: u8) -> Option<Envelope> {
         let mut envelope = Envelope {
             bytes: [0; 141],
             length: 0,
         };
         let out = &mut envelope.bytes;
-        // SAFETY: the call has the handle alone (`Held`), and the array is valid for its length.
+        // SAFETY: the call has exclusive use of the handle (`Held`), and the array is valid for its length.
         envelope.length =
             unsafe { raw::zmg_sealed_node_packet(self.0.at(), to, out.as_mut_ptr(), out.len()) };
         (envelope.length > 0).then_some(envelope)
     }
 
-    /// Hears any bytes, wherever they come from. Where it answers [`Heard::Started`], the caller begins
-    /// its world with the start of [`settings`](SealedNode::settings).
+    /// Takes in any bytes, whoever sent them. If it returns [`Heard::Started`] in [`Arrived::Heard`], the
+    /// caller begins its world with the start of [`settings`](SealedNode::settings).
     pub fn receive(&mut self, bytes: &[u8]) -> Arrived {
-        // SAFETY: the call has the handle alone (`Held`), and the slice is valid for its length.
+        // SAFETY: the call has exclusive use of the handle (`Held`), and the slice is valid for its length.
         values::arrived(unsafe {
             raw::zmg_sealed_node_receive(self.0.at(), bytes.as_ptr(), bytes.len())
         })
@@ -128,7 +148,7 @@ impl std::ops::Deref for Envelope {
     }
 }
 
-/// One player's sealed node and world.
+/// One player's sealed node and world, kept in step. The caller owes what it owes for a [`SealedNode`].
 #[derive(Debug)]
 pub struct SealedPlayer<W> {
     node: SealedNode,
@@ -136,7 +156,8 @@ pub struct SealedPlayer<W> {
 }
 
 impl<W: World> SealedPlayer<W> {
-    /// A player of a game that has not started.
+    /// Makes a player, with a node as [`SealedNode::new`] makes it. The world begins when the game starts.
+    /// Returns what `SealedNode::new` returns.
     pub fn new(config: Config, seal: Seal, world: W) -> Result<SealedPlayer<W>, NodeError> {
         Ok(SealedPlayer {
             node: SealedNode::new(config, seal)?,
@@ -144,7 +165,7 @@ impl<W: World> SealedPlayer<W> {
         })
     }
 
-    /// The same in a window of this width, as [`SealedNode::within`] makes its node.
+    /// The same with a window of its own, as in [`SealedNode::within`].
     pub fn within(
         config: Config,
         seal: Seal,
@@ -157,12 +178,13 @@ impl<W: World> SealedPlayer<W> {
         })
     }
 
-    /// The next packet to a player, in its envelope, if there is one. Each call is taken as sent.
+    /// Returns the next packet to player `to`, in its envelope, which then counts as sent; None as for
+    /// [`SealedNode::packet`].
     pub fn packet(&mut self, to: u8) -> Option<Envelope> {
         self.node.packet(to)
     }
 
-    /// Hears any bytes, wherever they come from, and begins the world where the game starts.
+    /// Takes in any bytes, whoever sent them, and begins the world if the game starts.
     pub fn receive(&mut self, bytes: &[u8]) -> Arrived {
         let arrived = self.node.receive(bytes);
         if arrived == Arrived::Heard(Heard::Started) {

@@ -1,9 +1,10 @@
-//! The whole surface over a world that sums moves.
+//! Tests of the crate's calls, over a world that sums moves.
 
 use crate::*;
 use core::mem::{offset_of, size_of};
 
 mod codes;
+mod link;
 mod sealed;
 mod sharing;
 
@@ -70,6 +71,9 @@ fn tic(key: &mut Player<Sum>, other: &mut Player<Sum>, keys: u32) {
 fn the_header_has_these_sizes() {
     assert_eq!(size_of::<raw::Handle>(), 2 * size_of::<usize>());
     assert_eq!(size_of::<raw::Config>(), 16);
+    assert_eq!(size_of::<raw::Received>(), 12);
+    assert_eq!(size_of::<raw::Presence>(), 28);
+    assert_eq!(size_of::<raw::Line>(), 24);
     assert_eq!(size_of::<raw::Aim>(), 20);
     assert_eq!(size_of::<raw::Ran>(), 16);
     assert_eq!(size_of::<raw::Phase>(), 16);
@@ -271,7 +275,7 @@ fn packets_are_read_and_written() {
     );
 }
 
-/// Where each field stands; bindings/c/tests/layout.c has the same table.
+/// The offset of each field. bindings/c/tests/layout.c has the same table.
 #[test]
 fn fields_stand_where_the_header_has_them() {
     const WORD: usize = size_of::<usize>();
@@ -290,6 +294,25 @@ fn fields_stand_where_the_header_has_them() {
     assert_eq!(offset_of!(raw::Config, settings), 7);
     assert_eq!(offset_of!(raw::Coded, code), 0);
     assert_eq!(offset_of!(raw::Coded, number), 4);
+    assert_eq!(offset_of!(raw::Received, code), 0);
+    assert_eq!(offset_of!(raw::Received, reason), 4);
+    assert_eq!(offset_of!(raw::Received, player), 8);
+    assert_eq!(offset_of!(raw::Received, started), 9);
+    assert_eq!(offset_of!(raw::Presence, state), 0);
+    assert_eq!(offset_of!(raw::Presence, limit), 4);
+    assert_eq!(offset_of!(raw::Presence, cause), 8);
+    assert_eq!(offset_of!(raw::Presence, players), 9);
+    assert_eq!(offset_of!(raw::Presence, extra), 10);
+    assert_eq!(offset_of!(raw::Presence, ahead), 11);
+    assert_eq!(offset_of!(raw::Presence, host), 12);
+    assert_eq!(offset_of!(raw::Line, known), 0);
+    assert_eq!(offset_of!(raw::Line, came), 4);
+    assert_eq!(offset_of!(raw::Line, lost), 8);
+    assert_eq!(offset_of!(raw::Line, repeated), 12);
+    assert_eq!(offset_of!(raw::Line, too_old), 16);
+    assert_eq!(offset_of!(raw::Line, missing_there), 20);
+    assert_eq!(offset_of!(raw::Line, lead), 21);
+    assert_eq!(offset_of!(raw::Line, lead_there), 22);
     assert_eq!(offset_of!(raw::Number, known), 0);
     assert_eq!(offset_of!(raw::Number, value), 4);
     assert_eq!(offset_of!(raw::Aim, known), 0);

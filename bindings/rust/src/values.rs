@@ -1,8 +1,9 @@
-//! What calls take and answer.
+//! What the calls take and return.
 
 use crate::raw;
 
-/// The key player's choice of game. Skill 0 to 4, deathmatch 0 to 2, episode 1 to 3, map 1 to 32.
+/// The choice of game, which is player 0's. `skill`: 0 to 4, 0 the easiest. `deathmatch`: 0 for cooperative
+/// play, 1, or 2 for deathmatch 2.0. `episode`: 1 to 3. `map`: 1 to 32. Monsters are never fast.
 #[derive(Clone, Copy, Debug, Default, PartialEq, Eq)]
 #[allow(missing_docs)]
 pub struct Settings {
@@ -37,7 +38,7 @@ impl Settings {
         }
     }
 
-    /// What a game of these settings starts from.
+    /// Returns what a game with these settings starts from.
     pub fn start(&self) -> Start {
         Start {
             skill: self.skill,
@@ -78,26 +79,26 @@ impl Start {
     }
 }
 
-/// Whose node it is, and of what game.
+/// The player of a node, and its game.
 #[derive(Clone, Copy, Debug, PartialEq, Eq)]
 pub struct Config {
-    /// How many players the game has: 2 to 4.
+    /// How many players the game has: 2 to 4. The same for all players.
     pub players: u8,
-    /// The number of this player, from 0 on.
+    /// The number of this player: 0 to `players` - 1.
     pub me: u8,
-    /// Whether each packet repeats the last command, which helps on lines that lose packets. The same for
-    /// all.
+    /// Whether each packet repeats the last command, which helps on lines that lose packets. The same for all
+    /// players. A link gains nothing by it: each of its datagrams has every unacknowledged packet anyway.
     pub extra: bool,
-    /// How many bytes the demo may have: 1,024 to 16,777,216. A tic takes 5 for each player, and a full demo
-    /// ends the node. The same for all.
+    /// How many bytes the demo may have: 1,024 to 16,777,216. The same for all players. A tic takes 5 bytes
+    /// for each player, and a full demo ends the node: 1 MiB lasts 50 minutes for two players, 25 for four.
+    /// The memory for the demo is allocated when the node is made.
     pub limit: u32,
-    /// The choice of game, which is player 0's, and not read of another.
+    /// The settings of player 0, who sends them to the others. Those of other players are not read.
     pub settings: Settings,
 }
 
 impl Config {
-    /// Of player 0, whose settings the game has, with a demo of at most 1 MiB: the node ends when it is
-    /// full, after 50 minutes of two players or 25 of four. `limit` raises it.
+    /// Returns the configuration of player 0, with these settings, no `extra`, and a `limit` of 1 MiB.
     pub fn key(players: u8, settings: Settings) -> Config {
         Config {
             players,
@@ -108,8 +109,8 @@ impl Config {
         }
     }
 
-    /// Of another player, with a demo of at most 1 MiB, as of [`key`](Config::key). `me` is 1 to
-    /// `players` - 1.
+    /// Returns the configuration of another player, with no `extra` and a `limit` of 1 MiB, as for
+    /// [`key`](Config::key). `me` is 1 to `players` - 1.
     pub fn other(players: u8, me: u8) -> Config {
         Config {
             players,
@@ -134,7 +135,7 @@ impl Config {
 /// The keys that are down.
 #[derive(Clone, Copy, Debug, Default, PartialEq, Eq)]
 pub struct Keys(
-    /// A bit for each key. Bits from 18 on stand for none.
+    /// A bit for each key. Bits from 18 on are ignored.
     pub u32,
 );
 
@@ -152,7 +153,7 @@ impl Keys {
     pub const ATTACK: Keys = Keys(1 << 8);
     pub const USE: Keys = Keys(1 << 9);
 
-    /// The key of a weapon, 1 to 8; no key for any other number.
+    /// Returns the key of a weapon, 1 to 8; no key for any other number.
     pub const fn weapon(number: u8) -> Keys {
         if number >= 1 && number <= 8 {
             Keys(1 << (9 + number))
@@ -173,13 +174,14 @@ impl std::ops::BitOr for Keys {
 /// A player's move in one tic.
 #[derive(Clone, Copy, Debug, Default, PartialEq, Eq)]
 pub struct Move {
-    /// Forward, in units of 2048 in a world of 16 fractional bits.
+    /// The move forward, in units of 2048 in a world of 16 fractional bits.
     pub forward: i8,
-    /// To the right, in the same units.
+    /// The move to the right, in the same units.
     pub side: i8,
-    /// To the left, in 65536ths of a full turn.
+    /// The turn to the left, in 65,536ths of a full turn.
     pub turn: i16,
-    /// Attack, use and a change of weapon, as in Doom.
+    /// Bit 0 is attack, bit 1 use, bit 2 a change to the weapon in bits 3 to 5, which is the number of
+    /// [`Keys::weapon`] minus 1. Other players' commands may set any bits.
     pub buttons: u8,
 }
 
@@ -194,19 +196,19 @@ impl Move {
     }
 }
 
-/// How many commands of a player may wait to be run at a node of [`Node::new`](crate::Node::new).
+/// The window of [`Node::new`](crate::Node::new): how many of its commands may be waiting to be run.
 pub const MOST_AHEAD: u8 = 5;
 
 /// The widest window of [`Node::within`](crate::Node::within).
 pub const WIDEST_AHEAD: u8 = 12;
 
-/// What a build answers, and what a given command is answered.
+/// What `build` and `give` return.
 #[derive(Clone, Copy, Debug, PartialEq, Eq)]
 #[non_exhaustive]
 pub enum Made {
     /// The command of this tic was made.
     Made(u32),
-    /// As many commands wait to be run as the window allows.
+    /// As many commands are waiting to be run as the window allows.
     Ahead,
     /// The game has not started, or the node has ended.
     NotPlaying,
@@ -214,7 +216,7 @@ pub enum Made {
     Unknown(u32),
 }
 
-/// Why a datagram was dropped.
+/// Why a datagram was dropped. It changed nothing.
 #[derive(Clone, Copy, Debug, PartialEq, Eq)]
 #[non_exhaustive]
 pub enum Dropped {
@@ -222,95 +224,99 @@ pub enum Dropped {
     Short,
     /// It announces more than 12 commands.
     Many,
-    /// Its length is not that of its commands.
+    /// Its length does not match the commands that it announces.
     Length,
     /// Its sum is wrong.
     Sum,
-    /// It is not from another player of the game, or it names another player than `from`.
+    /// `from` is not another player of the game, or is not the player that the datagram names.
     Stranger,
-    /// Settings, not from player 0 or once the game runs.
+    /// It has settings that are not from player 0, or that come once the game runs.
     OutOfPlace,
     /// The sender plays another version.
     Version,
     /// Its settings are out of range.
     Settings,
-    /// It is a KILL packet.
+    /// It is a KILL packet, which no node obeys.
     Kill,
-    /// It tells of a tic before the first.
+    /// Its start is a tic below 0.
     Before,
     /// It has a command that would end a demo.
     Stop,
-    /// It goes more tics ahead than the node keeps commands.
+    /// It lies more tics ahead than the node keeps commands.
     Overrun,
-    /// The node does not play.
+    /// The game has not started here, or this node has ended.
     NotPlaying,
-    /// It contradicts the end of its sender.
+    /// It contradicts the sender's end.
     End,
     /// A code that this crate has no name for.
     Unknown(u32),
 }
 
-/// What came of a datagram.
+/// What became of a datagram.
 #[derive(Clone, Copy, Debug, PartialEq, Eq)]
 #[non_exhaustive]
 pub enum Heard {
-    /// The game starts.
+    /// The game starts, and the world begins.
     Started,
-    /// This many commands were new.
+    /// This many commands were new, and are kept.
     Taken(u32),
     /// No command was new.
     Stale,
-    /// Commands before it are missing, and are asked for. The sender may have left: see `end`.
+    /// Commands before its first are missing, and are asked for. The sender may have left: see
+    /// [`end`](crate::Node::end).
     Gap,
-    /// The sender has left, and all its commands are here: see `end`.
+    /// The sender has left, and all its commands are here: see [`end`](crate::Node::end).
     Left,
-    /// Player 0 heard the sender and still waits for others, or this node has ended.
+    /// At [`Phase::Gathering`]: the sender was heard, but not yet all others. Else this node has ended.
     Noted,
-    /// It changed nothing.
+    /// It was dropped.
     Dropped(Dropped),
     /// A code that this crate has no name for.
     Unknown(u32),
 }
 
-/// Why bytes are no envelope to a sealed node: the first of these that holds.
+/// Why bytes are not an envelope to this player in this game: the first of these that holds.
 #[derive(Clone, Copy, Debug, PartialEq, Eq)]
 #[non_exhaustive]
 pub enum Unopened {
-    /// They are fewer than 37.
+    /// There are fewer than 37 bytes.
     Short,
-    /// They are more than 141.
+    /// There are more than 141 bytes.
     Long,
-    /// They are of an open game where this one has a secret, or the reverse.
+    /// They are of another suite, such as that of an open game where this one has a secret; or they are not
+    /// an envelope at all.
     Suite,
-    /// Something else than a datagram is in it.
+    /// They have something other than one datagram in them.
     Kind,
-    /// They have another game's number.
+    /// They have another game's number: its first eight bytes differ.
     Game,
-    /// They are for another player.
+    /// They are to another player.
     Receiver,
-    /// They were altered or forged, or the secrets differ.
+    /// They were altered or forged, or the secrets or the last eight bytes of the numbers differ.
     Tag,
-    /// They have a request that is neither there nor not there.
+    /// Byte 16 is neither 0 nor 1, or there is an ask tic without a request.
     Request,
     /// A code that this crate has no name for.
     Unknown(u32),
 }
 
-/// What came of bytes at a sealed node.
+/// What became of bytes at a sealed node.
 #[derive(Clone, Copy, Debug, PartialEq, Eq)]
 #[non_exhaustive]
 pub enum Arrived {
-    /// They were an envelope, whose datagram was heard so.
+    /// They were an envelope. This is what became of its datagram.
     Heard(Heard),
-    /// They are no envelope to this player in this game, and changed nothing.
+    /// They are not an envelope to this player in this game. Nothing changed.
     Unopened(Unopened),
-    /// They tell of a tic that is more than 64 from what the node has made, and changed nothing.
+    /// The envelope's start or ask lies more than 64 tics from what the node has made. Nothing changed.
     Late,
-    /// The envelope and its datagram tell of different tics, as no node makes them, and it changed nothing.
+    /// The datagram's own player, start or ask byte or request flag contradicts the envelope (of set-up none
+    /// is compared): its sender did not make it with [`SealedNode::packet`](crate::SealedNode::packet).
+    /// Nothing changed.
     Unlike,
 }
 
-/// What a run answers.
+/// What `run` returns.
 #[derive(Clone, Copy, Debug, PartialEq, Eq)]
 #[non_exhaustive]
 pub enum Ran {
@@ -318,12 +324,13 @@ pub enum Ran {
     Ran(u32),
     /// The command of this player is missing.
     Waiting(u8),
-    /// The demo has no room for the tic, or the most tics were run, and the node has ended.
+    /// This call ended the node with [`Cause::Full`].
     DemoFull,
-    /// The worlds of this node and of `player` differ, and the node has ended.
+    /// This call ended the node. The command of `player` for the next tic carries the mark `was` instead of
+    /// `should`: the worlds have differed since twelve tics before, or earlier.
     #[allow(missing_docs)]
     Inconsistent { player: u8, was: i16, should: i16 },
-    /// The game has not started, or the node has ended.
+    /// The game has not started, or the node had ended before.
     NotPlaying,
     /// A code that this crate has no name for. There is no row.
     Unknown(u32),
@@ -333,41 +340,42 @@ pub enum Ran {
 #[derive(Clone, Copy, Debug, PartialEq, Eq)]
 #[non_exhaustive]
 pub enum Cause {
-    /// It quit.
+    /// The caller called `quit`.
     Quit,
-    /// The demo had no room for the next tic, or the most tics were run.
+    /// The demo had no room for the next tic; or 2,097,150 tics were run in a game that somebody has left.
     Full,
-    /// The mark of `player` was `was` in place of `should`.
+    /// Worlds differ, as in [`Ran::Inconsistent`].
     #[allow(missing_docs)]
     Inconsistent { player: u8, was: i16, should: i16 },
     /// A code that this crate has no name for.
     Unknown(u32),
 }
 
-/// Where a node stands.
+/// The phase of a node.
 #[derive(Clone, Copy, Debug, PartialEq, Eq)]
 #[non_exhaustive]
 pub enum Phase {
     /// It waits for player 0's settings.
     Listening,
-    /// It is player 0's, and waits to hear every other.
+    /// It is player 0's, and waits to hear from every other.
     Gathering,
     /// The game runs.
     Playing,
-    /// It has ended. It still gives packets if it has played.
+    /// It has ended. If it has played, it still gives packets, and still takes datagrams.
     Ended(Cause),
     /// A code that this crate has no name for.
     Unknown(u32),
 }
 
-/// The full tic numbers of a packet, of which it carries only the low bytes.
+/// The full tic numbers of a packet, which itself carries only their low bytes.
 #[derive(Clone, Copy, Debug, PartialEq, Eq)]
 pub struct Aim {
-    /// As in a packet.
+    /// As in [`Packet::flags`](crate::Packet::flags).
     pub flags: u8,
-    /// The tic from which commands are asked for again.
+    /// The first tic whose command is asked for again, if any; as long as all callers do what they owe, at
+    /// most the window before `start`.
     pub ask: Option<u32>,
-    /// The tic of the first command.
+    /// The tic of the first command; 0 for set-up.
     pub start: u32,
     /// How many commands there are.
     pub count: u8,

@@ -4,8 +4,8 @@
 use std::alloc::{GlobalAlloc, Layout, System};
 use std::cell::Cell;
 use zirmegat::{
-    upgrade, Config, DemoError, Keys, Node, NodeError, Reader, Seal, SealedNode, Settings,
-    UpgradeError,
+    upgrade, Config, DemoError, Keys, Link, Node, NodeError, Reader, Seal, SealedNode, Settings,
+    UpgradeError, MOST_AHEAD,
 };
 
 mod failing {
@@ -108,6 +108,16 @@ fn refused_memory_is_told_and_given_back() {
     let seal = Seal::Open { number: [1; 16] };
     let sealed = || SealedNode::new(Config::other(2, 1), seal);
     assert_eq!(refused(NodeError::Memory, sealed), 2);
+    let link = || {
+        Link::new(
+            Config::other(2, 1),
+            MOST_AHEAD,
+            &[1; 32],
+            &[2; 16],
+            &[3; 16],
+        )
+    };
+    assert_eq!(refused(NodeError::Memory, link), 2);
     assert_eq!(refused(DemoError::Memory, Reader::new), 1);
     let read = || {
         let mut reader = Reader::new()?;

@@ -1,6 +1,7 @@
 pub mod Handles
 pub mod HandleFunctions
 pub mod HandleKinds
+pub mod HandleLends
 pub mod Node
 pub mod Values
 pub mod Calling

@@ -9,6 +9,10 @@ use Rattle.dn_open.specs.declared.sealed.SealedLockstep.{SealedLockstep}
 use Rattle.dn_open.specs.contracts.sealed.SealedLockstep as sealed
 use Rattle.zirmegat.specs.declared.sealed_handle.SealedHandle.{SealedHandle}
 use Rattle.zirmegat.specs.contracts.sealed_handle.SealedHandle as sealed_handle
+use Rattle.dn_link.specs.declared.link.Link.{Link}
+use Rattle.dn_link.specs.contracts.link.Link as link
+use Rattle.zirmegat.specs.declared.link_handle.LinkHandle.{LinkHandle}
+use Rattle.zirmegat.specs.contracts.link_handle.LinkHandle as link_handle
 
 -- the handle with another node
 abbrev pub with_node : NodeHandle → Lockstep → NodeHandle
@@ -31,3 +35,13 @@ lends_sealed h r = Lends sealed_handle.the_row sealed.the_row h r (with_sealed h
 
 abbrev pub lends_held_sealed : MutBor SealedHandle → Option (MutBor SealedLockstep) → Fml
 lends_held_sealed h r = LendsIf sealed_handle.the_row sealed.the_row h r (with_sealed h.now) h.now
+
+-- the same of a link
+abbrev pub with_link : LinkHandle → Link → LinkHandle
+with_link h value = record h { link = Some value }
+
+abbrev pub lends_link : MutBor LinkHandle → MutBor Link → Fml
+lends_link h r = Lends link_handle.the_row link.the_row h r (with_link h.now)
+
+abbrev pub lends_held_link : MutBor LinkHandle → Option (MutBor Link) → Fml
+lends_held_link h r = LendsIf link_handle.the_row link.the_row h r (with_link h.now) h.now

@@ -9,3 +9,4 @@ pub mod Commands
 pub mod Upgrading
 pub mod Demos
 pub mod Sealed
+pub mod Links

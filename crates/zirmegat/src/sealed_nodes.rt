@@ -55,7 +55,7 @@ fn open(alloc: Global, node: &mut SealedHandle, config: &NodeConfig, ahead: u8, 
 }
 
 /// Whether a secret was never set: whether it is all zeros.
-fn is_unset(secret: &[u8; 32]) -> bool
+pub(crate) fn is_unset(secret: &[u8; 32]) -> bool
     ensures { IsTrue result ↔ (secret.now ≡ no_secret) }
 {
     *secret == [0; 32]

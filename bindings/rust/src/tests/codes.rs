@@ -155,7 +155,7 @@ fn codes_of_errors_have_their_names() {
     let node = [
         NodeError::Players,
         NodeError::Me,
-        // never answered
+        // never returned
         NodeError::Unknown(3),
         NodeError::Limit,
         NodeError::Memory,
@@ -221,7 +221,7 @@ fn errors_read_as_sentences() {
     );
     assert_eq!(
         PacketError::Length.to_string(),
-        "the datagram's length is not that of its commands"
+        "the datagram's length does not match its commands"
     );
     assert_eq!(
         UpgradeError::Demo(DemoError::NoMarker).to_string(),

@@ -1,0 +1,388 @@
+/* Games of links: `link [SEED]`. Two links play 200 tics over a line in memory that loses, repeats and reorders
+ * datagrams; their demos must be the same, and at the end both may leave. Then short games of three on a line
+ * that loses nothing: one comes, leaves before the last one has come, and another takes its place; one starts
+ * and quits before the others; one has a world that differs; one has another `host`, or seems to; one vanishes,
+ * and comes back. At last two on a line that is longer than the window, who lose
+ * nothing of the motion of their mice. C99 and C++. Ends with status 0, or names the line that failed. */
+#include "zirmegat.h"
+#include <stdio.h>
+#include <stdlib.h>
+#include <string.h>
+
+enum { LINKS = 3, TICS = 200, SHORT = 60, LONG = 300, LATE = 7, FLIGHTS = 16, DEMO = 13 + TICS * 10 };
+
+typedef struct flight {
+    size_t length;
+    uint8_t to, bytes[ZMG_LINK_SIZE];
+} flight;
+
+static uint32_t seed = 1, lost;
+static zmg_link links[LINKS];
+static int16_t worlds[LINKS][4];
+static flight flights[FLIGHTS];
+static uint8_t demos[2][DEMO + 64];
+
+#define MUST(holds) must(holds, #holds, __LINE__)
+
+static void must(int holds, const char *what, int line) {
+    if (holds) return;
+    fprintf(stderr, "link.c:%d: not so: %s\n", line, what);
+    exit(1);
+}
+
+static uint32_t draw(void) { return (seed = seed * 1664525u + 1013904223u) >> 8; }
+static uint32_t below(uint32_t n) { return draw() % n; }
+
+static void open_link(uint8_t me, uint8_t players, uint8_t host) {
+    const uint8_t secret[ZMG_SECRET_SIZE] = { 1, 2, 3 }, game[ZMG_NUMBER_SIZE] = { 4, 5, 6 };
+    uint8_t hosts[ZMG_HOST_SIZE] = { 7, 8, 9 };
+    zmg_config c = { 16384, 2, 0, 1, { 2, 0, 0, 0, 1, 1 } };
+    c.me = me;
+    c.players = players;
+    hosts[ZMG_HOST_SIZE - 1] = host;
+    memset(worlds[me], 0, sizeof worlds[me]);
+    MUST(zmg_link_new(&links[me], &c, ZMG_MOST_AHEAD, secret, game, hosts) == ZMG_NEW_OK);
+    MUST(zmg_link_me(&links[me]) == me && zmg_link_players(&links[me]) == players);
+}
+
+/* Each datagram takes a place by chance: what was there before is lost, and the order is lost too. */
+static void give(uint8_t from, uint8_t to) {
+    flight f, *place = &flights[below(FLIGHTS)];
+    MUST(zmg_link_datagram(&links[from], to, f.bytes, ZMG_LINK_SIZE - 1) == 0);
+    f.length = zmg_link_datagram(&links[from], to, f.bytes, sizeof f.bytes);
+    MUST(f.length >= 60 && f.length <= ZMG_LINK_SIZE);
+    f.to = to;
+    lost += place->length > 0;
+    *place = f;
+}
+
+/* Takes in what the places for this player hold; one of eight comes once more. */
+static void take(uint8_t me) {
+    for (unsigned k = 0; k < FLIGHTS; k++) {
+        zmg_received received;
+        if (flights[k].length == 0 || flights[k].to != me || below(3) == 0) continue;
+        received = zmg_link_receive(&links[me], flights[k].bytes, flights[k].length);
+        MUST(received.code == ZMG_RECEIVED_HEARD && received.player == 1 - me && received.reason == 0);
+        if (received.started) MUST(zmg_link_settings(&links[me]).settings.map == 1);
+        if (below(8)) flights[k].length = 0;
+    }
+}
+
+/* The world of each link is the sum of the moves forward. Answers with what the last run did. */
+static uint32_t run(uint8_t me) {
+    zmg_move row[4];
+    zmg_ran ran;
+    while ((ran = zmg_link_run(&links[me], worlds[me], row)).code == ZMG_RUN_RAN)
+        for (unsigned seat = 0; seat < 4; seat++)
+            worlds[me][seat] = (int16_t)(worlds[me][seat] + row[seat].forward * row[seat].present);
+    return ran.code;
+}
+
+static void tick(uint8_t me) {
+    zmg_command c = { 0, 0, 0, 0, 0, 0 };
+    c.forward = (int8_t)below(100);
+    c.turn = (int16_t)draw();
+    if (zmg_link_made(&links[me]) < TICS && zmg_link_can_build(&links[me])) {
+        zmg_made made = below(2) ? zmg_link_build(&links[me], draw()) : zmg_link_give(&links[me], &c);
+        MUST(made.code == ZMG_BUILD_MADE && zmg_link_command(&links[me], me, made.tic).known == 1);
+    }
+    give(me, (uint8_t)(1 - me));
+    take(me);
+    MUST(run(me) == ZMG_RUN_WAITING || zmg_link_phase(&links[me]).code != ZMG_PHASE_PLAYING);
+}
+
+/* An altered datagram, one of no player and one that came back open nothing. */
+static void refused(void) {
+    uint8_t bytes[ZMG_LINK_SIZE];
+    size_t n = zmg_link_datagram(&links[0], 1, bytes, sizeof bytes);
+    bytes[n - 1] ^= 1;
+    MUST(zmg_link_receive(&links[1], bytes, n).reason == ZMG_LINK_TAG);
+    bytes[n - 1] ^= 1;
+    MUST(zmg_link_receive(&links[0], bytes, n).reason == ZMG_LINK_RECEIVER);
+    MUST(zmg_link_receive(&links[1], bytes, 59).reason == ZMG_LINK_SHORT);
+    MUST(zmg_link_datagram(&links[0], 0, bytes, sizeof bytes) == 0);
+    MUST(zmg_link_datagram(&links[0], 2, bytes, sizeof bytes) == 0);
+}
+
+/* ---- Two links on a bad line ---- */
+
+static uint32_t bad_line(void) {
+    uint32_t now = 0;
+    for (uint8_t me = 0; me < 2; me++) open_link(me, 2, 0);
+    while (zmg_link_ran(&links[0]) < TICS || zmg_link_ran(&links[1]) < TICS) {
+        for (uint8_t me = 0; me < 2; me++) tick(me);
+        MUST(++now < 100 * TICS);
+        MUST(!zmg_link_may_leave(&links[0]) && !zmg_link_may_leave(&links[1]));
+    }
+    refused();
+    for (uint8_t me = 0; me < 2; me++) {
+        MUST(zmg_link_got(&links[me], (uint8_t)(1 - me)).value == TICS);
+        MUST(zmg_link_quit(&links[me]) == 1 && zmg_link_quit(&links[me]) == 0);
+        MUST(zmg_link_phase(&links[me]).cause == ZMG_CAUSE_QUIT);
+    }
+    while (!zmg_link_may_leave(&links[0]) || !zmg_link_may_leave(&links[1])) {
+        for (uint8_t me = 0; me < 2; me++) { give(me, (uint8_t)(1 - me)); take(me); }
+        MUST(++now < 100 * TICS);
+    }
+    for (uint8_t me = 0; me < 2; me++) {
+        MUST(zmg_link_end(&links[me], me).value == TICS);
+        MUST(zmg_link_demo_length(&links[me]) == DEMO + 1);
+        MUST(zmg_link_demo(&links[me], 0, demos[me], sizeof demos[me]) == DEMO + 1);
+        zmg_link_free(&links[me]);
+        MUST(zmg_link_phase(&links[me]).code == ZMG_PHASE_NO_NODE);
+    }
+    /* the view is each player's own */
+    MUST(memcmp(demos[0] + 9, demos[1] + 9, DEMO - 8) == 0);
+    MUST(lost > TICS / 8);
+    return now;
+}
+
+/* ---- Three links on a line that loses nothing ---- */
+
+/* Who is here builds, and each other who is here hears its datagram. */
+static void turn(const int here[LINKS]) {
+    uint8_t bytes[ZMG_LINK_SIZE];
+    for (uint8_t me = 0; me < LINKS; me++) {
+        if (!here[me]) continue;
+        zmg_link_build(&links[me], draw());
+        for (uint8_t to = 0; to < LINKS; to++) {
+            size_t n = zmg_link_datagram(&links[me], to, bytes, sizeof bytes);
+            MUST((n > 0) == (to != me));
+            if (n == 0 || !here[to]) continue;
+            MUST(zmg_link_receive(&links[to], bytes, n).player == me);
+            run(to);
+        }
+        run(me);
+    }
+}
+
+static void turns(unsigned count, int first, int second, int third) {
+    const int here[LINKS] = { first, second, third };
+    while (count--) turn(here);
+}
+
+static uint32_t phase(uint8_t me) { return zmg_link_phase(&links[me]).code; }
+static zmg_presence presence(uint8_t me, uint8_t of) { return zmg_link_presence(&links[me], of); }
+
+static void close_links(void) {
+    for (uint8_t me = 0; me < LINKS; me++) zmg_link_free(&links[me]);
+}
+
+/* All of them play. Who has taken the place of another may have to give 64 datagrams before it is heard as a
+ * new one. */
+static void all_play(void) {
+    turns(64 + SHORT, 1, 1, 1);
+    for (uint8_t me = 0; me < LINKS; me++) {
+        MUST(phase(me) == ZMG_PHASE_PLAYING && zmg_link_ran(&links[me]) >= SHORT - 10);
+        for (uint8_t of = 0; of < LINKS; of++) MUST(of == me || presence(me, of).state == ZMG_PRESENCE_PLAYING);
+    }
+}
+
+/* Player 2 comes, leaves before player 1 has come, and says so. The game waits for another player 2. */
+static void one_leaves_the_lobby(void) {
+    open_link(0, LINKS, 0);
+    open_link(2, LINKS, 0);
+    turns(35, 1, 0, 1);
+    MUST(presence(0, 2).state == ZMG_PRESENCE_THERE && presence(0, 1).state == ZMG_PRESENCE_UNKNOWN);
+    MUST(zmg_link_quit(&links[2]) == 1 && zmg_link_may_leave(&links[2]) == 1);
+    turns(35, 1, 0, 1);
+    MUST(presence(0, 2).state == ZMG_PRESENCE_AWAY && presence(0, 2).cause == ZMG_CAUSE_QUIT);
+    zmg_link_free(&links[2]);
+    open_link(1, LINKS, 0);
+    turns(35, 1, 1, 0);
+    MUST(phase(0) == ZMG_PHASE_GATHERING && phase(1) == ZMG_PHASE_LISTENING);
+    open_link(2, LINKS, 0);
+    all_play();
+    close_links();
+}
+
+static size_t datagram(uint8_t from, uint8_t to, flight *f) {
+    return f->length = zmg_link_datagram(&links[from], to, f->bytes, sizeof f->bytes);
+}
+
+static zmg_received arrives(uint8_t to, const flight *f) {
+    return zmg_link_receive(&links[to], f->bytes, f->length);
+}
+
+/* Player 1 starts and quits while player 2 leaves and player 0 still gathers: it must stay until another player
+ * 2 plays, and knows that it has left. */
+static void one_quits_before_the_start(void) {
+    flight f;
+    for (uint8_t me = 0; me < LINKS; me++) open_link(me, LINKS, 0);
+    for (uint8_t me = 1; me < LINKS; me++) MUST(datagram(me, 0, &f) && arrives(0, &f).player == me);
+    MUST(datagram(0, 1, &f) && arrives(1, &f).started);
+    MUST(zmg_link_quit(&links[1]) == 1 && zmg_link_quit(&links[2]) == 1);
+    MUST(zmg_link_may_leave(&links[2]) == 1 && zmg_link_made(&links[1]) == 0);
+    turns(SHORT, 1, 1, 1);
+    MUST(phase(0) == ZMG_PHASE_GATHERING && presence(0, 1).state == ZMG_PRESENCE_LEFT);
+    MUST(presence(0, 2).state == ZMG_PRESENCE_AWAY && presence(1, 2).state == ZMG_PRESENCE_AWAY);
+    MUST(zmg_link_may_leave(&links[1]) == 0);
+    zmg_link_free(&links[2]);
+    turns(SHORT, 1, 1, 0);
+    MUST(zmg_link_may_leave(&links[1]) == 0);
+    open_link(2, LINKS, 0);
+    turns(64 + SHORT, 1, 1, 1);
+    MUST(zmg_link_may_leave(&links[1]) == 1 && zmg_link_end(&links[2], 1).known);
+    MUST(zmg_link_ran(&links[0]) > SHORT - 10 && zmg_link_ran(&links[2]) > SHORT - 10);
+    close_links();
+}
+
+/* Player 2 vanishes. The others give it up and may leave, until a datagram of its game comes. */
+static void one_vanishes(void) {
+    flight early, late;
+    for (uint8_t me = 0; me < LINKS; me++) open_link(me, LINKS, 0);
+    MUST(datagram(2, 0, &early));
+    zmg_link_forget(&links[0], 2);
+    MUST(presence(0, 2).state == ZMG_PRESENCE_AWAY && presence(0, 2).cause == 0);
+    all_play();
+    turns(SHORT, 1, 1, 0);
+    MUST(zmg_link_unacknowledged(&links[0]) > 0);
+    zmg_link_forget(&links[0], 2);
+    MUST(presence(0, 2).state == ZMG_PRESENCE_FORGOTTEN && presence(0, 2).cause == 0);
+    MUST(zmg_link_unacknowledged(&links[0]) == 0);
+    MUST(zmg_link_quit(&links[0]) == 1 && zmg_link_may_leave(&links[0]) == 0);
+    turns(1, 1, 1, 0);
+    MUST(zmg_link_may_leave(&links[0]) == 1);
+    /* its hello of before the game does not bring it back */
+    MUST(arrives(0, &early).code == ZMG_RECEIVED_HEARD && presence(0, 2).state == ZMG_PRESENCE_FORGOTTEN);
+    MUST(datagram(2, 0, &late) && arrives(0, &late).code == ZMG_RECEIVED_HEARD);
+    MUST(presence(0, 2).state == ZMG_PRESENCE_PLAYING && zmg_link_may_leave(&links[0]) == 0);
+    MUST(zmg_link_unacknowledged(&links[0]) > 0);
+    turns(SHORT, 1, 1, 1);
+    MUST(presence(1, 0).state == ZMG_PRESENCE_LEFT && zmg_link_may_leave(&links[0]) == 1);
+    /* who has left is not given up */
+    zmg_link_forget(&links[1], 0);
+    MUST(presence(1, 0).state == ZMG_PRESENCE_LEFT && presence(1, 0).cause == ZMG_CAUSE_QUIT);
+    close_links();
+}
+
+/* Player 1 has another host first, and comes back with the right one. A hello of before comes late: the game
+ * starts all the same. */
+static void one_seems_to_differ(void) {
+    flight first, late, f;
+    open_link(0, 2, 0);
+    open_link(1, 2, 1);
+    MUST(datagram(1, 0, &first) && datagram(1, 0, &late));
+    zmg_link_free(&links[1]);
+    open_link(1, 2, 0);
+    MUST(datagram(1, 0, &f) && arrives(0, &f).code == ZMG_RECEIVED_HEARD);
+    MUST(datagram(0, 1, &f) && arrives(1, &f).started);
+    MUST(arrives(0, &late).code == ZMG_RECEIVED_DIFFERENT && phase(0) == ZMG_PHASE_GATHERING);
+    MUST(presence(0, 1).state == ZMG_PRESENCE_THERE);
+    MUST(datagram(1, 0, &f) && arrives(0, &f).started);
+    MUST(presence(0, 1).state == ZMG_PRESENCE_PLAYING && phase(0) == ZMG_PHASE_PLAYING);
+    close_links();
+}
+
+/* The world of player 0 comes to differ in its own mark. The others see it and end, and all know why: player 0
+ * is told why they have left. */
+static void one_world_differs(void) {
+    for (uint8_t me = 0; me < LINKS; me++) open_link(me, LINKS, 0);
+    all_play();
+    worlds[0][0]++;
+    turns(SHORT, 1, 1, 1);
+    for (uint8_t me = 1; me < LINKS; me++) {
+        MUST(phase(me) == ZMG_PHASE_ENDED && zmg_link_phase(&links[me]).cause == ZMG_CAUSE_INCONSISTENT);
+        MUST(presence(0, me).state == ZMG_PRESENCE_LEFT && presence(0, me).cause == ZMG_CAUSE_INCONSISTENT);
+        MUST(zmg_link_end(&links[0], me).known);
+    }
+    MUST(presence(1, 2).state == ZMG_PRESENCE_LEFT && presence(1, 2).cause == ZMG_CAUSE_INCONSISTENT);
+    MUST(presence(1, 0).state == ZMG_PRESENCE_PLAYING && phase(0) == ZMG_PHASE_PLAYING);
+    close_links();
+}
+
+/* The host of player 1 differs, and it takes no part. Another takes its place. */
+static void one_host_differs(void) {
+    open_link(0, LINKS, 0);
+    open_link(1, LINKS, 1);
+    open_link(2, LINKS, 0);
+    turns(SHORT, 1, 1, 1);
+    for (uint8_t me = 0; me < LINKS; me++) {
+        MUST(phase(me) == (me ? ZMG_PHASE_LISTENING : ZMG_PHASE_GATHERING));
+        if (me == 1) continue;
+        MUST(presence(me, 1).state == ZMG_PRESENCE_DIFFERENT && presence(me, 1).host[ZMG_HOST_SIZE - 1] == 1);
+        MUST(presence(1, me).state == ZMG_PRESENCE_DIFFERENT && presence(1, me).host[ZMG_HOST_SIZE - 1] == 0);
+        MUST(presence(me, 1).players == LINKS && presence(me, 1).limit == presence(1, me).limit);
+        MUST(presence(me, (uint8_t)(2 - me)).state == ZMG_PRESENCE_THERE);
+    }
+    zmg_link_quit(&links[1]);
+    turns(1, 1, 1, 1);
+    MUST(presence(0, 1).state == ZMG_PRESENCE_DIFFERENT && presence(2, 1).state == ZMG_PRESENCE_DIFFERENT);
+    open_link(1, LINKS, 0);
+    all_play();
+    close_links();
+}
+
+/* ---- Two links on a line that is longer than the window ---- */
+
+/* The motion of a player's mouse: in all, since its last command, in that one, and in those that were made. */
+typedef struct mouse {
+    int32_t all, since, last, made;
+    uint32_t counted;
+} mouse;
+
+static void count_made(uint8_t me, mouse *m) {
+    while (m->counted < zmg_link_made(&links[me]))
+        m->made += zmg_link_command(&links[me], me, m->counted++).command.turn;
+}
+
+/* One command a turn. Where the last one is still owed, this one has its motion too: whether it is so. */
+static int move(uint8_t me, mouse *m) {
+    zmg_command c = { 0, 0, 0, 0, 0, 0 };
+    int32_t motion = (int32_t)below(40);
+    int is_owed = zmg_link_catch_up(&links[me]).code == ZMG_BUILD_AHEAD;
+    if (is_owed) m->since += m->last;
+    m->all += motion;
+    m->since += motion;
+    c.turn = (int16_t)m->since;
+    if (zmg_link_give(&links[me], &c).code == ZMG_BUILD_NOT_PLAYING) return 0;
+    m->last = m->since;
+    m->since = 0;
+    return is_owed;
+}
+
+static void run_and_catch_up(uint8_t me, mouse *m) {
+    run(me);
+    if (zmg_link_catch_up(&links[me]).code == ZMG_BUILD_MADE) run(me);
+    count_made(me, m);
+}
+
+static void long_line(void) {
+    static flight late[2][LATE];
+    mouse mice[2];
+    uint32_t owed = 0;
+    memset(mice, 0, sizeof mice);
+    for (uint8_t me = 0; me < 2; me++) open_link(me, 2, 0);
+    for (unsigned now = 0; now < LONG; now++)
+        for (uint8_t me = 0; me < 2; me++) {
+            flight *f = &late[me][now % LATE];
+            owed += (unsigned)move(me, &mice[me]);
+            if (f->length) zmg_link_receive(&links[1 - me], f->bytes, f->length);
+            f->length = zmg_link_datagram(&links[me], (uint8_t)(1 - me), f->bytes, sizeof f->bytes);
+            run_and_catch_up((uint8_t)(1 - me), &mice[1 - me]);
+            run_and_catch_up(me, &mice[me]);
+        }
+    for (uint8_t me = 0; me < 2; me++) {
+        int32_t is_owed = zmg_link_catch_up(&links[me]).code == ZMG_BUILD_AHEAD;
+        MUST(mice[me].all == mice[me].made + mice[me].since + is_owed * mice[me].last);
+    }
+    MUST(owed > LONG / 8);
+    close_links();
+}
+
+int main(int argc, char **argv) {
+    uint32_t now;
+    if (argc > 1) seed = (uint32_t)strtoul(argv[1], NULL, 10);
+    MUST(zmg_link_receive(&links[0], demos[0], 0).code == ZMG_RECEIVED_UNOPENED);
+    MUST(zmg_link_may_leave(&links[0]) == 0);
+    now = bad_line();
+    one_leaves_the_lobby();
+    one_quits_before_the_start();
+    one_world_differs();
+    one_host_differs();
+    one_seems_to_differ();
+    one_vanishes();
+    long_line();
+    printf("%u turns, %u datagrams lost\n", (unsigned)now, (unsigned)lost);
+    return 0;
+}

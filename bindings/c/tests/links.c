@@ -1,0 +1,465 @@
+/* Games of two to four links on an untrusted network: `links [GAMES [SEED]]`. Players come one after another,
+ * stop for a while, and quit at any time, also before the start, where others take their places; some games end
+ * with a full demo. The network loses, repeats and reorders datagrams, holds some back for 500 turns, alters,
+ * cuts, forges, names other senders, and brings datagrams to players that they are not for, and those of another
+ * game and of who is no player of this one. All who run a tic must run it by the same row, all who tell where a
+ * player ends must tell the same, all demos must be the same as far as they go, nobody may wait for ever, and who
+ * has quit must be told that it may leave, and not before the others have all of its commands. C99 and C++. Ends
+ * with status 0, or names the line that failed. */
+#include "zirmegat.h"
+#include <stdio.h>
+#include <stdlib.h>
+#include <string.h>
+
+enum { NODES = 4, FLIGHTS = 16384, SPAN = 1024, HELD = 500 };
+
+/* In turns, of which each player takes one: how late a player comes or quits at most, how long it stops, how
+ * long it gives datagrams after it may leave; how long it waits at most for a tic, and for leave; and how long
+ * a game is at most. */
+enum { LATEST = 150, LAST = 500, STOP = 60, FAREWELL = 70, PATIENCE = 2000, LONGEST = 6 * PATIENCE };
+
+/* Whose datagrams they are, beside the players': one with another secret, one in another game, and one that
+ * knows the secret and is no player. */
+enum { FORGER = NODES, OTHER_GAME, OUTSIDER, LINKS };
+
+typedef enum stage { ABSENT, HERE, LEAVING, GONE } stage;
+
+typedef struct flight {
+    uint32_t next;
+    size_t length;
+    uint8_t from, to, changed, bytes[ZMG_LINK_SIZE + 1];
+} flight;
+
+/* A player's part of a game: when it comes, quits, runs again after a stop, last ran a tic, has quit and may
+ * leave; how many turns it took; and a sum of its rows, which is its world. */
+typedef struct player {
+    stage is;
+    uint32_t comes, quits, stopped, last_run, quit_at, left_at, turns;
+    uint16_t world;
+    uint8_t may_leave, is_replaced, gives_up;
+} player;
+
+static uint32_t seed = 1, now, players, lost, slowest, spare;
+static zmg_link links[LINKS];
+static player all[NODES];
+static flight flights[FLIGHTS];
+static uint32_t due[SPAN];
+static uint8_t secret[ZMG_SECRET_SIZE], number[ZMG_NUMBER_SIZE], host[ZMG_HOST_SIZE], ahead;
+static uint32_t limit;
+static unsigned long games, heard, unopened[16], strangers, full, caught_up, seconds, alone, replaced,
+    given_up, early;
+
+#define MUST(holds) must(holds, #holds, __FILE__, __LINE__)
+
+static void must(int holds, const char *what, const char *file, int line) {
+    if (holds) return;
+    fprintf(stderr, "%s:%d: not so in game %lu at turn %u: %s\n", file, line, games, now, what);
+    exit(1);
+}
+
+#include "agreed.h"
+
+static agreement common;
+
+static uint32_t draw(void) {
+    seed ^= seed << 13;
+    seed ^= seed >> 17;
+    return seed ^= seed << 5;
+}
+
+static uint32_t below(uint32_t n) { return draw() % n; }
+
+static void fill(uint8_t *bytes, size_t length) {
+    while (length--) *bytes++ = (uint8_t)draw();
+}
+
+/* ---- Links ---- */
+
+static void make(unsigned k, uint8_t me, uint32_t of, const uint8_t *with, const uint8_t *in) {
+    zmg_config c;
+    memset(&c, 0, sizeof c);
+    c.limit = limit;
+    c.players = (uint8_t)of;
+    c.me = me;
+    c.settings.skill = 2;
+    c.settings.episode = c.settings.map = 1;
+    MUST(zmg_link_new(&links[k], &c, ahead, with, in, host) == ZMG_NEW_OK);
+}
+
+static void make_strangers(void) {
+    uint8_t other[ZMG_SECRET_SIZE];
+    memcpy(other, secret, sizeof other);
+    other[ZMG_SECRET_SIZE - 1] ^= 1;
+    make(FORGER, 0, players, other, number);
+    memcpy(other, number, ZMG_NUMBER_SIZE);
+    other[0] ^= 1;
+    make(OTHER_GAME, 0, players, secret, other);
+    if (players < NODES) make(OUTSIDER, NODES - 1, NODES, secret, number);
+}
+
+static void open_game(void) {
+    uint32_t late;
+    players = 2 + below(3);
+    ahead = (uint8_t)(1 + below(ZMG_WIDEST_AHEAD));
+    /* in one of eight games most stay until the demo is full */
+    limit = below(4) ? 65536 : 1024 + below(2000);
+    late = limit < 65536 && below(2) ? LAST : 0;
+    lost = below(41);
+    slowest = 1 + below(20);
+    now = 0;
+    begin_agreement(&common);
+    fill(secret, sizeof secret);
+    fill(number, sizeof number);
+    fill(host, sizeof host);
+    memset(due, 0, sizeof due);
+    memset(all, 0, sizeof all);
+    for (uint32_t k = 1; k < FLIGHTS; k++) flights[k].next = k + 1 < FLIGHTS ? k + 1 : 0;
+    spare = 1;
+    for (uint32_t p = 0; p < players; p++) {
+        all[p].comes = below(3) ? 0 : below(LATEST);
+        all[p].quits = late + below(LAST);
+        all[p].is_replaced = p > 0 && below(3) == 0;
+        all[p].gives_up = p == 0 && below(10) == 0;
+        if (all[p].is_replaced || all[p].gives_up) all[p].quits = all[p].comes + below(LATEST);
+    }
+    make_strangers();
+}
+
+/* ---- The network ---- */
+
+static void post(const flight *f, uint32_t after) {
+    uint32_t k = spare, at = (now + after) % SPAN;
+    MUST(k != 0 && after < SPAN);
+    spare = flights[k].next;
+    flights[k] = *f;
+    flights[k].next = due[at];
+    due[at] = k;
+}
+
+/* Turns a bit, cuts, puts a byte behind, makes all anew, or names another of the players as the sender. */
+static void change(flight *f) {
+    f->changed = 1;
+    switch (below(7)) {
+    case 0: f->length = below((uint32_t)f->length); break;
+    case 1: f->bytes[f->length++] = (uint8_t)draw(); break;
+    case 2: fill(f->bytes, f->length); break;
+    case 3: f->bytes[10] = (uint8_t)((f->bytes[10] + 1 + below(players - 1)) % players); break;
+    default: f->bytes[below((uint32_t)f->length)] ^= (uint8_t)(1u << below(8));
+    }
+}
+
+static uint32_t delay(void) { return below(slowest) + (below(60) == 0 ? HELD : 0); }
+
+/* A datagram is given to whom it is for, and now and then to another too, perhaps to its sender. */
+static void carry(flight *f) {
+    uint8_t to = f->to;
+    for (uint32_t copies = below(100) < lost ? 0 : 1 + (below(8) == 0); copies; copies--) {
+        flight g = *f;
+        if (below(12) == 0) change(&g);
+        post(&g, delay());
+    }
+    if (below(40) == 0) {
+        f->to = (uint8_t)below(players);
+        f->changed |= f->to != to;
+        post(f, delay());
+    }
+}
+
+static void give(unsigned from, uint8_t to) {
+    static flight f;
+    MUST(zmg_link_datagram(&links[from], to, f.bytes, ZMG_LINK_SIZE - 1) == 0);
+    f.length = zmg_link_datagram(&links[from], to, f.bytes, ZMG_LINK_SIZE);
+    MUST(f.length <= ZMG_LINK_SIZE);
+    MUST(f.length == 0 || to != zmg_link_me(&links[from]));
+    if (f.length == 0) return;
+    f.from = (uint8_t)from;
+    f.to = to;
+    f.changed = from == FORGER || from == OTHER_GAME;
+    carry(&f);
+}
+
+static void give_all(uint8_t me) {
+    for (uint8_t to = 0; to < NODES + 1; to++) give(me, to);
+}
+
+static void give_strange(void) {
+    if (below(16) == 0) give(FORGER, (uint8_t)(1 + below(players - 1)));
+    if (below(16) == 0) give(OTHER_GAME, (uint8_t)(1 + below(players - 1)));
+    if (players < NODES && below(16) == 0) give(OUTSIDER, (uint8_t)below(players));
+}
+
+/* ---- An engine ---- */
+
+static void run_all(uint8_t me) {
+    player *p = &all[me];
+    for (uint8_t k = 0; k < players; k++) tells_end(&common, k, zmg_link_end(&links[me], k));
+    for (;;) {
+        int16_t marks[4];
+        zmg_move row[4];
+        zmg_ran ran;
+        for (unsigned k = 0; k < 4; k++) marks[k] = (int16_t)p->world;
+        ran = zmg_link_run(&links[me], marks, row);
+        MUST(ran.code != ZMG_RUN_INCONSISTENT);
+        if (ran.code != ZMG_RUN_RAN) return;
+        runs_row(&common, players, ran.tic, row);
+        for (unsigned k = 0; k < 4; k++)
+            p->world = (uint16_t)(p->world * 31u + (uint16_t)row[k].turn + (uint8_t)row[k].forward
+                + row[k].present);
+        p->last_run = now;
+    }
+}
+
+static void run_and_catch_up(uint8_t me) {
+    run_all(me);
+    if (zmg_link_catch_up(&links[me]).code != ZMG_BUILD_MADE) return;
+    MUST(zmg_link_catch_up(&links[me]).code != ZMG_BUILD_MADE);
+    MUST(zmg_link_made(&links[me]) <= all[me].turns);
+    caught_up++;
+    give_all(me);
+    run_all(me);
+}
+
+static void build(uint8_t me) {
+    uint32_t can = zmg_link_can_build(&links[me]);
+    zmg_made made;
+    if (below(2)) {
+        zmg_command c = { (int16_t)draw(), 0, (int8_t)below(100), (int8_t)below(80), (uint8_t)draw(), 1 };
+        made = zmg_link_give(&links[me], &c);
+    } else {
+        made = zmg_link_build(&links[me], draw());
+    }
+    MUST((made.code == ZMG_BUILD_MADE) == can);
+    MUST(zmg_link_made(&links[me]) <= ++all[me].turns);
+}
+
+static void tick(uint8_t me) {
+    int32_t lean;
+    build(me);
+    lean = zmg_link_lean(&links[me]);
+    MUST(-2 <= lean && lean <= 34);
+    give_all(me);
+    run_and_catch_up(me);
+    if (below(200) == 0) all[me].stopped = now + below(STOP);
+}
+
+static void second(uint8_t me) {
+    for (uint8_t to = 0; to < NODES; to++)
+        if (zmg_link_wants_second(&links[me], to)) {
+            seconds++;
+            give(me, to);
+        }
+}
+
+/* What a link tells of itself. */
+typedef struct told {
+    uint32_t phase, made, ran, got[4], end[4], may_leave;
+} told;
+
+static told tell(uint8_t me) {
+    told t;
+    memset(&t, 0, sizeof t);
+    t.phase = zmg_link_phase(&links[me]).code;
+    t.made = zmg_link_made(&links[me]);
+    t.ran = zmg_link_ran(&links[me]);
+    t.may_leave = zmg_link_may_leave(&links[me]);
+    for (uint8_t p = 0; p < 4; p++) {
+        t.got[p] = zmg_link_got(&links[me], p).value;
+        t.end[p] = zmg_link_end(&links[me], p).known;
+    }
+    return t;
+}
+
+/* What no player of the game gave to this one opens nothing and changes nothing, but is counted. */
+static void hear_other(const flight *f) {
+    told before = tell(f->to), after;
+    uint32_t refused = zmg_link_refused(&links[f->to]);
+    zmg_received r = zmg_link_receive(&links[f->to], f->bytes, f->length);
+    if (f->changed) {
+        MUST(r.code == ZMG_RECEIVED_UNOPENED && r.reason < 16);
+        unopened[r.reason]++;
+    } else {
+        MUST(r.code == ZMG_RECEIVED_STRANGER && r.player == NODES - 1);
+        strangers++;
+    }
+    after = tell(f->to);
+    MUST(memcmp(&before, &after, sizeof before) == 0);
+    MUST(zmg_link_refused(&links[f->to]) == refused + f->changed);
+}
+
+/* The sender of what was heard is known, with the same identity, and the cause is its own. */
+static void look_at_sender(const flight *f) {
+    zmg_presence p = zmg_link_presence(&links[f->to], f->from);
+    zmg_phase phase = zmg_link_phase(&links[f->from]);
+    MUST(p.state != ZMG_PRESENCE_UNKNOWN && p.state != ZMG_PRESENCE_DIFFERENT);
+    if (p.state == ZMG_PRESENCE_LEFT && all[f->from].is != GONE)
+        MUST(phase.code == ZMG_PHASE_ENDED && phase.cause == p.cause);
+}
+
+static void hear(const flight *f) {
+    zmg_received r;
+    if (f->changed || f->from == OUTSIDER) {
+        hear_other(f);
+        return;
+    }
+    r = zmg_link_receive(&links[f->to], f->bytes, f->length);
+    MUST(r.code == ZMG_RECEIVED_HEARD && r.player == f->from);
+    if (r.started) all[f->to].last_run = now;
+    heard++;
+    look_at_sender(f);
+    run_and_catch_up(f->to);
+}
+
+/* What is due now is heard, but by who is stopped after the stop. */
+static void arrive(void) {
+    uint32_t k = due[now % SPAN];
+    due[now % SPAN] = 0;
+    while (k) {
+        uint32_t next = flights[k].next;
+        const player *p = &all[flights[k].to];
+        flight f = flights[k];
+        flights[k].next = spare;
+        spare = k;
+        if (p->is == HERE || p->is == LEAVING) {
+            if (p->stopped > now) post(&f, p->stopped - now);
+            else hear(&f);
+        }
+        k = next;
+    }
+}
+
+/* ---- A player's coming and going ---- */
+
+static void come(uint8_t me) {
+    make(me, me, players, secret, number);
+    all[me].is = HERE;
+    all[me].stopped = 0;
+}
+
+/* It quits once its game runs. One whose place another takes quits before, and perhaps player 0, without whom
+ * there is no game. */
+static void quit(uint8_t me) {
+    player *p = &all[me];
+    uint32_t phase = zmg_link_phase(&links[me]).code;
+    int ended = phase == ZMG_PHASE_ENDED;
+    if (phase >= ZMG_PHASE_PLAYING) p->is_replaced = p->gives_up = 0;
+    if (phase < ZMG_PHASE_PLAYING && !p->is_replaced && !all[0].gives_up) return;
+    given_up += phase < ZMG_PHASE_PLAYING && p->gives_up;
+    full += (unsigned)ended;
+    MUST(zmg_link_quit(&links[me]) == !ended);
+    MUST(zmg_link_quit(&links[me]) == 0);
+    p->is = LEAVING;
+    p->may_leave = 0;
+    p->quit_at = now;
+}
+
+/* It has ended before its game started. */
+static int never_played(uint8_t me) {
+    return zmg_link_phase(&links[me]).code == ZMG_PHASE_ENDED && !zmg_link_end(&links[me], me).known;
+}
+
+/* Who may leave is needed by nobody: it never played; or each other player has quit in the game, or has all its
+ * commands and the end, also one that has yet to come in another's place; or there is no game, since player 0
+ * has given up. */
+static void look_for_leave(uint8_t me) {
+    player *p = &all[me];
+    int was = p->may_leave;
+    p->may_leave = zmg_link_may_leave(&links[me]) != 0;
+    MUST(p->may_leave || !was || p->is == HERE || all[0].gives_up);
+    if (p->may_leave && !was) p->left_at = now;
+    if (!p->may_leave || all[0].gives_up || never_played(me)) return;
+    early += zmg_link_made(&links[me]) == 0;
+    MUST(zmg_link_unacknowledged(&links[me]) == 0);
+    for (uint8_t k = 0; k < players; k++)
+        if (k != me && (all[k].is == ABSENT || all[k].is == HERE)) {
+            MUST(p->is == LEAVING && zmg_link_end(&links[k], me).known);
+            MUST(zmg_link_got(&links[k], me).value == zmg_link_made(&links[me]));
+        }
+}
+
+/* Who has not played has no demo. */
+static void look_at_demo(uint8_t me) {
+    static uint8_t demo[MOST_DEMO];
+    size_t length = zmg_link_demo(&links[me], 0, demo, sizeof demo);
+    MUST(length == zmg_link_demo_length(&links[me]) && (length == 0) == never_played(me));
+    if (length) tells_demo(&common, players, zmg_link_ran(&links[me]), 1, demo, length);
+}
+
+static void go(uint8_t me) {
+    player *p = &all[me];
+    look_at_demo(me);
+    zmg_link_free(&links[me]);
+    p->is = GONE;
+    if (!p->is_replaced) return;
+    /* another takes its place */
+    memset(p, 0, sizeof *p);
+    p->comes = now + below(LATEST);
+    p->quits = p->comes + below(LAST);
+    replaced++;
+}
+
+/* It ends by itself where its demo is full. */
+static int wants_to_quit(uint8_t me) {
+    return now >= all[me].quits || zmg_link_phase(&links[me]).code == ZMG_PHASE_ENDED;
+}
+
+static void live(uint8_t me) {
+    player *p = &all[me];
+    if (p->is == ABSENT && now >= p->comes) come(me);
+    if (p->is == HERE && wants_to_quit(me)) quit(me);
+    if (p->is == HERE && zmg_link_phase(&links[me]).code == ZMG_PHASE_PLAYING && !all[0].gives_up)
+        MUST(now - p->last_run < PATIENCE);
+    if (p->is != HERE && p->is != LEAVING) return;
+    look_for_leave(me);
+    if (p->is != LEAVING) return;
+    MUST(p->may_leave || now - p->quit_at < PATIENCE);
+    if (p->may_leave && now > p->left_at + FAREWELL) go(me);
+}
+
+/* ---- A game ---- */
+
+static int is_over(void) {
+    for (uint32_t p = 0; p < players; p++)
+        if (all[p].is != GONE) return 0;
+    return 1;
+}
+
+static void turn(void) {
+    unsigned here = 0;
+    for (uint8_t p = 0; p < players; p++) {
+        live(p);
+        here += all[p].is == HERE;
+    }
+    alone += here == 1;
+    for (uint8_t p = 0; p < players; p++)
+        if ((all[p].is == HERE || all[p].is == LEAVING) && all[p].stopped <= now) tick(p);
+    give_strange();
+    arrive();
+    for (uint8_t p = 0; p < players; p++)
+        if ((all[p].is == HERE || all[p].is == LEAVING) && all[p].stopped <= now) second(p);
+    MUST(++now < LONGEST);
+}
+
+static void game(void) {
+    open_game();
+    while (!is_over()) turn();
+    for (unsigned k = NODES; k < LINKS; k++) zmg_link_free(&links[k]);
+    games++;
+}
+
+int main(int argc, char **argv) {
+    unsigned long count = argc > 1 ? strtoul(argv[1], NULL, 10) : 300;
+    /* never 0 */
+    if (argc > 2) seed = 2 * (uint32_t)strtoul(argv[2], NULL, 10) + 1;
+    while (games < count) game();
+    printf("%lu games: heard %lu, strangers %lu, full %lu, caught up %lu, second %lu, alone %lu, replaced %lu,"
+        " given up %lu, without a command %lu\nunopened",
+        games, heard, strangers, full, caught_up, seconds, alone, replaced, given_up, early);
+    for (unsigned k = 1; k < 16; k++) printf(" %lu", unopened[k]);
+    printf("\n");
+    if (games < 100) return 0;
+    /* in so many games all of it comes */
+    MUST(unopened[ZMG_LINK_TAG] > 0 && unopened[ZMG_LINK_RECEIVER] > 0 && unopened[ZMG_LINK_GAME] > 0);
+    MUST(strangers > 0 && full > 0 && caught_up > 0 && seconds > 0 && alone > 0);
+    MUST(replaced > 0 && given_up > 0 && early > 0);
+    return 0;
+}

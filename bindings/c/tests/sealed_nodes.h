@@ -1,0 +1,55 @@
+/* The nodes of a game, their twins, and a stranger's node. For sealed.c, whose MUST it uses. */
+#ifndef SEALED_NODES_H
+#define SEALED_NODES_H
+
+#include "untrusted.h"
+#include "zirmegat.h"
+#include <string.h>
+
+static zmg_sealed_node nodes[4], stranger;
+static zmg_node twins[4];
+static uint8_t secret[ZMG_SECRET_SIZE], number[ZMG_NUMBER_SIZE];
+
+static zmg_config config_of(uint8_t players, uint8_t me) {
+    zmg_config c;
+    memset(&c, 0, sizeof c);
+    c.limit = 16384;
+    c.players = players;
+    c.me = me;
+    c.settings.skill = 2;
+    c.settings.episode = c.settings.map = 1;
+    return c;
+}
+
+/* Each game has a new number, and perhaps the same secret as the one before. */
+static void make_nodes(uint8_t players, int is_open) {
+    uint8_t ahead = (uint8_t)(1 + below(ZMG_WIDEST_AHEAD)), last;
+    if (games == 0 || below(2)) fill(secret, sizeof secret);
+    fill(number, sizeof number);
+    for (uint8_t me = 0; me < players; me++) {
+        zmg_config c = config_of(players, me);
+        MUST((is_open ? zmg_sealed_node_new_open(&nodes[me], &c, ahead, number)
+            : zmg_sealed_node_new(&nodes[me], &c, ahead, secret, number)) == ZMG_NEW_OK);
+        MUST(zmg_node_new_within(&twins[me], &c, ahead) == ZMG_NEW_OK);
+    }
+    /* the same but for the last byte of the secret, or of the number where there is no secret */
+    {
+        zmg_config c = config_of(players, 0);
+        uint8_t *byte = is_open ? &number[ZMG_NUMBER_SIZE - 1] : &secret[ZMG_SECRET_SIZE - 1];
+        last = *byte;
+        *byte ^= 1;
+        MUST((is_open ? zmg_sealed_node_new_open(&stranger, &c, ahead, number)
+            : zmg_sealed_node_new(&stranger, &c, ahead, secret, number)) == ZMG_NEW_OK);
+        *byte = last;
+    }
+}
+
+static void free_nodes(uint8_t players) {
+    for (uint8_t me = 0; me < players; me++) {
+        zmg_sealed_node_free(&nodes[me]);
+        zmg_node_free(&twins[me]);
+    }
+    zmg_sealed_node_free(&stranger);
+}
+
+#endif

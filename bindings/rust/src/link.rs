@@ -1,0 +1,567 @@
+//! A link, a sealed node that also takes care of delivery, pace and the lobby; and a player with one.
+
+use crate::calls::{node_calls, player_calls};
+use crate::node::{opened, NodeError};
+use crate::packet::Command;
+use crate::player::World;
+use crate::raw;
+use crate::values::{self, Config, Keys, Made, Move, Phase, Ran, Settings};
+use std::fmt;
+
+/// One player's link without a world. [`LinkPlayer`] keeps a world in step by itself, and its documentation
+/// has an engine's loop. A link keeps each packet with new commands until the peer has acknowledged it, and
+/// gives each peer one sealed datagram a tick with everything that is kept for the peer: commands of a lost
+/// datagram are in the next one. Any bytes may come in, from anywhere and at any time.
+///
+/// A link keeps each packet until the peer has acknowledged it, and gives each peer one sealed datagram a
+/// tick with everything that the peer lacks: what a lost datagram had is in the next one, and nobody has to
+/// ask for it. Datagrams may be lost, repeated, reordered, delayed, altered or forged, and any bytes may come
+/// in. Before the game the datagrams show who is there. Player 0 gives its settings once all others are.
+///
+/// The caller owes what it owes for a [`SealedNode`](crate::SealedNode): that something gets through, one
+/// link of a player in a game, one number for each game, a secret that is kept, and the marks of
+/// [`run`](Link::run). A link and a sealed node do not open each other's bytes: either all players of a game
+/// have links, or none has.
+///
+/// Dropping a link frees its memory. It may pass to another thread, but only one thread at a time uses it.
+pub struct Link(raw::Held);
+
+impl Link {
+    /// Makes a link with a window of `ahead` commands, as in [`Node::within`](crate::Node::within). All its
+    /// memory is allocated here; of the later calls on it only [`demo`](Link::demo) allocates.
+    ///
+    /// All players of a game have the same secret and game. `secret`: 32 random bytes, known to the players
+    /// alone and used for nothing else. `game`: the game's number, 16 random bytes that are drawn anew for
+    /// each game. Both are as in [`Seal`](crate::Seal). `host`: what else must be the same for all players,
+    /// such as a digest of the engine's version, files and options. A player whose players, extra, limit,
+    /// window or host differs takes no part: see [`Presence::Different`].
+    ///
+    /// Returns [`NodeError::Secret`] if all bytes of the secret are 0; else what
+    /// [`Node::within`](crate::Node::within) returns.
+    pub fn new(
+        config: Config,
+        ahead: u8,
+        secret: &[u8; 32],
+        game: &[u8; 16],
+        host: &[u8; 16],
+    ) -> Result<Link, NodeError> {
+        let link = Link(raw::Held::nothing());
+        let (secret, game, host) = (secret.as_ptr(), game.as_ptr(), host.as_ptr());
+        // SAFETY: the call has exclusive use of the handle (`Held`), the configuration is valid for the call,
+        // and so are the arrays, of 32, 16 and 16 bytes.
+        opened(unsafe {
+            raw::zmg_link_new(link.0.at(), &config.raw(), ahead, secret, game, host)
+        })?;
+        Ok(link)
+    }
+
+    /// Makes the command of the input that is owed. If [`build`](Link::build) or [`give`](Link::give)
+    /// returned [`Made::Ahead`], its input is owed: this call makes its command once a run has made room,
+    /// unless the next of those calls comes first, which drops the input.
+    ///
+    /// Returns [`Made::Made`], and the datagrams with the command should go at once; [`Made::Ahead`] if there
+    /// is still no room, and the input stays owed; [`Made::NotPlaying`], once, if the link has ended, and the
+    /// input is no longer owed; None if no input is owed. If it returns `Made::Ahead` before a tick's `give`,
+    /// the last command was not made, and the new one takes its place: so put the motion of a mouse for both
+    /// into it.
+    pub fn catch_up(&mut self) -> Option<Made> {
+        // SAFETY: the call has exclusive use of the handle (`Held`).
+        owed(unsafe { raw::zmg_link_catch_up(self.0.at()) })
+    }
+
+    /// Returns by how many 32nds of a tick the next tick comes later than one tick after this one, or sooner
+    /// if it is below 0: -2 to 34. Call it once a tick, after the build. It evens out how far the players are
+    /// ahead of each other, so that nobody carries another's delay, and on a line that is longer than the
+    /// window it stretches ticks instead of dropping input. A caller that does not follow the number loses no
+    /// more than that; but make the call at each tick all the same, since datagrams report the lead that it
+    /// takes.
+    ///
+    /// Count from when this tick was due, not from when you handled it; else each late frame slows the player
+    /// down. If ticks were missed, as in a slow frame, make up for them at once, one after another, each with
+    /// its build, this call and its datagrams. After a longer standstill let the next tick be due now
+    /// instead.
+    pub fn lean(&mut self) -> i32 {
+        // SAFETY: the call has exclusive use of the handle (`Held`).
+        unsafe { raw::zmg_link_lean(self.0.at()) }
+    }
+
+    /// Returns true if the player plays, and reports that two or more of the last datagrams to it are
+    /// missing: one more, half a tick after the tick's own, makes up for those that will be.
+    pub fn wants_second(&self, player: u8) -> bool {
+        // SAFETY: the call has exclusive use of the handle (`Held`).
+        unsafe { raw::zmg_link_wants_second(self.0.at(), player) != 0 }
+    }
+
+    /// Returns the current datagram to player `to`. It has every packet that the player has not acknowledged,
+    /// oldest first, as far as they fit (they all do, except with [`extra`](Config::extra) in windows above
+    /// 10), also once the link has ended. Send one to each other player at each tick, also before the game
+    /// has started. Returns None, and leaves the link as it was, if `to` is not another player's number.
+    pub fn datagram(&mut self, to: u8) -> Option<LinkDatagram> {
+        let mut datagram = LinkDatagram {
+            bytes: [0; 1200],
+            length: 0,
+        };
+        let out = &mut datagram.bytes;
+        // SAFETY: the call has exclusive use of the handle (`Held`), and the array is valid for its length.
+        datagram.length =
+            unsafe { raw::zmg_link_datagram(self.0.at(), to, out.as_mut_ptr(), out.len()) };
+        (datagram.length > 0).then_some(datagram)
+    }
+
+    /// Takes in any bytes, whoever sent them and whenever they come. If it returns [`Received::Heard`] with
+    /// `started`, the caller begins its world with the start of [`settings`](Link::settings).
+    pub fn receive(&mut self, bytes: &[u8]) -> Received {
+        // SAFETY: the call has exclusive use of the handle (`Held`), and the slice is valid for its length.
+        received(unsafe { raw::zmg_link_receive(self.0.at(), bytes.as_ptr(), bytes.len()) })
+    }
+
+    /// Who is there, as far as this link has heard.
+    pub fn presence(&self, player: u8) -> Presence {
+        // SAFETY: the call has exclusive use of the handle (`Held`).
+        presence(unsafe { raw::zmg_link_presence(self.0.at(), player) })
+    }
+
+    /// Gives up a player who was not heard for too long. Before the game of this link has started the
+    /// player is [`Presence::Away`] until it is heard again, and another may take its place. Later, and
+    /// where this link has given it the settings or has heard that it plays, it is
+    /// [`Presence::Forgotten`], until a datagram of its game comes that is not late, and
+    /// [`may_leave`](Link::may_leave) does not wait for it. Then nobody takes its place, since its commands
+    /// may have come to others: another takes a new game with a new number. Its commands are missing still:
+    /// the game goes on without it only where its end is known. Who has [left](Presence::Left) stays so.
+    pub fn forget(&mut self, player: u8) {
+        // SAFETY: the call has exclusive use of the handle (`Held`).
+        unsafe { raw::zmg_link_forget(self.0.at(), player) }
+    }
+
+    /// Returns true if no other player needs anything more from this one: each has played and left, was given
+    /// up in the game, or has acknowledged all commands of this one and that it has left; or player 0 said
+    /// goodbye before its game ([`Presence::Away`], but not [`Parting::Forgotten`]), and then there will be
+    /// no game. Also returns true for a link that ended before its game started.
+    ///
+    /// A peer that has left waits for this link in the same way: give it some more datagrams before the link
+    /// is dropped, and limit the wait, since the last datagram may be lost. A player who started, and quits
+    /// while player 0 still gathers, must stay until the game of all has started, else the game waits for it.
+    /// A player who never played gives some 64 more datagrams, in two seconds, so that the others see it go,
+    /// and may then go.
+    pub fn may_leave(&self) -> bool {
+        // SAFETY: the call has exclusive use of the handle (`Held`).
+        unsafe { raw::zmg_link_may_leave(self.0.at()) != 0 }
+    }
+
+    /// Returns what is known of the line to another player; None for a number that is not another player's.
+    pub fn line(&self, player: u8) -> Option<Line> {
+        // SAFETY: the call has exclusive use of the handle (`Held`).
+        line(unsafe { raw::zmg_link_line(self.0.at(), player) })
+    }
+
+    /// Returns how often bytes came that were not a datagram to this player in this game: damaged, forged, of
+    /// another one.
+    pub fn refused(&self) -> u32 {
+        // SAFETY: the call has exclusive use of the handle (`Held`).
+        unsafe { raw::zmg_link_refused(self.0.at()) }
+    }
+
+    /// Returns how many of this player's commands are not yet acknowledged for certain by every player,
+    /// leaving out players who need nothing more, as [`may_leave`](Link::may_leave) says. The oldest of them
+    /// has been on its way for about so many ticks. Once the link has left, its last command is certain only
+    /// if its end was acknowledged too.
+    pub fn unacknowledged(&self) -> u32 {
+        // SAFETY: the call has exclusive use of the handle (`Held`).
+        unsafe { raw::zmg_link_unacknowledged(self.0.at()) }
+    }
+}
+
+node_calls! {
+    Link
+    zmg_link_build zmg_link_give zmg_link_can_build zmg_link_command zmg_link_run zmg_link_quit
+    zmg_link_phase zmg_link_me zmg_link_players zmg_link_made zmg_link_ran zmg_link_got
+    zmg_link_end zmg_link_settings zmg_link_demo_length zmg_link_demo zmg_link_free
+}
+
+impl fmt::Debug for Link {
+    fn fmt(&self, f: &mut fmt::Formatter<'_>) -> fmt::Result {
+        f.write_str("Link")
+    }
+}
+
+/// The bytes of a link's datagram, at most 1,200.
+#[derive(Clone, Copy)]
+pub struct LinkDatagram {
+    bytes: [u8; 1200],
+    length: usize,
+}
+
+impl fmt::Debug for LinkDatagram {
+    fn fmt(&self, f: &mut fmt::Formatter<'_>) -> fmt::Result {
+        f.debug_tuple("LinkDatagram").field(&&**self).finish()
+    }
+}
+
+impl std::ops::Deref for LinkDatagram {
+    type Target = [u8];
+
+    fn deref(&self) -> &[u8] {
+        &self.bytes[..self.length]
+    }
+}
+
+/// Why bytes are not a datagram to this player in this game: the first of these that holds.
+#[derive(Clone, Copy, Debug, PartialEq, Eq)]
+#[non_exhaustive]
+pub enum Unread {
+    /// There are fewer than 60 bytes.
+    Short,
+    /// There are more than 1,200 bytes.
+    Long,
+    /// They are of another suite, such as that of an open game, or not a sealed datagram at all.
+    Suite,
+    /// They are not a link's datagram, but an envelope of a sealed node, say.
+    Kind,
+    /// They have another game's number: its first eight bytes differ.
+    Game,
+    /// They are to another player.
+    Receiver,
+    /// They were altered or forged, or the secrets or the last eight bytes of the numbers differ.
+    Tag,
+    /// Their content has a form that no link writes.
+    Form,
+    /// A code that this crate has no name for.
+    Unknown(u32),
+}
+
+/// What a link made of bytes.
+#[derive(Clone, Copy, Debug, PartialEq, Eq)]
+#[non_exhaustive]
+pub enum Received {
+    /// They were a datagram of `player`, which was taken in. `started`: whether the game started with them,
+    /// and then the world begins.
+    #[allow(missing_docs)]
+    Heard { player: u8, started: bool },
+    /// They were sealed in this game, under this number, which is not another player's. Nothing changed.
+    Stranger(u8),
+    /// They are not a datagram to this player in this game. Nothing changed but the count of
+    /// [`Link::refused`].
+    Unopened(Unread),
+    /// This player, or whoever was this player before, has another identity, and none of its commands was
+    /// taken.
+    Different(u8),
+    /// A code that this crate has no name for.
+    Unknown(u32),
+}
+
+/// What must be the same for all players of a game: the identity of a link.
+#[derive(Clone, Copy, Debug, PartialEq, Eq)]
+pub struct Identity {
+    /// How many players the game has.
+    pub players: u8,
+    /// Whether each packet repeats the last command.
+    pub extra: bool,
+    /// The window.
+    pub ahead: u8,
+    /// How many bytes the demo may have.
+    pub limit: u32,
+    /// What the engine adds: the `host` of [`Link::new`].
+    pub host: [u8; 16],
+}
+
+/// Why another player has left.
+#[derive(Clone, Copy, Debug, PartialEq, Eq)]
+#[non_exhaustive]
+pub enum Parting {
+    /// It was given up by [`Link::forget`], before the game of this link had started.
+    Forgotten,
+    /// It quit.
+    Quit,
+    /// Its node ended with [`Cause::Full`](crate::Cause::Full).
+    Full,
+    /// Its node ended with [`Cause::Inconsistent`](crate::Cause::Inconsistent).
+    Inconsistent,
+    /// A code that this crate has no name for.
+    Unknown(u32),
+}
+
+/// Whether another player is there.
+#[derive(Clone, Copy, Debug, PartialEq, Eq)]
+#[non_exhaustive]
+pub enum Presence {
+    /// Nothing came from it, or there is no such other player.
+    Unheard,
+    /// It is there, with the same identity.
+    There,
+    /// Its game has started.
+    Playing,
+    /// It is there with this other identity, and takes no part.
+    Different(Identity),
+    /// It has left before its game started, or was given up before that of this link did; another may come
+    /// in its place, with a link of its own, but where it was given up, only if its link is gone.
+    Away(Parting),
+    /// It has played and left.
+    Left(Parting),
+    /// It was given up in the game, or after this link had given it the settings: nobody takes its place.
+    Forgotten,
+    /// A code that this crate has no name for.
+    Unknown(u32),
+}
+
+/// What is known of the line to another player. Counts stop at the largest number. To know when a player was
+/// last heard, note the time whenever `came` has risen.
+#[derive(Clone, Copy, Debug, PartialEq, Eq)]
+pub struct Line {
+    /// How many of its datagrams came.
+    pub came: u32,
+    /// How many of its datagrams did not come within 64, of those numbered between the first that came and
+    /// the newest.
+    pub lost: u32,
+    /// How many of its datagrams came again.
+    pub repeated: u32,
+    /// How many of its datagrams came 64 or more behind the newest.
+    pub too_old: u32,
+    /// How many of the last datagrams to it are missing there.
+    pub missing_there: u8,
+    /// How many commands this player was ahead of it, at this player's last tick.
+    pub lead: i8,
+    /// How many commands it was ahead of this player, at its own last tick.
+    pub lead_there: i8,
+}
+
+pub(crate) fn line(raw: raw::Line) -> Option<Line> {
+    (raw.known != 0).then_some(Line {
+        came: raw.came,
+        lost: raw.lost,
+        repeated: raw.repeated,
+        too_old: raw.too_old,
+        missing_there: raw.missing_there,
+        lead: raw.lead,
+        lead_there: raw.lead_there,
+    })
+}
+
+fn owed(raw: raw::Coded) -> Option<Made> {
+    match raw.code {
+        3 => None,
+        _ => Some(values::made(raw)),
+    }
+}
+
+fn parting(cause: u8) -> Parting {
+    match cause {
+        0 => Parting::Forgotten,
+        1 => Parting::Quit,
+        2 => Parting::Full,
+        3 => Parting::Inconsistent,
+        code => Parting::Unknown(u32::from(code)),
+    }
+}
+
+pub(crate) fn presence(raw: raw::Presence) -> Presence {
+    match raw.state {
+        0 => Presence::Unheard,
+        1 => Presence::There,
+        2 => Presence::Playing,
+        3 => Presence::Different(Identity {
+            players: raw.players,
+            extra: raw.extra != 0,
+            ahead: raw.ahead,
+            limit: raw.limit,
+            host: raw.host,
+        }),
+        4 => Presence::Away(parting(raw.cause)),
+        5 => Presence::Left(parting(raw.cause)),
+        6 => Presence::Forgotten,
+        code => Presence::Unknown(code),
+    }
+}
+
+fn unread(reason: u32) -> Unread {
+    match reason {
+        1 => Unread::Short,
+        2 => Unread::Long,
+        3 => Unread::Suite,
+        4 => Unread::Kind,
+        5 => Unread::Game,
+        6 => Unread::Receiver,
+        7 => Unread::Tag,
+        8 => Unread::Form,
+        code => Unread::Unknown(code),
+    }
+}
+
+pub(crate) fn received(raw: raw::Received) -> Received {
+    match raw.code {
+        0 => Received::Heard {
+            player: raw.player,
+            started: raw.started != 0,
+        },
+        1 => Received::Stranger(raw.player),
+        2 => Received::Unopened(unread(raw.reason)),
+        3 => Received::Different(raw.player),
+        code => Received::Unknown(code),
+    }
+}
+
+/// One player's link and world, kept in step. The caller owes what it owes for a [`Link`].
+///
+/// An engine's loop, with a tick 35 times a second by the engine's own clock:
+///
+/// ```
+/// use zirmegat::{Keys, LinkPlayer, Made, World};
+///
+/// /// Sends a datagram to each other player, as each tick does, also before the game has started.
+/// fn send_all<W: World>(player: &mut LinkPlayer<W>, send: &mut impl FnMut(u8, &[u8])) {
+///     for to in 0..player.players() {
+///         if let Some(datagram) = player.datagram(to) {
+///             send(to, &datagram);
+///         }
+///     }
+/// }
+///
+/// /// Runs each tic whose commands are there, and makes the command that is owed once there is room for it.
+/// fn run<W: World>(player: &mut LinkPlayer<W>, send: &mut impl FnMut(u8, &[u8])) {
+///     player.run();
+///     if let Some(Made::Made(_)) = player.catch_up() {
+///         send_all(player, send);
+///         player.run();
+///     }
+/// }
+///
+/// /// A tick. Returns after how many 35ths of a second the next tick is due, counted from when this one was.
+/// fn tick<W: World>(
+///     player: &mut LinkPlayer<W>,
+///     keys: Keys,
+///     send: &mut impl FnMut(u8, &[u8]),
+/// ) -> f64 {
+///     player.build(keys);
+///     let lean = player.lean();
+///     send_all(player, send);
+///     run(player, send);
+///     1.0 + f64::from(lean) / 32.0
+/// }
+///
+/// /// Half a tick later.
+/// fn half<W: World>(player: &mut LinkPlayer<W>, send: &mut impl FnMut(u8, &[u8])) {
+///     for to in 0..player.players() {
+///         if player.wants_second(to) {
+///             if let Some(datagram) = player.datagram(to) {
+///                 send(to, &datagram);
+///             }
+///         }
+///     }
+/// }
+///
+/// /// Whenever bytes come, also between ticks.
+/// fn hear<W: World>(player: &mut LinkPlayer<W>, bytes: &[u8], send: &mut impl FnMut(u8, &[u8])) {
+///     player.receive(bytes);
+///     run(player, send);
+/// }
+/// # struct Still;
+/// # impl World for Still {
+/// #     fn begin(&mut self, _: &zirmegat::Start, _: [bool; 4]) {}
+/// #     fn step(&mut self, _: &[Option<zirmegat::Move>; 4]) {}
+/// #     fn mark(&self, _: usize) -> i16 {
+/// #         0
+/// #     }
+/// # }
+/// # let settings = zirmegat::Settings { skill: 2, episode: 1, map: 1, ..Default::default() };
+/// # let configs = [zirmegat::Config::key(2, settings), zirmegat::Config::other(2, 1)];
+/// # let mut players = configs
+/// #     .map(|config| LinkPlayer::new(config, 5, &[1; 32], &[2; 16], &[3; 16], Still).unwrap());
+/// # for _ in 0..100 {
+/// #     for me in 0..2 {
+/// #         let mut sent = Vec::new();
+/// #         let mut send = |_: u8, bytes: &[u8]| sent.push(bytes.to_vec());
+/// #         assert!(tick(&mut players[me], Keys::FORWARD, &mut send) > 0.9);
+/// #         half(&mut players[me], &mut send);
+/// #         for bytes in sent {
+/// #             hear(&mut players[1 - me], &bytes, &mut |_, _| ());
+/// #         }
+/// #     }
+/// # }
+/// # assert!(players[0].ran() > 90 && players[1].ran() > 90);
+/// ```
+#[derive(Debug)]
+pub struct LinkPlayer<W> {
+    node: Link,
+    world: W,
+}
+
+impl<W: World> LinkPlayer<W> {
+    /// Makes a player, with a link as [`Link::new`] makes it. The world begins when the game starts. Returns
+    /// what `Link::new` returns.
+    pub fn new(
+        config: Config,
+        ahead: u8,
+        secret: &[u8; 32],
+        game: &[u8; 16],
+        host: &[u8; 16],
+        world: W,
+    ) -> Result<LinkPlayer<W>, NodeError> {
+        Ok(LinkPlayer {
+            node: Link::new(config, ahead, secret, game, host)?,
+            world,
+        })
+    }
+
+    /// Makes the command of the input that is owed, and returns what [`Link::catch_up`] returns.
+    pub fn catch_up(&mut self) -> Option<Made> {
+        self.node.catch_up()
+    }
+
+    /// Returns by how many 32nds of a tick the next tick comes later, as [`Link::lean`] does. Call it once a
+    /// tick, after the build.
+    pub fn lean(&mut self) -> i32 {
+        self.node.lean()
+    }
+
+    /// Returns true if one more datagram should go to the player, half a tick after the tick's own, as
+    /// [`Link::wants_second`] does.
+    pub fn wants_second(&self, player: u8) -> bool {
+        self.node.wants_second(player)
+    }
+
+    /// Returns the current datagram to player `to`, as [`Link::datagram`] does; None if `to` is not another
+    /// player's number.
+    pub fn datagram(&mut self, to: u8) -> Option<LinkDatagram> {
+        self.node.datagram(to)
+    }
+
+    /// Takes in any bytes, whoever sent them and whenever they come, and begins the world if the game starts.
+    pub fn receive(&mut self, bytes: &[u8]) -> Received {
+        let received = self.node.receive(bytes);
+        if let Received::Heard { started: true, .. } = received {
+            self.begin();
+        }
+        received
+    }
+
+    /// Who is there, as far as this player has heard.
+    pub fn presence(&self, player: u8) -> Presence {
+        self.node.presence(player)
+    }
+
+    /// Gives up a player who was not heard for too long, as [`Link::forget`].
+    pub fn forget(&mut self, player: u8) {
+        self.node.forget(player)
+    }
+
+    /// Returns true if no other player needs anything more from this one: see [`Link::may_leave`].
+    pub fn may_leave(&self) -> bool {
+        self.node.may_leave()
+    }
+
+    /// Returns what is known of the line to another player, as [`Link::line`] does.
+    pub fn line(&self, player: u8) -> Option<Line> {
+        self.node.line(player)
+    }
+
+    /// Returns how often bytes came that were not a datagram to this player in this game.
+    pub fn refused(&self) -> u32 {
+        self.node.refused()
+    }
+
+    /// Returns how many of this player's commands are on their way, as [`Link::unacknowledged`] does.
+    pub fn unacknowledged(&self) -> u32 {
+        self.node.unacknowledged()
+    }
+}
+
+player_calls!(LinkPlayer);

@@ -1,0 +1,378 @@
+//! Links over a line that loses and holds back.
+
+use super::{settings, Sum};
+use crate::*;
+
+const SECRET: [u8; 32] = [7; 32];
+const GAME: [u8; 16] = *b"number of a game";
+
+const HOST: [u8; 16] = *b"digest of engine";
+
+fn link_of(config: Config, host: &[u8; 16]) -> Link {
+    Link::new(config, MOST_AHEAD, &SECRET, &GAME, host).unwrap()
+}
+
+fn pair() -> (Link, Link) {
+    let of = |config| link_of(config, &HOST);
+    (of(Config::key(2, settings())), of(Config::other(2, 1)))
+}
+
+fn heard(link: &mut Link, bytes: &[u8], from: u8) -> bool {
+    match link.receive(bytes) {
+        Received::Heard { player, started } if player == from => started,
+        other => panic!("{other:?}"),
+    }
+}
+
+/// Of each ten datagrams four are lost, and one comes a round late.
+#[test]
+fn links_agree_and_leave() {
+    let (mut key, mut other) = pair();
+    let mut held: Option<LinkDatagram> = None;
+    let mut started = 0;
+    for round in 0u32..10_000 {
+        if round == 300 {
+            assert!(!key.may_leave());
+            assert!(key.quit() && other.quit());
+        }
+        if round > 300 && key.may_leave() && other.may_leave() {
+            let tics = key.ran().min(other.ran()) as usize;
+            assert!(tics > 100);
+            assert_eq!(
+                key.demo()[13..13 + tics * 10],
+                other.demo()[13..13 + tics * 10]
+            );
+            assert_eq!(started, 2);
+            assert_eq!(key.end(0), Some(key.made()));
+            return;
+        }
+        key.build(Keys(round * 977));
+        other.build(Keys(round * 331));
+        let (one, two) = (key.datagram(1).unwrap(), other.datagram(0).unwrap());
+        if let Some(late) = held.take() {
+            heard(&mut key, &late, 1);
+        }
+        match round % 10 {
+            0 => held = Some(two),
+            1..=4 => (),
+            5 => started += u32::from(heard(&mut other, &one, 0)),
+            _ => {
+                started += u32::from(heard(&mut other, &one, 0));
+                started += u32::from(heard(&mut key, &two, 1));
+            }
+        }
+        while let (Ran::Ran(_), Some(_)) = key.run([0; 4]) {}
+        while let (Ran::Ran(_), Some(_)) = other.run([0; 4]) {}
+    }
+    panic!("the game does not go on");
+}
+
+/// Bytes that are no datagram, and links that cannot be made.
+#[test]
+fn other_bytes_are_not_taken_in() {
+    let (mut key, mut other) = pair();
+    let datagram = key.datagram(1).unwrap();
+    assert!(key.datagram(0).is_none() && key.datagram(2).is_none());
+    for bit in 0..datagram.len() * 8 {
+        let mut altered = datagram.to_vec();
+        altered[bit / 8] ^= 1 << (bit % 8);
+        assert!(matches!(other.receive(&altered), Received::Unopened(_)));
+    }
+    assert_eq!(
+        other.receive(&datagram[..59]),
+        Received::Unopened(Unread::Short)
+    );
+    assert_eq!(key.receive(&datagram), Received::Unopened(Unread::Receiver));
+    let mut third = link_of(Config::other(3, 2), &HOST);
+    assert_eq!(
+        other.receive(&third.datagram(1).unwrap()),
+        Received::Stranger(2)
+    );
+    assert_eq!(other.phase(), Phase::Listening);
+    assert!(!heard(&mut other, &datagram, 0));
+    let refused =
+        |ahead, secret| Link::new(Config::other(2, 1), ahead, &secret, &GAME, &HOST).err();
+    assert_eq!(refused(WIDEST_AHEAD + 1, SECRET), Some(NodeError::Ahead));
+    assert_eq!(refused(MOST_AHEAD, [0; 32]), Some(NodeError::Secret));
+}
+
+/// Each code has its name, and codes that no header has are kept.
+#[test]
+fn codes_of_links_have_their_names() {
+    let of = |code, reason| {
+        link::received(raw::Received {
+            code,
+            reason,
+            player: 3,
+            started: 1,
+        })
+    };
+    let heard = Received::Heard {
+        player: 3,
+        started: true,
+    };
+    assert_eq!(of(0, 0), heard);
+    assert_eq!(of(1, 0), Received::Stranger(3));
+    let reasons = [
+        Unread::Short,
+        Unread::Long,
+        Unread::Suite,
+        Unread::Kind,
+        Unread::Game,
+        Unread::Receiver,
+        Unread::Tag,
+        Unread::Form,
+        Unread::Unknown(9),
+    ];
+    for (reason, unread) in (1..).zip(reasons) {
+        assert_eq!(of(2, reason), Received::Unopened(unread));
+    }
+    assert_eq!(of(3, 0), Received::Different(3));
+    assert_eq!(of(100, 0), Received::Unknown(100));
+}
+
+#[test]
+fn codes_of_presences_have_their_names() {
+    let of = |state, cause| {
+        link::presence(raw::Presence {
+            state,
+            limit: 70_000,
+            cause,
+            players: 3,
+            extra: 1,
+            ahead: 7,
+            host: HOST,
+        })
+    };
+    let identity = Identity {
+        players: 3,
+        extra: true,
+        ahead: 7,
+        limit: 70_000,
+        host: HOST,
+    };
+    assert_eq!(of(0, 0), Presence::Unheard);
+    assert_eq!(of(1, 0), Presence::There);
+    assert_eq!(of(2, 0), Presence::Playing);
+    assert_eq!(of(3, 0), Presence::Different(identity));
+    let partings = [
+        Parting::Forgotten,
+        Parting::Quit,
+        Parting::Full,
+        Parting::Inconsistent,
+        Parting::Unknown(4),
+    ];
+    for (cause, parting) in (0..).zip(partings) {
+        assert_eq!(of(4, cause), Presence::Away(parting));
+        assert_eq!(of(5, cause), Presence::Left(parting));
+    }
+    assert_eq!(of(6, 0), Presence::Forgotten);
+    assert_eq!(of(7, 0), Presence::Unknown(7));
+}
+
+#[test]
+fn figures_of_lines_have_their_names() {
+    let of = |known| {
+        link::line(raw::Line {
+            known,
+            came: 1,
+            lost: 2,
+            repeated: 3,
+            too_old: 4,
+            missing_there: 5,
+            lead: -6,
+            lead_there: 7,
+        })
+    };
+    let line = Line {
+        came: 1,
+        lost: 2,
+        repeated: 3,
+        too_old: 4,
+        missing_there: 5,
+        lead: -6,
+        lead_there: 7,
+    };
+    assert_eq!(of(0), None);
+    assert_eq!(of(1), Some(line));
+}
+
+/// The other takes in a datagram of the one, and answers whether its game started.
+fn passes(one: &mut Link, other: &mut Link) -> bool {
+    let datagram = one.datagram(other.me()).unwrap();
+    heard(other, &datagram, one.me())
+}
+
+/// Who is there is told from the first datagram to the last.
+#[test]
+fn presences_are_told() {
+    let (mut key, mut other) = pair();
+    assert_eq!(key.presence(1), Presence::Unheard);
+    assert_eq!(key.presence(0), Presence::Unheard);
+    assert_eq!(key.presence(2), Presence::Unheard);
+    assert!(!passes(&mut other, &mut key));
+    assert_eq!(key.presence(1), Presence::There);
+    key.forget(1);
+    assert_eq!(key.presence(1), Presence::Away(Parting::Forgotten));
+    assert!(other.quit() && other.may_leave());
+    assert!(!passes(&mut other, &mut key));
+    assert_eq!(key.presence(1), Presence::Away(Parting::Quit));
+    assert_eq!(key.phase(), Phase::Gathering);
+    // another takes its place, and is heard once its numbers are newer
+    let mut other = link_of(Config::other(2, 1), &HOST);
+    for _ in 0..2 {
+        assert!(!passes(&mut other, &mut key));
+        assert_eq!(key.presence(1), Presence::Away(Parting::Quit));
+    }
+    assert!(!passes(&mut other, &mut key));
+    assert_eq!(key.presence(1), Presence::There);
+    assert!(passes(&mut key, &mut other) && passes(&mut other, &mut key));
+    assert_eq!(key.presence(1), Presence::Playing);
+    assert!(!passes(&mut key, &mut other));
+    assert_eq!(other.presence(0), Presence::Playing);
+    other.forget(0);
+    assert_eq!(other.presence(0), Presence::Forgotten);
+    assert!(!passes(&mut key, &mut other));
+    assert_eq!(other.presence(0), Presence::Playing);
+    assert!(key.quit() && !key.may_leave());
+    assert!(!passes(&mut key, &mut other));
+    assert_eq!(other.presence(0), Presence::Left(Parting::Quit));
+    other.forget(0);
+    assert_eq!(other.presence(0), Presence::Left(Parting::Quit));
+    assert!(!passes(&mut other, &mut key));
+    assert!(key.may_leave());
+}
+
+/// What came over a line is told, and what is on its way.
+#[test]
+fn lines_are_told() {
+    let (mut key, mut other) = pair();
+    assert!(key.line(0).is_none() && key.line(2).is_none());
+    assert!(matches!(key.line(1), Some(line) if line.came == 0));
+    assert!(!passes(&mut other, &mut key));
+    assert!(passes(&mut key, &mut other) && passes(&mut other, &mut key));
+    let (late, lost) = (key.datagram(1).unwrap(), key.datagram(1).unwrap());
+    for _ in 0..3 {
+        key.build(Keys::FORWARD);
+    }
+    assert_eq!(key.unacknowledged(), 3);
+    key.lean();
+    passes(&mut key, &mut other);
+    passes(&mut other, &mut key);
+    let line = key.line(1).unwrap();
+    assert_eq!((line.came, line.missing_there, line.lead), (3, 2, 3));
+    assert_eq!(key.unacknowledged(), 0);
+    for _ in 0..2 {
+        heard(&mut other, &late, 0);
+    }
+    let line = Line {
+        came: 3,
+        lost: 1,
+        repeated: 1,
+        too_old: 0,
+        missing_there: 0,
+        lead: 0,
+        lead_there: 3,
+    };
+    assert_eq!(other.line(0), Some(line));
+    assert_eq!(other.refused(), 0);
+    other.receive(&lost[1..]);
+    assert_eq!(other.refused(), 1);
+    assert_eq!(other.line(0), Some(line));
+}
+
+/// A player with another identity is told of, and takes no part.
+#[test]
+fn another_identity_takes_no_part() {
+    let host = *b"another's digest";
+    let mut key = link_of(Config::key(2, settings()), &HOST);
+    let mut other = link_of(Config::other(2, 1), &host);
+    for _ in 0..3 {
+        let (one, two) = (key.datagram(1).unwrap(), other.datagram(0).unwrap());
+        assert_eq!(other.receive(&one), Received::Different(0));
+        assert_eq!(key.receive(&two), Received::Different(1));
+    }
+    let Presence::Different(identity) = key.presence(1) else {
+        panic!("{:?}", key.presence(1))
+    };
+    assert_eq!(identity.host, host);
+    assert!(
+        matches!(other.presence(0), Presence::Different(of) if of == Identity { host: HOST, ..identity })
+    );
+    assert_eq!(
+        (key.phase(), other.phase()),
+        (Phase::Gathering, Phase::Listening)
+    );
+}
+
+/// What a build had no room for is owed, and made once a run has made room.
+#[test]
+fn a_build_without_room_is_owed() {
+    let (mut key, mut other) = pair();
+    assert!(!passes(&mut other, &mut key));
+    assert!(passes(&mut key, &mut other) && passes(&mut other, &mut key));
+    assert_eq!(key.catch_up(), None);
+    for tic in 0..u32::from(MOST_AHEAD) {
+        assert_eq!(key.build(Keys::FORWARD), Made::Made(tic));
+    }
+    assert_eq!(key.catch_up(), None);
+    assert_eq!(key.build(Keys::BACK), Made::Ahead);
+    assert_eq!(key.catch_up(), Some(Made::Ahead));
+    other.build(Keys::default());
+    passes(&mut other, &mut key);
+    assert_eq!(key.run([0; 4]).0, Ran::Ran(0));
+    assert_eq!(key.catch_up(), Some(Made::Made(u32::from(MOST_AHEAD))));
+    assert_eq!(key.catch_up(), None);
+    assert!(key.command(0, 5).unwrap().forward < 0);
+    assert!((-2..=34).contains(&key.lean()));
+    assert_eq!(key.build(Keys::BACK), Made::Ahead);
+    assert!(key.quit());
+    assert_eq!(key.catch_up(), Some(Made::NotPlaying));
+    assert_eq!(key.catch_up(), None);
+}
+
+/// Who misses two datagrams of the last asks for a second.
+#[test]
+fn holes_ask_for_a_second_datagram() {
+    let (mut key, mut other) = pair();
+    assert!(!passes(&mut other, &mut key));
+    assert!(!passes(&mut key, &mut other) || !key.wants_second(1));
+    for _ in 0..2 {
+        key.datagram(1);
+    }
+    passes(&mut key, &mut other);
+    passes(&mut other, &mut key);
+    assert!(key.wants_second(1) && !key.wants_second(0) && !other.wants_second(0));
+}
+
+/// A player of a link begins its world and steps it, and goes to another thread.
+#[test]
+fn players_of_links_agree() {
+    let of = |config| LinkPlayer::new(config, 1, &SECRET, &GAME, &HOST, Sum::default()).unwrap();
+    let (mut key, mut other) = (of(Config::key(2, settings())), of(Config::other(2, 1)));
+    key.receive(&other.datagram(0).unwrap());
+    for round in 0..50 {
+        key.build(Keys(round * 977));
+        other.build(Keys(round * 331));
+        assert!(key.lean() == 0 && !key.wants_second(1));
+        other.receive(&key.datagram(1).unwrap());
+        key.receive(&other.datagram(0).unwrap());
+        key.run();
+        other.run();
+        assert_eq!(key.catch_up(), None);
+    }
+    assert_eq!((key.ran(), other.ran()), (49, 49));
+    assert_eq!(key.world(), other.world());
+    assert_eq!(key.presence(1), Presence::Playing);
+    let line = key.line(1).unwrap();
+    assert_eq!((line.came, line.lost, line.lead_there), (51, 0, 0));
+    assert_eq!((key.unacknowledged(), key.refused()), (0, 0));
+    assert!(!key.may_leave() && key.quit());
+    let mut key = std::thread::spawn(move || key).join().unwrap();
+    assert_eq!(key.end(0), Some(49));
+    // nobody has told that it has the end
+    assert_eq!(key.unacknowledged(), 1);
+    key.forget(1);
+    assert_eq!(key.presence(1), Presence::Forgotten);
+    assert!(key.may_leave() && key.unacknowledged() == 0);
+}

@@ -1,0 +1,205 @@
+-- A link behind a handle, and what its calls do.
+use Rattle.std.specs.Prelude.{◌≡◌, ◌≤◌, ◌==◌, nat_abs, ℕ, ℤ, false, not, List, pos, replicate, Option, None, Some, IfSome, is_some, if◌then◌else◌}
+use Rattle.std.specs.Option.{option_map}
+use Rattle.arrayvec.specs.ArrayVec.{ArrayVec}
+use Rattle.dn_setup.specs.Starts.{bit}
+use Rattle.dn_lockstep.specs.Contents.{Contents}
+use Rattle.dn_lockstep.specs.Near.{IsFair}
+use Rattle.dn_lockstep.specs.Sent.{sent_to}
+use Rattle.dn_lockstep.specs.Steps.{Steps, Tells}
+use Rattle.dn_machine.specs.declared.answers.Made.{Made}
+use Rattle.dn_machine.specs.declared.answers.Made.TheVariants.{Full, NotPlaying}
+use Rattle.dn_machine.specs.Building.{on_build}
+use Rattle.dn_tic.specs.declared.input.Input.{Input}
+use Rattle.dn_seal.specs.declared.seal.Seal.{Seal}
+use Rattle.dn_link.specs.declared.bundle.BundleFault.{BundleFault}
+use Rattle.dn_link.specs.declared.link.Link.{Link}
+use Rattle.dn_link.specs.declared.received.Received.{Received}
+use Rattle.dn_link.specs.declared.bundle.Identity.{Identity}
+use Rattle.dn_link.specs.declared.figures.Figures.{Figures}
+use Rattle.dn_link.specs.declared.presence.Presence.{Presence}
+use Rattle.dn_link.specs.Figures.{figures_of}
+use Rattle.dn_link.specs.Linked.{Linked, Gives, Receives, forgotten, holds_back, is_peer}
+use Rattle.dn_link.specs.Linking.{identity_of, linked, new_peer, seal_of}
+use Rattle.dn_link.specs.Pace.{Paces, after_input, after_tick, lean, still_owed}
+use Rattle.dn_link.specs.Paced.{PaceState}
+use Rattle.dn_link.specs.Pacing.{new_pace, pace_of}
+use Rattle.zirmegat.specs.declared.answers.BuildAnswer.{BuildAnswer}
+use Rattle.zirmegat.specs.declared.config.NodeConfig.{NodeConfig}
+use Rattle.zirmegat.specs.declared.link_answers.LineAnswer.{LineAnswer}
+use Rattle.zirmegat.specs.declared.link_answers.PresenceAnswer.{PresenceAnswer}
+use Rattle.zirmegat.specs.declared.link_answers.ReceivedAnswer.{ReceivedAnswer}
+use Rattle.zirmegat.specs.declared.link_handle.LinkHandle.{LinkHandle}
+use Rattle.zirmegat.specs.Answers.{made_told}
+use Rattle.zirmegat.specs.Going.{Builds}
+use Rattle.zirmegat.specs.Opening.{OpensWithin}
+use Rattle.zirmegat.specs.Sealed.{IsPut}
+
+-- a link, what it keeps for its pace, and what it has in common with the others of its game
+pub record Joined : Type 0 where
+  pub link : Linked
+  pub pace : PaceState
+  pub seal : Seal
+  pub identity : Identity
+
+abbrev pub joined_of : Link → Joined
+joined_of link =
+    record { link = linked link; pace = pace_of link; seal = seal_of link; identity = identity_of link }
+
+-- the link of a handle
+abbrev pub link_of : LinkHandle → Option Joined
+link_of h = if h.live then option_map joined_of h.link else None
+
+-- what it has in common with the others stays
+abbrev pub StaysOf : Joined → Joined → Type 0
+StaysOf n k = (k.seal ≡ n.seal) × (k.identity ≡ n.identity)
+
+-- its lockstep takes a step, and its pace another; what it keeps of its peers stays
+abbrev pub Moves : (Contents → Contents → Type 0) → (PaceState → PaceState → Type 0) → Joined → Joined → Type 0
+Moves Step Paced n k =
+    Step n.link.node k.link.node × (k.link.peers ≡ n.link.peers) × Paced n.pace k.pace × StaysOf n k
+
+-- it makes the command of an input, owes it, or does not play
+abbrev pub BuildsOf : Input → Joined → Joined → Made → Type 0
+BuildsOf input n k made =
+    Moves (λ n k. Builds input n k made) (λ old new. new ≡ after_input input made old) n k
+
+-- it makes the command that is owed, if one is; where it makes none, its lockstep stays as it is
+abbrev pub CatchesUp : Joined → Joined → Option Made → Type 0
+CatchesUp n k answer =
+    (n.pace.owed ≡ None → (answer ≡ None) × (k.link ≡ n.link) × (k.pace ≡ n.pace))
+    × ((input : Input) → n.pace.owed ≡ Some input → (made : Made) × (answer ≡ Some made)
+    × Steps n.link.node k.link.node (λ limits me m. on_build limits me m input) (λ told. made ≡ told)
+    × (k.pace ≡ record n.pace { owed = still_owed made n.pace.owed }))
+    × (answer ≡ Some Full → k.link.node ≡ n.link.node) × (answer ≡ Some NotPlaying → k.link.node ≡ n.link.node)
+    × (k.link.peers ≡ n.link.peers) × StaysOf n k
+
+-- who it says it is
+abbrev pub identity_in : NodeConfig → ℕ → List ℕ → Identity
+identity_in config ahead host =
+    record {
+      players = config.players;
+      extra = not (config.extra == 0);
+      ahead = ahead;
+      limit = config.limit;
+      host = host;
+    }
+
+-- nothing is known of its peers, nor of its pace, and it has this seal and this identity
+abbrev pub IsNew : NodeConfig → ℕ → List ℕ → Seal → Joined → Type 0
+IsNew config ahead host seal n =
+    ((player : ℕ) → n.link.peers player ≡ new_peer) × (n.pace ≡ new_pace) × (n.seal ≡ seal)
+    × (n.identity ≡ identity_in config ahead host)
+
+-- its lockstep is made by this configuration in this window, or there is none; and it is new
+abbrev pub OpensLink : NodeConfig → ℕ → List ℕ → Seal → ℕ → Option Joined → Type 0
+OpensLink config ahead host seal code made =
+    OpensWithin config ahead code (option_map (λ n. n.link.node) made) × IfSome made (IsNew config ahead host seal)
+
+-- it gives each peer a datagram, which no other number gets, and for which it stays as it is
+abbrev pub GivesOut : ℕ → List ℕ → List ℕ → ℕ → Joined → Joined → Type 0
+GivesOut to room written count n k =
+    (given : Option (ArrayVec ℕ)) × (is_some given ≡ is_peer n.link.node to)
+    × IfSome given (λ bytes. Gives n.seal n.identity n.pace to n.link k.link bytes.items
+    × (holds_back n.link ≡ false → Tells n.link.node (λ limits me m. IfSome (sent_to to limits me m).1 IsFair)))
+    × (given ≡ None → k.link ≡ n.link) × IsPut given room written count × (k.pace ≡ n.pace) × StaysOf n k
+
+-- it takes in any bytes
+abbrev pub TakesBytes : List ℕ → Joined → Joined → Received → Type 0
+TakesBytes bytes n k answer =
+    Receives n.seal n.identity n.pace bytes n.link k.link answer × Paces n.seal bytes n.link n.pace k.pace × StaysOf n k
+
+-- a tick goes by
+abbrev pub Leans : Joined → Joined → ℤ → Type 0
+Leans n k answer =
+    (answer ≡ lean n.link n.pace) × (nat_abs answer ≤ 34) × (k.link ≡ n.link) × (k.pace ≡ after_tick n.link n.pace) × StaysOf n k
+
+-- a peer is given up
+abbrev pub Forgets : ℕ → Joined → Joined → Type 0
+Forgets player n k = (k.link ≡ forgotten player n.link) × (k.pace ≡ n.pace) × StaysOf n k
+
+abbrev pub bundle_code : BundleFault → ℕ
+bundle_code BundleFault.Short = 1
+bundle_code BundleFault.Long = 2
+bundle_code BundleFault.Suite = 3
+bundle_code BundleFault.Kind = 4
+bundle_code BundleFault.Game = 5
+bundle_code BundleFault.Receiver = 6
+bundle_code BundleFault.Tag = 7
+bundle_code BundleFault.Form = 8
+
+-- bytes that are no datagram are told with the number of their fault; 0 is for no link
+abbrev pub unopened : ℕ → ReceivedAnswer
+unopened reason = record { code = 2; reason = reason; player = 0; started = 0 }
+
+abbrev pub received_told : Received → ReceivedAnswer
+received_told (Received.Heard player started) =
+    record { code = 0; reason = 0; player = player; started = bit started }
+received_told (Received.Stranger player) = record { code = 1; reason = 0; player = player; started = 0 }
+received_told (Received.Different player) = record { code = 3; reason = 0; player = player; started = 0 }
+received_told (Received.Unopened fault) = unopened (bundle_code fault)
+
+-- what came of a build that was owed
+abbrev pub owed_told : Option Made → BuildAnswer
+owed_told None = record { code = 3; tic = 0 }
+owed_told (Some made) = made_told made
+
+abbrev pub no_host : List ℕ
+no_host = replicate 16 0
+
+-- who is there: a state, why it left, and the identity of one that differs
+abbrev pub presence_at : ℕ → ℕ → PresenceAnswer
+presence_at state cause =
+    record { state = state; limit = 0; cause = cause; players = 0; extra = 0; ahead = 0; host = no_host }
+
+abbrev pub presence_told : Presence → PresenceAnswer
+presence_told Presence.Unknown = presence_at 0 0
+presence_told Presence.There = presence_at 1 0
+presence_told Presence.Playing = presence_at 2 0
+presence_told (Presence.Different identity) =
+    record {
+      state = 3;
+      limit = identity.limit;
+      cause = 0;
+      players = identity.players;
+      extra = bit identity.extra;
+      ahead = identity.ahead;
+      host = identity.host;
+    }
+presence_told (Presence.Away cause) = presence_at 4 cause
+presence_told (Presence.Left cause) = presence_at 5 cause
+presence_told Presence.Forgotten = presence_at 6 0
+
+-- of a peer, as far as is known
+abbrev pub presence_of : ℕ → Linked → Presence
+presence_of player link =
+    if is_peer link.node player then (link.peers player).presence else Presence.Unknown
+
+-- what is known of the line to a player
+abbrev pub line_told : Option Figures → LineAnswer
+line_told (Some figures) =
+    record {
+      known = 1;
+      came = figures.came;
+      lost = figures.lost;
+      repeated = figures.repeated;
+      too_old = figures.too_old;
+      missing_there = figures.missing_there;
+      lead = figures.lead;
+      lead_there = figures.lead_there;
+    }
+line_told None =
+    record {
+      known = 0;
+      came = 0;
+      lost = 0;
+      repeated = 0;
+      too_old = 0;
+      missing_there = 0;
+      lead = pos 0;
+      lead_there = pos 0;
+    }
+
+abbrev pub figures_at : ℕ → Joined → Option Figures
+figures_at player n =
+    if is_peer n.link.node player then Some (figures_of (n.pace.lines player)) else None

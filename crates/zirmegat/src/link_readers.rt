@@ -1,0 +1,239 @@
+//! What a link tells of itself, as other nodes do. A handle that holds none tells 0.
+
+ghost use Rattle.std.specs.Prelude.{◌≡◌, pos, Bool, Option, Some, None, nat_lt, if◌then◌else◌, length, map, take, drop};
+ghost use Rattle.dn_tic.specs.declared.command.TicCmd.{TicCmd as Cmd};
+ghost use Rattle.dn_setup.specs.Starts.{bit};
+ghost use Rattle.dn_lockstep.specs.Contents.{end_in};
+ghost use Rattle.dn_lockstep.specs.Rings.{count_of};
+ghost use Rattle.dn_link.specs.Linked.{may_leave};
+ghost use Rattle.zirmegat.specs.Calls.{Reads};
+ghost use Rattle.zirmegat.specs.Commands.{known_told, CanBuild, TellsCommand};
+ghost use Rattle.dn_link.specs.declared.presence.Presence.TheVariants.{Unknown};
+ghost use Rattle.dn_link.specs.Pace.{wants_second};
+ghost use Rattle.dn_link.specs.Figures.{unacknowledged};
+ghost use Rattle.zirmegat.specs.Links.{figures_at, line_told, link_of, presence_of, presence_told};
+ghost use Rattle.zirmegat.specs.Answers.{phase_told, phase_at, number_told, settings_told};
+ghost use Rattle.dn_packet.specs.Written.{IsWritten};
+
+use crate::answers::{Number, PhaseAnswer, flag};
+use crate::bytes;
+use crate::commands::KnownCommand;
+use crate::config::SettingsAnswer;
+use crate::link_answers::{LineAnswer, PresenceAnswer};
+use crate::link_handle::LinkHandle;
+use dn_link::Presence;
+
+/// The number of its player.
+#[unsafe(no_mangle)]
+pub extern "C" fn zmg_link_me(link: &mut LinkHandle) -> u32
+    ensures { Reads (link_of link.old) (link_of link.new) (λ n. result ≡ n.link.node.me) (result ≡ 0) }
+{
+    match link.held() {
+        Some(held) => u32::from(held.lockstep().me()),
+        None => 0,
+    }
+}
+
+/// How many players the game has.
+#[unsafe(no_mangle)]
+pub extern "C" fn zmg_link_players(link: &mut LinkHandle) -> u32
+    ensures { Reads (link_of link.old) (link_of link.new) (λ n. result ≡ n.link.node.players) (result ≡ 0) }
+{
+    match link.held() {
+        Some(held) => u32::from(held.lockstep().players()),
+        None => 0,
+    }
+}
+
+/// Where it stands.
+#[unsafe(no_mangle)]
+pub extern "C" fn zmg_link_phase(link: &mut LinkHandle) -> PhaseAnswer
+    ensures { Reads (link_of link.old) (link_of link.new)
+        (λ n. result ≡ phase_told n.link.node.phase) (result ≡ phase_at 0 0 (pos 0) (pos 0) 0) }
+{
+    match link.held() {
+        Some(held) => PhaseAnswer::of(held.lockstep().phase()),
+        None => PhaseAnswer::NONE,
+    }
+}
+
+/// How many commands it built.
+#[unsafe(no_mangle)]
+pub extern "C" fn zmg_link_made(link: &mut LinkHandle) -> u32
+    ensures { Reads (link_of link.old) (link_of link.new) (λ n. result ≡ count_of n.link.node.rings n.link.node.me) (result ≡ 0) }
+{
+    match link.held() {
+        Some(held) => held.lockstep().made(),
+        None => 0,
+    }
+}
+
+/// How many tics it ran.
+#[unsafe(no_mangle)]
+pub extern "C" fn zmg_link_ran(link: &mut LinkHandle) -> u32
+    ensures { Reads (link_of link.old) (link_of link.new) (λ n. result ≡ n.link.node.ran) (result ≡ 0) }
+{
+    match link.held() {
+        Some(held) => held.lockstep().ran(),
+        None => 0,
+    }
+}
+
+/// How many commands it has of a player, where the game has the player.
+#[unsafe(no_mangle)]
+pub extern "C" fn zmg_link_got(link: &mut LinkHandle, player: u8) -> Number
+    ensures { Reads (link_of link.old) (link_of link.new)
+        (λ n. result ≡ number_told (if nat_lt player n.link.node.players then Some (count_of n.link.node.rings player) else None))
+        (result ≡ number_told None) }
+{
+    match link.held() {
+        Some(held) => Number::of(held.lockstep().got(player)),
+        None => Number::of(None),
+    }
+}
+
+/// The tic after a player's last command, where the node knows it. From that tic on no tic has a move of the
+/// player.
+#[unsafe(no_mangle)]
+pub extern "C" fn zmg_link_end(link: &mut LinkHandle, player: u8) -> Number
+    ensures { Reads (link_of link.old) (link_of link.new)
+        (λ n. result ≡ number_told (if nat_lt player n.link.node.players then end_in n.link.node player else None))
+        (result ≡ number_told None) }
+{
+    match link.held() {
+        Some(held) => Number::of(held.lockstep().end(player)),
+        None => Number::of(None),
+    }
+}
+
+/// The choice of game, from the start on; player 0 knows it from the beginning.
+#[unsafe(no_mangle)]
+pub extern "C" fn zmg_link_settings(link: &mut LinkHandle) -> SettingsAnswer
+    ensures { Reads (link_of link.old) (link_of link.new)
+        (λ n. result ≡ settings_told n.link.node.settings) (result ≡ settings_told None) }
+{
+    match link.held() {
+        Some(held) => SettingsAnswer::of(held.lockstep().settings()),
+        None => SettingsAnswer::of(None),
+    }
+}
+
+/// How many bytes its demo has so far.
+#[unsafe(no_mangle)]
+pub extern "C" fn zmg_link_demo_length(link: &mut LinkHandle) -> usize
+    ensures { Reads (link_of link.old) (link_of link.new) (λ n. result ≡ length n.link.node.demo.bytes) (result ≡ 0) }
+{
+    match link.held() {
+        Some(held) => held.lockstep().demo().len(),
+        None => 0,
+    }
+}
+
+/// Copies its demo so far from this byte on, as many bytes as there is room for, and answers how many.
+#[unsafe(no_mangle)]
+pub extern "C" fn zmg_link_demo(link: &mut LinkHandle, from: usize, out: &mut [u8]) -> usize
+    ensures { Reads (link_of link.old) (link_of link.new)
+        (λ n. IsWritten (take (length out.old) (drop from n.link.node.demo.bytes)) out.old out.new result)
+        ((result ≡ 0) × (out.new ≡ out.old)) }
+{
+    match link.held() {
+        Some(held) => bytes::write_from(held.lockstep().demo(), from, out),
+        None => 0,
+    }
+}
+
+/// As `zmg_node_can_build`.
+#[unsafe(no_mangle)]
+pub extern "C" fn zmg_link_can_build(link: &mut LinkHandle) -> u32
+    ensures { Reads (link_of link.old) (link_of link.new)
+        (λ n. (can : Bool) × (result ≡ bit can) × CanBuild n.link.node can) (result ≡ 0) }
+{
+    match link.held() {
+        Some(held) => flag(held.lockstep().can_build()),
+        None => 0,
+    }
+}
+
+/// As `zmg_node_command`.
+#[unsafe(no_mangle)]
+pub extern "C" fn zmg_link_command(link: &mut LinkHandle, player: u8, tic: u32) -> KnownCommand
+    ensures { Reads (link_of link.old) (link_of link.new)
+        (λ n. (command : Option Cmd) × (result ≡ known_told command)
+        × TellsCommand n.link.node player tic command)
+        (result ≡ known_told None) }
+{
+    match link.held() {
+        Some(held) => KnownCommand::of(held.lockstep().command(player, tic)),
+        None => KnownCommand::of(None),
+    }
+}
+
+/// 1 where nobody needs commands of this player any more, nor to know that it has left, and else 0.
+#[unsafe(no_mangle)]
+pub extern "C" fn zmg_link_may_leave(link: &mut LinkHandle) -> u32
+    ensures { Reads (link_of link.old) (link_of link.new) (λ n. result ≡ bit (may_leave n.link)) (result ≡ 0) }
+{
+    match link.held() {
+        Some(held) => flag(held.may_leave()),
+        None => 0,
+    }
+}
+
+/// 1 where a peer tells that datagrams of this player are missing, and one more half of a tick later makes good for those
+/// that will be; else 0.
+#[unsafe(no_mangle)]
+pub extern "C" fn zmg_link_wants_second(link: &mut LinkHandle, player: u8) -> u32
+    ensures { Reads (link_of link.old) (link_of link.new)
+        (λ n. result ≡ bit (wants_second n.link n.pace player)) (result ≡ 0) }
+{
+    match link.held() {
+        Some(held) => flag(held.wants_second(player)),
+        None => 0,
+    }
+}
+
+/// Who is there.
+#[unsafe(no_mangle)]
+pub extern "C" fn zmg_link_presence(link: &mut LinkHandle, player: u8) -> PresenceAnswer
+    ensures { Reads (link_of link.old) (link_of link.new)
+        (λ n. result ≡ presence_told (presence_of player n.link)) (result ≡ presence_told Unknown) }
+{
+    match link.held() {
+        Some(held) => PresenceAnswer::of(held.presence(player)),
+        None => PresenceAnswer::of(Presence::Unknown),
+    }
+}
+
+/// What is known of the line to another player.
+#[unsafe(no_mangle)]
+pub extern "C" fn zmg_link_line(link: &mut LinkHandle, player: u8) -> LineAnswer
+    ensures { Reads (link_of link.old) (link_of link.new)
+        (λ n. result ≡ line_told (figures_at player n)) (result ≡ line_told None) }
+{
+    match link.held() {
+        Some(held) => LineAnswer::of(held.figures(player)),
+        None => LineAnswer::of(None),
+    }
+}
+
+/// How often bytes came that were no datagram to this player in this game.
+#[unsafe(no_mangle)]
+pub extern "C" fn zmg_link_refused(link: &mut LinkHandle) -> u32
+    ensures { Reads (link_of link.old) (link_of link.new) (λ n. result ≡ n.pace.refused) (result ≡ 0) }
+{
+    match link.held() {
+        Some(held) => held.refused(),
+        None => 0,
+    }
+}
+
+/// How many of its commands not every remaining player has acknowledged.
+#[unsafe(no_mangle)]
+pub extern "C" fn zmg_link_unacknowledged(link: &mut LinkHandle) -> u32
+    ensures { Reads (link_of link.old) (link_of link.new) (λ n. result ≡ unacknowledged n.link) (result ≡ 0) }
+{
+    match link.held() {
+        Some(held) => held.unacknowledged(),
+        None => 0,
+    }
+}

@@ -1,0 +1,106 @@
+//! Making links, and giving them up.
+
+ghost use Rattle.std.specs.Prelude.{◌≡◌, ◌≢◌, ℕ, None, IfOk};
+ghost use Rattle.dn_lockstep.specs.Contents.{whose};
+ghost use Rattle.dn_lockstep.specs.Opening.{IsAdmittedWithin, whose_within};
+ghost use Rattle.dn_seal.specs.Keys.{no_secret};
+ghost use Rattle.dn_seal.specs.Sealing.{sealed_with};
+ghost use Rattle.dn_seal.specs.declared.suite.Suite.TheVariants.{Secret};
+ghost use Rattle.dn_link.specs.Linking.{identity_of, linked, new_peer, seal_of};
+ghost use Rattle.dn_link.specs.Pacing.{new_pace, pace_of};
+ghost use Rattle.zirmegat.specs.Opening.{IsFresh};
+ghost use Rattle.zirmegat.specs.Links.{OpensLink, link_of};
+
+use crate::config::{NodeConfig, fault_code, settings_code};
+use crate::link_handle::LinkHandle;
+use crate::sealed_nodes::is_unset;
+use dn_link::Link;
+use dn_lockstep::{Config, NodeFault};
+use dn_seal::Seal;
+use std::alloc::Global;
+
+/// A link of this configuration in a window of this width and with this seal, in a box.
+fn boxed(
+    alloc: Global,
+    config: Config,
+    ahead: u8,
+    host: [u8; 16],
+    seal: Seal,
+) -> Result<Box<Link>, NodeFault>
+    ensures admitted { IsAdmittedWithin config ahead result }
+    ensures fresh { IfOk result (λ made. IsFresh config ahead (linked made.value).node) }
+    ensures whose { IfOk result (λ made. whose (linked made.value).node ≡ whose_within config ahead) }
+    ensures peers { IfOk result (λ made. (player : ℕ) → (linked made.value).peers player ≡ new_peer) }
+    ensures pace { IfOk result (λ made. pace_of made.value ≡ new_pace) }
+    ensures seal { IfOk result (λ made. seal_of made.value ≡ seal) }
+    ensures identity { IfOk result (λ made. identity_of made.value ≡ record {
+      players = config.players;
+      extra = config.extra;
+      ahead = ahead;
+      limit = config.limit;
+      host = host;
+    }) }
+{
+    let made = Link::new(alloc, config, ahead, host, seal)?;
+    match Box::new(alloc, made) {
+        Ok(made) => Ok(made),
+        Err(_) => Err(NodeFault::Memory),
+    }
+}
+
+/// Makes a link with this seal in the handle.
+fn open(
+    alloc: Global,
+    link: &mut LinkHandle,
+    config: &NodeConfig,
+    ahead: u8,
+    host: [u8; 16],
+    seal: Seal,
+) -> u32
+    ensures { OpensLink config.now ahead host seal result (link_of link.new) }
+{
+    drop(link.take(alloc));
+    let settings = match config.choice() {
+        Ok(settings) => settings,
+        Err(fault) => return settings_code(fault),
+    };
+    match boxed(alloc, config.with(settings), ahead, host, seal) {
+        Ok(made) => {
+            *link = LinkHandle::of(made);
+            0
+        }
+        Err(fault) => fault_code(fault),
+    }
+}
+
+/// Makes a link in the handle, in a window of `ahead` commands, of the game that has this number and whose players
+/// share this secret and what the host adds to its identity. Answers as `zmg_sealed_node_new`.
+#[unsafe(no_mangle)]
+pub extern "C" fn zmg_link_new(
+    alloc: Global,
+    link: &mut LinkHandle,
+    config: &NodeConfig,
+    ahead: u8,
+    secret: &[u8; 32],
+    game: &[u8; 16],
+    host: &[u8; 16],
+) -> u32
+    ensures set { secret.now ≢ no_secret
+        → OpensLink config.now ahead host.now (sealed_with Secret secret.now game.now) result (link_of link.new) }
+    ensures unset { secret.now ≡ no_secret → (result ≡ 11) × (link_of link.new ≡ None) }
+{
+    if is_unset(secret) {
+        drop(link.take(alloc));
+        return 11;
+    }
+    open(alloc, link, config, ahead, *host, Seal::new(*secret, *game))
+}
+
+/// Gives up the link that the handle holds, if it holds one, with its memory.
+#[unsafe(no_mangle)]
+pub extern "C" fn zmg_link_free(alloc: Global, link: &mut LinkHandle)
+    ensures { link_of link.new ≡ None }
+{
+    let held = link.take(alloc);
+    drop(held);
+}
