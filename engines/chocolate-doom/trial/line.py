@@ -1,0 +1,75 @@
+#!/usr/bin/env python3
+"""A bad line on 127.0.0.1: line.py PORT HOSTPORT LOSS REPEAT MIN_MS MAX_MS SEED
+
+Clients send to PORT, and the host at HOSTPORT sees each at a port of its own, to which other clients may send
+too: so each way between two players passes once, and it serves links as well as the engine's own client and
+server. LOSS and REPEAT are percent; each datagram is delayed by a time drawn evenly from MIN_MS to MAX_MS, so a
+wide range reorders. Told to end (SIGTERM) it prints what it did."""
+import heapq, random, select, signal, socket, sys, time
+port, host = map(int, sys.argv[1:3])
+loss, repeat, low, high = map(float, sys.argv[3:7])
+draw = random.Random(int(sys.argv[7]))
+
+def open_port(number):
+    s = socket.socket(socket.AF_INET, socket.SOCK_DGRAM)
+    s.setsockopt(socket.SOL_SOCKET, socket.SO_RCVBUF, 1 << 20)
+    s.bind(('127.0.0.1', number))
+    s.setblocking(False)
+    return s
+
+front = open_port(port)
+sides = {}     # a client's address: the socket by which others see it
+owners = {}    # and back
+counts = dict(came=0, lost=0, repeated=0, gave=0, bytes=0)
+
+def side_of(address):
+    if address not in sides:
+        sides[address] = open_port(0)
+        owners[sides[address]] = address
+    return sides[address]
+
+def route(s, address):
+    """By which socket, and to whom."""
+    if s is front:
+        return side_of(address), ('127.0.0.1', host)
+    if address == ('127.0.0.1', host):
+        return front, owners[s]
+    return side_of(address), owners[s]
+
+heap, serial, going = [], 0, True
+def stop(*_):
+    global going
+    going = False
+signal.signal(signal.SIGTERM, stop)
+while going:
+    wait = max(0.0, heap[0][0] - time.monotonic()) if heap else 0.2
+    ready = select.select([front, *owners], [], [], min(wait, 0.2))[0]
+    now = time.monotonic()
+    for s in ready:
+        while True:
+            try:
+                data, address = s.recvfrom(4096)
+            except ConnectionRefusedError:
+                continue
+            except BlockingIOError:
+                break
+            counts['came'] += 1
+            counts['bytes'] += len(data)
+            out, to = route(s, address)
+            if draw.random() * 100 < loss:
+                counts['lost'] += 1
+                continue
+            copies = 1 + (draw.random() * 100 < repeat)
+            counts['repeated'] += copies - 1
+            for _ in range(copies):
+                serial += 1
+                heapq.heappush(heap, (now + draw.uniform(low, high) / 1000, serial, out, to, data))
+    now = time.monotonic()
+    while heap and heap[0][0] <= now:
+        _, _, out, to, data = heapq.heappop(heap)
+        try:
+            out.sendto(data, to)
+            counts['gave'] += 1
+        except OSError:
+            pass
+print('line', counts, flush=True)
