@@ -1,0 +1,377 @@
+-- A dissector for Wireshark and tshark of a netgame's datagrams: those of 1997, which plain nodes send, the
+-- envelopes of sealed nodes, and the datagrams of links. docs/PROTOCOL.md has their layouts.
+--
+--     wireshark -X lua_script:tools/doom.lua
+--
+-- Nothing on the line is encrypted, so every field is shown. A tag is shown, and not checked: that takes the
+-- game's key. On the UDP ports of the preference `doom.ports` all bytes are taken for a netgame's, whatever is
+-- wrong with them; on other ports those alone with which nothing is. It needs Wireshark 4.0.
+
+local doom = Proto("doom", "Doom netgame, datagram of 1997")
+local seal = Proto("doom_seal", "Doom netgame, seal")
+local link = Proto("doom_link", "Doom netgame, datagram of a link")
+
+local MAX_COMMANDS, MAX_DATAGRAM, MAX_PARTS, MAX_RUN = 12, 104, 24, 24
+local EXIT, RETRANSMIT, SETUP, KILL = 8, 4, 2, 1
+local SUM = 0x10000000 -- the checksum word has the flags in units of this
+local HEAD, TAG = 12, 16 -- bytes of the head that both kinds of seal have, and of the tag
+local PACKET, LINK = 1, 2 -- the kinds
+local SIZES = { [PACKET] = { 37, 141 }, [LINK] = { 60, 1200 } }
+local MESSAGES = { [0] = "hello", "game", "goodbye" }
+local MESSAGE_SIZES = { [0] = 24, 1, 2 }
+
+local P = ProtoField
+local function bit_of(name, label, width, mask) return P.bool(name, label, width, nil, mask) end
+local function bits_of(name, label, mask) return P.uint8(name, label, base.DEC, nil, mask) end
+local function named(name, label, names) return P.uint8(name, label, base.DEC, names) end
+
+local f = {
+    sum = P.uint32("doom.checksum", "Checksum", base.HEX, nil, 0x0fffffff),
+    right = P.uint32("doom.checksum.calculated", "Calculated checksum", base.HEX),
+    status = named("doom.checksum.status", "Checksum status", { [0] = "Bad", "Good", "Unverified" }),
+    flags = P.uint32("doom.flags", "Flags", base.HEX, nil, 0xf0000000),
+    exit = bit_of("doom.flags.exit", "EXIT: the sender has left", 32, 0x80000000),
+    again = bit_of("doom.flags.retransmit", "RETRANSMIT: commands are asked for again", 32, 0x40000000),
+    setup = bit_of("doom.flags.setup", "SETUP: the choice of game", 32, 0x20000000),
+    kill = bit_of("doom.flags.kill", "KILL: the receiver is to end the game", 32, 0x10000000),
+    ask = P.uint8("doom.ask", "Retransmit from, low byte"),
+    start = P.uint8("doom.start", "Start tic, low byte"),
+    player = P.uint8("doom.player", "Player"),
+    count = P.uint8("doom.count", "Number of commands"),
+    exact_start = P.uint32("doom.exact.start", "Start tic"),
+    exact_asked = P.uint8("doom.exact.asked", "Commands are asked for again"),
+    exact_ask = P.uint32("doom.exact.ask", "Retransmit from"),
+    version = P.uint8("doom.setup.version", "Version"),
+    skill = bits_of("doom.setup.skill", "Skill", 0x0f),
+    respawn = bit_of("doom.setup.respawn", "Monsters respawn", 8, 0x10),
+    nomonsters = bit_of("doom.setup.nomonsters", "No monsters", 8, 0x20),
+    deathmatch = bits_of("doom.setup.deathmatch", "Deathmatch", 0xc0),
+    map = bits_of("doom.setup.map", "Map", 0x3f),
+    episode = bits_of("doom.setup.episode", "Episode", 0xc0),
+    cmd = P.none("doom.cmd", "Command"),
+    tic = P.uint32("doom.cmd.tic", "Tic, or its low byte where no more is known"),
+    forward = P.int8("doom.cmd.forward", "Forward"),
+    side = P.int8("doom.cmd.side", "Side"),
+    turn = P.int16("doom.cmd.turn", "Turn"),
+    mark = P.int16("doom.cmd.mark", "Consistency mark"),
+    chat = P.uint8("doom.cmd.chat", "Chat"),
+    buttons = P.uint8("doom.cmd.buttons", "Buttons", base.HEX),
+    attack = bit_of("doom.cmd.buttons.attack", "Attack", 8, 0x01),
+    use = bit_of("doom.cmd.buttons.use", "Use", 8, 0x02),
+    change = bit_of("doom.cmd.buttons.change", "Change of weapon", 8, 0x04),
+    weapon = bits_of("doom.cmd.buttons.weapon", "Place of the weapon", 0x38),
+}
+doom.fields = f
+
+local s = {
+    suite = named("doom_seal.suite", "Suite", { "shared secret", "open game" }),
+    kind = named("doom_seal.kind", "Kind", { "one datagram", "a link's datagram" }),
+    game = P.bytes("doom_seal.game", "Game, the first bytes of its number"),
+    from = P.uint8("doom_seal.from", "From player"),
+    to = P.uint8("doom_seal.to", "To player"),
+    tag = P.bytes("doom_seal.tag", "Tag, not checked"),
+}
+seal.fields = s
+
+local l = {
+    number = P.uint32("doom_link.number", "Number"),
+    lead = P.int8("doom_link.lead", "Lead over the receiver"),
+    holes = P.uint8("doom_link.holes", "Datagrams missing"),
+    made = P.uint32("doom_link.made", "Commands made"),
+    ran = P.uint32("doom_link.ran", "Tics run"),
+    got = P.uint32("doom_link.got", "Commands that it has"),
+    message = named("doom_link.message", "Message", MESSAGES),
+    players = P.uint8("doom_link.players", "Players"),
+    extra = P.uint8("doom_link.extra", "Packets repeat commands"),
+    ahead = P.uint8("doom_link.ahead", "Window"),
+    limit = P.uint32("doom_link.limit", "Most bytes of the demo"),
+    host = P.bytes("doom_link.host", "The host's own"),
+    cause = named("doom_link.cause", "Cause", { [0] = "given up", "quit", "full demo", "world differs" }),
+    parts = P.uint8("doom_link.parts", "Number of parts"),
+    part = P.none("doom_link.part", "Part"),
+    run = P.uint8("doom_link.part.run", "Packets in the run, or 0 for one as it is"),
+    size = P.uint8("doom_link.part.length", "Bytes of the packet"),
+}
+link.fields = l
+
+local group, severity = expert.group, expert.severity
+local function wrong(name, text) return ProtoExpert.new(name, text, group.PROTOCOL, severity.ERROR) end
+local faults = {
+    short = wrong("doom.short", "Short: fewer than eight bytes"),
+    many = wrong("doom.many", "Many: the count is above 12"),
+    length = wrong("doom.length", "Length: not that of the count"),
+    sum = wrong("doom.sum", "Sum: the checksum is wrong"),
+}
+local asks = ProtoExpert.new("doom.retransmit", "Commands are asked for again", group.SEQUENCE, severity.NOTE)
+doom.experts = { faults.short, faults.many, faults.length, faults.sum, asks }
+local unlike = wrong("doom_seal.unlike", "The packet differs from what stands in front of it")
+local refused = wrong("doom_seal.refused", "Refused")
+seal.experts = { unlike, refused }
+
+-- The bytes of a range from a place on; an empty range cannot begin at the end of another.
+local function from(r, place) return place < r:len() and r(place) or r(0, 0) end
+
+local function sum_of(r)
+    local sum = 0x1234567
+    for word = 1, r:len() / 4 - 1 do sum = (sum + word * r(4 * word, 4):le_uint()) % SUM end
+    return sum
+end
+
+-- The first fault that bytes have as a datagram of 1997.
+local function fault_of(r)
+    if r:len() < 8 then return "short" end
+    local count = r(7, 1):uint()
+    if count > MAX_COMMANDS then return "many" end
+    if r:len() ~= 8 + 8 * count then return "length" end
+    if r(0, 4):le_uint() % SUM ~= sum_of(r) then return "sum" end
+end
+
+local function has(r, flag) return math.floor(r(0, 4):le_uint() / SUM / flag) % 2 == 1 end
+
+local function tics(first, count, wrap)
+    if count == 0 then return "no commands" end
+    if count == 1 then return "tic " .. first end
+    return ("tics %d-%d"):format(first, (first + count - 1) % wrap)
+end
+
+-- What a datagram of 1997 says, in few words; with the exact tics where they stand in front of it.
+local function words_of(r, exact)
+    local fault = fault_of(r)
+    if fault then return "refused, " .. fault end
+    local ask, start, player, words = r(4, 1):uint(), r(5, 1):uint(), r(6, 1):uint(), nil
+    if has(r, SETUP) then
+        local episode, map = math.floor(start / 64), start % 64
+        words = ("SETUP version %d episode %d map %d skill %d"):format(player, episode, map, ask % 16)
+    else
+        words = tics(exact and exact.start or start, r(7, 1):uint(), exact and 2 ^ 32 or 256)
+        if not exact then words = ("player %d: %s"):format(player, words) end
+        if has(r, RETRANSMIT) then words = words .. ", RETRANSMIT from " .. (exact and exact.ask or ask) end
+    end
+    if has(r, EXIT) then words = words .. ", EXIT" end
+    return has(r, KILL) and words .. ", KILL" or words
+end
+
+local function add_all(tree, fields, r)
+    for _, field in ipairs(fields) do tree:add_le(field, r) end
+end
+
+local function add_command(tree, r, tic)
+    local item = tree:add(f.cmd, r)
+    local forward, side, turn, pressed = r(0, 1):int(), r(1, 1):int(), r(2, 2):le_int(), r(7, 1):uint()
+    local words = " of tic %d: forward %d side %d turn %d buttons %d"
+    item:append_text(words:format(tic, forward, side, turn, pressed))
+    item:add(f.tic, tic):set_generated()
+    item:add(f.forward, r(0, 1))
+    item:add(f.side, r(1, 1))
+    item:add_le(f.turn, r(2, 2))
+    item:add_le(f.mark, r(4, 2))
+    item:add(f.chat, r(6, 1))
+    add_all(item:add(f.buttons, r(7, 1)), { f.attack, f.use, f.change, f.weapon }, r(7, 1))
+end
+
+local function add_checksum_word(root, r, fault)
+    local sum = root:add_le(f.sum, r(0, 4))
+    if fault == "sum" then sum:add_proto_expert_info(faults.sum) end
+    if not fault or fault == "sum" then root:add(f.right, sum_of(r)):set_generated() end
+    root:add(f.status, not fault and 1 or fault == "sum" and 0 or 2):set_generated()
+    add_all(root:add_le(f.flags, r(0, 4)), { f.exit, f.again, f.setup, f.kill }, r(0, 4))
+end
+
+-- The fields of a datagram of 1997, as far as its bytes go.
+local function add_datagram(tree, r, exact)
+    local fault = fault_of(r)
+    local root = tree:add(doom, r):append_text(": " .. words_of(r, exact))
+    if fault and fault ~= "sum" then root:add_proto_expert_info(faults[fault]) end
+    if fault == "short" then return end
+    add_checksum_word(root, r, fault)
+    local ask, start = root:add(f.ask, r(4, 1)), root:add(f.start, r(5, 1))
+    local player, count = root:add(f.player, r(6, 1)), r(7, 1):uint()
+    root:add(f.count, r(7, 1))
+    if has(r, SETUP) then
+        player:add(f.version, r(6, 1))
+        add_all(ask, { f.skill, f.respawn, f.nomonsters, f.deathmatch }, r(4, 1))
+        add_all(start, { f.map, f.episode }, r(5, 1))
+    elseif has(r, RETRANSMIT) then
+        ask:add_proto_expert_info(asks)
+    end
+    local first, wrap = exact and exact.start or r(5, 1):uint(), exact and 2 ^ 32 or 256
+    for k = 0, math.min(count, MAX_COMMANDS, math.floor(r:len() / 8) - 1) - 1 do
+        add_command(root, r(8 + 8 * k, 8), (first + k) % wrap)
+    end
+end
+
+-- The exact numbers in nine bytes: the start, and the tic that is asked for; or none where they lack the form.
+local function exact_in(r)
+    local asked, ask = r(4, 1):uint(), r(5, 4):le_uint()
+    if asked > 1 or asked == 0 and ask > 0 then return nil end
+    return { start = r(0, 4):le_uint(), ask = asked == 1 and ask or nil }
+end
+
+local function add_exact(tree, r)
+    tree:add_le(f.exact_start, r(0, 4))
+    tree:add(f.exact_asked, r(4, 1))
+    tree:add_le(f.exact_ask, r(5, 4))
+end
+
+-- Whether receivers drop a packet because its own bytes differ from its exact numbers and its sender.
+local function is_unlike(r, exact, sender)
+    if fault_of(r) or has(r, SETUP) then return false end
+    return r(6, 1):uint() ~= sender or r(5, 1):uint() ~= exact.start % 256
+        or r(4, 1):uint() ~= (exact.ask or 0) % 256 or has(r, RETRANSMIT) ~= (exact.ask ~= nil)
+end
+
+-- The part at the front of bytes, or none if they lack the form.
+local function part_in(r)
+    local count = r:len() > 0 and r(0, 1):uint() or 0
+    if count > 0 then
+        local size = 5 + 8 * count
+        if count > MAX_RUN or r:len() < size then return nil end
+        return { run = count, all = r(0, size), exact = { start = r(1, 4):le_uint() } }
+    end
+    if r:len() < 11 then return nil end
+    local exact, size = exact_in(r(1, 9)), r(10, 1):uint()
+    if not exact or size > MAX_DATAGRAM or r:len() < 11 + size then return nil end
+    return { run = 0, all = r(0, 11 + size), exact = exact, packet = from(r(0, 11 + size), 11) }
+end
+
+-- The parts behind a message, as far as they have the form; and whether all behind the message has it.
+local function parts_in(r)
+    local message, parts = r(0, 1):uint(), {}
+    local place = MESSAGE_SIZES[message]
+    if not place or r:len() <= place or message == 0 and r(2, 1):uint() > 1 then return parts, false end
+    local count = r(place, 1):uint()
+    if count > MAX_PARTS then return parts, false end
+    place = place + 1
+    for k = 1, count do
+        parts[k] = part_in(from(r, place))
+        if not parts[k] then return parts, false end
+        place = place + parts[k].all:len()
+    end
+    return parts, place == r:len()
+end
+
+local function add_part(tree, part, sender)
+    local item, r = tree:add(l.part, part.all), part.all
+    item:add(l.run, r(0, 1))
+    if part.run > 0 then
+        item:add_le(f.exact_start, r(1, 4))
+        for k = 0, part.run - 1 do add_command(item, r(5 + 8 * k, 8), (part.exact.start + k) % 2 ^ 32) end
+        return tics(part.exact.start, part.run, 2 ^ 32)
+    end
+    add_exact(item, r(1, 9))
+    item:add(l.size, r(10, 1))
+    if is_unlike(part.packet, part.exact, sender) then item:add_proto_expert_info(unlike) end
+    add_datagram(item, part.packet, part.exact)
+    return words_of(part.packet, part.exact)
+end
+
+local function add_message(root, r)
+    local message = r(0, 1):uint()
+    local size = MESSAGE_SIZES[message]
+    root:add(l.message, r(0, 1))
+    if not size or r:len() <= size then return end
+    if message == 0 then
+        for place, field in ipairs({ l.players, l.extra, l.ahead }) do root:add(field, r(place, 1)) end
+        root:add_le(l.limit, r(4, 4))
+        root:add(l.host, r(8, 16))
+    elseif message == 2 then
+        root:add(l.cause, r(1, 1))
+    end
+    root:add(l.parts, r(size, 1))
+end
+
+-- What stands between the head of a link's datagram and its tag; and what it says, in few words.
+local function add_link(tree, r, sender)
+    local root = tree:add(link, r)
+    root:add_le(l.number, r(0, 4))
+    root:add(l.lead, r(4, 1))
+    root:add(l.holes, r(5, 1))
+    root:add_le(l.made, r(6, 4))
+    root:add_le(l.ran, r(10, 4))
+    for player = 0, 3 do root:add_le(l.got, r(14 + 4 * player, 4)):append_text(" of player " .. player) end
+    add_message(root, r(30))
+    local words = ("number %d, %s, made %d, ran %d"):format(r(0, 4):le_uint(), MESSAGES[r(30, 1):uint()] or "?",
+        r(6, 4):le_uint(), r(10, 4):le_uint())
+    for _, part in ipairs((parts_in(r(30)))) do words = words .. "; " .. add_part(root, part, sender) end
+    return words
+end
+
+local function body_of(r) return r(HEAD, r:len() - HEAD - TAG) end
+
+-- For what receivers of any game refuse sealed bytes, as far as it is seen without the key.
+local function seal_fault(r)
+    local kind = r:len() > HEAD and r(1, 1):uint()
+    local sizes = SIZES[kind]
+    if not sizes or r(0, 1):uint() < 1 or r(0, 1):uint() > 2 then return "suite or kind" end
+    if r:len() < sizes[1] or r:len() > sizes[2] then return "length" end
+    local is_formed = exact_in(body_of(r)(0, 9))
+    if kind == LINK then is_formed = select(2, parts_in(from(body_of(r), 30))) end
+    if not is_formed then return "form" end
+end
+
+-- An envelope or a link's datagram; and what it says, in few words.
+local function add_sealed(tree, r)
+    local fault, root = seal_fault(r), tree:add(seal, r)
+    if fault then root:add_proto_expert_info(refused, "Refused for its " .. fault) end
+    root:add(s.suite, r(0, 1))
+    root:add(s.kind, r(1, 1))
+    if fault and fault ~= "form" then return "refused, " .. fault end
+    root:add(s.game, r(2, 8))
+    root:add(s.from, r(10, 1))
+    root:add(s.to, r(11, 1))
+    root:add(s.tag, r(r:len() - TAG, TAG))
+    local sender, body, words = r(10, 1):uint(), body_of(r), nil
+    if r(1, 1):uint() == LINK then
+        words = add_link(tree, body, sender)
+    else
+        local exact, packet = exact_in(body(0, 9)), from(body, 9)
+        add_exact(root, body(0, 9))
+        if exact and is_unlike(packet, exact, sender) then root:add_proto_expert_info(unlike) end
+        add_datagram(tree, packet, exact)
+        words = words_of(packet, exact)
+    end
+    return ("%d > %d: %s%s"):format(sender, r(11, 1):uint(), words, fault and ", refused, form" or "")
+end
+
+-- Whether nothing is wrong with bytes: as a datagram of 1997, or sealed, from a player to one.
+local function is_right(r)
+    if not fault_of(r) then return true end
+    if seal_fault(r) or r(10, 1):uint() > 3 or r(11, 1):uint() > 3 then return false end
+    if r(1, 1):uint() == LINK then return true end
+    local packet = from(body_of(r), 9)
+    return not fault_of(packet) and not is_unlike(packet, exact_in(body_of(r)(0, 9)), r(10, 1):uint())
+end
+
+-- Whether all bytes are there: what the capture cut is not judged.
+local function is_whole(tvb) return tvb:len() > 0 and tvb:len() == tvb:reported_len() end
+
+function seal.dissector(tvb, pinfo, tree)
+    if not is_whole(tvb) or tvb:len() < 2 then return 0 end
+    pinfo.cols.protocol = tvb(1, 1):uint() == LINK and link.name or seal.name
+    pinfo.cols.info = add_sealed(tree, tvb())
+    return tvb:len()
+end
+
+function doom.dissector(tvb, pinfo, tree)
+    if not is_whole(tvb) then return 0 end
+    if fault_of(tvb()) and seal_fault(tvb()) ~= "suite or kind" then return seal.dissector(tvb, pinfo, tree) end
+    pinfo.cols.protocol = doom.name
+    pinfo.cols.info = words_of(tvb())
+    add_datagram(tree, tvb())
+    return tvb:len()
+end
+
+doom:register_heuristic("udp", function(tvb, pinfo, tree)
+    return is_whole(tvb) and is_right(tvb()) and doom.dissector(tvb, pinfo, tree) > 0
+end)
+
+local udp, ports = DissectorTable.get("udp.port"), "5029-5032"
+doom.prefs.ports = Pref.range("UDP ports", ports, "All bytes on these ports are taken for a netgame's", 65535)
+udp:add(ports, doom)
+udp:add_for_decode_as(seal)
+
+function doom.prefs_changed()
+    udp:remove(ports, doom)
+    ports = doom.prefs.ports
+    udp:add(ports, doom)
+end
