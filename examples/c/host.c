@@ -1,10 +1,10 @@
-/* An engine in C: plays one of two players over UDP on this machine, with the world of walk.h.
+/* An engine in C: it plays one of two players over UDP on this machine, with the world of walk.h.
  *
  *     host ME BASE TICS SEED DEMO
  *
- * Player p is at port BASE + p of 127.0.0.1, as for `netgame play`. The host builds TICS commands, plays
- * until it has run them and the other player has left or is silent, writes its demo to the file DEMO, and
- * prints where the players stand. It builds as fast as the line lets it; an engine builds 35 times a second. */
+ * Player p has port BASE + p of 127.0.0.1, as in `netgame play`. The host builds TICS commands, and plays
+ * until it has run them and the other player has left or is silent. Then it writes its demo to the file DEMO,
+ * and prints where the players end. It builds as fast as the line allows, an engine 35 times a second. */
 #define _POSIX_C_SOURCE 200809L
 #include "walk.h"
 #include "zirmegat.h"
@@ -54,7 +54,7 @@ static void give(engine *e) {
     }
 }
 
-/* At most POLLS datagrams, so that a peer who sends faster than this reads holds up no turn. */
+/* Takes in at most POLLS datagrams, so that a peer who sends faster than this reads holds up no turn. */
 static void hear(engine *e) {
     uint8_t bytes[256];
     struct sockaddr_in at;
@@ -73,7 +73,7 @@ static void hear(engine *e) {
     }
 }
 
-/* Runs what can be run. 0 once the node has ended. */
+/* Runs each tic that can be run. Returns 0 if this ended the node, else 1. */
 static int run(engine *e) {
     for (;;) {
         int16_t marks[4];
@@ -110,7 +110,7 @@ static int play(engine *e) {
     return 1;
 }
 
-/* Tells the other player of the end, and hears what it still asks for. */
+/* Shows the other player where this one's commands end, and receives what it still asks for. */
 static void leave(engine *e) {
     zmg_node_quit(&e->node);
     for (int k = 0; k < FAREWELLS; k++) {
@@ -128,7 +128,7 @@ static int save(engine *e, const char *name) {
     return file && fwrite(bytes, 1, length, file) == length && fclose(file) == 0;
 }
 
-/* The lines that `netgame demo` prints of a world. */
+/* Prints the lines that `netgame demo` prints for the players. */
 static void print_spots(const walk *world) {
     int16_t marks[4];
     walk_marks(world, marks);

@@ -1,6 +1,9 @@
-/* The smallest engine in C: two players in one process, with the world of walk.h: two [TICS]. Each datagram is
- * handed to the other player as it is given. It fails where the worlds or the demos come to differ, and prints
- * where the players stand. */
+/* The smallest engine in C: two players in one process, with the world of walk.h.
+ *
+ *     two [TICS]
+ *
+ * Each datagram is passed to the other player at once. The program fails if the worlds or the demos differ,
+ * and prints where the players end. */
 #include "walk.h"
 #include "zirmegat.h"
 #include <stdio.h>
@@ -12,7 +15,7 @@ typedef struct player {
     uint8_t demo[65536];
 } player;
 
-/* What an engine does 35 times a second. 0 where the worlds differ. */
+/* What an engine does 35 times a second. Returns 0 if the worlds differ, else 1. */
 static int turn(player *p, player *other, uint32_t keys, uint32_t tics) {
     uint8_t bytes[ZMG_PACKET_SIZE], me = (uint8_t)zmg_node_me(&p->node);
     if (zmg_node_made(&p->node) < tics) zmg_node_build(&p->node, keys);
@@ -48,7 +51,7 @@ int main(int argc, char **argv) {
         zmg_node_quit(&players[p].node);
         zmg_node_demo(&players[p].node, 0, players[p].demo, sizeof players[p].demo);
         zmg_node_free(&players[p].node);
-        players[p].demo[8] = 0; /* whose view it is */
+        players[p].demo[8] = 0; /* the view, which is each player's own */
     }
     if (memcmp(&players[0].world, &players[1].world, sizeof(walk)) != 0) return 1;
     if (memcmp(players[0].demo, players[1].demo, length) != 0) return 1;

@@ -1,4 +1,4 @@
-/* A world for the examples: players who walk on a plane. It is the world of `netgame`, written again in C. */
+/* A world for the examples: players who walk on a plane. It is the world of `netgame`, in C. */
 #ifndef WALK_H
 #define WALK_H
 

@@ -1,5 +1,9 @@
-/* Two players in one process, in C++: two [TICS]. Each datagram is handed to the other player as it is given.
- * Fails where the worlds or the demos come to differ, and prints where the players stand. */
+/* The smallest engine in C++: two players in one process.
+ *
+ *     two [TICS]
+ *
+ * Each datagram is passed to the other player at once. The program fails if the worlds or the demos differ,
+ * and prints where the players end. */
 #include "zirmegat.h"
 #include <array>
 #include <cstdio>
@@ -9,7 +13,7 @@
 
 namespace {
 
-/* A node, which gives its memory back. */
+/* A node, which frees its memory when it is destroyed. */
 class Node {
 public:
     explicit Node(const zmg_config &config) {
@@ -24,7 +28,7 @@ private:
     zmg_node node = ZMG_NODE_NONE;
 };
 
-/* A line, along which each player goes. */
+/* Players who move along a line. */
 struct World {
     std::array<std::int32_t, 4> at{};
     void step(const zmg_move *row) {
@@ -92,7 +96,7 @@ int main(int argc, char **argv) {
     key.quit();
     other.quit();
     std::vector<std::uint8_t> one = key.demo(), two = other.demo();
-    one.at(8) = two.at(8) = 0; /* whose view it is */
+    one.at(8) = two.at(8) = 0; /* the view, which is each player's own */
     if (key.world.at != other.world.at || one != two) throw std::runtime_error("the players differ");
     std::printf("%u tics, at %d and %d\n", tics, key.world.at[0], key.world.at[1]);
 }
