@@ -1,5 +1,5 @@
 -- What the step of one node leaves as it is.
-use Rattle.std.proofs.Common.{◌≡◌, ◌≢◌, ◌++◌, ℕ, zero, suc, List, [], ◌∷◌, Option, Some, Ok, map, set, ap, sym, ◌∙◌, refl}
+use Rattle.std.proofs.Common.{◌≡◌, ◌≢◌, ◌++◌, ℕ, zero, suc, List, [], ◌∷◌, Option, Some, Ok, map, set, ap, sym, ◌∙◌, refl, subst}
 use Rattle.std.specs.Prelude.{slice_get, slice_index_or}
 use Rattle.std.proofs.Math.Seq.{map-set_same}
 use Rattle.dn_machine.specs.declared.answers.Ran.{Ran}
@@ -48,12 +48,5 @@ pub sent_after : (old kept new more : List Flight) → new ≡ kept ++ more → 
 sent_after old kept new more joined same = (more, joined ∙ ap (λ (fs : List Flight). fs ++ more) same)
 
 -- a run that moves no world
-pub run_keeps : {W : Type 0} (old new : node.Contents W) (ran : Ran)
-    → ((player : ℕ) → ran ≡ Ran.Waiting player → new ≡ old) → (ran ≡ Ran.NotPlaying → new ≡ old)
-    → MovesNoWorld (Ok (Done.Ran ran)) → new.world ≡ old.world
-run_keeps {W} old new (Ran.Waiting player) waits idle moves =
-    ap (λ (n : node.Contents W). n.world) (waits player refl)
-run_keeps {W} old new Ran.NotPlaying waits idle moves = ap (λ (n : node.Contents W). n.world) (idle refl)
-run_keeps old new (Ran.Ran tic) waits idle moves = absurd moves
-run_keeps old new Ran.DemoFull waits idle moves = absurd moves
-run_keeps old new (Ran.Inconsistent player was should) waits idle moves = absurd moves
+pub run_keeps : (ran : Ran) → MovesNoWorld (Ok (Done.Ran ran)) → (tic : ℕ) → ran ≢ Ran.Ran tic
+run_keeps ran moves tic is = subst (λ (r : Ran). MovesNoWorld (Ok (Done.Ran r))) is moves

@@ -1,14 +1,18 @@
 -- A node that did not start has the world that was given for it.
-use Rattle.std.proofs.Common.{◌≡◌, ◌≢◌, ◌⊎◌, ◌++◌, ℕ, zero, suc, List, [], ◌∷◌, Option, Some, None, Result, length, ap, sym, ◌∙◌, refl, inl, inr}
-use Rattle.std.specs.Prelude.{slice_get}
+use Rattle.std.proofs.Common.{◌≡◌, ◌≢◌, ◌⊎◌, ◌++◌, ◌+◌, ℕ, Bool, zero, suc, List, [], ◌∷◌, Option, Some, None, Result, Ok, Err, length, map, ap, sym, ◌∙◌, refl, inl, inr}
+use Rattle.std.specs.Prelude.{slice_get, count_by, is_ok, is_err}
 use Rattle.std.specs.Option.{option_map}
 use Rattle.std.proofs.lemmas.Bool.{cases_eq}
 use Rattle.std.proofs.lemmas.Option.{none-some, same_Some, slice_get-map}
+use Rattle.std.proofs.lemmas.List.{map-append}
+use Rattle.dn_setup.specs.Settings.{Settings}
+use Rattle.dn_world.specs.Physics.{Physics}
+use Rattle.dn_machine.specs.declared.events.Done.{Done}
 use Rattle.dn_machine.specs.declared.events.Event.{Event}
 use Rattle.dn_machine.specs.declared.events.Event.TheVariants.{Build, Give, Send, Deliver, Run, Quit, Stop}
 use Rattle.dn_machine.specs.declared.events.Refusal.{Refusal}
 use Rattle.dn_machine.specs.Game.{Game}
-use Rattle.dn_machine.specs.Worlds.{Rules}
+use Rattle.dn_machine.specs.Worlds.{Rules, rules_of}
 use Rattle.dn_node.specs.declared.node.Node.{Node}
 use Rattle.dn_node.specs.Contents as node
 use Rattle.dn_seal.specs.declared.seal.Seal.{Seal}
@@ -16,11 +20,14 @@ use Rattle.dn_open.specs.declared.open_event.OpenEvent.{OpenEvent}
 use Rattle.dn_open.specs.declared.open_event.OpenEvent.TheVariants.{Own, Arrive}
 use Rattle.dn_game.specs.declared.flight.Flight.{Flight}
 use Rattle.dn_game.specs.declared.open_done.OpenDone.{OpenDone}
-use Rattle.dn_game.specs.Contents.{Contents}
-use Rattle.dn_game.specs.Frame.{KeepsOthers, KeepsWorlds, MovesNoWorldOpen, named_in, named_in_open, named_by_open}
+use Rattle.dn_game.specs.declared.played.Played.{Played}
+use Rattle.dn_game.specs.Contents.{Contents, contents}
+use Rattle.dn_game.specs.Frame.{KeepsOthers, KeepsWorlds, MovesNoWorld, MovesNoWorldOpen, named_in, named_in_open, named_by_open}
 use Rattle.dn_game.specs.Fresh.{worlds_of}
-use Rattle.dn_game.specs.Given.{NeverMoves}
-use Rattle.dn_game.specs.OpenPlayed.{PlaysOpen}
+use Rattle.dn_game.specs.Given.{KeepsGiven, NeverMoves}
+use Rattle.dn_game.specs.OpenPlayed.{PlaysOpen, own_answer}
+use Rattle.dn_game.specs.Played.{AppliesOne}
+use Rattle.dn_game.proofs.OpenAnswering.{open_played_more, own_leads}
 
 -- this node is named, or it is not
 named_or : (o : Option ℕ) (i : ℕ) → (o ≡ Some i) ⊎ (o ≢ Some i)
@@ -109,3 +116,40 @@ module _ {W : Type 0} (old new : Contents W) (event : OpenEvent) (answer : Resul
       stays_at i (λ is. never (length events) event answer (at_end events event) last_answer (later event is))
       ∙ before i (λ k e a here answered is. never k e a (at_front events (event ∷ []) k e here)
       (at_front answers (answer ∷ []) k a answered) (later e is))
+
+-- the answer to an event of the game, as one to an open event, tells the same of worlds, and counts the same
+own_quiet : (answer : Result Done Refusal) → MovesNoWorldOpen (own_answer answer) → MovesNoWorld answer
+own_quiet (Ok done) quiet = quiet
+own_quiet (Err refusal) quiet = quiet
+
+own_done : (answer : Result Done Refusal) → count_by is_ok (answer ∷ []) ≡ count_by is_ok (own_answer answer ∷ [])
+own_done (Ok done) = refl
+own_done (Err refusal) = refl
+
+own_refused : (answer : Result Done Refusal)
+    → count_by is_err (answer ∷ []) ≡ count_by is_err (own_answer answer ∷ [])
+own_refused (Ok done) = refl
+own_refused (Err refusal) = refl
+
+module _ {W S : Type 0} (state : W → S) (physics : Physics S) (players : ℕ) (extra : Bool) (capacity : ℕ) (seal : Seal)
+    (settings : Settings) (worlds : List W) (played next : Played W) (event : Event) (answer : Result Done Refusal)
+    (one : AppliesOne state physics played next event answer) where
+  -- one event of the game more
+  pub own_given_more : (events : List Event)
+      → KeepsGiven state (rules_of physics players extra capacity) seal settings worlds (map Own events) played
+      → KeepsGiven state (rules_of physics players extra capacity) seal settings worlds
+      (map Own (events ++ event ∷ [])) next
+  own_given_more events before =
+      let rules : Rules S = rules_of physics players extra capacity in
+      let was = before.events_played in
+      rw (map-append Own events (event ∷ [])) (record {
+        events_played = open_played_more state rules seal settings (map Own events) (Own event) (own_answer answer)
+            played next was
+            (own_leads state rules seal was.last (contents played.game) (contents next.game) event answer was.game
+            (one.applied players extra capacity was.last was.game))
+            (one.done ∙ ap (λ (k : ℕ). played.done + k) (own_done answer))
+            (one.refused ∙ ap (λ (k : ℕ). played.refused + k) (own_refused answer));
+        given = given_more (contents played.game) (contents next.game) (Own event) (own_answer answer) one.others
+            (λ quiet. one.worlds (own_quiet answer quiet)) one.more.0 one.more.1 rules seal _ was.last worlds
+            (map Own events) was.answers was.plays before.given;
+      })

@@ -89,7 +89,7 @@ carries_open state physics seal old new event answer is players extra capacity s
     }
 
 -- and so they and an event of the game, or bytes that came, whatever was answered
-own_leads : {W S : Type 0} (state : W → S) (rules : Rules S) (seal : Seal) (m : Game) (old new : Contents W)
+pub own_leads : {W S : Type 0} (state : W → S) (rules : Rules S) (seal : Seal) (m : Game) (old new : Contents W)
     (own : Event) (answer : Result Done Refusal) → Represents state rules old m
     → IsApplied state rules old new m own answer
     → IsAppliedOpen state rules seal m (Own own) (own_answer answer) new

@@ -43,7 +43,8 @@ pub record Opening (seal : Seal) (node : ℕ) (bytes : List ℕ) : Type 0 where
   pub told : Result Settings SetupFault
   pub is : IsOpened seal node bytes opened read told
 
--- whatever they are opened and read as, the game represents what the machine makes of it, and this is the answer
+-- whatever they are opened and read as, the game represents what the machine makes of it, and this is the
+-- answer
 abbrev pub IsArrived : {W S : Type 0} → (W → S) → Rules S → Seal → machine.Game → ℕ → List ℕ → Contents W
     → Result Arrived Refusal → Type 0
 IsArrived state rules seal m node bytes new answer =

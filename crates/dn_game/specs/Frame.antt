@@ -44,12 +44,10 @@ KeepsOthers named old new = (i : ℕ) → named ≢ Some i → slice_get new.nod
 abbrev pub KeepsWorlds : {W : Type 0} → Contents W → Contents W → Type 0
 KeepsWorlds old new = worlds_of new.nodes ≡ worlds_of old.nodes
 
--- an answer that tells of no node that began its world, and of none that may have taken it a tic further
+-- an answer that tells of no node that began its world, and of none that took it a tic further
 abbrev pub MovesNoWorld : Result Done Refusal → Type 0
 MovesNoWorld (Ok (Done.Heard heard)) = heard ≢ Heard.Started
-MovesNoWorld (Ok (Done.Ran (Ran.Waiting player))) = Unit {0}
-MovesNoWorld (Ok (Done.Ran Ran.NotPlaying)) = Unit {0}
-MovesNoWorld (Ok (Done.Ran ran)) = ⊥
+MovesNoWorld (Ok (Done.Ran (Ran.Ran tic))) = ⊥
 MovesNoWorld answer = Unit {0}
 
 abbrev pub MovesNoWorldOpen : Result OpenDone Refusal → Type 0

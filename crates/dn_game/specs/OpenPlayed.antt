@@ -69,8 +69,8 @@ abbrev pub arrival_answer : Result Arrived Refusal → Result OpenDone Refusal
 arrival_answer (Ok arrived) = Ok (OpenDone.Arrived arrived)
 arrival_answer (Err refusal) = Err refusal
 
--- what is refused, and bytes that the node does not hear, change nothing, and no node holds anything else after a
--- datagram that came and is dropped
+-- what is refused, and bytes that the node does not hear, change nothing, and no node holds anything else after
+-- a datagram that came and is dropped
 abbrev pub SparesOpen : {W : Type 0} → Contents W → Contents W → Result OpenDone Refusal → Type 0
 SparesOpen old new (Ok (OpenDone.Own done)) = Unit {0}
 SparesOpen old new (Ok (OpenDone.Arrived arrived)) = SparesArrived old new (Ok arrived)

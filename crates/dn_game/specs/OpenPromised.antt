@@ -25,9 +25,10 @@ abbrev pub sent_by : Result OpenDone Refusal → ℕ
 sent_by (Ok (OpenDone.Own (Done.Sent which))) = 1
 sent_by _ = 0
 
--- The one thing that is asked of the network, and of whoever has it in hand: what a node opens was sealed in this
--- game before. The packets are those of the whole game, in order of sending, of which so many were sent before
--- these events. Of bytes that are refused, since they come to no node, or to one that has stopped, nothing is asked.
+-- The one thing that is asked of the network, and of whoever has it in hand: what a node opens was sealed in
+-- this game before. The packets are those of the whole game, in order of sending, of which so many were sent
+-- before these events. Of bytes that are refused, since they come to no node, or to one that has stopped,
+-- nothing is asked.
 abbrev pub AreGenuine : Seal → List Flight → ℕ → List OpenEvent → List (Result OpenDone Refusal) → Type 0
 AreGenuine seal packets sent (Own event ∷ events) (answer ∷ answers) =
     AreGenuine seal packets (sent + sent_by answer) events answers
@@ -48,17 +49,17 @@ open_inputs_made (event ∷ events) (answer ∷ answers) player =
     open_inputs_by event answer player ++ open_inputs_made events answers player
 open_inputs_made _ _ player = []
 
--- these events of a game stand for an open one, by its answer, where these packets were sent before it: an event of
--- the game for itself; for bytes that were heard, the delivery of the packet whose envelope they are; and for any
--- other bytes none
+-- these events of a game stand for an open one, by its answer, where these packets were sent before it: an
+-- event of the game for itself; for bytes that were heard, the delivery of the packet whose envelope they are;
+-- and for any other bytes none
 abbrev pub StandsFor : Seal → List Flight → List Event → OpenEvent → Result OpenDone Refusal → Type 0
 StandsFor seal packets plain (Own event) answer = plain ≡ event ∷ []
 StandsFor seal packets plain (Arrive node bytes) (Ok (OpenDone.Arrived (Arrived.Heard heard))) =
     (which : ℕ) × (plain ≡ Deliver which ∷ []) × IsEnvelope seal packets node bytes.now which
 StandsFor seal packets plain (Arrive node bytes) _ = plain ≡ []
 
--- and these for a list of open ones, in their order; the packets are those of the whole game, of which so many were
--- sent before these events
+-- and these for a list of open ones, in their order; the packets are those of the whole game, of which so many
+-- were sent before these events
 abbrev pub StandFor : Seal → List Flight → ℕ → List Event → List OpenEvent → List (Result OpenDone Refusal)
     → Type 0
 StandFor seal packets sent plain (event ∷ events) (answer ∷ answers) =
@@ -66,8 +67,8 @@ StandFor seal packets sent plain (event ∷ events) (answer ∷ answers) =
     × StandFor seal packets (sent + sent_by answer) rest events answers
 StandFor seal packets sent plain _ _ = plain ≡ []
 
--- the answer to the event of a game that stands for an open one, if there is one: an event of the game has its own
--- answer, and the delivery of a packet what the node made of its envelope
+-- the answer to the event of a game that stands for an open one, if there is one: an event of the game has its
+-- own answer, and the delivery of a packet what the node made of its envelope
 abbrev pub plain_answer : OpenEvent → Result OpenDone Refusal → List (Result Done Refusal)
 plain_answer (Own event) (Ok (OpenDone.Own done)) = Ok done ∷ []
 plain_answer (Own event) (Err refusal) = Err refusal ∷ []
@@ -85,9 +86,9 @@ IsSteadyOpen (Ok (OpenDone.Own done)) = IsSteady (Ok done)
 IsSteadyOpen (Ok (OpenDone.Arrived (Arrived.Heard heard))) = IsSteady (Ok (Done.Heard heard))
 IsSteadyOpen _ = Unit {0}
 
--- Events of a game stand for the open ones. They lead to the same game of the machine, with the same answers, and
--- what is promised of a game after a list of events is promised of this one. The builds that made a command took
--- the same inputs, and no answer to an open event told of a failed check.
+-- Events of a game stand for the open ones. They lead to the same game of the machine, with the same answers,
+-- and what is promised of a game after a list of events is promised of this one. The builds that made a command
+-- took the same inputs, and no answer to an open event told of a failed check.
 pub record IsPromisedOpen {W S : Type 0} (state : W → S) (rules : Rules S) (seal : Seal) (settings : Settings)
     (events : List OpenEvent) (answers : List (Result OpenDone Refusal)) (last : machine.Game)
     (g : Contents W) : Type 0 where
@@ -98,8 +99,8 @@ pub record IsPromisedOpen {W S : Type 0} (state : W → S) (rules : Rules S) (se
   pub answered : All IsSteadyOpen answers
   pub promised : IsPromised state rules settings plain (plain_answers events answers) last g
 
--- the open events were played; and if what the nodes opened was sealed in this game before, the game that is left is
--- promised
+-- the open events were played; and if what the nodes opened was sealed in this game before, the game that is
+-- left is promised
 pub record HasPlayedOpen {W S : Type 0} (state : W → S) (rules : Rules S) (seal : Seal) (settings : Settings)
     (events : List OpenEvent) (played : Played W) : Type 0 where
   pub events_played : IsPlayedOpen state rules seal settings events played

@@ -50,8 +50,8 @@ pub fn reached_games_agree<W: World>()
         event).1 }
 {}
 
-/// Whatever open events led to a game, one by one, with these answers: if what the nodes opened was sealed in that game
-/// before, all that `play_open` promises holds of it.
+/// Whatever open events led to a game, one by one, with these answers: if what the nodes opened was sealed in
+/// that game before, all that `play_open` promises holds of it.
 pub fn reached_open_games_agree<W: World>()
     ensures { (players : ℕ) (extra : Bool) (capacity : ℕ) (seal : Seal) (settings : Settings)
         (events : List OpenEvent) (answers : List (Result OpenDone Refusal)) (g : Contents W)

@@ -28,14 +28,14 @@ pub fn play_open<W: World>(
     events: &[OpenEvent],
 ) -> Result<Played<W>, GameFault>
     ensures admitted { IsAdmitted config (length worlds.items) result }
-    // Each event is applied as the machine applies it, but for sends that are left out since memory was refused,
-    // and each is counted by its answer. Bytes that are not heard count as applied. If what each node opened was
-    // the envelope of a packet that was sent before, all that `play` promises is promised of the game that is
-    // left.
+    // Each event is applied as the machine applies it, but for sends that are left out since memory was
+    // refused, and each is counted by its answer. Bytes that are not heard count as applied. If what each node
+    // opened was the envelope of a packet that was sent before, all that `play` promises is promised of the
+    // game that is left.
     ensures promised { IfOk result (λ played. HasPlayedOpen W.state
         (rules_in W.physics config (length worlds.items)) seal config.settings events.now played) }
-    // A node has the world that was given for it, unless an answer to an event that names it tells that it started,
-    // or that it may have run.
+    // A node has the world that was given for it, unless an answer to an event that names it tells that it
+    // started or ran.
     ensures given { IfOk result (λ played. KeepsGiven W.state
         (rules_in W.physics config (length worlds.items)) seal config.settings worlds.items events.now played) }
     // There is memory for no more than twice the packets that were sent, and one.

@@ -1,6 +1,9 @@
 //! Playing a list of events: what the whole project promises.
 
-ghost use Rattle.std.specs.Prelude.{length, IfOk};
+ghost use Rattle.std.specs.Prelude.{length, map, IfOk};
+ghost use Rattle.dn_seal.specs.declared.seal.Seal.{Seal as AnySeal};
+ghost use Rattle.dn_open.specs.declared.open_event.OpenEvent.TheVariants.{Own};
+ghost use Rattle.dn_game.specs.Given.{KeepsGiven};
 ghost use Rattle.dn_game.specs.Observed.{IsPlayedObserved};
 ghost use Rattle.dn_game.specs.Opening.{IsAdmitted, rules_in};
 ghost use Rattle.dn_game.specs.Promised.{HasPlayed};
@@ -29,6 +32,11 @@ pub fn play<W: World>(
     // failed, and of any two demos one's commands are a prefix of the other's.
     ensures promised { IfOk result (λ played. HasPlayed W.state
         (rules_in W.physics config (length worlds.items)) config.settings events.now played) }
+    // A node has the world that was given for it, unless an answer to an event that names it tells that it
+    // started or ran. This is said as `play_open` says it, with any seal, of events of the game alone.
+    ensures given { IfOk result (λ played. (seal : AnySeal) → KeepsGiven W.state
+        (rules_in W.physics config (length worlds.items)) seal config.settings worlds.items (map Own events.now)
+        played) }
 {
     play_observed(alloc, config, worlds, events, &mut Nobody)
 }
@@ -47,6 +55,9 @@ pub fn play_observed<W: World, L: Observer>(
     ensures promised { IfOk result (λ played. IsPlayedObserved W.state
         (rules_in W.physics config (length worlds.items)) L.observes config.settings events.now observer.old
         observer.new played) }
+    ensures given { IfOk result (λ played. (seal : AnySeal) → KeepsGiven W.state
+        (rules_in W.physics config (length worlds.items)) seal config.settings worlds.items (map Own events.now)
+        played) }
 {
     let game = Game::new(alloc, config, worlds)?;
     let mut played = Played {

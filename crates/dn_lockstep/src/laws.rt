@@ -115,9 +115,9 @@ pub fn one_game_goes_on()
         → AreOneGame marking limits settings (with_lockstep session player new) }
 {}
 
-/// The locksteps of one game agree in what they tell of themselves. The rows that each caller was told are
+/// The locksteps of one game agree in what their readers return. The rows that were returned to each caller are
 /// those of the inputs that the players' builds took, one for each tic that the lockstep ran, and a command
-/// that one tells is the one that its player's inputs make, with its mark. The machine's game that they
+/// that one returns is the one that its player's inputs make, with its mark. The machine's game that they
 /// represent agrees, fits and is steady.
 pub fn locksteps_agree()
     ensures agreed { (marking : Marking) (limits : Limits) (settings : Settings) (session : Session)

@@ -2,8 +2,8 @@
 //! them whole, gives and takes datagrams, says when a tic is run and by which moves, checks the marks of the
 //! engine's world, and records a demo. Each call is a step of the machine of `dn_machine`.
 //!
-//! The engine begins its world when `receive` answers `Started`, with `settings()`'s start and the seats of
-//! `present()`. It hands each player's mark in that world to `run`, and where a row is told, it steps the
+//! The engine begins its world when `receive` returns `Started`, with `settings()`'s start and the seats of
+//! `present()`. It hands each player's mark in that world to `run`, and if a row is returned, it steps the
 //! world by the row.
 #![tactic(auto)]
 

@@ -24,7 +24,7 @@ use Rattle.dn_lockstep.proofs.Nearby.{told_by, told_is, near_received}
 use Rattle.dn_seal.specs.declared.opened.Opened.{Opened}
 use Rattle.dn_seal.specs.declared.opened.SealFault.{SealFault}
 use Rattle.dn_seal.specs.declared.seal.Seal.{Seal}
-use Rattle.dn_open.specs.OpenGames.{IsEnvelope, IsGenuine, answer_if, arrived_if}
+use Rattle.dn_open.specs.OpenGames.{IsEnvelope, IsGenuine, IsUnheard, answer_if, arrived_if}
 use Rattle.dn_open.specs.Arrivals.{IsRead, is_alike}
 use Rattle.dn_open.specs.declared.arrived.Arrived.{Arrived}
 use Rattle.dn_open.proofs.Alikes.{alike}
@@ -85,10 +85,6 @@ near_if made flight close = go flight.kind
     go (SetUp settings) = refl
     go Play = close
     go Exit = close
-
--- an answer to bytes that were not heard
-abbrev pub IsUnheard : Result Arrived Refusal → Type 0
-IsUnheard answer = (heard : Heard) → answer ≢ Ok (Arrived.Heard heard)
 
 -- bytes are heard as the packet whose envelope they are
 pub record IsDelivery {S : Type 0} (rules : Rules S) (seal : Seal) (game : Game) (node : ℕ) (bytes : List ℕ)

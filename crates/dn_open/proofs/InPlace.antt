@@ -1,5 +1,5 @@
 -- Events of a game stand for open ones.
-use Rattle.std.proofs.Common.{ℕ, List, [], ◌∷◌, ◌++◌, refl, subst, inl, inr}
+use Rattle.std.proofs.Common.{ℕ, List, [], ◌∷◌, ◌++◌, refl, subst, sym, inl, inr}
 use Rattle.std.specs.Prelude.{FitsSigned}
 use Rattle.std.specs.Int.{w16}
 use Rattle.dn_setup.specs.Settings.{Settings}
@@ -46,7 +46,7 @@ module _ {S : Type 0} (rules : Rules S) (seal : Seal) (settings : Settings)
         | inl (same, unheard) ↦
             let on = stand events before game last run inputs
             (subst (λ (g : Game). LeadsOpen rules seal g events last) same rest) in
-            (on.0, inl on.1, on.2)
+            (on.0, inl (_, (step.0, step.1, step.2, step.3, step.4, refl), unheard, on.1), on.2)
         | inr delivery ↦
             let event : Event = Deliver delivery.which in
             let taken : Next rules game event next = inl delivery.leads in
@@ -54,7 +54,18 @@ module _ {S : Type 0} (rules : Rules S) (seal : Seal) (settings : Settings)
             (goes_on rules settings before event (opening_game settings) game next run taken)
             (inputs_next rules game next event tt inputs taken) rest in (
               event ∷ on.0,
-              inr (delivery.which, on.0, next, refl, delivery.envelope, taken, on.1),
+              inr (
+                delivery.heard,
+                (step.0, step.1, step.2, step.3, step.4, sym delivery.answered),
+                delivery.which,
+                on.0,
+                next,
+                refl,
+                delivery.envelope,
+                taken,
+                delivery.delivered,
+                on.1,
+              ),
               (next, taken, on.2),
             )
       ]

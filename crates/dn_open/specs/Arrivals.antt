@@ -39,8 +39,8 @@ asks_alike datagram ask =
     slice_index datagram 4 == request_byte ask
     && (if is_some ask then flag_in datagram flag.retransmit else not (flag_in datagram flag.retransmit))
 
--- a datagram tells the same sender as its envelope, the same start, by the low byte, and the same request; one of
--- set-up tells none of these
+-- a datagram tells the same sender as its envelope, the same start, by the low byte, and the same request; one
+-- of set-up tells none of these
 abbrev pub is_alike : Opened → Bool
 is_alike opened =
     flag_in opened.datagram.items flag.set_up
@@ -54,8 +54,8 @@ abbrev pub on_close : Limits → ℕ → Node → Opened → Result Packet Packe
 on_close limits me m opened read told =
     if is_alike opened then heard (received limits me m opened.from told read) else (m, Arrived.Unlike)
 
--- what was opened so, and is read so, and tells these settings if it is a set-up packet: what is no envelope
--- is dropped, and what tells a tic that is more than 64 away, or is not like its envelope; any other datagram is
+-- what was opened so, and is read so, and tells these settings if it is a set-up packet: what is no envelope is
+-- dropped, and what tells a tic that is more than 64 away, or is not like its envelope; any other datagram is
 -- heard as its sender's
 abbrev pub on_opened : Limits → ℕ → Node → Result Opened SealFault → Result Packet PacketFault
     → Result Settings SetupFault → Node × Arrived

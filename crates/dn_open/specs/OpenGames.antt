@@ -1,16 +1,18 @@
 -- A game on an open network: any bytes come to any node at any time.
-use Rattle.std.specs.Prelude.{◌≡◌, ◌⊎◌, ℕ, pos, List, [], ◌∷◌, slice_get, Option, Some, None, Result, Ok, Err}
+use Rattle.std.specs.Prelude.{◌≡◌, ◌≢◌, ◌⊎◌, ℕ, pos, List, [], ◌∷◌, slice_get, Option, Some, None, Result, Ok, Err}
 use Rattle.dn_tic.specs.Command.{IsCommand}
 use Rattle.dn_tic.specs.Inputs.{given}
 use Rattle.dn_packet.specs.declared.packet.Packet.{Packet}
 use Rattle.dn_packet.specs.declared.packet.PacketFault.{PacketFault}
 use Rattle.dn_setup.specs.Settings.{Settings}
 use Rattle.dn_setup.specs.declared.setup.SetupFault.{SetupFault}
+use Rattle.dn_machine.specs.declared.answers.Heard.{Heard}
+use Rattle.dn_machine.specs.declared.events.Done.{Done}
 use Rattle.dn_machine.specs.declared.events.Event.{Event}
 use Rattle.dn_machine.specs.declared.events.Event.TheVariants.{Give, Deliver}
 use Rattle.dn_machine.specs.declared.events.Refusal.{Refusal}
 use Rattle.dn_machine.specs.Flight.{Flight}
-use Rattle.dn_machine.specs.Game.{Game, opening_game, refused_at, with_node}
+use Rattle.dn_machine.specs.Game.{Game, applied, opening_game, refused_at, with_node}
 use Rattle.dn_machine.specs.Runs.{Next}
 use Rattle.dn_machine.specs.Worlds.{Rules}
 use Rattle.dn_seal.specs.declared.opened.Opened.{Opened}
@@ -81,15 +83,30 @@ pub record IsEnvelope (seal : Seal) (flights : List Flight) (node : ℕ) (bytes 
   pub receiver : flight.to ≡ node
   pub same : bytes ≡ envelope_of seal flight
 
--- events of a game lead from a game to another in place of open ones: the same events, but for each arrival the
--- delivery of the packet whose envelope came, one of those that were sent before, or nothing
+-- the answer to bytes that come to a node: they are opened so, and the datagram in them is read so
+abbrev pub IsAnswer : {S : Type 0} → Rules S → Seal → Game → ℕ → List ℕ → Result Arrived Refusal → Type 0
+IsAnswer rules seal game node bytes answer =
+    (opened : Result Opened SealFault) × (read : Result Packet PacketFault)
+    × (told : Result Settings SetupFault) × IsOpenedAs (sealing_of seal node) bytes opened
+    × IsRead opened read told
+    × (answer ≡ answer_if rules game node opened read told (refused_at rules.players game node))
+
+-- an answer to bytes that were not heard
+abbrev pub IsUnheard : Result Arrived Refusal → Type 0
+IsUnheard answer = (heard : Heard) → answer ≢ Ok (Arrived.Heard heard)
+
+-- events of a game lead from a game to another in place of open ones: the same events, but for bytes that are
+-- heard the delivery of the packet whose envelope they are, one of those that were sent before, with the same
+-- answer; and for any other bytes nothing
 abbrev pub StandFor : {S : Type 0} → Rules S → Seal → Game → List Event → List OpenEvent → Game → Type 0
 StandFor rules seal game plain [] last = (plain ≡ []) × (last ≡ game)
 StandFor rules seal game plain (Own event ∷ events) last =
     (rest : List Event) × (next : Game) × (plain ≡ event ∷ rest) × Next rules game event next
     × StandFor rules seal next rest events last
 StandFor rules seal game plain (Arrive node bytes ∷ events) last =
-    StandFor rules seal game plain events last
-    ⊎ ((which : ℕ) × (rest : List Event) × (next : Game) × (plain ≡ Deliver which ∷ rest)
+    ((answer : Result Arrived Refusal) × IsAnswer rules seal game node bytes.now answer × IsUnheard answer
+    × StandFor rules seal game plain events last)
+    ⊎ ((heard : Heard) × IsAnswer rules seal game node bytes.now (Ok (Arrived.Heard heard))
+    × (which : ℕ) × (rest : List Event) × (next : Game) × (plain ≡ Deliver which ∷ rest)
     × IsEnvelope seal game.flights node bytes.now which × Next rules game (Deliver which) next
-    × StandFor rules seal next rest events last)
+    × ((applied rules game (Deliver which)).1 ≡ Ok (Done.Heard heard)) × StandFor rules seal next rest events last)

@@ -44,8 +44,8 @@ WasSealed seal flights bytes =
     (which : ℕ) × (flight : Flight) × (slice_get flights which ≡ Some flight)
     × (bytes ≡ envelope_of seal flight)
 
--- what a caller has of the packet that a sealed lockstep gave it, if there is one: who it is from and goes to, and
--- its envelope
+-- what a caller has of the packet that a sealed lockstep gave it, if there is one: who it is from and goes to,
+-- and its envelope
 pub record IsSealedAs (seal : Seal) (sender receiver : ℕ) (given : Option (List ℕ)) (flight : Option Flight)
     : Type 0 where
   pub players : IfSome flight (λ flight. (flight.from ≡ sender) × (flight.to ≡ receiver))

@@ -1,4 +1,4 @@
-//! Whether a datagram tells what its envelope does.
+//! Whether a datagram agrees with its envelope.
 
 ghost use Rattle.std.specs.Prelude.{◌≡◌, slice_index};
 ghost use Rattle.dn_machine.specs.Flight.{request_byte};
@@ -34,7 +34,8 @@ fn request_byte(ask: Option<u32>) -> u32
     }
 }
 
-/// Whether a datagram asks for commands again as its envelope does: from the same tic, by the low byte, or not at all.
+/// Whether a datagram asks for commands again as its envelope does: from the same tic, by the low byte, or not
+/// at all.
 fn asks_alike(bytes: &[u8], ask: Option<u32>) -> bool
     ensures { result ≡ asks_alike bytes.now ask }
 {
@@ -42,8 +43,9 @@ fn asks_alike(bytes: &[u8], ask: Option<u32>) -> bool
         && has_flag(bytes, RETRANSMIT) == ask.is_some()
 }
 
-/// Whether a datagram tells the same sender as its envelope, the same start, by the low byte, and the same request.
-/// Of an honest sender each does; this finds who seals what they did not build.
+/// Whether a datagram, unless it is set-up, has the sender of its envelope, the low byte of its start, and the
+/// low byte of its request, or none. That of an honest sender does; this finds one who seals what no lockstep
+/// made.
 pub fn is_alike(opened: &Opened) -> bool
     ensures { result ≡ is_alike opened.now }
 {

@@ -1,4 +1,4 @@
-//! What is answered to any bytes.
+//! What became of bytes that came in.
 
 use dn_lockstep::Heard;
 use dn_seal::SealFault;
@@ -6,14 +6,14 @@ use dn_seal::SealFault;
 /// What a node makes of bytes that came in.
 #[derive(Clone, Copy, Debug, PartialEq, Eq)]
 pub enum Arrived {
-    /// They are no envelope to it, for this fault, and changed nothing.
+    /// They are not an envelope to it, for this fault, and changed nothing.
     Unopened(SealFault),
     /// The packet's first tic, or the tic that it asks for, is more than 64 from the number of commands that
     /// the node has made, and the packet changed nothing.
     Late,
-    /// The datagram tells another sender than its envelope, another start or another request, by the low byte, or a
-    /// request where that has none, or none where it has one, and changed nothing.
+    /// The datagram contradicts its envelope, and changed nothing: it has another sender, another low byte of
+    /// the start or of the request, or a request if the envelope has none, or the other way round.
     Unlike,
-    /// The node's answer to the datagram in the envelope.
+    /// What the node made of the datagram in the envelope.
     Heard(Heard),
 }

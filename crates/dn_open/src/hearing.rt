@@ -8,11 +8,11 @@ use crate::arrived::Arrived;
 use dn_lockstep::{Lockstep, are_tics_near};
 use dn_seal::Opened;
 
-/// Hears what was opened as an envelope to this player: the second half of `SealedLockstep::receive`, for a transport
-/// that carries the contents of envelopes under a tag of its own. What tells a tic that is more than 64 from the number
-/// of commands that the lockstep has made is dropped, and so is a datagram that tells other than its envelope; neither
-/// changes anything. Any other is heard as its sender's. Whoever calls it has made sure that a player of this game has
-/// sealed the contents to this one.
+/// Receives what was opened as an envelope to this player: the second half of `SealedLockstep::receive`, for a
+/// transport that carries the contents of envelopes under a tag of its own. An envelope with a tic that is more
+/// than 64 from the number of commands that the lockstep has made is dropped, and so is a datagram that
+/// contradicts its envelope; neither changes anything. Any other is received as its sender's. The caller has
+/// made sure that a player of this game sealed the contents to this one.
 pub fn hear(lockstep: &mut Lockstep, opened: &Opened) -> Arrived
     ensures step { HearsOpened opened.now (contents lockstep.old) (contents lockstep.new) result }
     ensures dropped { SparesSealed (contents lockstep.old) (contents lockstep.new) result }

@@ -33,9 +33,10 @@ use dn_world::World;
 
 /// Whatever the network does - lose, repeat, reorder, delay, alter, forge, misattribute - a game in which any
 /// bytes come to any node at any time is a game that is led to by events of its own, with the delivery of the
-/// packet whose envelope came in place of an arrival, or nothing: so the nodes agree, no ring overwrites a command
-/// that is still needed, and no check fails. The one premise on the network, within `RunsOpen`, is that what a node
-/// opens was sealed in this game before; and each command that a caller gives has the ranges of its type.
+/// packet whose envelope came in place of bytes that are heard, and nothing in place of others: so the nodes
+/// agree, no ring overwrites a command that is still needed, and no check fails. The one premise on the
+/// network, within `RunsOpen`, is that what a node opens was sealed in this game before; and each command that
+/// a caller gives has the ranges of its type.
 pub fn open_games_agree<W: World>()
     ensures stand { (players : ℕ) (extra : Bool) (capacity : ℕ) (seal : Seal) (settings : Settings)
         (events : List OpenEvent) (game : Game)
@@ -88,8 +89,8 @@ pub fn open_windows_agree<W: World>()
     settings_found_again();
 }
 
-/// What `SealedLockstep::receive` does to one of the locksteps of one game leaves them those of one game, whatever
-/// the bytes are and wherever they came from, as long as what it opens was sealed in that game before.
+/// What `SealedLockstep::receive` does to one of the locksteps of one game leaves them those of one game,
+/// whatever the bytes are and wherever they came from, as long as what it opens was sealed in that game before.
 pub fn arrivals_keep_one_game()
     ensures { (marking : Marking) (limits : Limits) (settings : Settings) (session : Session) (seal : Seal)
         (player : ℕ) (bytes : List ℕ) (new : Contents) (answer : Arrived)
@@ -114,8 +115,8 @@ pub fn letters_keep_one_game()
     settings_found_again();
 }
 
-/// And so does what `SealedLockstep::packet` does: what it gives is the envelope of a packet from this player to
-/// that peer, which was sealed in that game. Where it gives nothing there is no such packet.
+/// And so does what `SealedLockstep::packet` does: what it gives is the envelope of a packet from this player
+/// to that peer, which was sealed in that game. Where it gives nothing there is no such packet.
 pub fn sends_keep_one_game()
     ensures { (marking : Marking) (limits : Limits) (settings : Settings) (session : Session) (seal : Seal)
         (player to : ℕ) (new : Contents) (sent : Option (ArrayVec ℕ))
@@ -138,8 +139,8 @@ pub fn sealed_packets_are_genuine()
         → WasSealed seal given bytes → IsGenuine seal given player bytes }
 {}
 
-/// The envelope of a packet that one of the locksteps gave is heard as that packet, if its tics lie within 64 of the
-/// number of commands that its receiver has made.
+/// The envelope of a packet that one of the locksteps gave is heard as that packet, if its tics lie within 64
+/// of the number of commands that its receiver has made.
 pub fn sealed_packets_are_heard()
     ensures { (marking : Marking) (limits : Limits) (settings : Settings) (session : Session) (seal : Seal)
         (which : ℕ) (flight : Flight) (new : Contents) (answer : Arrived)

@@ -1,6 +1,6 @@
 //! A lockstep on an open network.
 
-ghost use Rattle.std.specs.Prelude.{◌≡◌, ℕ, ◌+◌, false, None, Some, IfOk, IfSome, is_some};
+ghost use Rattle.std.specs.Prelude.{◌≡◌, ◌≢◌, ℕ, ◌+◌, false, None, Some, IfOk, IfSome, is_some};
 ghost use Rattle.dn_tic.specs.declared.input.Input.TheVariants.{Pressed, Given};
 ghost use Rattle.dn_machine.specs.declared.answers.Made.TheVariants as made;
 ghost use Rattle.dn_machine.specs.declared.answers.Ran.TheVariants as ran;
@@ -85,7 +85,7 @@ impl SealedLockstep {
         SealedLockstep { lockstep, sealer }
     }
 
-    /// The lockstep, to read what it tells of itself.
+    /// The lockstep, for its readers.
     pub fn lockstep(&self) -> &Lockstep
         ensures { contents result.now ≡ locked self.now }
     {
@@ -136,6 +136,7 @@ impl SealedLockstep {
         ensures waits { (player : ℕ) → result.0 ≡ ran.Waiting player
             → (locked self.new ≡ locked self.old) × (result.1 ≡ None) }
         ensures idle { result.0 ≡ ran.NotPlaying → (locked self.new ≡ locked self.old) × (result.1 ≡ None) }
+        ensures untold { ((tic : ℕ) → result.0 ≢ ran.Ran tic) → result.1 ≡ None }
         ensures seal { seal_of self.new ≡ seal_of self.old }
     {
         self.lockstep.run(marks)
@@ -179,9 +180,10 @@ impl SealedLockstep {
         Some(self.sealer.seal(to, aim.start, aim.ask, &room[..size]))
     }
 
-    /// Hears any bytes, wherever they come from. What is no envelope to this player in this game is dropped, and
-    /// so is what tells a tic that is more than 64 from the number of commands that the lockstep has made, and a
-    /// datagram that tells other than its envelope; none of them changes anything. Any other is heard as its sender's.
+    /// Receives any bytes, wherever they come from. These are dropped, and change nothing: what is no envelope
+    /// to this player in this game; an envelope with a tic that is more than 64 from the number of commands
+    /// that the lockstep has made; and a datagram that contradicts its envelope. Any other is received as its
+    /// sender's.
     pub fn receive(&mut self, bytes: &[u8]) -> Arrived
         ensures step { HearsSealed (seal_of self.old) bytes.now (locked self.old) (locked self.new) result }
         ensures dropped { SparesSealed (locked self.old) (locked self.new) result }

@@ -1,6 +1,6 @@
 //! What an event does to a game.
 
-ghost use Rattle.std.specs.Prelude.{◌≡◌, ◌≢◌, ◌<◌, ◌⊎◌, false, Some, None, Ok, Err, length, nat_lt, slice_get, OnErr};
+ghost use Rattle.std.specs.Prelude.{◌≡◌, ◌≢◌, ◌<◌, ◌⊎◌, false, true, Some, None, Ok, Err, length, nat_lt, slice_get, OnErr};
 ghost use Rattle.dn_machine.specs.declared.answers.Heard.TheVariants.{Started};
 ghost use Rattle.dn_machine.specs.declared.events.Event.TheVariants.{Send, Deliver};
 ghost use Rattle.dn_machine.specs.declared.events.Done.{Done};
@@ -143,9 +143,9 @@ impl<W: World> Game<W> {
         ensures applied { Tells W.state W.physics (contents self.old)
             (λ rules m. IsApplied W.state rules (contents self.old) (contents self.new) m event result) }
         ensures unchanged { OnErr result (contents self.new ≡ contents self.old) }
-        // `Memory` is answered only where there is no room for one more packet; that more was asked for is
-        // tested.
-        ensures memory { result ≡ Err Refusal.Memory → IsFull self.new }
+        // `Memory` is answered only to a send, and where there is no room for one more packet; that more was
+        // asked for is tested.
+        ensures memory { result ≡ Err Refusal.Memory → (is_send event ≡ true) × IsFull self.new }
         // Whatever events led to the game: they and this one lead to what it is afterwards.
         ensures carried { IsCarriedOn W.state W.physics (contents self.old) (contents self.new) event result }
         // Memory is taken by a send alone, for one more packet or for as many again as there are. The demos'
@@ -156,8 +156,8 @@ impl<W: World> Game<W> {
         // And whatever open events led to the game, in whichever game of sealed nodes.
         ensures carried_open { (seal : AnySeal) → IsCarriedOnOpen W.state W.physics seal (contents self.old)
             (contents self.new) (Own event) (own_answer result) }
-        // Each node but the one that the event names is as it was, and each has the world that it had, but for a
-        // node that starts, runs a tic, or ends as it runs one.
+        // Each node but the one that the event names is as it was, and each has the world that it had, but for
+        // a node that starts or runs a tic.
         ensures others { KeepsOthers (named_by (contents self.old) event) (contents self.old)
             (contents self.new) }
         ensures worlds { MovesNoWorld result → KeepsWorlds (contents self.old) (contents self.new) }

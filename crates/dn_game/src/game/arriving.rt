@@ -1,6 +1,6 @@
 //! Any bytes come to a node of a game.
 
-ghost use Rattle.std.specs.Prelude.{◌≡◌, ◌≢◌, false, Some, Ok, Err, OnErr, slice_get};
+ghost use Rattle.std.specs.Prelude.{◌≡◌, ◌≢◌, false, true, Some, Ok, Err, OnErr, slice_get};
 ghost use Rattle.std.specs.Option.{option_map};
 ghost use Rattle.dn_game.specs.Arrived.{Opening, IsArrived, SparesArrived};
 ghost use Rattle.dn_machine.specs.declared.answers.Heard.TheVariants.{Started};
@@ -52,9 +52,9 @@ impl<W: World> Game<W> {
         ))
     }
 
-    /// Any bytes, wherever they come from, come to a node of the game with this seal. What is no envelope to it is
-    /// dropped, and so is what tells a tic that is more than 64 from the number of commands that the node has made,
-    /// and a datagram that tells other than its envelope. Any other is heard as its sender's.
+    /// Any bytes, wherever they come from, come to a node of the game with this seal. What is no envelope to it
+    /// is dropped, and so are an envelope with a tic that is more than 64 from the number of commands that the
+    /// node has made, and a datagram that contradicts its envelope. Any other is received as its sender's.
     pub fn arrive(&mut self, seal: Seal, node: u32, bytes: &[u8]) -> Result<Arrived, Refusal>
         ensures arrived { Tells W.state W.physics (contents self.old)
             (λ rules m. IsArrived W.state rules seal m node bytes.now (contents self.new) result) }
@@ -97,8 +97,8 @@ impl<W: World> Game<W> {
         ensures applied { Tells W.state W.physics (contents self.old)
             (λ rules m. IsAppliedOpen W.state rules seal m event.now result (contents self.new)) }
         ensures unchanged { OnErr result (contents self.new ≡ contents self.old) }
-        // `Memory` is answered only where there is no room for one more packet, as by `apply`.
-        ensures memory { result ≡ Err Refusal.Memory → IsFull self.new }
+        // `Memory` is answered only to a send, and where there is no room for one more packet, as by `apply`.
+        ensures memory { result ≡ Err Refusal.Memory → (sends event.now ≡ true) × IsFull self.new }
         // Whatever open events led to the game: they and this one lead to what it is afterwards.
         ensures carried { IsCarriedOnOpen W.state W.physics seal (contents self.old) (contents self.new)
             event.now result }

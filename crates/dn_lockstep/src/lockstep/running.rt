@@ -14,7 +14,7 @@ use crate::rows::{awaited, fill_row, first_off, full_at, mark_of};
 use dn_machine::{Cause, Phase, Ran};
 use dn_tic::Move;
 
-/// The row that is told where a tic was run, and else none.
+/// The row, if a tic was run; else none.
 fn told_by(ran: Ran, row: [Option<Move>; 4]) -> Option<[Option<Move>; 4]>
     ensures { result ≡ told_by ran row }
 {
@@ -29,7 +29,7 @@ impl Lockstep {
     ghost use Rattle.dn_lockstep.specs.Contents.{contents};
     ghost use Rattle.dn_lockstep.specs.Runs.{RunsBy};
 
-    /// Runs the next tic, as `run_into` does. The row of moves is told where the tic was run, and else none.
+    /// Runs the next tic, as `run_into` does. Returns the row of moves too, if the tic was run.
     pub fn run(&mut self, marks: &[i16; 4]) -> (Ran, Option<[Option<Move>; 4]>)
         ensures step { RunsBy marks.now (contents self.old) (contents self.new)
             (λ limits m marks. on_run limits m marks) (λ ran row. (result.0 ≡ ran) × (result.1 ≡ row)) }
@@ -38,17 +38,18 @@ impl Lockstep {
         ensures waits { (player : ℕ) → result.0 ≡ Waiting player
             → (contents self.new ≡ contents self.old) × (result.1 ≡ None) }
         ensures idle { result.0 ≡ NotPlaying → (contents self.new ≡ contents self.old) × (result.1 ≡ None) }
+        ensures untold { ((tic : ℕ) → result.0 ≢ Ran.Ran tic) → result.1 ≡ None }
     {
         let mut row = [None; 4];
         let ran = self.run_into(marks, &mut row);
         (ran, told_by(ran, row))
     }
 
-    /// Runs the next tic (`d_net.c`, TryRunTics; `g_game.c`, G_Ticker), where no mark is off and the command
-    /// of every player who has not left by then is there. It is told each player's mark in the caller's world
-    /// as it stands, and where it answers `Ran`, it has filled in the row of moves by which that world goes
-    /// on. Where it waits or does not play, it stays as it is, and so does the row; at `DemoFull` and
-    /// `Inconsistent` the row means nothing.
+    /// Runs the next tic (`d_net.c`, TryRunTics; `g_game.c`, G_Ticker), if no mark is off and the command of
+    /// every player who has not left by then is there. It takes each player's mark in the caller's world as it
+    /// stands. If it returns `Ran`, it has filled in the row of moves by which that world goes on. If it waits
+    /// or does not play, it stays as it is, and so does the row; at `DemoFull` and `Inconsistent` the row means
+    /// nothing.
     #[inline(always)]
     pub fn run_into(&mut self, marks: &[i16; 4], row: &mut [Option<Move>; 4]) -> Ran
         ensures step { RunsBy marks.now (contents self.old) (contents self.new)

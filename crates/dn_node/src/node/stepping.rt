@@ -142,6 +142,8 @@ impl<W: World> Node<W> {
             → (contents self.new).ran ≡ (contents self.old).ran + 1 }
         ensures waits { (player : ℕ) → result ≡ Ran.Waiting player → contents self.new ≡ contents self.old }
         ensures idle { result ≡ Ran.NotPlaying → contents self.new ≡ contents self.old }
+        ensures world { ((tic : ℕ) → result ≢ Ran.Ran tic)
+            → (contents self.new).world ≡ (contents self.old).world }
     {
         let marks = self.marks();
         let (ran, row) = self.lockstep.run(&marks);

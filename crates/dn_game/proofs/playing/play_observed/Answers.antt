@@ -2,6 +2,7 @@ use Rattle.std.proofs.Common.{[], ◌∷◌, ◌++◌, take, ap, refl, sym, ◌�
 use Rattle.std.proofs.lemmas.List.{take_all, take_more, length-take-le}
 use Rattle.dn_machine.specs.declared.events.Event.{Event}
 use Rattle.dn_game.proofs.Answering.{played_more}
+use Rattle.dn_game.proofs.Giving.{own_given_more, same_at}
 use Rattle.dn_game.proofs.Observed.{observes_more, played_observed}
 use Rattle.dn_game.proofs.playing.play_observed.Goals as goal
 
@@ -19,6 +20,17 @@ loop-event-init g c = (
     },
     refl,
   ),
+  λ seal. record {
+    events_played = record {
+      last = _;
+      answers = [];
+      plays = refl;
+      game = c.in_ok-game.ensures.opened;
+      done = refl;
+      refused = refl;
+    };
+    given = λ i never. same_at _ _ i c.in_ok-game.ensures.given;
+  },
 )
 
 pub loop-event-preserved : goal.loop-event-preserved
@@ -42,6 +54,8 @@ loop-event-preserved g c =
             (omega (arith, before.0, length-take-le at events (omega (arith, c.loop-event-test.true))))
             told.observed,
       ),
+      λ seal. rw longer (own_given_more _ _ _ _ _ seal config.settings _ c.loop-event.played next _ _ one (take at events)
+          (before.2 seal)),
     )
 
 pub returns-clause-promised : goal.returns-clause-promised
@@ -50,3 +64,7 @@ returns-clause-promised g c =
     at c.loop-event.invariant.1 in
     played_observed _ _ g.L.Observer.observes c.args.config.settings _ _ c.loop-event.played c.args.events.now
     all.0 all.1
+
+pub returns-clause-given : goal.returns-clause-given
+returns-clause-given g c seal =
+    rw (take_all c.loop-event.event-index c.args.events.now c.loop-event-test.false) at (c.loop-event.invariant.2 seal)

@@ -191,7 +191,7 @@ returns-in-Run-clause-others g c i apart =
 
 pub returns-in-Run-clause-worlds : goal.returns-in-Run-clause-worlds
 returns-in-Run-clause-worlds g c moves =
-    worlds_step _ _ _ _ c.index_mut-in-Run.ensures.value (run_keeps _ _ _ c.run.ensures.waits c.run.ensures.idle moves)
+    worlds_step _ _ _ _ c.index_mut-in-Run.ensures.value (c.run.ensures.world (run_keeps _ moves))
 
 pub returns-in-Quit-clause-others : goal.returns-in-Quit-clause-others
 returns-in-Quit-clause-others g c i apart =

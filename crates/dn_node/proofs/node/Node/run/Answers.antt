@@ -22,6 +22,9 @@ returns-in-Some-clause-waits g c player e =
 pub returns-in-Some-clause-idle : goal.returns-in-Some-clause-idle
 returns-in-Some-clause-idle g c e = absurd (let same = sym (c.run-ran.ensures.idle e).1 ∙ c.in-Some.is in cc)
 
+pub returns-in-Some-clause-world : goal.returns-in-Some-clause-world
+returns-in-Some-clause-world g c idle = absurd (let same = sym (c.run-ran.ensures.untold idle) ∙ c.in-Some.is in cc)
+
 pub returns-in_default-clause-step : goal.returns-in_default-clause-step
 returns-in_default-clause-step g c =
     let n = c.args.self.now in
