@@ -1,4 +1,5 @@
--- What a lockstep has of another player, with the player's end, never grows less; and one that has ended stays so.
+-- What a lockstep has of another player, with the player's end, never grows less; and one that has ended stays
+-- so.
 use Rattle.std.proofs.Common.{◌≡◌, ◌≢◌, ◌<◌, ◌≤◌, ℕ, Bool, true, false, List, [], ◌∷◌, refl, ap, sym, ◌∙◌, subst, arith, Some, All, inl, inr, ◌&&◌}
 use Rattle.std.specs.Prelude.{Ok, ◌==◌, slice_get}
 use Rattle.std.proofs.lemmas.Bool.{cases_lt, cond-false, lt-ltb, le-ltb, ne_eqb}

@@ -108,7 +108,7 @@ module _ (given : List Flight) (flight : Option Flight) (from to : ℕ) (kept : 
       go (Some carried) every = by (is_news kept carried)
         where
           by : (test : Bool) → AreGiven (given_on given flight) from to
-              (if test then record { packets = kept.packets ++ carried ∷ []; covered = end_of carried } else kept).packets
+              (if test then record kept { packets = kept.packets ++ carried ∷ []; covered = end_of carried } else kept).packets
           by true = every
           by false = all_stay given flight from to kept.packets all
 

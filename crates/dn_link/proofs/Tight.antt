@@ -10,7 +10,8 @@ use Rattle.dn_link.specs.declared.bundle.Part.TheVariants.{Whole, Run}
 use Rattle.dn_link.specs.declared.bundle.Run as run
 use Rattle.dn_link.specs.declared.packing.Packing.{Packing}
 use Rattle.dn_link.specs.Packets.{short_packet}
-use Rattle.dn_link.specs.Packing.{AreEnded, IsEnded, IsNeeded, IsPacking, IsTight, MayFollow, part_of}
+use Rattle.dn_link.specs.OpenPacking.{IsPacking, IsTight, MayFollow, part_of}
+use Rattle.dn_link.specs.Packing.{AreEnded, IsEnded, IsNeeded}
 
 -- the command of a packet that a command tells
 pub its_command : (from start : ℕ) (command : List ℕ) → length command ≡ 8

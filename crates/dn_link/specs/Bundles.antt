@@ -25,21 +25,22 @@ pub record HasReached (locksteps : ℕ → Contents) (bundle : Bundle) : Type 0 
       → slice_index bundle.counts.got which ≤ has_of (locksteps bundle.from) which
   pub end : tells_end bundle ≡ true → has_ended (locksteps bundle.from) ≡ true
 
--- the bytes are a datagram that carries nothing but packets of this game, to whom they were given, and tells of no more
--- than its sender has and knows
+-- the bytes are a datagram that carries nothing but packets of this game, to whom they were given, and tells of
+-- no more than its sender has and knows
 abbrev pub WasBundled : Seal → Session → List ℕ → Type 0
 WasBundled seal session bytes =
     (bundle : Bundle) × IsBundle bundle × (bytes ≡ sealed_bytes seal bundle)
     × All (WasGiven session.given bundle.to) (packets_in bundle) × HasReached session.locksteps bundle
 
--- the bytes are a datagram without packets, which tells of no commands of other players than its sender, nor of its end
+-- the bytes are a datagram without packets, which tells of no commands of other players than its sender, nor of
+-- its end
 abbrev pub IsEmpty : Seal → List ℕ → Type 0
 IsEmpty seal bytes =
     (bundle : Bundle) × IsBundle bundle × (bytes ≡ sealed_bytes seal bundle) × (bundle.parts.items ≡ [])
     × ((which : ℕ) → which ≢ bundle.from → slice_index bundle.counts.got which ≡ 0) × (tells_end bundle ≡ false)
 
--- the one thing that is asked of the network, and of whoever has it in hand: what a player opens as a datagram was
--- sealed in this game before. No tag was forged
+-- the one thing that is asked of the network, and of whoever has it in hand: what a player opens as a datagram
+-- was sealed in this game before. No tag was forged
 abbrev pub IsGenuineDatagram : Seal → Session → ℕ → List ℕ → Type 0
 IsGenuineDatagram seal session player bytes =
     (bundle : Bundle) → IsDatagramOf (sealing_of seal player) bytes bundle → WasBundled seal session bytes

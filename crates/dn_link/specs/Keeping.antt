@@ -3,4 +3,4 @@ use Rattle.dn_link.specs.declared.kept.Kept.{Kept}
 use Rattle.dn_link.specs.Kept.{Unacknowledged}
 
 abbrev pub kept : Kept → Unacknowledged
-kept k = record { packets = k.packets.items; covered = k.covered }
+kept k = record { packets = k.packets.items; covered = k.covered; done = k.done }

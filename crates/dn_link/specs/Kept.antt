@@ -1,5 +1,5 @@
 -- The packets that a peer has not acknowledged.
-use Rattle.std.specs.Prelude.{ℕ, ◌+◌, ◌-◌, ◌/◌, ◌&&◌, ◌==◌, nat_lt, nat_le, if◌then◌else◌, Bool, not, true, false, List, [], ◌∷◌, ◌++◌, length, slice_index, max, Option, Some, None, is_none}
+use Rattle.std.specs.Prelude.{◌≡◌, ◌<◌, ◌≤◌, ◌||◌, ℕ, ◌+◌, ◌-◌, ◌/◌, ◌&&◌, ◌==◌, nat_lt, nat_le, if◌then◌else◌, Bool, not, true, false, List, [], ◌∷◌, ◌++◌, length, slice_index, max, Option, Some, None, is_none}
 use Rattle.dn_link.specs.declared.bundle.Carried.{Carried}
 use Rattle.dn_link.specs.declared.presence.Presence.{Presence}
 use Rattle.dn_link.specs.declared.presence.Presence.TheVariants.{Playing, Left, Forgotten}
@@ -16,8 +16,8 @@ abbrev pub is_idle : Carried → Bool
 is_idle packet =
     commands_in packet == 0 && (is_none packet.ask && nat_lt (slice_index packet.datagram.items 3) 16)
 
--- a peer takes no packet once it has played and left. One that is idle tells that this player has started, which only a
--- peer needs that has not
+-- a peer takes no packet once it has played and left. One that is idle tells that this player has started,
+-- which only a peer needs that has not
 abbrev pub takes_packet : Presence → Carried → Bool
 takes_packet (Left cause) packet = false
 takes_packet Playing packet = not (is_idle packet)
@@ -28,22 +28,24 @@ abbrev pub taken_by : Presence → Option Carried → Option Carried
 taken_by presence None = None
 taken_by presence (Some packet) = if takes_packet presence packet then Some packet else None
 
--- the packets to one peer that it has not acknowledged, oldest first, and how many commands they and those before
--- them cover
+-- the packets to one peer that it has not acknowledged, oldest first; how many commands they and those before
+-- them cover; and how many commands the peer needs no more
 pub record Unacknowledged : Type 0 where
   pub packets : List Carried
   pub covered : ℕ
+  pub done : ℕ
 
--- a packet has a command that none before it has, and there is room to keep it
+-- a packet goes on where those before it end, with a command that none of them has, and there is room to keep it
 abbrev pub is_news : Unacknowledged → Carried → Bool
 is_news kept packet =
-    nat_lt 0 (commands_in packet) && (nat_lt kept.covered (end_of packet) && nat_lt (length kept.packets) 24)
+    nat_le packet.start kept.covered
+    && (nat_lt kept.covered (end_of packet) && nat_lt (length kept.packets) 24)
 
 -- it is kept if it has
 abbrev pub with_packet : Unacknowledged → Carried → Unacknowledged
 with_packet kept packet =
     if is_news kept packet
-    then record { packets = kept.packets ++ packet ∷ []; covered = end_of packet }
+    then record kept { packets = kept.packets ++ packet ∷ []; covered = end_of packet }
     else kept
 
 abbrev pub kept_after : Unacknowledged → Option Carried → Unacknowledged
@@ -64,4 +66,18 @@ without count (packet ∷ packets) =
 -- the peer has so many commands
 abbrev pub acknowledged : Unacknowledged → ℕ → Unacknowledged
 acknowledged kept count =
-    record { packets = without count kept.packets; covered = max kept.covered count }
+    record {
+      packets = without count kept.packets;
+      covered = max kept.covered count;
+      done = max kept.done count;
+    }
+
+-- one of the packets has the command of a tic
+abbrev pub has_tic : ℕ → List Carried → Bool
+has_tic tic [] = false
+has_tic tic (packet ∷ packets) =
+    (nat_le packet.start tic && nat_lt tic (end_of packet)) || has_tic tic packets
+
+-- they have each command that the peer still needs, up to the last that they cover
+abbrev pub IsCovering : Unacknowledged → Type 0
+IsCovering kept = (tic : ℕ) → kept.done ≤ tic → tic < kept.covered → has_tic tic kept.packets ≡ true

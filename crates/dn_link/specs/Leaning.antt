@@ -2,8 +2,8 @@
 use Rattle.std.specs.Prelude.{ℕ, ◌+◌, ◌-◌, ◌==◌, ◌+ℤ◌, ◌-ℤ◌, if◌then◌else◌, nat_lt, nat_le, nat_abs, neg_ℤ, ℤ, pos, int_div}
 use Rattle.std.specs.Int.{int_max, int_min}
 
--- for how many ticks it looks away; at how many it has looked, and the sum of what it saw there; and how much is left to
--- work off, in 32nds of a tick
+-- for how many ticks it looks away; at how many it has looked, and the sum of what it saw there; and how much
+-- is left to work off, in 32nds of a tick
 pub record LeaningState : Type 0 where
   pub rest : ℕ
   pub looked : ℕ
@@ -19,8 +19,8 @@ abbrev pub worth : ℤ → ℤ
 worth offset = if nat_le (nat_abs offset) 8 then pos 0 else within 32 offset
 
 -- sixteen ticks were looked at. Of players who each lead by so much more than they are led by, the sum of the
--- differences over their number is how far this one is from the mean of all, in 32nds of a tick; half of a difference is
--- each side's to work off
+-- differences over their number is how far this one is from the mean of all, in 32nds of a tick; half of a
+-- difference is each side's to work off
 abbrev pub decided : ℤ → ℕ → LeaningState
 decided sum players =
     record {

@@ -7,6 +7,7 @@ pub mod Counting
 pub mod Linked
 pub mod Linking
 pub mod Packing
+pub mod OpenPacking
 pub mod Kept
 pub mod Keeping
 pub mod Hearing

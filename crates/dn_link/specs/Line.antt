@@ -6,9 +6,9 @@ use Rattle.dn_lockstep.specs.Told.{got, made}
 use Rattle.dn_link.specs.declared.bundle.Bundle.{Bundle}
 use Rattle.dn_link.specs.Tally.{TallyState, begins, tallied}
 
--- the number of the newest datagram that came; how many numbers before it are missing in its block of sixty-four, and
--- how many in the block before; what it reported: how many its sender misses, and by how many commands its sender led; and
--- by how many commands this player led at its last tick; and what came
+-- the number of the newest datagram that came; how many numbers before it are missing in its block of
+-- sixty-four, and how many in the block before; what it reported: how many its sender misses, and by how many
+-- commands its sender led; and by how many commands this player led at its last tick; and what came
 pub record LineState : Type 0 where
   pub newest : Option ℕ
   pub holes : ℕ

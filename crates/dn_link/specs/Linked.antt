@@ -27,9 +27,9 @@ use Rattle.dn_link.specs.Packing.{ArePacked}
 use Rattle.dn_link.specs.Presence.{Becomes, Differs, given_up, has_gone, has_left, is_fresh, is_there, message_of, still_given}
 use Rattle.dn_link.specs.Text.{IsBundle, sealed_bytes}
 
--- what it keeps of a peer: the packets that the peer has not acknowledged, the most that the peer's datagrams told that
--- it has of each of four players, whether it is there, whether it was given the settings, and the number of the
--- next datagram to it
+-- what it keeps of a peer: the packets that the peer has not acknowledged, the most that the peer's datagrams
+-- told that it has of each of four players, whether it is there, whether it was given the settings, and the
+-- number of the next datagram to it
 pub record PeerState : Type 0 where
   pub kept : Unacknowledged
   pub reported : List ℕ
@@ -67,8 +67,9 @@ abbrev pub SendsReady : ℕ → Linked → Contents → Option Carried → Type 
 SendsReady to old new given =
     ByTest (holds_back old) ((new ≡ old.node) × (given ≡ None)) (SendsCarried to old.node new given)
 
--- a datagram to a peer: what is kept for the peer, with the packet of the moment if the peer takes it, how far the node is, by how many
--- commands it led at its last tick, how many datagrams of the peer are missing, and who or where it is
+-- a datagram to a peer: what is kept for the peer, with the packet of the moment if the peer takes it, how far
+-- the node is, by how many commands it led at its last tick, how many datagrams of the peer are missing, and
+-- who or where it is
 pub record Gives (seal : Seal) (identity : Identity) (pace : PaceState) (to : ℕ) (old new : Linked) (bytes : List ℕ) : Type 0 where
   pub given : Option Carried
   pub step : SendsReady to old new.node given
@@ -97,8 +98,8 @@ larger one other =
     max (slice_index one 0) (slice_index other 0) ∷ max (slice_index one 1) (slice_index other 1)
     ∷ max (slice_index one 2) (slice_index other 2) ∷ max (slice_index one 3) (slice_index other 3) ∷ []
 
--- how many commands of the node a peer has for certain. What it tells may count the node's end, once there is one; and
--- more than the node made is believed of nobody
+-- how many commands of the node a peer has for certain. What it tells may count the node's end, once there is
+-- one; and more than the node made is believed of nobody
 abbrev pub certain : Contents → ℕ → ℕ
 certain node count = min (if is_some (end_in node node.me) then count - 1 else count) (made node)
 
@@ -129,12 +130,13 @@ met differs bundle presence link =
       peers = put link.peers bundle.from (known_by differs link.node bundle presence (link.peers bundle.from));
     }
 
--- while players gather no packet is heard before all are there, and none of one that leaves without having played
+-- while players gather no packet is heard before all are there, and none of one that leaves without having
+-- played
 abbrev pub hears : Linked → Presence → Bool
 hears link presence = not (is_gathering link.node.phase) || (all_ready link && is_there presence)
 
--- a datagram of a peer is taken in. Where it greets with another identity, or its sender differs, none of its packets is
--- heard, and none of its counts is taken
+-- a datagram of a peer is taken in. Where it greets with another identity, or its sender differs, none of its
+-- packets is heard, and none of its counts is taken
 pub record TakesIn (identity : Identity) (fresh : Bool) (bundle : Bundle) (old new : Linked) (presence : Presence)
     (differs started : Bool) : Type 0 where
   pub becomes : Becomes identity (old.peers bundle.from).gave fresh bundle bundle.message
@@ -147,7 +149,8 @@ pub record TakesIn (identity : Identity) (fresh : Bool) (bundle : Bundle) (old n
 abbrev pub received_of : Bool → ℕ → Bool → Received
 received_of differs from started = if differs then Different from else Heard from started
 
--- any bytes are opened as a datagram or for a fault, and what a peer's tells is taken in; all else changes nothing
+-- any bytes are opened as a datagram or for a fault, and what a peer's tells is taken in; all else changes
+-- nothing
 abbrev pub ReceivesAs : Identity → PaceState → Result Bundle BundleFault → Linked → Linked → Received → Type 0
 ReceivesAs identity pace (Err fault) old new answer = (answer ≡ Unopened fault) × (new ≡ old)
 ReceivesAs identity pace (Ok bundle) old new answer =
@@ -166,13 +169,13 @@ Receives seal identity pace bytes old new answer =
 abbrev pub end_known : Contents → ℕ → Option ℕ
 end_known node player = if nat_lt player node.players then end_in node player else None
 
--- nothing more is expected of a player: it has played and left, or was given up; or player 0 said goodbye before the
--- game, which then never starts
+-- nothing more is expected of a player: it has played and left, or was given up; or player 0 said goodbye
+-- before the game, which then never starts
 abbrev pub is_out : Linked → ℕ → Bool
 is_out link player = has_left (link.peers player).presence || has_gone (link.peers 0).presence
 
--- a player needs nothing more of the node: it is no peer, has left, as an EXIT packet or its datagrams told, or has told
--- that it has one command more than the node made: all of them, and the end
+-- a player needs nothing more of the node: it is no peer, has left, as an EXIT packet or its datagrams told, or
+-- has told that it has one command more than the node made: all of them, and the end
 abbrev pub needs_nothing : Linked → ℕ → Bool
 needs_nothing link player =
     not (is_peer link.node player)

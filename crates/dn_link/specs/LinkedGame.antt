@@ -12,9 +12,9 @@ use Rattle.dn_link.specs.Counting.{has_ended, has_of}
 use Rattle.dn_link.specs.Linked.{Linked}
 use Rattle.dn_link.specs.Packets.{opened_from}
 
--- each player's link has the player's lockstep of one game, keeps for each peer nothing but packets that were given
--- to that peer in it, and was told of no more than the peer has of any other player, and of none that it has left but one
--- that has
+-- each player's link has the player's lockstep of one game, keeps for each peer nothing but packets that were
+-- given to that peer in it, and was told of no more than the peer has of any other player, and of none that it
+-- has left but one that has
 pub record AreLinked (marking : Marking) (limits : Limits) (settings : Settings) (session : Session) (links : ℕ → Linked)
     : Type 0 where
   pub game : AreOneGame marking limits settings session

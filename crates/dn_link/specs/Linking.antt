@@ -25,7 +25,7 @@ state_of peer =
 abbrev pub new_peer : PeerState
 new_peer =
     record {
-      kept = record { packets = []; covered = 0 };
+      kept = record { packets = []; covered = 0; done = 0 };
       reported = 0 ∷ 0 ∷ 0 ∷ 0 ∷ [];
       presence = Unknown;
       gave = false;

@@ -14,11 +14,11 @@ abbrev pub opened_from : ℕ → Carried → Opened
 opened_from from packet =
     record { from = from; start = packet.start; ask = packet.ask; datagram = packet.datagram }
 
--- what stands behind the sum in a packet of one command that asks for nothing
+-- what stands behind the sum in a packet of one command, without a request or a flag
 abbrev pub short_body : ℕ → ℕ → List ℕ → List ℕ
 short_body from start command = 0 ∷ start % 2 ^ 8 ∷ from ∷ 1 ∷ command
 
--- the packet of one command, of eight bytes, that asks for nothing
+-- the packet of one command, of eight bytes, without a request or a flag
 abbrev pub short_packet : ℕ → ℕ → List ℕ → Carried
 short_packet from start command =
     record {

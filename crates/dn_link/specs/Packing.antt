@@ -1,24 +1,11 @@
 -- Packets that are written as parts.
-use Rattle.std.specs.Prelude.{◌≡◌, ◌≢◌, ◌<◌, ◌≤◌, ℕ, ◌+◌, ◌*◌, ◌/◌, ◌%◌, ◌^◌, nat_lt, if◌then◌else◌, List, [], ◌∷◌, ◌++◌, length, take, map, All}
+use Rattle.std.specs.Prelude.{◌≡◌, ◌≢◌, ◌<◌, ◌≤◌, ℕ, ◌+◌, ◌/◌, ◌%◌, ◌^◌, List, [], ◌∷◌, length, take, map, All}
 use Rattle.std.specs.List.{flat_map}
-use Rattle.dn_seal.specs.declared.opened.Opened.{Opened}
 use Rattle.dn_link.specs.declared.bundle.Carried.{Carried}
-use Rattle.dn_link.specs.declared.bundle.Run as run
 use Rattle.dn_link.specs.declared.bundle.Part.{Part}
 use Rattle.dn_link.specs.declared.bundle.Part.TheVariants.{Whole, Run}
-use Rattle.dn_link.specs.declared.packing.Packing.{Packing}
 use Rattle.dn_link.specs.Packets.{opened_from, packets_of, short_packet}
-use Rattle.dn_link.specs.Text.{IsPart, parts_bytes}
-
--- up to twenty-four commands of eight bytes
-pub record IsOpenRun (one : run.Run) : Type 0 where
-  pub start : one.start < 2 ^ 32
-  pub few : length one.commands.items ≤ 192
-  pub whole : 8 * (length one.commands.items / 8) ≡ length one.commands.items
-
--- what was written so far: parts, and a run that may go on
-abbrev pub packed : ℕ → Packing → List Opened
-packed from p = flat_map (packets_of from) p.parts.items ++ packets_of from (Run p.run)
+use Rattle.dn_link.specs.Text.{parts_bytes}
 
 -- a packet stands whole only where no command of eight bytes tells it
 abbrev pub IsNeeded : ℕ → Part → Type 0
@@ -39,8 +26,9 @@ AreEnded [] = Unit {0}
 AreEnded (one ∷ []) = Unit {0}
 AreEnded (one ∷ other ∷ parts) = IsEnded one other × AreEnded (other ∷ parts)
 
--- the parts stand for these packets, oldest first, and no fewer parts could. They stand for all of them, unless there
--- are twenty-two parts, or of 1,118 bytes fewer are left than a run without commands and a packet of 104 bytes take
+-- the parts stand for these packets, oldest first, and no fewer parts could. They stand for all of them, unless
+-- there are twenty-two parts, or of 1,118 bytes fewer are left than a run without commands and a packet of 104
+-- bytes take
 pub record ArePacked (from : ℕ) (packets : List Carried) (parts : List Part) : Type 0 where
   pub count : ℕ
   pub some : count ≤ length packets
@@ -48,31 +36,3 @@ pub record ArePacked (from : ℕ) (packets : List Carried) (parts : List Part) :
   pub all : count < length packets → length parts < 22 → 1118 < length (parts_bytes parts) + (5 + 115)
   pub needed : All (IsNeeded from) parts
   pub ended : AreEnded parts
-
--- a run that has commands is a part
-abbrev pub part_of : run.Run → List Part
-part_of run = if nat_lt 0 (length run.commands.items) then Run run ∷ [] else []
-
--- behind these parts a run from this tic on is one that is needed
-pub record MayFollow (from : ℕ) (parts : List Part) (start : ℕ) : Type 0 where
-  pub needed : All (IsNeeded from) parts
-  pub ended : (next : run.Run) → next.start ≡ start → AreEnded (parts ++ Run next ∷ [])
-
--- and so is what was written so far, with its open run; where that has no commands, a run may start at any tic
-abbrev pub IsTight : ℕ → Packing → Type 0
-IsTight from p =
-    (start : ℕ) → (1 ≤ length p.run.commands.items → start ≡ p.run.start) → MayFollow from p.parts.items start
-
--- it fits: the parts have so many bytes, and with the run no more than there is room for
-pub record IsPacking (p : Packing) : Type 0 where
-  pub parts : All IsPart p.parts.items
-  pub run : IsOpenRun p.run
-  pub bytes : p.bytes ≡ length (parts_bytes p.parts.items)
-  pub few : length p.parts.items ≤ 24
-  pub fit : p.bytes ≤ 1118
-  pub run_fits : 1 ≤ length p.run.commands.items → p.bytes + 5 + length p.run.commands.items ≤ 1118
-
--- there is room for another packet, whatever it is
-pub record HasRoom (p : Packing) : Type 0 where
-  pub few : length p.parts.items ≤ 21
-  pub fit : p.bytes + 5 + length p.run.commands.items + 115 ≤ 1118

@@ -33,12 +33,14 @@ has_played presence = false
 abbrev pub may_come : Bool → Presence → Bool
 may_come gave presence = not (gave || has_played presence)
 
--- a datagram is no late one: it is newer than the newest, or so much older that it comes from a player who has begun anew
+-- a datagram is no late one: it is newer than the newest, or so much older that it comes from a player who has
+-- begun anew
 abbrev pub is_fresh : Option ℕ → ℕ → Bool
 is_fresh None number = true
 is_fresh (Some newest) number = nat_lt newest number || nat_le (number + 64) newest
 
--- its game goes on: player 0 gave it the settings, so its identity was the right one, whatever an earlier hello said
+-- its game goes on: player 0 gave it the settings, so its identity was the right one, whatever an earlier hello
+-- said
 abbrev pub plays_on : Bool → Presence → Presence
 plays_on fresh (Left cause) = Left cause
 plays_on fresh Forgotten = if fresh then Playing else Forgotten
@@ -50,7 +52,8 @@ goes true cause presence = Left cause
 goes false cause presence =
     if has_played presence || not (takes_part presence) then presence else Away cause
 
--- whom the settings were given, as far as it is there still: one that said goodbye before its game has not used them
+-- whom the settings were given, as far as it is there still: one that said goodbye before its game has not used
+-- them
 abbrev pub still_given : Presence → Bool → Bool
 still_given (Away cause) gave = false
 still_given presence gave = gave

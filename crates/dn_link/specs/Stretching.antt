@@ -1,8 +1,8 @@
 -- How ticks are stretched on a line that is longer than the window.
 use Rattle.std.specs.Prelude.{ℕ, ◌+◌, ◌-◌, ◌*◌, ◌==◌, ◌||◌, Bool, if◌then◌else◌, nat_lt, min}
 
--- the ticks of this block of sixteen so far, and how many inputs were dropped in it; how many blocks in a row, up to
--- four, had a dropped one; and by how many 32nds each tick is longer
+-- the ticks of this block of sixteen so far, and how many inputs were dropped in it; how many blocks in a row,
+-- up to four, had a dropped one; and by how many 32nds each tick is longer
 pub record StretchingState : Type 0 where
   pub ticks : ℕ
   pub dropped : ℕ

@@ -2,8 +2,8 @@
 use Rattle.std.specs.Prelude.{ℕ, ◌+◌, ◌-◌, ◌*◌, ◌/◌, ◌%◌, ◌^◌, ◌==◌, if◌then◌else◌, nat_lt, nat_le, min, Bool, Option, None, Some}
 use Rattle.std.specs.Prelude.{bit_and, bit_or}
 
--- how many datagrams came; how many numbers before the newest did not; how many came twice, or too late to tell; and
--- which of the last sixty-four numbers came, the newest in the lowest bit
+-- how many datagrams came; how many numbers before the newest did not; how many came twice, or too late to
+-- tell; and which of the last sixty-four numbers came, the newest in the lowest bit
 pub record TallyState : Type 0 where
   pub came : ℕ
   pub lost : ℕ

@@ -52,8 +52,8 @@ part_bytes (Run run) = length run.commands.items / 8 ∷ (to_le_bytes w32 run.st
 abbrev pub parts_bytes : List Part → List ℕ
 parts_bytes parts = length parts ∷ flat_map part_bytes parts
 
--- what the tag is over: the suite, kind 2 and the game, then from whom to whom, the datagram's number, the lead and
--- the holes, the counts, what the datagram is for, and the parts
+-- what the tag is over: the suite, kind 2 and the game, then from whom to whom, the datagram's number, the lead
+-- and the holes, the counts, what the datagram is for, and the parts
 abbrev pub bundle_bytes : Seal → Bundle → List ℕ
 bundle_bytes seal bundle =
     front_bytes seal 2 ++ (bundle.from ∷ bundle.to ∷ []) ++ to_le_bytes w32 bundle.number

@@ -1,4 +1,4 @@
-//! What one datagram of a link tells, and why bytes are none.
+//! What is in one datagram of a link, and why bytes are not one.
 
 use arrayvec::ArrayVec;
 use thiserror::Error;
@@ -14,8 +14,8 @@ pub struct Carried {
     pub datagram: ArrayVec<u8, 104>,
 }
 
-/// Consecutive packets of one command each, which ask for nothing: the first is of the tic `start`, and each
-/// other of the tic after.
+/// Consecutive packets of one command each, without a request or a flag: the first is of the tic `start`, and
+/// each other of the tic after.
 #[derive(Debug, Drop, PartialEq, Eq)]
 pub struct Run {
     /// The tic of the first command.
@@ -29,7 +29,7 @@ pub struct Run {
 pub enum Part {
     /// A packet as it is.
     Whole(Carried),
-    /// Packets that their commands tell.
+    /// Packets of one command each, written as their commands.
     Run(Run),
 }
 
@@ -76,7 +76,7 @@ pub enum Message {
     Goodbye(u8),
 }
 
-/// What one datagram tells.
+/// What is in one datagram.
 #[derive(Debug, Drop, PartialEq, Eq)]
 pub struct Bundle {
     /// The number of the sender.
@@ -93,7 +93,7 @@ pub struct Bundle {
     pub counts: Counts,
     /// What the datagram is for.
     pub message: Message,
-    /// The packets that the receiver has not acknowledged, oldest first.
+    /// The packets for the receiver, oldest first, as many as fit.
     pub parts: ArrayVec<Part, 24>,
 }
 

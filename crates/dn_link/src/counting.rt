@@ -11,7 +11,8 @@ ghost use Rattle.dn_link.specs.Linked.{certain};
 use crate::bundle::{Bundle, Counts};
 use dn_lockstep::Lockstep;
 
-/// How many commands a lockstep has of a player; a known end counts as one more. 0 for a number that is no player's.
+/// How many commands a lockstep has of a player; a known end counts as one more. 0 for a number that is no
+/// player's.
 fn has_of(lockstep: &Lockstep, player: u8) -> u32
     ensures { result ≡ has_of (contents lockstep.now) player }
 {
@@ -40,7 +41,7 @@ pub(crate) fn counts_of(lockstep: &Lockstep) -> Counts
     }
 }
 
-/// How many of a lockstep's own commands a peer has for certain that tells this count of them.
+/// How many of a lockstep's own commands a peer that reported this count of them has for certain.
 pub(crate) fn certain(lockstep: &Lockstep, count: u32) -> u32
     ensures { result ≡ certain (contents lockstep.now) count }
 {
@@ -51,7 +52,7 @@ pub(crate) fn certain(lockstep: &Lockstep, count: u32) -> u32
     commands.min(lockstep.made())
 }
 
-/// Whether a datagram tells that its sender has left.
+/// Whether a datagram reports that its sender has left.
 pub(crate) fn tells_end(bundle: &Bundle) -> bool
     ensures { result ≡ tells_end bundle.now }
 {

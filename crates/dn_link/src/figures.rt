@@ -15,13 +15,13 @@ pub struct Figures {
     pub lost: u32,
     /// How many came twice.
     pub repeated: u32,
-    /// How many came too late to tell.
+    /// How many came too late to tell whether they had come before.
     pub too_old: u32,
-    /// How many of the last ones to it are missing there, as its newest datagram told.
+    /// How many of the last ones to it are missing there, as its newest datagram reported.
     pub missing_there: u8,
     /// By how many commands this player led it, at this player's last tick.
     pub lead: i8,
-    /// By how many commands it led this player, as its newest datagram told.
+    /// By how many commands it led this player, as its newest datagram reported.
     pub lead_there: i8,
 }
 

@@ -92,8 +92,8 @@ fn hear_parts(lockstep: &mut Lockstep, from: u8, parts: &[Part]) -> bool
     false
 }
 
-/// Hears what a datagram carries, oldest first, and once more from the first where the game starts with one of them:
-/// those before it came too early. Answers whether the game started.
+/// Hears what a datagram carries, oldest first, and once more from the first where the game starts with one of
+/// them: those before it came too early. Answers whether the game started.
 pub(crate) fn hear_bundle(lockstep: &mut Lockstep, bundle: &Bundle) -> bool
     ensures { HearsAll (packets_in bundle.now) (contents lockstep.old) (contents lockstep.new) result }
 {

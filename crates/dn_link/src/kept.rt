@@ -2,7 +2,7 @@
 
 ghost use Rattle.std.specs.Prelude.{◌≡◌, ◌≤◌, ◌<◌, ◌+◌, ◌∷◌, [], ℕ, All, length, nat_le, slice_index, Option};
 ghost use Rattle.std.specs.Option.{option_map};
-ghost use Rattle.dn_link.specs.Kept.{acknowledged, commands_in, end_of, going, is_idle, is_news, kept_after, takes_packet, without};
+ghost use Rattle.dn_link.specs.Kept.{IsCovering, acknowledged, commands_in, end_of, going, is_idle, is_news, kept_after, takes_packet, without};
 ghost use Rattle.dn_link.specs.Packing.{ArePacked};
 ghost use Rattle.dn_link.specs.Text.{IsPart, parts_bytes};
 
@@ -52,14 +52,14 @@ fn end_of(packet: &Carried) -> u64
     u64::from(packet.start) + commands_in(packet)
 }
 
-/// Whether a packet tells nothing: it has no command, no request and no flag.
+/// Whether a packet says nothing: it has no command, no request and no flag.
 fn is_idle(packet: &Carried) -> bool
     ensures { result ≡ is_idle packet.now }
 {
     commands_in(packet) == 0 && packet.ask.is_none() && flag_byte(packet) < FIRST_FLAG
 }
 
-/// Whether a peer takes a packet. One that tells nothing is for a peer whose game has not started.
+/// Whether a peer takes a packet. One that says nothing is for a peer whose game has not started.
 pub(crate) fn takes_packet(presence: Presence, packet: &Carried) -> bool
     ensures { result ≡ takes_packet presence packet.now }
 {
@@ -76,7 +76,10 @@ pub(crate) struct Kept {
     packets: ArrayVec<Carried, 25>,
     /// How many commands these packets and those before them cover.
     covered: u64,
+    /// How many commands the peer needs no more.
+    done: u32,
     ghost few: { length packets.items ≤ 24 },
+    ghost covers: { IsCovering (record { packets = packets.items; covered = covered; done = done }) },
 }
 
 impl Kept {
@@ -86,21 +89,27 @@ impl Kept {
     pub(crate) fn new() -> Kept
         ensures packets { (kept result).packets ≡ [] }
         ensures covered { (kept result).covered ≡ 0 }
+        ensures done { (kept result).done ≡ 0 }
     {
         Kept {
             packets: ArrayVec::new(),
             covered: 0,
+            done: 0,
         }
     }
 
-    /// Whether a packet has a command that none of these has, and there is room to keep it.
+    /// Whether a packet goes on where these end, with a command that none of them has, and there is room to keep
+    /// it.
     fn is_news(&self, packet: &Carried) -> bool
         ensures { result ≡ is_news (kept self.now) packet.now }
     {
-        commands_in(packet) > 0 && end_of(packet) > self.covered && self.packets.len() < MOST_KEPT
+        u64::from(packet.start) <= self.covered
+            && end_of(packet) > self.covered
+            && self.packets.len() < MOST_KEPT
     }
 
-    /// What goes to the peer now, of this player: these packets, and the one of the moment, which is kept if it has news.
+    /// What goes to the peer now, of this player: these packets, and the one of the moment, which is kept if it
+    /// has news.
     pub(crate) fn parts(&mut self, from: u8, packet: Option<Carried>) -> ArrayVec<Part, 24>
         ensures kept { kept self.new ≡ kept_after (kept self.old) packet }
         ensures fit { All IsPart result.items }
@@ -126,12 +135,13 @@ impl Kept {
     pub(crate) fn acknowledge(&mut self, count: u32)
         ensures { kept self.new ≡ acknowledged (kept self.old) count }
     {
+        self.covered = self.covered.max(u64::from(count));
+        self.done = self.done.max(count);
         'packets: while let Some(packet) = self.packets.first() {
             if end_of(packet) > u64::from(count) {
                 break;
             }
             self.packets.remove(0);
         }
-        self.covered = self.covered.max(u64::from(count));
     }
 }

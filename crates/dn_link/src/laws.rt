@@ -46,8 +46,8 @@ ghost use Rattle.dn_link.specs.Text.{IsBundle, sealed_bytes};
 use dn_lockstep::{locksteps_agree, one_game_goes_on, one_game_opens};
 use dn_open::letters_keep_one_game;
 
-/// What was written is read back: the datagram of a bundle is read by its receiver as that bundle, and as nothing
-/// else.
+/// What was written is read back: the datagram of a bundle is read by its receiver as that bundle, and as
+/// nothing else.
 pub fn bundles_are_read_back()
     ensures { (sealing : Sealing) (bundle : Bundle) → 8 ≤ length sealing.seal.game → IsBundle bundle
         → bundle.to ≡ sealing.me → length (sealed_bytes sealing.seal bundle) ≤ 1200
@@ -55,8 +55,8 @@ pub fn bundles_are_read_back()
         → read ≡ Ok bundle }
 {}
 
-/// Hearing the packets of a datagram, each of which was given to this player in the game, leaves the locksteps those of
-/// one game.
+/// Hearing the packets of a datagram, each of which was given to this player in the game, leaves the locksteps
+/// those of one game.
 pub fn datagrams_keep_one_game()
     ensures { (marking : Marking) (limits : Limits) (settings : Settings) (session : Session) (player : ℕ)
         (packets : List Opened) (new : Contents) (started : Bool)
@@ -68,7 +68,8 @@ pub fn datagrams_keep_one_game()
     letters_keep_one_game();
 }
 
-/// New links of the same limits, one for each player, of which player 0's has these settings, are those of one game.
+/// New links of the same limits, one for each player, of which player 0's has these settings, are those of one
+/// game.
 pub fn linked_game_opens()
     ensures { (marking : Marking) (limits : Limits) (settings : Settings) (links : ℕ → Linked)
         → IsWindow limits
@@ -80,9 +81,9 @@ pub fn linked_game_opens()
     one_game_opens();
 }
 
-/// And so they stay after each call on one of them, whatever bytes come in, as long as what it opens was sealed in this
-/// game before; what `Link::datagram` gives was. At a run the caller hands in the marks of a world that moved on by the
-/// rows that it was told.
+/// And so they stay after each call on one of them, whatever bytes come in, as long as what it opens was sealed
+/// in this game before; what `Link::datagram` gives was. At a run the caller hands in the marks of a world that
+/// moved on by the rows that it was told.
 pub fn linked_game_goes_on()
     ensures built { (marking : Marking) (limits : Limits) (settings : Settings) (session : Session) (links : ℕ → Linked)
         (player : ℕ) (new : Linked) (input : Input) (made : Made)
@@ -137,8 +138,8 @@ pub fn linked_game_goes_on()
     letters_keep_one_game();
 }
 
-/// What was sealed in a game may come to any link of it at any later time, and so may bytes that a link refuses, and a
-/// datagram without packets that tells of no commands of others.
+/// What was sealed in a game may come to any link of it at any later time, and so may bytes that a link
+/// refuses, and a datagram without packets that tells of no commands of others.
 pub fn sealed_datagrams_are_genuine()
     ensures stay { (seal : Seal) (session later : Session) (bytes : List ℕ) → IsLater session later
         → WasBundled seal session bytes → WasBundled seal later bytes }
@@ -150,8 +151,8 @@ pub fn sealed_datagrams_are_genuine()
         → IsBundledAs (sealing_of seal player) bytes (Err fault) → IsGenuineDatagram seal session player bytes }
 {}
 
-/// A link that has ended before its game, and keeps no packet for a peer, gives the peer such a datagram. So that of a
-/// player who came and went may come to the links of any later game of the same seal.
+/// A link that has ended before its game, and keeps no packet for a peer, gives the peer such a datagram. So
+/// that of a player who came and went may come to the links of any later game of the same seal.
 pub fn unplayed_links_give_nothing()
     ensures { (marking : Marking) (limits : Limits) (settings : Settings) (session : Session) (links : ℕ → Linked)
         (player to : ℕ) (seal : Seal) (identity : Identity) (pace : PaceState) (new : Linked) (bytes : List ℕ)
@@ -170,7 +171,8 @@ pub fn links_agree()
     locksteps_agree();
 }
 
-/// What a link takes as acknowledged is there: the other player has at least so many commands of this one, who has made them.
+/// What a link takes as acknowledged is there: the other player has at least so many commands of this one, who
+/// has made them.
 pub fn acknowledged_is_there()
     ensures { (marking : Marking) (limits : Limits) (settings : Settings) (session : Session) (links : ℕ → Linked)
         (player other : ℕ)
@@ -182,9 +184,10 @@ pub fn acknowledged_is_there()
     locksteps_agree();
 }
 
-/// Who has played and may leave is needed by nobody who plays on: each other player whose lockstep has not played and ended
-/// has all commands of this one and knows its end, if this link has not given it up, and player 0 has not said goodbye to
-/// this link before the game. A game has at most four players, as every lockstep's has.
+/// Who has played and may leave is needed by nobody who plays on: each other player whose lockstep has not
+/// played and ended has all commands of this one and knows its end, if this link has not given it up, and
+/// player 0 has not said goodbye to this link before the game. A game has at most four players, as every
+/// lockstep's has.
 pub fn leaving_is_safe()
     ensures { (marking : Marking) (limits : Limits) (settings : Settings) (session : Session) (links : ℕ → Linked)
         (player other : ℕ)

@@ -4,6 +4,7 @@
 mod append;
 mod bundle;
 mod counting;
+mod covering;
 mod figures;
 mod giving;
 mod hearing;
@@ -26,10 +27,12 @@ mod tests;
 mod writing;
 
 pub use bundle::{Bundle, BundleFault, Carried, Counts, Identity, Message, Part, Run};
+pub use covering::kept_covers;
 pub use figures::Figures;
 pub use laws::{
     acknowledged_is_there, bundles_are_read_back, datagrams_keep_one_game, leaving_is_safe,
     linked_game_goes_on, linked_game_opens, links_agree, sealed_datagrams_are_genuine,
+    unplayed_links_give_nothing,
 };
 pub use link::Link;
 pub use presence::Presence;

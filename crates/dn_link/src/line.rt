@@ -93,7 +93,7 @@ impl Line {
         }
     }
 
-    /// The same line, at a tick at which this player leads its peer as the lockstep tells.
+    /// The same line at a tick, with this player's lead over its peer by the counts of the lockstep.
     pub(crate) fn at_tick(&self, lockstep: &Lockstep, player: u8) -> Line
         ensures { line_of result ≡ record (line_of self.now) { own_lead = lead_over (contents lockstep.now) player } }
     {
@@ -124,7 +124,7 @@ impl Line {
         }
     }
 
-    /// What a datagram told is the newest.
+    /// What a datagram reported is the newest.
     fn tell(&mut self, bundle: &Bundle)
         ensures { line_of self.new ≡ after_newest bundle.now (line_of self.old) }
     {

@@ -21,7 +21,8 @@ use dn_seal::{Seal, Sealer};
 use dn_tic::{Command, Input, Keys, Move};
 use std::alloc::Global;
 
-/// A lockstep that gives each peer one sealed datagram a tick, with every packet that the peer has not acknowledged.
+/// A lockstep that gives each peer one sealed datagram a tick. It has the packets that are kept until the peer
+/// acknowledges their commands, oldest first, as many as fit.
 #[derive(Drop)]
 pub struct Link {
     lockstep: Lockstep,
@@ -33,7 +34,7 @@ pub struct Link {
 }
 
 impl Link {
-    ghost use Rattle.std.specs.Prelude.{ℕ, ◌<◌, ◌+◌, false, None, Some, IfOk, Ok};
+    ghost use Rattle.std.specs.Prelude.{ℕ, ◌≢◌, ◌<◌, ◌+◌, false, None, Some, IfOk, Ok};
     ghost use Rattle.dn_tic.specs.declared.input.Input.TheVariants.{Pressed, Given};
     ghost use Rattle.dn_machine.specs.Building.{on_build};
     ghost use Rattle.dn_machine.specs.Running.{on_run, on_quit};
@@ -50,8 +51,8 @@ impl Link {
     ghost use Rattle.dn_machine.specs.declared.answers.Made.TheVariants as made;
     ghost use Rattle.dn_machine.specs.declared.answers.Ran.TheVariants as ran;
 
-    /// A link with no history, of a game with this seal, and in a window of this width. What the host adds to its identity
-    /// must be the same at all players: a digest of the engine's version, files and options, say.
+    /// A link with no history, of a game with this seal, and in a window of this width. What the host adds to
+    /// its identity must be the same at all players: a digest of the engine's version, files and options, say.
     pub fn new(
         alloc: Global,
         config: Config,
@@ -93,14 +94,15 @@ impl Link {
         })
     }
 
-    /// The lockstep, to read what it tells of itself.
+    /// The lockstep, for its readers.
     pub fn lockstep(&self) -> &Lockstep
         ensures { contents result.now ≡ (linked self.now).node }
     {
         &self.lockstep
     }
 
-    /// As `Lockstep::build`; keys for which there is no room are owed, and those that were owed before are dropped.
+    /// As `Lockstep::build`; keys for which there is no room are owed, and those that were owed before are
+    /// dropped.
     pub fn build(&mut self, keys: Keys) -> Made
         ensures step { Steps (linked self.old).node (linked self.new).node
             (λ limits me m. on_build limits me m (Pressed keys)) (λ made. result ≡ made) }
@@ -142,6 +144,7 @@ impl Link {
             → ((linked self.new).node ≡ (linked self.old).node) × (result.1 ≡ None) }
         ensures idle { result.0 ≡ ran.NotPlaying
             → ((linked self.new).node ≡ (linked self.old).node) × (result.1 ≡ None) }
+        ensures untold { ((tic : ℕ) → result.0 ≢ ran.Ran tic) → result.1 ≡ None }
         ensures peers { (linked self.new).peers ≡ (linked self.old).peers }
         ensures pace { pace_of self.new ≡ pace_of self.old }
         ensures seal { seal_of self.new ≡ seal_of self.old }

@@ -116,8 +116,8 @@ impl Pace {
         ];
     }
 
-    /// A tick, at which the leads of so many players differ by so much in all, and on whose lines datagrams are missing or
-    /// not. Answers by how many 32nds of a tick the next tick comes later.
+    /// A tick, at which the leads of so many players differ by so much in all, and on whose lines datagrams are
+    /// missing or not. Answers by how many 32nds of a tick the next tick comes later.
     pub(crate) fn tick(
         &mut self,
         lockstep: &Lockstep,

@@ -4,7 +4,8 @@ ghost use Rattle.std.specs.Prelude.{◌≡◌, ◌≤◌, ◌<◌, ◌+◌, ◌/
 ghost use Rattle.std.specs.List.{flat_map};
 ghost use Rattle.dn_link.specs.Packets.{opened_from, packets_of, short_packet};
 ghost use Rattle.dn_link.specs.declared.bundle.Part.TheVariants.{Whole};
-ghost use Rattle.dn_link.specs.Packing.{ArePacked, HasRoom, IsNeeded, IsPacking, IsTight, MayFollow, packed, part_of};
+ghost use Rattle.dn_link.specs.OpenPacking.{HasRoom, IsPacking, IsTight, MayFollow, packed, part_of};
+ghost use Rattle.dn_link.specs.Packing.{ArePacked, IsNeeded};
 ghost use Rattle.dn_link.specs.Text.{IsPart, parts_bytes};
 
 use crate::append::append;
@@ -122,7 +123,7 @@ impl Packing {
         }
     }
 
-    /// Adds a packet that is told by its command.
+    /// Adds a packet that is written as its command.
     fn add_short(&mut self, start: u32, command: &[u8; 8])
         requires fits { IsPacking self.old }
         requires room { HasRoom self.old }
@@ -167,7 +168,7 @@ impl Packing {
     }
 }
 
-/// The parts that tell packets of a player, oldest first, as many as there is room for.
+/// The parts that stand for a player's packets, oldest first, as many as there is room for.
 pub(crate) fn pack(from: u8, packets: &[Carried]) -> ArrayVec<Part, 24>
     ensures fit { All IsPart result.items }
     ensures short { length (parts_bytes result.items) ≤ 1118 }

@@ -13,7 +13,7 @@ use arrayvec::ArrayVec;
 pub(crate) struct Peer {
     /// The packets that the peer has not acknowledged.
     kept: Kept,
-    /// The most that its datagrams told that it has of each player.
+    /// How many commands it has of each player, by the highest count that its datagrams reported.
     reported: [u32; 4],
     /// Whether it is there.
     pub(crate) presence: Presence,
@@ -105,7 +105,7 @@ impl Peer {
         (self.next_number(), parts)
     }
 
-    /// How many commands of a player it told that it has.
+    /// How many commands of a player it has reported to have.
     pub(crate) fn reported_of(&self, player: u8) -> u32
         requires { player < 4 }
         ensures { result ≡ slice_index (state_of self.now).reported player }
@@ -113,7 +113,7 @@ impl Peer {
         self.reported[player as usize]
     }
 
-    /// It tells who it is.
+    /// Notes who it is.
     pub(crate) fn is_now(&mut self, presence: Presence)
         ensures { state_of self.new
             ≡ record (state_of self.old) { presence = presence; gave = still_given presence (state_of self.old).gave } }
@@ -122,7 +122,7 @@ impl Peer {
         self.gave = presence.still_given(self.gave);
     }
 
-    /// It tells what it has of each player, and who it is; so many commands of this player it needs no more.
+    /// Notes what it has of each player, who it is, and how many commands of this player it no longer needs.
     pub(crate) fn tells(&mut self, done: u32, got: &[u32; 4], presence: Presence)
         ensures { state_of self.new ≡ record (state_of self.old) {
           kept = acknowledged (state_of self.old).kept done;

@@ -10,7 +10,8 @@ use crate::bundle::{Bundle, Identity, Message};
 use crate::counting::tells_end;
 use dn_machine::{Cause, Phase};
 
-/// How far a late datagram may lie behind the newest. One that lies farther behind comes from a player who has begun anew.
+/// A datagram that lies so far behind the newest, or farther, comes from a player who has begun anew; one that
+/// lies less far behind is late.
 pub(crate) const LATEST: u64 = 64;
 
 /// What is known of another player.
@@ -43,8 +44,8 @@ fn greets(own: &Identity, identity: Identity) -> Presence
     }
 }
 
-/// Whether nothing of a datagram is taken but who its sender is: it greets with another identity, or its sender, of whom this
-/// is known by now, differs.
+/// Whether nothing of a datagram is taken but who its sender is: it greets with another identity, or its
+/// sender, of whom this is known by now, differs.
 pub(crate) fn differs(own: &Identity, message: &Message, presence: Presence) -> bool
     ensures { Differs own.now message.now presence result }
 {
@@ -70,7 +71,7 @@ pub(crate) fn is_fresh(newest: Option<u32>, number: u32) -> bool
     }
 }
 
-/// The byte that tells a cause.
+/// The byte that stands for a cause.
 fn cause_byte(cause: Cause) -> u8
     ensures { result ≡ cause_byte cause }
 {
@@ -81,7 +82,7 @@ fn cause_byte(cause: Cause) -> u8
     }
 }
 
-/// What a player in this phase tells others.
+/// The message of a player in this phase to the others.
 pub(crate) fn message_of(identity: &Identity, phase: Phase) -> Message
     ensures { result ≡ message_of identity.now phase }
 {

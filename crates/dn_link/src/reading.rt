@@ -17,7 +17,7 @@ use dn_seal::{Sealer, tic_at};
 use fields::{counts_in, message_in, message_len};
 use parts::parts_in;
 
-/// The bundle that bytes tell, the first twelve of which were tested.
+/// The bundle in these bytes, the first twelve of which were tested.
 fn bundle_in(body: &[u8]) -> Option<Bundle>
     requires { 44 ≤ length body.now }
     ensures { result ≡ told_bundle body.now }
@@ -40,7 +40,7 @@ fn bundle_in(body: &[u8]) -> Option<Bundle>
     })
 }
 
-/// Whether bytes tell this game's number.
+/// Whether bytes have this game's number.
 fn is_of_game(bytes: &[u8], front: &[u8; 10]) -> bool
     requires { 10 ≤ length bytes.now }
     ensures { IsTrue result ↔ (told_game bytes.now ≡ take 8 (drop 2 front.now)) }
@@ -48,7 +48,7 @@ fn is_of_game(bytes: &[u8], front: &[u8; 10]) -> bool
     bytes[2..10] == front[2..]
 }
 
-/// Opens a datagram to this player, or answers the first fault that the bytes have.
+/// Opens a datagram to this player, or returns the first fault that the bytes have.
 pub fn open_bundle(sealer: &Sealer, bytes: &[u8]) -> Result<Bundle, BundleFault>
     ensures opens { IsBundledAs (sealing sealer.now) bytes.now result }
     ensures only { (read : Result Bundle BundleFault)

@@ -1,4 +1,4 @@
-//! What is answered to any bytes.
+//! What became of bytes that came in.
 
 ghost use Rattle.std.specs.Prelude.{◌≡◌};
 ghost use Rattle.dn_link.specs.Linked.{received_of};
@@ -8,18 +8,19 @@ use crate::bundle::BundleFault;
 /// What a link makes of bytes that came in.
 #[derive(Clone, Copy, Debug, PartialEq, Eq)]
 pub enum Received {
-    /// They are no datagram to this player in this game, for this fault, and changed nothing.
+    /// They are no datagram to this player in this game, for this fault. They changed nothing but what
+    /// `Link::refused` counts.
     Unopened(BundleFault),
-    /// They tell another sender than a peer, and changed nothing.
+    /// Their sender's number is not a peer's, and they changed nothing.
     Stranger(u8),
-    /// The datagram of a peer with another identity, which `Link::presence` tells, or the late hello of such a one. No packet
-    /// was heard.
+    /// The datagram of a peer with another identity, which `Link::presence` returns, or a late hello of such a
+    /// peer. No packet of it was received.
     Different(u8),
     /// The datagram of a peer, which was taken in, and whether the game started with it.
     Heard { from: u8, started: bool },
 }
 
-/// What is answered to a datagram that was taken in.
+/// What is returned for a datagram that was taken in.
 pub(crate) fn received_of(differs: bool, from: u8, started: bool) -> Received
     ensures { result ≡ received_of differs from started }
 {

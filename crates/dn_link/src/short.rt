@@ -1,4 +1,4 @@
-//! The packet of one command that asks for nothing, by its command alone.
+//! The packet of one command, without a request or a flag, by its command alone.
 
 ghost use Rattle.std.specs.Prelude.{◌≡◌, IfSome, None};
 ghost use Rattle.dn_link.specs.declared.bundle.Part.TheVariants.{Whole};
@@ -35,7 +35,7 @@ pub(crate) fn short_packet(from: u8, start: u32, command: &[u8; 8]) -> Carried
     }
 }
 
-/// The command of a packet that is told by it alone.
+/// The command of a packet that follows from its command, its sender and its tic.
 pub(crate) fn short_command(from: u8, packet: &Carried) -> Option<[u8; 8]>
     ensures some { IfSome result (λ command. packet.now ≡ short_packet from packet.now.start command) }
     ensures none { result ≡ None → IsNeeded from (Whole packet.now) }

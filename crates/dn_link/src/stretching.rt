@@ -6,7 +6,7 @@ ghost use Rattle.dn_link.specs.Stretching.{counted_drops, drops, ends_block, str
 /// How many ticks a block has.
 const BLOCK: u8 = 16;
 
-/// More drops in a block than these tell that the game stood still.
+/// With more drops in a block than these the game is taken to have stood still.
 const STANDSTILL: u8 = 12;
 
 /// How many blocks in a row stretch the ticks.

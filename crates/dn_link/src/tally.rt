@@ -16,7 +16,7 @@ pub(crate) struct Tally {
     pub(crate) lost: u32,
     /// How many came twice.
     pub(crate) repeated: u32,
-    /// How many came too late to tell.
+    /// How many came too late to tell whether they had come before.
     pub(crate) too_old: u32,
     /// Which of the last numbers came, the newest in the lowest bit.
     seen: u64,

@@ -8,8 +8,8 @@ impl Link {
     ghost use Rattle.dn_link.specs.Linked.{is_out, may_leave, needs_nothing, never_played, none_needs};
     ghost use Rattle.dn_link.specs.Linking.{linked};
 
-    /// Whether nothing more is expected of a player: it has played and left, or was given up; or player 0 said goodbye before
-    /// the game, which then never starts.
+    /// Whether nothing more is expected of a player: it has played and left, or was given up; or player 0 said
+    /// goodbye before the game, which then never starts.
     fn is_out(&self, player: u8) -> bool
         requires { player < 4 }
         ensures { result ≡ is_out (linked self.now) player }
@@ -17,8 +17,8 @@ impl Link {
         self.peer(player).presence.has_left() || self.peer(0).presence.has_gone()
     }
 
-    /// Whether a player needs nothing more of this one: it has itself left, or has told that it has all commands and the
-    /// end; or it is no other player at all.
+    /// Whether a player needs nothing more of this one: it has itself left, or has acknowledged all commands
+    /// and the end; or there is no such other player.
     pub(super) fn needs_nothing(&self, player: u8) -> bool
         requires { player < 4 }
         ensures { result ≡ needs_nothing (linked self.now) player }
@@ -48,10 +48,11 @@ impl Link {
             && self.needs_nothing(3)
     }
 
-    /// Whether nobody needs commands of this player any more, nor to know that it has left: each other player has itself
-    /// left, or has told that it has all commands and the end. A peer that has left waits for the same, by the counts of
-    /// this one: give it some datagrams more, and set a limit to the wait, since the last datagram may be lost. One that
-    /// has left before its game started may go at once; some datagrams more tell the others of it.
+    /// Whether nobody needs commands of this player any more, nor to know that it has left: each other player
+    /// has itself left, or has acknowledged all commands and the end. A peer that has left waits for the same,
+    /// by the counts of this one: give it some more datagrams, and limit the wait, since the last datagram may
+    /// be lost. A player who has left before its game started may go at once; some more datagrams let the
+    /// others know.
     pub fn may_leave(&self) -> bool
         ensures { result ≡ may_leave (linked self.now) }
     {

@@ -70,9 +70,9 @@ impl Link {
         self.is_lossy_to(0) || self.is_lossy_to(1) || self.is_lossy_to(2) || self.is_lossy_to(3)
     }
 
-    /// For each tick, after the build: by how many 32nds of a tick the next tick comes later than usual; earlier where it is
-    /// below 0. So players whose clocks differ come to lead each other by the same, and on a line that is longer than the
-    /// window ticks are stretched in place of dropped.
+    /// For each tick, after the build: by how many 32nds of a tick the next tick comes later than usual;
+    /// earlier where it is below 0. So players whose clocks differ come to lead each other by the same, and on
+    /// a line that is longer than the window ticks are stretched in place of dropped.
     pub fn lean(&mut self) -> i8
         ensures leans { result ≡ lean (linked self.old) (pace_of self.old) }
         ensures range { nat_abs result ≤ 34 }
@@ -87,8 +87,8 @@ impl Link {
         self.pace.tick(&self.lockstep, differences, playing, lossy)
     }
 
-    /// Whether a peer that plays tells that two or more of the last datagrams to it are missing: one more, half of a tick
-    /// after the tick's own, then makes good for those that will be.
+    /// Whether a peer that plays reports that two or more of the last datagrams to it are missing: one more,
+    /// half a tick after the tick's own, then makes up for those that will be.
     pub fn wants_second(&self, player: u8) -> bool
         ensures { result ≡ wants_second (linked self.now) (pace_of self.now) player }
     {

@@ -19,7 +19,7 @@ impl Link {
     ghost use Rattle.dn_link.specs.Pace.{Paces, after_datagram};
     ghost use Rattle.dn_link.specs.Pacing.{pace_of};
 
-    /// How many commands of this player a peer needs no more, of which this is known and which tells this count.
+    /// How many commands of this player a peer no longer needs, by its presence and the count that it reported.
     fn done_with(&self, presence: Presence, count: u32) -> u32
         ensures { result ≡ done_with presence (linked self.now).node count }
     {
@@ -29,7 +29,7 @@ impl Link {
         }
     }
 
-    /// A peer tells who it is and what it has; where its datagram differs only the former is taken.
+    /// Notes who a peer is and what it has. If its identity differs, only the former is noted.
     fn meet(&mut self, bundle: &Bundle, presence: Presence, differs: bool)
         requires { bundle.now.from < 4 }
         ensures link { linked self.new ≡ met differs bundle.now presence (linked self.old) }
@@ -91,9 +91,9 @@ impl Link {
         received_of(differs, from, started)
     }
 
-    /// Takes in any bytes, wherever they come from. Answers which peer's datagram they are, and whether the game started
-    /// with it. Bytes that are no datagram to this player in this game, and a datagram whose sender is no peer, change
-    /// nothing but what `refused` counts.
+    /// Takes in any bytes, wherever they come from. Answers which peer's datagram they are, and whether the
+    /// game started with it. Bytes that are no datagram to this player in this game change nothing but what
+    /// `refused` counts. A datagram whose sender is no peer changes nothing.
     pub fn receive(&mut self, bytes: &[u8]) -> Received
         ensures heard { Receives (seal_of self.old) (identity_of self.old) (pace_of self.old) bytes.now (linked self.old)
             (linked self.new) result }

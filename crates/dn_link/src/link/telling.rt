@@ -1,4 +1,4 @@
-//! What a link tells for the screen.
+//! What a link reports for the screen.
 
 use super::Link;
 use crate::counting::certain;
@@ -47,8 +47,8 @@ impl Link {
         )
     }
 
-    /// How many of its commands not every remaining player has acknowledged: the oldest has been on its way for about so
-    /// many ticks.
+    /// How many of its commands not every remaining player has acknowledged: the oldest has been on its way for
+    /// about so many ticks.
     pub fn unacknowledged(&self) -> u32
         ensures { result ≡ unacknowledged (linked self.now) }
     {

@@ -39,7 +39,7 @@ impl Pace {
         self.line(player).own_lead
     }
 
-    /// By how many commands another led, as its newest datagram told.
+    /// By how many commands another led, as its newest datagram reported.
     pub(crate) fn lead(&self, player: u8) -> i8
         requires { player < 4 }
         ensures { result ≡ ((state_of self.now).lines player).lead }
@@ -87,7 +87,7 @@ impl Pace {
         self.lines[bundle.from as usize].hear(bundle, may_come);
     }
 
-    /// Whether another tells that datagrams to it are missing.
+    /// Whether another reports that datagrams to it are missing.
     pub(crate) fn misses(&self, player: u8) -> bool
         requires { player < 4 }
         ensures { result ≡ nat_le 2 ((state_of self.now).lines player).reported_holes }

@@ -7,7 +7,7 @@ ghost use Rattle.dn_link.specs.Told.{told_counts, told_flag, told_identity, told
 use crate::bundle::{Counts, Identity, Message};
 use dn_seal::tic_at;
 
-/// The counts that twenty-four bytes tell.
+/// The counts in twenty-four bytes.
 pub(super) fn counts_in(bytes: &[u8]) -> Counts
     requires { 24 ≤ length bytes.now }
     ensures { result ≡ told_counts bytes.now }
@@ -24,7 +24,7 @@ pub(super) fn counts_in(bytes: &[u8]) -> Counts
     }
 }
 
-/// What a byte of 0 or 1 tells.
+/// What a byte of 0 or 1 says.
 fn flag_in(byte: u8) -> Option<bool>
     ensures { result ≡ told_flag byte }
 {
@@ -35,7 +35,7 @@ fn flag_in(byte: u8) -> Option<bool>
     }
 }
 
-/// The identity that twenty-three bytes tell.
+/// The identity in twenty-three bytes.
 fn identity_in(bytes: &[u8]) -> Option<Identity>
     requires { 23 ≤ length bytes.now }
     ensures { result ≡ told_identity bytes.now }
@@ -84,7 +84,7 @@ pub(super) fn message_in(bytes: &[u8]) -> Option<Message>
     }
 }
 
-/// How many bytes tell it.
+/// How many bytes it takes.
 pub(super) fn message_len(message: &Message) -> usize
     requires { IsMessage message.now }
     ensures { length (message_bytes message.now) ≡ result }

@@ -64,7 +64,7 @@ fn part_in(bytes: &[u8]) -> Option<Part>
     }
 }
 
-/// How many bytes tell it.
+/// How many bytes it takes.
 fn part_len(part: &Part) -> usize
     ensures { result ≡ length (part_bytes part.now) }
 {

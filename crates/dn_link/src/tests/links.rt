@@ -127,8 +127,8 @@ fn who_has_left_waits_until_the_other_knows(rt: HostRuntime) {
     assert!(rt; key.datagram(2).is_none());
 }
 
-/// Two players who quit in one tick learn of each other's end by the counts of the datagrams, though neither hears the
-/// other's EXIT packet.
+/// Two players who quit in one tick learn of each other's end by the counts of the datagrams, though neither
+/// hears the other's EXIT packet.
 #[test]
 fn two_who_quit_at_once_may_leave(rt: HostRuntime) {
     let rt = &rt;
@@ -146,8 +146,8 @@ fn two_who_quit_at_once_may_leave(rt: HostRuntime) {
     assert!(rt; other.may_leave());
 }
 
-/// Between two who play a datagram without news has 60 bytes, and no parts; before, it tells that its sender has started.
-/// A run of one command takes 13 bytes. Who has left gets no packets.
+/// Between two who play a datagram without news has 60 bytes, and no parts; before, it tells that its sender
+/// has started. A run of one command takes 13 bytes. Who has left gets no packets.
 #[test]
 fn what_tells_nothing_is_left_out(rt: HostRuntime) {
     let rt = &rt;

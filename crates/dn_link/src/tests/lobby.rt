@@ -15,8 +15,8 @@ fn three(rt: &impl Abort, alloc: Global) -> (Link, Link, Link) {
     )
 }
 
-/// Player 2 comes, quits and says goodbye before player 1 is there: the game waits for another player 2, and starts with
-/// that one.
+/// Player 2 comes, quits and says goodbye before player 1 is there: the game waits for another player 2, and
+/// starts with that one.
 #[test]
 fn who_leaves_the_lobby_hangs_nobody(rt: HostRuntime) {
     let rt = &rt;
@@ -107,7 +107,8 @@ fn who_differs_takes_no_part(rt: HostRuntime) {
     assert!(rt; key.presence(7) == Presence::Unknown);
 }
 
-/// A player whose world differs from another's ends, and tells the other why. Marks are compared from tic 13 on.
+/// A player whose world differs from another's ends, and tells the other why. Marks are compared from tic 13
+/// on.
 #[test]
 fn a_cause_is_told(rt: HostRuntime) {
     let rt = &rt;
@@ -149,8 +150,8 @@ fn a_forgotten_peer_is_not_waited_for(rt: HostRuntime) {
     assert!(rt; !key.may_leave());
 }
 
-/// A player comes with another digest, goes, and comes back with the right one: its game starts, though a hello of before
-/// comes late.
+/// A player comes with another digest, goes, and comes back with the right one: its game starts, though a hello
+/// of before comes late.
 #[test]
 fn who_differed_may_play(rt: HostRuntime) {
     let rt = &rt;
@@ -181,8 +182,8 @@ fn who_has_left_is_not_forgotten(rt: HostRuntime) {
     assert!(rt; key.presence(1) == Presence::Left(1));
 }
 
-/// Player 1 is given the settings, starts, and is given up before player 0 has heard it: its commands may have reached player
-/// 2, so that no other takes its place.
+/// Player 1 is given the settings, starts, and is given up before player 0 has heard it: its commands may have
+/// reached player 2, so that no other takes its place.
 #[test]
 fn who_was_given_the_settings_has_no_successor(rt: HostRuntime) {
     let rt = &rt;
@@ -206,8 +207,8 @@ fn who_was_given_the_settings_has_no_successor(rt: HostRuntime) {
     assert!(rt; key.presence(1) == Presence::Forgotten);
 }
 
-/// One that is known to play is not made away, though player 0 still gathers; one that was given no settings is, and
-/// another takes its place.
+/// One that is known to play is not made away, though player 0 still gathers; one that was given no settings
+/// is, and another takes its place.
 #[test]
 fn who_was_given_nothing_has_a_successor(rt: HostRuntime) {
     let rt = &rt;
@@ -246,7 +247,8 @@ fn player_0_may_come_back(rt: HostRuntime) {
     assert!(rt; other.may_leave());
 }
 
-/// A late hello of another identity is not heard, and changes nothing; nor does the goodbye of one that differs.
+/// A late hello of another identity is not heard, and changes nothing; nor does the goodbye of one that
+/// differs.
 #[test]
 fn who_differs_is_not_heard(rt: HostRuntime) {
     let rt = &rt;
@@ -271,7 +273,8 @@ fn who_differs_is_not_heard(rt: HostRuntime) {
     assert!(rt; key.presence(1) == known);
 }
 
-/// Player 1 is given the settings, and quits before it has them: it has not played, so that another takes its place.
+/// Player 1 is given the settings, and quits before it has them: it has not played, so that another takes its
+/// place.
 #[test]
 fn who_goes_before_its_game_has_a_successor(rt: HostRuntime) {
     let rt = &rt;

@@ -8,7 +8,10 @@ use Rattle.dn_lockstep.specs.Session.{after_build, after_run, with_lockstep}
 use Rattle.dn_lockstep.specs.Runs.{RunsBy, marks_in, with_row}
 use Rattle.dn_lockstep.specs.Steps.{Steps}
 use Rattle.dn_link.proofs.Holding.{build_holds, run_holds, quit_holds}
-use Rattle.dn_link.proofs.Linking.{called, forgot, gave_to, much_by, received}
+use Rattle.dn_link.proofs.Forgets.{forgot}
+use Rattle.dn_link.proofs.Gives.{gave_to}
+use Rattle.dn_link.proofs.Linking.{called, much_by}
+use Rattle.dn_link.proofs.Receives.{received}
 use Rattle.dn_link.proofs.laws.linked_game_goes_on.Goals as goal
 
 pub returns : goal.returns

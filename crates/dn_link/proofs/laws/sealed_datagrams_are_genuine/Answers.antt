@@ -9,7 +9,7 @@ use Rattle.dn_link.specs.declared.bundle.Part.{Part}
 use Rattle.dn_link.specs.Bundles.{WasGiven}
 use Rattle.dn_link.specs.Packets.{packets_of}
 use Rattle.dn_link.proofs.Openings.{only_bundle}
-use Rattle.dn_link.proofs.Linking.{bundled_on}
+use Rattle.dn_link.proofs.Genuine.{bundled_on}
 use Rattle.dn_link.proofs.laws.sealed_datagrams_are_genuine.Goals as goal
 
 pub returns : goal.returns

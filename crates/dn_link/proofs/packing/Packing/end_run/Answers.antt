@@ -1,7 +1,7 @@
 use Rattle.std.proofs.Common.{◌≤◌, ◌++◌, ◌∷◌, [], length, ap, ◌∙◌, arith}
 use Rattle.dn_link.specs.declared.bundle.Part.TheVariants.{Run}
 use Rattle.dn_link.specs.declared.bundle.Run as run
-use Rattle.dn_link.proofs.Packings.{ended}
+use Rattle.dn_link.proofs.Fits.{ended}
 use Rattle.dn_link.proofs.packing.Packing.end_run.Goals as goal
 
 pub returns-then-not-is_empty-clause-fits : goal.returns-then-not-is_empty-clause-fits

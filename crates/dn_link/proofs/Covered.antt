@@ -1,0 +1,116 @@
+-- The packets that are kept for a peer have each command that it still needs, of those that they cover.
+use Rattle.std.proofs.Common.{◌≡◌, ◌<◌, ◌≤◌, ℕ, zero, suc, Bool, true, false, List, [], ◌∷◌, ◌++◌, length, map, take, append-nil, refl, ap, sym, ◌∙◌, subst, arith, inl, inr, Option, Some, None}
+use Rattle.std.specs.Prelude.{if◌then◌else◌, ◌&&◌, nat_le, nat_lt, max}
+use Rattle.std.specs.List.{flat_map}
+use Rattle.std.proofs.lemmas.Bool.{and_from, and_parts, and_right, cases_lt, le-ltb, le-leb, leb-true, lt-ltb, or_cases, or_left, or_right, true≢false}
+use Rattle.std.proofs.Math.Seq.{take-append_seam}
+use Rattle.std.proofs.lemmas.List.{length-map}
+use Rattle.dn_machine.proofs.Put.{put_at}
+use Rattle.dn_seal.specs.declared.opened.Opened.{Opened}
+use Rattle.dn_seal.specs.declared.seal.Seal.{Seal}
+use Rattle.dn_link.specs.declared.bundle.Carried.{Carried}
+use Rattle.dn_link.specs.declared.bundle.Identity.{Identity}
+use Rattle.dn_link.specs.declared.peer.Peer.{Peer}
+use Rattle.dn_link.specs.Kept.{IsCovering, Unacknowledged, end_of, going, has_tic, is_news, kept_after, taken_by}
+use Rattle.dn_link.specs.Linked.{Gives, Linked, PeerState}
+use Rattle.dn_link.specs.Linking.{peers_of}
+use Rattle.dn_link.specs.Paced.{PaceState}
+use Rattle.dn_link.specs.Packets.{opened_from, packets_in, packets_of}
+use Rattle.dn_link.specs.Packing.{ArePacked}
+use Rattle.dn_link.specs.Text.{parts_bytes}
+
+-- the packet has it
+abbrev lies : ℕ → Carried → Bool
+lies tic packet = nat_le packet.start tic && nat_lt tic (end_of packet)
+
+-- with more packets behind
+pub has_more : (tic : ℕ) (packets more : List Carried) → has_tic tic packets ≡ true
+    → has_tic tic (packets ++ more) ≡ true
+has_more tic [] more has = absurd (true≢false (sym has))
+has_more tic (packet ∷ packets) more has = elim (or_cases (lies tic packet) (has_tic tic packets) has) [
+  | inl here ↦ or_left (lies tic packet) (has_tic tic (packets ++ more)) here
+  | inr behind ↦ or_right (lies tic packet) (has_tic tic (packets ++ more)) (has_more tic packets more behind)
+]
+
+-- the last has it
+pub has_last : (tic : ℕ) (packets : List Carried) (packet : Carried) → packet.start ≤ tic → tic < end_of packet
+    → has_tic tic (packets ++ packet ∷ []) ≡ true
+has_last tic [] packet from before =
+    or_left (lies tic packet) false (and_from (nat_le packet.start tic) (nat_lt tic (end_of packet))
+    (le-leb packet.start tic from) (lt-ltb tic (end_of packet) before))
+has_last tic (other ∷ packets) packet from before =
+    or_right (lies tic other) (has_tic tic (packets ++ packet ∷ [])) (has_last tic packets packet from before)
+
+-- a packet that ends before does not have it
+pub has_behind : (tic : ℕ) (packet : Carried) (packets : List Carried) → end_of packet ≤ tic
+    → has_tic tic (packet ∷ packets) ≡ true → has_tic tic packets ≡ true
+has_behind tic packet packets ends has = elim (or_cases (lies tic packet) (has_tic tic packets) has) [
+  | inl here ↦ absurd (true≢false (sym here ∙ and_right (nat_le packet.start tic) (nat_lt tic (end_of packet))
+      (le-ltb tic (end_of packet) ends)))
+  | inr behind ↦ behind
+]
+
+-- a packet that goes on where the others end is kept
+pub covers_more : (kept : Unacknowledged) (packet : Carried) → IsCovering kept → is_news kept packet ≡ true
+    → IsCovering (record kept { packets = kept.packets ++ packet ∷ []; covered = end_of packet })
+covers_more kept packet covers news tic needed before = elim (cases_lt tic kept.covered) [
+  | inl was ↦ has_more tic kept.packets (packet ∷ []) (covers tic needed was)
+  | inr past ↦ has_last tic kept.packets packet (reaches (leb-true packet.start kept.covered
+      (and_parts (nat_le packet.start kept.covered) _ news).0) past) before
+]
+  where
+    reaches : {a b c : ℕ} → a ≤ b → b ≤ c → a ≤ c
+    reaches one other = omega (arith, one, other)
+
+-- what goes to the peer has all that is kept afterwards
+pub goes_covering : (kept : Unacknowledged) (packet : Option Carried) → IsCovering kept → (tic : ℕ)
+    → kept.done ≤ tic → tic < (kept_after kept packet).covered → has_tic tic (going kept packet) ≡ true
+goes_covering kept None covers tic needed before = covers tic needed before
+goes_covering kept (Some packet) covers tic needed before = go (is_news kept packet) refl before
+  where
+    go : (test : Bool) → is_news kept packet ≡ test
+        → tic < (if test then record kept { packets = kept.packets ++ packet ∷ []; covered = end_of packet } else kept).covered
+        → has_tic tic (kept.packets ++ packet ∷ []) ≡ true
+    go true news before = covers_more kept packet covers news tic needed before
+    go false old before = has_more tic kept.packets (packet ∷ []) (covers tic needed before)
+
+-- the peer needs fewer
+pub covers_less : (kept : Unacknowledged) (count : ℕ) → IsCovering kept
+    → IsCovering (record kept { covered = max kept.covered count; done = max kept.done count })
+covers_less kept count covers tic needed before =
+    covers tic (omega (arith, needed)) (omega (arith, needed, before))
+
+-- for each peer
+pub all_covering : (peers : List Peer) (place : ℕ) → IsCovering (peers_of peers place).kept
+all_covering [] place = λ tic needed before. absurd (omega (arith, before))
+all_covering (peer ∷ peers) zero = peer.kept.covers
+all_covering (peer ∷ peers) (suc place) = all_covering peers place
+
+-- and a datagram has all of them, where it has room
+pub carries : (seal : Seal) (identity : Identity) (pace : PaceState) (to : ℕ) (old new : Linked) (bytes : List ℕ)
+    (gives : Gives seal identity pace to old new bytes)
+    → IsCovering (old.peers to).kept → length gives.bundle.parts.items < 22
+    → length (parts_bytes gives.bundle.parts.items) ≤ 998
+    → (packets : List Carried) × (packets_in gives.bundle ≡ map (opened_from old.node.me) packets)
+    × ((tic : ℕ) → (old.peers to).kept.done ≤ tic → tic < (new.peers to).kept.covered → has_tic tic packets ≡ true)
+carries seal identity pace to old new bytes gives covers few short =
+    let kept : Unacknowledged = (old.peers to).kept in
+    let taken : Option Carried = taken_by (old.peers to).presence gives.given in
+    let packets : List Carried = going kept taken in
+    let packed : ArePacked old.node.me packets gives.bundle.parts.items = gives.packed in
+    let told : List Opened = map (opened_from old.node.me) packets in
+    let long = length-map packets (opened_from old.node.me) in
+    let all : length packets ≤ packed.count = elim (cases_lt packed.count (length packets)) [
+      | inl some ↦ let full = packed.all some few in absurd (omega (arith, full, short))
+      | inr none ↦ none
+    ] in
+    let count : packed.count ≡ length told = omega (arith, long, all, packed.some) in
+    let now : (new.peers to).kept.covered ≡ (kept_after kept taken).covered =
+    ap (λ (f : ℕ → PeerState). (f to).kept.covered) gives.peers
+    ∙ ap (λ (t : PeerState). t.kept.covered) (put_at old.peers to to _ refl) in (
+      packets,
+      ap (λ (k : ℕ). flat_map (packets_of k) gives.bundle.parts.items) gives.from ∙ packed.front
+          ∙ ap (λ (k : ℕ). take k told) count ∙ ap (take (length told)) (sym (append-nil told))
+          ∙ take-append_seam told [],
+      λ tic needed before. goes_covering kept taken covers tic needed (subst (λ (n : ℕ). tic < n) now before),
+    )

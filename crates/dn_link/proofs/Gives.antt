@@ -1,0 +1,193 @@
+-- What a link gives to a peer, within one game.
+use Rattle.std.proofs.Common.{◌≡◌, ◌<◌, ◌≤◌, ◌≢◌, ◌+◌, ◌%◌, ◌^◌, ℕ, Bool, true, false, List, refl, ap, sym, ◌∙◌, subst, arith, Option, None, Some, All, inl, inr}
+use Rattle.std.specs.Prelude.{if◌then◌else◌, ◌&&◌, ◌||◌, IfSome, is_some, nat_lt, slice_index}
+use Rattle.std.specs.Option.{option_map}
+use Rattle.std.proofs.lemmas.Bool.{cases_eq, cond_both}
+use Rattle.std.proofs.lemmas.Option.{none-some}
+use Rattle.dn_setup.specs.Settings.{Settings}
+use Rattle.dn_machine.specs.Flight.{Flight}
+use Rattle.dn_machine.specs.Limits.{Limits}
+use Rattle.dn_machine.specs.Node as machine
+use Rattle.dn_machine.specs.Node.{put}
+use Rattle.dn_machine.proofs.Put.{put_at, put_off}
+use Rattle.dn_lockstep.specs.Contents.{Contents}
+use Rattle.dn_lockstep.specs.Marking.{Marking}
+use Rattle.dn_lockstep.specs.OneGame.{AreOneGame}
+use Rattle.dn_lockstep.specs.Represents.{Represents}
+use Rattle.dn_lockstep.specs.Sent.{sent_to}
+use Rattle.dn_lockstep.specs.Session.{Session, with_lockstep, given_on, after_packet}
+use Rattle.dn_lockstep.specs.Near.{IsFair}
+use Rattle.dn_lockstep.specs.Steps.{Tells}
+use Rattle.dn_lockstep.proofs.OneGame.{GoesBetween, sent_between, gave}
+use Rattle.dn_seal.specs.declared.seal.Seal.{Seal}
+use Rattle.dn_link.specs.declared.bundle.Bundle.{Bundle}
+use Rattle.dn_link.specs.declared.bundle.Carried.{Carried}
+use Rattle.dn_link.specs.declared.bundle.Counts.{Counts}
+use Rattle.dn_link.specs.declared.bundle.Identity.{Identity}
+use Rattle.dn_link.specs.declared.presence.Presence.{Presence}
+use Rattle.dn_link.specs.Counting.{counts_of, has_ended, has_of}
+use Rattle.dn_link.specs.Ends.{tells_end}
+use Rattle.dn_link.specs.declared.presence.Presence.TheVariants.{Left}
+use Rattle.dn_link.proofs.Lefts.{counts_reach, tells_own}
+use Rattle.dn_link.specs.Bundles.{WasGiven, WasBundled}
+use Rattle.dn_link.specs.Hearing.{ByTest}
+use Rattle.dn_link.specs.Kept.{going, kept_after, taken_by, takes_packet}
+use Rattle.dn_link.specs.Giving.{SendsCarried, carried_of}
+use Rattle.dn_link.specs.Linked.{Linked, Gives, PeerState, holds_back, is_gathering}
+use Rattle.dn_link.specs.LinkedGame.{AreLinked, IsLater}
+use Rattle.dn_link.specs.Paced.{PaceState}
+use Rattle.dn_link.specs.Packets.{packets_in}
+use Rattle.dn_link.specs.Packing.{ArePacked}
+use Rattle.dn_link.proofs.Growing.{HasAsMuch, grows}
+use Rattle.dn_link.proofs.Holding.{Holds, holds_same, send_holds}
+use Rattle.dn_link.proofs.Relinking.{AreGiven, all_stay, found_later, later_by, keeps_given, packs_given, relinked}
+use Rattle.dn_link.proofs.Linking as base
+use Rattle.dn_link.proofs.Reported.{at_most, same_reported, same_presence}
+
+-- what a peer takes was given
+taken_given : (presence : Presence) (given : Option Carried) (carried : Carried)
+    → taken_by presence given ≡ Some carried → Some carried ≡ given
+taken_given presence None carried is = absurd (none-some carried is)
+taken_given presence (Some packet) carried is = go (takes_packet presence packet) is
+  where
+    go : (test : Bool) → (if test then Some packet else None) ≡ Some carried → Some carried ≡ Some packet
+    go true is = sym is
+    go false is = absurd (none-some carried is)
+
+-- a packet that is sent, or none
+sends_holds : (limits : Limits) (me : ℕ) (m : machine.Node) (to : ℕ) → Holds m (sent_to to limits me m).0
+sends_holds limits me m to = cond_both (nat_lt to limits.players) _ _
+    (λ (x : machine.Node × Option Flight). Holds m x.0) (λ below. send_holds limits me m to) (λ past. holds_same m)
+
+module _ (marking : Marking) (limits : Limits) (settings : Settings) (session : Session) (links : ℕ → Linked)
+    (player : ℕ) (linked : AreLinked marking limits settings session links) (mine : player < limits.players) where
+  abbrev old : Linked
+  old = links player
+
+  shows : Represents limits player old.node (linked.game.last.nodes player)
+  shows = base.shows marking limits settings session links player linked mine
+
+  node : old.node ≡ session.locksteps player
+  node = base.node marking limits settings session links player linked mine
+
+  own : old.node.me ≡ player
+  own = base.own marking limits settings session links player linked mine
+
+  has_more : (new : Contents) → HasAsMuch player old.node new → HasAsMuch player (session.locksteps player) new
+  has_more = base.has_more marking limits settings session links player linked mine
+
+  same_much : (new : Contents) → new ≡ session.locksteps player → HasAsMuch player (session.locksteps player) new
+  same_much = base.same_much marking limits settings session links player linked mine
+
+  left_on : (later : Session) → IsLater session later → (peer cause : ℕ) → (old.peers peer).presence ≡ Left cause
+      → has_ended (later.locksteps peer) ≡ true
+  left_on = base.left_on marking limits settings session links player linked mine
+
+  -- what goes to a peer, with the packet that the machine gave, if it gave one
+  gave_by : (seal : Seal) (identity : Identity) (pace : PaceState) (to : ℕ) (new : Linked) (bytes : List ℕ)
+      (flight : Option Flight) (gives : Gives seal identity pace to old new bytes)
+      → AreOneGame marking limits settings (after_packet session player flight new.node)
+      → GoesBetween player to flight → gives.given ≡ option_map carried_of flight
+      → HasAsMuch player (session.locksteps player) new.node
+      → WasBundled seal (after_packet session player flight new.node) bytes
+      × AreLinked marking limits settings (after_packet session player flight new.node) (put links player new)
+      × IsLater session (after_packet session player flight new.node)
+  gave_by seal identity pace to new bytes flight gives game between answer much =
+      let all = linked.kept player to mine in
+      let taken : Option Carried = taken_by (old.peers to).presence gives.given in
+      let is_given : (carried : Carried) → taken ≡ Some carried → Some carried ≡ option_map carried_of flight =
+      (λ carried taken_is. taken_given (old.peers to).presence gives.given carried taken_is ∙ answer) in
+      let packed = subst (λ (k : ℕ). ArePacked k (going (old.peers to).kept taken) gives.bundle.parts.items) own
+      gives.packed in
+      let every = packs_given session.given flight player to (old.peers to).kept taken between is_given all
+      gives.bundle (gives.from ∙ own) packed in
+      let later : Session = after_packet session player flight new.node in
+      let is = later_by session later player new.node refl (found_later session.given flight) much in
+      let told : (peer which : ℕ) → which ≢ peer
+      → slice_index (new.peers peer).reported which ≤ has_of (later.locksteps peer) which =
+      (λ peer which apart. at_most (ap (λ (l : List ℕ). slice_index l which)
+      (ap (λ (f : ℕ → PeerState). (f peer).reported) gives.peers ∙ same_reported old.peers to
+      (kept_after (old.peers to).kept taken)
+      ((old.peers to).gave || (is_gathering old.node.phase && is_some gives.given))
+      (((old.peers to).number + 1) % 2 ^ 32) peer))
+      (linked.reported player peer which mine apart) (is.got peer which apart)) in
+      let left : (peer cause : ℕ) → (new.peers peer).presence ≡ Left cause → has_ended (later.locksteps peer) ≡ true =
+      (λ peer cause was. left_on later is peer cause (sym (ap (λ (f : ℕ → PeerState). (f peer).presence) gives.peers
+      ∙ same_presence old.peers to (kept_after (old.peers to).kept taken)
+      ((old.peers to).gave || (is_gathering old.node.phase && is_some gives.given))
+      (((old.peers to).number + 1) % 2 ^ 32) peer) ∙ was)) in
+      let kept : (peer : ℕ) → AreGiven (given_on session.given flight) player peer (new.peers peer).kept.packets =
+      (λ peer. subst (λ (f : ℕ → PeerState). AreGiven (given_on session.given flight) player peer (f peer).kept.packets)
+      (sym gives.peers) (elim (cases_eq peer to) [
+        | inl at ↦ subst (λ (t : PeerState). AreGiven (given_on session.given flight) player peer t.kept.packets)
+            (sym (put_at old.peers to peer _ at))
+            (subst (λ (k : ℕ). AreGiven (given_on session.given flight) player k
+            (kept_after (old.peers to).kept taken).packets) (sym at)
+            (keeps_given session.given flight player to (old.peers to).kept taken between is_given all))
+        | inr off ↦ subst (λ (t : PeerState). AreGiven (given_on session.given flight) player peer t.kept.packets)
+            (sym (put_off old.peers to peer _ off))
+            (all_stay session.given flight player peer (old.peers peer).kept.packets (linked.kept player peer mine))
+      ])) in (
+        (
+          gives.bundle,
+          gives.fits,
+          gives.is,
+          subst (λ (k : ℕ). All (WasGiven (given_on session.given flight) k) (packets_in gives.bundle)) (sym gives.goes) every,
+          record {
+            got = λ which apart. at_most (ap (λ (c : Counts). slice_index c.got which) gives.counts)
+                (counts_reach new.node which) (at_most refl self (equal (ap (λ (n : Contents). has_of n which)
+                (put_at session.locksteps player gives.bundle.from new.node (gives.from ∙ own)))));
+            end = λ tells. ap has_ended (put_at session.locksteps player gives.bundle.from new.node (gives.from ∙ own))
+                ∙ tells_own new.node
+                (told_same gives.bundle new.node gives.counts (gives.from ∙ own ∙ sym (own_after new.node game)) tells);
+          },
+        ),
+        relinked marking limits settings session later links player new linked game refl is kept told left,
+        is,
+      )
+    where
+      self : {a : ℕ} → a ≤ a
+      self = omega arith
+
+      own_after : (now : Contents) → AreOneGame marking limits settings (after_packet session player flight now)
+          → now.me ≡ player
+      own_after now game =
+          ap (λ (n : Contents). n.me) (sym (put_at session.locksteps player player now refl))
+          ∙ (game.nodes player mine).whose.number
+
+      told_same : (bundle : Bundle) (now : Contents) → bundle.counts ≡ counts_of now → bundle.from ≡ now.me
+          → tells_end bundle ≡ true → nat_lt (counts_of now).made (slice_index (counts_of now).got now.me) ≡ true
+      told_same bundle now counts from tells =
+          (λ i. nat_lt (sym counts i).made (slice_index (sym counts i).got (sym from i))) ∙ tells
+
+      equal : {a b : ℕ} → a ≡ b → b ≤ a
+      equal e = omega (arith, e)
+
+  pub gave_to : ((new : Contents) → new ≡ session.locksteps player
+      → AreOneGame marking limits settings (with_lockstep session player new))
+      → (seal : Seal) (identity : Identity) (pace : PaceState) (to : ℕ) (new : Linked) (bytes : List ℕ)
+      → (holds_back old ≡ false → Tells old.node (λ limits me m. IfSome (sent_to to limits me m).1 IsFair))
+      → Gives seal identity pace to old new bytes
+      → (flight : Option Flight) × WasBundled seal (after_packet session player flight new.node) bytes
+      × AreLinked marking limits settings (after_packet session player flight new.node) (put links player new)
+      × IsLater session (after_packet session player flight new.node)
+  gave_to kept_game seal identity pace to new bytes all_fair gives = go (holds_back old) refl gives.step
+    where
+      go : (test : Bool) → holds_back old ≡ test
+          → ByTest test ((new.node ≡ old.node) × (gives.given ≡ None)) (SendsCarried to old.node new.node gives.given)
+          → (flight : Option Flight) × WasBundled seal (after_packet session player flight new.node) bytes
+          × AreLinked marking limits settings (after_packet session player flight new.node) (put links player new)
+          × IsLater session (after_packet session player flight new.node)
+      go true held step =
+          let same = step.0 ∙ node in
+          let all = gave_by seal identity pace to new bytes None gives (kept_game new.node same) tt step.1
+          (same_much new.node same) in (None, all.0, all.1, all.2)
+      go false ready step =
+          let m = linked.game.last.nodes player in
+          let flight : Option Flight = (sent_to to limits player m).1 in
+          let sent = step.step limits player m shows in
+          let much = grows limits player old.node new.node m _ shows sent.node mine (sends_holds limits player m to) in
+          let all = gave_by seal identity pace to new bytes flight gives
+          (gave marking limits settings linked.game player mine to new.node sent.node
+          (all_fair ready limits player m shows)) (sent_between limits player m to) sent.answer
+          (has_more new.node much) in (flight, all.0, all.1, all.2)

@@ -1,0 +1,24 @@
+use Rattle.std.proofs.Common.{◌≡◌, ◌<◌, ◌∷◌, [], ℕ, List, length, arith, true, nat_le, nat_lt, subst, ap, sym, ◌∙◌}
+use Rattle.std.proofs.lemmas.Bool.{and_parts, ltb-true}
+use Rattle.std.proofs.lemmas.List.{length-append}
+use Rattle.dn_link.specs.declared.bundle.Carried.{Carried}
+use Rattle.dn_link.specs.Keeping.{kept}
+use Rattle.dn_link.specs.Kept.{Unacknowledged, end_of, has_tic, is_news}
+use Rattle.dn_link.proofs.Covered.{covers_more}
+use Rattle.dn_link.proofs.kept.Kept.parts.Goals as goal
+
+pub invariant_of-self : goal.invariant_of-self
+invariant_of-self c =
+    let was : Unacknowledged = kept c.args.self.now in
+    let packet : Carried = c.in-Some.packet in
+    let news : is_news was packet ≡ true = sym c.is_news-news.ensures ∙ c.if-news.true in
+    let past = (and_parts (nat_le packet.start was.covered) _ news).1 in
+    let room = ltb-true (length was.packets) 24 (and_parts (nat_lt was.covered (end_of packet)) _ past).1 in
+    let more = ap (length {A = Carried}) c.push.ensures.items in
+    let both = length-append was.packets (packet ∷ []) in
+    record {
+      few = omega (arith, room, more, both);
+      covers = λ tic needed before. subst (λ (ps : List Carried). has_tic tic ps ≡ true) (sym c.push.ensures.items)
+          (covers_more was packet c.args.self.now.covers news tic needed
+          (subst (λ (n : ℕ). tic < n) c.end_of-end.ensures before));
+    }

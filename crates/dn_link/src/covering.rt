@@ -1,0 +1,27 @@
+//! What the packets that are kept for a peer have.
+
+ghost use Rattle.std.specs.Prelude.{◌≡◌, ◌<◌, ◌≤◌, ℕ, true, List, length, map};
+ghost use Rattle.dn_seal.specs.declared.seal.Seal.{Seal};
+ghost use Rattle.dn_link.specs.declared.bundle.Carried.{Carried};
+ghost use Rattle.dn_link.specs.declared.bundle.Identity.{Identity};
+ghost use Rattle.dn_link.specs.declared.link.Link.{Link};
+ghost use Rattle.dn_link.specs.Kept.{IsCovering, has_tic};
+ghost use Rattle.dn_link.specs.Linked.{Gives, Linked};
+ghost use Rattle.dn_link.specs.Linking.{linked};
+ghost use Rattle.dn_link.specs.Paced.{PaceState};
+ghost use Rattle.dn_link.specs.Packets.{opened_from, packets_in};
+ghost use Rattle.dn_link.specs.Text.{parts_bytes};
+
+/// The packets that any link keeps for a peer have each command from the first that the peer still needs to the
+/// last that they cover. And a datagram carries all of these, unless it has no room for some: then it has
+/// twenty-two parts or more, or these have more than 998 bytes.
+pub fn kept_covers()
+    ensures covers { (link : Link) (peer : ℕ) → IsCovering ((linked link).peers peer).kept }
+    ensures carried { (seal : Seal) (identity : Identity) (pace : PaceState) (to : ℕ) (old new : Linked) (bytes : List ℕ)
+        (gives : Gives seal identity pace to old new bytes)
+        → IsCovering (old.peers to).kept → length gives.bundle.parts.items < 22
+        → length (parts_bytes gives.bundle.parts.items) ≤ 998
+        → (packets : List Carried) × (packets_in gives.bundle ≡ map (opened_from old.node.me) packets)
+        × ((tic : ℕ) → (old.peers to).kept.done ≤ tic → tic < (new.peers to).kept.covered
+        → has_tic tic packets ≡ true) }
+{}
