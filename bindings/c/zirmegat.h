@@ -1,28 +1,30 @@
 /* zirmegat.h: vanilla Doom's network play for an engine that has a world of its own. C99 and C++.
  *
- * A node is one player's part of a game of two to four players. For each tic it takes a command, or builds
- * one from keys. It writes and reads Doom's datagrams, reports when a tic runs and by which moves, checks the
- * marks of the worlds, and records a demo. Maps, monsters and physics stay yours, and so does the network:
- * the library opens nothing, never waits, and prints nothing. A tic is 1/35 second.
+ * A node is one player's part of a game of two to four players. A lockstep (zmg_lockstep) is a node whose
+ * world is the caller's. For each tic it takes a command, or builds one from keys. It writes and reads Doom's
+ * datagrams, reports when a tic runs and by which moves, checks the marks of the worlds, and records a demo.
+ * Maps, monsters and physics stay yours, and so does the network: the library opens nothing, never waits, and
+ * prints nothing. A tic is 1/35 second.
  *
- *     zmg_node node = ZMG_NODE_NONE;
- *     if (zmg_node_new(&node, &config) != ZMG_NEW_OK) there is no node
+ *     zmg_lockstep node = ZMG_LOCKSTEP_NONE;
+ *     if (zmg_lockstep_new(&node, &config) != ZMG_NEW_OK) there is no node
  *     35 times a second:
- *         if (zmg_node_can_build(&node)) zmg_node_give(&node, &command);  or zmg_node_build(&node, keys);
- *         each other player: n = zmg_node_packet(&node, player, bytes, sizeof bytes); if (n) send it
- *         each datagram: if (zmg_node_receive(&node, sender, bytes, n).code == ZMG_RECEIVE_STARTED)
+ *         if (zmg_lockstep_can_build(&node)) zmg_lockstep_give(&node, &command);
+ *             or zmg_lockstep_build(&node, keys)
+ *         each other player: n = zmg_lockstep_packet(&node, player, bytes, sizeof bytes); if (n) send it
+ *         each datagram: if (zmg_lockstep_receive(&node, sender, bytes, n).code == ZMG_RECEIVE_STARTED)
  *             begin the world
- *         while (zmg_node_run(&node, marks of the world, row).code == ZMG_RUN_RAN) step the world by row
- *     zmg_node_quit(&node);  send and receive for a second more;  zmg_node_free(&node);
+ *         while (zmg_lockstep_run(&node, marks of the world, row).code == ZMG_RUN_RAN) step the world by row
+ *     zmg_lockstep_quit(&node);  send and receive for a second more;  zmg_lockstep_free(&node);
  *
  * What the caller owes:
  *   - Each player of a game has one node, made once. players, extra, limit and the window are the same for
  *     all.
  *   - Pointers are valid and aligned for what they point to, and not NULL, even if a length is 0. Memory that
  *     a call writes overlaps nothing else that the call is given.
- *   - A handle (zmg_node, zmg_sealed_node, zmg_link, zmg_demo) is ZMG_NODE_NONE, ZMG_SEALED_NODE_NONE,
- *     ZMG_LINK_NONE or ZMG_DEMO_NONE at first, and then as the library left it. You may move it in memory; if
- *     you copy it, use only one of the copies.
+ *   - A handle (zmg_lockstep, zmg_sealed_lockstep, zmg_link, zmg_demo) is ZMG_LOCKSTEP_NONE,
+ *     ZMG_SEALED_LOCKSTEP_NONE, ZMG_LINK_NONE or ZMG_DEMO_NONE at first, and then as the library left it. You
+ *     may move it in memory; if you copy it, use only one of the copies.
  *   - Only one thread at a time uses a handle. A handle may pass from one thread to another if something
  *     orders the calls of the first before those of the second: a lock, or a thread's start or end. Different
  *     threads may use different handles at once.
@@ -30,23 +32,23 @@
  *   - malloc, realloc and free come from one allocator, and work on each thread that uses a handle, also for
  *     blocks that another thread allocated. malloc and realloc align a block to each power of two up to 16
  *     that divides its size: for 24 bytes, to 8.
- *   - zmg_node_receive is given datagrams of this game as zmg_node_packet returned them, each with the number
- *     of its sender, and only those for this player; and none that is old, as described there. A sealed node
- *     and a link take care of all of this themselves.
- *   - zmg_node_run is given the marks of the caller's own world. That world began with zmg_node_settings and
- *     the players 0 to zmg_node_players - 1 when zmg_node_receive returned ZMG_RECEIVE_STARTED. It was
- *     stepped by every row that zmg_node_run returned, and by nothing else. Its marks follow from its state
- *     alone (no clock, no random numbers but the world's own, no pointers).
+ *   - zmg_lockstep_receive is given datagrams of this game as zmg_lockstep_packet returned them, each with the
+ *     number of its sender, and only those for this player; and none that is old, as described there. A sealed
+ *     lockstep and a link take care of all of this themselves.
+ *   - zmg_lockstep_run is given the marks of the caller's own world. That world began with
+ *     zmg_lockstep_settings and the players 0 to zmg_lockstep_players - 1 when zmg_lockstep_receive returned
+ *     ZMG_RECEIVE_STARTED. It was stepped by every row that zmg_lockstep_run returned, and by nothing else.
+ *     Its marks follow from its state alone (no clock, no random numbers but the world's own, no pointers).
  * The library checks every number and every byte itself. A handle that holds nothing may be passed to every
- * call. Build, give and run then return NOT_PLAYING; zmg_node_receive and zmg_sealed_node_receive
- * ZMG_RECEIVE_DROPPED with ZMG_DROP_NOT_PLAYING; zmg_link_receive ZMG_RECEIVED_UNOPENED with reason 0;
- * zmg_link_catch_up ZMG_BUILD_NONE_OWED; every other call on nodes and links ZMG_PHASE_NO_NODE or 0. The calls
- * on demos return ZMG_DEMO_NO_READER or 0.
+ * call. Build, give and run then return NOT_PLAYING; zmg_lockstep_receive and zmg_sealed_lockstep_receive
+ * ZMG_RECEIVE_DROPPED with ZMG_DROP_NOT_PLAYING; zmg_link_receive ZMG_LINK_RECEIVE_UNOPENED with reason 0;
+ * zmg_link_catch_up ZMG_BUILD_NONE_OWED; every other call on locksteps and links ZMG_PHASE_NONE or 0. The
+ * calls on demos return ZMG_DEMO_NO_READER or 0.
  *
- * The codes that a call returns carry its name: ZMG_RUN_ are those of zmg_node_run, ZMG_DEMO_ those of the
- * calls on demos. ZMG_DROP_ says why zmg_node_receive or zmg_packet_decode refused a datagram, ZMG_SEAL_ why
- * a sealed node did not take bytes for an envelope, and ZMG_LINK_ why a link did not take them for a
- * datagram. The names and numbers of this header do not change. New ones may be added.
+ * The codes that a call returns carry its name: ZMG_RUN_ are those of zmg_lockstep_run, ZMG_DEMO_ those of the
+ * calls on demos. ZMG_DROP_ says why zmg_lockstep_receive or zmg_packet_decode refused a datagram, ZMG_SEAL_
+ * why a sealed lockstep did not take bytes for an envelope, and ZMG_BUNDLE_ why a link did not take them for
+ * a datagram. The names and numbers of this header do not change. New ones may be added.
  */
 #ifndef ZIRMEGAT_H
 #define ZIRMEGAT_H
@@ -65,16 +67,17 @@ extern "C" {
  * 65536. */
 uint32_t zmg_version(void);
 
-/* ---- A node ------------------------------------------------------------------------------------------- */
+/* ---- A lockstep --------------------------------------------------------------------------------------- */
 
-/* A handle that holds a node, or none. The fields are the library's own. ZMG_NODE_NONE is an initialiser, for
- * a handle that holds nothing yet. Overwriting a handle that holds a node, with ZMG_NODE_NONE or with another
- * handle, leaks the node's memory. zmg_node_free empties a handle. */
-typedef struct zmg_node {
+/* A lockstep is a node whose world is the caller's: all that is said of a node holds for it. This is a handle
+ * that holds a lockstep, or none. The fields are the library's own. ZMG_LOCKSTEP_NONE is an initialiser, for
+ * a handle that holds nothing yet. Overwriting a handle that holds one, with ZMG_LOCKSTEP_NONE or with another
+ * handle, leaks the node's memory. zmg_lockstep_free empties a handle. */
+typedef struct zmg_lockstep {
     uint8_t live;
     void *at;
-} zmg_node;
-#define ZMG_NODE_NONE { 0, NULL }
+} zmg_lockstep;
+#define ZMG_LOCKSTEP_NONE { 0, NULL }
 
 /* The choice of game. skill: 0 to 4, 0 the easiest. deathmatch: 0 for cooperative play, 1, or 2 for
  * deathmatch 2.0. no_monsters and respawn: 0 for no, else yes. episode: 1 to 3. map: 1 to 32. Monsters are
@@ -89,7 +92,7 @@ typedef struct zmg_settings {
  * players: 2 to 4. The same for all players.
  * me: the number of this player, 0 to players - 1.
  * extra: if not 0, each packet repeats the last command, which helps on lines that lose packets. The same for
- *     all players. A link gains nothing by it: each of its datagrams has every unacknowledged packet anyway.
+ *     all players. A link gains nothing by it: its datagrams repeat what is not acknowledged anyway.
  * settings: those of player 0, who sends them to the others; those of other players are not read. */
 typedef struct zmg_config {
     uint32_t limit;
@@ -97,10 +100,10 @@ typedef struct zmg_config {
     zmg_settings settings;
 } zmg_config;
 
-/* What the calls return that make a node or a link: the first fault, or ZMG_NEW_OK. Player 0's settings are
- * checked first, then the window, then the rest; calls that take a secret check it before all else.
+/* What the calls return that make a lockstep or a link: the first fault, or ZMG_NEW_OK. Player 0's settings
+ * are checked first, then the window, then the rest; calls that take a secret check it before all else.
  * ZMG_NEW_BAD_KEY is never returned, ZMG_NEW_BAD_AHEAD only by calls with a window, and ZMG_NEW_BAD_SECRET
- * only by zmg_sealed_node_new and zmg_link_new. */
+ * only by zmg_sealed_lockstep_new and zmg_link_new. */
 #define ZMG_NEW_OK 0u
 #define ZMG_NEW_BAD_PLAYERS 1u    /* not 2 to 4 players */
 #define ZMG_NEW_BAD_ME 2u         /* me is not below players */
@@ -114,22 +117,22 @@ typedef struct zmg_config {
 #define ZMG_NEW_BAD_AHEAD 10u     /* the window is not 1 to ZMG_WIDEST_AHEAD */
 #define ZMG_NEW_BAD_SECRET 11u    /* all bytes of the secret are 0 */
 
-/* Makes a node in the handle. A node that the handle holds is freed first. All memory is allocated here: no
- * later call on the node allocates any. If the call returns anything but ZMG_NEW_OK, the handle holds no
- * node. */
-uint32_t zmg_node_new(zmg_node *node, const zmg_config *config);
+/* Makes a lockstep in the handle. One that the handle holds is freed first. All memory is allocated here: no
+ * later call on the lockstep allocates any. If the call returns anything but ZMG_NEW_OK, the handle holds
+ * nothing. */
+uint32_t zmg_lockstep_new(zmg_lockstep *node, const zmg_config *config);
 
 /* The same with a window of its own: this player may be `ahead` commands ahead of the tics that the node ran,
  * 1 to ZMG_WIDEST_AHEAD, instead of ZMG_MOST_AHEAD. The same for all players: nothing is promised of a game
  * with two windows. Each further command hides 1/35 second more of the line's delay; once it is used, a key
  * is felt 1/35 second later. */
 #define ZMG_WIDEST_AHEAD 12u
-uint32_t zmg_node_new_within(zmg_node *node, const zmg_config *config, uint8_t ahead);
+uint32_t zmg_lockstep_new_within(zmg_lockstep *node, const zmg_config *config, uint8_t ahead);
 
-/* Frees the node and its memory. The handle then holds none, and a new node may be made in it. */
-void zmg_node_free(zmg_node *node);
+/* Frees the lockstep and its memory. The handle then holds none, and a new one may be made in it. */
+void zmg_lockstep_free(zmg_lockstep *node);
 
-/* The bits of the keys for zmg_node_build. */
+/* The bits of the keys for zmg_lockstep_build. */
 #define ZMG_KEY_FORWARD (1u << 0)
 #define ZMG_KEY_BACK (1u << 1)
 #define ZMG_KEY_LEFT (1u << 2)
@@ -142,11 +145,11 @@ void zmg_node_free(zmg_node *node);
 #define ZMG_KEY_USE (1u << 9)
 #define ZMG_KEY_WEAPON(n) (1u << (9 + (n))) /* n is 1 to 8 */
 
-/* code: ZMG_BUILD_MADE if the command of `tic` was made, ZMG_BUILD_AHEAD if as many commands are waiting to
+/* code: ZMG_BUILD_MADE if the command of `tic` was made, ZMG_BUILD_FULL if as many commands are waiting to
  * be run as the window allows, ZMG_BUILD_NOT_PLAYING if the node does not play. tic is 0 except with
  * ZMG_BUILD_MADE. */
 #define ZMG_BUILD_MADE 0u
-#define ZMG_BUILD_AHEAD 1u
+#define ZMG_BUILD_FULL 1u
 #define ZMG_BUILD_NOT_PLAYING 2u
 typedef struct zmg_made {
     uint32_t code, tic;
@@ -154,9 +157,9 @@ typedef struct zmg_made {
 
 /* Builds the command of these keys for the next tic. Bits from 18 on are ignored. If no command is made, the
  * node stays as it is. */
-zmg_made zmg_node_build(zmg_node *node, uint32_t keys);
+zmg_made zmg_lockstep_build(zmg_lockstep *node, uint32_t keys);
 
-/* The window of a node of zmg_node_new: how many of its commands may be waiting to be run. */
+/* The window of zmg_lockstep_new: how many commands of the node's own player may be waiting to be run. */
 #define ZMG_MOST_AHEAD 5u
 
 /* A tic command. The fields of the move are as in zmg_move. mark: the consistency mark of the player's own
@@ -167,18 +170,18 @@ typedef struct zmg_command {
     uint8_t chat, buttons;
 } zmg_command;
 
-/* Takes a whole command for the next tic, instead of zmg_node_build: for an engine that makes its commands
- * itself, from a mouse, a stick, keys of its own, chat, pause or save. Returns what zmg_node_build returns.
+/* Takes a whole command for the next tic, instead of zmg_lockstep_build: for an engine that makes its commands
+ * itself, from a mouse, a stick, keys of its own, chat, pause or save. Returns what zmg_lockstep_build returns.
  * All numbers are taken as they are except two: mark is not read, since the node puts in its own; and a
  * forward of -128 counts as -127, since -128 would end a demo. To read back what was made, call
- * zmg_node_command(node, me, tic) with the tic that was returned. Turns by keys begin slowly: for later
+ * zmg_lockstep_command(node, me, tic) with the tic that was returned. Turns by keys begin slowly: for later
  * builds from keys, a given command counts as a build with no key down. */
-zmg_made zmg_node_give(zmg_node *node, const zmg_command *command);
+zmg_made zmg_lockstep_give(zmg_lockstep *node, const zmg_command *command);
 
-/* Returns 1 if zmg_node_build and zmg_node_give would make a command now: the node plays, and fewer of its
- * commands are waiting to be run than its window allows. Else returns 0. Ask before you consume the motion of
- * a mouse or a letter of chat, which would be lost with a command that is not made. */
-uint32_t zmg_node_can_build(zmg_node *node);
+/* Returns 1 if zmg_lockstep_build and zmg_lockstep_give would make a command now: the node plays, and fewer of
+ * its commands are waiting to be run than its window allows. Else returns 0. Ask before you consume the motion
+ * of a mouse or a letter of chat, which would be lost with a command that is not made. */
+uint32_t zmg_lockstep_can_build(zmg_lockstep *node);
 
 /* A command, if known is 1; if there is none, all fields are 0. */
 typedef struct zmg_known_command {
@@ -188,18 +191,18 @@ typedef struct zmg_known_command {
 
 /* Returns a player's command for a tic, with its chat and mark, which zmg_move lacks. The last twelve
  * commands that the node has of each player are known, its own among them, or twice the window if that is
- * more. The command of the next tic to be run, zmg_node_ran, is known as soon as it has arrived: read it
- * before zmg_node_run, and use it if that tic is run. From the tic of zmg_node_end on there is none. */
-zmg_known_command zmg_node_command(zmg_node *node, uint8_t player, uint32_t tic);
+ * more. The command of the next tic to be run, zmg_lockstep_ran, is known as soon as it has arrived: read it
+ * before zmg_lockstep_run, and use it if that tic is run. From the tic of zmg_lockstep_end on there is none. */
+zmg_known_command zmg_lockstep_command(zmg_lockstep *node, uint8_t player, uint32_t tic);
 
-/* How many bytes of room zmg_node_packet needs: a packet has no more. */
+/* How many bytes of room zmg_lockstep_packet needs: a packet has no more. */
 #define ZMG_PACKET_SIZE 104u
 
 /* Writes the next packet to player `to` to the front of out, and returns how many bytes it has. The packet
  * then counts as sent. Returns 0, and leaves the node and out as they were, if room is below
  * ZMG_PACKET_SIZE or if there is no packet: to the node's own player, to a number that belongs to no player,
  * at ZMG_PHASE_LISTENING, and at ZMG_PHASE_ENDED if no game had started. */
-size_t zmg_node_packet(zmg_node *node, uint8_t to, uint8_t *out, size_t room);
+size_t zmg_lockstep_packet(zmg_lockstep *node, uint8_t to, uint8_t *out, size_t room);
 
 /* A number, if known is 1; if there is none, both fields are 0. */
 typedef struct zmg_number {
@@ -208,7 +211,7 @@ typedef struct zmg_number {
 
 /* The full tic numbers of a packet, which itself carries only their low bytes. known: 1, or 0 if there is no
  * packet, and then all fields are 0. ask: the first tic whose command is asked for again, if any; as long as
- * all callers do what they owe, at most the window (5, or that of zmg_node_new_within) before start. start:
+ * all callers do what they owe, at most the window (5, or that of zmg_lockstep_new_within) before start. start:
  * the tic of the first command; 0 for set-up. count: how many commands. flags: as in zmg_packet. */
 typedef struct zmg_aim {
     uint32_t known;
@@ -217,10 +220,10 @@ typedef struct zmg_aim {
     uint8_t flags, count;
 } zmg_aim;
 
-/* Returns the numbers of the packet that zmg_node_packet would write for player `to` now. Call it before
- * zmg_node_packet, which moves on to the next packet. A transport may send start along, so that the receiver
- * recognises old datagrams: see zmg_node_receive. */
-zmg_aim zmg_node_aim(zmg_node *node, uint8_t to);
+/* Returns the numbers of the packet that zmg_lockstep_packet would write for player `to` now. Call it before
+ * zmg_lockstep_packet, which moves on to the next packet. A transport may send start along, so that the
+ * receiver recognises old datagrams: see zmg_lockstep_receive. */
+zmg_aim zmg_lockstep_aim(zmg_lockstep *node, uint8_t to);
 
 /* code: what became of a datagram. number: how many commands were new (ZMG_RECEIVE_TAKEN), or why it was
  * dropped (ZMG_RECEIVE_DROPPED; see ZMG_DROP_), else 0. */
@@ -228,8 +231,8 @@ zmg_aim zmg_node_aim(zmg_node *node, uint8_t to);
 #define ZMG_RECEIVE_TAKEN 1u   /* commands were new, and are kept */
 #define ZMG_RECEIVE_STALE 2u   /* no command was new */
 #define ZMG_RECEIVE_GAP 3u     /* commands before its first are missing, and are asked for; the sender may
-                                * have left: see zmg_node_end */
-#define ZMG_RECEIVE_LEFT 4u    /* the sender has left, and all its commands are here: see zmg_node_end */
+                                * have left: see zmg_lockstep_end */
+#define ZMG_RECEIVE_LEFT 4u    /* the sender has left, and all its commands are here: see zmg_lockstep_end */
 #define ZMG_RECEIVE_NOTED 5u   /* at ZMG_PHASE_GATHERING: the sender was heard, but not yet all others; else
                                 * this node has ended */
 #define ZMG_RECEIVE_DROPPED 6u
@@ -246,31 +249,31 @@ typedef struct zmg_heard {
                                   * names */
 #define ZMG_DROP_OUT_OF_PLACE 6u /* settings that are not from player 0, or that come once the game runs */
 #define ZMG_DROP_VERSION 7u      /* the sender plays another version */
-#define ZMG_DROP_SETTINGS 8u     /* settings out of range */
+#define ZMG_DROP_RANGE 8u        /* settings out of range */
 #define ZMG_DROP_KILL 9u         /* a KILL packet, which no node obeys */
-#define ZMG_DROP_BEFORE 10u      /* its start is a tic below 0 */
-#define ZMG_DROP_STOP 11u        /* a command that would end a demo */
+#define ZMG_DROP_TIC 10u         /* its start is a tic below 0 */
+#define ZMG_DROP_COMMAND 11u     /* a command that would end a demo */
 #define ZMG_DROP_OVERRUN 12u     /* more tics ahead than the node keeps commands */
 #define ZMG_DROP_NOT_PLAYING 13u /* the game has not started here, or this node has ended */
 #define ZMG_DROP_END 14u         /* it contradicts the sender's end */
 
 /* Takes in a datagram from player `from`. It is up to the transport to know who sent it. A packet carries
  * only the low bytes of tics, so the transport passes in none whose start or ask lies more than 64 tics from
- * zmg_node_made. A set-up packet may come at any time. Let w be the window (ZMG_MOST_AHEAD, or that of
- * zmg_node_new_within), and k the number of commands that a node keeps of each player: 12, or 2 * w if that
+ * zmg_lockstep_made. A set-up packet may come at any time. Let w be the window (ZMG_MOST_AHEAD, or that of
+ * zmg_lockstep_new_within), and k the number of commands that a node keeps of each player: 12, or 2 * w if that
  * is more. Either of two rules will do:
  *   - By number. The transport sends zmg_aim.start along, and drops at receipt what starts more than 64 - w
- *     away (59 with five), since ask lies at most w before start, and never past zmg_node_made.
+ *     away (59 with five), since ask lies at most w before start, and never past zmg_lockstep_made.
  *   - By age. It drops what is older than 64 - k - w tics (47: 1.3 seconds at 35 builds a second), since a
  *     new packet may already lie up to k + w away (17). To a node that has ended it passes nothing later than
- *     64 - w tics after its end (59), since those who play on leave its zmg_node_made behind. These tics are
- *     commands: those that the receiver has made since the packet was given, and those that a sender makes
+ *     64 - w tics after its end (59), since those who play on leave its zmg_lockstep_made behind. These tics
+ *     are commands: those that the receiver has made since the packet was given, and those that a sender makes
  *     after the receiver's end. A node that makes several in a tic, as after a pause, counts each.
- * What a player gives after it has left keeps its start while the others play on, so its age does not show
- * how far away it lies. Once zmg_node_ran has reached that player's zmg_node_end, the transport drops all
- * packets of that player. Until then, what was given after the player left is near at any age at a node that
- * has not ended, and what was given before goes by age. */
-zmg_heard zmg_node_receive(zmg_node *node, uint8_t from, const uint8_t *bytes, size_t length);
+ * The packets that a player gives after it has left keep their start while the others play on, so their age
+ * does not show how far away they lie. Once zmg_lockstep_ran has reached that player's zmg_lockstep_end, the
+ * transport drops all packets of that player. Until then, at a node that has not ended, packets that were given
+ * after the player left are near at any age, and those that were given before go by age. */
+zmg_heard zmg_lockstep_receive(zmg_lockstep *node, uint8_t from, const uint8_t *bytes, size_t length);
 
 /* A player's move in one tic, if present is 1; else all fields are 0. forward and side are in units of 2048
  * in a world of 16 fractional bits, side to the right; turn is to the left, in 65,536ths of a full turn.
@@ -282,11 +285,11 @@ typedef struct zmg_move {
     uint8_t buttons, present;
 } zmg_move;
 
-/* code: ZMG_RUN_RAN if `tic` was run; ZMG_RUN_WAITING if the command of `player` is missing;
- * ZMG_RUN_DEMO_FULL or ZMG_RUN_INCONSISTENT if this call ended the node; ZMG_RUN_NOT_PLAYING if it does not
- * play. With ZMG_RUN_INCONSISTENT the command of `player` for the next tic carries the mark `was` instead of
- * `should`: the worlds have differed since twelve tics before, or earlier. Fields that are not named for a
- * code are 0. */
+/* code: ZMG_RUN_RAN if `tic` was run; ZMG_RUN_WAITING if the command of `player` is missing, the lowest such
+ * player; ZMG_RUN_DEMO_FULL or ZMG_RUN_INCONSISTENT if this call ended the node; ZMG_RUN_NOT_PLAYING if it does
+ * not play. With ZMG_RUN_INCONSISTENT the command of `player` for the next tic, the lowest such player too,
+ * carries the mark `was` instead of `should`: the worlds have differed since twelve tics before, or earlier.
+ * Fields that are not named for a code are 0. */
 #define ZMG_RUN_RAN 0u
 #define ZMG_RUN_WAITING 1u
 #define ZMG_RUN_DEMO_FULL 2u
@@ -301,22 +304,22 @@ typedef struct zmg_ran {
 /* Runs the next tic, if it can. marks: each player's mark in the caller's world as it stands; any number for
  * a seat without a player. With ZMG_RUN_RAN, row has the moves by which the world is stepped next; with any
  * other code row stays as it is. */
-zmg_ran zmg_node_run(zmg_node *node, const int16_t marks[4], zmg_move row[4]);
+zmg_ran zmg_lockstep_run(zmg_lockstep *node, const int16_t marks[4], zmg_move row[4]);
 
 /* Ends the node. Returns 1 if it had not ended before, else 0. If it has played, it still gives packets,
  * which show the others where its commands end, and still takes datagrams, which may ask for its last
  * commands again. So go on sending and receiving for a second or so. */
-uint32_t zmg_node_quit(zmg_node *node);
+uint32_t zmg_lockstep_quit(zmg_lockstep *node);
 
-/* The calls that read a node. */
+/* The calls that read a lockstep. */
 
-#define ZMG_PHASE_NO_NODE 0u
+#define ZMG_PHASE_NONE 0u
 #define ZMG_PHASE_LISTENING 1u /* waits for player 0's settings */
 #define ZMG_PHASE_GATHERING 2u /* player 0, which waits to hear from every other */
 #define ZMG_PHASE_PLAYING 3u
 #define ZMG_PHASE_ENDED 4u
 #define ZMG_CAUSE_NONE 0u
-#define ZMG_CAUSE_QUIT 1u         /* zmg_node_quit */
+#define ZMG_CAUSE_QUIT 1u         /* zmg_lockstep_quit */
 #define ZMG_CAUSE_FULL 2u         /* the demo had no room for the next tic; or 2,097,150 tics were
                                    * run in a game that somebody has left */
 #define ZMG_CAUSE_INCONSISTENT 3u /* player, was and should as in zmg_ran; 0 at other causes */
@@ -326,19 +329,19 @@ typedef struct zmg_phase {
     uint8_t player;
 } zmg_phase;
 
-zmg_phase zmg_node_phase(zmg_node *node);
-/* Returns the number of the node's player; 0 for no node. */
-uint32_t zmg_node_me(zmg_node *node);
-/* Returns how many players the game has; 0 for no node. */
-uint32_t zmg_node_players(zmg_node *node);
+zmg_phase zmg_lockstep_phase(zmg_lockstep *node);
+/* Returns the number of the node's player; 0 for a handle that holds none. */
+uint32_t zmg_lockstep_me(zmg_lockstep *node);
+/* Returns how many players the game has; 0 for a handle that holds none. */
+uint32_t zmg_lockstep_players(zmg_lockstep *node);
 /* Returns how many commands the node has made, from keys or given. */
-uint32_t zmg_node_made(zmg_node *node);
+uint32_t zmg_lockstep_made(zmg_lockstep *node);
 /* Returns how many tics it has run. */
-uint32_t zmg_node_ran(zmg_node *node);
+uint32_t zmg_lockstep_ran(zmg_lockstep *node);
 /* Returns how many commands it has of a player; known is 0 for a number that belongs to no player. */
-zmg_number zmg_node_got(zmg_node *node, uint8_t player);
+zmg_number zmg_lockstep_got(zmg_lockstep *node, uint8_t player);
 /* Returns the tic after a player's last command, if it is known: from this tic on the player has no moves. */
-zmg_number zmg_node_end(zmg_node *node, uint8_t player);
+zmg_number zmg_lockstep_end(zmg_lockstep *node, uint8_t player);
 
 /* The choice of game, if known is 1: for player 0 from the beginning, for the others once the game has
  * started. */
@@ -346,28 +349,28 @@ typedef struct zmg_known_settings {
     uint32_t known;
     zmg_settings settings;
 } zmg_known_settings;
-zmg_known_settings zmg_node_settings(zmg_node *node);
+zmg_known_settings zmg_lockstep_settings(zmg_lockstep *node);
 
 /* Returns how many bytes the demo has so far. */
-size_t zmg_node_demo_length(zmg_node *node);
+size_t zmg_lockstep_demo_length(zmg_lockstep *node);
 /* Copies the demo from byte `from` on, as far as there is room, and returns how many bytes it copied. The
  * demo is complete, with its end marker, once a node that has played has ended, or a tic without some player
  * was run. It has no bytes before the start, nor at a node that ended before the start. Save it before
- * zmg_node_free. */
-size_t zmg_node_demo(zmg_node *node, size_t from, uint8_t *out, size_t room);
+ * zmg_lockstep_free. */
+size_t zmg_lockstep_demo(zmg_lockstep *node, size_t from, uint8_t *out, size_t room);
 
-/* ---- A sealed node ------------------------------------------------------------------------------------- */
+/* ---- A sealed lockstep -------------------------------------------------------------------------------- */
 
-/* A node and its seal, for an untrusted network. Its packets go out in envelopes: the datagram, its sender,
- * its receiver and its full tic numbers, under a tag that only the players of the game can make
- * (HMAC-SHA-256, of which 16 bytes are sent). Any bytes may come in, from anywhere and at any time. Bytes
- * that are not an envelope to this player in this game are dropped, and so is an old envelope: zmg_node_aim
- * and a table of senders are not needed. As long as nobody without the secret makes a tag, the games of the
- * nodes agree, whatever the network loses, repeats, reorders, delays, alters, forges or gives another sender.
- * Instead of what zmg_node_receive requires, the caller owes:
+/* A lockstep and its seal, for an untrusted network: a sealed node. Its packets go out in envelopes: the
+ * datagram, its sender, its receiver and its full tic numbers, under a tag that only the players of the game
+ * can make (HMAC-SHA-256, of which 16 bytes are sent). Any bytes may come in, from anywhere and at any time.
+ * Bytes that are not an envelope to this player in this game are dropped, and so is an old envelope:
+ * zmg_lockstep_aim and a table of senders are not needed. As long as nobody without the secret makes a tag,
+ * the games of the nodes agree, whatever the network loses, repeats, reorders, delays, alters, forges or gives
+ * another sender. Instead of what zmg_lockstep_receive requires, the caller owes:
  *   - Delivery. If nothing gets through, the game waits, and nothing worse happens.
  *   - One node. A player makes one node in a game: no second one with the same number, and none that goes on
- *     from a copy of memory. All its packets come from zmg_sealed_node_packet: a player who seals packets
+ *     from a copy of memory. All its packets come from zmg_sealed_lockstep_packet: a player who seals packets
  *     other than by these calls can send the others different commands.
  *   - One number for each game. Player 0's machine draws sixteen random bytes and sends them to the others.
  *     The number need not be secret, but each player must get the one that was drawn: whoever can hand a
@@ -376,60 +379,60 @@ size_t zmg_node_demo(zmg_node *node, size_t from, uint8_t *out, size_t room);
  *   - A secret that is kept: 32 random bytes, known to the players alone and used for nothing else. Whoever
  *     has it can send as any player, and whoever records an envelope can try guesses against it.
  * Nothing is encrypted: whoever sees the line can read commands and chat. Keys are not wiped from memory. The
- * marks of zmg_sealed_node_run are owed as those of zmg_node_run are.
+ * marks of zmg_sealed_lockstep_run are owed as those of zmg_lockstep_run are.
  *
- * The calls do and return what those of a node do, with the same structs and codes; but there is no aim, and
- * packet and receive are the ones described here. A call on a handle that holds no sealed node returns what
- * it returns on a handle that holds no node. */
-typedef struct zmg_sealed_node {
+ * The calls do and return what those of a lockstep do, with the same structs and codes; but there is no aim,
+ * and packet and receive are the ones described here. A call on a handle that holds no sealed lockstep
+ * returns what it returns on a handle that holds no lockstep. */
+typedef struct zmg_sealed_lockstep {
     uint8_t live;
     void *at;
-} zmg_sealed_node;
-#define ZMG_SEALED_NODE_NONE { 0, NULL }
+} zmg_sealed_lockstep;
+#define ZMG_SEALED_LOCKSTEP_NONE { 0, NULL }
 
 /* The sizes in bytes of a secret and of a game's number. */
 #define ZMG_SECRET_SIZE 32
 #define ZMG_NUMBER_SIZE 16
 
-/* Makes a sealed node in the handle, with a window of `ahead` commands: ZMG_MOST_AHEAD is that of
- * zmg_node_new. All players of a game have the same secret, number and window. Returns ZMG_NEW_BAD_SECRET if
- * all bytes of the secret are 0, as in a buffer that was never filled; else returns what zmg_node_new_within
- * returns. Neither the secret nor the number is kept by reference. */
-uint32_t zmg_sealed_node_new(zmg_sealed_node *node, const zmg_config *config, uint8_t ahead,
+/* Makes a sealed lockstep in the handle, with a window of `ahead` commands: ZMG_MOST_AHEAD is that of
+ * zmg_lockstep_new. All players of a game have the same secret, number and window. Returns ZMG_NEW_BAD_SECRET
+ * if all bytes of the secret are 0, as in a buffer that was never filled; else returns what
+ * zmg_lockstep_new_within returns. Neither the secret nor the number is kept by reference. */
+uint32_t zmg_sealed_lockstep_new(zmg_sealed_lockstep *node, const zmg_config *config, uint8_t ahead,
     const uint8_t secret[ZMG_SECRET_SIZE], const uint8_t number[ZMG_NUMBER_SIZE]);
 
-/* The same for an open game, whose players share no secret. Its envelopes say so: a node of
- * zmg_sealed_node_new opens none of them, and this node opens none of that one's. Damaged packets, old
+/* The same for an open game, whose players share no secret. Its envelopes say so: a sealed lockstep of
+ * zmg_sealed_lockstep_new opens none of them, and this one opens none of that one's. Damaged packets, old
  * packets, and packets of other games or to other players are dropped all the same; but whoever knows the
- * number can send as any player. Returns what zmg_node_new_within returns. */
-uint32_t zmg_sealed_node_new_open(zmg_sealed_node *node, const zmg_config *config, uint8_t ahead,
+ * number can send as any player. Returns what zmg_lockstep_new_within returns. */
+uint32_t zmg_sealed_lockstep_new_open(zmg_sealed_lockstep *node, const zmg_config *config, uint8_t ahead,
     const uint8_t number[ZMG_NUMBER_SIZE]);
 
-void zmg_sealed_node_free(zmg_sealed_node *node);
-zmg_made zmg_sealed_node_build(zmg_sealed_node *node, uint32_t keys);
-zmg_made zmg_sealed_node_give(zmg_sealed_node *node, const zmg_command *command);
-uint32_t zmg_sealed_node_can_build(zmg_sealed_node *node);
-zmg_known_command zmg_sealed_node_command(zmg_sealed_node *node, uint8_t player, uint32_t tic);
-zmg_ran zmg_sealed_node_run(zmg_sealed_node *node, const int16_t marks[4], zmg_move row[4]);
-uint32_t zmg_sealed_node_quit(zmg_sealed_node *node);
+void zmg_sealed_lockstep_free(zmg_sealed_lockstep *node);
+zmg_made zmg_sealed_lockstep_build(zmg_sealed_lockstep *node, uint32_t keys);
+zmg_made zmg_sealed_lockstep_give(zmg_sealed_lockstep *node, const zmg_command *command);
+uint32_t zmg_sealed_lockstep_can_build(zmg_sealed_lockstep *node);
+zmg_known_command zmg_sealed_lockstep_command(zmg_sealed_lockstep *node, uint8_t player, uint32_t tic);
+zmg_ran zmg_sealed_lockstep_run(zmg_sealed_lockstep *node, const int16_t marks[4], zmg_move row[4]);
+uint32_t zmg_sealed_lockstep_quit(zmg_sealed_lockstep *node);
 
-/* How many bytes of room zmg_sealed_node_packet needs (an envelope has no more), and how many bytes an
+/* How many bytes of room zmg_sealed_lockstep_packet needs (an envelope has no more), and how many bytes an
  * envelope has besides its datagram. */
 #define ZMG_MAX_ENVELOPE 141u
 #define ZMG_ENVELOPE_OVERHEAD 37u
 
 /* Writes the next packet to player `to`, in its envelope, to the front of out, and returns how many bytes the
  * envelope has. The packet then counts as sent. Returns 0, and leaves the node and out as they were, if
- * room is below ZMG_MAX_ENVELOPE or if there is no packet, as for zmg_node_packet. */
-size_t zmg_sealed_node_packet(zmg_sealed_node *node, uint8_t to, uint8_t *out, size_t room);
+ * room is below ZMG_MAX_ENVELOPE or if there is no packet, as for zmg_lockstep_packet. */
+size_t zmg_sealed_lockstep_packet(zmg_sealed_lockstep *node, uint8_t to, uint8_t *out, size_t room);
 
-/* Further codes of zmg_heard, which only zmg_sealed_node_receive returns. With each of them nothing
+/* Further codes of zmg_heard, which only zmg_sealed_lockstep_receive returns. With each of them nothing
  * changed. */
 #define ZMG_RECEIVE_UNOPENED 7u /* not an envelope to this player in this game; number: see ZMG_SEAL_ */
 #define ZMG_RECEIVE_LATE 8u     /* its start or ask lies more than 64 tics from what the node has made */
 #define ZMG_RECEIVE_UNLIKE 9u   /* the datagram's own player, start or ask byte or request flag contradicts
                                  * the envelope (of set-up none is compared): its sender did not make it with
-                                 * zmg_sealed_node_packet */
+                                 * zmg_sealed_lockstep_packet */
 
 /* Why bytes are not an envelope: the first of these that holds. */
 #define ZMG_SEAL_SHORT 1u    /* fewer than 37 bytes */
@@ -444,30 +447,30 @@ size_t zmg_sealed_node_packet(zmg_sealed_node *node, uint8_t to, uint8_t *out, s
 #define ZMG_SEAL_REQUEST 8u  /* byte 16 is neither 0 nor 1, or there is an ask tic without a request */
 
 /* Takes in any bytes, whoever sent them. ZMG_RECEIVE_STARTED to ZMG_RECEIVE_DROPPED are as for
- * zmg_node_receive. In an envelope that was opened, byte 10 is the number of the sender. */
-zmg_heard zmg_sealed_node_receive(zmg_sealed_node *node, const uint8_t *bytes, size_t length);
+ * zmg_lockstep_receive. In an envelope that was opened, byte 10 is the number of the sender. */
+zmg_heard zmg_sealed_lockstep_receive(zmg_sealed_lockstep *node, const uint8_t *bytes, size_t length);
 
-zmg_phase zmg_sealed_node_phase(zmg_sealed_node *node);
-uint32_t zmg_sealed_node_me(zmg_sealed_node *node);
-uint32_t zmg_sealed_node_players(zmg_sealed_node *node);
-uint32_t zmg_sealed_node_made(zmg_sealed_node *node);
-uint32_t zmg_sealed_node_ran(zmg_sealed_node *node);
-zmg_number zmg_sealed_node_got(zmg_sealed_node *node, uint8_t player);
-zmg_number zmg_sealed_node_end(zmg_sealed_node *node, uint8_t player);
-zmg_known_settings zmg_sealed_node_settings(zmg_sealed_node *node);
-size_t zmg_sealed_node_demo_length(zmg_sealed_node *node);
-size_t zmg_sealed_node_demo(zmg_sealed_node *node, size_t from, uint8_t *out, size_t room);
+zmg_phase zmg_sealed_lockstep_phase(zmg_sealed_lockstep *node);
+uint32_t zmg_sealed_lockstep_me(zmg_sealed_lockstep *node);
+uint32_t zmg_sealed_lockstep_players(zmg_sealed_lockstep *node);
+uint32_t zmg_sealed_lockstep_made(zmg_sealed_lockstep *node);
+uint32_t zmg_sealed_lockstep_ran(zmg_sealed_lockstep *node);
+zmg_number zmg_sealed_lockstep_got(zmg_sealed_lockstep *node, uint8_t player);
+zmg_number zmg_sealed_lockstep_end(zmg_sealed_lockstep *node, uint8_t player);
+zmg_known_settings zmg_sealed_lockstep_settings(zmg_sealed_lockstep *node);
+size_t zmg_sealed_lockstep_demo_length(zmg_sealed_lockstep *node);
+size_t zmg_sealed_lockstep_demo(zmg_sealed_lockstep *node, size_t from, uint8_t *out, size_t room);
 
 /* ---- A link -------------------------------------------------------------------------------------------- */
 
-/* A sealed node that also takes care of delivery, pace and the lobby. It keeps each packet with new commands
- * until the peer has acknowledged it, and gives each peer one sealed datagram a tick with everything that is
- * kept for the peer: commands of a lost datagram are in the next one, and nobody has to ask for them. As with a
- * sealed node, datagrams may be lost, repeated, reordered, delayed, altered or forged, and the same is owed:
- * that something gets through, one link of a player at a time, and no second one once the first has been
- * given the settings, unless it said goodbye before its game; one number for each game, a secret that is
- * kept, and the marks of zmg_link_run. A link and a sealed node do not open each other's bytes: either all
- * players of a game have links, or none has.
+/* A sealed node that also takes care of delivery, pace and the lobby. It keeps packets with new commands until
+ * the peer has acknowledged them, and gives each peer one sealed datagram a tick with everything that is kept
+ * for the peer, as far as it fits: commands of a lost datagram are in the next one, and nobody has to ask for
+ * them. As with a sealed lockstep, datagrams may be lost, repeated, reordered, delayed, altered or forged, and
+ * the same is owed: that something gets through, one link of a player at a time, and no second one once the
+ * first has been given the settings, unless it said goodbye before its game; one number for each game, a secret
+ * that is kept, and the marks of zmg_link_run. A link and a sealed lockstep do not open each other's bytes:
+ * either all players of a game have links, or none has.
  *
  *     a tick, 35 times a second by the caller's own clock, from the start: so the players find each other:
  *         zmg_link_build(&link, keys);  or zmg_link_give
@@ -487,12 +490,12 @@ size_t zmg_sealed_node_demo(zmg_sealed_node *node, size_t from, uint8_t *out, si
  *         go on with ticks and bytes until zmg_link_may_leave(&link), but not for ever, and two seconds more
  *         zmg_link_free(&link);
  *
- * A mouse: if zmg_link_catch_up returns ZMG_BUILD_AHEAD before a tick's zmg_link_give, the last command was
+ * A mouse: if zmg_link_catch_up returns ZMG_BUILD_FULL before a tick's zmg_link_give, the last command was
  * not made, and this one takes its place. So put the motion of both into it, as the loop in EMBEDDING.md
  * does.
  *
- * The calls that are not described here do and return what the calls of a node with the same names do. A call
- * on a handle that holds no link returns what it returns on a handle that holds no node. */
+ * The calls that are not described here do and return what the calls of a lockstep with the same names do. A
+ * call on a handle that holds no link returns what it returns on a handle that holds no lockstep. */
 typedef struct zmg_link {
     uint8_t live;
     void *at;
@@ -503,24 +506,24 @@ typedef struct zmg_link {
 #define ZMG_HOST_SIZE 16u
 
 /* Makes a link in the handle, with a window of `ahead` commands. All players of a game have the same secret
- * and game (the sixteen random bytes that zmg_sealed_node_new calls a number). host: what else must be the
+ * and game (the sixteen random bytes that zmg_sealed_lockstep_new calls a number). host: what else must be the
  * same for all players, such as a digest of the engine's version, files and options. A player whose players,
- * extra, limit, window or host differ takes no part: see zmg_link_presence. Returns what zmg_sealed_node_new
- * returns. A link that the handle holds is freed first. All memory is allocated here. If the call returns
- * anything but ZMG_NEW_OK, the handle holds no link. Nothing is kept by reference. */
+ * extra, limit, window or host differ takes no part: see zmg_link_presence. Returns what
+ * zmg_sealed_lockstep_new returns. A link that the handle holds is freed first. All memory is allocated here.
+ * If the call returns anything but ZMG_NEW_OK, the handle holds no link. Nothing is kept by reference. */
 uint32_t zmg_link_new(zmg_link *link, const zmg_config *config, uint8_t ahead,
     const uint8_t secret[ZMG_SECRET_SIZE], const uint8_t game[ZMG_NUMBER_SIZE],
     const uint8_t host[ZMG_HOST_SIZE]);
 
 void zmg_link_free(zmg_link *link);
 
-/* As zmg_node_build and zmg_node_give. With ZMG_BUILD_AHEAD the input is owed: zmg_link_catch_up makes its
- * command once a run has made room, unless the next of these calls comes first, which drops the input. */
+/* As zmg_lockstep_build and zmg_lockstep_give. With ZMG_BUILD_FULL the input is owed: zmg_link_catch_up makes
+ * its command once a run has made room, unless the next of these calls comes first, which drops the input. */
 zmg_made zmg_link_build(zmg_link *link, uint32_t keys);
 zmg_made zmg_link_give(zmg_link *link, const zmg_command *command);
 
 /* Makes the command of the input that is owed. Returns ZMG_BUILD_MADE, and the datagrams with the command
- * should go at once; ZMG_BUILD_AHEAD if there is still no room, and the input stays owed;
+ * should go at once; ZMG_BUILD_FULL if there is still no room, and the input stays owed;
  * ZMG_BUILD_NOT_PLAYING, once, if the link has ended, and the input is no longer owed; ZMG_BUILD_NONE_OWED if
  * no input is owed. */
 #define ZMG_BUILD_NONE_OWED 3u
@@ -538,8 +541,8 @@ zmg_made zmg_link_catch_up(zmg_link *link);
  * Chocolate Doom in engines/ makes up for eight ticks at most. */
 int32_t zmg_link_lean(zmg_link *link);
 
-/* Returns 1 if the player plays, and reports that two or more of the last datagrams to it are missing: one
- * more, half a tick after the tick's own, makes up for those that will be. Else returns 0. */
+/* Returns 1 if the player plays, and reports that two or more of the last datagrams to it are missing; then
+ * give it one more datagram, half a tick after the tick's own, in case that one is lost too. Else returns 0. */
 uint32_t zmg_link_wants_second(zmg_link *link, uint8_t player);
 
 uint32_t zmg_link_can_build(zmg_link *link);
@@ -551,33 +554,33 @@ uint32_t zmg_link_quit(zmg_link *link);
 #define ZMG_LINK_SIZE 1200u
 
 /* Writes the current datagram to player `to` to the front of out, and returns how many bytes it has. It has
- * every packet that the player has not acknowledged, oldest first, as far as they fit, also once the link has
- * ended. Returns 0, and leaves the link and out as they were, if room is below ZMG_LINK_SIZE or if `to` is
- * not another player's number. */
+ * every packet that is kept for the player, oldest first, as far as they fit, also once the link has ended.
+ * Returns 0, and leaves the link and out as they were, if room is below ZMG_LINK_SIZE or if `to` is not another
+ * player's number. */
 size_t zmg_link_datagram(zmg_link *link, uint8_t to, uint8_t *out, size_t room);
 
-/* What a link made of bytes. With ZMG_RECEIVED_STRANGER nothing changed, and with ZMG_RECEIVED_UNOPENED
+/* What a link made of bytes. With ZMG_LINK_RECEIVE_STRANGER nothing changed, and with ZMG_LINK_RECEIVE_UNOPENED
  * nothing but the count of zmg_link_refused. */
-#define ZMG_RECEIVED_HEARD 0u     /* a datagram of `player`, which was taken in */
-#define ZMG_RECEIVED_STRANGER 1u  /* sealed in this game, under a number that is not another player's */
-#define ZMG_RECEIVED_UNOPENED 2u  /* not a datagram to this player in this game; reason says why */
-#define ZMG_RECEIVED_DIFFERENT 3u /* `player`, or whoever was `player` before, has another identity; none of
-                                   * its commands was taken */
+#define ZMG_LINK_RECEIVE_HEARD 0u     /* a datagram of `player`, which was taken in */
+#define ZMG_LINK_RECEIVE_STRANGER 1u  /* sealed in this game, under a number that is not another player's */
+#define ZMG_LINK_RECEIVE_UNOPENED 2u  /* not a datagram to this player in this game; reason says why */
+#define ZMG_LINK_RECEIVE_DIFFERENT 3u /* `player`, or whoever was `player` before, has another identity; none
+                                       * of its commands was taken */
 
 /* Why bytes are not a datagram: the first of these that holds. */
-#define ZMG_LINK_SHORT 1u    /* fewer than 60 bytes */
-#define ZMG_LINK_LONG 2u     /* more than ZMG_LINK_SIZE */
-#define ZMG_LINK_SUITE 3u    /* another suite, or not a sealed datagram at all */
-#define ZMG_LINK_KIND 4u     /* it is not a link's datagram, but an envelope of a sealed node, say */
-#define ZMG_LINK_GAME 5u     /* another game's number: its first eight bytes differ */
-#define ZMG_LINK_RECEIVER 6u /* to another player */
-#define ZMG_LINK_TAG 7u      /* altered or forged, or the secrets or the last eight bytes of the numbers
-                              * differ */
-#define ZMG_LINK_FORM 8u     /* its content has a form that no link writes */
+#define ZMG_BUNDLE_SHORT 1u    /* fewer than 60 bytes */
+#define ZMG_BUNDLE_LONG 2u     /* more than ZMG_LINK_SIZE */
+#define ZMG_BUNDLE_SUITE 3u    /* another suite, or not a sealed datagram at all */
+#define ZMG_BUNDLE_KIND 4u     /* it is not a link's datagram, but an envelope of a sealed lockstep, say */
+#define ZMG_BUNDLE_GAME 5u     /* another game's number: its first eight bytes differ */
+#define ZMG_BUNDLE_RECEIVER 6u /* to another player */
+#define ZMG_BUNDLE_TAG 7u      /* altered or forged, or the secrets or the last eight bytes of the numbers
+                                * differ */
+#define ZMG_BUNDLE_FORM 8u     /* its content has a form that no link writes */
 
-/* reason: see ZMG_LINK_; 0 except with ZMG_RECEIVED_UNOPENED, and with that too if the handle holds no link.
- * player: the sender; 0 with ZMG_RECEIVED_UNOPENED. started: 1 if the game started with these bytes, and then
- * the caller begins its world with zmg_link_settings; else 0. */
+/* reason: see ZMG_BUNDLE_; 0 except with ZMG_LINK_RECEIVE_UNOPENED, and with that too if the handle holds no
+ * link. player: the sender; 0 with ZMG_LINK_RECEIVE_UNOPENED. started: 1 if the game started with these bytes,
+ * and then the caller begins its world with zmg_link_settings; else 0. */
 typedef struct zmg_received {
     uint32_t code, reason;
     uint8_t player, started;
@@ -608,9 +611,9 @@ typedef struct zmg_presence {
 } zmg_presence;
 
 /* Returns what is known of another player. Player 0 gives its settings once all others are there: until then
- * a player may come, go, and come again. Once settings were given, nobody else may take the place of player
- * 0, which the caller has to see to, nor that of a player who was given them and said no goodbye before its
- * game, which player 0's link refuses. */
+ * a player may come, go, and come again. Once they were given, nobody else may take the place of player 0: the
+ * caller has to see to that. Nor may anybody take the place of a player who was given them, unless that player
+ * said goodbye before its game: player 0's link refuses it. */
 zmg_presence zmg_link_presence(zmg_link *link, uint8_t player);
 
 /* Gives up a player who has not been heard for too long (`came` of zmg_link_line rises with each new one of
@@ -618,10 +621,10 @@ zmg_presence zmg_link_presence(zmg_link *link, uint8_t player);
  * until a new hello or a datagram of its game comes, and another may take its place. But if this link plays
  * or has ended, or has given the player the settings, or has heard that it plays, the player is
  * ZMG_PRESENCE_FORGOTTEN, until a datagram of its game comes that is newer than its newest, or 64 or more
- * behind it; zmg_link_may_leave does not wait for it. Then nobody takes its place, since its commands may
- * have reached others: for another player, make a new game with a new number. Its commands are still missing:
- * the game goes on without it only if its end is known. A player who is ZMG_PRESENCE_LEFT stays so. For a
- * number that is not another player's nothing happens. */
+ * behind it, or a goodbye after its game, of any age; zmg_link_may_leave does not wait for it. Then nobody
+ * takes its place, since its commands may have reached others: for another player, make a new game with a new
+ * number. Its commands are still missing: the game goes on without it only if its end is known. A player who is
+ * ZMG_PRESENCE_LEFT stays so. For a number that is not another player's nothing happens. */
 void zmg_link_forget(zmg_link *link, uint8_t player);
 
 /* Returns 1 if no other player needs anything more from this one: each has played and left, is
@@ -636,13 +639,13 @@ void zmg_link_forget(zmg_link *link, uint8_t player);
 uint32_t zmg_link_may_leave(zmg_link *link);
 
 /* What is known of the line to another player, if known is 1; for a number that is not another player's all
- * fields are 0. came: how many of its datagrams came, copies and too old ones not counted. lost: how many
- * numbers between the first that came and the newest did not come within 64, less one for each older than the
- * first that came after it. repeated: how many copies came. too_old: how many came 64 or more behind the
- * newest, unless the line began anew with them. missing_there: how many of the last datagrams to it are
- * missing there. lead, lead_there: how many commands this player was ahead of it, and it of this player, each
- * at its own last tick. Counts stop at the largest number. To know when a player was last heard, note the
- * time whenever `came` has risen. */
+ * fields are 0. came: how many of its datagrams came, copies and too old ones not counted. lost: how many of
+ * the numbers between the first datagram that came and the newest did not come within 64; a datagram that was
+ * sent before the first and came after it takes one off. repeated: how many copies came. too_old: how many came
+ * 64 or more behind the newest, unless the line began anew with them. missing_there: how many of the last
+ * datagrams to it are missing there. lead, lead_there: how many commands this player was ahead of it, and it of
+ * this player, each at its own last tick. Counts stop at the largest number. To know when a player was last
+ * heard, note the time whenever `came` has risen. */
 typedef struct zmg_line {
     uint32_t known, came, lost, repeated, too_old;
     uint8_t missing_there;
@@ -697,7 +700,7 @@ size_t zmg_packet_encode(const zmg_packet *packet, uint8_t *out, size_t room);
 /* ---- Demos, with no node ------------------------------------------------------------------------------- */
 
 /* A handle that holds a reader of a demo, or none. The fields are the library's own. ZMG_DEMO_NONE is an
- * initialiser, like ZMG_NODE_NONE, and overwriting a handle that holds a reader leaks its memory. */
+ * initialiser, like ZMG_LOCKSTEP_NONE, and overwriting a handle that holds a reader leaks its memory. */
 typedef struct zmg_demo {
     uint8_t live;
     void *at;

@@ -30,7 +30,7 @@ int player_wants_second(uint8_t me, uint8_t to) { return zmg_link_wants_second(&
 
 int player_receive(uint8_t me, uint8_t from, const uint8_t *bytes, size_t length) {
     zmg_received received = zmg_link_receive(&links[me], bytes, length);
-    if (received.code != ZMG_RECEIVED_HEARD || received.player != from) {
+    if (received.code != ZMG_LINK_RECEIVE_HEARD || received.player != from) {
         fprintf(stderr, "sim: player %u does not open a datagram of player %u\n", me, from);
         exit(1);
     }

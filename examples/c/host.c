@@ -19,7 +19,7 @@
 enum { PLAYERS = 2, DEMO = 131072, SECONDS = 60, SILENCE = 3, FAREWELLS = 20, POLLS = 32 };
 
 typedef struct engine {
-    zmg_node node;
+    zmg_lockstep node;
     walk world;
     uint8_t me;
     int line;
@@ -49,7 +49,7 @@ static void give(engine *e) {
     uint8_t bytes[ZMG_PACKET_SIZE];
     for (uint8_t to = 0; to < PLAYERS; to++) {
         struct sockaddr_in at = address((uint16_t)(e->base + to));
-        size_t length = zmg_node_packet(&e->node, to, bytes, sizeof bytes);
+        size_t length = zmg_lockstep_packet(&e->node, to, bytes, sizeof bytes);
         if (length) (void)!sendto(e->line, bytes, length, 0, (struct sockaddr *)&at, sizeof at);
     }
 }
@@ -65,8 +65,8 @@ static void hear(engine *e) {
         if (length < 0) return;
         unsigned from = (unsigned)ntohs(at.sin_port) - e->base;
         if (at.sin_addr.s_addr == htonl(INADDR_LOOPBACK) && from < PLAYERS) {
-            zmg_heard heard = zmg_node_receive(&e->node, (uint8_t)from, bytes, (size_t)length);
-            if (heard.code == ZMG_RECEIVE_STARTED) walk_begin(&e->world, zmg_node_players(&e->node));
+            zmg_heard heard = zmg_lockstep_receive(&e->node, (uint8_t)from, bytes, (size_t)length);
+            if (heard.code == ZMG_RECEIVE_STARTED) walk_begin(&e->world, zmg_lockstep_players(&e->node));
             e->heard = time(NULL);
         }
         size = sizeof at;
@@ -79,7 +79,7 @@ static int run(engine *e) {
         int16_t marks[4];
         zmg_move row[4];
         walk_marks(&e->world, marks);
-        zmg_ran ran = zmg_node_run(&e->node, marks, row);
+        zmg_ran ran = zmg_lockstep_run(&e->node, marks, row);
         switch (ran.code) {
         case ZMG_RUN_RAN: walk_step(&e->world, row); break;
         case ZMG_RUN_DEMO_FULL: fprintf(stderr, "the demo is full\n"); return 0;
@@ -92,8 +92,8 @@ static int run(engine *e) {
 }
 
 static int is_done(engine *e) {
-    int gone = zmg_node_end(&e->node, (uint8_t)(1 - e->me)).known || time(NULL) - e->heard > SILENCE;
-    return zmg_node_ran(&e->node) >= e->tics && gone;
+    int gone = zmg_lockstep_end(&e->node, (uint8_t)(1 - e->me)).known || time(NULL) - e->heard > SILENCE;
+    return zmg_lockstep_ran(&e->node) >= e->tics && gone;
 }
 
 static int play(engine *e) {
@@ -101,7 +101,7 @@ static int play(engine *e) {
     while (!is_done(e)) {
         struct pollfd ready = { e->line, POLLIN, 0 };
         if (time(NULL) - start > SECONDS) return 0;
-        if (zmg_node_made(&e->node) < e->tics) zmg_node_build(&e->node, draw(&e->seed));
+        if (zmg_lockstep_made(&e->node) < e->tics) zmg_lockstep_build(&e->node, draw(&e->seed));
         give(e);
         poll(&ready, 1, 1);
         hear(e);
@@ -112,7 +112,7 @@ static int play(engine *e) {
 
 /* Shows the other player where this one's commands end, and receives what it still asks for. */
 static void leave(engine *e) {
-    zmg_node_quit(&e->node);
+    zmg_lockstep_quit(&e->node);
     for (int k = 0; k < FAREWELLS; k++) {
         struct pollfd ready = { e->line, POLLIN, 0 };
         give(e);
@@ -123,7 +123,7 @@ static void leave(engine *e) {
 
 static int save(engine *e, const char *name) {
     static uint8_t bytes[DEMO];
-    size_t length = zmg_node_demo(&e->node, 0, bytes, sizeof bytes);
+    size_t length = zmg_lockstep_demo(&e->node, 0, bytes, sizeof bytes);
     FILE *file = fopen(name, "wb");
     return file && fwrite(bytes, 1, length, file) == length && fclose(file) == 0;
 }
@@ -147,12 +147,12 @@ int main(int argc, char **argv) {
     e.tics = (uint32_t)atol(argv[3]);
     e.seed = (uint32_t)atol(argv[4]);
     zmg_config config = { DEMO, PLAYERS, e.me, 0, { 2, 0, 0, 0, 1, 1 } };
-    if (zmg_node_new(&e.node, &config) != ZMG_NEW_OK || !open_line(&e)) return 2;
+    if (zmg_lockstep_new(&e.node, &config) != ZMG_NEW_OK || !open_line(&e)) return 2;
     int played = play(&e);
     leave(&e);
     print_spots(&e.world);
     int saved = save(&e, argv[5]);
-    zmg_node_free(&e.node);
+    zmg_lockstep_free(&e.node);
     close(e.line);
     return played && saved ? 0 : 1;
 }

@@ -13,19 +13,19 @@
 
 namespace {
 
-/* A node, which frees its memory when it is destroyed. */
-class Node {
+/* A lockstep, which frees its memory when it is destroyed. */
+class Lockstep {
 public:
-    explicit Node(const zmg_config &config) {
-        if (zmg_node_new(&node, &config) != ZMG_NEW_OK) throw std::runtime_error("there is no node");
+    explicit Lockstep(const zmg_config &config) {
+        if (zmg_lockstep_new(&handle, &config) != ZMG_NEW_OK) throw std::runtime_error("there is no node");
     }
-    ~Node() { zmg_node_free(&node); }
-    Node(const Node &) = delete;
-    Node &operator=(const Node &) = delete;
-    operator zmg_node *() { return &node; }
+    ~Lockstep() { zmg_lockstep_free(&handle); }
+    Lockstep(const Lockstep &) = delete;
+    Lockstep &operator=(const Lockstep &) = delete;
+    operator zmg_lockstep *() { return &handle; }
 
 private:
-    zmg_node node = ZMG_NODE_NONE;
+    zmg_lockstep handle = ZMG_LOCKSTEP_NONE;
 };
 
 /* Players who move along a line. */
@@ -37,32 +37,34 @@ struct World {
     std::int16_t mark(std::size_t p) const { return static_cast<std::int16_t>(at[p] & 0x7fff); }
 };
 
-class Player {
+/* A lockstep with its world. */
+class Node {
 public:
-    explicit Player(std::uint8_t me) : me(me), node(config(me)) {}
+    explicit Node(std::uint8_t me) : me(me), lockstep(config(me)) {}
 
     /* What an engine does 35 times a second. */
-    void turn(Player &other, std::uint32_t keys, std::uint32_t tics) {
+    void turn(Node &other, std::uint32_t keys, std::uint32_t tics) {
         std::uint8_t bytes[ZMG_PACKET_SIZE];
-        if (zmg_node_made(node) < tics && zmg_node_can_build(node)) zmg_node_build(node, keys);
-        if (std::size_t length = zmg_node_packet(node, other.me, bytes, sizeof bytes))
-            if (zmg_node_receive(other.node, me, bytes, length).code == ZMG_RECEIVE_STARTED)
+        if (zmg_lockstep_made(lockstep) < tics && zmg_lockstep_can_build(lockstep))
+            zmg_lockstep_build(lockstep, keys);
+        if (std::size_t length = zmg_lockstep_packet(lockstep, other.me, bytes, sizeof bytes))
+            if (zmg_lockstep_receive(other.lockstep, me, bytes, length).code == ZMG_RECEIVE_STARTED)
                 other.world = World();
         for (;;) {
             const std::int16_t marks[4] = {world.mark(0), world.mark(1), world.mark(2), world.mark(3)};
             zmg_move row[4];
-            const zmg_ran ran = zmg_node_run(node, marks, row);
+            const zmg_ran ran = zmg_lockstep_run(lockstep, marks, row);
             if (ran.code == ZMG_RUN_INCONSISTENT) throw std::runtime_error("the worlds differ");
             if (ran.code != ZMG_RUN_RAN) return;
             world.step(row);
         }
     }
 
-    std::uint32_t ran() { return zmg_node_ran(node); }
-    void quit() { zmg_node_quit(node); }
+    std::uint32_t ran() { return zmg_lockstep_ran(lockstep); }
+    void quit() { zmg_lockstep_quit(lockstep); }
     std::vector<std::uint8_t> demo() {
-        std::vector<std::uint8_t> bytes(zmg_node_demo_length(node));
-        zmg_node_demo(node, 0, bytes.data(), bytes.size());
+        std::vector<std::uint8_t> bytes(zmg_lockstep_demo_length(lockstep));
+        zmg_lockstep_demo(lockstep, 0, bytes.data(), bytes.size());
         return bytes;
     }
 
@@ -80,14 +82,14 @@ private:
     }
 
     std::uint8_t me;
-    Node node;
+    Lockstep lockstep;
 };
 
 }  // namespace
 
 int main(int argc, char **argv) {
     const std::uint32_t tics = argc > 1 ? static_cast<std::uint32_t>(std::strtoul(argv[1], nullptr, 10)) : 100;
-    Player key(0), other(1);
+    Node key(0), other(1);
     for (std::uint32_t round = 0; key.ran() < tics || other.ran() < tics; round++) {
         if (round > tics + 20) throw std::runtime_error("the game does not go on");
         key.turn(other, ZMG_KEY_FORWARD, tics);

@@ -10,7 +10,7 @@
 enum { PLAYERS = 2, MOST = 10000, HEADER = 13, BYTES = 5, KEPT = 12 };
 
 static uint32_t seed = 1, tics = MOST, ahead = ZMG_MOST_AHEAD;
-static zmg_node nodes[PLAYERS];
+static zmg_lockstep nodes[PLAYERS];
 /* what each player gave for each tic */
 static zmg_command given[PLAYERS][MOST];
 /* the marks of the players before each tic, which the commands of twelve tics later have */
@@ -52,7 +52,7 @@ static int is_same(const zmg_command *a, const zmg_command *b) {
 
 static void make(uint8_t me) {
     zmg_config c;
-    zmg_node none = ZMG_NODE_NONE;
+    zmg_lockstep none = ZMG_LOCKSTEP_NONE;
     memset(&c, 0, sizeof c);
     c.limit = sizeof demos[0];
     if (c.limit < 1024) c.limit = 1024;
@@ -61,34 +61,34 @@ static void make(uint8_t me) {
     c.settings.skill = 2;
     c.settings.episode = c.settings.map = 1;
     nodes[me] = none;
-    if (ahead == ZMG_MOST_AHEAD) MUST(zmg_node_new(&nodes[me], &c) == ZMG_NEW_OK);
-    else MUST(zmg_node_new_within(&nodes[me], &c, (uint8_t)ahead) == ZMG_NEW_OK);
-    MUST(zmg_node_can_build(&nodes[me]) == 0);
+    if (ahead == ZMG_MOST_AHEAD) MUST(zmg_lockstep_new(&nodes[me], &c) == ZMG_NEW_OK);
+    else MUST(zmg_lockstep_new_within(&nodes[me], &c, (uint8_t)ahead) == ZMG_NEW_OK);
+    MUST(zmg_lockstep_can_build(&nodes[me]) == 0);
 }
 
 /* A player gives a command, and reads it back at once: it is what was given, but for the mark and a forward
  * of -128. */
 static void give(uint8_t me) {
-    zmg_node *node = &nodes[me];
+    zmg_lockstep *node = &nodes[me];
     zmg_command c = hand();
-    uint32_t made = zmg_node_made(node), can = zmg_node_can_build(node);
+    uint32_t made = zmg_lockstep_made(node), can = zmg_lockstep_can_build(node);
     zmg_known_command told;
     zmg_made answer;
     if (made == tics) return;
-    MUST(can == (zmg_node_phase(node).code == ZMG_PHASE_PLAYING
-        && made - zmg_node_ran(node) < ahead));
-    answer = zmg_node_give(node, &c);
+    MUST(can == (zmg_lockstep_phase(node).code == ZMG_PHASE_PLAYING
+        && made - zmg_lockstep_ran(node) < ahead));
+    answer = zmg_lockstep_give(node, &c);
     if (!can) {
-        MUST(answer.code == ZMG_BUILD_AHEAD && answer.tic == 0 && zmg_node_made(node) == made);
+        MUST(answer.code == ZMG_BUILD_FULL && answer.tic == 0 && zmg_lockstep_made(node) == made);
         full++;
         return;
     }
-    MUST(answer.code == ZMG_BUILD_MADE && answer.tic == made && zmg_node_made(node) == made + 1);
+    MUST(answer.code == ZMG_BUILD_MADE && answer.tic == made && zmg_lockstep_made(node) == made + 1);
     if (c.forward == -128) {
         c.forward = -127;
         backs++;
     }
-    told = zmg_node_command(node, me, made);
+    told = zmg_lockstep_command(node, me, made);
     c.mark = told.command.mark;
     MUST(told.known == 1 && is_same(&c, &told.command));
     MUST(c.mark == (made < KEPT ? 0 : marks[made - KEPT][me]));
@@ -98,25 +98,26 @@ static void give(uint8_t me) {
 
 static void pass(uint8_t from, uint8_t to, unsigned loss) {
     uint8_t bytes[ZMG_PACKET_SIZE];
-    size_t length = zmg_node_packet(&nodes[from], to, bytes, sizeof bytes);
+    size_t length = zmg_lockstep_packet(&nodes[from], to, bytes, sizeof bytes);
     if (length == 0) return;
     if (below(100) < loss) lost++;
-    else zmg_node_receive(&nodes[to], from, bytes, length);
+    else zmg_lockstep_receive(&nodes[to], from, bytes, length);
 }
 
 /* A node tells the last twelve commands of each player, or as many as two windows, and no others. */
 static void is_kept(uint8_t me) {
-    zmg_node *node = &nodes[me];
+    zmg_lockstep *node = &nodes[me];
     for (uint8_t p = 0; p < 4; p++) {
-        uint32_t got = zmg_node_got(node, p).value;
+        uint32_t got = zmg_lockstep_got(node, p).value;
         for (uint32_t tic = got < 27 ? 0 : got - 27; tic < got + 3; tic++) {
-            zmg_known_command told = zmg_node_command(node, p, tic);
+            zmg_known_command told = zmg_lockstep_command(node, p, tic);
             MUST(told.known == (p < PLAYERS && tic < got && got - tic <= (ahead < 6 ? (uint32_t)KEPT : 2 * ahead)));
             if (told.known) MUST(is_same(&told.command, &given[p][tic]));
             else MUST(told.command.turn == 0 && told.command.chat == 0 && told.command.mark == 0);
         }
     }
-    MUST(zmg_node_command(node, 0, 0xffffffffu).known == 0 && zmg_node_command(node, 255, 0).known == 0);
+    MUST(zmg_lockstep_command(node, 0, 0xffffffffu).known == 0);
+    MUST(zmg_lockstep_command(node, 255, 0).known == 0);
 }
 
 static void step(uint8_t me, uint32_t tic, const zmg_move row[4]) {
@@ -129,24 +130,24 @@ static void step(uint8_t me, uint32_t tic, const zmg_move row[4]) {
     for (unsigned p = 0; p < 4; p++) {
         int16_t mark = (int16_t)worlds[me][p];
         /* the first node to come here writes it, and the other must agree */
-        if (zmg_node_ran(&nodes[1 - me]) <= tic) marks[tic + 1][p] = mark;
+        if (zmg_lockstep_ran(&nodes[1 - me]) <= tic) marks[tic + 1][p] = mark;
         MUST(marks[tic + 1][p] == mark);
     }
 }
 
 static void run(uint8_t me) {
-    zmg_node *node = &nodes[me];
+    zmg_lockstep *node = &nodes[me];
     for (;;) {
         zmg_known_command told[4];
         zmg_move row[4];
         zmg_ran ran;
-        uint32_t tic = zmg_node_ran(node);
+        uint32_t tic = zmg_lockstep_ran(node);
         /* that of the next tic is there as soon as it has come */
         for (uint8_t p = 0; p < 4; p++) {
-            told[p] = zmg_node_command(node, p, tic);
-            MUST(told[p].known == (tic < zmg_node_got(node, p).value));
+            told[p] = zmg_lockstep_command(node, p, tic);
+            MUST(told[p].known == (tic < zmg_lockstep_got(node, p).value));
         }
-        ran = zmg_node_run(node, marks[tic], row);
+        ran = zmg_lockstep_run(node, marks[tic], row);
         if (ran.code != ZMG_RUN_RAN) {
             MUST(ran.code == ZMG_RUN_WAITING ? !told[ran.player].known : ran.code == ZMG_RUN_NOT_PLAYING);
             return;
@@ -165,8 +166,8 @@ static void run(uint8_t me) {
 static void is_recorded(uint8_t me) {
     const uint8_t *at = demos[me] + HEADER;
     size_t length = HEADER + (size_t)tics * PLAYERS * BYTES + 1;
-    MUST(zmg_node_demo_length(&nodes[me]) == length);
-    MUST(zmg_node_demo(&nodes[me], 0, demos[me], length) == length);
+    MUST(zmg_lockstep_demo_length(&nodes[me]) == length);
+    MUST(zmg_lockstep_demo(&nodes[me], 0, demos[me], length) == length);
     MUST(demos[me][0] == 111 && demos[me][8] == me && demos[me][length - 1] == 0x80);
     for (uint32_t tic = 0; tic < tics; tic++)
         for (unsigned p = 0; p < PLAYERS; p++, at += BYTES) {
@@ -178,12 +179,12 @@ static void is_recorded(uint8_t me) {
 
 /* Who holds nothing makes nothing, and tells nothing. */
 static void of_no_node(void) {
-    zmg_node none = ZMG_NODE_NONE;
+    zmg_lockstep none = ZMG_LOCKSTEP_NONE;
     zmg_command c = hand();
-    zmg_known_command told = zmg_node_command(&none, 0, 0);
-    zmg_made made = zmg_node_give(&none, &c);
+    zmg_known_command told = zmg_lockstep_command(&none, 0, 0);
+    zmg_made made = zmg_lockstep_give(&none, &c);
     MUST(made.code == ZMG_BUILD_NOT_PLAYING && made.tic == 0);
-    MUST(zmg_node_can_build(&none) == 0);
+    MUST(zmg_lockstep_can_build(&none) == 0);
     MUST(told.known == 0 && told.command.turn == 0 && told.command.mark == 0 && told.command.forward == 0);
     MUST(told.command.side == 0 && told.command.chat == 0 && told.command.buttons == 0);
 }
@@ -202,15 +203,15 @@ static void turns(void) {
     for (uint32_t tic = 0; tic < 8; tic++) {
         int16_t none[4] = { 0, 0, 0, 0 };
         zmg_move row[4];
-        if (tic == 6) zmg_node_give(&nodes[0], &c);
-        else zmg_node_build(&nodes[0], ZMG_KEY_LEFT);
-        zmg_node_build(&nodes[1], 0);
-        MUST(zmg_node_command(&nodes[0], 0, tic).command.turn == wanted[tic]);
+        if (tic == 6) zmg_lockstep_give(&nodes[0], &c);
+        else zmg_lockstep_build(&nodes[0], ZMG_KEY_LEFT);
+        zmg_lockstep_build(&nodes[1], 0);
+        MUST(zmg_lockstep_command(&nodes[0], 0, tic).command.turn == wanted[tic]);
         pass(0, 1, 0);
         pass(1, 0, 0);
-        for (unsigned p = 0; p < PLAYERS; p++) MUST(zmg_node_run(&nodes[p], none, row).code == ZMG_RUN_RAN);
+        for (unsigned p = 0; p < PLAYERS; p++) MUST(zmg_lockstep_run(&nodes[p], none, row).code == ZMG_RUN_RAN);
     }
-    for (unsigned p = 0; p < PLAYERS; p++) zmg_node_free(&nodes[p]);
+    for (unsigned p = 0; p < PLAYERS; p++) zmg_lockstep_free(&nodes[p]);
 }
 
 int main(int argc, char **argv) {
@@ -224,7 +225,8 @@ int main(int argc, char **argv) {
     make(1);
     pass(0, 1, 0);
     pass(1, 0, 0);
-    for (unsigned long round = 0; zmg_node_ran(&nodes[0]) < tics || zmg_node_ran(&nodes[1]) < tics; round++) {
+    unsigned long round = 0;
+    for (; zmg_lockstep_ran(&nodes[0]) < tics || zmg_lockstep_ran(&nodes[1]) < tics; round++) {
         for (uint8_t me = 0; me < PLAYERS; me++) {
             give(me);
             pass(me, (uint8_t)(1 - me), 30);
@@ -235,10 +237,10 @@ int main(int argc, char **argv) {
     }
     MUST(memcmp(worlds[0], worlds[1], sizeof worlds[0]) == 0);
     for (uint8_t me = 0; me < PLAYERS; me++) {
-        MUST(zmg_node_quit(&nodes[me]) == 1 && zmg_node_can_build(&nodes[me]) == 0);
+        MUST(zmg_lockstep_quit(&nodes[me]) == 1 && zmg_lockstep_can_build(&nodes[me]) == 0);
         is_kept(me);
         is_recorded(me);
-        zmg_node_free(&nodes[me]);
+        zmg_lockstep_free(&nodes[me]);
     }
     MUST(memcmp(demos[0] + HEADER, demos[1] + HEADER, sizeof demos[0] - HEADER) == 0);
     printf("commands: ok, %u tics, %lu letters, %lu of -128, %lu found %u waiting, %lu packets lost\n",

@@ -43,7 +43,7 @@ typedef struct datagram {
  * before the start. */
 typedef struct seat {
     zmg_link link, twin;
-    zmg_node node;
+    zmg_lockstep node;
     uint32_t keys, is_given, owes, acknowledged[NODES];
     zmg_command command;
     datagram noted[NODES];
@@ -143,12 +143,13 @@ static int is_same(const told *a, const told *b) {
 static void watch(seat *s) {
     told link = tell(&s->link), twin = tell(&s->twin);
     MUST(is_same(&link, &twin));
-    MUST(is_same_phase(link.phase, zmg_node_phase(&s->node)));
-    MUST(link.made == zmg_node_made(&s->node) && link.ran == zmg_node_ran(&s->node));
-    MUST(link.demo_length == zmg_node_demo_length(&s->node) && link.can_build == zmg_node_can_build(&s->node));
+    MUST(is_same_phase(link.phase, zmg_lockstep_phase(&s->node)));
+    MUST(link.made == zmg_lockstep_made(&s->node) && link.ran == zmg_lockstep_ran(&s->node));
+    MUST(link.demo_length == zmg_lockstep_demo_length(&s->node));
+    MUST(link.can_build == zmg_lockstep_can_build(&s->node));
     for (uint8_t p = 0; p <= NODES; p++) {
-        MUST(is_same_number(link.got[p], zmg_node_got(&s->node, p)));
-        MUST(is_same_number(link.end[p], zmg_node_end(&s->node, p)));
+        MUST(is_same_number(link.got[p], zmg_lockstep_got(&s->node, p)));
+        MUST(is_same_number(link.end[p], zmg_lockstep_end(&s->node, p)));
         MUST(link.wants_second[p] <= link.line[p].known);
         MUST(link.line[p].known == (p < link.players && p != link.me));
         MUST(link.presence[p].state <= ZMG_PRESENCE_FORGOTTEN);
@@ -169,8 +170,8 @@ static void leave(game *g, seat *s) {
     look_at_demo(g, s);
     zmg_link_free(&s->link);
     zmg_link_free(&s->twin);
-    zmg_node_free(&s->node);
-    MUST(zmg_link_phase(&s->link).code == ZMG_PHASE_NO_NODE);
+    zmg_lockstep_free(&s->node);
+    MUST(zmg_link_phase(&s->link).code == ZMG_PHASE_NONE);
 }
 
 static void sit(game *g, uint8_t me) {
@@ -188,7 +189,7 @@ static void sit(game *g, uint8_t me) {
     s->owes = 0;
     codes[0] = zmg_link_new(&s->link, &c, g->ahead, g->secret, g->number, g->host);
     codes[1] = zmg_link_new(&s->twin, &c, g->ahead, g->secret, g->number, g->host);
-    codes[2] = zmg_node_new_within(&s->node, &c, g->ahead);
+    codes[2] = zmg_lockstep_new_within(&s->node, &c, g->ahead);
     for (unsigned k = 0; k < 3; k++) MUST(codes[k] == ZMG_NEW_OK || codes[k] == ZMG_NEW_NO_MEMORY);
     if (codes[0] | codes[1] | codes[2]) leave(g, s);
 }
@@ -267,18 +268,18 @@ static size_t read_packets(const uint8_t *bytes, size_t length, carried *packets
     return count;
 }
 
-static int is_near(zmg_node *node, uint32_t tic) {
-    int64_t away = (int64_t)tic - zmg_node_made(node);
+static int is_near(zmg_lockstep *node, uint32_t tic) {
+    int64_t away = (int64_t)tic - zmg_lockstep_made(node);
     return -NEAR <= away && away <= NEAR;
 }
 
-static int node_starts(zmg_node *node, uint8_t from, const carried *packet) {
+static int node_starts(zmg_lockstep *node, uint8_t from, const carried *packet) {
     if (!is_near(node, packet->start) || (packet->ask.known && !is_near(node, packet->ask.value))) return 0;
-    return zmg_node_receive(node, from, packet->bytes, packet->length).code == ZMG_RECEIVE_STARTED;
+    return zmg_lockstep_receive(node, from, packet->bytes, packet->length).code == ZMG_RECEIVE_STARTED;
 }
 
 /* Hands a node the packets, up to the one that starts its game, and then all again. Whether it starts. */
-static int node_hears(zmg_node *node, const uint8_t *bytes, size_t length) {
+static int node_hears(zmg_lockstep *node, const uint8_t *bytes, size_t length) {
     static carried packets[PART + 1];
     size_t count = read_packets(bytes, length, packets), k = 0;
     while (k < count && !node_starts(node, bytes[FROM], &packets[k])) k++;
@@ -291,7 +292,7 @@ static int node_hears(zmg_node *node, const uint8_t *bytes, size_t length) {
 static int node_starts_with(seat *s, const uint8_t *bytes, size_t length, int starts) {
     static carried packets[PART + 1];
     datagram *noted = &s->noted[bytes[FROM]];
-    if (zmg_node_phase(&s->node).code != ZMG_PHASE_GATHERING) return node_hears(&s->node, bytes, length);
+    if (zmg_lockstep_phase(&s->node).code != ZMG_PHASE_GATHERING) return node_hears(&s->node, bytes, length);
     if (read_packets(bytes, length, packets) > 0) {
         noted->length = length;
         memcpy(noted->bytes, bytes, length);
@@ -304,8 +305,8 @@ static int node_starts_with(seat *s, const uint8_t *bytes, size_t length, int st
 
 /* An end that is known counts as one more. */
 static void acknowledge(seat *s, const uint8_t *bytes) {
-    uint8_t me = (uint8_t)zmg_node_me(&s->node);
-    uint32_t count = number_at(bytes + GOT + 4 * me), ended = zmg_node_end(&s->node, me).known;
+    uint8_t me = (uint8_t)zmg_lockstep_me(&s->node);
+    uint32_t count = number_at(bytes + GOT + 4 * me), ended = zmg_lockstep_end(&s->node, me).known;
     uint32_t *most = &s->acknowledged[bytes[FROM]];
     if (ended && count) count--;
     if (count > *most) *most = count;
@@ -342,7 +343,7 @@ static void is_complete(const seat *s, uint8_t to, uint32_t made, const carried 
 /* A player has neither ended nor been given up. */
 static int is_there(game *g, uint8_t player) {
     uint32_t phase = zmg_link_phase(&g->seats[player].link).code;
-    return phase != ZMG_PHASE_NO_NODE && phase != ZMG_PHASE_ENDED;
+    return phase != ZMG_PHASE_NONE && phase != ZMG_PHASE_ENDED;
 }
 
 /* The datagram is the twin's. In a game that has started, and to a player who is there, the last packet in it
@@ -355,11 +356,11 @@ static size_t give(game *g, uint8_t me, uint8_t to) {
     uint8_t packet[ZMG_PACKET_SIZE];
     MUST(length == zmg_link_datagram(&s->twin, to, again, room) && length <= ZMG_LINK_SIZE);
     MUST((length > 0) == (room >= ZMG_LINK_SIZE && to < g->players && to != me
-        && zmg_link_phase(&s->link).code != ZMG_PHASE_NO_NODE));
+        && zmg_link_phase(&s->link).code != ZMG_PHASE_NONE));
     if (length == 0) return 0;
     MUST(memcmp(out, again, length) == 0 && out[FROM] == me && out[FROM + 1] == to);
     count = read_packets(out, length, packets);
-    size = zmg_node_packet(&s->node, to, packet, sizeof packet);
+    size = zmg_lockstep_packet(&s->node, to, packet, sizeof packet);
     if (is_there(g, to) && zmg_link_phase(&s->link).code >= ZMG_PHASE_PLAYING) {
         MUST(size == 0 || is_last(packets, count, packet, size) == takes(s, to, packet, size));
         is_complete(s, to, zmg_link_made(&s->link), packets, count);
@@ -380,7 +381,7 @@ static void put_by(game *g, uint8_t me, uint8_t to) {
 }
 
 static zmg_made node_builds(seat *s) {
-    return s->is_given ? zmg_node_give(&s->node, &s->command) : zmg_node_build(&s->node, s->keys);
+    return s->is_given ? zmg_lockstep_give(&s->node, &s->command) : zmg_lockstep_build(&s->node, s->keys);
 }
 
 static void is_made(seat *s, zmg_made made, zmg_made twin) {
@@ -402,7 +403,7 @@ static void build(seat *s) {
         twin = zmg_link_build(&s->twin, s->keys);
     }
     node = node_builds(s);
-    s->owes = made.code == ZMG_BUILD_AHEAD;
+    s->owes = made.code == ZMG_BUILD_FULL;
     MUST(made.code == node.code && made.tic == node.tic);
     is_made(s, made, twin);
     MUST(zmg_link_lean(&s->link) == zmg_link_lean(&s->twin));
@@ -436,7 +437,7 @@ static void run(game *g, seat *s, int honest) {
     memcpy(node_row, row, sizeof row);
     answer = zmg_link_run(&s->link, marks, row);
     twin = zmg_link_run(&s->twin, marks, twin_row);
-    node = zmg_node_run(&s->node, marks, node_row);
+    node = zmg_lockstep_run(&s->node, marks, node_row);
     MUST(answer.code == twin.code && answer.tic == twin.tic && answer.player == twin.player);
     MUST(answer.code == node.code && answer.tic == node.tic && answer.player == node.player);
     MUST(memcmp(row, twin_row, sizeof row) == 0 && memcmp(row, node_row, sizeof row) == 0);
@@ -452,7 +453,7 @@ static void run(game *g, seat *s, int honest) {
 
 static void quit(seat *s) {
     uint32_t ended = zmg_link_quit(&s->link);
-    MUST(ended == zmg_link_quit(&s->twin) && ended == zmg_node_quit(&s->node));
+    MUST(ended == zmg_link_quit(&s->twin) && ended == zmg_lockstep_quit(&s->node));
     quits += ended;
     watch(s);
 }
@@ -475,13 +476,13 @@ static void read_all(seat *s) {
     uint8_t player = (uint8_t)below(6);
     uint32_t tic = zmg_link_ran(&s->link) + 28 - below(60);
     zmg_known_command had = zmg_link_command(&s->link, player, tic);
-    zmg_known_command node = zmg_node_command(&s->node, player, tic);
-    zmg_known_settings settings = zmg_link_settings(&s->link), others = zmg_node_settings(&s->node);
+    zmg_known_command node = zmg_lockstep_command(&s->node, player, tic);
+    zmg_known_settings settings = zmg_link_settings(&s->link), others = zmg_lockstep_settings(&s->node);
     size_t from = below(2) ? 0 : below(4000), length = zmg_link_demo(&s->link, from, out, MOST);
     MUST(had.known == node.known && memcmp(&had.command, &node.command, sizeof had.command) == 0);
     MUST(settings.known == others.known);
     MUST(memcmp(&settings.settings, &others.settings, sizeof settings.settings) == 0);
-    MUST(length == zmg_node_demo(&s->node, from, again, MOST) && memcmp(out, again, length) == 0);
+    MUST(length == zmg_lockstep_demo(&s->node, from, again, MOST) && memcmp(out, again, length) == 0);
 }
 
 /* ---- Datagrams of any kind ---- */
@@ -495,8 +496,8 @@ static zmg_received receive(seat *s, const uint8_t *bytes, size_t length) {
     MUST(answer.code == twin.code && answer.reason == twin.reason && answer.player == twin.player);
     MUST(answer.started == twin.started && answer.code < 16 && answer.reason < 16);
     received++;
-    MUST(zmg_link_refused(&s->link) == refused + (answer.code == ZMG_RECEIVED_UNOPENED));
-    if (answer.code == ZMG_RECEIVED_HEARD) {
+    MUST(zmg_link_refused(&s->link) == refused + (answer.code == ZMG_LINK_RECEIVE_UNOPENED));
+    if (answer.code == ZMG_LINK_RECEIVE_HEARD) {
         acknowledge(s, bytes);
         MUST(answer.started == node_starts_with(s, bytes, length, answer.started));
         starts += answer.started;
@@ -520,10 +521,10 @@ static const datagram *any_of(const game *g, int newest) {
 static void hear(game *g, const datagram *d) {
     uint8_t me = below(12) ? d->to : (uint8_t)below(g->players);
     zmg_received r;
-    if (zmg_link_phase(&g->seats[me].link).code == ZMG_PHASE_NO_NODE) return;
+    if (zmg_link_phase(&g->seats[me].link).code == ZMG_PHASE_NONE) return;
     r = receive(&g->seats[me], d->bytes, d->length);
-    if (me == d->to) MUST(r.code == ZMG_RECEIVED_HEARD && r.player == d->from);
-    else MUST(r.code == ZMG_RECEIVED_UNOPENED && r.reason == ZMG_LINK_RECEIVER);
+    if (me == d->to) MUST(r.code == ZMG_LINK_RECEIVE_HEARD && r.player == d->from);
+    else MUST(r.code == ZMG_LINK_RECEIVE_UNOPENED && r.reason == ZMG_BUNDLE_RECEIVER);
 }
 
 static void turn_bits(datagram *d) {
@@ -570,22 +571,22 @@ static void hear_changed(game *g, const datagram *from) {
     static datagram d;
     d = *from;
     change(g, &d);
-    if (zmg_link_phase(&g->seats[d.to].link).code == ZMG_PHASE_NO_NODE || is_given(g, d.to, &d)) return;
-    MUST(receive(&g->seats[d.to], d.bytes, d.length).code == ZMG_RECEIVED_UNOPENED);
+    if (zmg_link_phase(&g->seats[d.to].link).code == ZMG_PHASE_NONE || is_given(g, d.to, &d)) return;
+    MUST(receive(&g->seats[d.to], d.bytes, d.length).code == ZMG_LINK_RECEIVE_UNOPENED);
 }
 
 static void hear_of_other_game(game *g, const datagram *d) {
     seat *s = &g->seats[d->to];
-    if (zmg_link_phase(&s->link).code == ZMG_PHASE_NO_NODE) return;
-    MUST(receive(s, d->bytes, d->length).reason == ZMG_LINK_GAME);
+    if (zmg_link_phase(&s->link).code == ZMG_PHASE_NONE) return;
+    MUST(receive(s, d->bytes, d->length).reason == ZMG_BUNDLE_GAME);
 }
 
 static void hear_random(game *g) {
     seat *s = &g->seats[below(NODES)];
     size_t length = below(4) ? below(200) : below(MOST);
-    if (zmg_link_phase(&s->link).code == ZMG_PHASE_NO_NODE) return;
+    if (zmg_link_phase(&s->link).code == ZMG_PHASE_NONE) return;
     fill(out, length);
-    MUST(receive(s, out, length).code == ZMG_RECEIVED_UNOPENED);
+    MUST(receive(s, out, length).code == ZMG_LINK_RECEIVE_UNOPENED);
 }
 
 static void any_datagram(unsigned which) {
@@ -628,8 +629,8 @@ int main(int argc, char **argv) {
         for (unsigned p = 0; p < NODES; p++) leave(&games[k], &games[k].seats[p]);
     MUST(blocks_held() == 0);
     printf("%lu datagrams: heard %lu, unopened %lu, starts %lu, ran %lu, without a player %lu, caught up %lu,"
-        " quits %lu, full %lu, forgotten %lu\nreasons", received, answers[ZMG_RECEIVED_HEARD],
-        answers[ZMG_RECEIVED_UNOPENED], starts, ran, without, caught_up, quits, full, forgotten);
+        " quits %lu, full %lu, forgotten %lu\nreasons", received, answers[ZMG_LINK_RECEIVE_HEARD],
+        answers[ZMG_LINK_RECEIVE_UNOPENED], starts, ran, without, caught_up, quits, full, forgotten);
     for (unsigned k = 1; k < 16; k++) printf(" %lu", reasons[k]);
     printf("\n");
     return 0;

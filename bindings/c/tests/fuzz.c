@@ -21,11 +21,11 @@ typedef struct seen {
 } seen;
 
 static uint32_t seed = 1;
-static zmg_node nodes[NODES], twins[NODES];
+static zmg_lockstep nodes[NODES], twins[NODES];
 static seen seens[NODES];
 /* two players of a game with a secret, whose twins are nodes that are not sealed */
-static zmg_sealed_node sealed[2];
-static zmg_node plain[2];
+static zmg_sealed_lockstep sealed[2];
+static zmg_lockstep plain[2];
 static zmg_demo demos[DEMOS];
 static uint8_t bytes[BYTES], out[BYTES], again[BYTES];
 static unsigned long calls, answers[32][16];
@@ -80,35 +80,35 @@ static uint32_t kept(unsigned k) { return seens[k].ahead < 6 ? 12 : 2 * seens[k]
 
 /* What holds after each call. */
 static void watch(unsigned k) {
-    zmg_node *node = &nodes[k];
+    zmg_lockstep *node = &nodes[k];
     seen *s = &seens[k];
     seen now = *s;
-    now.made = zmg_node_made(node);
-    now.ran = zmg_node_ran(node);
-    now.phase = zmg_node_phase(node).code;
-    now.demo = zmg_node_demo_length(node);
+    now.made = zmg_lockstep_made(node);
+    now.ran = zmg_lockstep_ran(node);
+    now.phase = zmg_lockstep_phase(node).code;
+    now.demo = zmg_lockstep_demo_length(node);
     MUST(s->made <= now.made && s->ran <= now.ran && s->demo <= now.demo);
     MUST(now.ran <= now.made && now.made <= now.ran + now.ahead);
-    MUST(s->players == zmg_node_players(node) && s->me == zmg_node_me(node));
+    MUST(s->players == zmg_lockstep_players(node) && s->me == zmg_lockstep_me(node));
     /* it listens or gathers, then plays, then has ended */
     MUST(s->phase == now.phase
         || (s->phase < ZMG_PHASE_PLAYING ? ZMG_PHASE_PLAYING : s->phase + 1) <= now.phase);
     for (uint8_t p = 0; p < 4; p++) {
-        zmg_number got = zmg_node_got(node, p);
+        zmg_number got = zmg_lockstep_got(node, p);
         MUST(got.known == (p < s->players) && s->got[p] <= got.value && got.value <= now.ran + kept(k));
         now.got[p] = got.value;
     }
-    MUST(zmg_node_phase(&twins[k]).code == now.phase && zmg_node_made(&twins[k]) == now.made);
-    MUST(zmg_node_ran(&twins[k]) == now.ran && zmg_node_demo_length(&twins[k]) == now.demo);
-    MUST(zmg_node_can_build(node)
+    MUST(zmg_lockstep_phase(&twins[k]).code == now.phase && zmg_lockstep_made(&twins[k]) == now.made);
+    MUST(zmg_lockstep_ran(&twins[k]) == now.ran && zmg_lockstep_demo_length(&twins[k]) == now.demo);
+    MUST(zmg_lockstep_can_build(node)
         == (now.phase == ZMG_PHASE_PLAYING && now.made < now.ran + now.ahead));
     *s = now;
 }
 
 /* A player's command for a tic, which a node and its twin tell if it is one of the last that are kept. */
 static zmg_known_command command(unsigned k, uint8_t player, uint32_t tic) {
-    zmg_known_command told = zmg_node_command(&nodes[k], player, tic);
-    zmg_known_command twin = zmg_node_command(&twins[k], player, tic);
+    zmg_known_command told = zmg_lockstep_command(&nodes[k], player, tic);
+    zmg_known_command twin = zmg_lockstep_command(&twins[k], player, tic);
     uint32_t got = player < 4 ? seens[k].got[player] : 0;
     MUST(memcmp(&told, &twin, sizeof told) == 0);
     MUST(told.known == (player < seens[k].players && tic < got && got - tic <= kept(k)));
@@ -118,16 +118,16 @@ static zmg_known_command command(unsigned k, uint8_t player, uint32_t tic) {
 }
 
 static void give_up(unsigned k) {
-    zmg_node_free(&nodes[k]);
-    zmg_node_free(&twins[k]);
+    zmg_lockstep_free(&nodes[k]);
+    zmg_lockstep_free(&twins[k]);
     memset(&seens[k], 0, sizeof seens[k]);
 }
 
 /* In the window of 1997 a node is made by one call, and its twin by the other. */
 static void make(unsigned k, const zmg_config *c, uint8_t ahead) {
-    uint32_t code = count(0, ahead == ZMG_MOST_AHEAD ? zmg_node_new(&nodes[k], c)
-        : zmg_node_new_within(&nodes[k], c, ahead));
-    uint32_t twin = zmg_node_new_within(&twins[k], c, ahead);
+    uint32_t code = count(0, ahead == ZMG_MOST_AHEAD ? zmg_lockstep_new(&nodes[k], c)
+        : zmg_lockstep_new_within(&nodes[k], c, ahead));
+    uint32_t twin = zmg_lockstep_new_within(&twins[k], c, ahead);
     /* of two requests for memory one alone may have been refused */
     MUST(code == twin || code == ZMG_NEW_NO_MEMORY || twin == ZMG_NEW_NO_MEMORY);
     memset(&seens[k], 0, sizeof seens[k]);
@@ -151,19 +151,19 @@ static void is_made(unsigned k, uint32_t can, zmg_made made, zmg_made twin) {
 }
 
 static void build(unsigned k, uint32_t keys) {
-    uint32_t can = zmg_node_can_build(&nodes[k]);
-    zmg_made made = zmg_node_build(&nodes[k], keys);
+    uint32_t can = zmg_lockstep_can_build(&nodes[k]);
+    zmg_made made = zmg_lockstep_build(&nodes[k], keys);
     count(2, made.code);
-    is_made(k, can, made, zmg_node_build(&twins[k], keys));
+    is_made(k, can, made, zmg_lockstep_build(&twins[k], keys));
 }
 
 /* The node has what was given, but for its mark and a forward of -128. */
 static void give(unsigned k) {
-    uint32_t can = zmg_node_can_build(&nodes[k]);
+    uint32_t can = zmg_lockstep_can_build(&nodes[k]);
     zmg_command c = { (int16_t)draw(), (int16_t)draw(), (int8_t)draw(), (int8_t)draw(), byte(), byte() };
-    zmg_made made = zmg_node_give(&nodes[k], &c);
+    zmg_made made = zmg_lockstep_give(&nodes[k], &c);
     count(3, made.code);
-    is_made(k, can, made, zmg_node_give(&twins[k], &c));
+    is_made(k, can, made, zmg_lockstep_give(&twins[k], &c));
     if (made.code == ZMG_BUILD_MADE) {
         zmg_command had = command(k, (uint8_t)seens[k].me, made.tic).command;
         MUST(had.turn == c.turn && had.side == c.side && had.chat == c.chat && had.buttons == c.buttons);
@@ -172,8 +172,8 @@ static void give(unsigned k) {
 }
 
 static zmg_heard receive(unsigned k, uint8_t from, const uint8_t *text, size_t length) {
-    zmg_heard heard = zmg_node_receive(&nodes[k], from, text, length);
-    zmg_heard twin = zmg_node_receive(&twins[k], from, text, length);
+    zmg_heard heard = zmg_lockstep_receive(&nodes[k], from, text, length);
+    zmg_heard twin = zmg_lockstep_receive(&twins[k], from, text, length);
     MUST(heard.code == twin.code && heard.number == twin.number);
     MUST(heard.code == ZMG_RECEIVE_DROPPED ? 1 <= heard.number && heard.number <= ZMG_DROP_END
         : heard.code == ZMG_RECEIVE_TAKEN ? 1 <= heard.number && heard.number <= 12 : heard.number == 0);
@@ -184,9 +184,10 @@ static zmg_heard receive(unsigned k, uint8_t from, const uint8_t *text, size_t l
 
 /* The packet is the one that was aimed at, and none is written where none is given. */
 static size_t packet(unsigned k, uint8_t to, size_t room) {
-    zmg_aim aim = zmg_node_aim(&nodes[k], to);
+    zmg_aim aim = zmg_lockstep_aim(&nodes[k], to);
     uint8_t was = out[0];
-    size_t n = zmg_node_packet(&nodes[k], to, out, room), twin = zmg_node_packet(&twins[k], to, again, room);
+    size_t n = zmg_lockstep_packet(&nodes[k], to, out, room);
+    size_t twin = zmg_lockstep_packet(&twins[k], to, again, room);
     MUST(n == twin && (n == 0 || memcmp(out, again, n) == 0));
     MUST(n == (room < ZMG_PACKET_SIZE || !aim.known ? 0 : 8 + 8u * aim.count));
     MUST(n ? out[5] == (uint8_t)aim.start || aim.flags & ZMG_FLAG_SETUP : out[0] == was);
@@ -203,8 +204,8 @@ static void run(unsigned k, int honest) {
     if (!honest) marks[below(4)] = (int16_t)draw();
     memset(row, 0xAA, sizeof row);
     memcpy(twin_row, row, sizeof row);
-    ran = zmg_node_run(&nodes[k], marks, row);
-    twin = zmg_node_run(&twins[k], marks, twin_row);
+    ran = zmg_lockstep_run(&nodes[k], marks, row);
+    twin = zmg_lockstep_run(&twins[k], marks, twin_row);
     MUST(ran.code == twin.code && ran.tic == twin.tic && ran.player == twin.player);
     MUST(ran.was == twin.was && ran.should == twin.should && memcmp(row, twin_row, sizeof row) == 0);
     MUST(ran.code == ZMG_RUN_RAN ? ran.tic == seens[k].ran : ran.tic == 0 && row[0].present == 0xAA);
@@ -225,9 +226,9 @@ static void run(unsigned k, int honest) {
 }
 
 static void quit(unsigned k) {
-    uint32_t ended = zmg_node_quit(&nodes[k]);
-    MUST(ended == zmg_node_quit(&twins[k]));
-    MUST(ended == (seens[k].phase != ZMG_PHASE_NO_NODE && seens[k].phase != ZMG_PHASE_ENDED));
+    uint32_t ended = zmg_lockstep_quit(&nodes[k]);
+    MUST(ended == zmg_lockstep_quit(&twins[k]));
+    MUST(ended == (seens[k].phase != ZMG_PHASE_NONE && seens[k].phase != ZMG_PHASE_ENDED));
     count(22, ended);
     watch(k);
 }
@@ -237,7 +238,7 @@ static void replay(unsigned k) {
     zmg_demo demo = ZMG_DEMO_NONE;
     zmg_move row[4];
     uint8_t marker = 0x80;
-    size_t length = zmg_node_demo(&nodes[k], 0, bytes, BYTES);
+    size_t length = zmg_lockstep_demo(&nodes[k], 0, bytes, BYTES);
     uint64_t world = 0;
     MUST(length == seens[k].demo || length == BYTES);
     if (length < 13 || length == BYTES) return;
@@ -325,7 +326,7 @@ static void packets(void) {
 }
 
 static size_t some_demo(void) {
-    size_t length = zmg_node_demo(&nodes[any_node()], below(2) ? 0 : below(3000), bytes, below(BYTES));
+    size_t length = zmg_lockstep_demo(&nodes[any_node()], below(2) ? 0 : below(3000), bytes, below(BYTES));
     if (below(4) == 0) {
         length = below(200);
         fill(length);
@@ -379,17 +380,17 @@ static void read_demos(void) {
 }
 
 static void read_node(unsigned k) {
-    zmg_node *node = &nodes[k];
+    zmg_lockstep *node = &nodes[k];
     uint8_t player = (uint8_t)below(6);
-    zmg_number end = zmg_node_end(node, player), twin = zmg_node_end(&twins[k], player);
+    zmg_number end = zmg_lockstep_end(node, player), twin = zmg_lockstep_end(&twins[k], player);
     MUST(end.known == twin.known && end.value == twin.value);
     MUST(zmg_version() == ZMG_VERSION);
-    count(14, zmg_node_phase(node).code);
+    count(14, zmg_lockstep_phase(node).code);
     count(17, end.known);
-    count(18, zmg_node_settings(node).known);
-    count(21, zmg_node_aim(node, (uint8_t)below(6)).known);
+    count(18, zmg_lockstep_settings(node).known);
+    count(21, zmg_lockstep_aim(node, (uint8_t)below(6)).known);
     command(k, player, seens[k].ran + 28 - below(60));
-    MUST(zmg_node_demo(node, draw(), out, below(BYTES)) <= seens[k].demo);
+    MUST(zmg_lockstep_demo(node, draw(), out, below(BYTES)) <= seens[k].demo);
     calls += 10;
 }
 
@@ -401,25 +402,25 @@ static void seal(void) {
     for (unsigned k = 0; k < ZMG_SECRET_SIZE; k++) secret[k] = byte();
     for (unsigned k = 0; k < ZMG_NUMBER_SIZE; k++) number[k] = byte();
     for (c.me = 0; c.me < 2; c.me++) {
-        uint32_t code = is_open ? zmg_sealed_node_new_open(&sealed[c.me], &c, ahead, number)
-            : zmg_sealed_node_new(&sealed[c.me], &c, ahead, secret, number);
-        uint32_t twin = zmg_node_new_within(&plain[c.me], &c, ahead);
+        uint32_t code = is_open ? zmg_sealed_lockstep_new_open(&sealed[c.me], &c, ahead, number)
+            : zmg_sealed_lockstep_new(&sealed[c.me], &c, ahead, secret, number);
+        uint32_t twin = zmg_lockstep_new_within(&plain[c.me], &c, ahead);
         MUST(code == ZMG_NEW_OK || code == ZMG_NEW_NO_MEMORY);
         if (code != ZMG_NEW_OK || twin != ZMG_NEW_OK) {
-            zmg_sealed_node_free(&sealed[c.me]);
-            zmg_node_free(&plain[c.me]);
+            zmg_sealed_lockstep_free(&sealed[c.me]);
+            zmg_lockstep_free(&plain[c.me]);
         }
     }
 }
 
 /* Where bytes were heard as an envelope, its twin hears the datagram in it. */
 static uint32_t unseal(unsigned k, const uint8_t *text, size_t length) {
-    zmg_heard heard = zmg_sealed_node_receive(&sealed[k], text, length);
+    zmg_heard heard = zmg_sealed_lockstep_receive(&sealed[k], text, length);
     count(23, heard.code);
     if (heard.code == ZMG_RECEIVE_UNOPENED) {
         MUST(1 <= count(24, heard.number));
-    } else if (heard.code < ZMG_RECEIVE_UNOPENED && zmg_node_phase(&plain[k]).code != ZMG_PHASE_NO_NODE) {
-        zmg_heard twin = zmg_node_receive(&plain[k], text[10], text + 21, length - ZMG_ENVELOPE_OVERHEAD);
+    } else if (heard.code < ZMG_RECEIVE_UNOPENED && zmg_lockstep_phase(&plain[k]).code != ZMG_PHASE_NONE) {
+        zmg_heard twin = zmg_lockstep_receive(&plain[k], text[10], text + 21, length - ZMG_ENVELOPE_OVERHEAD);
         MUST(heard.code == twin.code && heard.number == twin.number);
     }
     return heard.code;
@@ -433,35 +434,36 @@ static void sealed_call(unsigned k) {
     uint8_t to = (uint8_t)(below(8) ? 1 - k : below(5));
     uint32_t keys = draw();
     size_t n;
-    zmg_made made = zmg_sealed_node_build(&sealed[k], keys), twin_made = zmg_node_build(&plain[k], keys);
+    zmg_made made = zmg_sealed_lockstep_build(&sealed[k], keys);
+    zmg_made twin_made = zmg_lockstep_build(&plain[k], keys);
     MUST(made.code == twin_made.code && made.tic == twin_made.tic);
-    MUST(zmg_sealed_node_can_build(&sealed[k]) == zmg_node_can_build(&plain[k]));
-    n = zmg_sealed_node_packet(&sealed[k], to, out, ZMG_MAX_ENVELOPE + below(9));
+    MUST(zmg_sealed_lockstep_can_build(&sealed[k]) == zmg_lockstep_can_build(&plain[k]));
+    n = zmg_sealed_lockstep_packet(&sealed[k], to, out, ZMG_MAX_ENVELOPE + below(9));
     count(25, (uint32_t)n);
-    MUST(zmg_node_packet(&plain[k], to, again, sizeof again) == (n ? n - ZMG_ENVELOPE_OVERHEAD : 0));
+    MUST(zmg_lockstep_packet(&plain[k], to, again, sizeof again) == (n ? n - ZMG_ENVELOPE_OVERHEAD : 0));
     MUST(n == 0 || memcmp(out + 21, again, n - ZMG_ENVELOPE_OVERHEAD) == 0);
     if (n && below(3) == 0) {
         uint32_t at = below((uint32_t)n);
         out[at] ^= (uint8_t)(1u << below(8));
-        MUST(zmg_sealed_node_phase(&sealed[1 - k]).code == ZMG_PHASE_NO_NODE
+        MUST(zmg_sealed_lockstep_phase(&sealed[1 - k]).code == ZMG_PHASE_NONE
             || unseal(1 - k, out, n) == ZMG_RECEIVE_UNOPENED);
     } else if (n) {
         unseal(1 - k, out, n);
     }
     n = below(160);
     fill(n);
-    if (zmg_sealed_node_phase(&sealed[k]).code != ZMG_PHASE_NO_NODE)
+    if (zmg_sealed_lockstep_phase(&sealed[k]).code != ZMG_PHASE_NONE)
         MUST(unseal(k, bytes, n) == ZMG_RECEIVE_UNOPENED);
     if (below(500) == 0) marks[k] = (int16_t)draw();
     memset(row, 0xAA, sizeof row);
     memcpy(twin_row, row, sizeof row);
-    ran = zmg_sealed_node_run(&sealed[k], marks, row);
-    twin = zmg_node_run(&plain[k], marks, twin_row);
+    ran = zmg_sealed_lockstep_run(&sealed[k], marks, row);
+    twin = zmg_lockstep_run(&plain[k], marks, twin_row);
     MUST(ran.code == twin.code && ran.tic == twin.tic && memcmp(row, twin_row, sizeof row) == 0);
-    MUST(zmg_sealed_node_ran(&sealed[k]) == zmg_node_ran(&plain[k]));
-    n = zmg_sealed_node_demo(&sealed[k], 0, bytes, BYTES);
-    MUST(n == zmg_node_demo(&plain[k], 0, again, BYTES) && memcmp(bytes, again, n) == 0);
-    if (below(2000) == 0) MUST(zmg_sealed_node_quit(&sealed[k]) == zmg_node_quit(&plain[k]));
+    MUST(zmg_sealed_lockstep_ran(&sealed[k]) == zmg_lockstep_ran(&plain[k]));
+    n = zmg_sealed_lockstep_demo(&sealed[k], 0, bytes, BYTES);
+    MUST(n == zmg_lockstep_demo(&plain[k], 0, again, BYTES) && memcmp(bytes, again, n) == 0);
+    if (below(2000) == 0) MUST(zmg_sealed_lockstep_quit(&sealed[k]) == zmg_lockstep_quit(&plain[k]));
     calls += 9;
 }
 
@@ -500,7 +502,7 @@ int main(int argc, char **argv) {
     seal();
     while (calls < wanted) any_call();
     for (unsigned k = 0; k < NODES; k++) { replay(k); give_up(k); give_up(k); }
-    for (unsigned k = 0; k < 2; k++) { zmg_sealed_node_free(&sealed[k]); zmg_node_free(&plain[k]); }
+    for (unsigned k = 0; k < 2; k++) { zmg_sealed_lockstep_free(&sealed[k]); zmg_lockstep_free(&plain[k]); }
     for (unsigned k = 0; k < DEMOS; k++) { zmg_demo_free(&demos[k]); zmg_demo_free(&demos[k]); }
     MUST(blocks_held() == 0);
     printf("%lu calls\n", calls);

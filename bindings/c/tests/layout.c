@@ -15,8 +15,8 @@
     } while (0)
 
 static void sizes(void) {
-    IS(sizeof(zmg_node), 2 * sizeof(void *));
-    IS(sizeof(zmg_sealed_node), 2 * sizeof(void *));
+    IS(sizeof(zmg_lockstep), 2 * sizeof(void *));
+    IS(sizeof(zmg_sealed_lockstep), 2 * sizeof(void *));
     IS(sizeof(zmg_link), 2 * sizeof(void *));
     IS(sizeof(zmg_demo), 2 * sizeof(void *));
     IS(sizeof(zmg_settings), 6);
@@ -42,10 +42,10 @@ static void sizes(void) {
 
 /* Where each field stands; bindings/rust/src/tests.rs has the same table. */
 static void offsets(void) {
-    IS(offsetof(zmg_node, live), 0);
-    IS(offsetof(zmg_node, at), sizeof(size_t));
-    IS(offsetof(zmg_sealed_node, live), 0);
-    IS(offsetof(zmg_sealed_node, at), sizeof(size_t));
+    IS(offsetof(zmg_lockstep, live), 0);
+    IS(offsetof(zmg_lockstep, at), sizeof(size_t));
+    IS(offsetof(zmg_sealed_lockstep, live), 0);
+    IS(offsetof(zmg_sealed_lockstep, at), sizeof(size_t));
     IS(offsetof(zmg_link, live), 0);
     IS(offsetof(zmg_link, at), sizeof(size_t));
     IS(offsetof(zmg_received, code), 0);
@@ -141,7 +141,7 @@ static void offsets(void) {
     IS(offsetof(zmg_upgraded, code), sizeof(size_t));
 }
 
-static zmg_node key = ZMG_NODE_NONE, other = ZMG_NODE_NONE;
+static zmg_lockstep key = ZMG_LOCKSTEP_NONE, other = ZMG_LOCKSTEP_NONE;
 static uint8_t bytes[4096];
 static const int16_t no_marks[4] = { 0, 0, 0, 0 };
 
@@ -160,29 +160,29 @@ static zmg_config config_of(uint8_t me) {
     return c;
 }
 
-static uint32_t pass(zmg_node *from, zmg_node *to) {
-    size_t length = zmg_node_packet(from, (uint8_t)zmg_node_me(to), bytes, sizeof bytes);
-    return zmg_node_receive(to, (uint8_t)zmg_node_me(from), bytes, length).code;
+static uint32_t pass(zmg_lockstep *from, zmg_lockstep *to) {
+    size_t length = zmg_lockstep_packet(from, (uint8_t)zmg_lockstep_me(to), bytes, sizeof bytes);
+    return zmg_lockstep_receive(to, (uint8_t)zmg_lockstep_me(from), bytes, length).code;
 }
 
 static void start(uint8_t extra) {
     zmg_config c = config_of(0);
     c.extra = extra;
-    IS(zmg_node_new(&key, &c), ZMG_NEW_OK);
+    IS(zmg_lockstep_new(&key, &c), ZMG_NEW_OK);
     c.me = 1;
-    IS(zmg_node_new(&other, &c), ZMG_NEW_OK);
+    IS(zmg_lockstep_new(&other, &c), ZMG_NEW_OK);
     IS(pass(&key, &other), ZMG_RECEIVE_STARTED);
     IS(pass(&other, &key), ZMG_RECEIVE_STARTED);
 }
 
-static uint32_t run(zmg_node *node) {
+static uint32_t run(zmg_lockstep *node) {
     zmg_move row[4];
-    return zmg_node_run(node, no_marks, row).code;
+    return zmg_lockstep_run(node, no_marks, row).code;
 }
 
 static void tic(void) {
-    zmg_node_build(&key, 0);
-    zmg_node_build(&other, 0);
+    zmg_lockstep_build(&key, 0);
+    zmg_lockstep_build(&other, 0);
     pass(&key, &other);
     pass(&other, &key);
     run(&key);
@@ -191,32 +191,32 @@ static void tic(void) {
 
 static void configurations(void) {
     zmg_config c = config_of(0);
-    c.players = 1; IS(zmg_node_new(&key, &c), ZMG_NEW_BAD_PLAYERS);
-    c = config_of(2); IS(zmg_node_new(&key, &c), ZMG_NEW_BAD_ME);
-    c = config_of(0); c.limit = 1023; IS(zmg_node_new(&key, &c), ZMG_NEW_BAD_LIMIT);
-    c = config_of(0); c.settings.skill = 5; IS(zmg_node_new(&key, &c), ZMG_NEW_BAD_SKILL);
-    c = config_of(0); c.settings.deathmatch = 3; IS(zmg_node_new(&key, &c), ZMG_NEW_BAD_DEATHMATCH);
-    c = config_of(0); c.settings.episode = 4; IS(zmg_node_new(&key, &c), ZMG_NEW_BAD_EPISODE);
-    c = config_of(0); c.settings.map = 0; IS(zmg_node_new(&key, &c), ZMG_NEW_BAD_MAP);
-    c = config_of(0); c.settings.map = 0; IS(zmg_node_new_within(&key, &c, 0), ZMG_NEW_BAD_MAP);
-    c = config_of(2); IS(zmg_node_new_within(&key, &c, 0), ZMG_NEW_BAD_AHEAD);
-    IS(zmg_node_new_within(&key, &c, ZMG_WIDEST_AHEAD + 1), ZMG_NEW_BAD_AHEAD);
-    IS(zmg_node_new_within(&key, &c, ZMG_WIDEST_AHEAD), ZMG_NEW_BAD_ME);
-    c = config_of(1); c.settings.map = 0; IS(zmg_node_new(&key, &c), ZMG_NEW_OK);
-    IS(zmg_node_phase(&key).code, ZMG_PHASE_LISTENING);
-    IS(zmg_node_settings(&key).known, 0);
-    IS(zmg_node_packet(&key, 0, bytes, sizeof bytes), 0);
-    zmg_node_free(&key);
-    IS(zmg_node_phase(&key).code, ZMG_PHASE_NO_NODE);
+    c.players = 1; IS(zmg_lockstep_new(&key, &c), ZMG_NEW_BAD_PLAYERS);
+    c = config_of(2); IS(zmg_lockstep_new(&key, &c), ZMG_NEW_BAD_ME);
+    c = config_of(0); c.limit = 1023; IS(zmg_lockstep_new(&key, &c), ZMG_NEW_BAD_LIMIT);
+    c = config_of(0); c.settings.skill = 5; IS(zmg_lockstep_new(&key, &c), ZMG_NEW_BAD_SKILL);
+    c = config_of(0); c.settings.deathmatch = 3; IS(zmg_lockstep_new(&key, &c), ZMG_NEW_BAD_DEATHMATCH);
+    c = config_of(0); c.settings.episode = 4; IS(zmg_lockstep_new(&key, &c), ZMG_NEW_BAD_EPISODE);
+    c = config_of(0); c.settings.map = 0; IS(zmg_lockstep_new(&key, &c), ZMG_NEW_BAD_MAP);
+    c = config_of(0); c.settings.map = 0; IS(zmg_lockstep_new_within(&key, &c, 0), ZMG_NEW_BAD_MAP);
+    c = config_of(2); IS(zmg_lockstep_new_within(&key, &c, 0), ZMG_NEW_BAD_AHEAD);
+    IS(zmg_lockstep_new_within(&key, &c, ZMG_WIDEST_AHEAD + 1), ZMG_NEW_BAD_AHEAD);
+    IS(zmg_lockstep_new_within(&key, &c, ZMG_WIDEST_AHEAD), ZMG_NEW_BAD_ME);
+    c = config_of(1); c.settings.map = 0; IS(zmg_lockstep_new(&key, &c), ZMG_NEW_OK);
+    IS(zmg_lockstep_phase(&key).code, ZMG_PHASE_LISTENING);
+    IS(zmg_lockstep_settings(&key).known, 0);
+    IS(zmg_lockstep_packet(&key, 0, bytes, sizeof bytes), 0);
+    zmg_lockstep_free(&key);
+    IS(zmg_lockstep_phase(&key).code, ZMG_PHASE_NONE);
 }
 
 static void settings(void) {
     zmg_config c = config_of(0);
     zmg_known_settings told;
     zmg_aim aim;
-    IS(zmg_node_new(&key, &c), ZMG_NEW_OK);
-    IS(zmg_node_phase(&key).code, ZMG_PHASE_GATHERING);
-    told = zmg_node_settings(&key);
+    IS(zmg_lockstep_new(&key, &c), ZMG_NEW_OK);
+    IS(zmg_lockstep_phase(&key).code, ZMG_PHASE_GATHERING);
+    told = zmg_lockstep_settings(&key);
     IS(told.known, 1);
     IS(told.settings.skill, 3);
     IS(told.settings.deathmatch, 2);
@@ -224,10 +224,10 @@ static void settings(void) {
     IS(told.settings.respawn, 0);
     IS(told.settings.episode, 1);
     IS(told.settings.map, 9);
-    aim = zmg_node_aim(&key, 1);
+    aim = zmg_lockstep_aim(&key, 1);
     IS(aim.known, 1);
     IS(aim.flags, ZMG_FLAG_SETUP);
-    IS(zmg_node_aim(&key, 0).known, 0);
+    IS(zmg_lockstep_aim(&key, 0).known, 0);
 }
 
 /* Keys at which the move of player 1 has all its fields different from 0. */
@@ -237,19 +237,19 @@ static void moves(void) {
     zmg_aim aim;
     uint32_t keys;
     start(1);
-    IS(zmg_node_phase(&key).code, ZMG_PHASE_PLAYING);
-    IS(zmg_node_build(&key, ZMG_KEY_BACK | ZMG_KEY_RIGHT).tic, 0);
+    IS(zmg_lockstep_phase(&key).code, ZMG_PHASE_PLAYING);
+    IS(zmg_lockstep_build(&key, ZMG_KEY_BACK | ZMG_KEY_RIGHT).tic, 0);
     keys = ZMG_KEY_FORWARD | ZMG_KEY_STRAFE_LEFT | ZMG_KEY_LEFT;
     keys |= ZMG_KEY_ATTACK | ZMG_KEY_USE | ZMG_KEY_WEAPON(3);
-    IS(zmg_node_build(&other, keys).code, ZMG_BUILD_MADE);
+    IS(zmg_lockstep_build(&other, keys).code, ZMG_BUILD_MADE);
     memset(row, 7, sizeof row);
-    ran = zmg_node_run(&key, no_marks, row);
+    ran = zmg_lockstep_run(&key, no_marks, row);
     IS(ran.code, ZMG_RUN_WAITING);
     IS(ran.player, 1);
     IS(row[3].present, 7);
     IS(pass(&other, &key), ZMG_RECEIVE_TAKEN);
     IS(pass(&other, &key), ZMG_RECEIVE_STALE);
-    ran = zmg_node_run(&key, no_marks, row);
+    ran = zmg_lockstep_run(&key, no_marks, row);
     IS(ran.code, ZMG_RUN_RAN);
     IS(ran.tic, 0);
     IS(row[0].forward, -25);
@@ -265,20 +265,20 @@ static void moves(void) {
     IS(row[2].present, 0);
     IS(row[3].present, 0);
     IS(row[3].turn, 0);
-    aim = zmg_node_aim(&other, 0);
+    aim = zmg_lockstep_aim(&other, 0);
     IS(aim.flags, 0);
     IS(aim.start, 0);
     IS(aim.count, 1);
     IS(aim.ask.known, 0);
-    IS(zmg_node_made(&key), 1);
-    IS(zmg_node_ran(&key), 1);
-    IS(zmg_node_me(&other), 1);
-    IS(zmg_node_players(&other), 2);
-    IS(zmg_node_got(&other, 0).known, 1);
-    IS(zmg_node_got(&other, 0).value, 0);
-    IS(zmg_node_got(&other, 1).value, 1);
-    IS(zmg_node_got(&other, 2).known, 0);
-    IS(zmg_node_end(&other, 0).known, 0);
+    IS(zmg_lockstep_made(&key), 1);
+    IS(zmg_lockstep_ran(&key), 1);
+    IS(zmg_lockstep_me(&other), 1);
+    IS(zmg_lockstep_players(&other), 2);
+    IS(zmg_lockstep_got(&other, 0).known, 1);
+    IS(zmg_lockstep_got(&other, 0).value, 0);
+    IS(zmg_lockstep_got(&other, 1).value, 1);
+    IS(zmg_lockstep_got(&other, 2).known, 0);
+    IS(zmg_lockstep_end(&other, 0).known, 0);
 }
 
 /* A command whose fields all differ, given by player 1, and told by both nodes with its mark. */
@@ -288,13 +288,13 @@ static void whole_commands(void) {
     zmg_known_command told;
     zmg_move row[4];
     start(0);
-    IS(zmg_node_give(&other, &c).tic, 0);
+    IS(zmg_lockstep_give(&other, &c).tic, 0);
     for (int k = 0; k < 13; k++) {
-        zmg_node_build(&key, 0);
-        if (k > 0) IS(zmg_node_give(&other, &c).code, ZMG_BUILD_MADE);
+        zmg_lockstep_build(&key, 0);
+        if (k > 0) IS(zmg_lockstep_give(&other, &c).code, ZMG_BUILD_MADE);
         pass(&key, &other);
         pass(&other, &key);
-        told = zmg_node_command(&key, 1, (uint32_t)k);
+        told = zmg_lockstep_command(&key, 1, (uint32_t)k);
         IS(told.known, 1);
         IS(told.command.turn, -1234);
         IS(told.command.mark, k < 12 ? 0 : -2222);
@@ -302,20 +302,20 @@ static void whole_commands(void) {
         IS(told.command.side, 78);
         IS(told.command.chat, 90);
         IS(told.command.buttons, 123);
-        IS(zmg_node_run(&key, marks, row).code, ZMG_RUN_RAN);
+        IS(zmg_lockstep_run(&key, marks, row).code, ZMG_RUN_RAN);
         IS(row[1].turn, -1234);
         IS(row[1].forward, -56);
         IS(row[1].side, 78);
         IS(row[1].buttons, 123);
-        IS(zmg_node_run(&other, marks, row).code, ZMG_RUN_RAN);
+        IS(zmg_lockstep_run(&other, marks, row).code, ZMG_RUN_RAN);
     }
-    IS(zmg_node_command(&key, 1, 0).known, 0);
-    IS(zmg_node_command(&key, 1, 1).known, 1);
-    IS(zmg_node_command(&key, 1, 13).known, 0);
-    IS(zmg_node_command(&key, 2, 12).known, 0);
+    IS(zmg_lockstep_command(&key, 1, 0).known, 0);
+    IS(zmg_lockstep_command(&key, 1, 1).known, 1);
+    IS(zmg_lockstep_command(&key, 1, 13).known, 0);
+    IS(zmg_lockstep_command(&key, 2, 12).known, 0);
     c.forward = -128;
-    IS(zmg_node_give(&key, &c).tic, 13);
-    IS(zmg_node_command(&key, 0, 13).command.forward, -127);
+    IS(zmg_lockstep_give(&key, &c).tic, 13);
+    IS(zmg_lockstep_command(&key, 0, 13).command.forward, -127);
 }
 
 static void requests(void) {
@@ -323,21 +323,21 @@ static void requests(void) {
     zmg_command c = { 1, 2, 3, 4, 5, 6 };
     start(0);
     for (uint32_t k = 0; k < ZMG_MOST_AHEAD; k++) {
-        IS(zmg_node_can_build(&key), 1);
-        IS(zmg_node_build(&key, 0).tic, k);
+        IS(zmg_lockstep_can_build(&key), 1);
+        IS(zmg_lockstep_build(&key, 0).tic, k);
     }
-    IS(zmg_node_can_build(&key), 0);
-    IS(zmg_node_build(&key, 0).code, ZMG_BUILD_AHEAD);
-    IS(zmg_node_give(&key, &c).code, ZMG_BUILD_AHEAD);
-    zmg_node_packet(&key, 1, bytes, sizeof bytes);
+    IS(zmg_lockstep_can_build(&key), 0);
+    IS(zmg_lockstep_build(&key, 0).code, ZMG_BUILD_FULL);
+    IS(zmg_lockstep_give(&key, &c).code, ZMG_BUILD_FULL);
+    zmg_lockstep_packet(&key, 1, bytes, sizeof bytes);
     for (int k = 0; k < 3; k++) {
-        zmg_node_build(&other, 0);
+        zmg_lockstep_build(&other, 0);
         IS(pass(&other, &key), ZMG_RECEIVE_TAKEN);
         run(&key);
     }
-    zmg_node_build(&key, 0);
+    zmg_lockstep_build(&key, 0);
     IS(pass(&key, &other), ZMG_RECEIVE_GAP);
-    aim = zmg_node_aim(&other, 0);
+    aim = zmg_lockstep_aim(&other, 0);
     IS(aim.known, 1);
     IS(aim.flags, ZMG_FLAG_RETRANSMIT);
     IS(aim.ask.known, 1);
@@ -349,32 +349,32 @@ static void requests(void) {
 /* The widest window: two windows of commands are due at once, and a packet carries twelve. */
 static void windows(void) {
     zmg_config c = config_of(0);
-    IS(zmg_node_new_within(&key, &c, ZMG_WIDEST_AHEAD), ZMG_NEW_OK);
+    IS(zmg_lockstep_new_within(&key, &c, ZMG_WIDEST_AHEAD), ZMG_NEW_OK);
     c.me = 1;
-    IS(zmg_node_new_within(&other, &c, ZMG_WIDEST_AHEAD), ZMG_NEW_OK);
+    IS(zmg_lockstep_new_within(&other, &c, ZMG_WIDEST_AHEAD), ZMG_NEW_OK);
     IS(pass(&key, &other), ZMG_RECEIVE_STARTED);
     IS(pass(&other, &key), ZMG_RECEIVE_STARTED);
     for (uint32_t k = 0; k < ZMG_WIDEST_AHEAD; k++) {
-        IS(zmg_node_build(&key, 0).code, ZMG_BUILD_MADE);
-        IS(zmg_node_build(&other, 0).code, ZMG_BUILD_MADE);
+        IS(zmg_lockstep_build(&key, 0).code, ZMG_BUILD_MADE);
+        IS(zmg_lockstep_build(&other, 0).code, ZMG_BUILD_MADE);
     }
-    IS(zmg_node_build(&key, 0).code, ZMG_BUILD_AHEAD);
+    IS(zmg_lockstep_build(&key, 0).code, ZMG_BUILD_FULL);
     IS(pass(&other, &key), ZMG_RECEIVE_TAKEN);
-    IS(zmg_node_packet(&key, 1, bytes, sizeof bytes), ZMG_PACKET_SIZE); /* it is lost */
+    IS(zmg_lockstep_packet(&key, 1, bytes, sizeof bytes), ZMG_PACKET_SIZE); /* it is lost */
     for (uint32_t k = 0; k < ZMG_WIDEST_AHEAD; k++) {
         IS(run(&key), ZMG_RUN_RAN);
-        IS(zmg_node_build(&key, 0).code, ZMG_BUILD_MADE);
+        IS(zmg_lockstep_build(&key, 0).code, ZMG_BUILD_MADE);
     }
     IS(pass(&key, &other), ZMG_RECEIVE_GAP);
     IS(pass(&other, &key), ZMG_RECEIVE_STALE);
-    IS(zmg_node_quit(&key), 1);
-    IS(zmg_node_packet(&key, 1, bytes, sizeof bytes), ZMG_PACKET_SIZE);
-    IS(zmg_node_receive(&other, 0, bytes, ZMG_PACKET_SIZE).code, ZMG_RECEIVE_TAKEN);
-    IS(zmg_node_end(&other, 0).known, 0);
+    IS(zmg_lockstep_quit(&key), 1);
+    IS(zmg_lockstep_packet(&key, 1, bytes, sizeof bytes), ZMG_PACKET_SIZE);
+    IS(zmg_lockstep_receive(&other, 0, bytes, ZMG_PACKET_SIZE).code, ZMG_RECEIVE_TAKEN);
+    IS(zmg_lockstep_end(&other, 0).known, 0);
     IS(pass(&key, &other), ZMG_RECEIVE_LEFT);
-    IS(zmg_node_end(&other, 0).value, 2 * ZMG_WIDEST_AHEAD);
-    IS(zmg_node_got(&other, 0).value, 2 * ZMG_WIDEST_AHEAD);
-    IS(zmg_node_command(&other, 0, 0).known, 1);
+    IS(zmg_lockstep_end(&other, 0).value, 2 * ZMG_WIDEST_AHEAD);
+    IS(zmg_lockstep_got(&other, 0).value, 2 * ZMG_WIDEST_AHEAD);
+    IS(zmg_lockstep_command(&other, 0, 0).known, 1);
 }
 
 static void drops(void) {
@@ -388,7 +388,7 @@ static void drops(void) {
     IS(length, 16);
 #define DROPS(why) \
     do { \
-        zmg_heard h = zmg_node_receive(&key, 1, bytes, length); \
+        zmg_heard h = zmg_lockstep_receive(&key, 1, bytes, length); \
         IS(h.code, ZMG_RECEIVE_DROPPED); \
         IS(h.number, why); \
     } while (0)
@@ -404,36 +404,36 @@ static void drops(void) {
     packet.player = 0; SENDS(ZMG_DROP_STRANGER);
     packet.player = 1; packet.flags = ZMG_FLAG_KILL; SENDS(ZMG_DROP_KILL);
     packet.flags = ZMG_FLAG_SETUP; SENDS(ZMG_DROP_OUT_OF_PLACE);
-    packet.flags = 0; packet.start = 200; SENDS(ZMG_DROP_BEFORE);
-    packet.start = 0; packet.commands[0].forward = -128; SENDS(ZMG_DROP_STOP);
+    packet.flags = 0; packet.start = 200; SENDS(ZMG_DROP_TIC);
+    packet.start = 0; packet.commands[0].forward = -128; SENDS(ZMG_DROP_COMMAND);
     packet.commands[0].forward = 0; packet.start = 12; SENDS(ZMG_DROP_OVERRUN);
     packet.flags = ZMG_FLAG_EXIT; packet.start = 2; length = zmg_packet_encode(&packet, bytes, sizeof bytes);
-    IS(zmg_node_receive(&key, 1, bytes, length).code, ZMG_RECEIVE_GAP);
+    IS(zmg_lockstep_receive(&key, 1, bytes, length).code, ZMG_RECEIVE_GAP);
     packet.start = 3; SENDS(ZMG_DROP_END);
-    IS(zmg_node_receive(&key, 2, bytes, length).number, ZMG_DROP_STRANGER);
+    IS(zmg_lockstep_receive(&key, 2, bytes, length).number, ZMG_DROP_STRANGER);
     {
         zmg_config c = config_of(1);
-        zmg_node_new(&other, &c);
+        zmg_lockstep_new(&other, &c);
     }
     length = 16;
     packet.flags = 0; packet.player = 0; length = zmg_packet_encode(&packet, bytes, sizeof bytes);
-    IS(zmg_node_receive(&other, 0, bytes, length).number, ZMG_DROP_NOT_PLAYING);
+    IS(zmg_lockstep_receive(&other, 0, bytes, length).number, ZMG_DROP_NOT_PLAYING);
     packet.flags = ZMG_FLAG_SETUP; packet.count = 0; packet.player = 110;
     length = zmg_packet_encode(&packet, bytes, sizeof bytes);
-    IS(zmg_node_receive(&other, 0, bytes, length).number, ZMG_DROP_VERSION);
+    IS(zmg_lockstep_receive(&other, 0, bytes, length).number, ZMG_DROP_VERSION);
     /* the version that it plays, as player 0 sends it, with map 0 */
     start(0);
     {
         zmg_config c = config_of(0);
-        zmg_node_new(&key, &c);
-        length = zmg_node_packet(&key, 1, bytes, sizeof bytes);
+        zmg_lockstep_new(&key, &c);
+        length = zmg_lockstep_packet(&key, 1, bytes, sizeof bytes);
         IS(zmg_packet_decode(bytes, length, &packet), 0);
         c = config_of(1);
-        zmg_node_new(&other, &c);
+        zmg_lockstep_new(&other, &c);
     }
     packet.start = (uint8_t)(packet.start & 0xc0);
     length = zmg_packet_encode(&packet, bytes, sizeof bytes);
-    IS(zmg_node_receive(&other, 0, bytes, length).number, ZMG_DROP_SETTINGS);
+    IS(zmg_lockstep_receive(&other, 0, bytes, length).number, ZMG_DROP_RANGE);
 }
 
 static void ends(void) {
@@ -443,50 +443,50 @@ static void ends(void) {
     zmg_phase phase;
     start(0);
     for (int k = 0; k < 3; k++) tic();
-    IS(zmg_node_quit(&other), 1);
-    IS(zmg_node_quit(&other), 0);
-    phase = zmg_node_phase(&other);
+    IS(zmg_lockstep_quit(&other), 1);
+    IS(zmg_lockstep_quit(&other), 0);
+    phase = zmg_lockstep_phase(&other);
     IS(phase.code, ZMG_PHASE_ENDED);
     IS(phase.cause, ZMG_CAUSE_QUIT);
-    IS(zmg_node_build(&other, 0).code, ZMG_BUILD_NOT_PLAYING);
-    IS(zmg_node_can_build(&other), 0);
+    IS(zmg_lockstep_build(&other, 0).code, ZMG_BUILD_NOT_PLAYING);
+    IS(zmg_lockstep_can_build(&other), 0);
     {
         zmg_command c = { 1, 2, 3, 4, 5, 6 };
-        IS(zmg_node_give(&other, &c).code, ZMG_BUILD_NOT_PLAYING);
+        IS(zmg_lockstep_give(&other, &c).code, ZMG_BUILD_NOT_PLAYING);
     }
     IS(run(&other), ZMG_RUN_NOT_PLAYING);
     IS(pass(&other, &key), ZMG_RECEIVE_LEFT);
-    IS(zmg_node_end(&key, 1).known, 1);
-    IS(zmg_node_end(&key, 1).value, 3);
+    IS(zmg_lockstep_end(&key, 1).known, 1);
+    IS(zmg_lockstep_end(&key, 1).value, 3);
     IS(pass(&key, &other), ZMG_RECEIVE_NOTED);
     /* a demo of 2,000 bytes has room for 198 tics of two players */
     start(0);
     for (int k = 0; k < 198; k++) tic();
-    zmg_node_build(&key, 0);
-    zmg_node_build(&other, 0);
+    zmg_lockstep_build(&key, 0);
+    zmg_lockstep_build(&other, 0);
     pass(&other, &key);
     IS(run(&key), ZMG_RUN_DEMO_FULL);
-    IS(zmg_node_phase(&key).cause, ZMG_CAUSE_FULL);
-    IS(zmg_node_demo_length(&key), 13 + 198 * 10 + 1);
+    IS(zmg_lockstep_phase(&key).cause, ZMG_CAUSE_FULL);
+    IS(zmg_lockstep_demo_length(&key), 13 + 198 * 10 + 1);
     /* player 1 has another mark in its own world at tic 1; the first tic that is checked is 13 */
     start(0);
     tic();
-    zmg_node_build(&key, 0);
-    zmg_node_build(&other, 0);
+    zmg_lockstep_build(&key, 0);
+    zmg_lockstep_build(&other, 0);
     pass(&key, &other);
     pass(&other, &key);
-    zmg_node_run(&other, marks, row);
+    zmg_lockstep_run(&other, marks, row);
     run(&key);
     for (int k = 0; k < 11; k++) tic();
-    zmg_node_build(&key, 0);
-    zmg_node_build(&other, 0);
+    zmg_lockstep_build(&key, 0);
+    zmg_lockstep_build(&other, 0);
     pass(&other, &key);
-    ran = zmg_node_run(&key, no_marks, row);
+    ran = zmg_lockstep_run(&key, no_marks, row);
     IS(ran.code, ZMG_RUN_INCONSISTENT);
     IS(ran.player, 1);
     IS(ran.was, -77);
     IS(ran.should, 0);
-    phase = zmg_node_phase(&key);
+    phase = zmg_lockstep_phase(&key);
     IS(phase.cause, ZMG_CAUSE_INCONSISTENT);
     IS(phase.player, 1);
     IS(phase.was, -77);
@@ -538,16 +538,16 @@ static void packets(void) {
 
 /* A demo of version 109, with players 0 and 2, one tic, a command of a cut tic, and two bytes behind the
  * marker. */
-static zmg_sealed_node sealed_key = ZMG_SEALED_NODE_NONE, sealed_other = ZMG_SEALED_NODE_NONE;
+static zmg_sealed_lockstep sealed_key = ZMG_SEALED_LOCKSTEP_NONE, sealed_other = ZMG_SEALED_LOCKSTEP_NONE;
 static uint8_t secret[ZMG_SECRET_SIZE] = { 1, 2, 3 }, number[ZMG_NUMBER_SIZE] = { 4, 5, 6 },
     host[ZMG_HOST_SIZE] = { 7, 8, 9 };
 
-static size_t envelope(zmg_sealed_node *from, uint8_t to) {
-    return zmg_sealed_node_packet(from, to, bytes, ZMG_MAX_ENVELOPE);
+static size_t envelope(zmg_sealed_lockstep *from, uint8_t to) {
+    return zmg_sealed_lockstep_packet(from, to, bytes, ZMG_MAX_ENVELOPE);
 }
 
-static zmg_heard open_by(zmg_sealed_node *to, size_t length) {
-    return zmg_sealed_node_receive(to, bytes, length);
+static zmg_heard open_by(zmg_sealed_lockstep *to, size_t length) {
+    return zmg_sealed_lockstep_receive(to, bytes, length);
 }
 
 static void unopened(size_t length, uint32_t why) {
@@ -560,40 +560,40 @@ static void unopened(size_t length, uint32_t why) {
 static void no_sealed_node(void) {
     zmg_move row[4];
     zmg_command c = { 0, 0, 0, 0, 0, 0 };
-    IS(zmg_sealed_node_phase(&sealed_key).code, ZMG_PHASE_NO_NODE);
-    IS(zmg_sealed_node_build(&sealed_key, 0).code, ZMG_BUILD_NOT_PLAYING);
-    IS(zmg_sealed_node_give(&sealed_key, &c).code, ZMG_BUILD_NOT_PLAYING);
-    IS(zmg_sealed_node_can_build(&sealed_key), 0);
-    IS(zmg_sealed_node_run(&sealed_key, no_marks, row).code, ZMG_RUN_NOT_PLAYING);
+    IS(zmg_sealed_lockstep_phase(&sealed_key).code, ZMG_PHASE_NONE);
+    IS(zmg_sealed_lockstep_build(&sealed_key, 0).code, ZMG_BUILD_NOT_PLAYING);
+    IS(zmg_sealed_lockstep_give(&sealed_key, &c).code, ZMG_BUILD_NOT_PLAYING);
+    IS(zmg_sealed_lockstep_can_build(&sealed_key), 0);
+    IS(zmg_sealed_lockstep_run(&sealed_key, no_marks, row).code, ZMG_RUN_NOT_PLAYING);
     IS(open_by(&sealed_key, 0).code, ZMG_RECEIVE_DROPPED);
     IS(open_by(&sealed_key, 0).number, ZMG_DROP_NOT_PLAYING);
-    IS(zmg_sealed_node_quit(&sealed_key), 0);
+    IS(zmg_sealed_lockstep_quit(&sealed_key), 0);
     IS(envelope(&sealed_key, 1), 0);
-    IS(zmg_sealed_node_settings(&sealed_key).known, 0);
-    IS(zmg_sealed_node_demo_length(&sealed_key), 0);
-    zmg_sealed_node_free(&sealed_key);
+    IS(zmg_sealed_lockstep_settings(&sealed_key).known, 0);
+    IS(zmg_sealed_lockstep_demo_length(&sealed_key), 0);
+    zmg_sealed_lockstep_free(&sealed_key);
 }
 
 static void sealed_tic(void) {
     zmg_move row[4];
-    zmg_sealed_node_build(&sealed_key, ZMG_KEY_FORWARD);
-    zmg_sealed_node_build(&sealed_other, 0);
+    zmg_sealed_lockstep_build(&sealed_key, ZMG_KEY_FORWARD);
+    zmg_sealed_lockstep_build(&sealed_other, 0);
     IS(open_by(&sealed_other, envelope(&sealed_key, 1)).code, ZMG_RECEIVE_TAKEN);
     IS(open_by(&sealed_key, envelope(&sealed_other, 0)).code, ZMG_RECEIVE_TAKEN);
-    IS(zmg_sealed_node_run(&sealed_key, no_marks, row).code, ZMG_RUN_RAN);
+    IS(zmg_sealed_lockstep_run(&sealed_key, no_marks, row).code, ZMG_RUN_RAN);
     IS(row[0].forward, 25);
-    IS(zmg_sealed_node_run(&sealed_other, no_marks, row).code, ZMG_RUN_RAN);
+    IS(zmg_sealed_lockstep_run(&sealed_other, no_marks, row).code, ZMG_RUN_RAN);
 }
 
 /* A secret of zeros is refused before all, and gives up what the handle held; one with any other byte is not. */
 static void unset_secrets(const zmg_config *c) {
     uint8_t zeros[ZMG_SECRET_SIZE] = { 0 };
-    IS(zmg_sealed_node_new(&sealed_key, c, ZMG_MOST_AHEAD, secret, number), ZMG_NEW_OK);
-    IS(zmg_sealed_node_new(&sealed_key, c, 0, zeros, number), ZMG_NEW_BAD_SECRET);
-    IS(zmg_sealed_node_phase(&sealed_key).code, ZMG_PHASE_NO_NODE);
+    IS(zmg_sealed_lockstep_new(&sealed_key, c, ZMG_MOST_AHEAD, secret, number), ZMG_NEW_OK);
+    IS(zmg_sealed_lockstep_new(&sealed_key, c, 0, zeros, number), ZMG_NEW_BAD_SECRET);
+    IS(zmg_sealed_lockstep_phase(&sealed_key).code, ZMG_PHASE_NONE);
     for (unsigned k = 0; k < sizeof zeros; k++) {
         zeros[k] = 1;
-        IS(zmg_sealed_node_new(&sealed_key, c, 0, zeros, number), ZMG_NEW_BAD_AHEAD);
+        IS(zmg_sealed_lockstep_new(&sealed_key, c, 0, zeros, number), ZMG_NEW_BAD_AHEAD);
         zeros[k] = 0;
     }
 }
@@ -609,22 +609,22 @@ static void seals(void) {
     size_t n;
     no_sealed_node();
     c.settings.map = 0;
-    IS(zmg_sealed_node_new(&sealed_key, &c, 0, secret, number), ZMG_NEW_BAD_MAP);
+    IS(zmg_sealed_lockstep_new(&sealed_key, &c, 0, secret, number), ZMG_NEW_BAD_MAP);
     c = config_of(2);
-    IS(zmg_sealed_node_new_open(&sealed_key, &c, 0, number), ZMG_NEW_BAD_AHEAD);
-    IS(zmg_sealed_node_new(&sealed_key, &c, ZMG_WIDEST_AHEAD, secret, number), ZMG_NEW_BAD_ME);
+    IS(zmg_sealed_lockstep_new_open(&sealed_key, &c, 0, number), ZMG_NEW_BAD_AHEAD);
+    IS(zmg_sealed_lockstep_new(&sealed_key, &c, ZMG_WIDEST_AHEAD, secret, number), ZMG_NEW_BAD_ME);
     c = config_of(0);
     unset_secrets(&c);
-    IS(zmg_sealed_node_new(&sealed_key, &c, ZMG_MOST_AHEAD, secret, number), ZMG_NEW_OK);
-    IS(zmg_sealed_node_phase(&sealed_key).code, ZMG_PHASE_GATHERING);
-    IS(zmg_sealed_node_settings(&sealed_key).settings.map, 9);
-    IS(zmg_sealed_node_packet(&sealed_key, 1, bytes, ZMG_MAX_ENVELOPE - 1), 0);
+    IS(zmg_sealed_lockstep_new(&sealed_key, &c, ZMG_MOST_AHEAD, secret, number), ZMG_NEW_OK);
+    IS(zmg_sealed_lockstep_phase(&sealed_key).code, ZMG_PHASE_GATHERING);
+    IS(zmg_sealed_lockstep_settings(&sealed_key).settings.map, 9);
+    IS(zmg_sealed_lockstep_packet(&sealed_key, 1, bytes, ZMG_MAX_ENVELOPE - 1), 0);
     c.me = 1;
-    IS(zmg_sealed_node_new_open(&sealed_other, &c, ZMG_MOST_AHEAD, number), ZMG_NEW_OK);
+    IS(zmg_sealed_lockstep_new_open(&sealed_other, &c, ZMG_MOST_AHEAD, number), ZMG_NEW_OK);
     n = envelope(&sealed_key, 1);
     IS(n, ZMG_ENVELOPE_OVERHEAD + 8);
     unopened(n, ZMG_SEAL_SUITE);
-    IS(zmg_sealed_node_new(&sealed_other, &c, ZMG_MOST_AHEAD, secret, number), ZMG_NEW_OK);
+    IS(zmg_sealed_lockstep_new(&sealed_other, &c, ZMG_MOST_AHEAD, secret, number), ZMG_NEW_OK);
     unopened(ZMG_ENVELOPE_OVERHEAD - 1, ZMG_SEAL_SHORT);
     unopened(ZMG_MAX_ENVELOPE + 1, ZMG_SEAL_LONG);
     unopened(n - 1, ZMG_SEAL_TAG);
@@ -644,26 +644,26 @@ static void seals(void) {
         }
         sealed_tic();
     }
-    IS(zmg_sealed_node_made(&sealed_key), 66);
-    IS(zmg_sealed_node_ran(&sealed_other), 66);
-    IS(zmg_sealed_node_got(&sealed_key, 1).value, 66);
-    IS(zmg_sealed_node_me(&sealed_other), 1);
-    IS(zmg_sealed_node_players(&sealed_other), 2);
-    IS(zmg_sealed_node_end(&sealed_other, 0).known, 0);
-    IS(zmg_sealed_node_command(&sealed_other, 0, 65).command.forward, 25);
-    IS(zmg_sealed_node_demo_length(&sealed_key), 13 + 66 * 10);
+    IS(zmg_sealed_lockstep_made(&sealed_key), 66);
+    IS(zmg_sealed_lockstep_ran(&sealed_other), 66);
+    IS(zmg_sealed_lockstep_got(&sealed_key, 1).value, 66);
+    IS(zmg_sealed_lockstep_me(&sealed_other), 1);
+    IS(zmg_sealed_lockstep_players(&sealed_other), 2);
+    IS(zmg_sealed_lockstep_end(&sealed_other, 0).known, 0);
+    IS(zmg_sealed_lockstep_command(&sealed_other, 0, 65).command.forward, 25);
+    IS(zmg_sealed_lockstep_demo_length(&sealed_key), 13 + 66 * 10);
     memcpy(bytes, old, n);
     IS(open_by(&sealed_key, n).code, ZMG_RECEIVE_LATE);
     IS(open_by(&sealed_key, n).number, 0);
-    IS(zmg_sealed_node_quit(&sealed_key), 1);
-    IS(zmg_sealed_node_quit(&sealed_key), 0);
-    IS(zmg_sealed_node_phase(&sealed_key).cause, ZMG_CAUSE_QUIT);
-    IS(zmg_sealed_node_demo(&sealed_key, 13 + 66 * 10, bytes, sizeof bytes), 1);
+    IS(zmg_sealed_lockstep_quit(&sealed_key), 1);
+    IS(zmg_sealed_lockstep_quit(&sealed_key), 0);
+    IS(zmg_sealed_lockstep_phase(&sealed_key).cause, ZMG_CAUSE_QUIT);
+    IS(zmg_sealed_lockstep_demo(&sealed_key, 13 + 66 * 10, bytes, sizeof bytes), 1);
     IS(bytes[0], 0x80);
     IS(open_by(&sealed_other, envelope(&sealed_key, 1)).code, ZMG_RECEIVE_LEFT);
-    IS(zmg_sealed_node_end(&sealed_other, 0).value, 66);
-    zmg_sealed_node_free(&sealed_key);
-    zmg_sealed_node_free(&sealed_other);
+    IS(zmg_sealed_lockstep_end(&sealed_other, 0).value, 66);
+    zmg_sealed_lockstep_free(&sealed_key);
+    zmg_sealed_lockstep_free(&sealed_other);
 }
 
 static zmg_link key_link = ZMG_LINK_NONE, other_link = ZMG_LINK_NONE;
@@ -674,7 +674,7 @@ static size_t datagram(zmg_link *from, uint8_t to) {
 
 static void no_datagram(size_t length, uint32_t why) {
     zmg_received received = zmg_link_receive(&other_link, bytes, length);
-    IS(received.code, ZMG_RECEIVED_UNOPENED);
+    IS(received.code, ZMG_LINK_RECEIVE_UNOPENED);
     IS(received.reason, why);
     IS(received.player, 0);
     IS(received.started, 0);
@@ -684,7 +684,7 @@ static void no_datagram(size_t length, uint32_t why) {
 static void no_link(void) {
     zmg_move row[4];
     zmg_command c = { 0, 0, 0, 0, 0, 0 };
-    IS(zmg_link_phase(&other_link).code, ZMG_PHASE_NO_NODE);
+    IS(zmg_link_phase(&other_link).code, ZMG_PHASE_NONE);
     IS(zmg_link_build(&other_link, 0).code, ZMG_BUILD_NOT_PLAYING);
     IS(zmg_link_give(&other_link, &c).code, ZMG_BUILD_NOT_PLAYING);
     IS(zmg_link_catch_up(&other_link).code, ZMG_BUILD_NONE_OWED);
@@ -740,7 +740,7 @@ static void presences(void) {
     c.limit++;
     c.extra = 1;
     IS(zmg_link_new(&key_link, &c, ZMG_WIDEST_AHEAD, secret, number, another), ZMG_NEW_OK);
-    IS(heard_by(&other_link, &key_link).code, ZMG_RECEIVED_DIFFERENT);
+    IS(heard_by(&other_link, &key_link).code, ZMG_LINK_RECEIVE_DIFFERENT);
     p = zmg_link_presence(&other_link, 0);
     IS(p.state, ZMG_PRESENCE_DIFFERENT);
     IS(p.limit, c.limit);
@@ -754,21 +754,21 @@ static void presences(void) {
     c = config_of(0);
     IS(zmg_link_new(&key_link, &c, ZMG_MOST_AHEAD, secret, number, host), ZMG_NEW_OK);
     /* its first number is not newer than that of the one before it */
-    IS(heard_by(&other_link, &key_link).code, ZMG_RECEIVED_HEARD);
+    IS(heard_by(&other_link, &key_link).code, ZMG_LINK_RECEIVE_HEARD);
     is_there(ZMG_PRESENCE_AWAY, 0);
     IS(heard_by(&other_link, &key_link).started, 0);
     is_there(ZMG_PRESENCE_THERE, 0);
-    IS(heard_by(&key_link, &other_link).code, ZMG_RECEIVED_HEARD);
+    IS(heard_by(&key_link, &other_link).code, ZMG_LINK_RECEIVE_HEARD);
     IS(heard_by(&other_link, &key_link).started, 1);
     IS(heard_by(&key_link, &other_link).started, 1);
-    IS(heard_by(&other_link, &key_link).code, ZMG_RECEIVED_HEARD);
+    IS(heard_by(&other_link, &key_link).code, ZMG_LINK_RECEIVE_HEARD);
     is_there(ZMG_PRESENCE_PLAYING, 0);
     zmg_link_forget(&other_link, 0);
     is_there(ZMG_PRESENCE_FORGOTTEN, 0);
-    IS(heard_by(&other_link, &key_link).code, ZMG_RECEIVED_HEARD);
+    IS(heard_by(&other_link, &key_link).code, ZMG_LINK_RECEIVE_HEARD);
     is_there(ZMG_PRESENCE_PLAYING, 0);
     IS(zmg_link_quit(&key_link), 1);
-    IS(heard_by(&other_link, &key_link).code, ZMG_RECEIVED_HEARD);
+    IS(heard_by(&other_link, &key_link).code, ZMG_LINK_RECEIVE_HEARD);
     is_there(ZMG_PRESENCE_LEFT, ZMG_CAUSE_QUIT);
     zmg_link_forget(&other_link, 0);
     is_there(ZMG_PRESENCE_LEFT, ZMG_CAUSE_QUIT);
@@ -846,8 +846,8 @@ static void owed(void) {
     IS(zmg_link_catch_up(&key_link).code, ZMG_BUILD_NONE_OWED);
     while (zmg_link_can_build(&key_link)) IS(zmg_link_build(&key_link, 0).code, ZMG_BUILD_MADE);
     IS(zmg_link_catch_up(&key_link).code, ZMG_BUILD_NONE_OWED);
-    IS(zmg_link_build(&key_link, 0).code, ZMG_BUILD_AHEAD);
-    IS(zmg_link_catch_up(&key_link).code, ZMG_BUILD_AHEAD);
+    IS(zmg_link_build(&key_link, 0).code, ZMG_BUILD_FULL);
+    IS(zmg_link_catch_up(&key_link).code, ZMG_BUILD_FULL);
     IS(zmg_link_quit(&key_link), 1);
     IS(zmg_link_catch_up(&key_link).code, ZMG_BUILD_NOT_PLAYING);
     IS(zmg_link_catch_up(&key_link).code, ZMG_BUILD_NONE_OWED);
@@ -856,9 +856,9 @@ static void owed(void) {
 /* A datagram with each of its parts altered, and one of a player that the game has not. */
 static void links(void) {
     static const uint8_t places[] = { 0, 1, 2, 9, 11, 10, 12, 16, 17, 18, 42, 59 };
-    static const uint32_t faults[] = { ZMG_LINK_SUITE, ZMG_LINK_KIND, ZMG_LINK_GAME, ZMG_LINK_GAME,
-        ZMG_LINK_RECEIVER, ZMG_LINK_TAG, ZMG_LINK_TAG, ZMG_LINK_TAG, ZMG_LINK_TAG, ZMG_LINK_TAG, ZMG_LINK_TAG,
-        ZMG_LINK_TAG };
+    static const uint32_t faults[] = { ZMG_BUNDLE_SUITE, ZMG_BUNDLE_KIND, ZMG_BUNDLE_GAME, ZMG_BUNDLE_GAME,
+        ZMG_BUNDLE_RECEIVER, ZMG_BUNDLE_TAG, ZMG_BUNDLE_TAG, ZMG_BUNDLE_TAG, ZMG_BUNDLE_TAG, ZMG_BUNDLE_TAG,
+        ZMG_BUNDLE_TAG, ZMG_BUNDLE_TAG };
     uint8_t zeros[ZMG_SECRET_SIZE] = { 0 };
     zmg_config c = config_of(0);
     zmg_received received;
@@ -866,7 +866,7 @@ static void links(void) {
     no_link();
     IS(zmg_link_new(&key_link, &c, ZMG_MOST_AHEAD, secret, number, host), ZMG_NEW_OK);
     IS(zmg_link_new(&key_link, &c, 0, zeros, number, host), ZMG_NEW_BAD_SECRET);
-    IS(zmg_link_phase(&key_link).code, ZMG_PHASE_NO_NODE);
+    IS(zmg_link_phase(&key_link).code, ZMG_PHASE_NONE);
     IS(zmg_link_new(&key_link, &c, 0, secret, number, host), ZMG_NEW_BAD_AHEAD);
     c.settings.map = 0;
     IS(zmg_link_new(&key_link, &c, 0, secret, number, host), ZMG_NEW_BAD_MAP);
@@ -878,7 +878,7 @@ static void links(void) {
     IS(zmg_link_new(&other_link, &c, ZMG_MOST_AHEAD, secret, number, host), ZMG_NEW_OK);
     n = datagram(&key_link, 1);
     received = zmg_link_receive(&other_link, bytes, n);
-    IS(received.code, ZMG_RECEIVED_STRANGER);
+    IS(received.code, ZMG_LINK_RECEIVE_STRANGER);
     IS(received.player, 2);
     IS(zmg_link_refused(&other_link), 0);
     c = config_of(0);
@@ -887,16 +887,16 @@ static void links(void) {
     IS(datagram(&key_link, 0), 0);
     IS(datagram(&key_link, 2), 0);
     n = datagram(&key_link, 1);
-    no_datagram(59, ZMG_LINK_SHORT);
-    no_datagram(ZMG_LINK_SIZE + 1, ZMG_LINK_LONG);
-    no_datagram(n - 1, ZMG_LINK_TAG);
+    no_datagram(59, ZMG_BUNDLE_SHORT);
+    no_datagram(ZMG_LINK_SIZE + 1, ZMG_BUNDLE_LONG);
+    no_datagram(n - 1, ZMG_BUNDLE_TAG);
     for (unsigned k = 0; k < sizeof places; k++) {
         bytes[places[k]] ^= 64;
         no_datagram(n, faults[k]);
         bytes[places[k]] ^= 64;
     }
     received = zmg_link_receive(&other_link, bytes, n);
-    IS(received.code, ZMG_RECEIVED_HEARD);
+    IS(received.code, ZMG_LINK_RECEIVE_HEARD);
     IS(received.reason, 0);
     IS(received.player, 0);
     IS(received.started, 0);
@@ -918,7 +918,7 @@ static void links(void) {
     line_begins_anew();
     zmg_link_free(&key_link);
     zmg_link_free(&other_link);
-    IS(zmg_link_phase(&key_link).code, ZMG_PHASE_NO_NODE);
+    IS(zmg_link_phase(&key_link).code, ZMG_PHASE_NONE);
 }
 
 static void demos(void) {
@@ -1001,33 +1001,33 @@ static void no_memory(void) {
     uint32_t code;
     memset(text, 0, sizeof text);
     text[0] = 109; text[9] = 1; text[1023] = 0x80; text[13] = 0x80;
-    zmg_node_free(&key);
-    zmg_node_free(&other);
+    zmg_lockstep_free(&key);
+    zmg_lockstep_free(&other);
     IS(blocks_held(), 0);
     for (n = 1, code = 1; code; n++) {
         fail_once(n);
-        code = zmg_node_new(&key, &c);
+        code = zmg_lockstep_new(&key, &c);
         if (!code) continue;
         IS(code, ZMG_NEW_NO_MEMORY);
-        IS(zmg_node_phase(&key).code, ZMG_PHASE_NO_NODE);
+        IS(zmg_lockstep_phase(&key).code, ZMG_PHASE_NONE);
         IS(blocks_held(), 0);
     }
     IS(n, 4);
     for (n = 1, code = 1; code; n++) {
         fail_once(n);
-        code = zmg_sealed_node_new(&sealed_key, &c, ZMG_MOST_AHEAD, secret, number);
+        code = zmg_sealed_lockstep_new(&sealed_key, &c, ZMG_MOST_AHEAD, secret, number);
         if (!code) continue;
         IS(code, ZMG_NEW_NO_MEMORY);
-        IS(zmg_sealed_node_phase(&sealed_key).code, ZMG_PHASE_NO_NODE);
+        IS(zmg_sealed_lockstep_phase(&sealed_key).code, ZMG_PHASE_NONE);
     }
     IS(n, 4);
-    zmg_sealed_node_free(&sealed_key);
+    zmg_sealed_lockstep_free(&sealed_key);
     for (n = 1, code = 1; code; n++) {
         fail_once(n);
         code = zmg_link_new(&key_link, &c, ZMG_MOST_AHEAD, secret, number, host);
         if (!code) continue;
         IS(code, ZMG_NEW_NO_MEMORY);
-        IS(zmg_link_phase(&key_link).code, ZMG_PHASE_NO_NODE);
+        IS(zmg_link_phase(&key_link).code, ZMG_PHASE_NONE);
     }
     IS(n, 4);
     zmg_link_free(&key_link);
@@ -1052,7 +1052,7 @@ static void no_memory(void) {
     IS(n, 4);
     fail_once(0);
     zmg_demo_free(&demo);
-    zmg_node_free(&key);
+    zmg_lockstep_free(&key);
     IS(blocks_held(), 0);
 }
 

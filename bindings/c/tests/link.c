@@ -62,7 +62,7 @@ static void take(uint8_t me) {
         zmg_received received;
         if (flights[k].length == 0 || flights[k].to != me || below(3) == 0) continue;
         received = zmg_link_receive(&links[me], flights[k].bytes, flights[k].length);
-        MUST(received.code == ZMG_RECEIVED_HEARD && received.player == 1 - me && received.reason == 0);
+        MUST(received.code == ZMG_LINK_RECEIVE_HEARD && received.player == 1 - me && received.reason == 0);
         if (received.started) MUST(zmg_link_settings(&links[me]).settings.map == 1);
         if (below(8)) flights[k].length = 0;
     }
@@ -96,10 +96,10 @@ static void refused(void) {
     uint8_t bytes[ZMG_LINK_SIZE];
     size_t n = zmg_link_datagram(&links[0], 1, bytes, sizeof bytes);
     bytes[n - 1] ^= 1;
-    MUST(zmg_link_receive(&links[1], bytes, n).reason == ZMG_LINK_TAG);
+    MUST(zmg_link_receive(&links[1], bytes, n).reason == ZMG_BUNDLE_TAG);
     bytes[n - 1] ^= 1;
-    MUST(zmg_link_receive(&links[0], bytes, n).reason == ZMG_LINK_RECEIVER);
-    MUST(zmg_link_receive(&links[1], bytes, 59).reason == ZMG_LINK_SHORT);
+    MUST(zmg_link_receive(&links[0], bytes, n).reason == ZMG_BUNDLE_RECEIVER);
+    MUST(zmg_link_receive(&links[1], bytes, 59).reason == ZMG_BUNDLE_SHORT);
     MUST(zmg_link_datagram(&links[0], 0, bytes, sizeof bytes) == 0);
     MUST(zmg_link_datagram(&links[0], 2, bytes, sizeof bytes) == 0);
 }
@@ -129,7 +129,7 @@ static uint32_t bad_line(void) {
         MUST(zmg_link_demo_length(&links[me]) == DEMO + 1);
         MUST(zmg_link_demo(&links[me], 0, demos[me], sizeof demos[me]) == DEMO + 1);
         zmg_link_free(&links[me]);
-        MUST(zmg_link_phase(&links[me]).code == ZMG_PHASE_NO_NODE);
+        MUST(zmg_link_phase(&links[me]).code == ZMG_PHASE_NONE);
     }
     /* the view is each player's own */
     MUST(memcmp(demos[0] + 9, demos[1] + 9, DEMO - 8) == 0);
@@ -244,8 +244,8 @@ static void one_vanishes(void) {
     turns(1, 1, 1, 0);
     MUST(zmg_link_may_leave(&links[0]) == 1);
     /* its hello of before the game does not bring it back */
-    MUST(arrives(0, &early).code == ZMG_RECEIVED_HEARD && presence(0, 2).state == ZMG_PRESENCE_FORGOTTEN);
-    MUST(datagram(2, 0, &late) && arrives(0, &late).code == ZMG_RECEIVED_HEARD);
+    MUST(arrives(0, &early).code == ZMG_LINK_RECEIVE_HEARD && presence(0, 2).state == ZMG_PRESENCE_FORGOTTEN);
+    MUST(datagram(2, 0, &late) && arrives(0, &late).code == ZMG_LINK_RECEIVE_HEARD);
     MUST(presence(0, 2).state == ZMG_PRESENCE_PLAYING && zmg_link_may_leave(&links[0]) == 0);
     MUST(zmg_link_unacknowledged(&links[0]) > 0);
     turns(SHORT, 1, 1, 1);
@@ -265,9 +265,9 @@ static void one_seems_to_differ(void) {
     MUST(datagram(1, 0, &first) && datagram(1, 0, &late));
     zmg_link_free(&links[1]);
     open_link(1, 2, 0);
-    MUST(datagram(1, 0, &f) && arrives(0, &f).code == ZMG_RECEIVED_HEARD);
+    MUST(datagram(1, 0, &f) && arrives(0, &f).code == ZMG_LINK_RECEIVE_HEARD);
     MUST(datagram(0, 1, &f) && arrives(1, &f).started);
-    MUST(arrives(0, &late).code == ZMG_RECEIVED_DIFFERENT && phase(0) == ZMG_PHASE_GATHERING);
+    MUST(arrives(0, &late).code == ZMG_LINK_RECEIVE_DIFFERENT && phase(0) == ZMG_PHASE_GATHERING);
     MUST(presence(0, 1).state == ZMG_PRESENCE_THERE);
     MUST(datagram(1, 0, &f) && arrives(0, &f).started);
     MUST(presence(0, 1).state == ZMG_PRESENCE_PLAYING && phase(0) == ZMG_PHASE_PLAYING);
@@ -330,7 +330,7 @@ static void count_made(uint8_t me, mouse *m) {
 static int move(uint8_t me, mouse *m) {
     zmg_command c = { 0, 0, 0, 0, 0, 0 };
     int32_t motion = (int32_t)below(40);
-    int is_owed = zmg_link_catch_up(&links[me]).code == ZMG_BUILD_AHEAD;
+    int is_owed = zmg_link_catch_up(&links[me]).code == ZMG_BUILD_FULL;
     if (is_owed) m->since += m->last;
     m->all += motion;
     m->since += motion;
@@ -363,7 +363,7 @@ static void long_line(void) {
             run_and_catch_up(me, &mice[me]);
         }
     for (uint8_t me = 0; me < 2; me++) {
-        int32_t is_owed = zmg_link_catch_up(&links[me]).code == ZMG_BUILD_AHEAD;
+        int32_t is_owed = zmg_link_catch_up(&links[me]).code == ZMG_BUILD_FULL;
         MUST(mice[me].all == mice[me].made + mice[me].since + is_owed * mice[me].last);
     }
     MUST(owed > LONG / 8);
@@ -373,7 +373,7 @@ static void long_line(void) {
 int main(int argc, char **argv) {
     uint32_t now;
     if (argc > 1) seed = (uint32_t)strtoul(argv[1], NULL, 10);
-    MUST(zmg_link_receive(&links[0], demos[0], 0).code == ZMG_RECEIVED_UNOPENED);
+    MUST(zmg_link_receive(&links[0], demos[0], 0).code == ZMG_LINK_RECEIVE_UNOPENED);
     MUST(zmg_link_may_leave(&links[0]) == 0);
     now = bad_line();
     one_leaves_the_lobby();

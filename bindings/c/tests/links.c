@@ -275,10 +275,10 @@ static void hear_other(const flight *f) {
     uint32_t refused = zmg_link_refused(&links[f->to]);
     zmg_received r = zmg_link_receive(&links[f->to], f->bytes, f->length);
     if (f->changed) {
-        MUST(r.code == ZMG_RECEIVED_UNOPENED && r.reason < 16);
+        MUST(r.code == ZMG_LINK_RECEIVE_UNOPENED && r.reason < 16);
         unopened[r.reason]++;
     } else {
-        MUST(r.code == ZMG_RECEIVED_STRANGER && r.player == NODES - 1);
+        MUST(r.code == ZMG_LINK_RECEIVE_STRANGER && r.player == NODES - 1);
         strangers++;
     }
     after = tell(f->to);
@@ -302,7 +302,7 @@ static void hear(const flight *f) {
         return;
     }
     r = zmg_link_receive(&links[f->to], f->bytes, f->length);
-    MUST(r.code == ZMG_RECEIVED_HEARD && r.player == f->from);
+    MUST(r.code == ZMG_LINK_RECEIVE_HEARD && r.player == f->from);
     if (r.started) all[f->to].last_run = now;
     heard++;
     look_at_sender(f);
@@ -458,7 +458,7 @@ int main(int argc, char **argv) {
     printf("\n");
     if (games < 100) return 0;
     /* in so many games all of it comes */
-    MUST(unopened[ZMG_LINK_TAG] > 0 && unopened[ZMG_LINK_RECEIVER] > 0 && unopened[ZMG_LINK_GAME] > 0);
+    MUST(unopened[ZMG_BUNDLE_TAG] > 0 && unopened[ZMG_BUNDLE_RECEIVER] > 0 && unopened[ZMG_BUNDLE_GAME] > 0);
     MUST(strangers > 0 && full > 0 && caught_up > 0 && seconds > 0 && alone > 0);
     MUST(replaced > 0 && given_up > 0 && early > 0);
     return 0;

@@ -48,18 +48,18 @@ static void open_game(int is_open) {
 static void give(uint8_t from, uint8_t to, uint32_t now) {
     flight f;
     uint8_t plain[ZMG_PACKET_SIZE];
-    size_t length = zmg_node_packet(&twins[from], to, plain, sizeof plain);
+    size_t length = zmg_lockstep_packet(&twins[from], to, plain, sizeof plain);
     memset(&f, 0, sizeof f);
     f.to = to;
-    MUST(zmg_sealed_node_packet(&nodes[from], to, f.bytes, ZMG_MAX_ENVELOPE - 1) == 0 && f.bytes[0] == 0);
-    f.length = zmg_sealed_node_packet(&nodes[from], to, f.bytes, ZMG_MAX_ENVELOPE);
+    MUST(zmg_sealed_lockstep_packet(&nodes[from], to, f.bytes, ZMG_MAX_ENVELOPE - 1) == 0 && f.bytes[0] == 0);
+    f.length = zmg_sealed_lockstep_packet(&nodes[from], to, f.bytes, ZMG_MAX_ENVELOPE);
     /* the twin's datagram is in the envelope, after the head */
     MUST(f.length == (length ? length + ZMG_ENVELOPE_OVERHEAD : 0));
     if (length == 0) return;
     MUST(memcmp(f.bytes + DATAGRAM, plain, length) == 0 && f.bytes[FROM] == from && f.bytes[TO] == to);
     carry(&f, players, now);
     if (below(16) == 0) {
-        f.length = zmg_sealed_node_packet(&stranger, 1, f.bytes, ZMG_MAX_ENVELOPE);
+        f.length = zmg_sealed_lockstep_packet(&stranger, 1, f.bytes, ZMG_MAX_ENVELOPE);
         f.to = 1;
         f.changed = 1;
         f.at = now;
@@ -68,7 +68,7 @@ static void give(uint8_t from, uint8_t to, uint32_t now) {
 }
 
 static void hear(uint8_t me, const flight *f) {
-    zmg_heard heard = zmg_sealed_node_receive(&nodes[me], f->bytes, f->length);
+    zmg_heard heard = zmg_sealed_lockstep_receive(&nodes[me], f->bytes, f->length);
     arrived[heard.code]++;
     MUST(heard.code <= ZMG_RECEIVE_LATE);
     if (heard.code == ZMG_RECEIVE_UNOPENED) {
@@ -79,7 +79,7 @@ static void hear(uint8_t me, const flight *f) {
     MUST(!f->changed && f->bytes[TO] == me);
     if (heard.code != ZMG_RECEIVE_LATE) {
         size_t length = f->length - ZMG_ENVELOPE_OVERHEAD;
-        zmg_heard twin = zmg_node_receive(&twins[me], f->bytes[FROM], f->bytes + DATAGRAM, length);
+        zmg_heard twin = zmg_lockstep_receive(&twins[me], f->bytes[FROM], f->bytes + DATAGRAM, length);
         MUST(heard.code == twin.code && heard.number == twin.number);
         MUST(heard.code != ZMG_RECEIVE_DROPPED || heard.number == ZMG_DROP_NOT_PLAYING
             || heard.number == ZMG_DROP_OUT_OF_PLACE);
@@ -89,7 +89,7 @@ static void hear(uint8_t me, const flight *f) {
 /* What a node knows of the players' ends, as its twin does. */
 static void tell_ends(uint8_t me) {
     for (uint8_t p = 0; p < players; p++) {
-        zmg_number end = zmg_sealed_node_end(&nodes[me], p), twin = zmg_node_end(&twins[me], p);
+        zmg_number end = zmg_sealed_lockstep_end(&nodes[me], p), twin = zmg_lockstep_end(&twins[me], p);
         MUST(end.known == twin.known && end.value == twin.value);
         tells_end(&common, p, end);
     }
@@ -100,8 +100,9 @@ static void run(uint8_t me) {
     zmg_move row[4], twin[4];
     zmg_ran ran;
     tell_ends(me);
-    while ((ran = zmg_sealed_node_run(&nodes[me], marks, row)).code == ZMG_RUN_RAN) {
-        MUST(zmg_node_run(&twins[me], marks, twin).code == ZMG_RUN_RAN && memcmp(row, twin, sizeof row) == 0);
+    while ((ran = zmg_sealed_lockstep_run(&nodes[me], marks, row)).code == ZMG_RUN_RAN) {
+        MUST(zmg_lockstep_run(&twins[me], marks, twin).code == ZMG_RUN_RAN);
+        MUST(memcmp(row, twin, sizeof row) == 0);
         MUST(ran.tic < MOST);
         runs_row(&common, players, ran.tic, row);
     }
@@ -110,22 +111,22 @@ static void run(uint8_t me) {
 
 /* Quits, once it has run so many tics. */
 static void quit_in_time(uint8_t me) {
-    if (has_quit[me] || quits[me] == MOST || zmg_sealed_node_ran(&nodes[me]) < quits[me]) return;
-    if (zmg_sealed_node_phase(&nodes[me]).code != ZMG_PHASE_PLAYING) return;
-    MUST(zmg_sealed_node_quit(&nodes[me]) == 1 && zmg_node_quit(&twins[me]) == 1);
-    MUST(zmg_sealed_node_quit(&nodes[me]) == 0);
+    if (has_quit[me] || quits[me] == MOST || zmg_sealed_lockstep_ran(&nodes[me]) < quits[me]) return;
+    if (zmg_sealed_lockstep_phase(&nodes[me]).code != ZMG_PHASE_PLAYING) return;
+    MUST(zmg_sealed_lockstep_quit(&nodes[me]) == 1 && zmg_lockstep_quit(&twins[me]) == 1);
+    MUST(zmg_sealed_lockstep_quit(&nodes[me]) == 0);
     has_quit[me] = 1;
     left++;
 }
 
 static void turn(uint8_t me, uint32_t now) {
     quit_in_time(me);
-    if (zmg_sealed_node_made(&nodes[me]) < MOST && zmg_sealed_node_can_build(&nodes[me])) {
+    if (zmg_sealed_lockstep_made(&nodes[me]) < MOST && zmg_sealed_lockstep_can_build(&nodes[me])) {
         zmg_command c = { (int16_t)draw(), 0, (int8_t)below(100), (int8_t)below(80), (uint8_t)draw(), 1 };
         zmg_known_command told;
-        zmg_made made = zmg_sealed_node_give(&nodes[me], &c);
-        MUST(made.code == ZMG_BUILD_MADE && zmg_node_give(&twins[me], &c).tic == made.tic);
-        told = zmg_sealed_node_command(&nodes[me], me, made.tic);
+        zmg_made made = zmg_sealed_lockstep_give(&nodes[me], &c);
+        MUST(made.code == ZMG_BUILD_MADE && zmg_lockstep_give(&twins[me], &c).tic == made.tic);
+        told = zmg_sealed_lockstep_command(&nodes[me], me, made.tic);
         MUST(told.known && told.command.turn == c.turn && told.command.chat == c.chat);
     }
     for (uint8_t to = 0; to < NODES; to++) give(me, to, now);
@@ -140,27 +141,28 @@ static void turn(uint8_t me, uint32_t now) {
 
 static int is_over(void) {
     for (uint8_t me = 0; me < players; me++)
-        if (!has_quit[me] && zmg_sealed_node_ran(&nodes[me]) < MOST) return 0;
+        if (!has_quit[me] && zmg_sealed_lockstep_ran(&nodes[me]) < MOST) return 0;
     return 1;
 }
 
 /* Who has quit has ended after its last command. Whoever has run that tic knows so, and of the others no end is
  * told. */
 static void look_at_end(uint8_t player) {
-    uint32_t made = zmg_sealed_node_made(&nodes[player]);
-    MUST(zmg_sealed_node_end(&nodes[player], player).known == has_quit[player]);
+    uint32_t made = zmg_sealed_lockstep_made(&nodes[player]);
+    MUST(zmg_sealed_lockstep_end(&nodes[player], player).known == has_quit[player]);
     for (uint8_t me = 0; me < players; me++) {
-        zmg_number end = zmg_sealed_node_end(&nodes[me], player);
+        zmg_number end = zmg_sealed_lockstep_end(&nodes[me], player);
         if (end.known) MUST(has_quit[player] && end.value == made);
-        else MUST(!has_quit[player] || zmg_sealed_node_ran(&nodes[me]) <= made);
+        else MUST(!has_quit[player] || zmg_sealed_lockstep_ran(&nodes[me]) <= made);
     }
 }
 
 static void look_at_demo(uint8_t me) {
     static uint8_t demo[MOST_DEMO];
-    size_t length = zmg_sealed_node_demo(&nodes[me], 0, demo, sizeof demo);
-    MUST(length == zmg_sealed_node_demo_length(&nodes[me]) && length == zmg_node_demo_length(&twins[me]));
-    tells_demo(&common, players, zmg_sealed_node_ran(&nodes[me]), has_quit[me], demo, length);
+    size_t length = zmg_sealed_lockstep_demo(&nodes[me], 0, demo, sizeof demo);
+    MUST(length == zmg_sealed_lockstep_demo_length(&nodes[me]));
+    MUST(length == zmg_lockstep_demo_length(&twins[me]));
+    tells_demo(&common, players, zmg_sealed_lockstep_ran(&nodes[me]), has_quit[me], demo, length);
 }
 
 static void game(int is_open) {
@@ -177,7 +179,7 @@ static void game(int is_open) {
     }
     MUST(common.length == HEAD + (size_t)whole_rows(&common, players) * players * COMMAND);
     alone += quit == players - 1;
-    for (uint8_t me = 0; me < players; me++) MUST(zmg_sealed_node_quit(&nodes[me]) == !has_quit[me]);
+    for (uint8_t me = 0; me < players; me++) MUST(zmg_sealed_lockstep_quit(&nodes[me]) == !has_quit[me]);
     free_nodes((uint8_t)players);
     games++;
 }

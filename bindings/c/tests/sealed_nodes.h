@@ -6,8 +6,8 @@
 #include "zirmegat.h"
 #include <string.h>
 
-static zmg_sealed_node nodes[4], stranger;
-static zmg_node twins[4];
+static zmg_sealed_lockstep nodes[4], stranger;
+static zmg_lockstep twins[4];
 static uint8_t secret[ZMG_SECRET_SIZE], number[ZMG_NUMBER_SIZE];
 
 static zmg_config config_of(uint8_t players, uint8_t me) {
@@ -28,9 +28,9 @@ static void make_nodes(uint8_t players, int is_open) {
     fill(number, sizeof number);
     for (uint8_t me = 0; me < players; me++) {
         zmg_config c = config_of(players, me);
-        MUST((is_open ? zmg_sealed_node_new_open(&nodes[me], &c, ahead, number)
-            : zmg_sealed_node_new(&nodes[me], &c, ahead, secret, number)) == ZMG_NEW_OK);
-        MUST(zmg_node_new_within(&twins[me], &c, ahead) == ZMG_NEW_OK);
+        MUST((is_open ? zmg_sealed_lockstep_new_open(&nodes[me], &c, ahead, number)
+            : zmg_sealed_lockstep_new(&nodes[me], &c, ahead, secret, number)) == ZMG_NEW_OK);
+        MUST(zmg_lockstep_new_within(&twins[me], &c, ahead) == ZMG_NEW_OK);
     }
     /* the same but for the last byte of the secret, or of the number where there is no secret */
     {
@@ -38,18 +38,18 @@ static void make_nodes(uint8_t players, int is_open) {
         uint8_t *byte = is_open ? &number[ZMG_NUMBER_SIZE - 1] : &secret[ZMG_SECRET_SIZE - 1];
         last = *byte;
         *byte ^= 1;
-        MUST((is_open ? zmg_sealed_node_new_open(&stranger, &c, ahead, number)
-            : zmg_sealed_node_new(&stranger, &c, ahead, secret, number)) == ZMG_NEW_OK);
+        MUST((is_open ? zmg_sealed_lockstep_new_open(&stranger, &c, ahead, number)
+            : zmg_sealed_lockstep_new(&stranger, &c, ahead, secret, number)) == ZMG_NEW_OK);
         *byte = last;
     }
 }
 
 static void free_nodes(uint8_t players) {
     for (uint8_t me = 0; me < players; me++) {
-        zmg_sealed_node_free(&nodes[me]);
-        zmg_node_free(&twins[me]);
+        zmg_sealed_lockstep_free(&nodes[me]);
+        zmg_lockstep_free(&twins[me]);
     }
-    zmg_sealed_node_free(&stranger);
+    zmg_sealed_lockstep_free(&stranger);
 }
 
 #endif

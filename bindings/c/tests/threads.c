@@ -8,34 +8,34 @@
 #define ROUNDS 60
 
 struct game {
-    zmg_node key, other;
+    zmg_lockstep key, other;
     int round;
 };
 
 static void begin(struct game *game) {
     zmg_config config = { 4096, 2, 0, 0, { 2, 0, 0, 0, 1, 1 } };
-    if (zmg_node_new(&game->key, &config) != ZMG_NEW_OK) exit(1);
+    if (zmg_lockstep_new(&game->key, &config) != ZMG_NEW_OK) exit(1);
     config.me = 1;
-    if (zmg_node_new(&game->other, &config) != ZMG_NEW_OK) exit(1);
+    if (zmg_lockstep_new(&game->other, &config) != ZMG_NEW_OK) exit(1);
 }
 
-static void hand_over(zmg_node *from, zmg_node *to) {
+static void hand_over(zmg_lockstep *from, zmg_lockstep *to) {
     uint8_t bytes[ZMG_PACKET_SIZE];
-    size_t length = zmg_node_packet(from, (uint8_t)zmg_node_me(to), bytes, sizeof bytes);
-    if (length > 0) zmg_node_receive(to, (uint8_t)zmg_node_me(from), bytes, length);
+    size_t length = zmg_lockstep_packet(from, (uint8_t)zmg_lockstep_me(to), bytes, sizeof bytes);
+    if (length > 0) zmg_lockstep_receive(to, (uint8_t)zmg_lockstep_me(from), bytes, length);
 }
 
-static void run(zmg_node *node) {
+static void run(zmg_lockstep *node) {
     const int16_t marks[4] = { 0, 0, 0, 0 };
     zmg_move row[4];
-    while (zmg_node_run(node, marks, row).code == ZMG_RUN_RAN) {}
+    while (zmg_lockstep_run(node, marks, row).code == ZMG_RUN_RAN) {}
 }
 
 static void *play(void *at) {
     struct game *game = at;
     if (game->round == 0) begin(game);
-    zmg_node_build(&game->key, ZMG_KEY_FORWARD);
-    zmg_node_build(&game->other, ZMG_KEY_BACK);
+    zmg_lockstep_build(&game->key, ZMG_KEY_FORWARD);
+    zmg_lockstep_build(&game->other, ZMG_KEY_BACK);
     hand_over(&game->key, &game->other);
     hand_over(&game->other, &game->key);
     run(&game->key);
@@ -45,8 +45,8 @@ static void *play(void *at) {
 
 static void *end(void *at) {
     struct game *game = at;
-    zmg_node_free(&game->key);
-    zmg_node_free(&game->other);
+    zmg_lockstep_free(&game->key);
+    zmg_lockstep_free(&game->other);
     return NULL;
 }
 
@@ -57,12 +57,12 @@ static void on_a_thread(void *(*part)(void *), struct game *game) {
 }
 
 int main(void) {
-    struct game game = { ZMG_NODE_NONE, ZMG_NODE_NONE, 0 };
+    struct game game = { ZMG_LOCKSTEP_NONE, ZMG_LOCKSTEP_NONE, 0 };
     uint32_t key, other;
     for (; game.round < ROUNDS; game.round++) on_a_thread(play, &game);
     /* the first round is that of the set-up */
-    key = zmg_node_ran(&game.key);
-    other = zmg_node_ran(&game.other);
+    key = zmg_lockstep_ran(&game.key);
+    other = zmg_lockstep_ran(&game.other);
     on_a_thread(end, &game);
     if (key != ROUNDS - 1 || other != ROUNDS - 1) {
         printf("%u and %u tics\n", (unsigned)key, (unsigned)other);

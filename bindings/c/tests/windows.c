@@ -23,7 +23,7 @@ typedef struct line {
 } line;
 
 static uint32_t seed = 1;
-static zmg_node nodes[NODES];
+static zmg_lockstep nodes[NODES];
 static flight flights[FLIGHTS];
 static uint64_t turns[NODES];
 /* a sum of the moves up to each tic, as the first node ran them that came there */
@@ -54,7 +54,7 @@ static void post(const flight *packet) {
 static void give(uint8_t from, uint8_t to, uint64_t now, const line *l) {
     flight packet;
     unsigned times = below(100) < l->lost ? 0 : below(100) < l->twice ? 2 : 1;
-    packet.length = zmg_node_packet(&nodes[from], to, packet.bytes, sizeof packet.bytes);
+    packet.length = zmg_lockstep_packet(&nodes[from], to, packet.bytes, sizeof packet.bytes);
     packet.from = from;
     packet.to = to;
     if (packet.length == 0) return;
@@ -69,8 +69,8 @@ static void hear(uint8_t me, uint64_t now) {
     for (unsigned k = 0; k < FLIGHTS; k++) {
         flight *f = &flights[k];
         if (f->length && f->to == me && f->at <= now) {
-            int plays = zmg_node_phase(&nodes[me]).code == ZMG_PHASE_PLAYING;
-            zmg_heard heard = zmg_node_receive(&nodes[me], f->from, f->bytes, f->length);
+            int plays = zmg_lockstep_phase(&nodes[me]).code == ZMG_PHASE_PLAYING;
+            zmg_heard heard = zmg_lockstep_receive(&nodes[me], f->from, f->bytes, f->length);
             if (plays && heard.code == ZMG_RECEIVE_DROPPED) dropped[heard.number]++;
             f->length = 0;
         }
@@ -81,7 +81,7 @@ static void run(uint8_t me) {
     int16_t marks[4] = { 0, 0, 0, 0 };
     zmg_move row[4];
     zmg_ran ran;
-    while ((ran = zmg_node_run(&nodes[me], marks, row)).code == ZMG_RUN_RAN) {
+    while ((ran = zmg_lockstep_run(&nodes[me], marks, row)).code == ZMG_RUN_RAN) {
         for (unsigned p = 0; p < 4; p++)
             worlds[me] = worlds[me] * 31u + (uint16_t)row[p].turn + (uint8_t)row[p].forward * 7u + row[p].present;
         MUST(ran.tic < TICS);
@@ -105,15 +105,15 @@ static void open_game(uint8_t players, uint8_t ahead) {
     memset(worlds, 0, sizeof worlds);
     furthest = 0;
     for (c.me = 0; c.me < players; c.me++) {
-        zmg_node none = ZMG_NODE_NONE;
+        zmg_lockstep none = ZMG_LOCKSTEP_NONE;
         nodes[c.me] = none;
-        MUST(zmg_node_new_within(&nodes[c.me], &c, ahead) == ZMG_NEW_OK);
+        MUST(zmg_lockstep_new_within(&nodes[c.me], &c, ahead) == ZMG_NEW_OK);
         turns[c.me] = below(TURN);
     }
 }
 
 static void close_game(uint8_t players) {
-    for (unsigned k = 0; k < players; k++) zmg_node_free(&nodes[k]);
+    for (unsigned k = 0; k < players; k++) zmg_lockstep_free(&nodes[k]);
 }
 
 /* The node whose turn is next hears, runs, builds and gives. The time of its turn. */
@@ -125,9 +125,9 @@ static uint64_t step(uint8_t players, const line *l) {
     turns[me] += TURN;
     hear(me, now);
     run(me);
-    if (zmg_node_can_build(&nodes[me])) {
+    if (zmg_lockstep_can_build(&nodes[me])) {
         zmg_command c = { (int16_t)draw(), 0, (int8_t)below(100), (int8_t)below(80), 0, 0 };
-        MUST(zmg_node_give(&nodes[me], &c).code == ZMG_BUILD_MADE);
+        MUST(zmg_lockstep_give(&nodes[me], &c).code == ZMG_BUILD_MADE);
     }
     for (uint8_t to = 0; to < players; to++) give(me, to, now, l);
     return now;
@@ -142,9 +142,9 @@ static double rate(uint8_t players, uint8_t ahead, uint32_t delay) {
     l.delay = delay;
     open_game(players, ahead);
     while (step(players, &l) < 10ull * SECOND) {}
-    before = zmg_node_ran(&nodes[0]);
+    before = zmg_lockstep_ran(&nodes[0]);
     while (step(players, &l) < 70ull * SECOND) {}
-    tics = (zmg_node_ran(&nodes[0]) - before) / 60.0;
+    tics = (zmg_lockstep_ran(&nodes[0]) - before) / 60.0;
     close_game(players);
     MUST(tics <= 35.1 && tics <= 35.0 * ahead / turns_late + 0.1);
     MUST(tics >= 34.9 || tics >= 35.0 * ahead / (turns_late + 1) - 0.1);

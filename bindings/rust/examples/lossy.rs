@@ -1,7 +1,7 @@
 //! Two players in one process, over a line that loses, repeats and delays datagrams: `lossy [SEED]`. Their
 //! world is a ring road, and each makes its own commands, as from a mouse.
 
-use zirmegat::{Command, Config, Dropped, Heard, Move, Player, Ran, Settings, Start, World};
+use zirmegat::{Command, Config, Dropped, Heard, Move, Node, Ran, Settings, Start, World};
 
 /// How many commands each player makes.
 const TICS: u32 = 1000;
@@ -98,8 +98,8 @@ fn main() {
         ..Settings::default()
     };
     let mut players = [
-        Player::new(Config::key(2, settings), Road::default()).expect("player 0"),
-        Player::new(Config::other(2, 1), Road::default()).expect("player 1"),
+        Node::new(Config::key(2, settings), Road::default()).expect("player 0"),
+        Node::new(Config::other(2, 1), Road::default()).expect("player 1"),
     ];
     let mut ways = [Way::default(), Way::default()];
     let mut round = 0;
@@ -122,7 +122,10 @@ fn main() {
                     _ => (),
                 }
             }
-            assert!(matches!(player.run(), Ran::Waiting(_) | Ran::NotPlaying));
+            assert!(matches!(
+                player.run_all(),
+                Ran::Waiting(_) | Ran::NotPlaying
+            ));
         }
         round += 1;
         assert!(round < 100_000, "the game does not go on");

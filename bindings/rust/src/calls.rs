@@ -1,7 +1,7 @@
-//! The calls that nodes, sealed nodes and links share, and the calls of players.
+//! The calls that locksteps, sealed locksteps and links share, and the calls of nodes with a world.
 
-/// The calls of a node of this type, through the library's calls of these names.
-macro_rules! node_calls {
+/// The calls of a lockstep of this type, through the library's calls of these names.
+macro_rules! lockstep_calls {
     (
         $node:ident $build:ident $give:ident $can_build:ident $command:ident $run:ident
         $quit:ident $phase:ident $me:ident $players:ident $made:ident $ran:ident $got:ident
@@ -9,7 +9,7 @@ macro_rules! node_calls {
     ) => {
         impl $node {
             /// Builds the command of these keys for the next tic. Bits from 18 on are ignored. If no command
-            /// is made, a node stays as it is; a link whose window is full owes the command, and
+            /// is made, a lockstep stays as it is; a link whose window is full owes the command, and
             /// [`Link::catch_up`](crate::Link::catch_up) makes it.
             pub fn build(&mut self, keys: Keys) -> Made {
                 // SAFETY: the call has exclusive use of the handle (`Held`).
@@ -30,7 +30,7 @@ macro_rules! node_calls {
             }
 
             /// Returns true if `build` and `give` would make a command now: the node plays, and fewer of its
-            /// commands are waiting to be run than its window allows. Ask a node before you consume the
+            /// commands are waiting to be run than its window allows. Ask a lockstep before you consume the
             /// motion of a mouse or a letter of chat, which would be lost with a command that is not made. A
             /// link with a full window owes the command instead, so there is no need to ask it.
             pub fn can_build(&self) -> bool {
@@ -156,13 +156,13 @@ macro_rules! node_calls {
     };
 }
 
-/// The calls of a player of this type, which holds a node and a world.
-macro_rules! player_calls {
-    ($player:ident) => {
-        impl<W: World> $player<W> {
+/// The calls of a node of this type, which holds a lockstep or a link, and a world.
+macro_rules! node_calls {
+    ($node:ident) => {
+        impl<W: World> $node<W> {
             /// Builds the command of these keys for the next tic. Bits from 18 on are ignored. If no command
-            /// is made, the player stays as it is; a link player whose window is full owes the command, and
-            /// [`LinkPlayer::catch_up`](crate::LinkPlayer::catch_up) makes it.
+            /// is made, a node stays as it is; one with a link whose window is full owes the command, and
+            /// [`LinkNode::catch_up`](crate::LinkNode::catch_up) makes it.
             pub fn build(&mut self, keys: Keys) -> Made {
                 self.node.build(keys)
             }
@@ -181,7 +181,7 @@ macro_rules! player_calls {
             /// Returns true if `build` and `give` would make a command now: the node plays, and fewer of its
             /// commands are waiting to be run than its window allows. Ask before you consume the motion of a
             /// mouse or a letter of chat, which would be lost with a command that is not made. A
-            /// [`LinkPlayer`](crate::LinkPlayer) with a full window owes the command instead, so there is no
+            /// [`LinkNode`](crate::LinkNode) with a full window owes the command instead, so there is no
             /// need to ask it.
             pub fn can_build(&self) -> bool {
                 self.node.can_build()
@@ -198,7 +198,7 @@ macro_rules! player_calls {
 
             /// Runs the next tic, if it can, with the marks of the world as it stands, and steps the world
             /// by its row.
-            pub fn step(&mut self) -> Ran {
+            pub fn run(&mut self) -> Ran {
                 let players = usize::from(self.node.players());
                 let playing = self.node.phase() == Phase::Playing;
                 let world = &self.world;
@@ -216,10 +216,10 @@ macro_rules! player_calls {
                 ran
             }
 
-            /// Runs tics, as [`step`](Self::step) does, until one is not run, and returns why.
-            pub fn run(&mut self) -> Ran {
+            /// Runs tics, as [`run`](Self::run) does, until one is not run, and returns why.
+            pub fn run_all(&mut self) -> Ran {
                 loop {
-                    match self.step() {
+                    match self.run() {
                         Ran::Ran(_) => (),
                         last => return last,
                     }
@@ -284,7 +284,7 @@ macro_rules! player_calls {
 
             /// Returns a copy of the demo so far. The demo is complete, with its end marker, once a node that
             /// has played has ended, or a tic without some player was run. It has no bytes before the start,
-            /// nor at a node that ended before the start. Save it before the player is dropped.
+            /// nor at a node that ended before the start. Save it before the node is dropped.
             pub fn demo(&self) -> Vec<u8> {
                 self.node.demo()
             }
@@ -303,4 +303,4 @@ macro_rules! player_calls {
     };
 }
 
-pub(crate) use {node_calls, player_calls};
+pub(crate) use {lockstep_calls, node_calls};

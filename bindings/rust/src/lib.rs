@@ -1,15 +1,15 @@
 //! Vanilla Doom's network play, as it was released in 1997, for an engine that has a world of its own.
 //!
-//! A [`Player`] is one player's part of a game of two to four players: a node of the game and a [`World`],
-//! kept in step. For each tic it takes a [`Command`], or builds one from [`Keys`]. It writes and reads Doom's
+//! A [`Node`] is one player's part of a game of two to four players: a [`Lockstep`] and a [`World`], kept in
+//! step. For each tic it takes a [`Command`], or builds one from [`Keys`]. It writes and reads Doom's
 //! datagrams, steps the world by each tic whose commands are there, checks the marks of the other players'
 //! worlds, and records a demo. The network is yours: send each packet to its player's machine, and pass each
-//! datagram that comes to [`Player::receive`]. A tic is 1/35 second; the engine's own clock sets the pace.
+//! datagram that comes to [`Node::receive`]. A tic is 1/35 second; the engine's own clock sets the pace.
 //!
 //! Two players in one process:
 //!
 //! ```
-//! use zirmegat::{Config, Keys, Move, Phase, Player, Settings, Start, World};
+//! use zirmegat::{Config, Keys, Move, Phase, Node, Settings, Start, World};
 //!
 //! /// Players who move along a line.
 //! #[derive(Default)]
@@ -35,8 +35,8 @@
 //!
 //! # fn main() -> Result<(), zirmegat::NodeError> {
 //! let settings = Settings { skill: 2, episode: 1, map: 1, ..Settings::default() };
-//! let mut key = Player::new(Config::key(2, settings), Line::default())?;
-//! let mut other = Player::new(Config::other(2, 1), Line::default())?;
+//! let mut key = Node::new(Config::key(2, settings), Line::default())?;
+//! let mut other = Node::new(Config::other(2, 1), Line::default())?;
 //! for tic in 0..100 {
 //!     key.build(Keys::FORWARD);
 //!     other.build(if tic < 50 { Keys::FORWARD } else { Keys::BACK });
@@ -47,8 +47,8 @@
 //!     if let Some(packet) = other.packet(0) {
 //!         key.receive(1, &packet);
 //!     }
-//!     key.run();
-//!     other.run();
+//!     key.run_all();
+//!     other.run_all();
 //! }
 //! assert_eq!(key.phase(), Phase::Playing);
 //! assert_eq!(key.ran(), 99); // the first round is the set-up
@@ -59,25 +59,25 @@
 //! # }
 //! ```
 //!
-//! A player needs its datagrams as they were sent, the number of their sender, and none that is old:
-//! [`Node::receive`] has the rules. On a network that nobody vouches for, such as the internet, a
-//! [`SealedPlayer`] takes care of this itself: its packets go out in envelopes under a [`Seal`], and
-//! [`SealedPlayer::receive`] takes in any bytes. A [`LinkPlayer`] also takes care of delivery, pace and the
+//! A node needs its datagrams as they were sent, the number of their sender, and none that is old:
+//! [`Lockstep::receive`] has the rules. On a network that nobody vouches for, such as the internet, a
+//! [`SealedNode`] takes care of this itself: its packets go out in envelopes under a [`Seal`], and
+//! [`SealedNode::receive`] takes in any bytes. A [`LinkNode`] also takes care of delivery, pace and the
 //! lobby: each of its datagrams has everything that is kept for the peer.
 //!
 //! What the caller owes:
 //!
 //! - Each player of a game has one node, made once. [`Config::players`], [`Config::extra`], [`Config::limit`]
 //!   and the window are the same for all.
-//! - Every world keeps to what [`World`] requires. An engine that steps its own world, over a [`Node`],
-//!   [`SealedNode`] or [`Link`], passes the marks of that world to `run`.
+//! - Every world keeps to what [`World`] requires. An engine that steps its own world, over a [`Lockstep`],
+//!   [`SealedLockstep`] or [`Link`], passes the marks of that world to `run`.
 //! - No call is made from a signal handler, or from a forked child of a process with threads.
 //!
 //! The crate opens nothing, never waits, and prints nothing. `new` and `within` allocate all memory of a node
 //! or link; of the later calls on it only `demo` allocates, for the copy that it returns. Readers of demos,
-//! [`upgrade`] and [`Packet`] allocate their own. A [`Node`], [`Player`], [`SealedNode`], [`SealedPlayer`],
-//! [`Link`], [`LinkPlayer`], [`Reader`] or [`Demo`] may pass to another thread, but only one thread at a time
-//! uses it. The types are not `Sync`; they are `Send`, a player if its world is.
+//! [`upgrade`] and [`Packet`] allocate their own. A [`Lockstep`], [`Node`], [`SealedLockstep`], [`SealedNode`],
+//! [`Link`], [`LinkNode`], [`Reader`] or [`Demo`] may pass to another thread, but only one thread at a time
+//! uses it. The types are not `Sync`; they are `Send`, a node with a world if the world is.
 //!
 //! A later library may return codes that this crate has no name for. Each enum that is made from a code holds
 //! such a code in its variant `Unknown`; in [`Arrived`] it is the one of [`Heard`]. So no unknown code is
@@ -85,7 +85,7 @@
 //!
 //! The library below this crate is proved, except for what docs/PROMISES.md lists as trusted. The crate
 //! itself is not proved. It passes references as pointers, turns numbers into enums, and calls the [`World`]
-//! of a player.
+//! of a node.
 
 #![deny(missing_docs)]
 #![deny(unsafe_op_in_unsafe_fn)]
@@ -94,24 +94,24 @@
 mod calls;
 mod demo;
 mod link;
+mod lockstep;
 mod node;
 mod packet;
-mod player;
 mod raw;
 mod sealed;
 mod values;
 
 pub use demo::{upgrade, Demo, DemoError, Reader, UpgradeError};
 pub use link::{
-    Identity, Line, Link, LinkDatagram, LinkPlayer, Parting, Presence, Received, Unread,
+    BundleError, Identity, Line, Link, LinkDatagram, LinkNode, Parting, Presence, Received,
 };
-pub use node::{Datagram, Node, NodeError};
+pub use lockstep::{Datagram, Lockstep, NodeError};
+pub use node::{Node, World};
 pub use packet::{Command, Packet, PacketError, EXIT, KILL, RETRANSMIT, SETUP};
-pub use player::{Player, World};
-pub use sealed::{Envelope, Seal, SealedNode, SealedPlayer};
+pub use sealed::{Envelope, Seal, SealedLockstep, SealedNode};
 pub use values::{
-    Aim, Arrived, Cause, Config, Dropped, Heard, Keys, Made, Move, Phase, Ran, Settings, Start,
-    Unopened, MOST_AHEAD, WIDEST_AHEAD,
+    Aim, Arrived, Cause, Config, Dropped, Heard, Keys, Made, Move, Phase, Ran, SealError, Settings,
+    Start, MOST_AHEAD, WIDEST_AHEAD,
 };
 
 /// Returns the version of the library that is linked: 65,536 times the first number, plus the second.

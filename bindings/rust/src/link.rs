@@ -1,34 +1,34 @@
-//! A link, a sealed node that also takes care of delivery, pace and the lobby; and a player with one.
+//! A link, a sealed node that also takes care of delivery, pace and the lobby; and a node with one.
 
-use crate::calls::{node_calls, player_calls};
-use crate::node::{opened, NodeError};
+use crate::calls::{lockstep_calls, node_calls};
+use crate::lockstep::{opened, NodeError};
+use crate::node::World;
 use crate::packet::Command;
-use crate::player::World;
 use crate::raw;
 use crate::values::{self, Config, Keys, Made, Move, Phase, Ran, Settings};
 use std::fmt;
 
-/// One player's link without a world. [`LinkPlayer`] keeps a world in step by itself, and its documentation
-/// has an engine's loop. A link keeps each packet with new commands until the peer has acknowledged it, and
-/// gives each peer one sealed datagram a tick with everything that is kept for the peer: commands of a lost
-/// datagram are in the next one. Any bytes may come in, from anywhere and at any time.
+/// One player's link without a world. [`LinkNode`] keeps a world in step by itself, and its documentation
+/// has an engine's loop.
 ///
-/// A link keeps each packet until the peer has acknowledged it, and gives each peer one sealed datagram a
-/// tick with everything that the peer lacks: what a lost datagram had is in the next one, and nobody has to
-/// ask for it. Datagrams may be lost, repeated, reordered, delayed, altered or forged, and any bytes may come
-/// in. Before the game the datagrams show who is there. Player 0 gives its settings once all others are.
+/// A link keeps packets with new commands until the peer has acknowledged them, and gives each peer one sealed
+/// datagram a tick with everything that is kept for the peer, as far as it fits: commands of a lost datagram
+/// are in the next one, and nobody has to ask for them. Datagrams may be lost, repeated, reordered, delayed,
+/// altered or forged, and any bytes may come in, from anywhere and at any time. Before the game the datagrams
+/// show who is there. Player 0 gives its settings once all others are.
 ///
-/// The caller owes what it owes for a [`SealedNode`](crate::SealedNode): that something gets through, one
-/// link of a player in a game, one number for each game, a secret that is kept, and the marks of
-/// [`run`](Link::run). A link and a sealed node do not open each other's bytes: either all players of a game
-/// have links, or none has.
+/// The caller owes what it owes for a [`SealedLockstep`](crate::SealedLockstep): that something gets through,
+/// one link of a player at a time, and no second one once the first has been given the settings, unless it said
+/// goodbye before its game; one number for each game, a secret that is kept, and the marks of
+/// [`run`](Link::run). A link and a sealed lockstep do not open each other's bytes: either all players of a
+/// game have links, or none has.
 ///
 /// Dropping a link frees its memory. It may pass to another thread, but only one thread at a time uses it.
 pub struct Link(raw::Held);
 
 impl Link {
-    /// Makes a link with a window of `ahead` commands, as in [`Node::within`](crate::Node::within). All its
-    /// memory is allocated here; of the later calls on it only [`demo`](Link::demo) allocates.
+    /// Makes a link with a window of `ahead` commands, as in [`Lockstep::within`](crate::Lockstep::within). All
+    /// its memory is allocated here; of the later calls on it only [`demo`](Link::demo) allocates.
     ///
     /// All players of a game have the same secret and game. `secret`: 32 random bytes, known to the players
     /// alone and used for nothing else. `game`: the game's number, 16 random bytes that are drawn anew for
@@ -37,7 +37,7 @@ impl Link {
     /// window or host differs takes no part: see [`Presence::Different`].
     ///
     /// Returns [`NodeError::Secret`] if all bytes of the secret are 0; else what
-    /// [`Node::within`](crate::Node::within) returns.
+    /// [`Lockstep::within`](crate::Lockstep::within) returns.
     pub fn new(
         config: Config,
         ahead: u8,
@@ -56,12 +56,12 @@ impl Link {
     }
 
     /// Makes the command of the input that is owed. If [`build`](Link::build) or [`give`](Link::give)
-    /// returned [`Made::Ahead`], its input is owed: this call makes its command once a run has made room,
+    /// returned [`Made::Full`], its input is owed: this call makes its command once a run has made room,
     /// unless the next of those calls comes first, which drops the input.
     ///
-    /// Returns [`Made::Made`], and the datagrams with the command should go at once; [`Made::Ahead`] if there
+    /// Returns [`Made::Made`], and the datagrams with the command should go at once; [`Made::Full`] if there
     /// is still no room, and the input stays owed; [`Made::NotPlaying`], once, if the link has ended, and the
-    /// input is no longer owed; None if no input is owed. If it returns `Made::Ahead` before a tick's `give`,
+    /// input is no longer owed; None if no input is owed. If it returns `Made::Full` before a tick's `give`,
     /// the last command was not made, and the new one takes its place: so put the motion of a mouse for both
     /// into it.
     pub fn catch_up(&mut self) -> Option<Made> {
@@ -85,17 +85,17 @@ impl Link {
         unsafe { raw::zmg_link_lean(self.0.at()) }
     }
 
-    /// Returns true if the player plays, and reports that two or more of the last datagrams to it are
-    /// missing: one more, half a tick after the tick's own, makes up for those that will be.
+    /// Returns true if the player plays, and reports that two or more of the last datagrams to it are missing;
+    /// then give it one more datagram, half a tick after the tick's own, in case that one is lost too.
     pub fn wants_second(&self, player: u8) -> bool {
         // SAFETY: the call has exclusive use of the handle (`Held`).
         unsafe { raw::zmg_link_wants_second(self.0.at(), player) != 0 }
     }
 
-    /// Returns the current datagram to player `to`. It has every packet that the player has not acknowledged,
-    /// oldest first, as far as they fit (they all do, except with [`extra`](Config::extra) in windows above
-    /// 10), also once the link has ended. Send one to each other player at each tick, also before the game
-    /// has started. Returns None, and leaves the link as it was, if `to` is not another player's number.
+    /// Returns the current datagram to player `to`. It has every packet that is kept for the player, oldest
+    /// first, as far as they fit, also once the link has ended. Send one to each other player at each tick,
+    /// also before the game has started. Returns None, and leaves the link as it was, if `to` is not another
+    /// player's number.
     pub fn datagram(&mut self, to: u8) -> Option<LinkDatagram> {
         let mut datagram = LinkDatagram {
             bytes: [0; 1200],
@@ -115,19 +115,26 @@ impl Link {
         received(unsafe { raw::zmg_link_receive(self.0.at(), bytes.as_ptr(), bytes.len()) })
     }
 
-    /// Who is there, as far as this link has heard.
+    /// Returns what is known of another player, as far as this link has heard. Player 0 gives its settings
+    /// once all others are there: until then a player may come, go, and come again. Once they were given,
+    /// nobody else may take the place of player 0: the caller has to see to that. Nor may anybody take the
+    /// place of a player who was given them, unless that player said goodbye before its game: player 0's link
+    /// refuses it.
     pub fn presence(&self, player: u8) -> Presence {
         // SAFETY: the call has exclusive use of the handle (`Held`).
         presence(unsafe { raw::zmg_link_presence(self.0.at(), player) })
     }
 
-    /// Gives up a player who was not heard for too long. Before the game of this link has started the
-    /// player is [`Presence::Away`] until it is heard again, and another may take its place. Later, and
-    /// where this link has given it the settings or has heard that it plays, it is
-    /// [`Presence::Forgotten`], until a datagram of its game comes that is not late, and
-    /// [`may_leave`](Link::may_leave) does not wait for it. Then nobody takes its place, since its commands
-    /// may have come to others: another takes a new game with a new number. Its commands are missing still:
-    /// the game goes on without it only where its end is known. Who has [left](Presence::Left) stays so.
+    /// Gives up a player who has not been heard for too long ([`came`](Line::came) rises with each new one of
+    /// its datagrams). While this link listens or gathers, the player is then [`Presence::Away`] until a new
+    /// hello or a datagram of its game comes, and another may take its place. But if this link plays or has
+    /// ended, or has given the player the settings, or has heard that it plays, the player is
+    /// [`Presence::Forgotten`], until a datagram of its game comes that is newer than its newest, or 64 or more
+    /// behind it, or a goodbye after its game, of any age; [`may_leave`](Link::may_leave) does not wait for it.
+    /// Then nobody takes its place, since its commands may have reached others: for another player, make a new
+    /// game with a new number. Its commands are still missing: the game goes on without it only if its end is
+    /// known. A player who has [left](Presence::Left) stays so. For a number that is not another player's
+    /// nothing happens.
     pub fn forget(&mut self, player: u8) {
         // SAFETY: the call has exclusive use of the handle (`Held`).
         unsafe { raw::zmg_link_forget(self.0.at(), player) }
@@ -141,8 +148,8 @@ impl Link {
     /// A peer that has left waits for this link in the same way: give it some more datagrams before the link
     /// is dropped, and limit the wait, since the last datagram may be lost. A player who started, and quits
     /// while player 0 still gathers, must stay until the game of all has started, else the game waits for it.
-    /// A player who never played gives some 64 more datagrams, in two seconds, so that the others see it go,
-    /// and may then go.
+    /// A player who never played may go at once; some 64 more datagrams, in two seconds, let the others see it
+    /// go.
     pub fn may_leave(&self) -> bool {
         // SAFETY: the call has exclusive use of the handle (`Held`).
         unsafe { raw::zmg_link_may_leave(self.0.at()) != 0 }
@@ -171,7 +178,7 @@ impl Link {
     }
 }
 
-node_calls! {
+lockstep_calls! {
     Link
     zmg_link_build zmg_link_give zmg_link_can_build zmg_link_command zmg_link_run zmg_link_quit
     zmg_link_phase zmg_link_me zmg_link_players zmg_link_made zmg_link_ran zmg_link_got
@@ -208,14 +215,14 @@ impl std::ops::Deref for LinkDatagram {
 /// Why bytes are not a datagram to this player in this game: the first of these that holds.
 #[derive(Clone, Copy, Debug, PartialEq, Eq)]
 #[non_exhaustive]
-pub enum Unread {
+pub enum BundleError {
     /// There are fewer than 60 bytes.
     Short,
     /// There are more than 1,200 bytes.
     Long,
     /// They are of another suite, such as that of an open game, or not a sealed datagram at all.
     Suite,
-    /// They are not a link's datagram, but an envelope of a sealed node, say.
+    /// They are not a link's datagram, but an envelope of a sealed lockstep, say.
     Kind,
     /// They have another game's number: its first eight bytes differ.
     Game,
@@ -241,7 +248,7 @@ pub enum Received {
     Stranger(u8),
     /// They are not a datagram to this player in this game. Nothing changed but the count of
     /// [`Link::refused`].
-    Unopened(Unread),
+    Unopened(BundleError),
     /// This player, or whoever was this player before, has another identity, and none of its commands was
     /// taken.
     Different(u8),
@@ -264,11 +271,11 @@ pub struct Identity {
     pub host: [u8; 16],
 }
 
-/// Why another player has left.
+/// Why another player is away or has left.
 #[derive(Clone, Copy, Debug, PartialEq, Eq)]
 #[non_exhaustive]
 pub enum Parting {
-    /// It was given up by [`Link::forget`], before the game of this link had started.
+    /// It was given up by [`Link::forget`], before the game of this link had started. It may be heard again.
     Forgotten,
     /// It quit.
     Quit,
@@ -292,12 +299,14 @@ pub enum Presence {
     Playing,
     /// It is there with this other identity, and takes no part.
     Different(Identity),
-    /// It has left before its game started, or was given up before that of this link did; another may come
-    /// in its place, with a link of its own, but where it was given up, only if its link is gone.
+    /// It left before its game started, or was given up before the game of this link did. Another may take its
+    /// place, with a link of its own, and is heard within 64 datagrams; but if it was given up
+    /// ([`Parting::Forgotten`]), only if its link is gone.
     Away(Parting),
     /// It has played and left.
     Left(Parting),
-    /// It was given up in the game, or after this link had given it the settings: nobody takes its place.
+    /// It was given up when this link played or had ended, or had given it the settings, or had heard that it
+    /// plays: nobody takes its place.
     Forgotten,
     /// A code that this crate has no name for.
     Unknown(u32),
@@ -307,14 +316,14 @@ pub enum Presence {
 /// last heard, note the time whenever `came` has risen.
 #[derive(Clone, Copy, Debug, PartialEq, Eq)]
 pub struct Line {
-    /// How many of its datagrams came.
+    /// How many of its datagrams came, copies and too old ones not counted.
     pub came: u32,
-    /// How many of its datagrams did not come within 64, of those numbered between the first that came and
-    /// the newest.
+    /// How many of the numbers between the first datagram that came and the newest did not come within 64. A
+    /// datagram that was sent before the first and came after it takes one off.
     pub lost: u32,
-    /// How many of its datagrams came again.
+    /// How many copies came.
     pub repeated: u32,
-    /// How many of its datagrams came 64 or more behind the newest.
+    /// How many came 64 or more behind the newest, unless the line began anew with them.
     pub too_old: u32,
     /// How many of the last datagrams to it are missing there.
     pub missing_there: u8,
@@ -372,17 +381,17 @@ pub(crate) fn presence(raw: raw::Presence) -> Presence {
     }
 }
 
-fn unread(reason: u32) -> Unread {
+fn bundle_error(reason: u32) -> BundleError {
     match reason {
-        1 => Unread::Short,
-        2 => Unread::Long,
-        3 => Unread::Suite,
-        4 => Unread::Kind,
-        5 => Unread::Game,
-        6 => Unread::Receiver,
-        7 => Unread::Tag,
-        8 => Unread::Form,
-        code => Unread::Unknown(code),
+        1 => BundleError::Short,
+        2 => BundleError::Long,
+        3 => BundleError::Suite,
+        4 => BundleError::Kind,
+        5 => BundleError::Game,
+        6 => BundleError::Receiver,
+        7 => BundleError::Tag,
+        8 => BundleError::Form,
+        code => BundleError::Unknown(code),
     }
 }
 
@@ -393,55 +402,55 @@ pub(crate) fn received(raw: raw::Received) -> Received {
             started: raw.started != 0,
         },
         1 => Received::Stranger(raw.player),
-        2 => Received::Unopened(unread(raw.reason)),
+        2 => Received::Unopened(bundle_error(raw.reason)),
         3 => Received::Different(raw.player),
         code => Received::Unknown(code),
     }
 }
 
-/// One player's link and world, kept in step. The caller owes what it owes for a [`Link`].
+/// A [`Link`] and a world, kept in step. The caller owes what it owes for a [`Link`].
 ///
 /// An engine's loop, with a tick 35 times a second by the engine's own clock:
 ///
 /// ```
-/// use zirmegat::{Keys, LinkPlayer, Made, World};
+/// use zirmegat::{Keys, LinkNode, Made, World};
 ///
 /// /// Sends a datagram to each other player, as each tick does, also before the game has started.
-/// fn send_all<W: World>(player: &mut LinkPlayer<W>, send: &mut impl FnMut(u8, &[u8])) {
-///     for to in 0..player.players() {
-///         if let Some(datagram) = player.datagram(to) {
+/// fn send_all<W: World>(node: &mut LinkNode<W>, send: &mut impl FnMut(u8, &[u8])) {
+///     for to in 0..node.players() {
+///         if let Some(datagram) = node.datagram(to) {
 ///             send(to, &datagram);
 ///         }
 ///     }
 /// }
 ///
 /// /// Runs each tic whose commands are there, and makes the command that is owed once there is room for it.
-/// fn run<W: World>(player: &mut LinkPlayer<W>, send: &mut impl FnMut(u8, &[u8])) {
-///     player.run();
-///     if let Some(Made::Made(_)) = player.catch_up() {
-///         send_all(player, send);
-///         player.run();
+/// fn run<W: World>(node: &mut LinkNode<W>, send: &mut impl FnMut(u8, &[u8])) {
+///     node.run_all();
+///     if let Some(Made::Made(_)) = node.catch_up() {
+///         send_all(node, send);
+///         node.run_all();
 ///     }
 /// }
 ///
 /// /// A tick. Returns after how many 35ths of a second the next tick is due, counted from when this one was.
 /// fn tick<W: World>(
-///     player: &mut LinkPlayer<W>,
+///     node: &mut LinkNode<W>,
 ///     keys: Keys,
 ///     send: &mut impl FnMut(u8, &[u8]),
 /// ) -> f64 {
-///     player.build(keys);
-///     let lean = player.lean();
-///     send_all(player, send);
-///     run(player, send);
+///     node.build(keys);
+///     let lean = node.lean();
+///     send_all(node, send);
+///     run(node, send);
 ///     1.0 + f64::from(lean) / 32.0
 /// }
 ///
 /// /// Half a tick later.
-/// fn half<W: World>(player: &mut LinkPlayer<W>, send: &mut impl FnMut(u8, &[u8])) {
-///     for to in 0..player.players() {
-///         if player.wants_second(to) {
-///             if let Some(datagram) = player.datagram(to) {
+/// fn half<W: World>(node: &mut LinkNode<W>, send: &mut impl FnMut(u8, &[u8])) {
+///     for to in 0..node.players() {
+///         if node.wants_second(to) {
+///             if let Some(datagram) = node.datagram(to) {
 ///                 send(to, &datagram);
 ///             }
 ///         }
@@ -449,9 +458,9 @@ pub(crate) fn received(raw: raw::Received) -> Received {
 /// }
 ///
 /// /// Whenever bytes come, also between ticks.
-/// fn hear<W: World>(player: &mut LinkPlayer<W>, bytes: &[u8], send: &mut impl FnMut(u8, &[u8])) {
-///     player.receive(bytes);
-///     run(player, send);
+/// fn hear<W: World>(node: &mut LinkNode<W>, bytes: &[u8], send: &mut impl FnMut(u8, &[u8])) {
+///     node.receive(bytes);
+///     run(node, send);
 /// }
 /// # struct Still;
 /// # impl World for Still {
@@ -463,29 +472,29 @@ pub(crate) fn received(raw: raw::Received) -> Received {
 /// # }
 /// # let settings = zirmegat::Settings { skill: 2, episode: 1, map: 1, ..Default::default() };
 /// # let configs = [zirmegat::Config::key(2, settings), zirmegat::Config::other(2, 1)];
-/// # let mut players = configs
-/// #     .map(|config| LinkPlayer::new(config, 5, &[1; 32], &[2; 16], &[3; 16], Still).unwrap());
+/// # let mut nodes = configs
+/// #     .map(|config| LinkNode::new(config, 5, &[1; 32], &[2; 16], &[3; 16], Still).unwrap());
 /// # for _ in 0..100 {
 /// #     for me in 0..2 {
 /// #         let mut sent = Vec::new();
 /// #         let mut send = |_: u8, bytes: &[u8]| sent.push(bytes.to_vec());
-/// #         assert!(tick(&mut players[me], Keys::FORWARD, &mut send) > 0.9);
-/// #         half(&mut players[me], &mut send);
+/// #         assert!(tick(&mut nodes[me], Keys::FORWARD, &mut send) > 0.9);
+/// #         half(&mut nodes[me], &mut send);
 /// #         for bytes in sent {
-/// #             hear(&mut players[1 - me], &bytes, &mut |_, _| ());
+/// #             hear(&mut nodes[1 - me], &bytes, &mut |_, _| ());
 /// #         }
 /// #     }
 /// # }
-/// # assert!(players[0].ran() > 90 && players[1].ran() > 90);
+/// # assert!(nodes[0].ran() > 90 && nodes[1].ran() > 90);
 /// ```
 #[derive(Debug)]
-pub struct LinkPlayer<W> {
+pub struct LinkNode<W> {
     node: Link,
     world: W,
 }
 
-impl<W: World> LinkPlayer<W> {
-    /// Makes a player, with a link as [`Link::new`] makes it. The world begins when the game starts. Returns
+impl<W: World> LinkNode<W> {
+    /// Makes a node, with a link as [`Link::new`] makes it. The world begins when the game starts. Returns
     /// what `Link::new` returns.
     pub fn new(
         config: Config,
@@ -494,8 +503,8 @@ impl<W: World> LinkPlayer<W> {
         game: &[u8; 16],
         host: &[u8; 16],
         world: W,
-    ) -> Result<LinkPlayer<W>, NodeError> {
-        Ok(LinkPlayer {
+    ) -> Result<LinkNode<W>, NodeError> {
+        Ok(LinkNode {
             node: Link::new(config, ahead, secret, game, host)?,
             world,
         })
@@ -533,12 +542,12 @@ impl<W: World> LinkPlayer<W> {
         received
     }
 
-    /// Who is there, as far as this player has heard.
+    /// Returns what is known of another player, as [`Link::presence`] does.
     pub fn presence(&self, player: u8) -> Presence {
         self.node.presence(player)
     }
 
-    /// Gives up a player who was not heard for too long, as [`Link::forget`].
+    /// Gives up a player who has not been heard for too long, as [`Link::forget`] does.
     pub fn forget(&mut self, player: u8) {
         self.node.forget(player)
     }
@@ -564,4 +573,4 @@ impl<W: World> LinkPlayer<W> {
     }
 }
 
-player_calls!(LinkPlayer);
+node_calls!(LinkNode);

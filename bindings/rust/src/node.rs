@@ -1,187 +1,75 @@
-//! A node without a world.
+//! A node with a world, kept in step.
 
 use crate::calls::node_calls;
+use crate::lockstep::{Datagram, Lockstep, NodeError};
 use crate::packet::Command;
-use crate::raw;
-use crate::values::{self, Aim, Config, Heard, Keys, Made, Move, Phase, Ran, Settings};
-use std::error::Error;
-use std::fmt;
+use crate::values::{Aim, Config, Heard, Keys, Made, Move, Phase, Ran, Settings, Start};
 
-/// Why a call made no node, link or player: the first fault. A secret is checked before all else, then player
-/// 0's settings, then the window, then the rest.
-#[derive(Clone, Copy, Debug, PartialEq, Eq)]
-#[non_exhaustive]
-pub enum NodeError {
-    /// There are not 2 to 4 players.
-    Players,
-    /// `me` is not below `players`.
-    Me,
-    /// The demo's limit is not 1,024 to 16,777,216 bytes.
-    Limit,
-    /// Out of memory. All else was in range.
-    Memory,
-    /// Player 0's skill is not 0 to 4.
-    Skill,
-    /// Player 0's deathmatch is not 0 to 2.
-    Deathmatch,
-    /// Player 0's episode is not 1 to 3.
-    Episode,
-    /// Player 0's map is not 1 to 32.
-    Map,
-    /// The window is not 1 to [`WIDEST_AHEAD`](crate::WIDEST_AHEAD). Only calls with a window return it.
-    Ahead,
-    /// All bytes of the secret are 0, as in a buffer that was never filled. Only calls with a secret return
-    /// it.
-    Secret,
-    /// A code that this crate has no name for.
-    Unknown(u32),
+/// A world that is stepped by the moves of four seats.
+///
+/// Worlds that began the same and were stepped by the same rows must be the same. Nothing in them depends on
+/// a clock, on addresses, on floating point that differs between machines, or on random numbers other than
+/// those of a generator that is part of the world's state.
+pub trait World {
+    /// Discards what was before, and begins a game. `present` is true for each seat with a player.
+    fn begin(&mut self, start: &Start, present: [bool; 4]);
+
+    /// Steps the world by one tic, 1/35 second. A seat without a move belongs to nobody, or to a player who
+    /// has left; what becomes of such a player is the same in every world.
+    fn step(&mut self, moves: &[Option<Move>; 4]);
+
+    /// Returns a player's consistency mark, which follows from the world's state alone. Doom's is the low 16
+    /// bits of the player's x. [`Node`], [`SealedNode`](crate::SealedNode) and
+    /// [`LinkNode`](crate::LinkNode) call it only while the game runs, for the players of the game.
+    fn mark(&self, player: usize) -> i16;
 }
 
-impl fmt::Display for NodeError {
-    fn fmt(&self, f: &mut fmt::Formatter<'_>) -> fmt::Result {
-        f.write_str(match self {
-            NodeError::Players => "the number of players is not 2 to 4",
-            NodeError::Me => "the player's number is not below the number of players",
-            NodeError::Limit => "the demo's limit is not 1024 to 16777216 bytes",
-            NodeError::Memory => "out of memory",
-            NodeError::Skill => "the skill is not 0 to 4",
-            NodeError::Deathmatch => "the deathmatch is not 0 to 2",
-            NodeError::Episode => "the episode is not 1 to 3",
-            NodeError::Map => "the map is not 1 to 32",
-            NodeError::Ahead => "the window is not 1 to 12",
-            NodeError::Secret => "all bytes of the secret are zero",
-            NodeError::Unknown(code) => {
-                return write!(f, "the node was refused with the unknown code {code}");
-            }
+/// One player's part of a game: a [`Lockstep`] and a world, kept in step. Dropping a node frees its memory.
+#[derive(Debug)]
+pub struct Node<W> {
+    node: Lockstep,
+    world: W,
+}
+
+impl<W: World> Node<W> {
+    /// Makes a node, with a lockstep as [`Lockstep::new`] makes it. The world begins when the game starts.
+    /// Returns what `Lockstep::new` returns.
+    pub fn new(config: Config, world: W) -> Result<Node<W>, NodeError> {
+        Ok(Node {
+            node: Lockstep::new(config)?,
+            world,
         })
     }
-}
 
-impl Error for NodeError {}
-
-pub(crate) fn opened(code: u32) -> Result<(), NodeError> {
-    match code {
-        0 => Ok(()),
-        1 => Err(NodeError::Players),
-        2 => Err(NodeError::Me),
-        4 => Err(NodeError::Limit),
-        5 => Err(NodeError::Memory),
-        6 => Err(NodeError::Skill),
-        7 => Err(NodeError::Deathmatch),
-        8 => Err(NodeError::Episode),
-        9 => Err(NodeError::Map),
-        10 => Err(NodeError::Ahead),
-        11 => Err(NodeError::Secret),
-        code => Err(NodeError::Unknown(code)),
-    }
-}
-
-/// One player's node without a world, for an engine that steps its own. [`Player`](crate::Player) keeps a
-/// world in step by itself. Dropping a node frees its memory.
-///
-/// A node may pass to another thread, but only one thread at a time uses it. Two threads cannot share it:
-///
-/// ```compile_fail,E0277
-/// # use zirmegat::{Config, Node};
-/// let node = Node::new(Config::other(2, 1)).unwrap();
-/// std::thread::scope(|scope| scope.spawn(|| node.made()).join());
-/// ```
-pub struct Node(raw::Held);
-
-impl Node {
-    /// Makes a node with the window [`MOST_AHEAD`](crate::MOST_AHEAD). All its memory is allocated here; of
-    /// the later calls on it only [`demo`](Node::demo) allocates. Returns the first fault of the
-    /// configuration, or [`NodeError::Memory`].
-    pub fn new(config: Config) -> Result<Node, NodeError> {
-        let node = Node(raw::Held::nothing());
-        // SAFETY: the call has exclusive use of the handle (`Held`), and the configuration is valid for the
-        // call.
-        opened(unsafe { raw::zmg_node_new(node.0.at(), &config.raw()) })?;
-        Ok(node)
+    /// The same with a window of its own, as in [`Lockstep::within`].
+    pub fn within(config: Config, world: W, ahead: u8) -> Result<Node<W>, NodeError> {
+        Ok(Node {
+            node: Lockstep::within(config, ahead)?,
+            world,
+        })
     }
 
-    /// The same with a window of its own: this player may be `ahead` commands ahead of the tics that the node
-    /// ran, 1 to [`WIDEST_AHEAD`](crate::WIDEST_AHEAD), instead of [`MOST_AHEAD`](crate::MOST_AHEAD). The
-    /// same for all players: nothing is promised of a game with two windows. Each further command hides 1/35
-    /// second more of the line's delay; once it is used, a key is felt 1/35 second later.
-    pub fn within(config: Config, ahead: u8) -> Result<Node, NodeError> {
-        let node = Node(raw::Held::nothing());
-        // SAFETY: the call has exclusive use of the handle (`Held`), and the configuration is valid for the
-        // call.
-        opened(unsafe { raw::zmg_node_new_within(node.0.at(), &config.raw(), ahead) })?;
-        Ok(node)
-    }
-
-    /// Returns the next packet to player `to`, which then counts as sent. Returns None, and leaves the node
-    /// as it was, if there is no packet: to the node's own player, to a number that belongs to no player, at
-    /// [`Phase::Listening`], and at [`Phase::Ended`] if no game had started.
+    /// Returns the next packet to player `to`, which then counts as sent; None as for [`Lockstep::packet`].
     pub fn packet(&mut self, to: u8) -> Option<Datagram> {
-        let mut datagram = Datagram {
-            bytes: [0; 104],
-            length: 0,
-        };
-        let out = &mut datagram.bytes;
-        // SAFETY: the call has exclusive use of the handle (`Held`), and the array is valid for its length.
-        datagram.length =
-            unsafe { raw::zmg_node_packet(self.0.at(), to, out.as_mut_ptr(), out.len()) };
-        (datagram.length > 0).then_some(datagram)
+        self.node.packet(to)
     }
 
-    /// Returns the full tic numbers of the packet that [`packet`](Node::packet) would return for player `to`
-    /// now; None if there is no packet. Call it before `packet`, which moves on to the next packet. A
-    /// transport may send [`Aim::start`] along, so that the receiver recognises old datagrams: see
-    /// [`receive`](Node::receive).
+    /// Returns the full tic numbers of the packet that [`packet`](Node::packet) would return for player
+    /// `to` now; None if there is no packet. Call it before `packet`, which moves on to the next packet.
     pub fn aim(&self, to: u8) -> Option<Aim> {
-        // SAFETY: the call has exclusive use of the handle (`Held`).
-        let raw = unsafe { raw::zmg_node_aim(self.0.at(), to) };
-        (raw.known != 0).then_some(Aim {
-            flags: raw.flags,
-            ask: values::number(raw.ask),
-            start: raw.start,
-            count: raw.count,
-        })
+        self.node.aim(to)
     }
 
-    /// Takes in a datagram from player `from`. If it returns [`Heard::Started`], the caller begins its world
-    /// with the start of [`settings`](Node::settings).
-    ///
-    /// It is up to the transport to know who sent a datagram. The transport passes in datagrams of this game
-    /// as [`packet`](Node::packet) returned them, only those for this player, and none whose start or ask
-    /// lies more than 64 tics from [`made`](Node::made). A set-up packet may come at any time.
-    /// docs/EMBEDDING.md has rules by which a transport ensures this.
+    /// Takes in a datagram from player `from`, and begins the world if the game starts. It needs what
+    /// [`Lockstep::receive`] needs: the true sender, and no datagram that is old, is of another game or is for
+    /// another player.
     pub fn receive(&mut self, from: u8, bytes: &[u8]) -> Heard {
-        // SAFETY: the call has exclusive use of the handle (`Held`), and the slice is valid for its length.
-        values::heard(unsafe {
-            raw::zmg_node_receive(self.0.at(), from, bytes.as_ptr(), bytes.len())
-        })
+        let heard = self.node.receive(from, bytes);
+        if heard == Heard::Started {
+            self.begin();
+        }
+        heard
     }
 }
 
-node_calls! {
-    Node
-    zmg_node_build zmg_node_give zmg_node_can_build zmg_node_command zmg_node_run
-    zmg_node_quit zmg_node_phase zmg_node_me zmg_node_players zmg_node_made zmg_node_ran
-    zmg_node_got zmg_node_end zmg_node_settings zmg_node_demo_length zmg_node_demo
-    zmg_node_free
-}
-
-impl fmt::Debug for Node {
-    fn fmt(&self, f: &mut fmt::Formatter<'_>) -> fmt::Result {
-        f.write_str("Node")
-    }
-}
-
-/// The bytes of a packet, at most 104.
-#[derive(Clone, Copy, Debug)]
-pub struct Datagram {
-    bytes: [u8; 104],
-    length: usize,
-}
-
-impl std::ops::Deref for Datagram {
-    type Target = [u8];
-
-    fn deref(&self) -> &[u8] {
-        &self.bytes[..self.length]
-    }
-}
+node_calls!(Node);

@@ -13,8 +13,8 @@ pub const SETUP: u8 = 2;
 /// The packet ends a game. No node sends or obeys it.
 pub const KILL: u8 = 1;
 
-/// A tic command, as [`give`](crate::Node::give) takes it, [`command`](crate::Node::command) returns it, and
-/// packets carry it.
+/// A tic command, as [`give`](crate::Lockstep::give) takes it, [`command`](crate::Lockstep::command) returns
+/// it, and packets carry it.
 #[derive(Clone, Copy, Debug, Default, PartialEq, Eq)]
 pub struct Command {
     /// The move forward, in units of 2048 in a world of 16 fractional bits.
@@ -23,7 +23,7 @@ pub struct Command {
     pub side: i8,
     /// The turn to the left, in 65,536ths of a full turn.
     pub turn: i16,
-    /// The consistency mark of the player's own world twelve tics before. [`give`](crate::Node::give) does
+    /// The consistency mark of the player's own world twelve tics before. [`give`](crate::Lockstep::give) does
     /// not read it.
     pub mark: i16,
     /// A letter of chat, which the library carries and does not read.

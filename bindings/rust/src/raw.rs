@@ -202,61 +202,76 @@ pub struct Upgraded {
 #[link(name = "zirmegat", kind = "static")]
 extern "C" {
     pub fn zmg_version() -> u32;
-    pub fn zmg_node_new(node: *mut Handle, config: *const Config) -> u32;
-    pub fn zmg_node_new_within(node: *mut Handle, config: *const Config, ahead: u8) -> u32;
-    pub fn zmg_node_free(node: *mut Handle);
-    pub fn zmg_node_build(node: *mut Handle, keys: u32) -> Coded;
-    pub fn zmg_node_give(node: *mut Handle, command: *const Command) -> Coded;
-    pub fn zmg_node_can_build(node: *mut Handle) -> u32;
-    pub fn zmg_node_command(node: *mut Handle, player: u8, tic: u32) -> KnownCommand;
-    pub fn zmg_node_aim(node: *mut Handle, to: u8) -> Aim;
-    pub fn zmg_node_packet(node: *mut Handle, to: u8, out: *mut u8, room: usize) -> usize;
-    pub fn zmg_node_receive(node: *mut Handle, from: u8, bytes: *const u8, length: usize) -> Coded;
-    pub fn zmg_node_run(node: *mut Handle, marks: *const i16, row: *mut Move) -> Ran;
-    pub fn zmg_node_quit(node: *mut Handle) -> u32;
-    pub fn zmg_node_phase(node: *mut Handle) -> Phase;
-    pub fn zmg_node_me(node: *mut Handle) -> u32;
-    pub fn zmg_node_players(node: *mut Handle) -> u32;
-    pub fn zmg_node_made(node: *mut Handle) -> u32;
-    pub fn zmg_node_ran(node: *mut Handle) -> u32;
-    pub fn zmg_node_got(node: *mut Handle, player: u8) -> Number;
-    pub fn zmg_node_end(node: *mut Handle, player: u8) -> Number;
-    pub fn zmg_node_settings(node: *mut Handle) -> KnownSettings;
-    pub fn zmg_node_demo_length(node: *mut Handle) -> usize;
-    pub fn zmg_node_demo(node: *mut Handle, from: usize, out: *mut u8, room: usize) -> usize;
-    pub fn zmg_sealed_node_new(
+    pub fn zmg_lockstep_new(node: *mut Handle, config: *const Config) -> u32;
+    pub fn zmg_lockstep_new_within(node: *mut Handle, config: *const Config, ahead: u8) -> u32;
+    pub fn zmg_lockstep_free(node: *mut Handle);
+    pub fn zmg_lockstep_build(node: *mut Handle, keys: u32) -> Coded;
+    pub fn zmg_lockstep_give(node: *mut Handle, command: *const Command) -> Coded;
+    pub fn zmg_lockstep_can_build(node: *mut Handle) -> u32;
+    pub fn zmg_lockstep_command(node: *mut Handle, player: u8, tic: u32) -> KnownCommand;
+    pub fn zmg_lockstep_aim(node: *mut Handle, to: u8) -> Aim;
+    pub fn zmg_lockstep_packet(node: *mut Handle, to: u8, out: *mut u8, room: usize) -> usize;
+    pub fn zmg_lockstep_receive(
+        node: *mut Handle,
+        from: u8,
+        bytes: *const u8,
+        length: usize,
+    ) -> Coded;
+    pub fn zmg_lockstep_run(node: *mut Handle, marks: *const i16, row: *mut Move) -> Ran;
+    pub fn zmg_lockstep_quit(node: *mut Handle) -> u32;
+    pub fn zmg_lockstep_phase(node: *mut Handle) -> Phase;
+    pub fn zmg_lockstep_me(node: *mut Handle) -> u32;
+    pub fn zmg_lockstep_players(node: *mut Handle) -> u32;
+    pub fn zmg_lockstep_made(node: *mut Handle) -> u32;
+    pub fn zmg_lockstep_ran(node: *mut Handle) -> u32;
+    pub fn zmg_lockstep_got(node: *mut Handle, player: u8) -> Number;
+    pub fn zmg_lockstep_end(node: *mut Handle, player: u8) -> Number;
+    pub fn zmg_lockstep_settings(node: *mut Handle) -> KnownSettings;
+    pub fn zmg_lockstep_demo_length(node: *mut Handle) -> usize;
+    pub fn zmg_lockstep_demo(node: *mut Handle, from: usize, out: *mut u8, room: usize) -> usize;
+    pub fn zmg_sealed_lockstep_new(
         node: *mut Handle,
         config: *const Config,
         ahead: u8,
         secret: *const u8,
         number: *const u8,
     ) -> u32;
-    pub fn zmg_sealed_node_new_open(
+    pub fn zmg_sealed_lockstep_new_open(
         node: *mut Handle,
         config: *const Config,
         ahead: u8,
         number: *const u8,
     ) -> u32;
-    pub fn zmg_sealed_node_packet(node: *mut Handle, to: u8, out: *mut u8, room: usize) -> usize;
-    pub fn zmg_sealed_node_receive(node: *mut Handle, bytes: *const u8, length: usize) -> Coded;
-    pub fn zmg_sealed_node_free(node: *mut Handle);
-    pub fn zmg_sealed_node_build(node: *mut Handle, keys: u32) -> Coded;
-    pub fn zmg_sealed_node_give(node: *mut Handle, command: *const Command) -> Coded;
-    pub fn zmg_sealed_node_can_build(node: *mut Handle) -> u32;
-    pub fn zmg_sealed_node_command(node: *mut Handle, player: u8, tic: u32) -> KnownCommand;
-    pub fn zmg_sealed_node_run(node: *mut Handle, marks: *const i16, row: *mut Move) -> Ran;
-    pub fn zmg_sealed_node_quit(node: *mut Handle) -> u32;
-    pub fn zmg_sealed_node_phase(node: *mut Handle) -> Phase;
-    pub fn zmg_sealed_node_me(node: *mut Handle) -> u32;
-    pub fn zmg_sealed_node_players(node: *mut Handle) -> u32;
-    pub fn zmg_sealed_node_made(node: *mut Handle) -> u32;
-    pub fn zmg_sealed_node_ran(node: *mut Handle) -> u32;
-    pub fn zmg_sealed_node_got(node: *mut Handle, player: u8) -> Number;
-    pub fn zmg_sealed_node_end(node: *mut Handle, player: u8) -> Number;
-    pub fn zmg_sealed_node_settings(node: *mut Handle) -> KnownSettings;
-    pub fn zmg_sealed_node_demo_length(node: *mut Handle) -> usize;
-    pub fn zmg_sealed_node_demo(node: *mut Handle, from: usize, out: *mut u8, room: usize)
-        -> usize;
+    pub fn zmg_sealed_lockstep_packet(
+        node: *mut Handle,
+        to: u8,
+        out: *mut u8,
+        room: usize,
+    ) -> usize;
+    pub fn zmg_sealed_lockstep_receive(node: *mut Handle, bytes: *const u8, length: usize)
+        -> Coded;
+    pub fn zmg_sealed_lockstep_free(node: *mut Handle);
+    pub fn zmg_sealed_lockstep_build(node: *mut Handle, keys: u32) -> Coded;
+    pub fn zmg_sealed_lockstep_give(node: *mut Handle, command: *const Command) -> Coded;
+    pub fn zmg_sealed_lockstep_can_build(node: *mut Handle) -> u32;
+    pub fn zmg_sealed_lockstep_command(node: *mut Handle, player: u8, tic: u32) -> KnownCommand;
+    pub fn zmg_sealed_lockstep_run(node: *mut Handle, marks: *const i16, row: *mut Move) -> Ran;
+    pub fn zmg_sealed_lockstep_quit(node: *mut Handle) -> u32;
+    pub fn zmg_sealed_lockstep_phase(node: *mut Handle) -> Phase;
+    pub fn zmg_sealed_lockstep_me(node: *mut Handle) -> u32;
+    pub fn zmg_sealed_lockstep_players(node: *mut Handle) -> u32;
+    pub fn zmg_sealed_lockstep_made(node: *mut Handle) -> u32;
+    pub fn zmg_sealed_lockstep_ran(node: *mut Handle) -> u32;
+    pub fn zmg_sealed_lockstep_got(node: *mut Handle, player: u8) -> Number;
+    pub fn zmg_sealed_lockstep_end(node: *mut Handle, player: u8) -> Number;
+    pub fn zmg_sealed_lockstep_settings(node: *mut Handle) -> KnownSettings;
+    pub fn zmg_sealed_lockstep_demo_length(node: *mut Handle) -> usize;
+    pub fn zmg_sealed_lockstep_demo(
+        node: *mut Handle,
+        from: usize,
+        out: *mut u8,
+        room: usize,
+    ) -> usize;
     pub fn zmg_link_new(
         link: *mut Handle,
         config: *const Config,

@@ -1,9 +1,9 @@
-//! A sealed node, and a player with one, for an untrusted network.
+//! Sealed nodes, whose world is the caller's or kept in step, for an untrusted network.
 
-use crate::calls::{node_calls, player_calls};
-use crate::node::{opened, NodeError};
+use crate::calls::{lockstep_calls, node_calls};
+use crate::lockstep::{opened, NodeError};
+use crate::node::World;
 use crate::packet::Command;
-use crate::player::World;
 use crate::raw;
 use crate::values::{self, Arrived, Config, Heard, Keys, Made, Move, Phase, Ran, Settings};
 use std::fmt;
@@ -26,8 +26,9 @@ pub enum Seal {
         number: [u8; 16],
     },
     /// An open game: its players share no secret. Its envelopes say so: a node with a secret opens none of
-    /// them, and this node opens none of that one's. Damaged packets, old packets, and packets of other games
-    /// or to other players are dropped all the same; but whoever knows the number can send as any player.
+    /// them, and a node of an open game opens none of that one's. Damaged packets, old packets, and packets of
+    /// other games or to other players are dropped all the same; but whoever knows the number can send as any
+    /// player.
     Open {
         /// The game's number.
         number: [u8; 16],
@@ -44,7 +45,7 @@ impl fmt::Debug for Seal {
     }
 }
 
-/// One player's node and its seal, without a world. [`SealedPlayer`] keeps a world in step by itself.
+/// One player's lockstep and its seal. [`SealedNode`] keeps a world in step by itself.
 ///
 /// Its packets go out in envelopes: the datagram, its sender, its receiver and its full tic numbers, under a
 /// tag that only the players of the game can make (HMAC-SHA-256, of which 16 bytes are sent); in an [open
@@ -53,41 +54,45 @@ impl fmt::Debug for Seal {
 ///
 /// As long as nobody without the secret makes a tag, the games of the nodes agree, whatever the network
 /// loses, repeats, reorders, delays, alters, forges or gives another sender. Instead of what
-/// [`Node::receive`](crate::Node::receive) requires, the caller owes:
+/// [`Lockstep::receive`](crate::Lockstep::receive) requires, the caller owes:
 ///
 /// - Delivery. If nothing gets through, the game waits, and nothing worse happens.
 /// - One node. A player makes one node in a game: no second one with the same number, and none that goes on
-///   from a copy of memory. All its packets come from [`packet`](SealedNode::packet): a player who seals
+///   from a copy of memory. All its packets come from [`packet`](SealedLockstep::packet): a player who seals
 ///   packets other than by these calls can send the others different commands.
 /// - One number for each game, and a secret that is kept, as [`Seal`] says.
 ///
 /// Nothing is encrypted: whoever sees the line can read commands and chat. Keys are not wiped from memory.
-/// Dropping a sealed node frees its memory. It may pass to another thread, but only one thread at a time
+/// Dropping a sealed lockstep frees its memory. It may pass to another thread, but only one thread at a time
 /// uses it.
-pub struct SealedNode(raw::Held);
+pub struct SealedLockstep(raw::Held);
 
-impl SealedNode {
-    /// Makes a sealed node with the window [`MOST_AHEAD`](crate::MOST_AHEAD). All its memory is allocated
-    /// here; of the later calls on it only [`demo`](SealedNode::demo) allocates. Returns
+impl SealedLockstep {
+    /// Makes a sealed lockstep with the window [`MOST_AHEAD`](crate::MOST_AHEAD). All its memory is allocated
+    /// here; of the later calls on it only [`demo`](SealedLockstep::demo) allocates. Returns
     /// [`NodeError::Secret`] if all bytes of a secret are 0; else what
-    /// [`Node::within`](crate::Node::within) returns.
-    pub fn new(config: Config, seal: Seal) -> Result<SealedNode, NodeError> {
-        SealedNode::within(config, seal, crate::MOST_AHEAD)
+    /// [`Lockstep::within`](crate::Lockstep::within) returns.
+    pub fn new(config: Config, seal: Seal) -> Result<SealedLockstep, NodeError> {
+        SealedLockstep::within(config, seal, crate::MOST_AHEAD)
     }
 
-    /// The same with a window of its own, as in [`Node::within`](crate::Node::within).
-    pub fn within(config: Config, seal: Seal, ahead: u8) -> Result<SealedNode, NodeError> {
-        let node = SealedNode(raw::Held::nothing());
+    /// The same with a window of its own, as in [`Lockstep::within`](crate::Lockstep::within).
+    pub fn within(config: Config, seal: Seal, ahead: u8) -> Result<SealedLockstep, NodeError> {
+        let node = SealedLockstep(raw::Held::nothing());
         let (at, config) = (node.0.at(), config.raw());
         // SAFETY: the call has exclusive use of the handle (`Held`), the configuration is valid for the call,
         // and so are the arrays, of 32 and 16 bytes.
         opened(unsafe {
             match &seal {
-                Seal::Secret { secret, number } => {
-                    raw::zmg_sealed_node_new(at, &config, ahead, secret.as_ptr(), number.as_ptr())
-                }
+                Seal::Secret { secret, number } => raw::zmg_sealed_lockstep_new(
+                    at,
+                    &config,
+                    ahead,
+                    secret.as_ptr(),
+                    number.as_ptr(),
+                ),
                 Seal::Open { number } => {
-                    raw::zmg_sealed_node_new_open(at, &config, ahead, number.as_ptr())
+                    raw::zmg_sealed_lockstep_new_open(at, &config, ahead, number.as_ptr())
                 }
             }
         })?;
@@ -95,7 +100,8 @@ impl SealedNode {
     }
 
     /// Returns the next packet to player `to`, in its envelope. The packet then counts as sent. Returns None,
-    /// and leaves the node as it was, if there is no packet, as for [`Node::packet`](crate::Node::packet).
+    /// and leaves the node as it was, if there is no packet, as for
+    /// [`Lockstep::packet`](crate::Lockstep::packet).
     pub fn packet(&mut self, to: u8) -> Option<Envelope> {
         let mut envelope = Envelope {
             bytes: [0; 141],
@@ -103,33 +109,34 @@ impl SealedNode {
         };
         let out = &mut envelope.bytes;
         // SAFETY: the call has exclusive use of the handle (`Held`), and the array is valid for its length.
-        envelope.length =
-            unsafe { raw::zmg_sealed_node_packet(self.0.at(), to, out.as_mut_ptr(), out.len()) };
+        envelope.length = unsafe {
+            raw::zmg_sealed_lockstep_packet(self.0.at(), to, out.as_mut_ptr(), out.len())
+        };
         (envelope.length > 0).then_some(envelope)
     }
 
     /// Takes in any bytes, whoever sent them. If it returns [`Heard::Started`] in [`Arrived::Heard`], the
-    /// caller begins its world with the start of [`settings`](SealedNode::settings).
+    /// caller begins its world with the start of [`settings`](SealedLockstep::settings).
     pub fn receive(&mut self, bytes: &[u8]) -> Arrived {
         // SAFETY: the call has exclusive use of the handle (`Held`), and the slice is valid for its length.
         values::arrived(unsafe {
-            raw::zmg_sealed_node_receive(self.0.at(), bytes.as_ptr(), bytes.len())
+            raw::zmg_sealed_lockstep_receive(self.0.at(), bytes.as_ptr(), bytes.len())
         })
     }
 }
 
-node_calls! {
-    SealedNode
-    zmg_sealed_node_build zmg_sealed_node_give zmg_sealed_node_can_build
-    zmg_sealed_node_command zmg_sealed_node_run zmg_sealed_node_quit zmg_sealed_node_phase
-    zmg_sealed_node_me zmg_sealed_node_players zmg_sealed_node_made zmg_sealed_node_ran
-    zmg_sealed_node_got zmg_sealed_node_end zmg_sealed_node_settings
-    zmg_sealed_node_demo_length zmg_sealed_node_demo zmg_sealed_node_free
+lockstep_calls! {
+    SealedLockstep
+    zmg_sealed_lockstep_build zmg_sealed_lockstep_give zmg_sealed_lockstep_can_build
+    zmg_sealed_lockstep_command zmg_sealed_lockstep_run zmg_sealed_lockstep_quit zmg_sealed_lockstep_phase
+    zmg_sealed_lockstep_me zmg_sealed_lockstep_players zmg_sealed_lockstep_made zmg_sealed_lockstep_ran
+    zmg_sealed_lockstep_got zmg_sealed_lockstep_end zmg_sealed_lockstep_settings
+    zmg_sealed_lockstep_demo_length zmg_sealed_lockstep_demo zmg_sealed_lockstep_free
 }
 
-impl fmt::Debug for SealedNode {
+impl fmt::Debug for SealedLockstep {
     fn fmt(&self, f: &mut fmt::Formatter<'_>) -> fmt::Result {
-        f.write_str("SealedNode")
+        f.write_str("SealedLockstep")
     }
 }
 
@@ -148,38 +155,38 @@ impl std::ops::Deref for Envelope {
     }
 }
 
-/// One player's sealed node and world, kept in step. The caller owes what it owes for a [`SealedNode`].
+/// A [`SealedLockstep`] and a world, kept in step. The caller owes what it owes for a [`SealedLockstep`].
 #[derive(Debug)]
-pub struct SealedPlayer<W> {
-    node: SealedNode,
+pub struct SealedNode<W> {
+    node: SealedLockstep,
     world: W,
 }
 
-impl<W: World> SealedPlayer<W> {
-    /// Makes a player, with a node as [`SealedNode::new`] makes it. The world begins when the game starts.
-    /// Returns what `SealedNode::new` returns.
-    pub fn new(config: Config, seal: Seal, world: W) -> Result<SealedPlayer<W>, NodeError> {
-        Ok(SealedPlayer {
-            node: SealedNode::new(config, seal)?,
+impl<W: World> SealedNode<W> {
+    /// Makes a node, with a lockstep as [`SealedLockstep::new`] makes it. The world begins when the game
+    /// starts. Returns what `SealedLockstep::new` returns.
+    pub fn new(config: Config, seal: Seal, world: W) -> Result<SealedNode<W>, NodeError> {
+        Ok(SealedNode {
+            node: SealedLockstep::new(config, seal)?,
             world,
         })
     }
 
-    /// The same with a window of its own, as in [`SealedNode::within`].
+    /// The same with a window of its own, as in [`SealedLockstep::within`].
     pub fn within(
         config: Config,
         seal: Seal,
         world: W,
         ahead: u8,
-    ) -> Result<SealedPlayer<W>, NodeError> {
-        Ok(SealedPlayer {
-            node: SealedNode::within(config, seal, ahead)?,
+    ) -> Result<SealedNode<W>, NodeError> {
+        Ok(SealedNode {
+            node: SealedLockstep::within(config, seal, ahead)?,
             world,
         })
     }
 
     /// Returns the next packet to player `to`, in its envelope, which then counts as sent; None as for
-    /// [`SealedNode::packet`].
+    /// [`SealedLockstep::packet`].
     pub fn packet(&mut self, to: u8) -> Option<Envelope> {
         self.node.packet(to)
     }
@@ -194,4 +201,4 @@ impl<W: World> SealedPlayer<W> {
     }
 }
 
-player_calls!(SealedPlayer);
+node_calls!(SealedNode);

@@ -49,22 +49,22 @@ fn settings() -> Settings {
     }
 }
 
-fn pair() -> (Player<Sum>, Player<Sum>) {
-    let mut key = Player::new(Config::key(2, settings()), Sum::default()).unwrap();
-    let mut other = Player::new(Config::other(2, 1), Sum::default()).unwrap();
+fn pair() -> (Node<Sum>, Node<Sum>) {
+    let mut key = Node::new(Config::key(2, settings()), Sum::default()).unwrap();
+    let mut other = Node::new(Config::other(2, 1), Sum::default()).unwrap();
     assert_eq!(other.receive(0, &key.packet(1).unwrap()), Heard::Started);
     assert_eq!(key.receive(1, &other.packet(0).unwrap()), Heard::Started);
     (key, other)
 }
 
-fn tic(key: &mut Player<Sum>, other: &mut Player<Sum>, keys: u32) {
+fn tic(key: &mut Node<Sum>, other: &mut Node<Sum>, keys: u32) {
     key.build(Keys(keys));
     other.build(Keys(keys >> 3));
     let (one, two) = (key.packet(1).unwrap(), other.packet(0).unwrap());
     other.receive(0, &one);
     key.receive(1, &two);
-    key.run();
-    other.run();
+    key.run_all();
+    other.run_all();
 }
 
 #[test]
@@ -89,7 +89,7 @@ fn the_header_has_these_sizes() {
 #[test]
 fn bad_configurations_are_refused() {
     let good = Config::key(2, settings());
-    let refused = |config| Player::new(config, Sum::default()).err();
+    let refused = |config| Node::new(config, Sum::default()).err();
     assert_eq!(
         refused(Config { players: 1, ..good }),
         Some(NodeError::Players)
@@ -194,7 +194,7 @@ fn a_player_leaves_and_the_other_goes_on() {
     assert_eq!(key.end(1), Some(other.made()));
     for _ in 0..5 {
         key.build(Keys::NONE);
-        key.run();
+        key.run_all();
     }
     assert_eq!(key.ran(), 35);
     assert_eq!(key.demo().len(), 13 + 30 * 10 + 1);
@@ -202,8 +202,8 @@ fn a_player_leaves_and_the_other_goes_on() {
 
 #[test]
 fn worlds_that_differ_are_found() {
-    let mut key = Node::new(Config::key(2, settings())).unwrap();
-    let mut other = Node::new(Config::other(2, 1)).unwrap();
+    let mut key = Lockstep::new(Config::key(2, settings())).unwrap();
+    let mut other = Lockstep::new(Config::other(2, 1)).unwrap();
     let packet = key.packet(1).unwrap();
     other.receive(0, &packet);
     let packet = other.packet(0).unwrap();

@@ -87,7 +87,7 @@ pub struct Config {
     /// The number of this player: 0 to `players` - 1.
     pub me: u8,
     /// Whether each packet repeats the last command, which helps on lines that lose packets. The same for all
-    /// players. A link gains nothing by it: each of its datagrams has every unacknowledged packet anyway.
+    /// players. A link gains nothing by it: its datagrams repeat what is not acknowledged anyway.
     pub extra: bool,
     /// How many bytes the demo may have: 1,024 to 16,777,216. The same for all players. A tic takes 5 bytes
     /// for each player, and a full demo ends the node: 1 MiB lasts 50 minutes for two players, 25 for four.
@@ -196,10 +196,11 @@ impl Move {
     }
 }
 
-/// The window of [`Node::new`](crate::Node::new): how many of its commands may be waiting to be run.
+/// The window of [`Lockstep::new`](crate::Lockstep::new): how many commands of the node's own player may be
+/// waiting to be run.
 pub const MOST_AHEAD: u8 = 5;
 
-/// The widest window of [`Node::within`](crate::Node::within).
+/// The widest window of [`Lockstep::within`](crate::Lockstep::within).
 pub const WIDEST_AHEAD: u8 = 12;
 
 /// What `build` and `give` return.
@@ -209,7 +210,7 @@ pub enum Made {
     /// The command of this tic was made.
     Made(u32),
     /// As many commands are waiting to be run as the window allows.
-    Ahead,
+    Full,
     /// The game has not started, or the node has ended.
     NotPlaying,
     /// A code that this crate has no name for. No command was made.
@@ -235,13 +236,13 @@ pub enum Dropped {
     /// The sender plays another version.
     Version,
     /// Its settings are out of range.
-    Settings,
+    Range,
     /// It is a KILL packet, which no node obeys.
     Kill,
     /// Its start is a tic below 0.
-    Before,
+    Tic,
     /// It has a command that would end a demo.
-    Stop,
+    Command,
     /// It lies more tics ahead than the node keeps commands.
     Overrun,
     /// The game has not started here, or this node has ended.
@@ -263,9 +264,9 @@ pub enum Heard {
     /// No command was new.
     Stale,
     /// Commands before its first are missing, and are asked for. The sender may have left: see
-    /// [`end`](crate::Node::end).
+    /// [`end`](crate::Lockstep::end).
     Gap,
-    /// The sender has left, and all its commands are here: see [`end`](crate::Node::end).
+    /// The sender has left, and all its commands are here: see [`end`](crate::Lockstep::end).
     Left,
     /// At [`Phase::Gathering`]: the sender was heard, but not yet all others. Else this node has ended.
     Noted,
@@ -278,7 +279,7 @@ pub enum Heard {
 /// Why bytes are not an envelope to this player in this game: the first of these that holds.
 #[derive(Clone, Copy, Debug, PartialEq, Eq)]
 #[non_exhaustive]
-pub enum Unopened {
+pub enum SealError {
     /// There are fewer than 37 bytes.
     Short,
     /// There are more than 141 bytes.
@@ -300,18 +301,18 @@ pub enum Unopened {
     Unknown(u32),
 }
 
-/// What became of bytes at a sealed node.
+/// What became of bytes at a sealed lockstep, or at a node with one.
 #[derive(Clone, Copy, Debug, PartialEq, Eq)]
 #[non_exhaustive]
 pub enum Arrived {
     /// They were an envelope. This is what became of its datagram.
     Heard(Heard),
     /// They are not an envelope to this player in this game. Nothing changed.
-    Unopened(Unopened),
+    Unopened(SealError),
     /// The envelope's start or ask lies more than 64 tics from what the node has made. Nothing changed.
     Late,
     /// The datagram's own player, start or ask byte or request flag contradicts the envelope (of set-up none
-    /// is compared): its sender did not make it with [`SealedNode::packet`](crate::SealedNode::packet).
+    /// is compared): its sender did not make it with [`SealedLockstep::packet`](crate::SealedLockstep::packet).
     /// Nothing changed.
     Unlike,
 }
@@ -322,7 +323,7 @@ pub enum Arrived {
 pub enum Ran {
     /// This tic was run.
     Ran(u32),
-    /// The command of this player is missing.
+    /// The command of this player is missing; if several players' are, it is the lowest player.
     Waiting(u8),
     /// This call ended the node with [`Cause::Full`].
     DemoFull,
@@ -388,7 +389,7 @@ pub(crate) fn number(raw: raw::Number) -> Option<u32> {
 pub(crate) fn made(raw: raw::Coded) -> Made {
     match raw.code {
         0 => Made::Made(raw.number),
-        1 => Made::Ahead,
+        1 => Made::Full,
         2 => Made::NotPlaying,
         code => Made::Unknown(code),
     }
@@ -403,10 +404,10 @@ fn dropped(number: u32) -> Dropped {
         5 => Dropped::Stranger,
         6 => Dropped::OutOfPlace,
         7 => Dropped::Version,
-        8 => Dropped::Settings,
+        8 => Dropped::Range,
         9 => Dropped::Kill,
-        10 => Dropped::Before,
-        11 => Dropped::Stop,
+        10 => Dropped::Tic,
+        11 => Dropped::Command,
         12 => Dropped::Overrun,
         13 => Dropped::NotPlaying,
         14 => Dropped::End,
@@ -427,23 +428,23 @@ pub(crate) fn heard(raw: raw::Coded) -> Heard {
     }
 }
 
-fn unopened(number: u32) -> Unopened {
+fn seal_error(number: u32) -> SealError {
     match number {
-        1 => Unopened::Short,
-        2 => Unopened::Long,
-        3 => Unopened::Suite,
-        4 => Unopened::Kind,
-        5 => Unopened::Game,
-        6 => Unopened::Receiver,
-        7 => Unopened::Tag,
-        8 => Unopened::Request,
-        code => Unopened::Unknown(code),
+        1 => SealError::Short,
+        2 => SealError::Long,
+        3 => SealError::Suite,
+        4 => SealError::Kind,
+        5 => SealError::Game,
+        6 => SealError::Receiver,
+        7 => SealError::Tag,
+        8 => SealError::Request,
+        code => SealError::Unknown(code),
     }
 }
 
 pub(crate) fn arrived(raw: raw::Coded) -> Arrived {
     match raw.code {
-        7 => Arrived::Unopened(unopened(raw.number)),
+        7 => Arrived::Unopened(seal_error(raw.number)),
         8 => Arrived::Late,
         9 => Arrived::Unlike,
         _ => Arrived::Heard(heard(raw)),

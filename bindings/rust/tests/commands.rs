@@ -4,8 +4,8 @@
 
 use std::array;
 use zirmegat::{
-    Command, Config, Keys, Made, Move, Node, Phase, Player, Ran, Settings, Start, World, MOST_AHEAD,
-    WIDEST_AHEAD,
+    Command, Config, Keys, Lockstep, Made, Move, Node, Phase, Ran, Settings, Start, World,
+    MOST_AHEAD, WIDEST_AHEAD,
 };
 
 const TICS: u32 = 10_000;
@@ -105,7 +105,7 @@ fn configs() -> [Config; 2] {
 
 /// A player's node and world, with what the player gave and what the node told of all.
 struct Seat {
-    node: Node,
+    node: Lockstep,
     /// The window.
     ahead: u8,
     world: Sums,
@@ -123,7 +123,7 @@ impl Seat {
     fn new(config: Config, ahead: u8) -> Seat {
         Seat {
             luck: Luck(u64::from(config.me) + 1),
-            node: Node::within(config, ahead).unwrap(),
+            node: Lockstep::within(config, ahead).unwrap(),
             ahead,
             world: Sums::default(),
             given: Vec::new(),
@@ -146,7 +146,7 @@ impl Seat {
         assert_eq!(can, made - ran < u32::from(self.ahead));
         let answer = self.node.give(command);
         if !can {
-            assert_eq!(answer, Made::Ahead);
+            assert_eq!(answer, Made::Full);
             self.waits += 1;
             return;
         }
@@ -281,8 +281,7 @@ fn two_mice(ahead: u8) {
 
 #[test]
 fn a_player_gives_and_tells_commands() {
-    let [mut key, mut other] =
-        configs().map(|config| Player::new(config, Sums::default()).unwrap());
+    let [mut key, mut other] = configs().map(|config| Node::new(config, Sums::default()).unwrap());
     let command = Command {
         forward: i8::MIN,
         side: 40,
@@ -300,7 +299,7 @@ fn a_player_gives_and_tells_commands() {
         assert_eq!(key.give(command), Made::Made(tic));
     }
     assert!(!key.can_build());
-    assert_eq!(key.give(command), Made::Ahead);
+    assert_eq!(key.give(command), Made::Full);
     other.build(Keys::FORWARD);
     other.receive(0, &key.packet(1).unwrap());
     let told = Command {
@@ -313,6 +312,6 @@ fn a_player_gives_and_tells_commands() {
     assert_eq!(key.command(0, 5), None);
     assert_eq!(key.command(1, 0), None);
     assert_eq!(other.command(2, 0), None);
-    assert_eq!(other.run(), Ran::Waiting(1));
+    assert_eq!(other.run_all(), Ran::Waiting(1));
     assert_eq!(other.ran(), 1);
 }

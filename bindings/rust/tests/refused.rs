@@ -4,8 +4,8 @@
 use std::alloc::{GlobalAlloc, Layout, System};
 use std::cell::Cell;
 use zirmegat::{
-    upgrade, Config, DemoError, Keys, Link, Node, NodeError, Reader, Seal, SealedNode, Settings,
-    UpgradeError, MOST_AHEAD,
+    upgrade, Config, DemoError, Keys, Link, Lockstep, NodeError, Reader, Seal, SealedLockstep,
+    Settings, UpgradeError, MOST_AHEAD,
 };
 
 mod failing {
@@ -81,8 +81,8 @@ fn demo() -> Vec<u8> {
         map: 1,
         ..Settings::default()
     };
-    let mut key = Node::new(Config::key(2, settings)).unwrap();
-    let mut other = Node::new(Config::other(2, 1)).unwrap();
+    let mut key = Lockstep::new(Config::key(2, settings)).unwrap();
+    let mut other = Lockstep::new(Config::other(2, 1)).unwrap();
     for _ in 0..6 {
         key.build(Keys::FORWARD);
         other.build(Keys::FORWARD);
@@ -103,10 +103,10 @@ fn demo() -> Vec<u8> {
 #[test]
 fn refused_memory_is_told_and_given_back() {
     let demo = demo();
-    let node = || Node::new(Config::other(2, 1));
+    let node = || Lockstep::new(Config::other(2, 1));
     assert_eq!(refused(NodeError::Memory, node), 2);
     let seal = Seal::Open { number: [1; 16] };
-    let sealed = || SealedNode::new(Config::other(2, 1), seal);
+    let sealed = || SealedLockstep::new(Config::other(2, 1), seal);
     assert_eq!(refused(NodeError::Memory, sealed), 2);
     let link = || {
         Link::new(

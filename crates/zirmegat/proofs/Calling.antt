@@ -12,10 +12,10 @@ use Rattle.dn_open.specs.declared.sealed.SealedLockstep.{SealedLockstep}
 use Rattle.dn_open.specs.Locked.{locked}
 use Rattle.dn_link.specs.declared.link.Link.{Link}
 use Rattle.dn_link.specs.Linking.{linked}
-use Rattle.zirmegat.specs.declared.handle.NodeHandle.{NodeHandle}
+use Rattle.zirmegat.specs.declared.handle.LockstepHandle.{LockstepHandle}
 use Rattle.zirmegat.specs.declared.sealed_handle.SealedHandle.{SealedHandle}
 use Rattle.zirmegat.specs.declared.link_handle.LinkHandle.{LinkHandle}
-use Rattle.zirmegat.specs.Calls.{node_of, Calls, Reads}
+use Rattle.zirmegat.specs.Calls.{lockstep_of, Calls, Reads}
 use Rattle.zirmegat.specs.Lends.{with_node, with_sealed, with_link}
 use Rattle.zirmegat.specs.Sealed.{Locked, locked_of, sealed_of}
 use Rattle.zirmegat.specs.Links.{Joined, joined_of, link_of}
@@ -38,9 +38,9 @@ lent {A} {B} shown live value n m Step Empty lives held step =
     ap (λ (b : Bool). if b then Some (shown m) else None) lives in
     calls_held Step Empty (shown n) (shown m) held left step
 
-pub calls_lent : (h : NodeHandle) (n m : Lockstep) (Step : Contents → Contents → Type 0) (Empty : Type 0)
-    → h.live ≡ true → node_of h ≡ Some (contents n) → Step (contents n) (contents m)
-    → Calls (node_of h) (node_of (with_node h m)) Step Empty
+pub calls_lent : (h : LockstepHandle) (n m : Lockstep) (Step : Contents → Contents → Type 0) (Empty : Type 0)
+    → h.live ≡ true → lockstep_of h ≡ Some (contents n) → Step (contents n) (contents m)
+    → Calls (lockstep_of h) (lockstep_of (with_node h m)) Step Empty
 calls_lent h = lent contents h.live h.node
 
 pub sealed_lent : (h : SealedHandle) (n m : SealedLockstep) (Step : Locked → Locked → Type 0) (Empty : Type 0)

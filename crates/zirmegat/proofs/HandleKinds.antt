@@ -4,7 +4,7 @@ use Rattle.dn_lockstep.specs.contracts.lockstep.Lockstep as lockstep
 use Rattle.dn_open.specs.contracts.sealed.SealedLockstep as sealed_lockstep
 use Rattle.dn_link.specs.contracts.link.Link as the_link
 use Rattle.zirmegat.specs.contracts.reader.DemoReader as reader
-use Rattle.zirmegat.specs.contracts.handle.NodeHandle as node
+use Rattle.zirmegat.specs.contracts.handle.LockstepHandle as node
 use Rattle.zirmegat.specs.contracts.sealed_handle.SealedHandle as sealed
 use Rattle.zirmegat.specs.contracts.link_handle.LinkHandle as link
 use Rattle.zirmegat.specs.contracts.demo_handle.DemoHandle as demo

@@ -10,11 +10,11 @@ use Rattle.dn_setup.specs.Settings.{Settings}
 use Rattle.dn_setup.specs.Starts.{bit}
 use Rattle.dn_lockstep.specs.declared.lockstep.aiming.Aim.{Aim}
 use Rattle.zirmegat.specs.declared.answers.AimAnswer.{AimAnswer}
-use Rattle.zirmegat.specs.declared.config.SettingsAnswer.{SettingsAnswer}
+use Rattle.zirmegat.specs.declared.config.KnownSettings.{KnownSettings}
 use Rattle.zirmegat.specs.declared.answers.PhaseAnswer.{PhaseAnswer}
-use Rattle.zirmegat.specs.declared.answers.BuildAnswer.{BuildAnswer}
+use Rattle.zirmegat.specs.declared.answers.MadeAnswer.{MadeAnswer}
 use Rattle.zirmegat.specs.declared.answers.HeardAnswer.{HeardAnswer}
-use Rattle.zirmegat.specs.declared.answers.RunAnswer.{RunAnswer}
+use Rattle.zirmegat.specs.declared.answers.RanAnswer.{RanAnswer}
 use Rattle.zirmegat.specs.declared.answers.Number.{Number}
 use Rattle.zirmegat.specs.declared.answers.MoveAnswer.{MoveAnswer}
 
@@ -35,7 +35,7 @@ phase_told Phase.Gathering = phase_at 2 0 (pos 0) (pos 0) 0
 phase_told Phase.Playing = phase_at 3 0 (pos 0) (pos 0) 0
 phase_told (Phase.Ended cause) = ended_told cause
 
-abbrev pub made_told : Made → BuildAnswer
+abbrev pub made_told : Made → MadeAnswer
 made_told (Made.Made tic) = record { code = 0; tic = tic }
 made_told Made.Full = record { code = 1; tic = 0 }
 made_told Made.NotPlaying = record { code = 2; tic = 0 }
@@ -50,7 +50,7 @@ heard_told Heard.Left = record { code = 4; number = 0 }
 heard_told Heard.Noted = record { code = 5; number = 0 }
 heard_told (Heard.Dropped number) = record { code = 6; number = number }
 
-abbrev pub ran_told : Ran → RunAnswer
+abbrev pub ran_told : Ran → RanAnswer
 ran_told (Ran.Ran tic) = record { code = 0; tic = tic; was = pos 0; should = pos 0; player = 0 }
 ran_told (Ran.Waiting player) = record { code = 1; tic = 0; was = pos 0; should = pos 0; player = player }
 ran_told Ran.DemoFull = record { code = 2; tic = 0; was = pos 0; should = pos 0; player = 0 }
@@ -81,7 +81,7 @@ aim_told (Some aim) =
 aim_told None = record { known = 0; flags = 0; ask = number_told None; start = 0; count = 0 }
 
 -- the settings of a game, and whether they are known
-abbrev pub settings_told : Option Settings → SettingsAnswer
+abbrev pub settings_told : Option Settings → KnownSettings
 settings_told (Some s) =
     record {
       known = 1;

@@ -2,11 +2,11 @@
 use Rattle.std.specs.Prelude.{◌≡◌, Option, Some, None, if◌then◌else◌}
 use Rattle.std.specs.Option.{option_map}
 use Rattle.dn_lockstep.specs.Contents.{Contents, contents}
-use Rattle.zirmegat.specs.declared.handle.NodeHandle.{NodeHandle}
+use Rattle.zirmegat.specs.declared.handle.LockstepHandle.{LockstepHandle}
 
 -- the node of a handle
-abbrev pub node_of : NodeHandle → Option Contents
-node_of h = if h.live then option_map contents h.node else None
+abbrev pub lockstep_of : LockstepHandle → Option Contents
+lockstep_of h = if h.live then option_map contents h.node else None
 
 -- a handle that held a node holds it after a step; one that held none still holds none, and the answer is the
 -- empty one

@@ -25,8 +25,8 @@ held R true at (Some n) = fex Global (owned R at n)
 held R true at None = ffalse
 held R false at n = ftrue
 
-abbrev pub held_node : Bool → Ptr → Option Lockstep → Fml
-held_node = held lockstep.the_row
+abbrev pub held_lockstep : Bool → Ptr → Option Lockstep → Fml
+held_lockstep = held lockstep.the_row
 
 abbrev pub held_reader : Bool → Ptr → Option DemoReader → Fml
 held_reader = held reader.the_row

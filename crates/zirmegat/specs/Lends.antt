@@ -3,8 +3,8 @@ use Rattle.std.specs.Prelude.{Option, Some}
 use Rattle.std.specs.Borrow.{Lends, LendsIf, Fml, MutBor}
 use Rattle.dn_lockstep.specs.declared.lockstep.Lockstep.{Lockstep}
 use Rattle.dn_lockstep.specs.contracts.lockstep.Lockstep as lockstep
-use Rattle.zirmegat.specs.declared.handle.NodeHandle.{NodeHandle}
-use Rattle.zirmegat.specs.contracts.handle.NodeHandle as handle
+use Rattle.zirmegat.specs.declared.handle.LockstepHandle.{LockstepHandle}
+use Rattle.zirmegat.specs.contracts.handle.LockstepHandle as handle
 use Rattle.dn_open.specs.declared.sealed.SealedLockstep.{SealedLockstep}
 use Rattle.dn_open.specs.contracts.sealed.SealedLockstep as sealed
 use Rattle.zirmegat.specs.declared.sealed_handle.SealedHandle.{SealedHandle}
@@ -15,15 +15,15 @@ use Rattle.zirmegat.specs.declared.link_handle.LinkHandle.{LinkHandle}
 use Rattle.zirmegat.specs.contracts.link_handle.LinkHandle as link_handle
 
 -- the handle with another node
-abbrev pub with_node : NodeHandle → Lockstep → NodeHandle
+abbrev pub with_node : LockstepHandle → Lockstep → LockstepHandle
 with_node h node = record h { node = Some node }
 
 -- once the borrow ends, the handle has the node that it shows last
-abbrev pub lends_node : MutBor NodeHandle → MutBor Lockstep → Fml
-lends_node h r = Lends handle.the_row lockstep.the_row h r (with_node h.now)
+abbrev pub lends_lockstep : MutBor LockstepHandle → MutBor Lockstep → Fml
+lends_lockstep h r = Lends handle.the_row lockstep.the_row h r (with_node h.now)
 
 -- the same where a node is lent, and else the handle stays as it is
-abbrev pub lends_held : MutBor NodeHandle → Option (MutBor Lockstep) → Fml
+abbrev pub lends_held : MutBor LockstepHandle → Option (MutBor Lockstep) → Fml
 lends_held h r = LendsIf handle.the_row lockstep.the_row h r (with_node h.now) h.now
 
 -- the same of a sealed node

@@ -24,7 +24,7 @@ use Rattle.dn_link.specs.Linking.{identity_of, linked, new_peer, seal_of}
 use Rattle.dn_link.specs.Pace.{Paces, after_input, after_tick, lean, still_owed}
 use Rattle.dn_link.specs.Paced.{PaceState}
 use Rattle.dn_link.specs.Pacing.{new_pace, pace_of}
-use Rattle.zirmegat.specs.declared.answers.BuildAnswer.{BuildAnswer}
+use Rattle.zirmegat.specs.declared.answers.MadeAnswer.{MadeAnswer}
 use Rattle.zirmegat.specs.declared.config.NodeConfig.{NodeConfig}
 use Rattle.zirmegat.specs.declared.link_answers.LineAnswer.{LineAnswer}
 use Rattle.zirmegat.specs.declared.link_answers.PresenceAnswer.{PresenceAnswer}
@@ -140,7 +140,7 @@ received_told (Received.Different player) = record { code = 3; reason = 0; playe
 received_told (Received.Unopened fault) = unopened (bundle_code fault)
 
 -- what came of a build that was owed
-abbrev pub owed_told : Option Made → BuildAnswer
+abbrev pub owed_told : Option Made → MadeAnswer
 owed_told None = record { code = 3; tic = 0 }
 owed_told (Some made) = made_told made
 

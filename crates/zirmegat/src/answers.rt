@@ -83,31 +83,30 @@ impl PhaseAnswer {
 /// allows, 2 where the node does not play.
 #[repr(C)]
 #[derive(Clone, Copy, Debug, PartialEq, Eq)]
-pub struct BuildAnswer {
+pub struct MadeAnswer {
     /// 0 to 2, as above.
     pub code: u32,
     /// The tic of the command, where `code` is 0.
     pub tic: u32,
 }
 
-impl BuildAnswer {
-    pub(crate) fn of(made: Made) -> BuildAnswer
+impl MadeAnswer {
+    pub(crate) fn of(made: Made) -> MadeAnswer
         ensures { result ≡ made_told made }
     {
         match made {
-            Made::Made(tic) => BuildAnswer { code: 0, tic },
-            Made::Full => BuildAnswer { code: 1, tic: 0 },
-            Made::NotPlaying => BuildAnswer { code: 2, tic: 0 },
+            Made::Made(tic) => MadeAnswer { code: 0, tic },
+            Made::Full => MadeAnswer { code: 1, tic: 0 },
+            Made::NotPlaying => MadeAnswer { code: 2, tic: 0 },
         }
     }
 }
 
-/// What a node answers to a datagram: 0 where it has started, 1 where it took `number` new commands, 2
-/// where no command was new, 3 where earlier commands are missing, 4 where the sender has left and all its
-/// commands are here, 5 where a gathering node noted the sender, or where the node has ended, 6 where it
-/// dropped the datagram, for the reason `number`. A sealed node also answers 7 to bytes that are no envelope to
-/// it, for the fault `number`, 8 to one that is too old, and 9 to one whose datagram tells another start or
-/// request than the envelope.
+/// What a node returns for a datagram: 0 if it has started, 1 if it took `number` new commands, 2 if no command
+/// was new, 3 if earlier commands are missing, 4 if the sender has left and all its commands are here, 5 if a
+/// gathering node noted the sender, or if the node has ended, 6 if it dropped the datagram, for the reason
+/// `number`. A sealed node also returns 7 for bytes that are not an envelope to it, for the fault `number`, 8
+/// for one that is too old, and 9 for one whose datagram contradicts it.
 #[repr(C)]
 #[derive(Clone, Copy, Debug, PartialEq, Eq)]
 pub struct HeardAnswer {
@@ -167,7 +166,7 @@ fn seal_code(fault: SealFault) -> u32
 /// the node does not play.
 #[repr(C)]
 #[derive(Clone, Copy, Debug, PartialEq, Eq)]
-pub struct RunAnswer {
+pub struct RanAnswer {
     /// 0 to 4, as above.
     pub code: u32,
     /// The tic that was run, where `code` is 0.
@@ -180,11 +179,11 @@ pub struct RunAnswer {
     pub player: u8,
 }
 
-impl RunAnswer {
-    pub(crate) fn of(ran: Ran) -> RunAnswer
+impl RanAnswer {
+    pub(crate) fn of(ran: Ran) -> RanAnswer
         ensures { result ≡ ran_told ran }
     {
-        let none = RunAnswer {
+        let none = RanAnswer {
             code: 0,
             tic: 0,
             was: 0,
@@ -192,25 +191,25 @@ impl RunAnswer {
             player: 0,
         };
         match ran {
-            Ran::Ran(tic) => RunAnswer { tic, ..none },
-            Ran::Waiting(player) => RunAnswer {
+            Ran::Ran(tic) => RanAnswer { tic, ..none },
+            Ran::Waiting(player) => RanAnswer {
                 code: 1,
                 player,
                 ..none
             },
-            Ran::DemoFull => RunAnswer { code: 2, ..none },
+            Ran::DemoFull => RanAnswer { code: 2, ..none },
             Ran::Inconsistent {
                 player,
                 was,
                 should,
-            } => RunAnswer {
+            } => RanAnswer {
                 code: 3,
                 was,
                 should,
                 player,
                 ..none
             },
-            Ran::NotPlaying => RunAnswer { code: 4, ..none },
+            Ran::NotPlaying => RanAnswer { code: 4, ..none },
         }
     }
 }

@@ -16,12 +16,12 @@ ghost use Rattle.dn_lockstep.specs.Sent.{sent_to, aim_of};
 ghost use Rattle.dn_lockstep.specs.Giving.{gives};
 ghost use Rattle.dn_lockstep.specs.Runs.{told_by};
 ghost use Rattle.dn_lockstep.specs.Steps.{Tells};
-ghost use Rattle.zirmegat.specs.Calls.{node_of, Calls, Reads};
+ghost use Rattle.zirmegat.specs.Calls.{lockstep_of, Calls, Reads};
 ghost use Rattle.zirmegat.specs.Answers.{made_told, aim_told, heard_told, ran_told, move_told, row_told_over};
 ghost use Rattle.zirmegat.specs.Going.{Builds, Sends, Hears, Runs, Quits};
 
-use crate::answers::{AimAnswer, BuildAnswer, HeardAnswer, MoveAnswer, RunAnswer, flag};
-use crate::handle::NodeHandle;
+use crate::answers::{AimAnswer, HeardAnswer, MadeAnswer, MoveAnswer, RanAnswer, flag};
+use crate::handle::LockstepHandle;
 use dn_lockstep::{Heard, Made, Ran};
 use dn_packet::MAX_DATAGRAM;
 use dn_tic::{Keys, Move};
@@ -31,22 +31,22 @@ pub(crate) const NOT_PLAYING: u8 = 13;
 
 /// Builds the command of these keys for the next tic.
 #[unsafe(no_mangle)]
-pub extern "C" fn zmg_node_build(node: &mut NodeHandle, keys: u32) -> BuildAnswer
-    ensures { Calls (node_of node.old) (node_of node.new)
+pub extern "C" fn zmg_lockstep_build(node: &mut LockstepHandle, keys: u32) -> MadeAnswer
+    ensures { Calls (lockstep_of node.old) (lockstep_of node.new)
         (λ n k. (made : Built) × (result ≡ made_told made)
         × Builds (Pressed (keys % 2 ^ 18)) n k made)
         (result ≡ made_told Made.NotPlaying) }
 {
     match node.held() {
-        Some(held) => BuildAnswer::of(held.build(Keys::from_bits(keys))),
-        None => BuildAnswer::of(Made::NotPlaying),
+        Some(held) => MadeAnswer::of(held.build(Keys::from_bits(keys))),
+        None => MadeAnswer::of(Made::NotPlaying),
     }
 }
 
-/// The exact numbers of the packet that `zmg_node_packet` would give now.
+/// The exact numbers of the packet that `zmg_lockstep_packet` would give now.
 #[unsafe(no_mangle)]
-pub extern "C" fn zmg_node_aim(node: &mut NodeHandle, to: u8) -> AimAnswer
-    ensures { Reads (node_of node.old) (node_of node.new)
+pub extern "C" fn zmg_lockstep_aim(node: &mut LockstepHandle, to: u8) -> AimAnswer
+    ensures { Reads (lockstep_of node.old) (lockstep_of node.new)
         (λ n. (aim : Option Aimed) × (result ≡ aim_told aim)
         × Tells n (λ limits me m. aim ≡ option_map aim_of (sent_to to limits me m).1)
         × (is_some aim ≡ gives n to))
@@ -61,8 +61,8 @@ pub extern "C" fn zmg_node_aim(node: &mut NodeHandle, to: u8) -> AimAnswer
 /// Writes the next packet to a player, and answers how many bytes it has, and 0 where there is none.
 /// Where the room is below 104 bytes, it answers 0, and the node stays as it is.
 #[unsafe(no_mangle)]
-pub extern "C" fn zmg_node_packet(node: &mut NodeHandle, to: u8, out: &mut [u8]) -> usize
-    ensures given { 104 ≤ length out.old → Calls (node_of node.old) (node_of node.new)
+pub extern "C" fn zmg_lockstep_packet(node: &mut LockstepHandle, to: u8, out: &mut [u8]) -> usize
+    ensures given { 104 ≤ length out.old → Calls (lockstep_of node.old) (lockstep_of node.new)
         (λ n k. Sends to out.old out.new result n k)
         ((result ≡ 0) × (out.new ≡ out.old)) }
     ensures no_room { length out.old < 104 → (result ≡ 0) × (node.new ≡ node.old) × (out.new ≡ out.old) }
@@ -76,10 +76,14 @@ pub extern "C" fn zmg_node_packet(node: &mut NodeHandle, to: u8, out: &mut [u8])
     }
 }
 
-/// Hears a datagram that came from player `from`. Where it answers 0, the caller begins its world.
+/// Receives a datagram that came from player `from`. If the code is 0, the caller begins its world.
 #[unsafe(no_mangle)]
-pub extern "C" fn zmg_node_receive(node: &mut NodeHandle, from: u8, bytes: &[u8]) -> HeardAnswer
-    ensures { Calls (node_of node.old) (node_of node.new)
+pub extern "C" fn zmg_lockstep_receive(
+    node: &mut LockstepHandle,
+    from: u8,
+    bytes: &[u8],
+) -> HeardAnswer
+    ensures { Calls (lockstep_of node.old) (lockstep_of node.new)
         (λ n k. (heard : Hearing) × (result ≡ heard_told heard)
         × Hears from bytes.now n k heard)
         (result ≡ heard_told (Heard.Dropped 13)) }
@@ -92,8 +96,8 @@ pub extern "C" fn zmg_node_receive(node: &mut NodeHandle, from: u8, bytes: &[u8]
 
 /// Ends the node, and answers 1 where it had not ended.
 #[unsafe(no_mangle)]
-pub extern "C" fn zmg_node_quit(node: &mut NodeHandle) -> u32
-    ensures { Calls (node_of node.old) (node_of node.new)
+pub extern "C" fn zmg_lockstep_quit(node: &mut LockstepHandle) -> u32
+    ensures { Calls (lockstep_of node.old) (lockstep_of node.new)
         (λ n k. (quit : Bool) × (result ≡ bit quit) × Quits n k quit)
         (result ≡ 0) }
 {
@@ -103,7 +107,7 @@ pub extern "C" fn zmg_node_quit(node: &mut NodeHandle) -> u32
     }
 }
 
-/// Tells a move, where none is told yet.
+/// Writes a move over an empty one.
 fn tell_move(answer: &mut MoveAnswer, step: Option<Move>)
     requires { answer.old ≡ move_told None }
     ensures { answer.new ≡ move_told step }
@@ -113,7 +117,7 @@ fn tell_move(answer: &mut MoveAnswer, step: Option<Move>)
     }
 }
 
-/// Tells four moves. It is not inlined, since the compiler would otherwise load all of them before it stores
+/// Writes four moves. It is not inlined, since the compiler would otherwise load all of them before it stores
 /// one.
 #[inline(never)]
 fn tell_moves(row: &mut [MoveAnswer; 4], moves: &[Option<Move>; 4])
@@ -126,7 +130,7 @@ fn tell_moves(row: &mut [MoveAnswer; 4], moves: &[Option<Move>; 4])
     tell_move(&mut row[3], moves[3]);
 }
 
-/// Tells the moves of a row, where there is one.
+/// Writes the moves of a row, if there is one.
 pub(crate) fn tell_row(row: &mut [MoveAnswer; 4], moves: Option<[Option<Move>; 4]>)
     ensures { row.new ≡ row_told_over row.old moves }
 {
@@ -135,7 +139,7 @@ pub(crate) fn tell_row(row: &mut [MoveAnswer; 4], moves: Option<[Option<Move>; 4
     }
 }
 
-/// Tells the moves of a tic that was run.
+/// Writes the moves of a tic, if it was run.
 pub(crate) fn tell_run(row: &mut [MoveAnswer; 4], ran: Ran, moves: &[Option<Move>; 4])
     ensures { row.new ≡ row_told_over row.old (told_by ran moves.now) }
 {
@@ -147,12 +151,12 @@ pub(crate) fn tell_run(row: &mut [MoveAnswer; 4], ran: Ran, moves: &[Option<Move
 /// Runs the next tic by the four players' marks in the caller's world as it stands. Where it was run, `row`
 /// has the moves by which the world goes on.
 #[unsafe(no_mangle)]
-pub extern "C" fn zmg_node_run(
-    node: &mut NodeHandle,
+pub extern "C" fn zmg_lockstep_run(
+    node: &mut LockstepHandle,
     marks: &[i16; 4],
     row: &mut [MoveAnswer; 4],
-) -> RunAnswer
-    ensures { Calls (node_of node.old) (node_of node.new)
+) -> RanAnswer
+    ensures { Calls (lockstep_of node.old) (lockstep_of node.new)
         (λ n k. (ran : Answer) × (moves : List (Option Step))
         × (result ≡ ran_told ran) × (row.new ≡ row_told_over row.old (told_by ran moves))
         × Runs marks.now n k ran (told_by ran moves))
@@ -163,8 +167,8 @@ pub extern "C" fn zmg_node_run(
             let mut moves = [None; 4];
             let ran = held.run_into(marks, &mut moves);
             tell_run(row, ran, &moves);
-            RunAnswer::of(ran)
+            RanAnswer::of(ran)
         }
-        None => RunAnswer::of(Ran::NotPlaying),
+        None => RanAnswer::of(Ran::NotPlaying),
     }
 }

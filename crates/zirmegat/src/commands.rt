@@ -6,13 +6,13 @@ ghost use Rattle.dn_tic.specs.declared.input.Input.TheVariants.{Given};
 ghost use Rattle.dn_setup.specs.Starts.{bit};
 ghost use Rattle.dn_machine.specs.declared.answers.Made.{Made as Built};
 ghost use Rattle.dn_machine.specs.declared.answers.Made.TheVariants as Made;
-ghost use Rattle.zirmegat.specs.Calls.{node_of, Calls, Reads};
+ghost use Rattle.zirmegat.specs.Calls.{lockstep_of, Calls, Reads};
 ghost use Rattle.zirmegat.specs.Answers.{made_told};
 ghost use Rattle.zirmegat.specs.Commands.{given_in, known_told, CanBuild, TellsCommand};
 ghost use Rattle.zirmegat.specs.Going.{Builds};
 
-use crate::answers::{BuildAnswer, flag};
-use crate::handle::NodeHandle;
+use crate::answers::{MadeAnswer, flag};
+use crate::handle::LockstepHandle;
 use crate::packets::CommandFields;
 use dn_lockstep::Made;
 use dn_tic::{Command, TicCmd};
@@ -51,25 +51,28 @@ pub(crate) fn given(command: &CommandFields) -> Command
     }
 }
 
-/// Takes this command for the next tic, where `zmg_node_build` would build one. Its mark is not read, and a
+/// Takes this command for the next tic, where `zmg_lockstep_build` would build one. Its mark is not read, and a
 /// forward of -128 counts as -127.
 #[unsafe(no_mangle)]
-pub extern "C" fn zmg_node_give(node: &mut NodeHandle, command: &CommandFields) -> BuildAnswer
-    ensures { Calls (node_of node.old) (node_of node.new)
+pub extern "C" fn zmg_lockstep_give(
+    node: &mut LockstepHandle,
+    command: &CommandFields,
+) -> MadeAnswer
+    ensures { Calls (lockstep_of node.old) (lockstep_of node.new)
         (λ n k. (made : Built) × (result ≡ made_told made)
         × Builds (Given (given_in command.now)) n k made)
         (result ≡ made_told Made.NotPlaying) }
 {
     match node.held() {
-        Some(held) => BuildAnswer::of(held.give(given(command))),
-        None => BuildAnswer::of(Made::NotPlaying),
+        Some(held) => MadeAnswer::of(held.give(given(command))),
+        None => MadeAnswer::of(Made::NotPlaying),
     }
 }
 
-/// 1 where `zmg_node_build` and `zmg_node_give` would make a command now, and else 0.
+/// 1 where `zmg_lockstep_build` and `zmg_lockstep_give` would make a command now, and else 0.
 #[unsafe(no_mangle)]
-pub extern "C" fn zmg_node_can_build(node: &mut NodeHandle) -> u32
-    ensures { Reads (node_of node.old) (node_of node.new)
+pub extern "C" fn zmg_lockstep_can_build(node: &mut LockstepHandle) -> u32
+    ensures { Reads (lockstep_of node.old) (lockstep_of node.new)
         (λ n. (can : Bool) × (result ≡ bit can) × CanBuild n can) (result ≡ 0) }
 {
     match node.held() {
@@ -81,8 +84,12 @@ pub extern "C" fn zmg_node_can_build(node: &mut NodeHandle) -> u32
 /// A player's command for a tic: one of the last that the node keeps of the player, and so that of the next tic
 /// to be run as soon as it is there.
 #[unsafe(no_mangle)]
-pub extern "C" fn zmg_node_command(node: &mut NodeHandle, player: u8, tic: u32) -> KnownCommand
-    ensures { Reads (node_of node.old) (node_of node.new)
+pub extern "C" fn zmg_lockstep_command(
+    node: &mut LockstepHandle,
+    player: u8,
+    tic: u32,
+) -> KnownCommand
+    ensures { Reads (lockstep_of node.old) (lockstep_of node.new)
         (λ n. (command : Option Cmd) × (result ≡ known_told command) × TellsCommand n player tic command)
         (result ≡ known_told None) }
 {

@@ -31,19 +31,19 @@ pub struct GameSettings {
 /// The choice of game, where `known` is 1, and all 0 where it is not known.
 #[repr(C)]
 #[derive(Clone, Copy, Debug, PartialEq, Eq)]
-pub struct SettingsAnswer {
+pub struct KnownSettings {
     /// 1 where the choice is known, and else 0.
     pub known: u32,
     /// The choice of game.
     pub settings: GameSettings,
 }
 
-impl SettingsAnswer {
-    pub(crate) fn of(settings: Option<Settings>) -> SettingsAnswer
+impl KnownSettings {
+    pub(crate) fn of(settings: Option<Settings>) -> KnownSettings
         ensures { result ≡ settings_told settings }
     {
         match settings {
-            Some(settings) => SettingsAnswer {
+            Some(settings) => KnownSettings {
                 known: 1,
                 settings: GameSettings {
                     skill: settings.skill(),
@@ -54,7 +54,7 @@ impl SettingsAnswer {
                     map: settings.map(),
                 },
             },
-            None => SettingsAnswer {
+            None => KnownSettings {
                 known: 0,
                 settings: GameSettings {
                     skill: 0,

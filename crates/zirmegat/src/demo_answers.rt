@@ -1,4 +1,4 @@
-//! What a demo tells, as plain numbers.
+//! What is in a demo, as plain numbers.
 
 ghost use Rattle.std.specs.Prelude.{◌≡◌};
 ghost use Rattle.zirmegat.specs.Demos.{demo_told, demo_code};
@@ -25,7 +25,7 @@ pub struct StartFields {
     pub no_monsters: u8,
 }
 
-/// What a demo tells beside its rows, where `known` is 1, and else all 0.
+/// What a demo has beside its rows, if `known` is 1; else all 0.
 #[repr(C)]
 #[derive(Clone, Copy, Debug, PartialEq, Eq)]
 pub struct DemoAnswer {

@@ -74,7 +74,7 @@ pub extern "C" fn zmg_demo_read(alloc: Global, demo: &mut DemoHandle) -> u32
     }
 }
 
-/// What a demo that was read tells beside its rows.
+/// What a demo that was read has beside its rows.
 #[unsafe(no_mangle)]
 pub extern "C" fn zmg_demo_tell(alloc: Global, demo: &mut DemoHandle) -> DemoAnswer
     ensures { Reads (demo_of demo.old) (demo_of demo.new) (λ r. result ≡ reading_told r) (result ≡ no_demo) }

@@ -1,4 +1,4 @@
-//! A node behind a pointer.
+//! A lockstep behind a pointer.
 
 ghost use Rattle.std.specs.Prelude.{◌≡◌, true, false, Some, None, Option, IfSome};
 ghost use Rattle.std.specs.Borrow.{sem};
@@ -12,41 +12,41 @@ use std::alloc::Global;
 use std::marker::Model;
 use std::mem;
 
-/// A node of a game, or none. C keeps it, and never reads its fields.
+/// A lockstep, or none. C keeps it, and never reads its fields.
 #[repr(C)]
 #[derive(Drop)]
-pub struct NodeHandle {
+pub struct LockstepHandle {
     live: bool,
     at: *mut u8,
     ghost node: { Option Kept },
 }
 
-impl Model for NodeHandle {
-    ghost use Rattle.zirmegat.specs.Held.{held_node};
+impl Model for LockstepHandle {
+    ghost use Rattle.zirmegat.specs.Held.{held_lockstep};
 
-    ghost also_owns = { λ h. held_node h.live h.at h.node };
+    ghost also_owns = { λ h. held_lockstep h.live h.at h.node };
 }
 
-impl NodeHandle {
-    ghost use Rattle.zirmegat.specs.Calls.{node_of};
-    ghost use Rattle.zirmegat.specs.Lends.{lends_node, lends_held};
+impl LockstepHandle {
+    ghost use Rattle.zirmegat.specs.Calls.{lockstep_of};
+    ghost use Rattle.zirmegat.specs.Lends.{lends_lockstep, lends_held};
 
     /// The handle that holds nothing.
-    fn none() -> NodeHandle
+    fn none() -> LockstepHandle
         ensures { result.live ≡ false }
     {
-        NodeHandle {
+        LockstepHandle {
             live: false,
             at: std::ptr::null_mut(),
         }
     }
 
     /// The handle of what a raw box points to.
-    fn of_loose(loose: Loose<Lockstep, Global>) -> NodeHandle
+    fn of_loose(loose: Loose<Lockstep, Global>) -> LockstepHandle
         ensures { (result.live ≡ true) × (result.node ≡ Some loose.value) }
     {
         let Loose { at, alloc: _ } = loose;
-        NodeHandle {
+        LockstepHandle {
             live: true,
             at: at as *mut u8,
         }
@@ -57,41 +57,41 @@ impl NodeHandle {
         requires { self.live ≡ true }
         ensures { Some result.value ≡ self.node }
     {
-        let NodeHandle { live: _, at } = self;
+        let LockstepHandle { live: _, at } = self;
         Loose {
             at: at as *mut Lockstep,
             alloc,
         }
     }
 
-    /// Whether it holds a node.
+    /// Whether it holds one.
     fn is_live(&mut self) -> bool
         ensures { (result ≡ self.old.live) × (self.new ≡ self.old) }
     {
         self.live
     }
 
-    /// The handle of this node.
-    pub(crate) fn of(node: Box<Lockstep>) -> NodeHandle
-        ensures { node_of result ≡ Some (contents node.value) }
+    /// The handle of this lockstep.
+    pub(crate) fn of(node: Box<Lockstep>) -> LockstepHandle
+        ensures { lockstep_of result ≡ Some (contents node.value) }
     {
-        NodeHandle::of_loose(Loose::of(node))
+        LockstepHandle::of_loose(Loose::of(node))
     }
 
-    /// Lends the node of a handle that holds one.
+    /// Lends the lockstep of a handle that holds one.
     fn lend(&mut self) -> &mut Lockstep
         requires { self.old.live ≡ true }
-        ensures* writes_back { sem 𝓛 (lends_node self.entry result) }
+        ensures* writes_back { sem 𝓛 (lends_lockstep self.entry result) }
         ensures value { Some result.now ≡ self.old.node }
     {
-        // SAFETY: a live handle owns a box, and this points to its node (`held_node`).
+        // SAFETY: a live handle owns a box, and this points to its node (`held_lockstep`).
         unsafe { &mut *(self.at as *mut Lockstep) }
     }
 
-    /// Lends the node, if there is one. A node that is taken out costs more, and must be put back.
+    /// Lends the lockstep, if there is one. One that is taken out costs more, and must be put back.
     pub(crate) fn held(&mut self) -> Option<&mut Lockstep>
         ensures* writes_back { sem 𝓛 (lends_held self.entry result) }
-        ensures value { node_of self.old ≡ option_map (λ node. contents node.now) result }
+        ensures value { lockstep_of self.old ≡ option_map (λ node. contents node.now) result }
         ensures live { IfSome result (λ node. self.old.live ≡ true) }
     {
         if self.is_live() {
@@ -101,13 +101,13 @@ impl NodeHandle {
         }
     }
 
-    /// Takes the node out, and leaves none.
+    /// Takes the lockstep out, and leaves none.
     pub(crate) fn take(&mut self, alloc: Global) -> Option<Box<Lockstep>>
-        ensures taken { node_of self.old ≡ option_map (λ node. contents node.value) result }
-        ensures left { node_of self.new ≡ None }
+        ensures taken { lockstep_of self.old ≡ option_map (λ node. contents node.value) result }
+        ensures left { lockstep_of self.new ≡ None }
     {
         let live = self.is_live();
-        let handle = mem::replace(self, NodeHandle::none());
+        let handle = mem::replace(self, LockstepHandle::none());
         if live {
             Some(handle.into_loose(alloc).into_box())
         } else {

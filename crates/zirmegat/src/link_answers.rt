@@ -4,13 +4,13 @@ ghost use Rattle.std.specs.Prelude.{◌≡◌};
 ghost use Rattle.dn_link.specs.declared.presence.Presence.TheVariants.{Different};
 ghost use Rattle.zirmegat.specs.Links.{bundle_code, line_told, no_host, owed_told, presence_at, presence_told, received_told, unopened};
 
-use crate::answers::BuildAnswer;
+use crate::answers::MadeAnswer;
 use dn_link::{BundleFault, Figures, Identity, Presence, Received};
 use dn_lockstep::Made;
 
-/// What a link makes of bytes that came in: 0 for the datagram of a peer, 1 for one of `player` who is none, 2 for
-/// bytes that are no datagram to this player in this game, for the fault `reason`, and 3 for the datagram of a peer with
-/// another identity.
+/// What a link makes of bytes that came in: 0 for the datagram of a peer, 1 for one of `player` who is none, 2
+/// for bytes that are no datagram to this player in this game, for the fault `reason`, and 3 for the datagram
+/// of a peer with another identity.
 #[repr(C)]
 #[derive(Clone, Copy, Debug, PartialEq, Eq)]
 pub struct ReceivedAnswer {
@@ -81,19 +81,20 @@ fn bundle_code(fault: BundleFault) -> u32
 }
 
 /// What came of a build that was owed; 3 where none was.
-pub(crate) fn owed_answer(made: Option<Made>) -> BuildAnswer
+pub(crate) fn owed_answer(made: Option<Made>) -> MadeAnswer
     ensures { result ≡ owed_told made }
 {
     match made {
-        Some(made) => BuildAnswer::of(made),
-        None => BuildAnswer { code: 3, tic: 0 },
+        Some(made) => MadeAnswer::of(made),
+        None => MadeAnswer { code: 3, tic: 0 },
     }
 }
 
-/// Who is there. `state` is 0 for a player of whom nothing is known, 1 for one that is there, 2 for one that plays, 3
-/// for one with another identity, 4 for one that left before its game or was given up then, 5 for one that has played
-/// and left, and 6 for one that was given up in the game. `cause` is why it left, where it has: 1 where it quit, 2 where
-/// its demo was full, 3 where its world differed, 0 where it was given up. The other fields are the identity of one that differs, and else 0.
+/// Who is there. `state` is 0 for a player of whom nothing is known, 1 for one that is there, 2 for one that
+/// plays, 3 for one with another identity, 4 for one that left before its game or was given up then, 5 for one
+/// that has played and left, and 6 for one that was given up in the game. `cause` is why it left, where it has:
+/// 1 where it quit, 2 where its demo was full, 3 where its world differed, 0 where it was given up. The other
+/// fields are the identity of one that differs, and else 0.
 #[repr(C)]
 #[derive(Clone, Copy, Debug, PartialEq, Eq)]
 pub struct PresenceAnswer {

@@ -15,7 +15,7 @@ ghost use Rattle.zirmegat.specs.Commands.{given_in};
 ghost use Rattle.zirmegat.specs.Going.{Runs, Quits};
 ghost use Rattle.zirmegat.specs.Links.{link_of, Moves, BuildsOf, CatchesUp, Forgets, GivesOut, Leans, TakesBytes, owed_told, received_told, unopened};
 
-use crate::answers::{BuildAnswer, MoveAnswer, RunAnswer, flag};
+use crate::answers::{MadeAnswer, MoveAnswer, RanAnswer, flag};
 use crate::bytes;
 use crate::calls::tell_row;
 use crate::commands::given;
@@ -28,36 +28,37 @@ use dn_tic::Keys;
 /// The room that a link's datagram needs at most.
 const MAX_LINK_DATAGRAM: usize = 1200;
 
-/// As `zmg_node_build`; keys for which there is no room are owed, and those that were owed before are dropped.
+/// As `zmg_lockstep_build`; keys for which there is no room are owed, and those that were owed before are
+/// dropped.
 #[unsafe(no_mangle)]
-pub extern "C" fn zmg_link_build(link: &mut LinkHandle, keys: u32) -> BuildAnswer
+pub extern "C" fn zmg_link_build(link: &mut LinkHandle, keys: u32) -> MadeAnswer
     ensures { Calls (link_of link.old) (link_of link.new)
         (λ n k. (made : Built) × (result ≡ made_told made) × BuildsOf (Pressed (keys % 2 ^ 18)) n k made)
         (result ≡ made_told Made.NotPlaying) }
 {
     match link.held() {
-        Some(held) => BuildAnswer::of(held.build(Keys::from_bits(keys))),
-        None => BuildAnswer::of(Made::NotPlaying),
+        Some(held) => MadeAnswer::of(held.build(Keys::from_bits(keys))),
+        None => MadeAnswer::of(Made::NotPlaying),
     }
 }
 
-/// As `zmg_node_give`; a command for which there is no room is owed, and what was owed before is dropped.
+/// As `zmg_lockstep_give`; a command for which there is no room is owed, and what was owed before is dropped.
 #[unsafe(no_mangle)]
-pub extern "C" fn zmg_link_give(link: &mut LinkHandle, command: &CommandFields) -> BuildAnswer
+pub extern "C" fn zmg_link_give(link: &mut LinkHandle, command: &CommandFields) -> MadeAnswer
     ensures { Calls (link_of link.old) (link_of link.new)
         (λ n k. (made : Built) × (result ≡ made_told made) × BuildsOf (Given (given_in command.now)) n k made)
         (result ≡ made_told Made.NotPlaying) }
 {
     match link.held() {
-        Some(held) => BuildAnswer::of(held.give(given(command))),
-        None => BuildAnswer::of(Made::NotPlaying),
+        Some(held) => MadeAnswer::of(held.give(given(command))),
+        None => MadeAnswer::of(Made::NotPlaying),
     }
 }
 
-/// Makes the command that is owed, where a run has made room for it. Answers as `zmg_link_build`, and 3 where none is
-/// owed.
+/// Makes the command that is owed, where a run has made room for it. Answers as `zmg_link_build`, and 3 where
+/// none is owed.
 #[unsafe(no_mangle)]
-pub extern "C" fn zmg_link_catch_up(link: &mut LinkHandle) -> BuildAnswer
+pub extern "C" fn zmg_link_catch_up(link: &mut LinkHandle) -> MadeAnswer
     ensures { Calls (link_of link.old) (link_of link.new)
         (λ n k. (made : Option Built) × (result ≡ owed_told made) × CatchesUp n k made)
         (result ≡ owed_told None) }
@@ -68,7 +69,8 @@ pub extern "C" fn zmg_link_catch_up(link: &mut LinkHandle) -> BuildAnswer
     }
 }
 
-/// For each tick, after the build: by how many 32nds of a tick the next comes later, or sooner where it is below 0.
+/// For each tick, after the build: by how many 32nds of a tick the next comes later, or sooner where it is
+/// below 0.
 #[unsafe(no_mangle)]
 pub extern "C" fn zmg_link_lean(link: &mut LinkHandle) -> i32
     ensures { Calls (link_of link.old) (link_of link.new) (λ n k. Leans n k result) (result ≡ pos 0) }
@@ -79,8 +81,8 @@ pub extern "C" fn zmg_link_lean(link: &mut LinkHandle) -> i32
     }
 }
 
-/// Gives up a peer who was not heard for too long. Before the game it may come again; in the game `zmg_link_may_leave`
-/// waits for it no more, until a datagram of its game comes.
+/// Gives up a peer who was not heard for too long. Before the game it may come again; in the game
+/// `zmg_link_may_leave` waits for it no more, until a datagram of its game comes.
 #[unsafe(no_mangle)]
 pub extern "C" fn zmg_link_forget(link: &mut LinkHandle, player: u8)
     ensures { Calls (link_of link.old) (link_of link.new) (Forgets player) ⊤ }
@@ -111,7 +113,8 @@ pub extern "C" fn zmg_link_datagram(link: &mut LinkHandle, to: u8, out: &mut [u8
     }
 }
 
-/// Takes in any bytes, wherever they come from. Where it tells that the game started, the caller begins its world.
+/// Takes in any bytes, wherever they come from. If it reports that the game started, the caller begins its
+/// world.
 #[unsafe(no_mangle)]
 pub extern "C" fn zmg_link_receive(link: &mut LinkHandle, bytes: &[u8]) -> ReceivedAnswer
     ensures { Calls (link_of link.old) (link_of link.new)
@@ -124,13 +127,13 @@ pub extern "C" fn zmg_link_receive(link: &mut LinkHandle, bytes: &[u8]) -> Recei
     }
 }
 
-/// As `zmg_node_run`.
+/// As `zmg_lockstep_run`.
 #[unsafe(no_mangle)]
 pub extern "C" fn zmg_link_run(
     link: &mut LinkHandle,
     marks: &[i16; 4],
     row: &mut [MoveAnswer; 4],
-) -> RunAnswer
+) -> RanAnswer
     ensures { Calls (link_of link.old) (link_of link.new)
         (Moves (λ n k. (ran : Answer) × (moves : Option (List (Option Step)))
         × (result ≡ ran_told ran) × (row.new ≡ row_told_over row.old moves)
@@ -141,13 +144,13 @@ pub extern "C" fn zmg_link_run(
         Some(held) => {
             let (ran, moves) = held.run(marks);
             tell_row(row, moves);
-            RunAnswer::of(ran)
+            RanAnswer::of(ran)
         }
-        None => RunAnswer::of(Ran::NotPlaying),
+        None => RanAnswer::of(Ran::NotPlaying),
     }
 }
 
-/// As `zmg_node_quit`.
+/// As `zmg_lockstep_quit`.
 #[unsafe(no_mangle)]
 pub extern "C" fn zmg_link_quit(link: &mut LinkHandle) -> u32
     ensures { Calls (link_of link.old) (link_of link.new)

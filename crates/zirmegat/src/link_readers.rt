@@ -1,4 +1,4 @@
-//! What a link tells of itself, as other nodes do. A handle that holds none tells 0.
+//! The calls that read a link. For a handle that holds none they return 0.
 
 ghost use Rattle.std.specs.Prelude.{◌≡◌, pos, Bool, Option, Some, None, nat_lt, if◌then◌else◌, length, map, take, drop};
 ghost use Rattle.dn_tic.specs.declared.command.TicCmd.{TicCmd as Cmd};
@@ -18,7 +18,7 @@ ghost use Rattle.dn_packet.specs.Written.{IsWritten};
 use crate::answers::{Number, PhaseAnswer, flag};
 use crate::bytes;
 use crate::commands::KnownCommand;
-use crate::config::SettingsAnswer;
+use crate::config::KnownSettings;
 use crate::link_answers::{LineAnswer, PresenceAnswer};
 use crate::link_handle::LinkHandle;
 use dn_link::Presence;
@@ -108,13 +108,13 @@ pub extern "C" fn zmg_link_end(link: &mut LinkHandle, player: u8) -> Number
 
 /// The choice of game, from the start on; player 0 knows it from the beginning.
 #[unsafe(no_mangle)]
-pub extern "C" fn zmg_link_settings(link: &mut LinkHandle) -> SettingsAnswer
+pub extern "C" fn zmg_link_settings(link: &mut LinkHandle) -> KnownSettings
     ensures { Reads (link_of link.old) (link_of link.new)
         (λ n. result ≡ settings_told n.link.node.settings) (result ≡ settings_told None) }
 {
     match link.held() {
-        Some(held) => SettingsAnswer::of(held.lockstep().settings()),
-        None => SettingsAnswer::of(None),
+        Some(held) => KnownSettings::of(held.lockstep().settings()),
+        None => KnownSettings::of(None),
     }
 }
 
@@ -142,7 +142,7 @@ pub extern "C" fn zmg_link_demo(link: &mut LinkHandle, from: usize, out: &mut [u
     }
 }
 
-/// As `zmg_node_can_build`.
+/// As `zmg_lockstep_can_build`.
 #[unsafe(no_mangle)]
 pub extern "C" fn zmg_link_can_build(link: &mut LinkHandle) -> u32
     ensures { Reads (link_of link.old) (link_of link.new)
@@ -154,7 +154,7 @@ pub extern "C" fn zmg_link_can_build(link: &mut LinkHandle) -> u32
     }
 }
 
-/// As `zmg_node_command`.
+/// As `zmg_lockstep_command`.
 #[unsafe(no_mangle)]
 pub extern "C" fn zmg_link_command(link: &mut LinkHandle, player: u8, tic: u32) -> KnownCommand
     ensures { Reads (link_of link.old) (link_of link.new)
@@ -179,8 +179,8 @@ pub extern "C" fn zmg_link_may_leave(link: &mut LinkHandle) -> u32
     }
 }
 
-/// 1 where a peer tells that datagrams of this player are missing, and one more half of a tick later makes good for those
-/// that will be; else 0.
+/// 1 if a peer reports that datagrams of this player are missing, so that one more, half a tick later, makes up
+/// for those that will be; else 0.
 #[unsafe(no_mangle)]
 pub extern "C" fn zmg_link_wants_second(link: &mut LinkHandle, player: u8) -> u32
     ensures { Reads (link_of link.old) (link_of link.new)

@@ -13,7 +13,7 @@ ghost use Rattle.zirmegat.specs.Links.{OpensLink, link_of};
 
 use crate::config::{NodeConfig, fault_code, settings_code};
 use crate::link_handle::LinkHandle;
-use crate::sealed_nodes::is_unset;
+use crate::sealed_locksteps::is_unset;
 use dn_link::Link;
 use dn_lockstep::{Config, NodeFault};
 use dn_seal::Seal;
@@ -73,8 +73,8 @@ fn open(
     }
 }
 
-/// Makes a link in the handle, in a window of `ahead` commands, of the game that has this number and whose players
-/// share this secret and what the host adds to its identity. Answers as `zmg_sealed_node_new`.
+/// Makes a link in the handle, in a window of `ahead` commands, of the game that has this number and whose
+/// players share this secret and what the host adds to its identity. Answers as `zmg_sealed_lockstep_new`.
 #[unsafe(no_mangle)]
 pub extern "C" fn zmg_link_new(
     alloc: Global,

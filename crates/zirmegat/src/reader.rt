@@ -28,7 +28,7 @@ pub(crate) enum DemoReader {
 }
 
 impl DemoReader {
-    /// Takes a piece, or answers why it takes none.
+    /// Takes a piece, or returns why it takes none.
     pub(crate) fn push(&mut self, piece: &[u8]) -> u32
         ensures { IsPushed piece.now (reading_of self.old) (reading_of self.new) result }
     {
@@ -41,7 +41,7 @@ impl DemoReader {
         }
     }
 
-    /// Reads the bytes as a demo; or answers why they are no demo, and then drops them.
+    /// Reads the bytes as a demo; or returns why they are not one, and then drops them.
     pub(crate) fn read(&mut self, alloc: Global) -> u32
         ensures reads { IsReadOut (reading_of self.old) (reading_of self.new) result }
         ensures no_memory { result ≢ 5 }
@@ -62,7 +62,7 @@ impl DemoReader {
         }
     }
 
-    /// What the demo tells beside its rows.
+    /// What the demo has beside its rows.
     pub(crate) fn told(&self) -> DemoAnswer
         ensures { result ≡ reading_told (reading_of self.now) }
     {

@@ -1,21 +1,21 @@
-//! What a node tells of itself. A handle that holds none tells 0.
+//! The calls that read a lockstep. For a handle that holds none they return 0.
 
 ghost use Rattle.std.specs.Prelude.{◌≡◌, pos, Some, None, nat_lt, if◌then◌else◌, length, take, drop};
 ghost use Rattle.dn_lockstep.specs.Contents.{end_in};
 ghost use Rattle.dn_lockstep.specs.Rings.{count_of};
-ghost use Rattle.zirmegat.specs.Calls.{node_of, Reads};
+ghost use Rattle.zirmegat.specs.Calls.{lockstep_of, Reads};
 ghost use Rattle.zirmegat.specs.Answers.{phase_told, phase_at, number_told, settings_told};
 ghost use Rattle.dn_packet.specs.Written.{IsWritten};
 
 use crate::answers::{Number, PhaseAnswer};
 use crate::bytes;
-use crate::config::SettingsAnswer;
-use crate::handle::NodeHandle;
+use crate::config::KnownSettings;
+use crate::handle::LockstepHandle;
 
 /// The number of its player.
 #[unsafe(no_mangle)]
-pub extern "C" fn zmg_node_me(node: &mut NodeHandle) -> u32
-    ensures { Reads (node_of node.old) (node_of node.new) (λ n. result ≡ n.me) (result ≡ 0) }
+pub extern "C" fn zmg_lockstep_me(node: &mut LockstepHandle) -> u32
+    ensures { Reads (lockstep_of node.old) (lockstep_of node.new) (λ n. result ≡ n.me) (result ≡ 0) }
 {
     match node.held() {
         Some(held) => u32::from(held.me()),
@@ -25,8 +25,8 @@ pub extern "C" fn zmg_node_me(node: &mut NodeHandle) -> u32
 
 /// How many players the game has.
 #[unsafe(no_mangle)]
-pub extern "C" fn zmg_node_players(node: &mut NodeHandle) -> u32
-    ensures { Reads (node_of node.old) (node_of node.new) (λ n. result ≡ n.players) (result ≡ 0) }
+pub extern "C" fn zmg_lockstep_players(node: &mut LockstepHandle) -> u32
+    ensures { Reads (lockstep_of node.old) (lockstep_of node.new) (λ n. result ≡ n.players) (result ≡ 0) }
 {
     match node.held() {
         Some(held) => u32::from(held.players()),
@@ -36,8 +36,8 @@ pub extern "C" fn zmg_node_players(node: &mut NodeHandle) -> u32
 
 /// Where it stands.
 #[unsafe(no_mangle)]
-pub extern "C" fn zmg_node_phase(node: &mut NodeHandle) -> PhaseAnswer
-    ensures { Reads (node_of node.old) (node_of node.new)
+pub extern "C" fn zmg_lockstep_phase(node: &mut LockstepHandle) -> PhaseAnswer
+    ensures { Reads (lockstep_of node.old) (lockstep_of node.new)
         (λ n. result ≡ phase_told n.phase) (result ≡ phase_at 0 0 (pos 0) (pos 0) 0) }
 {
     match node.held() {
@@ -48,8 +48,9 @@ pub extern "C" fn zmg_node_phase(node: &mut NodeHandle) -> PhaseAnswer
 
 /// How many commands it built.
 #[unsafe(no_mangle)]
-pub extern "C" fn zmg_node_made(node: &mut NodeHandle) -> u32
-    ensures { Reads (node_of node.old) (node_of node.new) (λ n. result ≡ count_of n.rings n.me) (result ≡ 0) }
+pub extern "C" fn zmg_lockstep_made(node: &mut LockstepHandle) -> u32
+    ensures { Reads (lockstep_of node.old) (lockstep_of node.new)
+        (λ n. result ≡ count_of n.rings n.me) (result ≡ 0) }
 {
     match node.held() {
         Some(held) => held.made(),
@@ -59,8 +60,8 @@ pub extern "C" fn zmg_node_made(node: &mut NodeHandle) -> u32
 
 /// How many tics it ran.
 #[unsafe(no_mangle)]
-pub extern "C" fn zmg_node_ran(node: &mut NodeHandle) -> u32
-    ensures { Reads (node_of node.old) (node_of node.new) (λ n. result ≡ n.ran) (result ≡ 0) }
+pub extern "C" fn zmg_lockstep_ran(node: &mut LockstepHandle) -> u32
+    ensures { Reads (lockstep_of node.old) (lockstep_of node.new) (λ n. result ≡ n.ran) (result ≡ 0) }
 {
     match node.held() {
         Some(held) => held.ran(),
@@ -70,8 +71,8 @@ pub extern "C" fn zmg_node_ran(node: &mut NodeHandle) -> u32
 
 /// How many commands it has of a player, where the game has the player.
 #[unsafe(no_mangle)]
-pub extern "C" fn zmg_node_got(node: &mut NodeHandle, player: u8) -> Number
-    ensures { Reads (node_of node.old) (node_of node.new)
+pub extern "C" fn zmg_lockstep_got(node: &mut LockstepHandle, player: u8) -> Number
+    ensures { Reads (lockstep_of node.old) (lockstep_of node.new)
         (λ n. result ≡ number_told (if nat_lt player n.players then Some (count_of n.rings player) else None))
         (result ≡ number_told None) }
 {
@@ -84,8 +85,8 @@ pub extern "C" fn zmg_node_got(node: &mut NodeHandle, player: u8) -> Number
 /// The tic after a player's last command, where the node knows it. From that tic on no tic has a move of the
 /// player.
 #[unsafe(no_mangle)]
-pub extern "C" fn zmg_node_end(node: &mut NodeHandle, player: u8) -> Number
-    ensures { Reads (node_of node.old) (node_of node.new)
+pub extern "C" fn zmg_lockstep_end(node: &mut LockstepHandle, player: u8) -> Number
+    ensures { Reads (lockstep_of node.old) (lockstep_of node.new)
         (λ n. result ≡ number_told (if nat_lt player n.players then end_in n player else None))
         (result ≡ number_told None) }
 {
@@ -97,20 +98,21 @@ pub extern "C" fn zmg_node_end(node: &mut NodeHandle, player: u8) -> Number
 
 /// The choice of game, from the start on; player 0 knows it from the beginning.
 #[unsafe(no_mangle)]
-pub extern "C" fn zmg_node_settings(node: &mut NodeHandle) -> SettingsAnswer
-    ensures { Reads (node_of node.old) (node_of node.new)
+pub extern "C" fn zmg_lockstep_settings(node: &mut LockstepHandle) -> KnownSettings
+    ensures { Reads (lockstep_of node.old) (lockstep_of node.new)
         (λ n. result ≡ settings_told n.settings) (result ≡ settings_told None) }
 {
     match node.held() {
-        Some(held) => SettingsAnswer::of(held.settings()),
-        None => SettingsAnswer::of(None),
+        Some(held) => KnownSettings::of(held.settings()),
+        None => KnownSettings::of(None),
     }
 }
 
 /// How many bytes its demo has so far.
 #[unsafe(no_mangle)]
-pub extern "C" fn zmg_node_demo_length(node: &mut NodeHandle) -> usize
-    ensures { Reads (node_of node.old) (node_of node.new) (λ n. result ≡ length n.demo.bytes) (result ≡ 0) }
+pub extern "C" fn zmg_lockstep_demo_length(node: &mut LockstepHandle) -> usize
+    ensures { Reads (lockstep_of node.old) (lockstep_of node.new)
+        (λ n. result ≡ length n.demo.bytes) (result ≡ 0) }
 {
     match node.held() {
         Some(held) => held.demo().len(),
@@ -120,8 +122,8 @@ pub extern "C" fn zmg_node_demo_length(node: &mut NodeHandle) -> usize
 
 /// Copies its demo so far from this byte on, as many bytes as there is room for, and answers how many.
 #[unsafe(no_mangle)]
-pub extern "C" fn zmg_node_demo(node: &mut NodeHandle, from: usize, out: &mut [u8]) -> usize
-    ensures { Reads (node_of node.old) (node_of node.new)
+pub extern "C" fn zmg_lockstep_demo(node: &mut LockstepHandle, from: usize, out: &mut [u8]) -> usize
+    ensures { Reads (lockstep_of node.old) (lockstep_of node.new)
         (λ n. IsWritten (take (length out.old) (drop from n.demo.bytes)) out.old out.new result)
         ((result ≡ 0) × (out.new ≡ out.old)) }
 {

@@ -1,4 +1,4 @@
-//! The calls that move the game of a sealed node on.
+//! The calls that move the game of a sealed lockstep on.
 
 ghost use Rattle.std.specs.Prelude.{◌≡◌, ◌<◌, ◌≤◌, ◌%◌, ◌^◌, Bool, List, length, Option};
 ghost use Rattle.dn_tic.specs.declared.command.Move.{Move as Step};
@@ -17,7 +17,7 @@ ghost use Rattle.zirmegat.specs.Commands.{given_in};
 ghost use Rattle.zirmegat.specs.Going.{Builds, Runs, Quits};
 ghost use Rattle.zirmegat.specs.Sealed.{sealed_of, Keeps, SendsOut, HearsOpen, arrived_told};
 
-use crate::answers::{BuildAnswer, HeardAnswer, MoveAnswer, RunAnswer, flag};
+use crate::answers::{HeardAnswer, MadeAnswer, MoveAnswer, RanAnswer, flag};
 use crate::bytes;
 use crate::calls::{NOT_PLAYING, tell_run};
 use crate::commands::given;
@@ -27,41 +27,45 @@ use dn_lockstep::{Heard, Made, Ran};
 use dn_seal::MAX_ENVELOPE;
 use dn_tic::Keys;
 
-/// As `zmg_node_build`.
+/// As `zmg_lockstep_build`.
 #[unsafe(no_mangle)]
-pub extern "C" fn zmg_sealed_node_build(node: &mut SealedHandle, keys: u32) -> BuildAnswer
+pub extern "C" fn zmg_sealed_lockstep_build(node: &mut SealedHandle, keys: u32) -> MadeAnswer
     ensures { Calls (sealed_of node.old) (sealed_of node.new)
         (Keeps (λ n k. (made : Built) × (result ≡ made_told made)
         × Builds (Pressed (keys % 2 ^ 18)) n k made))
         (result ≡ made_told Made.NotPlaying) }
 {
     match node.held() {
-        Some(held) => BuildAnswer::of(held.build(Keys::from_bits(keys))),
-        None => BuildAnswer::of(Made::NotPlaying),
+        Some(held) => MadeAnswer::of(held.build(Keys::from_bits(keys))),
+        None => MadeAnswer::of(Made::NotPlaying),
     }
 }
 
-/// As `zmg_node_give`.
+/// As `zmg_lockstep_give`.
 #[unsafe(no_mangle)]
-pub extern "C" fn zmg_sealed_node_give(
+pub extern "C" fn zmg_sealed_lockstep_give(
     node: &mut SealedHandle,
     command: &CommandFields,
-) -> BuildAnswer
+) -> MadeAnswer
     ensures { Calls (sealed_of node.old) (sealed_of node.new)
         (Keeps (λ n k. (made : Built) × (result ≡ made_told made)
         × Builds (Given (given_in command.now)) n k made))
         (result ≡ made_told Made.NotPlaying) }
 {
     match node.held() {
-        Some(held) => BuildAnswer::of(held.give(given(command))),
-        None => BuildAnswer::of(Made::NotPlaying),
+        Some(held) => MadeAnswer::of(held.give(given(command))),
+        None => MadeAnswer::of(Made::NotPlaying),
     }
 }
 
 /// Writes the next packet to a player in its envelope, and answers how many bytes it has, and 0 where there is
 /// none. Where the room is below 141 bytes, it answers 0, and the node stays as it is.
 #[unsafe(no_mangle)]
-pub extern "C" fn zmg_sealed_node_packet(node: &mut SealedHandle, to: u8, out: &mut [u8]) -> usize
+pub extern "C" fn zmg_sealed_lockstep_packet(
+    node: &mut SealedHandle,
+    to: u8,
+    out: &mut [u8],
+) -> usize
     ensures given { 141 ≤ length out.old → Calls (sealed_of node.old) (sealed_of node.new)
         (λ n k. SendsOut to out.old out.new result n k)
         ((result ≡ 0) × (out.new ≡ out.old)) }
@@ -79,9 +83,9 @@ pub extern "C" fn zmg_sealed_node_packet(node: &mut SealedHandle, to: u8, out: &
     }
 }
 
-/// Hears any bytes, wherever they come from. Where it answers 0, the caller begins its world.
+/// Receives any bytes, wherever they come from. If the code is 0, the caller begins its world.
 #[unsafe(no_mangle)]
-pub extern "C" fn zmg_sealed_node_receive(node: &mut SealedHandle, bytes: &[u8]) -> HeardAnswer
+pub extern "C" fn zmg_sealed_lockstep_receive(node: &mut SealedHandle, bytes: &[u8]) -> HeardAnswer
     ensures { Calls (sealed_of node.old) (sealed_of node.new)
         (λ n k. (arrived : Arrival) × (result ≡ arrived_told arrived) × HearsOpen bytes.now n k arrived)
         (result ≡ heard_told (Heard.Dropped 13)) }
@@ -92,13 +96,13 @@ pub extern "C" fn zmg_sealed_node_receive(node: &mut SealedHandle, bytes: &[u8])
     }
 }
 
-/// As `zmg_node_run`.
+/// As `zmg_lockstep_run`.
 #[unsafe(no_mangle)]
-pub extern "C" fn zmg_sealed_node_run(
+pub extern "C" fn zmg_sealed_lockstep_run(
     node: &mut SealedHandle,
     marks: &[i16; 4],
     row: &mut [MoveAnswer; 4],
-) -> RunAnswer
+) -> RanAnswer
     ensures { Calls (sealed_of node.old) (sealed_of node.new)
         (Keeps (λ n k. (ran : Answer) × (moves : List (Option Step))
         × (result ≡ ran_told ran) × (row.new ≡ row_told_over row.old (told_by ran moves))
@@ -110,15 +114,15 @@ pub extern "C" fn zmg_sealed_node_run(
             let mut moves = [None; 4];
             let ran = held.run_into(marks, &mut moves);
             tell_run(row, ran, &moves);
-            RunAnswer::of(ran)
+            RanAnswer::of(ran)
         }
-        None => RunAnswer::of(Ran::NotPlaying),
+        None => RanAnswer::of(Ran::NotPlaying),
     }
 }
 
-/// As `zmg_node_quit`.
+/// As `zmg_lockstep_quit`.
 #[unsafe(no_mangle)]
-pub extern "C" fn zmg_sealed_node_quit(node: &mut SealedHandle) -> u32
+pub extern "C" fn zmg_sealed_lockstep_quit(node: &mut SealedHandle) -> u32
     ensures { Calls (sealed_of node.old) (sealed_of node.new)
         (Keeps (λ n k. (quit : Bool) × (result ≡ bit quit) × Quits n k quit))
         (result ≡ 0) }

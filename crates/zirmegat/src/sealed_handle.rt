@@ -1,4 +1,4 @@
-//! A sealed node behind a pointer.
+//! A sealed lockstep behind a pointer.
 
 ghost use Rattle.std.specs.Prelude.{◌≡◌, true, false, Some, None, Option, IfSome};
 ghost use Rattle.std.specs.Borrow.{sem};
@@ -13,7 +13,7 @@ use std::alloc::Global;
 use std::marker::Model;
 use std::mem;
 
-/// A node of a game and its seal, or none. C keeps it, and never reads its fields.
+/// A sealed lockstep, or none. C keeps it, and never reads its fields.
 #[repr(C)]
 #[derive(Drop)]
 pub struct SealedHandle {
@@ -65,21 +65,21 @@ impl SealedHandle {
         }
     }
 
-    /// Whether it holds a node.
+    /// Whether it holds one.
     fn is_live(&mut self) -> bool
         ensures { (result ≡ self.old.live) × (self.new ≡ self.old) }
     {
         self.live
     }
 
-    /// The handle of this node.
+    /// The handle of this lockstep.
     pub(crate) fn of(node: Box<SealedLockstep>) -> SealedHandle
         ensures { sealed_of result ≡ Some (locked_of node.value) }
     {
         SealedHandle::of_loose(Loose::of(node))
     }
 
-    /// Lends the node of a handle that holds one.
+    /// Lends the lockstep of a handle that holds one.
     fn lend(&mut self) -> &mut SealedLockstep
         requires { self.old.live ≡ true }
         ensures* writes_back { sem 𝓛 (lends_sealed self.entry result) }
@@ -89,7 +89,7 @@ impl SealedHandle {
         unsafe { &mut *(self.at as *mut SealedLockstep) }
     }
 
-    /// Lends the node, if there is one.
+    /// Lends the lockstep, if there is one.
     pub(crate) fn held(&mut self) -> Option<&mut SealedLockstep>
         ensures* writes_back { sem 𝓛 (lends_held_sealed self.entry result) }
         ensures value { sealed_of self.old ≡ option_map (λ node. locked_of node.now) result }
@@ -102,7 +102,7 @@ impl SealedHandle {
         }
     }
 
-    /// Takes the node out, and leaves none.
+    /// Takes the lockstep out, and leaves none.
     pub(crate) fn take(&mut self, alloc: Global) -> Option<Box<SealedLockstep>>
         ensures taken { sealed_of self.old ≡ option_map (λ node. locked_of node.value) result }
         ensures left { sealed_of self.new ≡ None }

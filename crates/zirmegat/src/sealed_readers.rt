@@ -1,4 +1,4 @@
-//! What a sealed node tells of itself, as other nodes do. A handle that holds none tells 0.
+//! The calls that read a sealed lockstep. For a handle that holds none they return 0.
 
 ghost use Rattle.std.specs.Prelude.{◌≡◌, pos, Bool, Option, Some, None, nat_lt, if◌then◌else◌, length, map, take, drop};
 ghost use Rattle.dn_tic.specs.declared.command.TicCmd.{TicCmd as Cmd};
@@ -14,12 +14,12 @@ ghost use Rattle.dn_packet.specs.Written.{IsWritten};
 use crate::answers::{Number, PhaseAnswer, flag};
 use crate::bytes;
 use crate::commands::KnownCommand;
-use crate::config::SettingsAnswer;
+use crate::config::KnownSettings;
 use crate::sealed_handle::SealedHandle;
 
 /// The number of its player.
 #[unsafe(no_mangle)]
-pub extern "C" fn zmg_sealed_node_me(node: &mut SealedHandle) -> u32
+pub extern "C" fn zmg_sealed_lockstep_me(node: &mut SealedHandle) -> u32
     ensures { Reads (sealed_of node.old) (sealed_of node.new) (λ n. result ≡ n.lockstep.me) (result ≡ 0) }
 {
     match node.held() {
@@ -30,7 +30,7 @@ pub extern "C" fn zmg_sealed_node_me(node: &mut SealedHandle) -> u32
 
 /// How many players the game has.
 #[unsafe(no_mangle)]
-pub extern "C" fn zmg_sealed_node_players(node: &mut SealedHandle) -> u32
+pub extern "C" fn zmg_sealed_lockstep_players(node: &mut SealedHandle) -> u32
     ensures { Reads (sealed_of node.old) (sealed_of node.new) (λ n. result ≡ n.lockstep.players) (result ≡ 0) }
 {
     match node.held() {
@@ -41,7 +41,7 @@ pub extern "C" fn zmg_sealed_node_players(node: &mut SealedHandle) -> u32
 
 /// Where it stands.
 #[unsafe(no_mangle)]
-pub extern "C" fn zmg_sealed_node_phase(node: &mut SealedHandle) -> PhaseAnswer
+pub extern "C" fn zmg_sealed_lockstep_phase(node: &mut SealedHandle) -> PhaseAnswer
     ensures { Reads (sealed_of node.old) (sealed_of node.new)
         (λ n. result ≡ phase_told n.lockstep.phase) (result ≡ phase_at 0 0 (pos 0) (pos 0) 0) }
 {
@@ -53,7 +53,7 @@ pub extern "C" fn zmg_sealed_node_phase(node: &mut SealedHandle) -> PhaseAnswer
 
 /// How many commands it built.
 #[unsafe(no_mangle)]
-pub extern "C" fn zmg_sealed_node_made(node: &mut SealedHandle) -> u32
+pub extern "C" fn zmg_sealed_lockstep_made(node: &mut SealedHandle) -> u32
     ensures { Reads (sealed_of node.old) (sealed_of node.new) (λ n. result ≡ count_of n.lockstep.rings n.lockstep.me) (result ≡ 0) }
 {
     match node.held() {
@@ -64,7 +64,7 @@ pub extern "C" fn zmg_sealed_node_made(node: &mut SealedHandle) -> u32
 
 /// How many tics it ran.
 #[unsafe(no_mangle)]
-pub extern "C" fn zmg_sealed_node_ran(node: &mut SealedHandle) -> u32
+pub extern "C" fn zmg_sealed_lockstep_ran(node: &mut SealedHandle) -> u32
     ensures { Reads (sealed_of node.old) (sealed_of node.new) (λ n. result ≡ n.lockstep.ran) (result ≡ 0) }
 {
     match node.held() {
@@ -75,7 +75,7 @@ pub extern "C" fn zmg_sealed_node_ran(node: &mut SealedHandle) -> u32
 
 /// How many commands it has of a player, where the game has the player.
 #[unsafe(no_mangle)]
-pub extern "C" fn zmg_sealed_node_got(node: &mut SealedHandle, player: u8) -> Number
+pub extern "C" fn zmg_sealed_lockstep_got(node: &mut SealedHandle, player: u8) -> Number
     ensures { Reads (sealed_of node.old) (sealed_of node.new)
         (λ n. result ≡ number_told (if nat_lt player n.lockstep.players then Some (count_of n.lockstep.rings player) else None))
         (result ≡ number_told None) }
@@ -89,7 +89,7 @@ pub extern "C" fn zmg_sealed_node_got(node: &mut SealedHandle, player: u8) -> Nu
 /// The tic after a player's last command, where the node knows it. From that tic on no tic has a move of the
 /// player.
 #[unsafe(no_mangle)]
-pub extern "C" fn zmg_sealed_node_end(node: &mut SealedHandle, player: u8) -> Number
+pub extern "C" fn zmg_sealed_lockstep_end(node: &mut SealedHandle, player: u8) -> Number
     ensures { Reads (sealed_of node.old) (sealed_of node.new)
         (λ n. result ≡ number_told (if nat_lt player n.lockstep.players then end_in n.lockstep player else None))
         (result ≡ number_told None) }
@@ -102,19 +102,19 @@ pub extern "C" fn zmg_sealed_node_end(node: &mut SealedHandle, player: u8) -> Nu
 
 /// The choice of game, from the start on; player 0 knows it from the beginning.
 #[unsafe(no_mangle)]
-pub extern "C" fn zmg_sealed_node_settings(node: &mut SealedHandle) -> SettingsAnswer
+pub extern "C" fn zmg_sealed_lockstep_settings(node: &mut SealedHandle) -> KnownSettings
     ensures { Reads (sealed_of node.old) (sealed_of node.new)
         (λ n. result ≡ settings_told n.lockstep.settings) (result ≡ settings_told None) }
 {
     match node.held() {
-        Some(held) => SettingsAnswer::of(held.lockstep().settings()),
-        None => SettingsAnswer::of(None),
+        Some(held) => KnownSettings::of(held.lockstep().settings()),
+        None => KnownSettings::of(None),
     }
 }
 
 /// How many bytes its demo has so far.
 #[unsafe(no_mangle)]
-pub extern "C" fn zmg_sealed_node_demo_length(node: &mut SealedHandle) -> usize
+pub extern "C" fn zmg_sealed_lockstep_demo_length(node: &mut SealedHandle) -> usize
     ensures { Reads (sealed_of node.old) (sealed_of node.new) (λ n. result ≡ length n.lockstep.demo.bytes) (result ≡ 0) }
 {
     match node.held() {
@@ -125,7 +125,7 @@ pub extern "C" fn zmg_sealed_node_demo_length(node: &mut SealedHandle) -> usize
 
 /// Copies its demo so far from this byte on, as many bytes as there is room for, and answers how many.
 #[unsafe(no_mangle)]
-pub extern "C" fn zmg_sealed_node_demo(
+pub extern "C" fn zmg_sealed_lockstep_demo(
     node: &mut SealedHandle,
     from: usize,
     out: &mut [u8],
@@ -140,9 +140,9 @@ pub extern "C" fn zmg_sealed_node_demo(
     }
 }
 
-/// As `zmg_node_can_build`.
+/// As `zmg_lockstep_can_build`.
 #[unsafe(no_mangle)]
-pub extern "C" fn zmg_sealed_node_can_build(node: &mut SealedHandle) -> u32
+pub extern "C" fn zmg_sealed_lockstep_can_build(node: &mut SealedHandle) -> u32
     ensures { Reads (sealed_of node.old) (sealed_of node.new)
         (λ n. (can : Bool) × (result ≡ bit can) × CanBuild n.lockstep can) (result ≡ 0) }
 {
@@ -152,9 +152,9 @@ pub extern "C" fn zmg_sealed_node_can_build(node: &mut SealedHandle) -> u32
     }
 }
 
-/// As `zmg_node_command`.
+/// As `zmg_lockstep_command`.
 #[unsafe(no_mangle)]
-pub extern "C" fn zmg_sealed_node_command(
+pub extern "C" fn zmg_sealed_lockstep_command(
     node: &mut SealedHandle,
     player: u8,
     tic: u32,

@@ -218,7 +218,7 @@ void ZMG_PeersHear(void)
         }
         if (strange) zmg_strange_keys++;
         r = zmg_link_receive(&zmg_the_link, bytes, n);
-        if (r.code == ZMG_RECEIVED_HEARD || r.code == ZMG_RECEIVED_DIFFERENT) follow(r.player, &from);
+        if (r.code == ZMG_LINK_RECEIVE_HEARD || r.code == ZMG_LINK_RECEIVE_DIFFERENT) follow(r.player, &from);
         if (r.started)
         {
             zmg_has_begun = true;

@@ -73,7 +73,7 @@ static void give(void)
         }
         owed = from_engine(&cmd);
     }
-    owes = zmg_link_give(&zmg_the_link, &owed).code == ZMG_BUILD_AHEAD;
+    owes = zmg_link_give(&zmg_the_link, &owed).code == ZMG_BUILD_FULL;
     ticks++;
     refused += owes;
 }

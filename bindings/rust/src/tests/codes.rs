@@ -32,7 +32,7 @@ fn phase_of(code: u32, cause: u32) -> Phase {
 #[test]
 fn codes_of_calls_have_their_names() {
     assert_eq!(values::made(coded(0, 7)), Made::Made(7));
-    assert_eq!(values::made(coded(1, 0)), Made::Ahead);
+    assert_eq!(values::made(coded(1, 0)), Made::Full);
     assert_eq!(values::made(coded(2, 0)), Made::NotPlaying);
     let heard = [
         Heard::Started,
@@ -82,10 +82,10 @@ fn codes_of_drops_have_their_names() {
         Dropped::Stranger,
         Dropped::OutOfPlace,
         Dropped::Version,
-        Dropped::Settings,
+        Dropped::Range,
         Dropped::Kill,
-        Dropped::Before,
-        Dropped::Stop,
+        Dropped::Tic,
+        Dropped::Command,
         Dropped::Overrun,
         Dropped::NotPlaying,
         Dropped::End,
@@ -102,14 +102,14 @@ fn codes_of_drops_have_their_names() {
 #[test]
 fn codes_of_arrivals_have_their_names() {
     let unopened = [
-        Unopened::Short,
-        Unopened::Long,
-        Unopened::Suite,
-        Unopened::Kind,
-        Unopened::Game,
-        Unopened::Receiver,
-        Unopened::Tag,
-        Unopened::Request,
+        SealError::Short,
+        SealError::Long,
+        SealError::Suite,
+        SealError::Kind,
+        SealError::Game,
+        SealError::Receiver,
+        SealError::Tag,
+        SealError::Request,
     ];
     for (number, unopened) in (1..).zip(unopened) {
         assert_eq!(
@@ -118,7 +118,7 @@ fn codes_of_arrivals_have_their_names() {
         );
     }
     for number in [0, 9].into_iter().chain(STRANGE) {
-        let unopened = Arrived::Unopened(Unopened::Unknown(number));
+        let unopened = Arrived::Unopened(SealError::Unknown(number));
         assert_eq!(values::arrived(coded(7, number)), unopened);
     }
     assert_eq!(values::arrived(coded(8, 0)), Arrived::Late);
@@ -167,9 +167,9 @@ fn codes_of_errors_have_their_names() {
         NodeError::Secret,
         NodeError::Unknown(12),
     ];
-    assert_eq!(node::opened(0), Ok(()));
+    assert_eq!(lockstep::opened(0), Ok(()));
     for (code, error) in (1..).zip(node) {
-        assert_eq!(node::opened(code), Err(error));
+        assert_eq!(lockstep::opened(code), Err(error));
     }
     let packet = [
         PacketError::Short,
@@ -204,7 +204,7 @@ fn codes_of_errors_have_their_names() {
         assert_eq!(demo::upgraded(code), Err(UpgradeError::Unknown(code)));
     }
     for code in STRANGE {
-        assert_eq!(node::opened(code), Err(NodeError::Unknown(code)));
+        assert_eq!(lockstep::opened(code), Err(NodeError::Unknown(code)));
         assert_eq!(packet::decoded(code), Err(PacketError::Unknown(code)));
     }
 }

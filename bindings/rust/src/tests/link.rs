@@ -80,9 +80,12 @@ fn other_bytes_are_not_taken_in() {
     }
     assert_eq!(
         other.receive(&datagram[..59]),
-        Received::Unopened(Unread::Short)
+        Received::Unopened(BundleError::Short)
     );
-    assert_eq!(key.receive(&datagram), Received::Unopened(Unread::Receiver));
+    assert_eq!(
+        key.receive(&datagram),
+        Received::Unopened(BundleError::Receiver)
+    );
     let mut third = link_of(Config::other(3, 2), &HOST);
     assert_eq!(
         other.receive(&third.datagram(1).unwrap()),
@@ -114,15 +117,15 @@ fn codes_of_links_have_their_names() {
     assert_eq!(of(0, 0), heard);
     assert_eq!(of(1, 0), Received::Stranger(3));
     let reasons = [
-        Unread::Short,
-        Unread::Long,
-        Unread::Suite,
-        Unread::Kind,
-        Unread::Game,
-        Unread::Receiver,
-        Unread::Tag,
-        Unread::Form,
-        Unread::Unknown(9),
+        BundleError::Short,
+        BundleError::Long,
+        BundleError::Suite,
+        BundleError::Kind,
+        BundleError::Game,
+        BundleError::Receiver,
+        BundleError::Tag,
+        BundleError::Form,
+        BundleError::Unknown(9),
     ];
     for (reason, unread) in (1..).zip(reasons) {
         assert_eq!(of(2, reason), Received::Unopened(unread));
@@ -316,8 +319,8 @@ fn a_build_without_room_is_owed() {
         assert_eq!(key.build(Keys::FORWARD), Made::Made(tic));
     }
     assert_eq!(key.catch_up(), None);
-    assert_eq!(key.build(Keys::BACK), Made::Ahead);
-    assert_eq!(key.catch_up(), Some(Made::Ahead));
+    assert_eq!(key.build(Keys::BACK), Made::Full);
+    assert_eq!(key.catch_up(), Some(Made::Full));
     other.build(Keys::default());
     passes(&mut other, &mut key);
     assert_eq!(key.run([0; 4]).0, Ran::Ran(0));
@@ -325,7 +328,7 @@ fn a_build_without_room_is_owed() {
     assert_eq!(key.catch_up(), None);
     assert!(key.command(0, 5).unwrap().forward < 0);
     assert!((-2..=34).contains(&key.lean()));
-    assert_eq!(key.build(Keys::BACK), Made::Ahead);
+    assert_eq!(key.build(Keys::BACK), Made::Full);
     assert!(key.quit());
     assert_eq!(key.catch_up(), Some(Made::NotPlaying));
     assert_eq!(key.catch_up(), None);
@@ -348,7 +351,7 @@ fn holes_ask_for_a_second_datagram() {
 /// A player of a link begins its world and steps it, and goes to another thread.
 #[test]
 fn players_of_links_agree() {
-    let of = |config| LinkPlayer::new(config, 1, &SECRET, &GAME, &HOST, Sum::default()).unwrap();
+    let of = |config| LinkNode::new(config, 1, &SECRET, &GAME, &HOST, Sum::default()).unwrap();
     let (mut key, mut other) = (of(Config::key(2, settings())), of(Config::other(2, 1)));
     key.receive(&other.datagram(0).unwrap());
     for round in 0..50 {
@@ -357,8 +360,8 @@ fn players_of_links_agree() {
         assert!(key.lean() == 0 && !key.wants_second(1));
         other.receive(&key.datagram(1).unwrap());
         key.receive(&other.datagram(0).unwrap());
-        key.run();
-        other.run();
+        key.run_all();
+        other.run_all();
         assert_eq!(key.catch_up(), None);
     }
     assert_eq!((key.ran(), other.ran()), (49, 49));

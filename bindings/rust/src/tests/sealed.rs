@@ -12,11 +12,11 @@ fn secret() -> Seal {
     }
 }
 
-fn pair(seal: Seal, ahead: u8) -> (SealedPlayer<Sum>, SealedPlayer<Sum>) {
+fn pair(seal: Seal, ahead: u8) -> (SealedNode<Sum>, SealedNode<Sum>) {
     let config = Config::key(2, settings());
-    let mut key = SealedPlayer::within(config, seal, Sum::default(), ahead).unwrap();
+    let mut key = SealedNode::within(config, seal, Sum::default(), ahead).unwrap();
     let config = Config::other(2, 1);
-    let mut other = SealedPlayer::within(config, seal, Sum::default(), ahead).unwrap();
+    let mut other = SealedNode::within(config, seal, Sum::default(), ahead).unwrap();
     let started = Arrived::Heard(Heard::Started);
     assert_eq!(other.receive(&key.packet(1).unwrap()), started);
     assert_eq!(key.receive(&other.packet(0).unwrap()), started);
@@ -24,7 +24,7 @@ fn pair(seal: Seal, ahead: u8) -> (SealedPlayer<Sum>, SealedPlayer<Sum>) {
 }
 
 /// Alters each bit of an envelope in turn, and cuts it at each place: none of them opens.
-fn damaged(player: &mut SealedPlayer<Sum>, envelope: &[u8]) {
+fn damaged(player: &mut SealedNode<Sum>, envelope: &[u8]) {
     for bit in 0..envelope.len() * 8 {
         let mut altered = envelope.to_vec();
         altered[bit / 8] ^= 1 << (bit % 8);
@@ -69,7 +69,7 @@ fn sealed_players_agree_whatever_comes() {
                 damaged(&mut other, &one);
                 damaged(&mut key, &two);
             }
-            assert_eq!(key.receive(&one), Arrived::Unopened(Unopened::Receiver));
+            assert_eq!(key.receive(&one), Arrived::Unopened(SealError::Receiver));
             for envelope in &old {
                 let player = if envelope[11] == 0 {
                     &mut key
@@ -81,13 +81,13 @@ fn sealed_players_agree_whatever_comes() {
             if round % 40 == 0 {
                 old.extend([one, two]);
             }
-            key.run();
-            other.run();
+            key.run_all();
+            other.run_all();
         }
         assert!(late > 0);
         assert!(key.quit());
         other.receive(&key.packet(1).unwrap());
-        other.run();
+        other.run_all();
         let tics = key.ran().min(other.ran()) as usize;
         assert_eq!(
             key.demo()[13..13 + tics * 10],
@@ -110,23 +110,23 @@ fn other_games_do_not_open() {
     };
     let open = Seal::Open { number: NUMBER };
     for (seal, why) in [
-        (other_secret, Unopened::Tag),
-        (other_number, Unopened::Game),
-        (open, Unopened::Suite),
+        (other_secret, SealError::Tag),
+        (other_number, SealError::Game),
+        (open, SealError::Suite),
     ] {
-        let mut key = SealedNode::new(Config::key(2, settings()), seal).unwrap();
-        let mut other = SealedNode::new(Config::other(2, 1), secret()).unwrap();
+        let mut key = SealedLockstep::new(Config::key(2, settings()), seal).unwrap();
+        let mut other = SealedLockstep::new(Config::other(2, 1), secret()).unwrap();
         assert_eq!(
             other.receive(&key.packet(1).unwrap()),
             Arrived::Unopened(why)
         );
         assert_eq!(other.phase(), Phase::Listening);
     }
-    let refused = SealedNode::within(Config::other(2, 1), open, WIDEST_AHEAD + 1);
+    let refused = SealedLockstep::within(Config::other(2, 1), open, WIDEST_AHEAD + 1);
     assert_eq!(refused.err(), Some(NodeError::Ahead));
     let mut unset = [0; 32];
     let of = |secret| {
-        SealedNode::within(
+        SealedLockstep::within(
             Config::other(2, 1),
             Seal::Secret {
                 secret,
