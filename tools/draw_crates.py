@@ -1,128 +1,134 @@
 #!/usr/bin/env -S python3 -B
 """Draws the map of crates: crates.txt on standard input, SVG on standard output.
 
-An arrow leads from a crate to one that uses it; the arrows that follow from others are left out. Programs and
-libraries, which no crate uses, have a thick rim, tests a dashed one."""
+Three bands are the three layers, from below. An arrow leads from a box to one whose crates use it; the arrows
+that follow from others are left out. A box that no other uses has a thick rim. Crates of tests are left out.
+Where a crate stands is said in PLACES; a crate that is not there is an error."""
 import sys
 from svg import INK, LETTER, PALE, Picture
 
-HEIGHT, RISE, APART, THIN, MARGIN = 22, 52, 16, 30, 12
+# The layers from below: name, what is in it, how many rows, color.
+LAYERS = [
+    ('bytes', ['what is sent', 'and kept'], 3, '#f1f4f9'),
+    ('machine', ['the game in', 'whole numbers,', 'and a node', 'that follows it'], 4, '#f6f1e6'),
+    ('promise', ['games agree:', 'for engines,', 'on networks,', 'in a program'], 4, '#ecf4ec'),
+]
+# The boxes: layer, its row in it from below, middle, and the lines of crates in the box.
+PLACES = [
+    ('bytes', 0, 160, [['dn_line']]),
+    ('bytes', 0, 260, [['dn_tic']]),
+    ('bytes', 0, 376, [['dn_packet']]),
+    ('bytes', 0, 490, [['dn_setup']]),
+    ('bytes', 0, 620, [['dn_seal']]),
+    ('bytes', 1, 490, [['dn_world']]),
+    ('bytes', 1, 675, [['dn_greeting']]),
+    ('bytes', 2, 220, [['dn_ring']]),
+    ('bytes', 2, 545, [['dn_demo']]),
+    ('machine', 0, 355, [['dn_remain'], ['dn_vanish']]),
+    ('machine', 0, 450, [['dn_machine']]),
+    ('machine', 2, 430, [['dn_lockstep']]),
+    ('machine', 3, 300, [['dn_node']]),
+    ('promise', 0, 180, [['dn_turn']]),
+    ('promise', 0, 510, [['dn_open']]),
+    ('promise', 1, 396, [['dn_script', 'dn_game']]),
+    ('promise', 1, 580, [['dn_link']]),
+    ('promise', 2, 550, [['zirmegat']]),
+    ('promise', 3, 290, [['dn_text', 'dn_netgame', 'dn_options'], ['dn_program', 'netgame']]),
+    ('promise', 3, 665, [['dn_host']]),
+]
+WIDTH, RISE, LINE, MARGIN = 740, 48, 17, 10
 
 
 def read(lines):
-    """The crates that each crate uses, without those that another one of them uses."""
-    named = [(words.split()[0], uses.split()) for words, _, uses in (line.partition(':') for line in lines)]
-    uses = {name: [used for used in all_used if used in dict(named)] for name, all_used in named}
-    below = {}
-
-    def all_below(name):
-        if name not in below:
-            below[name] = set(uses[name]).union(*map(all_below, uses[name]))
-        return below[name]
-    return {name: [used for used in direct if not any(used in all_below(other) for other in direct)]
-        for name, direct in uses.items()}
+    """The crates that each crate uses, without those of tests."""
+    words = [line.replace(':', ' : ').split() for line in lines]
+    uses = {line[0]: line[line.index(':') + 1:] for line in words if not line[0].endswith('_tests')}
+    return {name: [used for used in all_used if used in uses] for name, all_used in uses.items()}
 
 
-class Map:
-    def __init__(self, uses):
-        self.uses = uses
-        self.users = {name: [user for user in uses if name in uses[user]] for name in uses}
-        self.ranks = {}
-        for name in uses:
-            self.lift(name)
-        # A crate stands right below the lowest that uses it.
-        for name in sorted(uses, key=lambda name: -self.ranks[name]):
-            above = [self.ranks[user] - 1 for user in self.users[name]]
-            self.ranks[name] = min(above, default=self.ranks[name])
-        self.rows = [[] for _ in range(1 + max(self.ranks.values()))]
-        self.near = {}
-        for name in uses:
-            self.rows[self.ranks[name]].append(name)
-            self.near.setdefault(name, [])
-        # An arrow that passes rows has a place in each of them.
-        self.ways = [self.way(used, user) for user in uses for used in uses[user]]
+class Box:
+    def __init__(self, layer, row, middle, lines, uses):
+        at = [name for name, *_ in LAYERS].index(layer)
+        self.row, self.middle = row + sum(count for _, _, count, _ in LAYERS[:at]), middle
+        self.lines = [kept for line in lines if (kept := [name for name in line if name in uses])]
+        self.names = [name for line in self.lines for name in line]
+        self.half = max((sum(len(name) * LETTER + 16 for name in line) / 2 for line in self.lines), default=0)
+        self.down = 0
 
-    def lift(self, name):
-        if name not in self.ranks:
-            self.ranks[name] = 1 + max(map(self.lift, self.uses[name]), default=-1)
-        return self.ranks[name]
-
-    def way(self, used, user):
-        passed = [(used, user, rank) for rank in range(self.ranks[used] + 1, self.ranks[user])]
-        for place in passed:
-            self.rows[place[2]].append(place)
-        way = [used, *passed, user]
-        for one, other in zip(way, way[1:]):
-            self.near.setdefault(one, []).append(other)
-            self.near.setdefault(other, []).append(one)
-        return way
-
-    def rank_of(self, place):
-        return self.ranks[place] if isinstance(place, str) else place[2]
-
-    def half(self, place):
-        return (len(place) * LETTER + 16) / 2 if isinstance(place, str) else THIN / 2
-
-    def order(self):
-        """Sorts each row by the middle of its neighbors below, then above, and keeps the fewest crossings."""
-        best = None
-        for turn in range(24):
-            side = 1 if turn % 2 else -1
-            for row in self.rows[::-side]:
-                at = {place: index / len(other) for other in self.rows for index, place in enumerate(other)}
-                row.sort(key=lambda place: middle([at[near] for near in self.near[place]
-                    if self.rank_of(near) == self.rank_of(place) + side], at[place]))
-            found = (self.crossings(), turn)
-            if best is None or found < best[0]:
-                best = found, [list(row) for row in self.rows]
-        self.rows = best[1]
-
-    def crossings(self):
-        at = {place: index for row in self.rows for index, place in enumerate(row)}
-        steps = [(self.rank_of(one), at[one], at[other])
-            for way in self.ways for one, other in zip(way, way[1:])]
-        return sum(a == d and b < e and c > f for a, b, c in steps for d, e, f in steps)
-
-    def place(self):
-        """Moves each place towards its neighbors, as far as those beside it let it."""
-        self.at = {place: 70.0 * index for row in self.rows for index, place in enumerate(row)}
-        for _ in range(60):
-            for row in self.rows:
-                wish = [middle([self.at[near] for near in self.near[place]], self.at[place]) for place in row]
-                gaps = [self.half(one) + self.half(other) + APART for one, other in zip(row, row[1:])]
-                right, left = list(wish), list(wish)
-                for index, gap in enumerate(gaps):
-                    right[index + 1] = max(right[index + 1], right[index] + gap)
-                for index, gap in reversed(list(enumerate(gaps))):
-                    left[index] = min(left[index], left[index + 1] - gap)
-                self.at.update(zip(row, [(one + other) / 2 for one, other in zip(right, left)]))
-
-    def drawn(self):
-        self.order()
-        self.place()
-        left = min(self.at[place] - self.half(place) for place in self.at) - MARGIN
-        across = {place: round(self.at[place] - left) for place in self.at}
-        width = round(max(self.at[place] + self.half(place) for place in self.at) - left) + MARGIN
-        height = RISE * (len(self.rows) - 1) + HEIGHT + 2 * MARGIN
-        picture = Picture()
-
-        def down(place):
-            return height - MARGIN - HEIGHT // 2 - RISE * self.rank_of(place)
-        for way in self.ways:
-            points = [(across[place], down(place)) for place in way]
-            points[0] = points[0][0], points[0][1] - HEIGHT // 2
-            points[-1] = points[-1][0], points[-1][1] + HEIGHT // 2
-            picture.path('M' + 'L'.join(f'{x} {y}' for x, y in points), PALE, 1.2, '', True)
-        for name in self.uses:
-            half, test = round(self.half(name)), name.endswith('_tests')
-            picture.box(across[name] - half, down(name) - HEIGHT // 2, 2 * half, HEIGHT, PALE if test else INK,
-                1 if test or self.users[name] else 2.5, '4 3' if test else '')
-            picture.text(across[name], down(name) + 4, name, INK, 'middle')
-        return picture.whole(width, height, 'The map of crates')
+    @property
+    def rise(self):
+        return (LINE * len(self.lines) + 5) / 2
 
 
-def middle(numbers, otherwise):
-    return sum(numbers) / len(numbers) if numbers else otherwise
+def arrows(boxes, uses):
+    """From which box to which an arrow leads: those that do not follow from others."""
+    home = {name: box for box in boxes for name in box.names}
+    below = {box: {home[used] for name in box.names for used in uses[name]} - {box} for box in boxes}
+
+    def all_below(box):
+        return below[box].union(*map(all_below, below[box]))
+    return [(used, box) for box in boxes for used in boxes
+        if used in below[box] and not any(used in all_below(other) for other in below[box])]
 
 
-sys.stdout.write(Map(read(sys.stdin.read().splitlines())).drawn())
+def ends(boxes, ways):
+    """The two ends of each arrow: on facing sides, and beside each other in the order of where they go."""
+    found = {}
+    for box in boxes:
+        for side, own in ((1, [way for way in ways if way[0] is box and way[1].row != box.row]),
+                          (-1, [way for way in ways if way[1] is box and way[0].row != box.row])):
+            own.sort(key=lambda way: slope(way, side))
+            for index, way in enumerate(own):
+                shift = min(26, 1.4 * box.half / len(own)) * (index - (len(own) - 1) / 2)
+                found[way, side] = (round(box.middle + shift), round(box.down - side * box.rise))
+    for used, box in ways:
+        if used.row == box.row:
+            side = 1 if used.middle < box.middle else -1
+            found[(used, box), 1] = (round(used.middle + side * used.half), round(used.down))
+            found[(used, box), -1] = (round(box.middle - side * box.half), round(box.down))
+    return found
+
+
+def slope(way, side):
+    used, box = way
+    return side * (box.middle - used.middle) / (used.down - box.down)
+
+
+def drawn(uses):
+    boxes = [box for box in (Box(*place, uses) for place in PLACES) if box.names]
+    placed = [name for box in boxes for name in box.names]
+    if missing := set(uses).difference(placed):
+        raise SystemExit(f'draw_crates: no place in PLACES for {", ".join(sorted(missing))}')
+    rows = sum(count for _, _, count, _ in LAYERS)
+    height = RISE * rows + 2 * MARGIN
+    for box in boxes:
+        box.down = height - MARGIN - RISE * (box.row + 0.5)
+    picture = Picture()
+    bottom = height - MARGIN
+    for name, words, count, color in LAYERS:
+        top = bottom - RISE * count
+        picture.box(MARGIN, top + 2, WIDTH - 2 * MARGIN, RISE * count - 4, color, 1, '', color)
+        picture.text(MARGIN + 12, top + 26, name, INK, size=16, font='sans-serif')
+        for index, line in enumerate(words):
+            picture.text(MARGIN + 12, top + 46 + 15 * index, line, PALE, font='sans-serif')
+        bottom = top
+    ways = arrows(boxes, uses)
+    found = ends(boxes, ways)
+    for way in ways:
+        (x, y), (to_x, to_y) = found[way, 1], found[way, -1]
+        picture.path(f'M{x} {y}L{to_x} {to_y}', PALE, 1.2, '', True)
+    for box in boxes:
+        used = any(box is way[0] for way in ways)
+        left, top = round(box.middle - box.half), round(box.down - box.rise)
+        picture.box(left, top, round(2 * box.half), round(2 * box.rise), INK, 1 if used else 2.5)
+        for index, line in enumerate(box.lines):
+            at = box.middle - sum(len(name) * LETTER + 16 for name in line) / 2
+            for name in line:
+                wide = len(name) * LETTER + 16
+                picture.text(round(at + wide / 2), top + 15 + LINE * index, name, INK, 'middle')
+                at += wide
+    return picture.whole(WIDTH, height, 'The map of crates in three layers')
+
+
+if __name__ == '__main__':
+    sys.stdout.write(drawn(read(sys.stdin.read().splitlines())))

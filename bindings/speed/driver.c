@@ -76,41 +76,42 @@ static void mix_ran(zmg_ran r) {
     mix(r.code); mix(r.tic); mix((uint16_t)r.was); mix((uint16_t)r.should); mix(r.player);
 }
 static void mix_number(zmg_number n) { mix(n.known); mix(n.value); }
-static void mix_demo(zmg_node *node) {
+static void mix_demo(zmg_lockstep *node) {
     uint8_t bytes[4096];
     size_t from = 0, n;
-    mix(zmg_node_demo_length(node));
-    for (; (n = zmg_node_demo(node, from, bytes, sizeof bytes)) > 0; from += n) mix_bytes(bytes, n);
+    mix(zmg_lockstep_demo_length(node));
+    for (; (n = zmg_lockstep_demo(node, from, bytes, sizeof bytes)) > 0; from += n) mix_bytes(bytes, n);
 }
 static void mix_command(zmg_known_command c) {
     mix(c.known); mix((uint16_t)c.command.turn); mix((uint16_t)c.command.mark);
     mix((uint8_t)c.command.forward); mix((uint8_t)c.command.side); mix(c.command.chat); mix(c.command.buttons);
 }
 /* All that a node tells of itself. */
-static void mix_node(zmg_node *node) {
-    zmg_phase p = zmg_node_phase(node);
+static void mix_node(zmg_lockstep *node) {
+    zmg_phase p = zmg_lockstep_phase(node);
     mix(p.code); mix(p.cause); mix((uint16_t)p.was); mix((uint16_t)p.should); mix(p.player);
-    mix(zmg_node_me(node)); mix(zmg_node_players(node)); mix(zmg_node_made(node)); mix(zmg_node_ran(node));
+    mix(zmg_lockstep_me(node)); mix(zmg_lockstep_players(node));
+    mix(zmg_lockstep_made(node)); mix(zmg_lockstep_ran(node));
     for (uint8_t k = 0; k < 5; k++) {
-        mix_number(zmg_node_got(node, k));
-        mix_number(zmg_node_end(node, k));
-        zmg_aim a = zmg_node_aim(node, k);
+        mix_number(zmg_lockstep_got(node, k));
+        mix_number(zmg_lockstep_end(node, k));
+        zmg_aim a = zmg_lockstep_aim(node, k);
         mix(a.known); mix_number(a.ask); mix(a.start); mix(a.flags); mix(a.count);
     }
-    mix(zmg_node_can_build(node));
+    mix(zmg_lockstep_can_build(node));
     for (uint8_t k = 0; k < 5; k++)
         for (uint32_t back = 0; back < 28; back += 1 + back / 4)
-            mix_command(zmg_node_command(node, k, zmg_node_ran(node) + 12 - back));
-    zmg_known_settings s = zmg_node_settings(node);
+            mix_command(zmg_lockstep_command(node, k, zmg_lockstep_ran(node) + 12 - back));
+    zmg_known_settings s = zmg_lockstep_settings(node);
     mix(s.known); mix(s.settings.skill); mix(s.settings.deathmatch); mix(s.settings.no_monsters);
     mix(s.settings.respawn); mix(s.settings.episode); mix(s.settings.map);
-    mix(zmg_node_demo_length(node));
+    mix(zmg_lockstep_demo_length(node));
 }
 
 /* ---- The game of two ---- */
 
 typedef struct side {
-    zmg_node node;
+    zmg_lockstep node;
     walk world;
     uint32_t seed, keys;
 } side;
@@ -124,8 +125,8 @@ static void die(const char *what) {
 
 static void give_and_hear(unsigned from) {
     uint8_t bytes[ZMG_PACKET_SIZE];
-    size_t n = zmg_node_packet(&sides[from].node, (uint8_t)(1 - from), bytes, sizeof bytes);
-    zmg_heard h = zmg_node_receive(&sides[1 - from].node, (uint8_t)from, bytes, n);
+    size_t n = zmg_lockstep_packet(&sides[from].node, (uint8_t)(1 - from), bytes, sizeof bytes);
+    zmg_heard h = zmg_lockstep_receive(&sides[1 - from].node, (uint8_t)from, bytes, n);
     mix_bytes(bytes, n);
     mix(h.code); mix(h.number);
 }
@@ -133,28 +134,28 @@ static void give_and_hear(unsigned from) {
 static void begin(uint32_t limit, uint8_t extra) {
     for (unsigned k = 0; k < 2; k++) {
         zmg_config c = { limit, 2, (uint8_t)k, extra, { 3, 1, 0, 0, 1, 7 } };
-        if (zmg_node_new(&sides[k].node, &c) != ZMG_NEW_OK) die("no node");
+        if (zmg_lockstep_new(&sides[k].node, &c) != ZMG_NEW_OK) die("no node");
         walk_begin(&sides[k].world, 2);
     }
     give_and_hear(0); /* the settings */
     give_and_hear(1); /* here I am */
     for (unsigned k = 0; k < 2; k++)
-        if (zmg_node_phase(&sides[k].node).code != ZMG_PHASE_PLAYING) die("not started");
+        if (zmg_lockstep_phase(&sides[k].node).code != ZMG_PHASE_PLAYING) die("not started");
 }
 
 static void end(int sums) {
     for (unsigned k = 0; k < 2; k++) {
-        zmg_node *node = &sides[k].node;
+        zmg_lockstep *node = &sides[k].node;
         if (sums) {
             mix_node(node);
             mix_demo(node);
         }
-        mix(zmg_node_demo_length(node));
+        mix(zmg_lockstep_demo_length(node));
         for (unsigned p = 0; p < 2; p++) {
             const spot *s = &sides[k].world.spots[p];
             mix(s->x); mix(s->y); mix(s->angle);
         }
-        zmg_node_free(node);
+        zmg_lockstep_free(node);
     }
 }
 
@@ -166,16 +167,16 @@ static inline __attribute__((always_inline)) int play(int sums, int fresh, int l
     for (unsigned k = 0; k < 2; k++) {
         side *s = &sides[k];
         if (fresh) s->keys = (s->seed = s->seed * 1664525u + 1013904223u) >> 9;
-        zmg_made made = zmg_node_build(&s->node, s->keys);
+        zmg_made made = zmg_lockstep_build(&s->node, s->keys);
         if (made.code != ZMG_BUILD_MADE) die("not built");
         if (sums) mix(made.tic);
     }
     for (unsigned k = 0; k < 2; k++) {
-        length[k] = zmg_node_packet(&sides[k].node, (uint8_t)(1 - k), bytes[k], sizeof bytes[k]);
+        length[k] = zmg_lockstep_packet(&sides[k].node, (uint8_t)(1 - k), bytes[k], sizeof bytes[k]);
         if (sums) mix_bytes(bytes[k], length[k]);
     }
     for (unsigned k = 0; k < 2; k++) {
-        zmg_heard h = zmg_node_receive(&sides[k].node, (uint8_t)(1 - k), bytes[1 - k], length[1 - k]);
+        zmg_heard h = zmg_lockstep_receive(&sides[k].node, (uint8_t)(1 - k), bytes[1 - k], length[1 - k]);
         if (h.code != ZMG_RECEIVE_TAKEN) die("not taken");
         if (sums) mix(h.number);
     }
@@ -185,7 +186,7 @@ static inline __attribute__((always_inline)) int play(int sums, int fresh, int l
             int16_t marks[4];
             zmg_move row[4];
             walk_marks(&s->world, marks);
-            zmg_ran ran = zmg_node_run(&s->node, marks, row);
+            zmg_ran ran = zmg_lockstep_run(&s->node, marks, row);
             if (sums) mix_ran(ran);
             if (ran.code != ZMG_RUN_RAN) {
                 if (ran.code != ZMG_RUN_WAITING) on = 0;
@@ -246,7 +247,7 @@ static void seal(uint8_t *b, size_t length, unsigned flags) {
 }
 
 static void bad_game(unsigned long counts[3][16]) {
-    static zmg_node nodes[NODES];
+    static zmg_lockstep nodes[NODES];
     static walk worlds[NODES];
     static flight flights[FLIGHTS];
     static const uint32_t limits[4] = { 1024, 1100, 2000, 65536 };
@@ -263,16 +264,17 @@ static void bad_game(unsigned long counts[3][16]) {
                 { (uint8_t)below(7), (uint8_t)below(4), 0, 0, (uint8_t)below(5), (uint8_t)below(40) } };
             c = odd;
         }
-        mix(zmg_node_new(&nodes[k], &c));
+        mix(zmg_lockstep_new(&nodes[k], &c));
         walk_begin(&worlds[k], players);
     }
     while (calls-- > 0) {
         unsigned k = below(below(50) ? players : NODES);
-        zmg_node *node = &nodes[k];
+        zmg_lockstep *node = &nodes[k];
         switch (below(calm ? 8 : 12)) {
         case 0: case 8: {
             zmg_command c = { (int16_t)draw(), 0, (int8_t)draw(), (int8_t)draw(), (uint8_t)draw(), (uint8_t)draw() };
-            zmg_made m = below(3) ? zmg_node_build(node, below(4) ? draw() : draw() & 15) : zmg_node_give(node, &c);
+            zmg_made m = below(3) ? zmg_lockstep_build(node, below(4) ? draw() : draw() & 15)
+                : zmg_lockstep_give(node, &c);
             mix(m.code); mix(m.tic);
             counts[0][m.code]++;
             break;
@@ -281,7 +283,7 @@ static void bad_game(unsigned long counts[3][16]) {
             flight *f = &flights[sent % FLIGHTS];
             uint8_t to = (uint8_t)below(below(20) ? players : 6);
             memset(f->bytes, 0, sizeof f->bytes);
-            f->length = zmg_node_packet(node, to, f->bytes, below(50) ? sizeof f->bytes : below(104));
+            f->length = zmg_lockstep_packet(node, to, f->bytes, below(50) ? sizeof f->bytes : below(104));
             f->from = (uint8_t)k;
             f->to = to;
             mix_bytes(f->bytes, sizeof f->bytes);
@@ -310,11 +312,11 @@ static void bad_game(unsigned long counts[3][16]) {
                     seal(f.bytes, f.length, below(3) ? f.bytes[3] >> 4 : below(16));
                 }
             }
-            zmg_heard h = zmg_node_receive(&nodes[f.to], from, f.bytes, f.length);
+            zmg_heard h = zmg_lockstep_receive(&nodes[f.to], from, f.bytes, f.length);
             mix(h.code); mix(h.number);
             counts[1][h.code == ZMG_RECEIVE_DROPPED ? (h.number == 0 ? 15 : h.number) : 0]++;
             counts[2][5 + h.code]++;
-            if (h.code == ZMG_RECEIVE_STARTED) walk_begin(&worlds[f.to], zmg_node_players(&nodes[f.to]));
+            if (h.code == ZMG_RECEIVE_STARTED) walk_begin(&worlds[f.to], zmg_lockstep_players(&nodes[f.to]));
             break;
         }
         case 6: case 7: case 11: {
@@ -323,7 +325,7 @@ static void bad_game(unsigned long counts[3][16]) {
             memset(row, 7, sizeof row);
             walk_marks(&worlds[k], marks);
             if (!honest && below(1000) == 0) marks[below(4)] = (int16_t)draw();
-            zmg_ran r = zmg_node_run(node, marks, row);
+            zmg_ran r = zmg_lockstep_run(node, marks, row);
             mix_ran(r);
             mix_row(row);
             counts[2][r.code]++;
@@ -332,13 +334,13 @@ static void bad_game(unsigned long counts[3][16]) {
         }
         }
         if (below(60) == 0) mix_node(node);
-        if (calls < leave && below(400) == 0) mix(zmg_node_quit(node));
-        if (calls < leave && below(2000) == 0) zmg_node_free(node);
+        if (calls < leave && below(400) == 0) mix(zmg_lockstep_quit(node));
+        if (calls < leave && below(2000) == 0) zmg_lockstep_free(node);
     }
     for (unsigned k = 0; k < NODES; k++) {
         mix_node(&nodes[k]);
         mix_demo(&nodes[k]);
-        zmg_node_free(&nodes[k]);
+        zmg_lockstep_free(&nodes[k]);
         mix_node(&nodes[k]);
     }
 }

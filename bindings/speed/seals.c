@@ -27,8 +27,8 @@ static uint8_t envelope[ZMG_MAX_ENVELOPE], code[32];
 static size_t length;
 static unsigned commands;
 /* those that take turns, and those that stay where they are */
-static zmg_node going[2], still[2];
-static zmg_sealed_node sealed_going[2], sealed_still[2];
+static zmg_lockstep going[2], still[2];
+static zmg_sealed_lockstep sealed_going[2], sealed_still[2];
 static EVP_MAC_CTX *prepared;
 
 static void must(int holds, const char *what) {
@@ -40,11 +40,11 @@ static void must(int holds, const char *what) {
 /* ---- The calls ---- */
 
 static size_t call_receive(void) {
-    return zmg_node_receive(&still[1], 0, envelope + 21, length - ZMG_ENVELOPE_OVERHEAD).code;
+    return zmg_lockstep_receive(&still[1], 0, envelope + 21, length - ZMG_ENVELOPE_OVERHEAD).code;
 }
 
 static size_t call_sealed_receive(void) {
-    return zmg_sealed_node_receive(&sealed_still[1], envelope, length).code;
+    return zmg_sealed_lockstep_receive(&sealed_still[1], envelope, length).code;
 }
 
 static size_t call_turn(void) {
@@ -54,12 +54,13 @@ static size_t call_turn(void) {
     uint32_t ran = 0;
     zmg_move row[4];
     for (uint8_t me = 0; me < 2; me++) {
-        for (unsigned k = 0; k < commands; k++) zmg_node_build(&going[me], ZMG_KEY_FORWARD);
-        n[me] = zmg_node_packet(&going[me], 1 - me, bytes[me], sizeof bytes[me]);
+        for (unsigned k = 0; k < commands; k++) zmg_lockstep_build(&going[me], ZMG_KEY_FORWARD);
+        n[me] = zmg_lockstep_packet(&going[me], 1 - me, bytes[me], sizeof bytes[me]);
     }
     for (uint8_t me = 0; me < 2; me++) {
-        zmg_node_receive(&going[me], 1 - me, bytes[1 - me], n[1 - me]);
-        for (unsigned k = 0; k < commands; k++) ran += zmg_node_run(&going[me], marks, row).code == ZMG_RUN_RAN;
+        zmg_lockstep_receive(&going[me], 1 - me, bytes[1 - me], n[1 - me]);
+        for (unsigned k = 0; k < commands; k++)
+            ran += zmg_lockstep_run(&going[me], marks, row).code == ZMG_RUN_RAN;
     }
     return ran == 2 * commands ? n[0] : 0;
 }
@@ -71,13 +72,13 @@ static size_t call_sealed_turn(void) {
     uint32_t ran = 0;
     zmg_move row[4];
     for (uint8_t me = 0; me < 2; me++) {
-        for (unsigned k = 0; k < commands; k++) zmg_sealed_node_build(&sealed_going[me], ZMG_KEY_FORWARD);
-        n[me] = zmg_sealed_node_packet(&sealed_going[me], 1 - me, bytes[me], sizeof bytes[me]);
+        for (unsigned k = 0; k < commands; k++) zmg_sealed_lockstep_build(&sealed_going[me], ZMG_KEY_FORWARD);
+        n[me] = zmg_sealed_lockstep_packet(&sealed_going[me], 1 - me, bytes[me], sizeof bytes[me]);
     }
     for (uint8_t me = 0; me < 2; me++) {
-        zmg_sealed_node_receive(&sealed_going[me], bytes[1 - me], n[1 - me]);
+        zmg_sealed_lockstep_receive(&sealed_going[me], bytes[1 - me], n[1 - me]);
         for (unsigned k = 0; k < commands; k++)
-            ran += zmg_sealed_node_run(&sealed_going[me], marks, row).code == ZMG_RUN_RAN;
+            ran += zmg_sealed_lockstep_run(&sealed_going[me], marks, row).code == ZMG_RUN_RAN;
     }
     return ran == 2 * commands ? n[0] : 0;
 }
@@ -122,19 +123,20 @@ static void prepare(void) {
     must(prepared && EVP_MAC_init(prepared, key, sizeof key, params), "there is an HMAC");
 }
 
-static void greet(zmg_node *plain, zmg_sealed_node *sealed) {
+static void greet(zmg_lockstep *plain, zmg_sealed_lockstep *sealed) {
     uint8_t bytes[ZMG_MAX_ENVELOPE];
     for (uint8_t me = 0; me < 2; me++) {
         zmg_config c = { 1 << 24, 2, me, 0, { 3, 1, 0, 0, 1, 7 } };
-        must(zmg_node_new_within(&plain[me], &c, ZMG_WIDEST_AHEAD) == ZMG_NEW_OK, "a node");
-        must(zmg_sealed_node_new(&sealed[me], &c, ZMG_WIDEST_AHEAD, secret, number) == ZMG_NEW_OK,
+        must(zmg_lockstep_new_within(&plain[me], &c, ZMG_WIDEST_AHEAD) == ZMG_NEW_OK, "a node");
+        must(zmg_sealed_lockstep_new(&sealed[me], &c, ZMG_WIDEST_AHEAD, secret, number) == ZMG_NEW_OK,
             "a sealed node");
     }
     for (uint8_t me = 0; me < 2; me++) {
-        size_t n = zmg_node_packet(&plain[me], 1 - me, bytes, sizeof bytes);
-        must(zmg_node_receive(&plain[1 - me], me, bytes, n).code == ZMG_RECEIVE_STARTED, "started");
-        n = zmg_sealed_node_packet(&sealed[me], 1 - me, bytes, sizeof bytes);
-        must(zmg_sealed_node_receive(&sealed[1 - me], bytes, n).code == ZMG_RECEIVE_STARTED, "started, sealed");
+        size_t n = zmg_lockstep_packet(&plain[me], 1 - me, bytes, sizeof bytes);
+        must(zmg_lockstep_receive(&plain[1 - me], me, bytes, n).code == ZMG_RECEIVE_STARTED, "started");
+        n = zmg_sealed_lockstep_packet(&sealed[me], 1 - me, bytes, sizeof bytes);
+        zmg_heard heard = zmg_sealed_lockstep_receive(&sealed[1 - me], bytes, n);
+        must(heard.code == ZMG_RECEIVE_STARTED, "started, sealed");
     }
 }
 
@@ -144,12 +146,12 @@ static void play(void) {
     greet(going, sealed_going);
     greet(still, sealed_still);
     for (unsigned k = 0; k < commands; k++) {
-        zmg_node_build(&still[0], ZMG_KEY_FORWARD);
-        zmg_sealed_node_build(&sealed_still[0], ZMG_KEY_FORWARD);
+        zmg_lockstep_build(&still[0], ZMG_KEY_FORWARD);
+        zmg_sealed_lockstep_build(&sealed_still[0], ZMG_KEY_FORWARD);
     }
-    length = zmg_sealed_node_packet(&sealed_still[0], 1, envelope, sizeof envelope);
+    length = zmg_sealed_lockstep_packet(&sealed_still[0], 1, envelope, sizeof envelope);
     must(length == ZMG_ENVELOPE_OVERHEAD + 8 + 8 * commands, "the envelope has all commands");
-    must(zmg_node_packet(&still[0], 1, bytes, sizeof bytes) == length - ZMG_ENVELOPE_OVERHEAD
+    must(zmg_lockstep_packet(&still[0], 1, bytes, sizeof bytes) == length - ZMG_ENVELOPE_OVERHEAD
         && memcmp(envelope + 21, bytes, length - ZMG_ENVELOPE_OVERHEAD) == 0, "and the packet of the node");
     must(call_receive() == ZMG_RECEIVE_TAKEN && call_sealed_receive() == ZMG_RECEIVE_TAKEN, "taken");
     for (int k = 0; k < 2; k++) {
@@ -164,10 +166,10 @@ static void play(void) {
 
 static void give_up(void) {
     for (unsigned k = 0; k < 2; k++) {
-        zmg_node_free(&going[k]);
-        zmg_node_free(&still[k]);
-        zmg_sealed_node_free(&sealed_going[k]);
-        zmg_sealed_node_free(&sealed_still[k]);
+        zmg_lockstep_free(&going[k]);
+        zmg_lockstep_free(&still[k]);
+        zmg_sealed_lockstep_free(&sealed_going[k]);
+        zmg_sealed_lockstep_free(&sealed_still[k]);
     }
 }
 

@@ -1,37 +1,17 @@
 //! Does what `netgame demo` does, in plain Rust: the yardstick of docs/SPEED.md. It reads in pieces of
 //! 64 KiB and steps straight from the bytes, with a loop for each number of players and each version.
 
+mod walk;
+
 use std::fmt::Write as _;
 use std::io::{self, ErrorKind, Read, Write};
 use std::process::ExitCode;
+use walk::Spot;
 
 const PIECE: usize = 65_536;
 const MOST_BYTES: usize = 33_554_432;
 const HEADER: usize = 13;
 const END: u8 = 0x80;
-/// Where forward goes in each quadrant, times 2048. It is a table and no branch, since the quadrants of random
-/// moves cannot be foreseen.
-const AXES: [(i32, i32); 4] = [(2048, 0), (0, 2048), (-2048, 0), (0, -2048)];
-
-/// Where a player of a Walk stands.
-#[derive(Clone, Copy, Default)]
-struct Spot {
-    x: u32,
-    y: u32,
-    angle: u16,
-}
-
-impl Spot {
-    fn step(&mut self, forward: u8, side: u8, turn: u16, buttons: u8) {
-        let (forward, side) = (i32::from(forward as i8), i32::from(side as i8));
-        self.angle = self.angle.wrapping_add(turn);
-        let (cos, sin) = AXES[usize::from(self.angle >> 14)];
-        let (x, y) = (forward * cos + side * sin, forward * sin - side * cos);
-        self.x = self.x.wrapping_add(x as u32).wrapping_add(u32::from(buttons));
-        self.y = self.y.wrapping_add(y as u32);
-    }
-}
-
 /// Plays whole tics of N players with commands of SIZE bytes, up to the marker or the last of them: how
 /// many were played, and whether the marker is in the next.
 fn play<const N: usize, const SIZE: usize>(bytes: &[u8], spots: &mut [Spot; 4]) -> (usize, bool) {
@@ -46,10 +26,10 @@ fn play<const N: usize, const SIZE: usize>(bytes: &[u8], spots: &mut [Spot; 4]) 
         }
         for (spot, command) in at.iter_mut().zip(row.chunks_exact(SIZE)) {
             let turn = match SIZE {
-                4 => u16::from(command[2]) << 8,
-                _ => u16::from_le_bytes([command[2], command[3]]),
+                4 => i16::from_le_bytes([0, command[2]]),
+                _ => i16::from_le_bytes([command[2], command[3]]),
             };
-            spot.step(command[0], command[1], turn, command[SIZE - 1]);
+            spot.step(command[0] as i8, command[1] as i8, turn, command[SIZE - 1]);
         }
         tics += 1;
     }
@@ -93,7 +73,7 @@ impl Demo {
         };
         let mut spots = [Spot::default(); 4];
         for (spot, &player) in spots.iter_mut().zip(&players) {
-            spot.x = player as u32 * 4_194_304;
+            *spot = Spot::of(player);
         }
         Ok(Demo { header, players, spots, size, play, tics: 0, cut: 0, after: None })
     }
@@ -134,8 +114,8 @@ impl Demo {
             write!(text, " {player}").ok()?;
         }
         writeln!(text, "\ntics {} cut {} after {}", self.tics, self.cut, self.after?).ok()?;
-        for (player, Spot { x, y, angle }) in self.players.iter().zip(self.spots) {
-            let (x, y, mark) = (x as i32, y as i32, x as i16);
+        for (player, spot) in self.players.iter().zip(self.spots) {
+            let (Spot { x, y, angle }, mark) = (spot, spot.mark());
             writeln!(text, "player {player} x {x} y {y} angle {angle} mark {mark}").ok()?;
         }
         Some(text)

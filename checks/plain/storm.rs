@@ -4,230 +4,29 @@
 //! nobody quits or stops, so neither stands here, and no answer is made that nobody prints. Of the options of
 //! `netgame storm` it has all but `--calm`, `--trace`, `--script` and `--help`.
 
+mod game;
+mod walk;
+
+use game::command::{Command, SLOW_TURNS, TURN_KEYS};
+use game::demo::{Demo, MARKER};
+use game::packet::{EXIT, KILL, PACKET_SIZE, Packet, RETRANSMIT, SETUP, expand, seal};
+use game::seat::{Seat, place};
+use game::settings::Settings;
+use game::{AHEAD, KEPT, MAX_PLAYERS, NEAR, TIC_LIMIT, VERSION};
 use std::array;
 use std::collections::TryReserveError;
 use std::env;
 use std::io::{self, Write};
 use std::ops::RangeInclusive;
 use std::process::ExitCode;
+use walk::Spot;
 
 const USAGE: &str = "usage: storm [--players 2..4] [--skill 0..4] [--episode 1..3] [--map 1..32]
     [--deathmatch 0..2] [--respawn] [--nomonsters] [--extra] [--limit 1024..16777216]
     [--seed 0..4294967295] [--count 1..1000000]";
 
-const MAX_PLAYERS: usize = 4;
-const VERSION: u8 = 111;
-/// How many of its last commands and marks a node keeps of each player.
-const RING: u32 = 12;
-/// How many commands may wait to be run.
-const AHEAD: u32 = 5;
-/// For how many packets further requests are ignored.
-const PAUSE: u8 = 10;
-/// From how many builds in succession on turns are fast.
-const SLOW_TURNS: u8 = 6;
-/// How far from a node's newest tic the tics of a packet may lie.
-const NEAR: u32 = 64;
-/// How many tics a game may run that somebody has left.
-const MOST_TICS: u32 = 2_097_150;
 /// From how many of the newest packets one is drawn for delivery.
 const DRAWN: usize = 32;
-
-const COMMAND_SIZE: usize = 8;
-const PACKET_SIZE: usize = 104;
-const SUM_MASK: u32 = 0x0fff_ffff;
-const FLAGS_SHIFT: u32 = 28;
-const DEMO_END: u8 = 0x80;
-/// The bits of the keys left and right.
-const TURN_KEYS: u32 = 12;
-
-/// The flags of a packet.
-const KILL: u8 = 1;
-const SETUP: u8 = 2;
-const RETRANSMIT: u8 = 4;
-const EXIT: u8 = 8;
-
-/// What a player asks for in one tic.
-#[derive(Clone, Copy, Default)]
-struct Command {
-    forward: i8,
-    side: i8,
-    turn: i16,
-    mark: i16,
-    chat: u8,
-    buttons: u8,
-}
-
-impl Command {
-    /// The command of these keys; `hold` is for how many builds in succession a turn key was down.
-    fn from_keys(keys: u32, hold: u8, mark: i16) -> Command {
-        let [forward, back, left, right, strafe_left, strafe_right, strafe, speed, attack, using] =
-            array::from_fn(|bit| (keys >> bit & 1) as i16);
-        let (walk, sidle, fast_turn) = if speed == 1 { (50, 40, 1280) } else { (25, 24, 640) };
-        let mut side = (strafe_right - strafe_left) * sidle;
-        let mut turn = 0;
-        if strafe == 1 {
-            side += (right - left) * sidle;
-        } else {
-            turn = (left - right) * if hold < SLOW_TURNS { 320 } else { fast_turn };
-        }
-        let mut buttons = (attack | using << 1) as u8;
-        let weapons = (keys >> 10) as u8;
-        if weapons != 0 {
-            buttons |= 4 | (weapons.trailing_zeros() as u8) << 3;
-        }
-        let (forward, side) = (((forward - back) * walk) as i8, side.clamp(-50, 50) as i8);
-        Command { forward, side, turn, mark, chat: 0, buttons }
-    }
-
-    fn from_bytes(bytes: [u8; COMMAND_SIZE]) -> Command {
-        let [forward, side, turn0, turn1, mark0, mark1, chat, buttons] = bytes;
-        let (turn, mark) = (i16::from_le_bytes([turn0, turn1]), i16::from_le_bytes([mark0, mark1]));
-        Command { forward: forward as i8, side: side as i8, turn, mark, chat, buttons }
-    }
-
-    fn to_bytes(self) -> [u8; COMMAND_SIZE] {
-        let [turn0, turn1] = self.turn.to_le_bytes();
-        let [mark0, mark1] = self.mark.to_le_bytes();
-        [self.forward as u8, self.side as u8, turn0, turn1, mark0, mark1, self.chat, self.buttons]
-    }
-}
-
-/// The choice of a game.
-#[derive(Clone, Copy, PartialEq)]
-struct Settings {
-    skill: u8,
-    episode: u8,
-    map: u8,
-    deathmatch: u8,
-    respawn: bool,
-    no_monsters: bool,
-}
-
-impl Settings {
-    /// The ask and start bytes of a set-up packet.
-    fn to_bytes(self) -> [u8; 2] {
-        let flags = u8::from(self.respawn) << 4 | u8::from(self.no_monsters) << 5;
-        [self.skill | flags | self.deathmatch << 6, self.map | self.episode << 6]
-    }
-
-    fn from_bytes([ask, start]: [u8; 2]) -> Option<Settings> {
-        let (skill, deathmatch, episode, map) = (ask & 15, ask >> 6, start >> 6, start & 63);
-        let in_range = skill <= 4 && deathmatch <= 2 && episode >= 1 && (1..=32).contains(&map);
-        let (respawn, no_monsters) = (ask & 16 != 0, ask & 32 != 0);
-        in_range.then_some(Settings { skill, episode, map, deathmatch, respawn, no_monsters })
-    }
-}
-
-/// A datagram as it is read. Its commands are still bytes.
-struct Packet<'a> {
-    flags: u8,
-    ask: u8,
-    start: u8,
-    player: u8,
-    commands: &'a [[u8; COMMAND_SIZE]],
-}
-
-impl<'a> Packet<'a> {
-    /// The packet that these bytes are, if their length and their sum are right.
-    fn parse(bytes: &'a [u8]) -> Option<Packet<'a>> {
-        let (head, body) = bytes.split_first_chunk()?;
-        let &[word0, word1, word2, word3, ask, start, player, count] = head;
-        let word = u32::from_le_bytes([word0, word1, word2, word3]);
-        let (commands, rest) = body.as_chunks();
-        let whole = commands.len() == usize::from(count) && rest.is_empty();
-        let right = whole && count <= RING as u8 && word & SUM_MASK == checksum(bytes);
-        right.then_some(Packet { flags: (word >> FLAGS_SHIFT) as u8, ask, start, player, commands })
-    }
-
-    /// Whether the packet has any of these flags.
-    fn has(&self, flags: u8) -> bool {
-        self.flags & flags != 0
-    }
-}
-
-/// The sum of a datagram: each word behind the checksum word counts as often as its place says.
-fn checksum(datagram: &[u8]) -> u32 {
-    let (words, _) = datagram[4..].as_chunks();
-    let mut sum = 0x123_4567_u32;
-    for (&word, factor) in words.iter().zip(1..) {
-        sum = sum.wrapping_add(u32::from_le_bytes(word).wrapping_mul(factor));
-    }
-    sum & SUM_MASK
-}
-
-/// The tic near `made` that has this low byte, or None where it would be below 0.
-fn expand(made: u32, low: u8) -> Option<u32> {
-    let tic = made & !255 | u32::from(low);
-    if tic > made + NEAR {
-        tic.checked_sub(256)
-    } else if tic + NEAR < made {
-        Some(tic + 256)
-    } else {
-        Some(tic)
-    }
-}
-
-/// Where a player of a Walk stands.
-#[derive(Clone, Copy, Default)]
-struct Spot {
-    x: i32,
-    y: i32,
-    angle: u16,
-}
-
-impl Spot {
-    fn step(&mut self, command: &Command) {
-        let forward = i32::from(command.forward) * 2048;
-        let side = i32::from(command.side) * 2048;
-        self.angle = self.angle.wrapping_add_signed(command.turn);
-        let (x, y) = match self.angle >> 14 {
-            0 => (forward, -side),
-            1 => (side, forward),
-            2 => (-forward, side),
-            _ => (-side, -forward),
-        };
-        self.x = self.x.wrapping_add(x).wrapping_add(i32::from(command.buttons));
-        self.y = self.y.wrapping_add(y);
-    }
-}
-
-/// A demo as it is recorded. All its memory is taken at the beginning.
-struct Demo {
-    bytes: Vec<u8>,
-    /// How many tics fit between the header of 13 bytes and the end.
-    tics: u32,
-    closed: bool,
-}
-
-impl Demo {
-    fn new(limit: u32, players: usize) -> Result<Demo, TryReserveError> {
-        let mut bytes = Vec::new();
-        bytes.try_reserve_exact(limit as usize)?;
-        Ok(Demo { bytes, tics: (limit - 14) / (5 * players as u32), closed: false })
-    }
-
-    fn begin(&mut self, settings: Settings, view: usize, players: usize) {
-        let Settings { skill, episode, map, deathmatch, respawn, no_monsters } = settings;
-        let fast = 0;
-        self.bytes.extend_from_slice(&[VERSION, skill, episode, map, deathmatch, u8::from(respawn), fast]);
-        self.bytes.extend_from_slice(&[u8::from(no_monsters), view as u8]);
-        self.bytes.extend((0..MAX_PLAYERS).map(|player| u8::from(player < players)));
-    }
-
-    fn push(&mut self, command: &Command) {
-        let &Command { forward, side, turn, buttons, .. } = command;
-        let [turn0, turn1] = turn.to_le_bytes();
-        self.bytes.extend_from_slice(&[forward as u8, side as u8, turn0, turn1, buttons]);
-    }
-
-    /// Writes the end, once.
-    fn close(&mut self) {
-        if !self.closed {
-            self.closed = true;
-            self.bytes.push(DEMO_END);
-        }
-    }
-}
 
 /// Player 0 gathers the others, who listen. A node ends when its demo is full, or when the mark of a player
 /// is off.
@@ -238,55 +37,6 @@ enum Phase {
     Playing,
     Full,
     Inconsistent(usize),
-}
-
-/// What a node keeps of a player.
-#[derive(Clone, Copy, Default)]
-struct Seat {
-    /// The last commands, and the marks that those of the next twelve tics are to have, by the tic.
-    commands: [Command; RING as usize],
-    marks: [i16; RING as usize],
-    spot: Spot,
-    /// How many commands there are of the player.
-    count: u32,
-    /// The tic after the player's last command, where it is known.
-    end: Option<u32>,
-    /// The first tic of the next packet to the player.
-    resend: u32,
-    /// For how many packets of the player requests are ignored.
-    pause: u8,
-    /// Whether commands of the player are missing.
-    want: bool,
-    /// Whether the player was heard while gathering.
-    heard: bool,
-}
-
-impl Seat {
-    /// Whether the player has no part in this tic any more.
-    fn is_gone(&self, tic: u32) -> bool {
-        self.end.is_some_and(|end| end <= tic)
-    }
-
-    /// Whether a packet may end here, by what is known of the player's last command.
-    fn may_end(&self, end: u32, exit: bool) -> bool {
-        self.end.is_none_or(|known| if exit { end == known } else { end <= known })
-            && !(exit && end < self.count)
-    }
-
-    /// Sends commands again where the packet asks for it and requests are not ignored.
-    fn meet_request(&mut self, made: u32, packet: &Packet) {
-        let heard = packet.has(RETRANSMIT) && self.pause == 0;
-        let asked = if heard { expand(made, packet.ask) } else { None };
-        match asked {
-            Some(tic) if tic <= made && made <= tic + RING => (self.resend, self.pause) = (tic, PAUSE),
-            _ => self.pause = self.pause.saturating_sub(1),
-        }
-    }
-}
-
-/// The place of a tic in a ring.
-fn place(tic: u32) -> usize {
-    (tic % RING) as usize
 }
 
 /// A packet that was sent. Its bytes stand in the game's buffer.
@@ -314,6 +64,8 @@ struct Node {
     /// How many tics were run.
     ran: u32,
     seats: [Seat; MAX_PLAYERS],
+    /// Where the players of its Walk stand.
+    spots: [Spot; MAX_PLAYERS],
     demo: Demo,
 }
 
@@ -321,8 +73,9 @@ impl Node {
     fn new(options: &Options, me: usize) -> Result<Node, TryReserveError> {
         let &Options { players, settings, extra, limit, .. } = options;
         let phase = if me == 0 { Phase::Gathering(settings) } else { Phase::Listening };
-        let (seats, demo) = ([Seat::default(); MAX_PLAYERS], Demo::new(limit, players)?);
-        Ok(Node { phase, players, me, extra: u32::from(extra), hold: 0, ran: 0, seats, demo })
+        let (seats, spots) = ([Seat::default(); MAX_PLAYERS], array::from_fn(Spot::of));
+        let demo = Demo::new(limit, players as u8)?;
+        Ok(Node { phase, players, me, extra: u32::from(extra), hold: 0, ran: 0, seats, spots, demo })
     }
 
     /// How many commands were built.
@@ -332,10 +85,7 @@ impl Node {
 
     fn start(&mut self, settings: Settings) {
         self.phase = Phase::Playing;
-        self.demo.begin(settings, self.me, self.players);
-        for (player, seat) in self.seats.iter_mut().enumerate() {
-            seat.spot.x = player as i32 * 4_194_304;
-        }
+        self.demo.begin(&settings, self.me, self.players);
     }
 
     /// The line of where the node stands.
@@ -381,7 +131,7 @@ impl Node {
             Phase::Full | Phase::Inconsistent(_) => (EXIT, None),
         };
         let made = self.made();
-        let start = if seat.resend + RING < made { made - self.extra } else { seat.resend };
+        let start = seat.first_sent(made, self.extra);
         if let Phase::Gathering(settings) = self.phase {
             let [ask, start] = settings.to_bytes();
             bytes.extend_from_slice(&[0, 0, 0, 0, ask, start, VERSION, 0]);
@@ -393,19 +143,19 @@ impl Node {
             }
             self.seats[to].resend = made.saturating_sub(self.extra);
         }
-        let word = checksum(&bytes[at..]) | u32::from(flags) << FLAGS_SHIFT;
-        bytes[at..at + 4].copy_from_slice(&word.to_le_bytes());
+        seal(&mut bytes[at..], flags);
         let (at, length, from, to) = (at as u32, (bytes.len() - at) as u8, self.me as u8, to as u8);
         Some(Flight { at, start, ask: ask.unwrap_or(start), length, from, to, setup: flags == SETUP })
     }
 
     /// Hears a datagram. One that is out of place changes nothing.
     fn receive(&mut self, from: usize, bytes: &[u8]) {
-        let Some(packet) = Packet::parse(bytes) else { return };
+        let Ok(packet) = Packet::parse(bytes) else { return };
         let from_peer = usize::from(packet.player) == from && !packet.has(SETUP | KILL);
         match self.phase {
             Phase::Listening if packet.has(SETUP) && packet.player == VERSION && from == 0 => {
-                if let Some(settings) = Settings::from_bytes([packet.ask, packet.start]) {
+                let settings = Settings::from_bytes([packet.ask, packet.start]);
+                if settings.check().is_ok() {
                     self.start(settings);
                 }
             }
@@ -425,25 +175,24 @@ impl Node {
         let made = self.made();
         let seat = &mut self.seats[from];
         let (playing, exit) = (self.phase == Phase::Playing, packet.has(EXIT));
-        let ends_demo = packet.commands.iter().any(|command| command[0] == DEMO_END);
-        let Some(start) = expand(made, packet.start).filter(|_| !ends_demo) else { return };
+        let Some(start) = expand(made, packet.start) else { return };
+        if packet.commands.iter().any(|command| command[0] == MARKER) {
+            return;
+        }
         let end = start + packet.commands.len() as u32;
-        if playing && (end > self.ran + RING || !seat.may_end(end, exit)) || !playing && exit {
+        if playing && (end > self.ran + KEPT || seat.is_strange_end(end, exit)) || !playing && exit {
             return;
         }
         seat.meet_request(made, packet);
         if exit {
             seat.end = Some(end);
         }
-        if playing && end > seat.count {
-            seat.want = start > seat.count;
-            if !seat.want {
-                let fresh = &packet.commands[(seat.count - start) as usize..];
-                for (&bytes, tic) in fresh.iter().zip(seat.count..) {
-                    seat.commands[place(tic)] = Command::from_bytes(bytes);
-                }
-                seat.count = end;
-            }
+        if !playing || end <= seat.count {
+            return;
+        }
+        seat.want = start > seat.count;
+        if !seat.want {
+            seat.take(start, packet.commands);
         }
     }
 
@@ -461,26 +210,30 @@ impl Node {
                 whole = false;
             } else if seat.count <= tic {
                 return;
-            } else if off.is_none() && seat.commands[at].mark != seat.marks[at] {
+            } else if off.is_none() && seat.is_off(at) {
                 off = Some(player);
             }
         }
-        if let Some(player) = off.filter(|_| tic > RING) {
+        if let Some(player) = off.filter(|_| tic > KEPT) {
             return self.finish(Phase::Inconsistent(player));
         }
-        if tic == if whole { self.demo.tics } else { MOST_TICS } {
+        if tic == if whole { self.demo.tics } else { TIC_LIMIT } {
             return self.finish(Phase::Full);
         }
         if !whole {
             self.demo.close();
         }
-        for seat in self.seats[..self.players].iter_mut().filter(|seat| !seat.is_gone(tic)) {
+        for (seat, spot) in self.seats[..self.players].iter_mut().zip(&mut self.spots) {
+            if seat.is_gone(tic) {
+                continue;
+            }
             let command = &seat.commands[at];
             if whole {
                 self.demo.push(command);
             }
-            seat.marks[at] = seat.spot.x as i16;
-            seat.spot.step(command);
+            seat.marks[at] = spot.mark();
+            let &Command { forward, side, turn, buttons, .. } = command;
+            spot.step(forward, side, turn, buttons);
         }
         self.ran += 1;
     }
@@ -581,7 +334,7 @@ impl Options {
     /// Reads the words of a command line; `storm`, as `netgame` has it before them, is passed over.
     fn read(words: &[String]) -> Option<Options> {
         let (skill, episode, map, deathmatch) = (2, 1, 1, 0);
-        let settings = Settings { skill, episode, map, deathmatch, respawn: false, no_monsters: false };
+        let settings = Settings { skill, episode, map, deathmatch, respawn: 0, no_monsters: 0 };
         let mut options =
             Options { players: 2, settings, extra: false, limit: 131_072, seed: 1, count: 1000 };
         let mut names = Vec::new();
@@ -603,8 +356,8 @@ impl Options {
                 "--limit" => options.limit = number(1024..=16_777_216)?,
                 "--seed" => options.seed = number(0..=u32::MAX)?,
                 "--count" => options.count = number(1..=1_000_000)?,
-                "--respawn" if value.is_none() => options.settings.respawn = true,
-                "--nomonsters" if value.is_none() => options.settings.no_monsters = true,
+                "--respawn" if value.is_none() => options.settings.respawn = 1,
+                "--nomonsters" if value.is_none() => options.settings.no_monsters = 1,
                 "--extra" if value.is_none() => options.extra = true,
                 _ => return None,
             }

@@ -1,0 +1,232 @@
+//! The structs and codes of zirmegat.h.
+
+use crate::game::command::Command;
+use crate::game::packet::NoPacket;
+use crate::game::settings::{OutOfRange, Settings};
+
+#[repr(C)]
+pub struct Config {
+    pub limit: u32,
+    pub players: u8,
+    pub me: u8,
+    pub extra: u8,
+    pub settings: Settings,
+}
+
+/// Why there is no node.
+#[repr(u32)]
+#[derive(Clone, Copy)]
+pub enum NewFault {
+    Players = 1,
+    Me = 2,
+    Limit = 4,
+    Memory = 5,
+    Skill = 6,
+    Deathmatch = 7,
+    Episode = 8,
+    Map = 9,
+}
+
+impl From<OutOfRange> for NewFault {
+    fn from(setting: OutOfRange) -> NewFault {
+        match setting {
+            OutOfRange::Skill => NewFault::Skill,
+            OutOfRange::Deathmatch => NewFault::Deathmatch,
+            OutOfRange::Episode => NewFault::Episode,
+            OutOfRange::Map => NewFault::Map,
+        }
+    }
+}
+
+#[repr(u32)]
+#[derive(Clone, Copy)]
+pub enum MadeCode {
+    Made = 0,
+    Full = 1,
+    NotPlaying = 2,
+}
+
+#[repr(C)]
+pub struct Made {
+    pub code: MadeCode,
+    pub tic: u32,
+}
+
+impl Made {
+    pub const NOT_PLAYING: Made = Made { code: MadeCode::NotPlaying, tic: 0 };
+    pub const FULL: Made = Made { code: MadeCode::Full, tic: 0 };
+}
+
+#[repr(C)]
+#[derive(Clone, Copy, Default)]
+pub struct Number {
+    pub known: u32,
+    pub value: u32,
+}
+
+impl From<Option<u32>> for Number {
+    fn from(number: Option<u32>) -> Number {
+        number.map_or(Number::default(), |value| Number { known: 1, value })
+    }
+}
+
+#[repr(C)]
+#[derive(Default)]
+pub struct Aim {
+    pub known: u32,
+    pub ask: Number,
+    pub start: u32,
+    pub flags: u8,
+    pub count: u8,
+}
+
+#[repr(u32)]
+#[derive(Clone, Copy)]
+pub enum HeardCode {
+    Started = 0,
+    Taken = 1,
+    Stale = 2,
+    Gap = 3,
+    Left = 4,
+    Noted = 5,
+    Dropped = 6,
+}
+
+#[repr(C)]
+pub struct Heard {
+    pub code: HeardCode,
+    pub number: u32,
+}
+
+impl Heard {
+    pub const fn new(code: HeardCode) -> Heard {
+        Heard { code, number: 0 }
+    }
+}
+
+/// Why a datagram was dropped.
+#[repr(u32)]
+#[derive(Clone, Copy)]
+pub enum DropFault {
+    Short = 1,
+    Many = 2,
+    Length = 3,
+    Sum = 4,
+    Stranger = 5,
+    OutOfPlace = 6,
+    Version = 7,
+    Range = 8,
+    Kill = 9,
+    Tic = 10,
+    Command = 11,
+    Overrun = 12,
+    NotPlaying = 13,
+    End = 14,
+}
+
+impl From<NoPacket> for DropFault {
+    fn from(fault: NoPacket) -> DropFault {
+        match fault {
+            NoPacket::Short => DropFault::Short,
+            NoPacket::Many => DropFault::Many,
+            NoPacket::Length => DropFault::Length,
+            NoPacket::Sum => DropFault::Sum,
+        }
+    }
+}
+
+impl From<DropFault> for Heard {
+    fn from(fault: DropFault) -> Heard {
+        Heard { code: HeardCode::Dropped, number: fault as u32 }
+    }
+}
+
+#[repr(C)]
+#[derive(Clone, Copy, Default)]
+pub struct Move {
+    pub turn: i16,
+    pub forward: i8,
+    pub side: i8,
+    pub buttons: u8,
+    pub present: u8,
+}
+
+#[repr(u32)]
+#[derive(Clone, Copy)]
+pub enum RanCode {
+    Ran = 0,
+    Waiting = 1,
+    DemoFull = 2,
+    Inconsistent = 3,
+    NotPlaying = 4,
+}
+
+#[repr(C)]
+pub struct Ran {
+    pub code: RanCode,
+    pub tic: u32,
+    pub was: i16,
+    pub should: i16,
+    pub player: u8,
+}
+
+impl Ran {
+    pub const NOT_PLAYING: Ran = Ran::new(RanCode::NotPlaying);
+
+    pub const fn new(code: RanCode) -> Ran {
+        Ran { code, tic: 0, was: 0, should: 0, player: 0 }
+    }
+}
+
+#[repr(C)]
+#[derive(Default)]
+pub struct PhaseAnswer {
+    pub code: u32,
+    pub cause: u32,
+    pub was: i16,
+    pub should: i16,
+    pub player: u8,
+}
+
+#[repr(C)]
+#[derive(Default)]
+pub struct KnownSettings {
+    pub known: u32,
+    pub settings: Settings,
+}
+
+/// A command with its fields in the order of the header.
+#[repr(C)]
+#[derive(Clone, Copy, Default)]
+pub struct CommandFields {
+    pub turn: i16,
+    pub mark: i16,
+    pub forward: i8,
+    pub side: i8,
+    pub chat: u8,
+    pub buttons: u8,
+}
+
+#[repr(C)]
+#[derive(Default)]
+pub struct KnownCommand {
+    pub known: u32,
+    pub command: CommandFields,
+}
+
+impl Command {
+    /// The command that a caller gives, with the node's own mark. A forward of -128 would end a demo.
+    pub fn from_given(given: &CommandFields, mark: i16) -> Command {
+        let &CommandFields { turn, forward, side, chat, buttons, .. } = given;
+        Command { forward: forward.max(-127), side, turn, mark, chat, buttons }
+    }
+
+    pub fn to_fields(self) -> CommandFields {
+        let Command { forward, side, turn, mark, chat, buttons } = self;
+        CommandFields { turn, mark, forward, side, chat, buttons }
+    }
+
+    pub fn to_move(self) -> Move {
+        Move { turn: self.turn, forward: self.forward, side: self.side, buttons: self.buttons, present: 1 }
+    }
+}
