@@ -1,0 +1,87 @@
+-- What is known of a game whose nodes have a history.
+use Rattle.std.proofs.Common.{◌≡◌, ◌≢◌, ℕ, ◌<◌, ◌≤◌, inl, inr, List, [], ◌∷◌, ◌++◌, length, get_or, take, drop, refl}
+use Rattle.std.specs.Prelude.{◌⊎◌, Bool, true, false, Some, None, slice_get}
+use Rattle.std.proofs.lemmas.Bool.{and_right}
+use Rattle.dn_tic.specs.declared.command.TicCmd.{TicCmd}
+use Rattle.dn_machine.specs.Flight.{Exit, Flight, end_of}
+use Rattle.dn_machine.specs.Node as machine
+use Rattle.dn_machine.specs.Node.{ends_of, made, is_ended, has_left}
+use Rattle.dn_machine.specs.Game.{Game}
+use Rattle.dn_machine.specs.Worlds.{Rules}
+use Rattle.dn_vanish.specs.Steps.{IsRun}
+use Rattle.dn_vanish.specs.Commands.{Holder, past_seen, Had, AreHanded}
+use Rattle.dn_remain.specs.Seen.{holder_of, now_of, row_had}
+use Rattle.dn_machine.specs.Limits.{Limits}
+
+-- a packet carries a piece of its sender's list, as it was when the sender had not given up the receiver
+pub record IsTold (players : ℕ) (history : List (ℕ → Holder TicCmd)) (flight : Flight) : Type 0 where
+  pub sender : flight.from < players
+  pub receiver : flight.to < players
+  pub apart : flight.from ≢ flight.to
+  pub state : Holder TicCmd
+  pub had : Had history flight.from state
+  pub open_to : state.gone flight.to ≡ false
+  pub piece : flight.commands ≡ take (length flight.commands) (drop flight.start (state.held flight.from))
+  pub reaches : end_of flight ≤ length (state.held flight.from)
+  pub exit : flight.kind ≡ Exit → (state.left ≡ true) × (end_of flight ≡ length (state.held flight.from))
+
+-- an end that was told is that of one who has left
+abbrev pub IsEnd : (ℕ → machine.Node) → (ℕ → ℕ → Bool) → ℕ → ℕ → ℕ → Type 0
+IsEnd nodes gone q p e = (p ≢ q) × (has_left (nodes p) ≡ true) × (gone p q ≡ false) × (e ≡ made p (nodes p))
+
+pub record Follows {S : Type 0} (known : ℕ → Holder TicCmd → Type 0) (rules : Rules S) (game : Game) (gone : ℕ → ℕ → Bool)
+    (older : List (ℕ → Holder TicCmd)) : Type 0 where
+  pub run : IsRun rules.players rules.ahead (past_seen (now_of game gone ∷ older))
+  pub handed : AreHanded (now_of game gone ∷ older)
+  pub flights : (which : ℕ) (flight : Flight) → slice_get game.flights which ≡ Some flight
+      → IsTold rules.players (now_of game gone ∷ older) flight
+  pub ends : (q p e : ℕ) → ends_of (game.nodes q) p ≡ Some e → gone q p ≡ false → IsEnd game.nodes gone q p e
+  pub endless : (q : ℕ) → ends_of (game.nodes q) q ≡ None
+  pub resend : (q to : ℕ) → ((game.nodes q).peers to).resend ≤ made q (game.nodes q)
+  -- the rows that were run are those of what is seen
+  pub rows : (q tic : ℕ) → tic < machine.ran (game.nodes q)
+      → get_or (game.nodes q).rows tic [] ≡ row_had rules.limits (now_of game gone q) tic
+  -- states of which more is said elsewhere were had
+  pub knows : (r : ℕ) (u : Holder TicCmd) → known r u → Had (now_of game gone ∷ older) r u
+
+pub told_later : (players : ℕ) (history : List (ℕ → Holder TicCmd)) (next : ℕ → Holder TicCmd) (flight : Flight)
+    → IsTold players history flight → IsTold players (next ∷ history) flight
+told_later players history next flight h = record {
+  sender = h.sender;
+  receiver = h.receiver;
+  apart = h.apart;
+  state = h.state;
+  had = inr h.had;
+  open_to = h.open_to;
+  piece = h.piece;
+  reaches = h.reaches;
+  exit = h.exit;
+}
+
+-- what is asked of another node in the place of node `q`, of all that is not in the history
+pub record IsFit (limits : Limits) (nodes : ℕ → machine.Node) (gone : ℕ → ℕ → Bool) (q : ℕ) (new : machine.Node)
+    : Type 0 where
+  pub ends : (p e : ℕ) → ends_of new p ≡ Some e → gone q p ≡ false → IsEnd nodes gone q p e
+  pub endless : ends_of new q ≡ None
+  pub resend : (to : ℕ) → (new.peers to).resend ≤ made q new
+  -- it ran a tic by what is seen, or none
+  pub rows : (new.rows ≡ (nodes q).rows)
+      ⊎ (new.rows ≡ (nodes q).rows ++ row_had limits (holder_of new (gone q)) (machine.ran (nodes q)) ∷ [])
+
+-- the nodes of a game have some history
+abbrev pub Went : {S : Type 0} → (ℕ → Holder TicCmd → Type 0) → Rules S → Game → (ℕ → ℕ → Bool) → Type 0
+Went known rules game gone = (older : List (ℕ → Holder TicCmd)) × Follows known rules game gone older
+
+-- what is asked of a node holds of each that is there
+pub fit_self : {S : Type 0} (known : ℕ → Holder TicCmd → Type 0) (rules : Rules S) (game : Game) (gone : ℕ → ℕ → Bool) (older : List (ℕ → Holder TicCmd))
+    → Follows known rules game gone older → (q : ℕ) → IsFit rules.limits game.nodes gone q (game.nodes q)
+fit_self known rules game gone older follows q = record {
+  ends = follows.ends q;
+  endless = follows.endless q;
+  resend = follows.resend q;
+  rows = inl refl;
+}
+
+-- whose phase is not one of an end has not left
+pub not_left : (node : machine.Node) → is_ended node.phase ≡ false → has_left node ≡ false
+not_left node e = and_right node.played (is_ended node.phase) e

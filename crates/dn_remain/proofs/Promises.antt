@@ -1,0 +1,155 @@
+-- What a history says of its game.
+use Rattle.std.proofs.Common.{◌≡◌, ℕ, ◌<◌, refl, sym, ◌∙◌, ap, arith, inl, List, [], ◌∷◌, length, get_or, drop, ◌≤◌, inr}
+use Rattle.std.specs.Prelude.{Some, slice_get, Bool, true, false, Option, None, if◌then◌else◌}
+use Rattle.std.specs.List.{take_while}
+use Rattle.std.specs.Option.{is_none}
+use Rattle.std.proofs.lemmas.Bool.{cases_lt}
+use Rattle.std.proofs.lemmas.List.{get_or-take}
+use Rattle.std.proofs.lemmas.List.Folds.{length-prefix_len}
+use Rattle.std.proofs.lemmas.List.Prefix.{front_from_reads}
+use Rattle.dn_machine.specs.Promise.{IsPrefixOf}
+use Rattle.dn_machine.proofs.Demos.{front_passes, front_short, seat_is, whole_has}
+use Rattle.dn_vanish.specs.Node.{is_over}
+use Rattle.std.proofs.lemmas.Option.{same_Some, slice_get-get_or}
+use Rattle.dn_tic.specs.declared.command.TicCmd.{TicCmd}
+use Rattle.dn_tic.specs.declared.command.Move.{Move}
+use Rattle.dn_machine.specs.Node.{blank, ran, is_whole, lacks, demo_rows}
+use Rattle.dn_machine.specs.Worlds.{Rules}
+use Rattle.dn_vanish.specs.Promise.{Agree, Fits, lacks_at}
+use Rattle.dn_vanish.specs.Commands.{Holder, seen, past_seen}
+use Rattle.dn_vanish.proofs.Always.{always}
+use Rattle.dn_vanish.proofs.Fitting.{fits}
+use Rattle.dn_vanish.proofs.Handing.{handed, same_held}
+use Rattle.dn_vanish.proofs.Promises.{agree}
+use Rattle.dn_remain.specs.Seen.{end_seen, now_of, row_had}
+use Rattle.dn_remain.specs.Remaining.{Remaining}
+use Rattle.dn_remain.specs.Promise.{AgreeInPairs, FitsInPairs}
+use Rattle.dn_remain.proofs.Seeing.{length_rows}
+use Rattle.dn_remain.proofs.Rows.{same_row}
+use Rattle.dn_remain.proofs.Followed.{IsFollowed}
+
+none_over : (b : Bool) (c : TicCmd) → is_none (if b then None else Some c) ≡ b
+none_over true c = refl
+none_over false c = refl
+
+front_at : (test : List (Option Move) → Bool) (rows : List (List (Option Move))) (tic : ℕ)
+    → tic < length (take_while test rows) → get_or (take_while test rows) tic [] ≡ get_or rows tic []
+front_at test rows tic l = grind (arith, length-prefix_len, get_or-take)
+
+module _ {S : Type 0} (rules : Rules S) (all : Remaining) (older : List (ℕ → Holder TicCmd))
+    (f : IsFollowed rules all older) where
+  agreed : Agree rules.players (past_seen (now_of all.game all.gone ∷ older))
+  agreed = agree rules.players (past_seen (now_of all.game all.gone ∷ older))
+      (always rules.players rules.ahead (past_seen (now_of all.game all.gone ∷ older)) f.follows.run)
+
+  fitted : Fits rules.players rules.ahead (past_seen (now_of all.game all.gone ∷ older))
+  fitted = fits rules.players rules.ahead (past_seen (now_of all.game all.gone ∷ older)) f.follows.run
+
+  long : (q : ℕ) → length ((now_of all.game all.gone q).rows) ≡ ran (all.game.nodes q)
+  long q = length_rows (end_seen (all.game.nodes q)) (ran (all.game.nodes q))
+
+  row_at : (q tic : ℕ) → tic < ran (all.game.nodes q) → slice_get (all.game.nodes q).rows tic
+      ≡ Some (row_had rules.limits (now_of all.game all.gone q) tic)
+  row_at q tic l = slice_get-get_or (all.game.nodes q).rows tic [] l
+      ∙ ap (λ (r : List (Option Move)). Some r) (f.follows.rows q tic l)
+
+  -- a row of a demo lacks nobody
+  whole_at : (q tic p : ℕ) → tic < length (demo_rows rules.players (all.game.nodes q)) → p < rules.players
+      → lacks_at (seen (now_of all.game all.gone q)) tic p ≡ false
+  whole_at q tic p l m =
+      let short = front_short (is_whole rules.players) (all.game.nodes q).rows in
+      let a = long q in
+      let whole : is_whole rules.players (row_had rules.limits (now_of all.game all.gone q) tic) ≡ true =
+      ap (λ (row : List (Option Move)). is_whole rules.players row) (sym (f.follows.rows q tic (omega arith)))
+      ∙ front_passes (is_whole rules.players) (all.game.nodes q).rows tic [] l in
+      ((always rules.players rules.ahead (past_seen (now_of all.game all.gone ∷ older)) f.follows.run).sound q
+      (seen (now_of all.game all.gone q)) (inl refl)).rows p tic m (omega arith)
+      ∙ (sym (none_over (is_over (end_seen (all.game.nodes q) p) tic) (get_or ((all.game.nodes q).held p) tic blank))
+      ∙ whole_has rules.players (λ r. if is_over (end_seen (all.game.nodes q) r) tic then None
+      else Some (get_or ((all.game.nodes q).held r) tic blank)) whole p m)
+
+  demo_at : (q tic : ℕ) → tic < length (demo_rows rules.players (all.game.nodes q))
+      → get_or (demo_rows rules.players (all.game.nodes q)) tic []
+      ≡ row_had rules.limits (now_of all.game all.gone q) tic
+  demo_at q tic l =
+      let short = front_short (is_whole rules.players) (all.game.nodes q).rows in
+      front_at (is_whole rules.players) (all.game.nodes q).rows tic l ∙ f.follows.rows q tic (omega arith)
+
+  demo_begins : (q r : ℕ) → length (demo_rows rules.players (all.game.nodes q)) ≤ length (demo_rows rules.players (all.game.nodes r))
+      → IsPrefixOf (demo_rows rules.players (all.game.nodes q)) (demo_rows rules.players (all.game.nodes r))
+  demo_begins q r l = (
+    drop (length (demo_rows rules.players (all.game.nodes q))) (demo_rows rules.players (all.game.nodes r)),
+    sym (front_from_reads [] (demo_rows rules.players (all.game.nodes r)) (demo_rows rules.players (all.game.nodes q)) l
+        (λ tic m.
+        let a = long q in
+        let b = long r in
+        let s = front_short (is_whole rules.players) (all.game.nodes q).rows in
+        let t = front_short (is_whole rules.players) (all.game.nodes r).rows in
+        let n : tic < length (demo_rows rules.players (all.game.nodes r)) = omega arith in
+        demo_at r tic n
+        ∙ (same_row rules.limits (now_of all.game all.gone ∷ older) f.follows.handed f.follows.run r q
+        (now_of all.game all.gone r) (now_of all.game all.gone q) (inl refl) (inl refl) tic (omega arith) (omega arith)
+        (λ p o. whole_at r tic p n o ∙ sym (whole_at q tic p m o))
+        ∙ sym (demo_at q tic m)))),
+  )
+
+  pub pairs_agree : AgreeInPairs rules.limits all
+  pairs_agree = record {
+    same = λ q r tic k l m.
+        let a = long q in
+        let b = long r in
+        let i : tic < length ((now_of all.game all.gone q).rows) = omega arith in
+        let j : tic < length ((now_of all.game all.gone r).rows) = omega arith in
+        row_at q tic l ∙ (ap (λ (row : List (Option Move)). Some row)
+        (same_row rules.limits (now_of all.game all.gone ∷ older) f.follows.handed f.follows.run q r
+        (now_of all.game all.gone q) (now_of all.game all.gone r) (inl refl) (inl refl) tic i j
+        (λ p n. agreed.rows_same q r p tic (seen (now_of all.game all.gone q)) (seen (now_of all.game all.gone r))
+        k.one k.other n k.apart (inl refl) (inl refl) k.here k.there i j))
+        ∙ sym (row_at r tic m));
+    ends_same = λ q r p a b k s t. agreed.ends_same q r p a b (seen (now_of all.game all.gone q))
+        (seen (now_of all.game all.gone r)) k.one k.other k.apart (inl refl) (inl refl) k.here k.there s t;
+    at_least = λ q r p a k s. agreed.at_least q r p a (seen (now_of all.game all.gone q))
+        (seen (now_of all.game all.gone r)) k.one k.other k.apart (inl refl) (inl refl) k.here k.there s;
+    without = λ q p tic l m n.
+        let a = long q in
+        ap (λ (row : List (Option Move)). lacks row p) (f.follows.rows q tic n)
+        ∙ seat_is rules.players (λ r. if is_over (end_seen (all.game.nodes q) r) tic then None
+        else Some (get_or ((all.game.nodes q).held r) tic blank)) p l m
+        ∙ none_over (is_over (end_seen (all.game.nodes q) p) tic) (get_or ((all.game.nodes q).held p) tic blank);
+    at_most = λ q p a s. agreed.at_most q p a (seen (now_of all.game all.gone q)) (inl refl) s;
+    held = λ q r p tic l m. same_Some _ _
+        (sym (slice_get-get_or ((all.game.nodes q).held p) tic blank l)
+        ∙ (same_held (now_of all.game all.gone ∷ older) f.follows.handed q r p tic (now_of all.game all.gone q)
+        (now_of all.game all.gone r) (inl refl) (inl refl) l m
+        ∙ slice_get-get_or ((all.game.nodes r).held p) tic blank m));
+    demos = λ q r. elim (cases_lt (length (demo_rows rules.players (all.game.nodes q)))
+        (length (demo_rows rules.players (all.game.nodes r)))) [
+          | inl l ↦ inl (demo_begins q r (omega arith))
+          | inr l ↦ inr (demo_begins r q l)
+        ];
+    begins = λ q p. handed (now_of all.game all.gone ∷ older) f.follows.handed q p (now_of all.game all.gone q) (inl refl);
+  }
+
+  pub pairs_fit : FitsInPairs rules.limits all
+  pairs_fit = record {
+    run = λ q p l none.
+        let a = long q in
+        let b = fitted.run q p (seen (now_of all.game all.gone q)) (inl refl) l none in
+        omega arith;
+    unread = λ q p l.
+        let a = long q in
+        let b = fitted.unread q p (seen (now_of all.game all.gone q)) l (inl refl) in
+        omega arith;
+    held = λ q p. fitted.held q p (seen (now_of all.game all.gone q)) (inl refl);
+    own = λ p.
+        let a = long p in
+        let b = fitted.own p (seen (now_of all.game all.gone p)) (inl refl) in
+        omega arith;
+    close = λ q p l h g. fitted.close q p p (seen (now_of all.game all.gone p)) l h (inl refl) g;
+    overrun = λ q r p l h g.
+        let a = long q in
+        let b = fitted.overrun q r p (seen (now_of all.game all.gone r)) l h (inl refl) g in
+        omega arith;
+    unheard = λ q r p k l h. fitted.unheard q r p (seen (now_of all.game all.gone r)) k.one k.other l k.apart h k.here
+        (inl refl) k.there;
+  }

@@ -1,0 +1,81 @@
+-- Rows of what is seen stay as they are.
+use Rattle.std.proofs.Common.{◌≡◌, ℕ, ◌<◌, ◌≤◌, sym, ◌∙◌, ap, arith, inl, inr, List, [], ◌∷◌, ◌++◌, length, get_or}
+use Rattle.std.specs.Prelude.{◌⊎◌, if◌then◌else◌, Option, Some, None}
+use Rattle.std.proofs.lemmas.Bool.{cases_Bool, cases_lt, cond-true, cond-false}
+use Rattle.std.proofs.lemmas.List.{length_push, get_or_append_left, get_or_push}
+use Rattle.std.proofs.lemmas.Option.{same_Some, slice_get-get_or}
+use Rattle.dn_tic.specs.declared.command.TicCmd.{TicCmd}
+use Rattle.dn_tic.specs.declared.command.Move.{Move}
+use Rattle.dn_machine.specs.Limits.{Limits}
+use Rattle.dn_machine.specs.Node.{blank}
+use Rattle.dn_machine.proofs.Truth.{row_of_same}
+use Rattle.dn_vanish.specs.Node.{is_over}
+use Rattle.dn_vanish.specs.Promise.{lacks_at}
+use Rattle.dn_vanish.specs.Steps.{IsRun}
+use Rattle.dn_vanish.specs.Commands.{Holder, seen, past_seen, Had, AreHanded}
+use Rattle.dn_vanish.proofs.Invariant.{IsGrown}
+use Rattle.dn_vanish.proofs.Always.{always}
+use Rattle.dn_vanish.proofs.Handing.{same_held, was_seen, row_held}
+use Rattle.dn_remain.specs.Seen.{row_had}
+
+-- of two states, at whichever nodes, which ran a tic and whose rows lack the same players
+module _ (limits : Limits) (history : List (ℕ → Holder TicCmd)) (handed : AreHanded history)
+    (run : IsRun limits.players limits.ahead (past_seen history)) (x z : ℕ) (u v : Holder TicCmd)
+    (w : Had history x u) (y : Had history z v) (tic : ℕ) (a : tic < length u.rows) (b : tic < length v.rows)
+    (same : (p : ℕ) → p < limits.players → lacks_at (seen u) tic p ≡ lacks_at (seen v) tic p) where
+  over : (q : ℕ) (s : Holder TicCmd) → Had history q s → tic < length s.rows → (p : ℕ) → p < limits.players
+      → lacks_at (seen s) tic p ≡ is_over (s.ends p) tic
+  over q s h l p m = ((always limits.players limits.ahead (past_seen history) run).sound q (seen s)
+      (was_seen history q s h)).rows p tic m l
+
+  seat : (p : ℕ) → p < limits.players
+      → (if is_over (u.ends p) tic then None else Some (get_or (u.held p) tic blank))
+      ≡ (if is_over (v.ends p) tic then None else Some (get_or (v.held p) tic blank))
+  seat p l =
+      let e : is_over (u.ends p) tic ≡ is_over (v.ends p) tic =
+      sym (over x u w a p l) ∙ (same p l ∙ over z v y b p l) in
+      elim (cases_Bool (is_over (u.ends p) tic)) [
+        | inl t ↦ cond-true (is_over (u.ends p) tic) None (Some (get_or (u.held p) tic blank)) t
+            ∙ sym (cond-true (is_over (v.ends p) tic) None (Some (get_or (v.held p) tic blank)) (sym e ∙ t))
+        | inr f ↦
+            let i = row_held limits.players limits.ahead history handed run x p tic u l w a (over x u w a p l ∙ f) in
+            let j = row_held limits.players limits.ahead history handed run z p tic v l y b
+            (over z v y b p l ∙ (sym e ∙ f)) in
+            let k : get_or (u.held p) tic blank ≡ get_or (v.held p) tic blank =
+            same_Some _ _ (sym (slice_get-get_or (u.held p) tic blank i)
+            ∙ (same_held history handed x z p tic u v w y i j ∙ slice_get-get_or (v.held p) tic blank j)) in
+            cond-false (is_over (u.ends p) tic) None (Some (get_or (u.held p) tic blank)) f
+            ∙ (ap (λ (c : TicCmd). Some c) k
+            ∙ sym (cond-false (is_over (v.ends p) tic) None (Some (get_or (v.held p) tic blank)) (sym e ∙ f)))
+      ]
+
+  pub same_row : row_had limits u tic ≡ row_had limits v tic
+  same_row = row_of_same limits.players _ _ seat
+
+-- a node's rows after a step, which ran a tic or did not
+module _ (limits : Limits) (history : List (ℕ → Holder TicCmd)) (handed : AreHanded history)
+    (run : IsRun limits.players limits.ahead (past_seen history)) (q : ℕ) (u v : Holder TicCmd)
+    (w : Had history q u) (y : Had history q v) (grown : IsGrown (seen u) (seen v))
+    (olds news : List (List (Option Move))) (long : length u.rows ≡ length olds) (long' : length v.rows ≡ length news)
+    (before : (tic : ℕ) → tic < length olds → get_or olds tic [] ≡ row_had limits u tic) where
+  old_row : (tic : ℕ) → tic < length olds → get_or olds tic [] ≡ row_had limits v tic
+  old_row tic l =
+      let more : length u.rows ≤ length v.rows = grown.more in
+      before tic l ∙ same_row limits history handed run q q u v w y tic (omega arith) (omega arith)
+      (λ p m. sym (grown.same tic p (omega arith)))
+
+  pub rows_are : ((news ≡ olds) ⊎ (news ≡ olds ++ row_had limits v (length olds) ∷ [])) → (tic : ℕ)
+      → tic < length news → get_or news tic [] ≡ row_had limits v tic
+  rows_are (inl e) tic l =
+      let c = ap (length {A = List (Option Move)}) e in
+      ap (λ (rows : List (List (Option Move))). get_or rows tic []) e ∙ old_row tic (omega arith)
+  rows_are (inr e) tic l =
+      let c = ap (length {A = List (Option Move)}) e in
+      let d = length_push olds (row_had limits v (length olds)) in
+      ap (λ (rows : List (List (Option Move))). get_or rows tic []) e ∙ elim (cases_lt tic (length olds)) [
+        | inl m ↦ get_or_append_left olds (row_had limits v (length olds) ∷ []) [] tic m ∙ old_row tic m
+        | inr m ↦
+            let last : length olds ≡ tic = omega arith in
+            get_or_push olds (row_had limits v (length olds)) [] tic last
+            ∙ ap (λ (i : ℕ). row_had limits v i) last
+      ]

@@ -1,0 +1,105 @@
+-- Every node that has started has the key player's settings, whoever was given up.
+use Rattle.std.proofs.Common.{◌≡◌, ℕ, refl, sym, ◌∙◌, ap, arith}
+use Rattle.std.specs.Prelude.{Bool, ℤ, true, Option, Some}
+use Rattle.std.proofs.lemmas.Bool.{cond_both}
+use Rattle.std.proofs.lemmas.Option.{none-some}
+use Rattle.dn_setup.specs.Settings.{Settings}
+use Rattle.dn_setup.specs.Gathered.{all_noted}
+use Rattle.dn_tic.specs.declared.input.Input.{Input}
+use Rattle.dn_machine.specs.declared.answers.Heard.{Heard}
+use Rattle.dn_machine.specs.declared.answers.Phase.{Phase}
+use Rattle.dn_machine.specs.declared.answers.Phase.TheVariants.{Listening, Gathering, Playing, Ended}
+use Rattle.dn_machine.specs.Flight.{SetUp, Flight}
+use Rattle.dn_machine.specs.Limits.{Limits}
+use Rattle.dn_machine.specs.Node.{Node, put}
+use Rattle.dn_machine.specs.Building.{on_build}
+use Rattle.dn_machine.specs.Sending.{set_up_flight, on_send}
+use Rattle.dn_machine.specs.Hearing.{on_packet}
+use Rattle.dn_machine.specs.Running.{on_run, on_quit}
+use Rattle.dn_machine.proofs.Calls.{build_cases, send_cases, run_cases, quit_cases, packet_cases}
+use Rattle.dn_remain.specs.Wary.{Report, settled, noted_gone}
+
+-- who gathers, or has started, has these settings
+pub record IsSet (settings : Settings) (node : Node) : Type 0 where
+  pub gathers : node.phase ≡ Gathering → node.settings ≡ Some settings
+  pub played : node.played ≡ true → node.settings ≡ Some settings
+
+-- a set-up packet carries them
+abbrev pub Carries : Settings → Flight → Type 0
+Carries settings flight = (s : Settings) → flight.kind ≡ SetUp s → s ≡ settings
+
+phase_apart : (phase : Phase) → phase ≡ Gathering → (phase ≡ Playing) → ⊥
+phase_apart phase e f = absurd (cc)
+
+-- with another phase, that is not Gathering
+ended_set : (settings : Settings) (node new : Node) → IsSet settings node → new.settings ≡ node.settings
+    → new.played ≡ node.played → (new.phase ≡ Gathering → node.phase ≡ Gathering) → IsSet settings new
+ended_set settings node new h s p e = record {
+  gathers = λ g. s ∙ h.gathers (e g);
+  played = λ t. s ∙ h.played (sym p ∙ t);
+}
+
+-- a node that starts
+started_set : (settings : Settings) (new : Node) → new.settings ≡ Some settings → IsSet settings new
+started_set settings new s = record { gathers = λ g. s; played = λ t. s }
+
+module _ (settings : Settings) (limits : Limits) (me : ℕ) (node : Node) (h : IsSet settings node) where
+  pub set_build : (input : Input) → IsSet settings (on_build limits me node input).0
+  set_build input = build_cases limits me node (λ (n : Node). IsSet settings n) input (λ full. h)
+      (λ plays room. ended_set settings node _ h refl refl (λ g. g))
+
+  pub set_run : (marks : ℕ → ℤ) → IsSet settings (on_run limits node marks).0
+  set_run marks = run_cases limits me node marks (λ (n : Node). IsSet settings n) (λ waits. h)
+      (λ player plays ready off. ended_set settings node _ h refl refl (λ g. absurd (cc)))
+      (λ plays ready full. ended_set settings node _ h refl refl (λ g. absurd (cc)))
+      (λ plays ready room. ended_set settings node _ h refl refl (λ g. g))
+
+  pub set_quit : IsSet settings (on_quit node).0
+  set_quit = quit_cases limits me node (λ (n : Node). IsSet settings n) h
+      (λ on. ended_set settings node _ h refl refl (λ g. absurd (cc)))
+
+  pub set_sent : (to : ℕ) → IsSet settings (on_send limits me node to).0
+      × ((flight : Flight) → (on_send limits me node to).1 ≡ Some flight → Carries settings flight)
+  set_sent to = send_cases limits me node
+      (λ (r : Node × Option Flight). IsSet settings r.0 × ((flight : Flight) → r.1 ≡ Some flight → Carries settings flight)) to
+      (h, λ flight e. absurd (none-some flight e))
+      (λ other g. (h, λ flight e. carried node.settings (h.gathers g) flight e))
+      (λ other plays. (
+        ended_set settings node _ h refl refl (λ g. g),
+        λ flight e s k. absurd (cc),
+      ))
+      (λ other left. (
+        ended_set settings node _ h refl refl (λ g. g),
+        λ flight e s k. absurd (grind arith),
+      ))
+    where
+      carried : (o : Option Settings) → o ≡ Some settings → (flight : Flight) → set_up_flight me to o ≡ Some flight
+          → Carries settings flight
+      carried o is flight e s k = grind arith
+
+  pub set_hears : (flight : Flight) → Carries settings flight → IsSet settings (on_packet limits me node flight).0
+  set_hears flight carries = packet_cases limits me node flight (λ (r : Node × Heard). IsSet settings r.0) (record {
+    dropped = λ number why. h;
+    starts = λ s listens kind. started_set settings _ (ap (λ (i : Settings). Some i) (carries s kind));
+    completes = λ word g all. started_set settings _ (h.gathers g);
+    notes = λ word g some. ended_set settings node _ h refl refl (λ e. e);
+    commands = λ plays. record {
+      dropped = λ number why. h;
+      stale = λ l. ended_set settings node _ h refl refl (λ g. g);
+      gap = λ l. ended_set settings node _ h refl refl (λ g. g);
+      takes = λ first high. ended_set settings node _ h refl refl (λ g. g);
+    };
+    requests = λ ended. ended_set settings node _ h refl refl (λ g. g);
+  })
+
+  pub set_noted : (player : ℕ) (phase : Phase) → node.phase ≡ phase → IsSet settings (noted_gone limits node player phase)
+  set_noted player Listening e = h
+  set_noted player Playing e = h
+  set_noted player (Ended cause) e = h
+  set_noted player Gathering e = cond_both (all_noted limits.players (put node.noted player true)) _ _
+      (λ (r : Node × Heard). IsSet settings r.0)
+      (λ all. started_set settings _ (h.gathers e))
+      (λ some. ended_set settings node _ h refl refl (λ g. g))
+
+  pub set_settled : (gone : ℕ → Bool) (decided : Report) → IsSet settings (settled node gone decided)
+  set_settled gone decided = ended_set settings node _ h refl refl (λ g. g)

@@ -1,0 +1,5 @@
+pub mod Seen
+pub mod Wary
+pub mod Remaining
+pub mod RunsRemain
+pub mod Promise

@@ -1,0 +1,89 @@
+-- A game in which players may be given up.
+use Rattle.std.specs.Prelude.{ℕ, Bool, false, nat_lt, if◌then◌else◌, List, [], ◌∷◌, ◌++◌, Option, Some, None, slice_get}
+use Rattle.dn_setup.specs.Settings.{Settings}
+use Rattle.dn_machine.specs.declared.events.Event.{Event}
+use Rattle.dn_machine.specs.declared.events.Event.TheVariants.{Send, Deliver}
+use Rattle.dn_machine.specs.declared.events.Refusal.{Refusal}
+use Rattle.dn_machine.specs.Flight.{Flight}
+use Rattle.dn_machine.specs.Game.{Game, opening_game, with_node, refused_at}
+use Rattle.dn_machine.specs.Node.{put}
+use Rattle.dn_machine.specs.Limits.{Limits}
+use Rattle.dn_remain.specs.Wary.{Report, Wary, on_give_up, on_report, report_to}
+
+-- a report under way: who tells it to whom, and what
+pub record Telling : Type 0 where
+  pub from : ℕ
+  pub to : ℕ
+  pub report : Report
+
+-- a game; by node, whom it has given up, and the newest report that it has of each player; and every report
+-- that was ever told, in order
+pub record Remaining : Type 0 where
+  pub game : Game
+  pub gone : ℕ → ℕ → Bool
+  pub newest : ℕ → ℕ → Option Report
+  pub reports : List Telling
+
+-- nobody has given up anybody, and nothing was told
+unfoldable pub opening_remaining : Settings → Remaining
+opening_remaining settings =
+    record {
+      game = opening_game settings;
+      gone = λ node player. false;
+      newest = λ node player. None;
+      reports = [];
+    }
+
+-- one of its nodes
+abbrev pub wary_of : Remaining → ℕ → Wary
+wary_of all node = record { node = all.game.nodes node; gone = all.gone node; newest = all.newest node }
+
+-- another in its place
+abbrev pub with_wary : Remaining → ℕ → Wary → Remaining
+with_wary all node wary =
+    record all {
+      game = with_node all.game node wary.node;
+      gone = put all.gone node wary.gone;
+      newest = put all.newest node wary.newest;
+    }
+
+-- what is refused changes nothing
+abbrev pub unless : Option Refusal → Remaining → Remaining → Remaining
+unless (Some refusal) old new = old
+unless None old new = new
+
+-- a node was told to give up a player
+abbrev pub after_give_up : Limits → Remaining → ℕ → ℕ → Remaining
+after_give_up limits all node player = unless (refused_at limits.players all.game node) all
+    (with_wary all node (on_give_up limits node (wary_of all node) player).0)
+
+-- a report joins those that were told, if there is one
+abbrev pub with_telling : Remaining → ℕ → ℕ → Option Report → Remaining
+with_telling all node to None = all
+with_telling all node to (Some report) =
+    record all { reports = all.reports ++ (record { from = node; to = to; report = report }) ∷ [] }
+
+-- a node was asked for a report to another
+abbrev pub after_telling : Limits → Remaining → ℕ → ℕ → Remaining
+after_telling limits all node to = unless (refused_at limits.players all.game node) all
+    (if nat_lt to limits.players
+    then with_telling all node to (report_to limits node (wary_of all node) to)
+    else all)
+
+-- a report came to its receiver; it stays among those that were told, and may come again
+abbrev pub after_hearing : Limits → Remaining → Option Telling → Remaining
+after_hearing limits all None = all
+after_hearing limits all (Some telling) = unless (refused_at limits.players all.game telling.to) all
+    (with_wary all telling.to
+    (on_report limits telling.to (wary_of all telling.to) telling.from telling.report).0)
+
+-- nothing is heard of one who is given up
+abbrev pub is_barred_flight : Remaining → Option Flight → Bool
+is_barred_flight all None = false
+is_barred_flight all (Some flight) = all.gone flight.to flight.from
+
+-- and nothing is sent to one. All else that may happen in a game may happen here
+abbrev pub is_barred : Remaining → Event → Bool
+is_barred all (Send node to) = all.gone node to
+is_barred all (Deliver which) = is_barred_flight all (slice_get all.game.flights which)
+is_barred all _ = false

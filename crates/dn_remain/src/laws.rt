@@ -1,0 +1,147 @@
+//! What holds of every game.
+
+ghost use Rattle.std.specs.Prelude.{◌≡◌, ℕ, List, [], ◌∷◌, true, false, Some, get_or, map};
+ghost use Rattle.dn_tic.specs.declared.command.TicCmd.{TicCmd};
+ghost use Rattle.dn_setup.specs.Settings.{Settings};
+ghost use Rattle.dn_machine.specs.declared.events.Event.{Event};
+ghost use Rattle.dn_machine.specs.Game.{Game};
+ghost use Rattle.dn_machine.specs.Limits.{Limits, IsWindow, vanilla_limits};
+ghost use Rattle.dn_machine.specs.Node.{ends_of, got, lacks, ran};
+ghost use Rattle.dn_machine.specs.Promise.{Agree, Fits, Steady};
+ghost use Rattle.dn_machine.specs.Runs.{Runs};
+ghost use Rattle.dn_machine.specs.Worlds.{rules_of, rules_within};
+ghost use Rattle.dn_vanish.specs.Calls.{is_newer};
+ghost use Rattle.dn_vanish.specs.Commands.{AreHanded, Holder, past_seen, seen};
+ghost use Rattle.dn_vanish.specs.Steps.{IsRun};
+ghost use Rattle.dn_remain.specs.Seen.{end_seen, now_of};
+ghost use Rattle.dn_remain.specs.Wary.{Report, Wary, is_in_game, newest_seen, on_give_up, on_report, undecided};
+ghost use Rattle.dn_remain.specs.Remaining.{Remaining};
+ghost use Rattle.dn_remain.specs.RunsRemain.{NobodyGivenUp, RunsRemain};
+ghost use Rattle.dn_remain.specs.Promise.{AgreeInPairs, FitsInPairs, IsPair};
+ghost use Rattle.dn_remain.specs.declared.events.GivenUp.{GivenUp};
+ghost use Rattle.dn_remain.specs.declared.events.Reported.{Reported};
+ghost use Rattle.dn_remain.specs.declared.events.RemainEvent.{RemainEvent};
+ghost use Rattle.dn_remain.specs.declared.events.RemainEvent.TheVariants.{Own};
+
+use dn_world::World;
+
+/// After every list of events, in any window, what the nodes have is a history of `dn_vanish` in which nobody
+/// is given up: its counts are a run of steps, and its lists are handed on. So all laws of `dn_vanish` hold of
+/// them.
+pub fn games_are_histories<W: World>()
+    ensures { (limits : Limits) (settings : Settings) (events : List Event) (game : Game)
+        → Runs (rules_within W.physics limits) settings events game
+        → (older : List (ℕ → Holder TicCmd))
+        × IsRun limits.players limits.ahead (past_seen (now_of game (λ node player. false) ∷ older))
+        × AreHanded (now_of game (λ node player. false) ∷ older) }
+{}
+
+/// The same of every list of events in which players may be given up: a give-up, a report that comes and a
+/// decision are steps too.
+pub fn remaining_games_are_histories<W: World>()
+    ensures { (limits : Limits) (settings : Settings) (events : List RemainEvent) (all : Remaining)
+        → RunsRemain (rules_within W.physics limits) settings events all
+        → (older : List (ℕ → Holder TicCmd))
+        × IsRun limits.players limits.ahead (past_seen (now_of all.game all.gone ∷ older))
+        × AreHanded (now_of all.game all.gone ∷ older) }
+{}
+
+/// So, in any window: any two nodes of which neither has given up the other know the same ends, and ran the
+/// same row for each tic that both ran; any two nodes at all have the same command of a player wherever both
+/// have one, and of their demos one is a prefix of the other; no ring overwrites a command that is still
+/// needed; and every node that has started has the key player's settings.
+pub fn those_who_remain_agree<W: World>()
+    ensures agree { (limits : Limits) (settings : Settings) (events : List RemainEvent) (all : Remaining)
+        → RunsRemain (rules_within W.physics limits) settings events all → AgreeInPairs limits all }
+    ensures fits { (limits : Limits) (settings : Settings) (events : List RemainEvent) (all : Remaining)
+        → RunsRemain (rules_within W.physics limits) settings events all → FitsInPairs limits all }
+    ensures settings { (limits : Limits) (settings : Settings) (events : List RemainEvent) (all : Remaining)
+        → RunsRemain (rules_within W.physics limits) settings events all → (q : ℕ)
+        → (all.game.nodes q).played ≡ true → (all.game.nodes q).settings ≡ Some settings }
+{}
+
+/// A game in which nobody was given up is one that a list of the machine's own events leads to. So all that
+/// holds of those games holds of it, word for word.
+pub fn quiet_games_are_games<W: World>()
+    ensures { (limits : Limits) (settings : Settings) (events : List RemainEvent) (all : Remaining)
+        → RunsRemain (rules_within W.physics limits) settings events all → NobodyGivenUp all
+        → (own : List Event) × Runs (rules_within W.physics limits) settings own all.game }
+{}
+
+/// So in such a game, in any window: all nodes agree, no ring overwrites a command that is still needed, and no
+/// check failed. These are the words of `every_window_agrees`.
+pub fn quiet_games_agree<W: World>()
+    ensures agree { (limits : Limits) (settings : Settings) (events : List RemainEvent) (all : Remaining)
+        → IsWindow limits → RunsRemain (rules_within W.physics limits) settings events all
+        → NobodyGivenUp all → Agree (rules_within W.physics limits) settings all.game }
+    ensures fits { (limits : Limits) (settings : Settings) (events : List RemainEvent) (all : Remaining)
+        → IsWindow limits → RunsRemain (rules_within W.physics limits) settings events all
+        → NobodyGivenUp all → Fits (rules_within W.physics limits) all.game }
+    ensures steady { (limits : Limits) (settings : Settings) (events : List RemainEvent) (all : Remaining)
+        → IsWindow limits → RunsRemain (rules_within W.physics limits) settings events all
+        → NobodyGivenUp all → Steady (rules_within W.physics limits) all.game }
+{}
+
+/// And every game of the machine is such a game: nothing that could happen before is lost.
+pub fn games_are_quiet_games<W: World>()
+    ensures { (limits : Limits) (settings : Settings) (own : List Event) (game : Game)
+        → Runs (rules_within W.physics limits) settings own game
+        → (all : Remaining) × RunsRemain (rules_within W.physics limits) settings (map Own own) all
+        × NobodyGivenUp all × (all.game ≡ game) }
+{}
+
+/// A game of three in the window of 1997, as an example: player 0 makes one command, which player 1 takes and
+/// player 2 never hears, and stops. The others give it up, tell each other what they have, and both run one tic
+/// with it and one without.
+pub fn a_game_goes_on<W: World>()
+    ensures { (settings : Settings) → (events : List RemainEvent) × (all : Remaining)
+        × RunsRemain (rules_of W.physics 3 false 100) settings events all
+        × (all.game.stopped 0 ≡ true) × (all.gone 1 0 ≡ true) × (all.gone 2 0 ≡ true)
+        × IsPair (vanilla_limits 3 false 100) all 1 2
+        × (end_seen (all.game.nodes 1) 0 ≡ Some 1) × (end_seen (all.game.nodes 2) 0 ≡ Some 1)
+        × (ran (all.game.nodes 1) ≡ 2) × (ran (all.game.nodes 2) ≡ 2)
+        × (lacks (get_or (all.game.nodes 2).rows 0 []) 0 ≡ false)
+        × (lacks (get_or (all.game.nodes 2).rows 1 []) 0 ≡ true)
+        × (lacks (get_or (all.game.nodes 2).rows 1 []) 1 ≡ false) }
+{}
+
+/// And of three, of whom player 2 is given up before the start: the others start, and run a tic without it.
+pub fn a_game_starts<W: World>()
+    ensures { (settings : Settings) → (events : List RemainEvent) × (all : Remaining)
+        × RunsRemain (rules_of W.physics 3 false 100) settings events all
+        × (ran (all.game.nodes 0) ≡ 1) × (ran (all.game.nodes 1) ≡ 1)
+        × (lacks (get_or (all.game.nodes 1).rows 0 []) 2 ≡ true)
+        × (lacks (get_or (all.game.nodes 1).rows 0 []) 0 ≡ false) }
+{}
+
+/// What is answered is so. A node that has decided knows the ends of all whom it has given up, and has the
+/// commands before them; one that has not lacks a report, and it can be told whose. And a report of one who was
+/// given up, or who has given up the node, or one older than the newest of its sender, changes nothing.
+pub fn answers_are_true()
+    ensures decided { (limits : Limits) (me player : ℕ) (wary : Wary)
+        → (on_give_up limits me wary player).1 ≡ GivenUp.Decided → (p : ℕ)
+        → (on_give_up limits me wary player).0.gone p ≡ true
+        → ends_of (on_give_up limits me wary player).0.node p
+        ≡ Some (got (on_give_up limits me wary player).0.node p) }
+    ensures waiting { (limits : Limits) (me player : ℕ) (wary : Wary)
+        → (on_give_up limits me wary player).1 ≡ GivenUp.Waiting
+        → (r : ℕ) × (undecided limits me (on_give_up limits me wary player).0 ≡ Some r) }
+    ensures decided_then { (limits : Limits) (me from : ℕ) (wary : Wary) (report : Report)
+        → (on_report limits me wary from report).1 ≡ Reported.Decided → (p : ℕ)
+        → (on_report limits me wary from report).0.gone p ≡ true
+        → ends_of (on_report limits me wary from report).0.node p
+        ≡ Some (got (on_report limits me wary from report).0.node p) }
+    ensures waiting_still { (limits : Limits) (me from : ℕ) (wary : Wary) (report : Report)
+        → (on_report limits me wary from report).1 ≡ Reported.Kept
+        → (r : ℕ) × (undecided limits me (on_report limits me wary from report).0 ≡ Some r) }
+    ensures barred { (limits : Limits) (me from : ℕ) (wary : Wary) (report : Report)
+        → is_in_game wary.node.phase ≡ true → wary.gone from ≡ true
+        → on_report limits me wary from report ≡ (wary, Reported.Dropped 15) }
+    ensures excluded { (limits : Limits) (me from : ℕ) (wary : Wary) (report : Report)
+        → is_in_game wary.node.phase ≡ true → wary.gone from ≡ false → report.gone me ≡ true
+        → on_report limits me wary from report ≡ (wary, Reported.Excluded) }
+    ensures stale { (limits : Limits) (me from : ℕ) (wary : Wary) (report : Report)
+        → is_in_game wary.node.phase ≡ true → wary.gone from ≡ false → report.gone me ≡ false
+        → is_newer limits.players (newest_seen wary from) (seen report) ≡ false
+        → on_report limits me wary from report ≡ (wary, Reported.Stale) }
+{}

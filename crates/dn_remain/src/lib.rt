@@ -1,0 +1,23 @@
+//! A game in which players may be given up: the game of `dn_machine`, with the rules of `dn_vanish` for those
+//! who vanish. No code runs here, and no code elsewhere runs these definitions yet, so nothing is promised of
+//! engines or programs. The definitions stand in `specs/`, to be read in the order of `specs/Lib.antt`.
+//!
+//! Nothing of `dn_machine` is changed. Beside its game stand, for each node, whom it has given up and the
+//! newest report of each player, and beside its events three more: a node gives up a player, tells another
+//! what it has, and hears what was told. A game in which nobody is given up is one of the machine's, and
+//! every game of the machine is one.
+//!
+//! What is said of reports in `dn_vanish` holds here too: they are true, no side of a split is the right one,
+//! and nobody comes back. Not said yet is, of games in which somebody was given up, that no consistency check
+//! fails, and that those who remain go on.
+#![tactic(auto)]
+
+mod events;
+mod laws;
+
+pub use events::{GivenUp, RemainEvent, Reported};
+pub use laws::{
+    a_game_goes_on, a_game_starts, answers_are_true, games_are_histories, games_are_quiet_games,
+    quiet_games_agree, quiet_games_are_games, remaining_games_are_histories,
+    those_who_remain_agree,
+};
