@@ -62,7 +62,7 @@ pub fn pieces_end_as_their_join<W: World>()
         → IsSameEnd W.state W.physics one other }
 {}
 
-/// The rows that a feed tells are those that its bytes have. Of bytes that are read as a demo they are the
+/// The rows that a feed returns are those that its bytes have. Of bytes that are read as a demo they are the
 /// demo's rows, and no others.
 pub fn told_rows_are_read<W: World>()
     ensures told { (bytes : List ℕ) (feed : Feeding W) (rows : List (List (Option Move)))

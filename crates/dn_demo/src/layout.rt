@@ -72,7 +72,7 @@ impl Layout {
         HEADER + self.size() * command
     }
 
-    /// The move that a command tells.
+    /// The move of a command.
     #[inline(always)]
     pub(crate) fn tell(self, command: &[u8]) -> Move
         requires { length command.now ≡ command_size (layout_of self) }

@@ -76,7 +76,7 @@ pub(crate) fn commands_before_marker(bytes: &[u8], layout: Layout) -> Option<usi
     None
 }
 
-/// The move that a command tells, which stands at this index of the bytes, whatever stands in front of them.
+/// The move of the command at this index of the bytes, whatever stands in front of it.
 #[inline(always)]
 fn told_at(bytes: &[u8], layout: Layout, at: usize) -> Move
     requires { at + command_size (layout_of layout) ≤ length bytes.now }

@@ -13,7 +13,8 @@ use Rattle.dn_seal.specs.declared.seal.Seal.{Seal}
 use Rattle.dn_open.specs.OpenGames.{IsGenuine}
 use Rattle.dn_open.specs.Sealed.{IsSealedAs, WasSealed}
 
--- whatever session the lockstep was in, it goes on after a packet to a peer in its envelope, which was sealed in it
+-- whatever session the lockstep was in, it goes on after a packet to a peer in its envelope, which was sealed
+-- in it
 abbrev pub SealsOn : Seal → ℕ → Contents → Contents → Option (ArrayVec ℕ) → Type 0
 SealsOn seal to old new sent =
     (marking : Marking) (limits : Limits) (settings : Settings) (session : Session) (player : ℕ)

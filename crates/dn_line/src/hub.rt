@@ -91,7 +91,7 @@ impl MemoryHub {
         own < players && other < players && own != other && !self.queues[other].is_full()
     }
 
-    /// Puts a datagram into a queue, or answers that it cannot be taken.
+    /// Puts a datagram into a queue, or returns that it cannot be taken.
     fn take(&mut self, me: u8, to: u8, bytes: &[u8]) -> Result<(), LineFault>
         ensures answer { result ≡ (hub_taken self.old me to bytes.now).1 }
         ensures hub { self.new ≡ (hub_taken self.old me to bytes.now).0 }

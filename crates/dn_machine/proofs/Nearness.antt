@@ -1,5 +1,5 @@
--- Which packets are near: those whose first tic lies near enough a count, and those that were given soon before they
--- come.
+-- Which packets are near: those whose first tic lies near enough a count, and those that were given soon before
+-- they come.
 use Rattle.std.proofs.Common.{◌≡◌, ℕ, ◌+◌, ◌<◌, ◌≤◌, ◌≢◌, true, false, true≢false, List, sym, ◌∙◌, ap, arith, Option, Some, None, inl, inr}
 use Rattle.std.specs.Prelude.{slice_get, ◌⊎◌}
 use Rattle.std.proofs.lemmas.Bool.{leb-true, and_parts}

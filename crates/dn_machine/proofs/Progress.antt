@@ -1,5 +1,5 @@
--- A game goes on as soon as the network delivers: one good round for the start, and for each tic thirteen and one
--- for each packet that may be in vain.
+-- A game goes on as soon as the network delivers: one good round for the start, and for each tic thirteen and
+-- one for each packet that may be in vain.
 use Rattle.std.proofs.Common.{◌≡◌, ℕ, zero, suc, ◌+◌, ◌-◌, ◌*◌, ◌<◌, ◌≤◌, ◌≢◌, Bool, true, not, List, refl, sym, ◌∙◌, ap, subst, arith, inl, inr}
 use Rattle.std.specs.Prelude.{◌⊎◌}
 use Rattle.std.proofs.lemmas.Bool.{cases_eq, and_from, not-true, not-false}

@@ -1,5 +1,5 @@
--- In twelve good rounds, and one for each packet that may be in vain, each player gives each other the command of a
--- tic that all have reached.
+-- In twelve good rounds, and one for each packet that may be in vain, each player gives each other the command
+-- of a tic that all have reached.
 use Rattle.std.proofs.Common.{◌≡◌, ℕ, zero, suc, ◌+◌, ◌<◌, ◌≤◌, ◌≢◌, Bool, true, refl, sym, subst, arith, inl, inr}
 use Rattle.std.proofs.lemmas.Bool.{cases_eq, cases_lt}
 use Rattle.dn_setup.specs.Settings.{Settings}
@@ -257,8 +257,8 @@ module _ {S : Type 0} (rules : Rules S) (settings : Settings) (cap : ℕ) (stay 
           round_nearer (inputs (suc all)) left _
           (rounds_up inputs more less count (suc left) all (omega arith) (omega arith) g at)
 
-      -- After twelve and as many as packets may be in vain the other has it: where the other has its turn first, the
-      -- last round counts for two.
+      -- After twelve and as many as packets may be in vain the other has it: where the other has its turn
+      -- first, the last round counts for two.
       pub has_after : (inputs : ℕ → ℕ → Input) (more : ℕ) → rules.places ≤ reach rules.limits more → (g : Game)
           → IsOn rules settings cap stay tic g → At 0 (good_rounds rules inputs (12 + more) g)
       unfolding good_rounds in_order

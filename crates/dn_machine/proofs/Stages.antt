@@ -23,15 +23,16 @@ same_side k g = λ i. record { kept = k i; got = g i }
 abbrev pub Holds : ℕ → Side → Type 0
 Holds tic its = (tic < its.got) ⊎ ((end : ℕ) × (its.kept.end ≡ Some end) × (end ≤ tic))
 
--- what another needs of a player for a tic ends before this one: it ends with the tic, or with the last command of
--- one who has left
+-- what another needs of a player for a tic ends before this one: it ends with the tic, or with the last command
+-- of one who has left
 abbrev pub goal_of : Bool → ℕ → ℕ → ℕ
 goal_of stays tic made = if stays then suc tic else min (suc tic) made
 
 pub lag_low : (limits : Limits) → lag limits ≤ 1
 lag_low limits = grind arith
 
--- how far a packet and so many more reach, of which each begins where the one before it ended, or the lag before
+-- how far a packet and so many more reach, of which each begins where the one before it ended, or the lag
+-- before
 abbrev pub reach : Limits → ℕ → ℕ
 reach limits zero = limits.most
 reach limits (suc more) = reach limits more + (limits.most - lag limits)
@@ -59,8 +60,8 @@ Taken most tic goal start its its_later = Holds tic its_later
     ⊎ ((its_later.got ≡ its.got) × (its_later.kept.want ≡ its.kept.want)
     × (Holds tic its → Holds tic its_later) × (start + most ≤ its.got) × (start + most < goal))
 
--- a packet that is cut before what the other needs begins with the resend, and the next one where it ends, or the
--- lag before
+-- a packet that is cut before what the other needs begins with the resend, and the next one where it ends, or
+-- the lag before
 abbrev pub Moves : Limits → ℕ → ℕ → Peer → Peer → Type 0
 Moves limits goal start mine later = start + limits.most < goal
     → (start ≡ mine.resend) × (goal ≤ start + limits.places)

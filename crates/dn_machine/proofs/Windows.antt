@@ -1,5 +1,5 @@
--- Windows worked out: six ahead over twelve places, nine over eighteen, twelve over twenty-four; how packets are cut;
--- and that less than twice the window is too few: seven over twelve.
+-- Windows worked out: six ahead over twelve places, nine over eighteen, twelve over twenty-four; how packets
+-- are cut; and that less than twice the window is too few: seven over twelve.
 use Rattle.std.specs.Prelude.{ℕ, Bool, false, true, [], ◌∷◌, ◌≡◌, refl, map, pos, length, replicate, Option, Some, None}
 use Rattle.std.proofs.Common.{arith}
 use Rattle.dn_tic.specs.Pressed.{pressed}
@@ -39,8 +39,8 @@ twelve = record { twice = omega arith; back = omega arith }
 twelve_swift : IsSwift (wide false 12 24)
 twelve_swift = record { some = omega arith; near = omega arith }
 
--- twelve commands go into one packet, eighteen into two, and so do twenty-four; but into three where each packet
--- repeats a command
+-- twelve commands go into one packet, eighteen into two, and so do twenty-four; but into three where each
+-- packet repeats a command
 packets : GoesInto (wide true 6 12) 1 × GoesInto (wide true 9 18) 2 × GoesInto (wide false 12 24) 2
     × GoesInto (wide true 12 24) 3
 packets = (omega arith, omega arith, omega arith, omega arith)

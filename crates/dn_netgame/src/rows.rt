@@ -25,7 +25,7 @@ use dn_world::Walk;
 use std::alloc::{AllocError, Global};
 use std::io::{Read, Write};
 
-/// Appends the lines of the row that a feed told; none where it told no row.
+/// Appends the lines of the row that a feed returned; none if it returned none.
 fn push_told(text: &mut String, tic: u64, row: Option<[Option<Move>; 4]>) -> Result<(), AllocError>
     ensures { OnOk result (string_bytes text.new ≡ string_bytes text.old ++ lines_of_rows tic (told row)) }
 {

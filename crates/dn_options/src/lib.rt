@@ -1,6 +1,6 @@
 //! The options of the command line, read: what a parsed command line says of the game, the storm, the rounds.
-//! A function answers None only where an option is missing, is not a number, or is out of range. The program
-//! never meets that: its parser has a default for each option and refuses the rest.
+//! A function returns None only if an option is missing, is not a number, or is out of range. The program never
+//! meets that: its parser has a default for each option and refuses the rest.
 #![tactic(auto)]
 
 ghost use Rattle.std.specs.Prelude.{codes};

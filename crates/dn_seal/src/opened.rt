@@ -1,9 +1,9 @@
-//! What an envelope tells, and why bytes are none.
+//! What is in an envelope, and why bytes are not one.
 
 use arrayvec::ArrayVec;
 use thiserror::Error;
 
-/// What an envelope to this player tells.
+/// What is in an envelope to this player.
 #[derive(Debug, Drop, PartialEq, Eq)]
 pub struct Opened {
     /// The number of the sender.

@@ -14,8 +14,8 @@ const NO_SECRET: [u8; 32] = [0; 32];
 
 /// What all players of a game seal and open by: whether they share a secret, the key, which is derived of the
 /// secret and of the game's number, and that number. The host picks the number for each game, sixteen bytes at
-/// random, and tells it to the others as it tells them where to connect; it need not be secret. A number that is
-/// used twice under one secret lets the packets of the old game into the new one.
+/// random, and tells it to the others as it tells them where to connect; it need not be secret. A number that
+/// is used twice under one secret lets the packets of the old game into the new one.
 #[derive(Clone, Copy)]
 pub struct Seal {
     pub(crate) suite: Suite,

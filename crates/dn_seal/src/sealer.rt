@@ -35,10 +35,10 @@ const HEAD: usize = 21;
 /// What is in an envelope: one datagram of 1997.
 const KIND: u8 = 1;
 
-/// How many bytes of a game's number an envelope tells.
+/// How many bytes of a game's number are in an envelope.
 const TOLD: usize = 8;
 
-/// How many bytes tell the suite, the kind and the game.
+/// How many bytes the suite, the kind and the game take.
 const FRONT: usize = 10;
 
 /// What a player seals and opens by: what all players of the game have in common, and the player's own number.
@@ -99,7 +99,7 @@ pub fn ask_in(flag: u8, tic: u32) -> Option<Option<u32>>
     None
 }
 
-/// Whether bytes tell this game's number.
+/// Whether bytes have this game's number.
 fn is_of_game(bytes: &[u8], game: &[u8; 16]) -> bool
     requires { 10 ≤ length bytes.now }
     ensures { IsTrue result ↔ (told_game bytes.now ≡ take 8 game.now) }
@@ -157,7 +157,8 @@ impl Sealer {
         self.me
     }
 
-    /// The first ten bytes of every envelope: the suite, the kind of what follows, and the front of the game's number.
+    /// The first ten bytes of every envelope: the suite, the kind of what follows, and the front of the game's
+    /// number.
     pub fn front(&self, kind: u8) -> [u8; 10]
         ensures { result ≡ front_bytes (sealing self.now).seal kind }
     {
@@ -188,8 +189,8 @@ impl Sealer {
         }
     }
 
-    /// The tag of bytes. Whoever seals another kind of thing by it writes the suite, the kind and the game's number
-    /// first, as every envelope does, so that no two kinds have bytes in common.
+    /// The tag of bytes. Whoever seals another kind of thing by it writes the suite, the kind and the game's
+    /// number first, as every envelope does, so that no two kinds have bytes in common.
     pub fn tag(&self, bytes: &[u8]) -> [u8; 16]
         ensures { result ≡ tag_of (sealing self.now).seal.key bytes.now }
     {
@@ -233,7 +234,7 @@ impl Sealer {
         bytes
     }
 
-    /// Opens an envelope to this player, or answers the first fault that the bytes have.
+    /// Opens an envelope to this player, or returns the first fault that the bytes have.
     pub fn open(&self, bytes: &[u8]) -> Result<Opened, SealFault>
         ensures opens { IsOpenedAs (sealing self.now) bytes.now result }
         ensures only { (read : Result Opened SealFault)

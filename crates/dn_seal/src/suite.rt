@@ -3,7 +3,7 @@
 ghost use Rattle.std.specs.Prelude.{◌≡◌};
 ghost use Rattle.dn_seal.specs.Keys.{suite_byte, label};
 
-/// Whether the players of a game share a secret. An envelope tells it first.
+/// Whether the players of a game share a secret. The first byte of an envelope says so.
 #[derive(Clone, Copy, Debug, PartialEq, Eq)]
 pub enum Suite {
     /// They do, and nobody else can make a tag of the game.

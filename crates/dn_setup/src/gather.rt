@@ -37,7 +37,7 @@ impl Gather {
         }
     }
 
-    /// Notes a player other than the key player, and answers whether all of these are noted.
+    /// Notes a player other than the key player, and returns whether all of these are noted.
     pub fn hear(&mut self, player: u8) -> bool
         ensures players { self.new.players ≡ self.old.players }
         ensures noted { (p : ℕ) → is_noted self.new p

@@ -14,7 +14,7 @@ use thiserror::Error;
 /// The version of the game, which set-up packets and recorded demos carry. Doom 1.9 has 109.
 pub const VERSION: u8 = 111;
 
-/// Why a packet tells no settings.
+/// Why a packet has no settings.
 #[derive(Clone, Copy, Debug, PartialEq, Eq, Error)]
 pub enum SetupFault {
     /// SETUP is absent.
@@ -28,7 +28,7 @@ pub enum SetupFault {
     Range,
 }
 
-/// The packet that tells the settings.
+/// The set-up packet of the settings.
 pub fn to_packet(settings: &Settings) -> Packet
     ensures packet { result ≡ setup_packet settings.now }
     ensures valid { IsPacket result }
@@ -46,8 +46,8 @@ pub fn to_packet(settings: &Settings) -> Packet
     }
 }
 
-/// The settings that the packet tells. It is refused where SETUP is absent, then for another version than
-/// 111, then where its ask and start bytes are those of no choice (`d_net.c`, D_ArbitrateNetStart).
+/// The settings of a set-up packet. It is refused if SETUP is absent, then for another version than 111, then
+/// if its ask and start bytes are out of range (`d_net.c`, D_ArbitrateNetStart).
 pub fn from_packet(packet: &Packet) -> Result<Settings, SetupFault>
     ensures reads { IsSetupReadAs packet.now result }
     ensures only { (r : Result Settings SetupFault) → IsSetupReadAs packet.now r → result ≡ r }

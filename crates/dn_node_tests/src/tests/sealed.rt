@@ -134,8 +134,9 @@ fn sealed_packets_are_heard_by_their_own_numbers(rt: HostRuntime) {
     }
 }
 
-/// A packet of player 1 that starts at tic 0 and asks for none, but for one byte: its ask, its start and its player
-/// are held against the envelope, and what tells the envelope's numbers is looked into, and has a wrong sum.
+/// A packet of player 1 that starts at tic 0 and asks for none, but for one byte: its ask, its start and its
+/// player are held against the envelope, and what tells the envelope's numbers is looked into, and has a wrong
+/// sum.
 #[test]
 fn packets_are_held_against_their_envelopes(rt: HostRuntime) {
     let rt = &rt;
@@ -198,7 +199,8 @@ fn round(rt: &impl Abort, one: &mut SealedLockstep, other: &mut SealedLockstep) 
     let _ = other.run(&[0; 4]);
 }
 
-/// An envelope whose packet starts 64 tics before what its receiver has made is heard, and a tic later it is not.
+/// An envelope whose packet starts 64 tics before what its receiver has made is heard, and a tic later it is
+/// not.
 #[test]
 fn old_envelopes_are_late(rt: HostRuntime) {
     let rt = &rt;

@@ -1,5 +1,5 @@
-//! An envelope to player 0 of which bits are turned, or bytes cut, left out, put in or put behind: nothing opens,
-//! and the fault is the first that the bytes have.
+//! An envelope to player 0 of which bits are turned, or bytes cut, left out, put in or put behind: nothing
+//! opens, and the fault is the first that the bytes have.
 
 use super::{DATAGRAM, Envelope, GAME, fault, player, sealed, turned};
 use crate::{MAX_ENVELOPE, OVERHEAD, SealFault};

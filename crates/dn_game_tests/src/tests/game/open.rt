@@ -87,8 +87,8 @@ fn comes(game: &mut Game<Walk>, bytes: &[u8]) -> Result<Arrived, Refusal> {
     game.arrive(seal(), 1, bytes)
 }
 
-/// An envelope whose packet starts 64 tics before what its receiver has made is heard, and a tic later it is not. One
-/// that tells another start, another request or another sender than its packet never is.
+/// An envelope whose packet starts 64 tics before what its receiver has made is heard, and a tic later it is
+/// not. One that tells another start, another request or another sender than its packet never is.
 #[test]
 fn late_and_unlike_envelopes_are_not_heard(rt: HostRuntime) {
     let rt = &rt;
