@@ -131,4 +131,7 @@ def drawn(uses):
 
 
 if __name__ == '__main__':
-    sys.stdout.write(drawn(read(sys.stdin.read().splitlines())))
+    listed = sys.stdin.read().splitlines()
+    if not listed:
+        sys.exit('draw_crates: no crates on standard input')
+    sys.stdout.write(drawn(read(listed)))
