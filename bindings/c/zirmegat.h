@@ -395,18 +395,18 @@ typedef struct zmg_sealed_lockstep {
 #define ZMG_NUMBER_SIZE 16
 
 /* Makes a sealed lockstep in the handle, with a window of `ahead` commands: ZMG_MOST_AHEAD is that of
- * zmg_lockstep_new. All players of a game have the same secret, number and window. Returns ZMG_NEW_BAD_SECRET
- * if all bytes of the secret are 0, as in a buffer that was never filled; else returns what
- * zmg_lockstep_new_within returns. Neither the secret nor the number is kept by reference. */
+ * zmg_lockstep_new. game: the game's number. All players of a game have the same secret, number and window.
+ * Returns ZMG_NEW_BAD_SECRET if all bytes of the secret are 0, as in a buffer that was never filled; else
+ * returns what zmg_lockstep_new_within returns. Neither the secret nor the number is kept by reference. */
 uint32_t zmg_sealed_lockstep_new(zmg_sealed_lockstep *node, const zmg_config *config, uint8_t ahead,
-    const uint8_t secret[ZMG_SECRET_SIZE], const uint8_t number[ZMG_NUMBER_SIZE]);
+    const uint8_t secret[ZMG_SECRET_SIZE], const uint8_t game[ZMG_NUMBER_SIZE]);
 
 /* The same for an open game, whose players share no secret. Its envelopes say so: a sealed lockstep of
  * zmg_sealed_lockstep_new opens none of them, and this one opens none of that one's. Damaged packets, old
  * packets, and packets of other games or to other players are dropped all the same; but whoever knows the
  * number can send as any player. Returns what zmg_lockstep_new_within returns. */
 uint32_t zmg_sealed_lockstep_new_open(zmg_sealed_lockstep *node, const zmg_config *config, uint8_t ahead,
-    const uint8_t number[ZMG_NUMBER_SIZE]);
+    const uint8_t game[ZMG_NUMBER_SIZE]);
 
 void zmg_sealed_lockstep_free(zmg_sealed_lockstep *node);
 zmg_made zmg_sealed_lockstep_build(zmg_sealed_lockstep *node, uint32_t keys);
@@ -505,12 +505,12 @@ typedef struct zmg_link {
 /* How many bytes the engine adds to a link's identity. */
 #define ZMG_HOST_SIZE 16u
 
-/* Makes a link in the handle, with a window of `ahead` commands. All players of a game have the same secret
- * and game (the sixteen random bytes that zmg_sealed_lockstep_new calls a number). host: what else must be the
- * same for all players, such as a digest of the engine's version, files and options. A player whose players,
- * extra, limit, window or host differ takes no part: see zmg_link_presence. Returns what
- * zmg_sealed_lockstep_new returns. A link that the handle holds is freed first. All memory is allocated here.
- * If the call returns anything but ZMG_NEW_OK, the handle holds no link. Nothing is kept by reference. */
+/* Makes a link in the handle, with a window of `ahead` commands. game: the game's number, sixteen random
+ * bytes. All players of a game have the same secret and number. host: what else must be the same for all
+ * players, such as a digest of the engine's version, files and options. A player whose players, extra, limit,
+ * window or host differ takes no part: see zmg_link_presence. Returns what zmg_sealed_lockstep_new returns. A
+ * link that the handle holds is freed first. All memory is allocated here. If the call returns anything but
+ * ZMG_NEW_OK, the handle holds no link. Nothing is kept by reference. */
 uint32_t zmg_link_new(zmg_link *link, const zmg_config *config, uint8_t ahead,
     const uint8_t secret[ZMG_SECRET_SIZE], const uint8_t game[ZMG_NUMBER_SIZE],
     const uint8_t host[ZMG_HOST_SIZE]);

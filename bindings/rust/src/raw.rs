@@ -234,13 +234,13 @@ extern "C" {
         config: *const Config,
         ahead: u8,
         secret: *const u8,
-        number: *const u8,
+        game: *const u8,
     ) -> u32;
     pub fn zmg_sealed_lockstep_new_open(
         node: *mut Handle,
         config: *const Config,
         ahead: u8,
-        number: *const u8,
+        game: *const u8,
     ) -> u32;
     pub fn zmg_sealed_lockstep_packet(
         node: *mut Handle,

@@ -23,7 +23,7 @@ pub enum Seal {
         /// are 0 it is refused ([`NodeError::Secret`]).
         secret: [u8; 32],
         /// The game's number.
-        number: [u8; 16],
+        game: [u8; 16],
     },
     /// An open game: its players share no secret. Its envelopes say so: a node with a secret opens none of
     /// them, and a node of an open game opens none of that one's. Damaged packets, old packets, and packets of
@@ -31,7 +31,7 @@ pub enum Seal {
     /// player.
     Open {
         /// The game's number.
-        number: [u8; 16],
+        game: [u8; 16],
     },
 }
 
@@ -84,15 +84,11 @@ impl SealedLockstep {
         // and so are the arrays, of 32 and 16 bytes.
         opened(unsafe {
             match &seal {
-                Seal::Secret { secret, number } => raw::zmg_sealed_lockstep_new(
-                    at,
-                    &config,
-                    ahead,
-                    secret.as_ptr(),
-                    number.as_ptr(),
-                ),
-                Seal::Open { number } => {
-                    raw::zmg_sealed_lockstep_new_open(at, &config, ahead, number.as_ptr())
+                Seal::Secret { secret, game } => {
+                    raw::zmg_sealed_lockstep_new(at, &config, ahead, secret.as_ptr(), game.as_ptr())
+                }
+                Seal::Open { game } => {
+                    raw::zmg_sealed_lockstep_new_open(at, &config, ahead, game.as_ptr())
                 }
             }
         })?;

@@ -105,7 +105,7 @@ fn refused_memory_is_told_and_given_back() {
     let demo = demo();
     let node = || Lockstep::new(Config::other(2, 1));
     assert_eq!(refused(NodeError::Memory, node), 2);
-    let seal = Seal::Open { number: [1; 16] };
+    let seal = Seal::Open { game: [1; 16] };
     let sealed = || SealedLockstep::new(Config::other(2, 1), seal);
     assert_eq!(refused(NodeError::Memory, sealed), 2);
     let link = || {

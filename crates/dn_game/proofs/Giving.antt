@@ -1,18 +1,16 @@
 -- A node that did not start has the world that was given for it.
-use Rattle.std.proofs.Common.{◌≡◌, ◌≢◌, ◌⊎◌, ◌++◌, ◌+◌, ℕ, Bool, zero, suc, List, [], ◌∷◌, Option, Some, None, Result, Ok, Err, length, map, ap, sym, ◌∙◌, refl, inl, inr}
-use Rattle.std.specs.Prelude.{slice_get, count_by, is_ok, is_err}
+use Rattle.std.proofs.Common.{◌≡◌, ◌≢◌, ◌⊎◌, ◌++◌, ℕ, zero, suc, List, [], ◌∷◌, Option, Some, None, Result, length, ap, sym, ◌∙◌, refl, inl, inr}
+use Rattle.std.specs.Prelude.{slice_get}
 use Rattle.std.specs.Option.{option_map}
 use Rattle.std.proofs.lemmas.Bool.{cases_eq}
 use Rattle.std.proofs.lemmas.Option.{none-some, same_Some, slice_get-map}
-use Rattle.std.proofs.lemmas.List.{map-append}
-use Rattle.dn_setup.specs.Settings.{Settings}
 use Rattle.dn_world.specs.Physics.{Physics}
 use Rattle.dn_machine.specs.declared.events.Done.{Done}
 use Rattle.dn_machine.specs.declared.events.Event.{Event}
 use Rattle.dn_machine.specs.declared.events.Event.TheVariants.{Build, Give, Send, Deliver, Run, Quit, Stop}
 use Rattle.dn_machine.specs.declared.events.Refusal.{Refusal}
 use Rattle.dn_machine.specs.Game.{Game}
-use Rattle.dn_machine.specs.Worlds.{Rules, rules_of}
+use Rattle.dn_machine.specs.Worlds.{Rules}
 use Rattle.dn_node.specs.declared.node.Node.{Node}
 use Rattle.dn_node.specs.Contents as node
 use Rattle.dn_seal.specs.declared.seal.Seal.{Seal}
@@ -22,12 +20,11 @@ use Rattle.dn_game.specs.declared.flight.Flight.{Flight}
 use Rattle.dn_game.specs.declared.open_done.OpenDone.{OpenDone}
 use Rattle.dn_game.specs.declared.played.Played.{Played}
 use Rattle.dn_game.specs.Contents.{Contents, contents}
-use Rattle.dn_game.specs.Frame.{KeepsOthers, KeepsWorlds, MovesNoWorld, MovesNoWorldOpen, named_in, named_in_open, named_by_open}
+use Rattle.dn_game.specs.Frame.{KeepsOthers, KeepsWorlds, MovesNoWorld, named_in, named_in_open}
 use Rattle.dn_game.specs.Fresh.{worlds_of}
 use Rattle.dn_game.specs.Given.{KeepsGiven, NeverMoves}
-use Rattle.dn_game.specs.OpenPlayed.{PlaysOpen, own_answer}
-use Rattle.dn_game.specs.Played.{AppliesOne}
-use Rattle.dn_game.proofs.OpenAnswering.{open_played_more, own_leads}
+use Rattle.dn_game.specs.OpenPlayed.{PlaysOpen}
+use Rattle.dn_game.specs.Played.{AppliesOne, Plays}
 
 -- this node is named, or it is not
 named_or : (o : Option ℕ) (i : ℕ) → (o ≡ Some i) ⊎ (o ≢ Some i)
@@ -59,7 +56,7 @@ receiver_stays [] more which i h = absurd (none-some i h)
 receiver_stays (f ∷ flights) more zero i h = h
 receiver_stays (f ∷ flights) more (suc which) i h = receiver_stays flights more which i h
 
-own_stays : (flights more : List Flight) (event : Event) (i : ℕ) → named_in flights event ≡ Some i
+pub own_stays : (flights more : List Flight) (event : Event) (i : ℕ) → named_in flights event ≡ Some i
     → named_in (flights ++ more) event ≡ Some i
 own_stays flights more (Build node keys) i h = h
 own_stays flights more (Give node command) i h = h
@@ -70,86 +67,66 @@ own_stays flights more (Quit node) i h = h
 own_stays flights more (Stop node) i h = h
 
 -- who is named is named when more packets were sent
-named_stays : (flights more : List Flight) (event : OpenEvent) (i : ℕ) → named_in_open flights event ≡ Some i
+pub named_stays : (flights more : List Flight) (event : OpenEvent) (i : ℕ) → named_in_open flights event ≡ Some i
     → named_in_open (flights ++ more) event ≡ Some i
 named_stays flights more (Own event) i h = own_stays flights more event i h
 named_stays flights more (Arrive node bytes) i h = h
 
 -- each event has an answer
-as_many : {S : Type 0} (rules : Rules S) (seal : Seal) (events : List OpenEvent)
+pub as_many : {S : Type 0} (rules : Rules S) (events : List Event) (answers : List (Result Done Refusal))
+    (game last : Game) → Plays rules game events answers last → length events ≡ length answers
+as_many rules [] [] game last way = refl
+as_many rules [] (a ∷ answers) game last way = absurd way
+as_many rules (e ∷ events) [] game last way = absurd way
+as_many rules (e ∷ events) (a ∷ answers) game last way = ap suc (as_many rules events answers way.0 last way.2)
+
+pub as_many_open : {S : Type 0} (rules : Rules S) (seal : Seal) (events : List OpenEvent)
     (answers : List (Result OpenDone Refusal)) (game last : Game) → PlaysOpen rules seal game events answers last
     → length events ≡ length answers
-as_many rules seal [] [] game last way = refl
-as_many rules seal [] (a ∷ answers) game last way = absurd way
-as_many rules seal (e ∷ events) [] game last way = absurd way
-as_many rules seal (e ∷ events) (a ∷ answers) game last way =
-    ap suc (as_many rules seal events answers way.0 last way.2)
+as_many_open rules seal [] [] game last way = refl
+as_many_open rules seal [] (a ∷ answers) game last way = absurd way
+as_many_open rules seal (e ∷ events) [] game last way = absurd way
+as_many_open rules seal (e ∷ events) (a ∷ answers) game last way =
+    ap suc (as_many_open rules seal events answers way.0 last way.2)
 
-module _ {W : Type 0} (old new : Contents W) (event : OpenEvent) (answer : Result OpenDone Refusal)
-    (others : KeepsOthers (named_by_open old event) old new) (quiet : MovesNoWorldOpen answer → KeepsWorlds old new)
-    (more : List Flight) (sent : new.flights ≡ old.flights ++ more) where
+module _ {W E A : Type 0} (named_of : List Flight → E → Option ℕ) (MovesNone : A → Type 0)
+    (stays : (flights more : List Flight) (event : E) (i : ℕ) → named_of flights event ≡ Some i
+    → named_of (flights ++ more) event ≡ Some i)
+    (old new : Contents W) (event : E) (answer : A) (others : KeepsOthers (named_of old.flights event) old new)
+    (quiet : MovesNone answer → KeepsWorlds old new) (more : List Flight)
+    (sent : new.flights ≡ old.flights ++ more) where
   -- the world of a node that this event does not move
-  stays_at : (i : ℕ) → (named_by_open old event ≡ Some i → MovesNoWorldOpen answer)
+  stays_at : (i : ℕ) → (named_of old.flights event ≡ Some i → MovesNone answer)
       → slice_get (worlds_of new.nodes) i ≡ slice_get (worlds_of old.nodes) i
   stays_at i still =
       let own = λ (n : Node W). (node.contents n).world in
-      elim (named_or (named_by_open old event) i) [
+      elim (named_or (named_of old.flights event) i) [
         | inl is ↦ same_at _ _ i (quiet (still is))
         | inr apart ↦ slice_get-map own new.nodes i ∙ ap (option_map own) (others i apart)
             ∙ sym (slice_get-map own old.nodes i)
       ]
 
   -- one event more
-  pub given_more : {S : Type 0} (rules : Rules S) (seal : Seal) (game last : Game) (worlds : List W)
-      (events : List OpenEvent) (answers : List (Result OpenDone Refusal))
-      → PlaysOpen rules seal game events answers last
-      → ((i : ℕ) → NeverMoves old.flights i events answers
+  pub keeps_more : (worlds : List W) (events : List E) (answers : List A) → length events ≡ length answers
+      → ((i : ℕ) → NeverMoves (named_of old.flights) MovesNone i events answers
       → slice_get (worlds_of old.nodes) i ≡ slice_get worlds i)
-      → (i : ℕ) → NeverMoves new.flights i (events ++ event ∷ []) (answers ++ answer ∷ [])
+      → (i : ℕ) → NeverMoves (named_of new.flights) MovesNone i (events ++ event ∷ []) (answers ++ answer ∷ [])
       → slice_get (worlds_of new.nodes) i ≡ slice_get worlds i
-  given_more rules seal game last worlds events answers way before i never =
-      let later : (e : OpenEvent) → named_in_open old.flights e ≡ Some i → named_in_open new.flights e ≡ Some i =
-      λ e is. rw sent (named_stays old.flights more e i is) in
+  keeps_more worlds events answers count before i never =
+      let later : (e : E) → named_of old.flights e ≡ Some i → named_of new.flights e ≡ Some i =
+      λ e is. rw sent (stays old.flights more e i is) in
       let last_answer : slice_get (answers ++ answer ∷ []) (length events) ≡ Some answer =
-      ap (slice_get (answers ++ answer ∷ [])) (as_many rules seal events answers game last way)
-      ∙ at_end answers answer in
+      ap (slice_get (answers ++ answer ∷ [])) count ∙ at_end answers answer in
       stays_at i (λ is. never (length events) event answer (at_end events event) last_answer (later event is))
       ∙ before i (λ k e a here answered is. never k e a (at_front events (event ∷ []) k e here)
       (at_front answers (answer ∷ []) k a answered) (later e is))
 
--- the answer to an event of the game, as one to an open event, tells the same of worlds, and counts the same
-own_quiet : (answer : Result Done Refusal) → MovesNoWorldOpen (own_answer answer) → MovesNoWorld answer
-own_quiet (Ok done) quiet = quiet
-own_quiet (Err refusal) quiet = quiet
-
-own_done : (answer : Result Done Refusal) → count_by is_ok (answer ∷ []) ≡ count_by is_ok (own_answer answer ∷ [])
-own_done (Ok done) = refl
-own_done (Err refusal) = refl
-
-own_refused : (answer : Result Done Refusal)
-    → count_by is_err (answer ∷ []) ≡ count_by is_err (own_answer answer ∷ [])
-own_refused (Ok done) = refl
-own_refused (Err refusal) = refl
-
-module _ {W S : Type 0} (state : W → S) (physics : Physics S) (players : ℕ) (extra : Bool) (capacity : ℕ) (seal : Seal)
-    (settings : Settings) (worlds : List W) (played next : Played W) (event : Event) (answer : Result Done Refusal)
-    (one : AppliesOne state physics played next event answer) where
-  -- one event of the game more
-  pub own_given_more : (events : List Event)
-      → KeepsGiven state (rules_of physics players extra capacity) seal settings worlds (map Own events) played
-      → KeepsGiven state (rules_of physics players extra capacity) seal settings worlds
-      (map Own (events ++ event ∷ [])) next
-  own_given_more events before =
-      let rules : Rules S = rules_of physics players extra capacity in
-      let was = before.events_played in
-      rw (map-append Own events (event ∷ [])) (record {
-        events_played = open_played_more state rules seal settings (map Own events) (Own event) (own_answer answer)
-            played next was
-            (own_leads state rules seal was.last (contents played.game) (contents next.game) event answer was.game
-            (one.applied players extra capacity was.last was.game))
-            (one.done ∙ ap (λ (k : ℕ). played.done + k) (own_done answer))
-            (one.refused ∙ ap (λ (k : ℕ). played.refused + k) (own_refused answer));
-        given = given_more (contents played.game) (contents next.game) (Own event) (own_answer answer) one.others
-            (λ quiet. one.worlds (own_quiet answer quiet)) one.more.0 one.more.1 rules seal _ was.last worlds
-            (map Own events) was.answers was.plays before.given;
-      })
+-- one event of the game more
+pub given_more : {W S : Type 0} (state : W → S) (physics : Physics S) (played next : Played W) (event : Event)
+    (answer : Result Done Refusal) → AppliesOne state physics played next event answer → (worlds : List W)
+    (events : List Event) (answers : List (Result Done Refusal)) → length events ≡ length answers
+    → KeepsGiven worlds events answers (contents played.game)
+    → KeepsGiven worlds (events ++ event ∷ []) (answers ++ answer ∷ []) (contents next.game)
+given_more state physics played next event answer one =
+    keeps_more named_in MovesNoWorld own_stays (contents played.game) (contents next.game) event answer one.others
+    one.worlds one.more.0 one.more.1

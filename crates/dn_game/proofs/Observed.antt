@@ -37,10 +37,10 @@ module _ {L : Type 0} (observes : Observing L) where
             (omega (arith, counted)) told,
       )
 
--- what was played and told is promised
+-- what was played and told is promised. Abbrevs, so that the answers compute where they are cited.
 module _ {W S L : Type 0} (state : W → S) (rules : Rules S) (observes : Observing L) (settings : Settings)
     (old new : L) (played : Played W) where
-  pub played_observed : (events : List Event) → (p : IsPlayed state rules settings events played)
+  abbrev pub played_observed : (events : List Event) → (p : IsPlayed state rules settings events played)
       → ObservesAll observes old 0 events p.answers new
       → IsPlayedObserved state rules observes settings events old new played
   played_observed events p told =
@@ -53,7 +53,7 @@ module _ {W S L : Type 0} (state : W → S) (rules : Rules S) (observes : Observ
         observed = told;
       }
 
-  pub stormed_observed : (seed count : ℕ) → (s : IsStormed state rules settings seed count played)
+  abbrev pub stormed_observed : (seed count : ℕ) → (s : IsStormed state rules settings seed count played)
       → ObservesAll observes old 0 s.events s.answers new
       → IsStormedObserved state rules observes settings seed count old new played
   stormed_observed seed count s told =

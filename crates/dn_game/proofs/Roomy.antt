@@ -29,3 +29,13 @@ stays_within flights more now old new within grows is =
       records = step_within (length flights) 1 old.records new.records _ (omega (arith, records, within.records))
           (omega (arith, records)) grows.records;
     }
+
+-- after an event
+pub stays : (flights now : List Flight) (old new : Room) → HasGrown flights old new
+    → (more : List Flight) × (now ≡ flights ++ more) → IsWithinTwice flights old → IsWithinTwice now new
+stays flights now old new grows more within = stays_within flights more.0 now old new within grows more.1
+
+-- before the first packet no memory is taken
+pub none_within : (flights : List Flight) (room : Room) → room ≡ record { bytes = 0; records = 0 }
+    → IsWithinTwice flights room
+none_within flights room none = rw none (record { bytes = omega arith; records = omega arith })

@@ -8,12 +8,15 @@ ghost use Rattle.dn_machine.specs.declared.events.Event.{Event};
 ghost use Rattle.dn_machine.specs.declared.events.Refusal.{Refusal};
 ghost use Rattle.dn_machine.specs.Progress.{good_rounds};
 ghost use Rattle.dn_machine.specs.Worlds.{rules_of};
-ghost use Rattle.dn_game.specs.Contents.{Contents};
+ghost use Rattle.dn_game.specs.Contents.{Contents, contents};
+ghost use Rattle.dn_game.specs.Fresh.{AreLimited};
 ghost use Rattle.dn_game.specs.GoingOn.{NoneLost, AllRan, HasRoom, GoesOn, HasGoneOn, HasPlayedOn, HasBrokenOff};
 ghost use Rattle.dn_game.specs.Opening.{IsAdmittedOn, rules_in};
 ghost use Rattle.dn_game.specs.Played.{IsReachedWith};
+ghost use Rattle.dn_game.specs.Pool.{IsWithinTwice};
 ghost use Rattle.dn_game.specs.Promised.{IsReached};
 ghost use Rattle.dn_game.specs.Represents.{Represents};
+ghost use Rattle.dn_game.specs.Room.{room_of};
 ghost use Rattle.dn_tic.specs.Inputs.{input_of};
 ghost use Rattle.dn_game.specs.Rounds.{pressed_by};
 ghost use Rattle.dn_game.specs.declared.going_on.PlayOnFault.TheVariants.{Round};
@@ -98,6 +101,10 @@ pub fn play_on_with<W: World>(
     ensures stopped { (fault : RoundFault) → result ≡ Err (Round fault) → HasBrokenOff W.state
         (rules_in W.physics config (length worlds.items)) config.settings events.now (input_of inputs.now) rounds
         fault }
+    // Each demo has the limit of the configuration.
+    ensures limits { IfOk result (λ played. AreLimited config.limit (contents played.game).nodes) }
+    // There is memory for no more than twice the packets that were sent, and one.
+    ensures room { IfOk result (λ played. IsWithinTwice (contents played.game).flights (room_of played.game)) }
 {
     let mut played = match play(alloc, config, worlds, events) {
         Ok(played) => played,
@@ -125,6 +132,10 @@ pub fn play_on<W: World>(
     ensures stopped { (fault : RoundFault) → result ≡ Err (Round fault) → HasBrokenOff W.state
         (rules_in W.physics config (length worlds.items)) config.settings events.now (pressed_by keys) rounds
         fault }
+    // Each demo has the limit of the configuration.
+    ensures limits { IfOk result (λ played. AreLimited config.limit (contents played.game).nodes) }
+    // There is memory for no more than twice the packets that were sent, and one.
+    ensures room { IfOk result (λ played. IsWithinTwice (contents played.game).flights (room_of played.game)) }
 {
     play_on_with(alloc, config, worlds, events, &pressed(keys), rounds)
 }

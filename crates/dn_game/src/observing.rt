@@ -1,6 +1,6 @@
 //! Who is told of each event of a game as it is played.
 
-ghost use Rattle.std.specs.Prelude.{◌≡◌, ℕ, OnOk, Result};
+ghost use Rattle.std.specs.Prelude.{◌≡◌, ℕ, OnOk, IsOk, Result};
 ghost use Rattle.dn_machine.specs.declared.events.Done.{Done};
 ghost use Rattle.dn_machine.specs.declared.events.Event.{Event};
 ghost use Rattle.dn_machine.specs.declared.events.Refusal.{Refusal};
@@ -30,13 +30,17 @@ pub struct Nobody;
 impl Observer for Nobody {
     ghost observes = { λ old number event answer new. new ≡ old };
 
+    // It takes no memory, so it never fails.
     #[inline(always)]
     fn observe(
         &mut self,
         _number: usize,
         _event: Event,
         _answer: Result<Done, Refusal>,
-    ) -> Result<(), AllocError> {
+    ) -> Result<(), AllocError>
+        ensures seen { self.new ≡ self.old }
+        ensures never { IsOk result }
+    {
         Ok(())
     }
 }

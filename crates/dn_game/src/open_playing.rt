@@ -1,8 +1,9 @@
 //! Playing a list of open events: what is promised on an open network.
 
 ghost use Rattle.std.specs.Prelude.{length, IfOk};
+ghost use Rattle.dn_game.specs.Fresh.{AreLimited};
 ghost use Rattle.dn_game.specs.Opening.{IsAdmitted, rules_in};
-ghost use Rattle.dn_game.specs.Given.{KeepsGiven};
+ghost use Rattle.dn_game.specs.Given.{KeepsGivenOpen};
 ghost use Rattle.dn_game.specs.OpenPromised.{HasPlayedOpen};
 ghost use Rattle.dn_game.specs.Contents.{contents};
 ghost use Rattle.dn_game.specs.Pool.{IsWithinTwice};
@@ -35,9 +36,12 @@ pub fn play_open<W: World>(
     ensures promised { IfOk result (λ played. HasPlayedOpen W.state
         (rules_in W.physics config (length worlds.items)) seal config.settings events.now played) }
     // A node has the world that was given for it, unless an answer to an event that names it tells that it
-    // started or ran.
-    ensures given { IfOk result (λ played. KeepsGiven W.state
-        (rules_in W.physics config (length worlds.items)) seal config.settings worlds.items events.now played) }
+    // started or ran. These are the answers by which all of this is promised.
+    ensures given { IfOk result (λ played. (all : HasPlayedOpen W.state
+        (rules_in W.physics config (length worlds.items)) seal config.settings events.now played)
+        × KeepsGivenOpen worlds.items events.now all.events_played.answers (contents played.game)) }
+    // Each demo has the limit of the configuration.
+    ensures limits { IfOk result (λ played. AreLimited config.limit (contents played.game).nodes) }
     // There is memory for no more than twice the packets that were sent, and one.
     ensures room { IfOk result (λ played. IsWithinTwice (contents played.game).flights (room_of played.game)) }
 {

@@ -29,13 +29,16 @@ impl<W: World> Played<W> {
     ghost use Rattle.dn_game.specs.OpenPlayed.{AppliesOpen};
     ghost use Rattle.dn_game.specs.Played.{AppliesOne};
     ghost use Rattle.dn_game.specs.Pool.{HasGrown};
-    ghost use Rattle.dn_game.specs.Room.{room_of};
+    ghost use Rattle.dn_game.specs.Room.{room_of, KeepsWhose};
 
     /// Applies one more event, and answers what it did.
     #[inline(always)]
     pub(crate) fn apply(&mut self, event: Event) -> Result<Done, Refusal>
         requires { self.old.done + self.old.refused + 1 < 2 ^ 64 }
         ensures applied { AppliesOne W.state W.physics self.old self.new event result }
+        ensures grown { HasGrown (contents self.old.game).flights (room_of self.old.game)
+            (room_of self.new.game) }
+        ensures whose { KeepsWhose (contents self.old.game) (contents self.new.game) }
         ensures counted { self.new.done + self.new.refused ≡ self.old.done + self.old.refused + 1 }
     {
         match self.game.apply(event) {
@@ -60,6 +63,9 @@ impl<W: World> Played<W> {
         requires { self.old.done + self.old.refused + 1 < 2 ^ 64 }
         ensures told { OnOk result
             (ObservesOne W.state W.physics L.observes observer.old observer.new self.old self.new event.now) }
+        ensures grown { HasGrown (contents self.old.game).flights (room_of self.old.game)
+            (room_of self.new.game) }
+        ensures whose { KeepsWhose (contents self.old.game) (contents self.new.game) }
         ensures counted { OnOk result
             (self.new.done + self.new.refused ≡ self.old.done + self.old.refused + 1) }
     {
@@ -74,6 +80,7 @@ impl<W: World> Played<W> {
         ensures applied { AppliesOpen W.state W.physics seal self.old self.new event.now result }
         ensures grown { HasGrown (contents self.old.game).flights (room_of self.old.game)
             (room_of self.new.game) }
+        ensures whose { KeepsWhose (contents self.old.game) (contents self.new.game) }
         ensures more { KeepsFlights (contents self.old.game) (contents self.new.game) }
         ensures others { KeepsOthers (named_by_open (contents self.old.game) event.now) (contents self.old.game)
             (contents self.new.game) }

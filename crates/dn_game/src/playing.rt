@@ -1,12 +1,15 @@
 //! Playing a list of events: what the whole project promises.
 
-ghost use Rattle.std.specs.Prelude.{length, map, IfOk};
-ghost use Rattle.dn_seal.specs.declared.seal.Seal.{Seal as AnySeal};
-ghost use Rattle.dn_open.specs.declared.open_event.OpenEvent.TheVariants.{Own};
+ghost use Rattle.std.specs.Prelude.{◌≡◌, ◌⊎◌, length, Err, IfOk};
+ghost use Rattle.dn_game.specs.Contents.{contents};
+ghost use Rattle.dn_game.specs.Fresh.{AreLimited};
 ghost use Rattle.dn_game.specs.Given.{KeepsGiven};
 ghost use Rattle.dn_game.specs.Observed.{IsPlayedObserved};
 ghost use Rattle.dn_game.specs.Opening.{IsAdmitted, rules_in};
+ghost use Rattle.dn_game.specs.Pool.{IsWithinTwice};
 ghost use Rattle.dn_game.specs.Promised.{HasPlayed};
+ghost use Rattle.dn_game.specs.Room.{room_of};
+ghost use Rattle.dn_game.specs.declared.config.GameFault.TheVariants.{Players, Limit};
 
 use crate::config::{GameConfig, GameFault};
 use crate::game::Game;
@@ -33,10 +36,14 @@ pub fn play<W: World>(
     ensures promised { IfOk result (λ played. HasPlayed W.state
         (rules_in W.physics config (length worlds.items)) config.settings events.now played) }
     // A node has the world that was given for it, unless an answer to an event that names it tells that it
-    // started or ran. This is said as `play_open` says it, with any seal, of events of the game alone.
-    ensures given { IfOk result (λ played. (seal : AnySeal) → KeepsGiven W.state
-        (rules_in W.physics config (length worlds.items)) seal config.settings worlds.items (map Own events.now)
-        played) }
+    // started or ran. These are the answers by which all of this is promised.
+    ensures given { IfOk result (λ played. (all : HasPlayed W.state
+        (rules_in W.physics config (length worlds.items)) config.settings events.now played)
+        × KeepsGiven worlds.items events.now all.events_played.answers (contents played.game)) }
+    // Each demo has the limit of the configuration.
+    ensures limits { IfOk result (λ played. AreLimited config.limit (contents played.game).nodes) }
+    // There is memory for no more than twice the packets that were sent, and one.
+    ensures room { IfOk result (λ played. IsWithinTwice (contents played.game).flights (room_of played.game)) }
 {
     play_observed(alloc, config, worlds, events, &mut Nobody)
 }
@@ -55,9 +62,17 @@ pub fn play_observed<W: World, L: Observer>(
     ensures promised { IfOk result (λ played. IsPlayedObserved W.state
         (rules_in W.physics config (length worlds.items)) L.observes config.settings events.now observer.old
         observer.new played) }
-    ensures given { IfOk result (λ played. (seal : AnySeal) → KeepsGiven W.state
-        (rules_in W.physics config (length worlds.items)) seal config.settings worlds.items (map Own events.now)
-        played) }
+    // And so it is with the worlds that were given, by the answers that the observer was told.
+    ensures given { IfOk result (λ played. (all : IsPlayedObserved W.state
+        (rules_in W.physics config (length worlds.items)) L.observes config.settings events.now observer.old
+        observer.new played)
+        × KeepsGiven worlds.items events.now all.promised.events_played.answers (contents played.game)) }
+    // Each demo has the limit of the configuration.
+    ensures limits { IfOk result (λ played. AreLimited config.limit (contents played.game).nodes) }
+    // There is memory for no more than twice the packets that were sent, and one.
+    ensures room { IfOk result (λ played. IsWithinTwice (contents played.game).flights (room_of played.game)) }
+    // Where the game is refused, the observer is told of nothing.
+    ensures untold { (result ≡ Err Players) ⊎ (result ≡ Err Limit) → observer.new ≡ observer.old }
 {
     let game = Game::new(alloc, config, worlds)?;
     let mut played = Played {

@@ -7,7 +7,7 @@ ghost use Rattle.dn_machine.specs.declared.events.Refusal.{Refusal};
 ghost use Rattle.dn_machine.specs.Progress.{build_of, exchange, turn, good_round, good_rounds};
 ghost use Rattle.dn_game.specs.Applied.{Tells};
 ghost use Rattle.dn_game.specs.Contents.{contents};
-ghost use Rattle.dn_game.specs.Room.{IsFull, KeepsWhose};
+ghost use Rattle.dn_game.specs.Room.{IsFull, KeepsWhose, StaysWithin};
 ghost use Rattle.dn_game.specs.RoundEvents.{exchange_events, turn_events, round_events, rounds_events};
 ghost use Rattle.dn_game.specs.Rounds.{pressed_by, IsCarriedOut};
 ghost use Rattle.dn_game.specs.declared.rounds.RoundFault.{RoundFault};
@@ -66,6 +66,7 @@ impl<W: World> Game<W> {
             IsCarriedOut W.state rules m (exchange_events node m to) (exchange rules node m to) (contents self.new) result) }
         ensures memory { result ≡ Err RoundFault.Memory → IsFull self.new }
         ensures whose { KeepsWhose (contents self.old) (contents self.new) }
+        ensures grown { StaysWithin self.old self.new }
     {
         let Ok(which) = u32::try_from(self.flights()) else {
             return Err(RoundFault::Packets);
@@ -84,6 +85,7 @@ impl<W: World> Game<W> {
             (contents self.new) result) }
         ensures memory { result ≡ Err RoundFault.Memory → IsFull self.new }
         ensures whose { KeepsWhose (contents self.old) (contents self.new) }
+        ensures grown { StaysWithin self.old self.new }
     {
         let _ = self.apply(build_of(node, input));
         for to in 0..self.players() {
@@ -104,6 +106,7 @@ impl<W: World> Game<W> {
             (good_round rules (input_of inputs.now) m) (contents self.new) result) }
         ensures memory { result ≡ Err RoundFault.Memory → IsFull self.new }
         ensures whose { KeepsWhose (contents self.old) (contents self.new) }
+        ensures grown { StaysWithin self.old self.new }
     {
         for node in 0..self.players() {
             self.turn(node, input_of(inputs, node))?;
@@ -118,6 +121,7 @@ impl<W: World> Game<W> {
             (good_round rules (pressed_by keys) m) (contents self.new) result) }
         ensures memory { result ≡ Err RoundFault.Memory → IsFull self.new }
         ensures whose { KeepsWhose (contents self.old) (contents self.new) }
+        ensures grown { StaysWithin self.old self.new }
     {
         self.good_round_with(&pressed(keys))
     }
@@ -130,6 +134,8 @@ impl<W: World> Game<W> {
             (contents self.new) result) }
         ensures memory { result ≡ Err RoundFault.Memory → IsFull self.new }
         ensures whose { KeepsWhose (contents self.old) (contents self.new) }
+        ensures grown { StaysWithin self.old self.new }
+        ensures none { count ≡ 0 → self.new ≡ self.old }
     {
         for _ in 0..count {
             self.good_round_with(inputs)?;
@@ -145,6 +151,8 @@ impl<W: World> Game<W> {
             (contents self.new) result) }
         ensures memory { result ≡ Err RoundFault.Memory → IsFull self.new }
         ensures whose { KeepsWhose (contents self.old) (contents self.new) }
+        ensures grown { StaysWithin self.old self.new }
+        ensures none { count ≡ 0 → self.new ≡ self.old }
     {
         self.good_rounds_with(&pressed(keys), count)
     }

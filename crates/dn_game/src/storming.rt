@@ -1,9 +1,15 @@
 //! A storm: a game under the events of a schedule.
 
-ghost use Rattle.std.specs.Prelude.{length, IfOk};
+ghost use Rattle.std.specs.Prelude.{◌≡◌, ◌⊎◌, length, Err, IfOk};
+ghost use Rattle.dn_game.specs.Contents.{contents};
+ghost use Rattle.dn_game.specs.Fresh.{AreLimited};
+ghost use Rattle.dn_game.specs.Given.{KeepsGiven};
 ghost use Rattle.dn_game.specs.Observed.{IsStormedObserved};
 ghost use Rattle.dn_game.specs.Opening.{IsAdmitted, rules_in};
+ghost use Rattle.dn_game.specs.Pool.{IsWithinTwice};
+ghost use Rattle.dn_game.specs.Room.{room_of};
 ghost use Rattle.dn_game.specs.Stormed.{HasStormed};
+ghost use Rattle.dn_game.specs.declared.config.GameFault.TheVariants.{Players, Limit};
 
 use crate::config::{GameConfig, GameFault};
 use crate::game::Game;
@@ -26,6 +32,14 @@ pub fn storm<W: World>(
     // What is promised of `play` is so after these events.
     ensures promised { IfOk result (λ played. HasStormed W.state
         (rules_in W.physics config (length worlds.items)) config.settings seed count played) }
+    // A node has the world that was given for it, as after `play`.
+    ensures given { IfOk result (λ played. (all : HasStormed W.state
+        (rules_in W.physics config (length worlds.items)) config.settings seed count played)
+        × KeepsGiven worlds.items all.stormed.events all.stormed.answers (contents played.game)) }
+    // Each demo has the limit of the configuration.
+    ensures limits { IfOk result (λ played. AreLimited config.limit (contents played.game).nodes) }
+    // There is memory for no more than twice the packets that were sent, and one.
+    ensures room { IfOk result (λ played. IsWithinTwice (contents played.game).flights (room_of played.game)) }
 {
     storm_observed(alloc, config, worlds, seed, count, &mut Nobody)
 }
@@ -45,6 +59,17 @@ pub fn storm_observed<W: World, L: Observer>(
     ensures promised { IfOk result (λ played. IsStormedObserved W.state
         (rules_in W.physics config (length worlds.items)) L.observes config.settings seed count observer.old
         observer.new played) }
+    ensures given { IfOk result (λ played. (all : IsStormedObserved W.state
+        (rules_in W.physics config (length worlds.items)) L.observes config.settings seed count observer.old
+        observer.new played)
+        × KeepsGiven worlds.items all.promised.stormed.events all.promised.stormed.answers
+        (contents played.game)) }
+    // Each demo has the limit of the configuration.
+    ensures limits { IfOk result (λ played. AreLimited config.limit (contents played.game).nodes) }
+    // There is memory for no more than twice the packets that were sent, and one.
+    ensures room { IfOk result (λ played. IsWithinTwice (contents played.game).flights (room_of played.game)) }
+    // Where the game is refused, the observer is told of nothing.
+    ensures untold { (result ≡ Err Players) ⊎ (result ≡ Err Limit) → observer.new ≡ observer.old }
 {
     let game = Game::new(alloc, config, worlds)?;
     let mut played = Played {

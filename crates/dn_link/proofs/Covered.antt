@@ -1,8 +1,8 @@
 -- The packets that are kept for a peer have each command that it still needs, of those that they cover.
 use Rattle.std.proofs.Common.{◌≡◌, ◌<◌, ◌≤◌, ℕ, zero, suc, Bool, true, false, List, [], ◌∷◌, ◌++◌, length, map, take, append-nil, refl, ap, sym, ◌∙◌, subst, arith, inl, inr, Option, Some, None}
-use Rattle.std.specs.Prelude.{if◌then◌else◌, ◌&&◌, nat_le, nat_lt, max}
+use Rattle.std.specs.Prelude.{if◌then◌else◌, ◌&&◌, ◌↔◌, nat_le, nat_lt, max}
 use Rattle.std.specs.List.{flat_map}
-use Rattle.std.proofs.lemmas.Bool.{and_from, and_parts, and_right, cases_lt, le-ltb, le-leb, leb-true, lt-ltb, or_cases, or_left, or_right, true≢false}
+use Rattle.std.proofs.lemmas.Bool.{and_from, and_parts, and_right, cases_lt, le-ltb, le-leb, leb-true, lt-ltb, ltb-true, or_cases, or_left, or_right, true≢false}
 use Rattle.std.proofs.Math.Seq.{take-append_seam}
 use Rattle.std.proofs.lemmas.List.{length-map}
 use Rattle.dn_machine.proofs.Put.{put_at}
@@ -11,7 +11,7 @@ use Rattle.dn_seal.specs.declared.seal.Seal.{Seal}
 use Rattle.dn_link.specs.declared.bundle.Carried.{Carried}
 use Rattle.dn_link.specs.declared.bundle.Identity.{Identity}
 use Rattle.dn_link.specs.declared.peer.Peer.{Peer}
-use Rattle.dn_link.specs.Kept.{IsCovering, Unacknowledged, end_of, going, has_tic, is_news, kept_after, taken_by}
+use Rattle.dn_link.specs.Kept.{IsCovering, Reaches, Unacknowledged, end_of, going, has_tic, is_news, kept_after, taken_by, with_packet}
 use Rattle.dn_link.specs.Linked.{Gives, Linked, PeerState}
 use Rattle.dn_link.specs.Linking.{peers_of}
 use Rattle.dn_link.specs.Paced.{PaceState}
@@ -86,6 +86,38 @@ all_covering [] place = λ tic needed before. absurd (omega (arith, before))
 all_covering (peer ∷ peers) zero = peer.kept.covers
 all_covering (peer ∷ peers) (suc place) = all_covering peers place
 
+-- what is covered reaches a packet that is given
+reached : (kept : Unacknowledged) (packet : Carried)
+    → (end_of packet ≤ (with_packet kept packet).covered) ↔ Reaches kept packet
+reached kept packet = go (is_news kept packet) refl
+  where
+    go : (test : Bool) → is_news kept packet ≡ test
+        → (end_of packet ≤ (if test then record kept { packets = kept.packets ++ packet ∷ []; covered = end_of packet } else kept).covered)
+        ↔ Reaches kept packet
+    go true news =
+        let room : Bool = nat_lt kept.covered (end_of packet) && nat_lt (length kept.packets) 24 in
+        let parts = and_parts (nat_le packet.start kept.covered) room news in
+        let inner = and_parts (nat_lt kept.covered (end_of packet)) (nat_lt (length kept.packets) 24) parts.1 in (
+          λ e. inr (leb-true packet.start kept.covered parts.0, ltb-true (length kept.packets) 24 inner.1),
+          λ r. omega arith,
+        )
+    go false old = (
+      λ before. inl before,
+      λ r. elim r [
+        | inl before ↦ before
+        | inr there ↦ elim (cases_lt kept.covered (end_of packet)) [
+          | inl more ↦
+              let room : Bool = nat_lt kept.covered (end_of packet) && nat_lt (length kept.packets) 24 in
+              let news : is_news kept packet ≡ true = and_from (nat_le packet.start kept.covered) room
+              (le-leb packet.start kept.covered there.0) (and_from (nat_lt kept.covered (end_of packet))
+              (nat_lt (length kept.packets) 24) (lt-ltb kept.covered (end_of packet) more)
+              (lt-ltb (length kept.packets) 24 there.1)) in
+              absurd (true≢false (sym news ∙ old))
+          | inr none ↦ none
+        ]
+      ],
+    )
+
 -- and a datagram has all of them, where it has room
 pub carries : (seal : Seal) (identity : Identity) (pace : PaceState) (to : ℕ) (old new : Linked) (bytes : List ℕ)
     (gives : Gives seal identity pace to old new bytes)
@@ -101,7 +133,7 @@ carries seal identity pace to old new bytes gives covers few short =
     let told : List Opened = map (opened_from old.node.me) packets in
     let long = length-map packets (opened_from old.node.me) in
     let all : length packets ≤ packed.count = elim (cases_lt packed.count (length packets)) [
-      | inl some ↦ let full = packed.all some few in absurd (omega (arith, full, short))
+      | inl some ↦ let full = packed.all some (omega (arith, few)) in absurd (omega (arith, full, short))
       | inr none ↦ none
     ] in
     let count : packed.count ≡ length told = omega (arith, long, all, packed.some) in
@@ -114,3 +146,15 @@ carries seal identity pace to old new bytes gives covers few short =
           ∙ take-append_seam told [],
       λ tic needed before. goes_covering kept taken covers tic needed (subst (λ (n : ℕ). tic < n) now before),
     )
+
+pub reaches_given : (seal : Seal) (identity : Identity) (pace : PaceState) (to : ℕ) (old new : Linked)
+    (bytes : List ℕ) (gives : Gives seal identity pace to old new bytes) (packet : Carried)
+    → taken_by (old.peers to).presence gives.given ≡ Some packet
+    → (end_of packet ≤ (new.peers to).kept.covered) ↔ Reaches (old.peers to).kept packet
+reaches_given seal identity pace to old new bytes gives packet taken =
+    let kept : Unacknowledged = (old.peers to).kept in
+    let now : (new.peers to).kept.covered ≡ (with_packet kept packet).covered =
+    ap (λ (f : ℕ → PeerState). (f to).kept.covered) gives.peers
+    ∙ ap (λ (t : PeerState). t.kept.covered) (put_at old.peers to to _ refl)
+    ∙ ap (λ (o : Option Carried). (kept_after kept o).covered) taken in
+    subst (λ (n : ℕ). (end_of packet ≤ n) ↔ Reaches kept packet) (sym now) (reached kept packet)

@@ -9,6 +9,7 @@ pub mod Keeping
 pub mod Covered
 pub mod Tight
 pub mod Fits
+pub mod Lasts
 pub mod Packings
 pub mod Carrying
 pub mod Linked

@@ -9,9 +9,9 @@ use Rattle.dn_link.specs.declared.bundle.Carried.{Carried}
 use Rattle.dn_link.specs.declared.bundle.Part.TheVariants.{Whole, Run}
 use Rattle.dn_link.specs.declared.packing.Packing.{Packing}
 use Rattle.dn_link.specs.Packets.{opened_from, packets_of, short_packet, short_packets}
-use Rattle.dn_link.specs.OpenPacking.{packed, part_of, IsTight, IsPacking}
+use Rattle.dn_link.specs.OpenPacking.{packed, part_of, IsOpen, IsTight, IsPacking}
 use Rattle.dn_link.specs.Packing.{ArePacked}
-use Rattle.dn_link.specs.Text.{parts_bytes}
+use Rattle.dn_link.proofs.Lasts.{ended_full}
 use Rattle.dn_link.proofs.Tight.{IsClosed, closed}
 
 -- the tic after so many
@@ -87,14 +87,15 @@ pub record InPacking (from : ℕ) (packets : List Carried) (p : Packing) (rest :
   pub split : packets ≡ done ++ rest
   pub told : packed from p ≡ map (opened_from from) done
   pub tight : IsTight from p
+  pub last : IsOpen p
 
 module _ (from : ℕ) (packets : List Carried) (p : Packing) (rest : List Carried)
     (at : InPacking from packets p rest) where
   pub packs_on : (q : Packing) (packet : Carried) (after : List Carried) → rest ≡ packet ∷ after
       → IsPacking q → length q.parts.items ≤ 23
       → packed from q ≡ packed from p ++ opened_from from packet ∷ [] → IsTight from q
-      → InPacking from packets q after
-  packs_on q packet after next fits parts more tight =
+      → IsOpen q → InPacking from packets q after
+  packs_on q packet after next fits parts more tight last =
       record {
         fits = fits;
         parts = parts;
@@ -104,14 +105,16 @@ module _ (from : ℕ) (packets : List Carried) (p : Packing) (rest : List Carrie
         told = more ∙ ap (λ (ps : List Opened). ps ++ opened_from from packet ∷ []) at.told
             ∙ sym (map-append (opened_from from) at.done (packet ∷ []));
         tight = tight;
+        last = last;
       }
 
   -- the run is ended, and no packet is left, or there is no room
   pub packs_all : (q : Packing) → q.run.commands.items ≡ [] → packed from q ≡ packed from p
       → q.parts.items ≡ p.parts.items ++ part_of p.run
-      → (1 ≤ length rest → length q.parts.items < 22 → 1118 < length (parts_bytes q.parts.items) + (5 + 115))
+      → (1 ≤ length rest → length p.parts.items < 22
+      → 1118 < p.bytes + 5 + length p.run.commands.items + 115)
       → ArePacked from packets q.parts.items
-  packs_all q none same now all =
+  packs_all q none same now full =
       let count = ap (length {A = Carried}) at.split in
       let both = length-append at.done rest in
       let empty : packets_of from (Run q.run) ≡ [] =
@@ -124,7 +127,8 @@ module _ (from : ℕ) (packets : List Carried) (p : Packing) (rest : List Carrie
         some = omega (arith, count, both);
         front = parts ∙ same ∙ at.told ∙ sym (take-map at.done)
             ∙ ap (λ (ps : List Carried). take (length at.done) (map (opened_from from) ps)) (sym at.split);
-        all = λ more few. all (omega (arith, count, both, more)) few;
+        all = λ more few.
+            ended_full p q.parts.items at.fits at.last now (full (omega (arith, count, both, more))) few;
         needed = end.needed;
         ended = end.ended;
       }

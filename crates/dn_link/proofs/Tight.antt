@@ -47,10 +47,10 @@ whole_ended (a ∷ []) packet all = (before_whole a packet, tt)
 whole_ended (a ∷ b ∷ parts) packet all = (all.0, whole_ended (b ∷ parts) packet all.1)
 
 -- an open run is a part where it has commands
-is_part : (r : run.Run) → 0 < length r.commands.items → part_of r ≡ Run r ∷ []
+pub is_part : (r : run.Run) → 0 < length r.commands.items → part_of r ≡ Run r ∷ []
 is_part r some = let on = lt-ltb 0 (length r.commands.items) some in rw on refl
 
-is_none : (r : run.Run) → length r.commands.items ≤ 0 → part_of r ≡ []
+pub is_none : (r : run.Run) → length r.commands.items ≤ 0 → part_of r ≡ []
 is_none r none = let off = le-ltb 0 (length r.commands.items) none in rw off refl
 
 -- a run of no commands

@@ -1,5 +1,5 @@
 -- The packets that a peer has not acknowledged.
-use Rattle.std.specs.Prelude.{◌≡◌, ◌<◌, ◌≤◌, ◌||◌, ℕ, ◌+◌, ◌-◌, ◌/◌, ◌&&◌, ◌==◌, nat_lt, nat_le, if◌then◌else◌, Bool, not, true, false, List, [], ◌∷◌, ◌++◌, length, slice_index, max, Option, Some, None, is_none}
+use Rattle.std.specs.Prelude.{◌≡◌, ◌<◌, ◌≤◌, ◌⊎◌, ◌||◌, ℕ, ◌+◌, ◌-◌, ◌/◌, ◌&&◌, ◌==◌, nat_lt, nat_le, if◌then◌else◌, Bool, not, true, false, List, [], ◌∷◌, ◌++◌, length, slice_index, max, Option, Some, None, is_none}
 use Rattle.dn_link.specs.declared.bundle.Carried.{Carried}
 use Rattle.dn_link.specs.declared.presence.Presence.{Presence}
 use Rattle.dn_link.specs.declared.presence.Presence.TheVariants.{Playing, Left, Forgotten}
@@ -81,3 +81,9 @@ has_tic tic (packet ∷ packets) =
 -- they have each command that the peer still needs, up to the last that they cover
 abbrev pub IsCovering : Unacknowledged → Type 0
 IsCovering kept = (tic : ℕ) → kept.done ≤ tic → tic < kept.covered → has_tic tic kept.packets ≡ true
+
+-- what they cover reaches the end of a packet that is given: it did before; or the packet begins there or
+-- before, and there is room to keep it
+abbrev pub Reaches : Unacknowledged → Carried → Type 0
+Reaches kept packet =
+    (end_of packet ≤ kept.covered) ⊎ ((packet.start ≤ kept.covered) × (length kept.packets < 24))

@@ -8,7 +8,7 @@ use Rattle.dn_link.specs.declared.bundle.Part.TheVariants.{Run}
 use Rattle.dn_link.specs.declared.packing.Packing.{Packing}
 use Rattle.dn_link.specs.Packets.{packets_of}
 use Rattle.dn_link.specs.Text.{IsPart, parts_bytes}
-use Rattle.dn_link.specs.Packing.{IsNeeded, AreEnded}
+use Rattle.dn_link.specs.Packing.{IsNeeded, AreEnded, runs_last}
 
 -- up to twenty-four commands of eight bytes
 pub record IsOpenRun (one : run.Run) : Type 0 where
@@ -33,6 +33,10 @@ pub record MayFollow (from : ℕ) (parts : List Part) (start : ℕ) : Type 0 whe
 abbrev pub IsTight : ℕ → Packing → Type 0
 IsTight from p =
     (start : ℕ) → (1 ≤ length p.run.commands.items → start ≡ p.run.start) → MayFollow from p.parts.items start
+
+-- no run that is done is the last, unless another was begun
+abbrev pub IsOpen : Packing → Type 0
+IsOpen p = length p.run.commands.items ≡ 0 → runs_last p.parts.items ≡ 0
 
 -- it fits: the parts have so many bytes, and with the run no more than there is room for
 pub record IsPacking (p : Packing) : Type 0 where

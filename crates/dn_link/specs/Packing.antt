@@ -1,5 +1,5 @@
 -- Packets that are written as parts.
-use Rattle.std.specs.Prelude.{◌≡◌, ◌≢◌, ◌<◌, ◌≤◌, ℕ, ◌+◌, ◌/◌, ◌%◌, ◌^◌, List, [], ◌∷◌, length, take, map, All}
+use Rattle.std.specs.Prelude.{◌≡◌, ◌≢◌, ◌<◌, ◌≤◌, ℕ, ◌+◌, ◌*◌, ◌/◌, ◌%◌, ◌^◌, List, [], ◌∷◌, length, take, map, All}
 use Rattle.std.specs.List.{flat_map}
 use Rattle.dn_link.specs.declared.bundle.Carried.{Carried}
 use Rattle.dn_link.specs.declared.bundle.Part.{Part}
@@ -26,13 +26,25 @@ AreEnded [] = Unit {0}
 AreEnded (one ∷ []) = Unit {0}
 AreEnded (one ∷ other ∷ parts) = IsEnded one other × AreEnded (other ∷ parts)
 
+abbrev pub runs : Part → ℕ
+runs (Whole packet) = 0
+runs (Run run) = 1
+
+-- how many of the parts are a last part that is a run: 1 or 0
+abbrev pub runs_last : List Part → ℕ
+runs_last [] = 0
+runs_last (one ∷ []) = runs one
+runs_last (one ∷ other ∷ parts) = runs_last (other ∷ parts)
+
 -- the parts stand for these packets, oldest first, and no fewer parts could. They stand for all of them, unless
--- there are twenty-two parts, or of 1,118 bytes fewer are left than a run without commands and a packet of 104
--- bytes take
+-- there may be no room for one more: there are twenty-two parts beside a run that is the last of them; or of
+-- 1,118 bytes fewer are left than a whole packet takes, which is 115, and a run without commands, which is 5,
+-- where no run is the last
 pub record ArePacked (from : ℕ) (packets : List Carried) (parts : List Part) : Type 0 where
   pub count : ℕ
   pub some : count ≤ length packets
   pub front : flat_map (packets_of from) parts ≡ take count (map (opened_from from) packets)
-  pub all : count < length packets → length parts < 22 → 1118 < length (parts_bytes parts) + (5 + 115)
+  pub all : count < length packets → length parts < 22 + runs_last parts
+      → 1118 + 5 * runs_last parts < length (parts_bytes parts) + (5 + 115)
   pub needed : All (IsNeeded from) parts
   pub ended : AreEnded parts

@@ -34,6 +34,15 @@ pub enum Part {
 }
 
 impl Default for Part {
+    ghost use Rattle.std.specs.Prelude.{◌≡◌, None, []};
+    ghost use Rattle.dn_link.specs.declared.bundle.Part.TheVariants.{Whole};
+
+    ghost is_default = { λ part. part ≡ Whole (record {
+      start = 0;
+      ask = None;
+      datagram = record { items = [] };
+    }) };
+
     fn default() -> Part {
         Part::Whole(Carried::default())
     }
@@ -93,7 +102,7 @@ pub struct Bundle {
     pub counts: Counts,
     /// What the datagram is for.
     pub message: Message,
-    /// The packets for the receiver, oldest first, as many as fit.
+    /// The packets for the receiver, oldest first, up to where there may be no room for one more.
     pub parts: ArrayVec<Part, 24>,
 }
 

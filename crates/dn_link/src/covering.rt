@@ -1,11 +1,11 @@
 //! What the packets that are kept for a peer have.
 
-ghost use Rattle.std.specs.Prelude.{◌≡◌, ◌<◌, ◌≤◌, ℕ, true, List, length, map};
+ghost use Rattle.std.specs.Prelude.{◌≡◌, ◌<◌, ◌≤◌, ◌↔◌, ℕ, true, List, length, map, Some};
 ghost use Rattle.dn_seal.specs.declared.seal.Seal.{Seal};
 ghost use Rattle.dn_link.specs.declared.bundle.Carried.{Carried};
 ghost use Rattle.dn_link.specs.declared.bundle.Identity.{Identity};
 ghost use Rattle.dn_link.specs.declared.link.Link.{Link};
-ghost use Rattle.dn_link.specs.Kept.{IsCovering, has_tic};
+ghost use Rattle.dn_link.specs.Kept.{IsCovering, Reaches, end_of, has_tic, taken_by};
 ghost use Rattle.dn_link.specs.Linked.{Gives, Linked};
 ghost use Rattle.dn_link.specs.Linking.{linked};
 ghost use Rattle.dn_link.specs.Paced.{PaceState};
@@ -14,7 +14,9 @@ ghost use Rattle.dn_link.specs.Text.{parts_bytes};
 
 /// The packets that any link keeps for a peer have each command from the first that the peer still needs to the
 /// last that they cover. And a datagram carries all of these, unless it has no room for some: then it has
-/// twenty-two parts or more, or these have more than 998 bytes.
+/// twenty-two parts or more, or these have more than 998 bytes. What they cover reaches the end of a packet that
+/// is given exactly if it did before, or if the packet begins there or before and fewer than twenty-four are
+/// kept.
 pub fn kept_covers()
     ensures covers { (link : Link) (peer : ℕ) → IsCovering ((linked link).peers peer).kept }
     ensures carried { (seal : Seal) (identity : Identity) (pace : PaceState) (to : ℕ) (old new : Linked) (bytes : List ℕ)
@@ -24,4 +26,8 @@ pub fn kept_covers()
         → (packets : List Carried) × (packets_in gives.bundle ≡ map (opened_from old.node.me) packets)
         × ((tic : ℕ) → (old.peers to).kept.done ≤ tic → tic < (new.peers to).kept.covered
         → has_tic tic packets ≡ true) }
+    ensures reaches { (seal : Seal) (identity : Identity) (pace : PaceState) (to : ℕ) (old new : Linked) (bytes : List ℕ)
+        (gives : Gives seal identity pace to old new bytes) (packet : Carried)
+        → taken_by (old.peers to).presence gives.given ≡ Some packet
+        → (end_of packet ≤ (new.peers to).kept.covered) ↔ Reaches (old.peers to).kept packet }
 {}

@@ -22,7 +22,7 @@ use dn_tic::{Command, Input, Keys, Move};
 use std::alloc::Global;
 
 /// A lockstep that gives each peer one sealed datagram a tick. It has the packets that are kept until the peer
-/// acknowledges their commands, oldest first, as many as fit.
+/// acknowledges their commands, oldest first, up to where there may be no room for one more.
 #[derive(Drop)]
 pub struct Link {
     lockstep: Lockstep,
@@ -38,7 +38,7 @@ impl Link {
     ghost use Rattle.dn_tic.specs.declared.input.Input.TheVariants.{Pressed, Given};
     ghost use Rattle.dn_machine.specs.Building.{on_build};
     ghost use Rattle.dn_machine.specs.Running.{on_run, on_quit};
-    ghost use Rattle.dn_lockstep.specs.Runs.{RunsBy};
+    ghost use Rattle.dn_lockstep.specs.Runs.{RunsBy, told_by};
     ghost use Rattle.dn_lockstep.specs.Steps.{Steps};
     ghost use Rattle.dn_setup.specs.Settings.{Settings as Choice};
     ghost use Rattle.dn_machine.specs.Game.{fresh};
@@ -151,6 +151,24 @@ impl Link {
         ensures identity { identity_of self.new ≡ identity_of self.old }
     {
         self.lockstep.run(marks)
+    }
+
+    /// As `Lockstep::run_into`.
+    pub fn run_into(&mut self, marks: &[i16; 4], row: &mut [Option<Move>; 4]) -> Ran
+        ensures step { RunsBy marks.now (linked self.old).node (linked self.new).node
+            (λ limits m marks. on_run limits m marks) (λ ran told. (result ≡ ran) × (told_by result row.new ≡ told)) }
+        ensures further { (tic : ℕ) → result ≡ ran.Ran tic
+            → (linked self.new).node.ran ≡ (linked self.old).node.ran + 1 }
+        ensures waits { (player : ℕ) → result ≡ ran.Waiting player
+            → ((linked self.new).node ≡ (linked self.old).node) × (row.new ≡ row.old) }
+        ensures idle { result ≡ ran.NotPlaying
+            → ((linked self.new).node ≡ (linked self.old).node) × (row.new ≡ row.old) }
+        ensures peers { (linked self.new).peers ≡ (linked self.old).peers }
+        ensures pace { pace_of self.new ≡ pace_of self.old }
+        ensures seal { seal_of self.new ≡ seal_of self.old }
+        ensures identity { identity_of self.new ≡ identity_of self.old }
+    {
+        self.lockstep.run_into(marks, row)
     }
 
     /// As `Lockstep::quit`.

@@ -4,7 +4,7 @@ ghost use Rattle.std.specs.Prelude.{◌≡◌, ◌≤◌, ◌<◌, ◌+◌, ◌/
 ghost use Rattle.std.specs.List.{flat_map};
 ghost use Rattle.dn_link.specs.Packets.{opened_from, packets_of, short_packet};
 ghost use Rattle.dn_link.specs.declared.bundle.Part.TheVariants.{Whole};
-ghost use Rattle.dn_link.specs.OpenPacking.{HasRoom, IsPacking, IsTight, MayFollow, packed, part_of};
+ghost use Rattle.dn_link.specs.OpenPacking.{HasRoom, IsOpen, IsPacking, IsTight, MayFollow, packed, part_of};
 ghost use Rattle.dn_link.specs.Packing.{ArePacked, IsNeeded};
 ghost use Rattle.dn_link.specs.Text.{IsPart, parts_bytes};
 
@@ -65,6 +65,7 @@ impl Packing {
         ensures parts { length result.parts.items ≤ 23 }
         ensures none { (from : ℕ) → packed from result ≡ [] }
         ensures tight { (from : ℕ) → IsTight from result }
+        ensures last { IsOpen result }
     {
         Packing {
             parts: ArrayVec::new(),
@@ -90,9 +91,7 @@ impl Packing {
         requires few { length self.old.parts.items ≤ 23 }
         ensures fits { IsPacking self.new }
         ensures few { length self.new.parts.items ≤ length self.old.parts.items + 1 }
-        ensures many { length self.old.parts.items ≤ length self.new.parts.items }
         ensures room { self.new.bytes ≤ self.old.bytes + 5 + length self.old.run.commands.items }
-        ensures grown { self.old.bytes + length self.old.run.commands.items ≤ self.new.bytes }
         ensures none { self.new.run.commands.items ≡ [] }
         ensures start { self.new.run.start ≡ start }
         ensures parts { self.new.parts.items ≡ self.old.parts.items ++ part_of self.old.run }
@@ -132,6 +131,7 @@ impl Packing {
         ensures more { (from : ℕ) → packed from self.new
             ≡ packed from self.old ++ opened_from from (short_packet from start command.now) ∷ [] }
         ensures tight { (from : ℕ) → IsTight from self.old → IsTight from self.new }
+        ensures last { IsOpen self.new }
     {
         self.make_way(start);
         append(&mut self.run.commands, command);
@@ -146,6 +146,7 @@ impl Packing {
         ensures more { (from : ℕ) → packed from self.new
             ≡ packed from self.old ++ opened_from from packet.now ∷ [] }
         ensures tight { (from : ℕ) → IsTight from self.old → IsNeeded from (Whole packet.now) → IsTight from self.new }
+        ensures last { IsOpen self.new }
     {
         self.end_run(packet.start);
         self.bytes += WHOLE_BYTES + packet.datagram.len();
@@ -160,6 +161,7 @@ impl Packing {
         ensures parts { length self.new.parts.items ≤ 23 }
         ensures more { packed from self.new ≡ packed from self.old ++ opened_from from packet.now ∷ [] }
         ensures tight { IsTight from self.old → IsTight from self.new }
+        ensures last { IsOpen self.new }
     {
         match short_command(from, packet) {
             Some(command) => self.add_short(packet.start, &command),
@@ -168,7 +170,8 @@ impl Packing {
     }
 }
 
-/// The parts that stand for a player's packets, oldest first, as many as there is room for.
+/// The parts that stand for a player's packets, oldest first, up to where there may be no room for one more:
+/// twenty-two parts are done, or fewer bytes are left than a run and a whole packet may take.
 pub(crate) fn pack(from: u8, packets: &[Carried]) -> ArrayVec<Part, 24>
     ensures fit { All IsPart result.items }
     ensures short { length (parts_bytes result.items) ≤ 1118 }

@@ -1,9 +1,9 @@
 -- Rows that are listed as they come.
-use Rattle.std.proofs.Common.{◌≡◌, ◌≤◌, ◌<◌, ◌+◌, ℕ, suc, List, [], ◌∷◌, ◌++◌, length, take, ap, sym, ◌∙◌, subst, arith, Option, refl, inl, length-append, append_assoc}
+use Rattle.std.proofs.Common.{◌≡◌, ◌≤◌, ◌<◌, ◌+◌, ◌%◌, ◌⊎◌, ℕ, suc, List, [], ◌∷◌, ◌++◌, length, take, ap, sym, ◌∙◌, subst, arith, Option, refl, inl, inr, length-append, append_assoc}
 use Rattle.std.specs.Io.KnownBytes.{Appends, Consumes}
 use Rattle.std.proofs.KnownBytes.{Appends-trans, Consumes-trans}
 use Rattle.std.proofs.Math.Seq.{take-append-add}
-use Rattle.std.proofs.lemmas.List.{length-take, take-append-le}
+use Rattle.std.proofs.lemmas.List.{length-take, length-take-le, take-append-le}
 use Rattle.dn_tic.specs.declared.command.Move.{Move}
 use Rattle.dn_world.specs.Plane.{Spots, walking}
 use Rattle.dn_demo.specs.Feeding.{Feeding, Shows, Takes}
@@ -61,27 +61,43 @@ pub are_rows : (bytes : List ℕ) (f : Feeding Spots) (rows : List (List (Option
     → Shows (λ w. w) walking bytes f → AreListed bytes f.tics rows → AreRows bytes (lines_of_rows 0 rows)
 are_rows bytes f rows shown listed = (rows, rows_of_listed (λ w. w) walking bytes f rows shown listed, refl)
 
+-- so many bytes are whole pieces, or all that are read
+abbrev pub ArePieces : ℕ → Type 0
+ArePieces taken = (taken % 4096 ≡ 0) ⊎ (taken ≡ 33554433)
+
 -- bytes were taken from the input and fed, and the lines of their rows were written
 abbrev pub ListsSoFar : (input input' output output' : Option (List ℕ)) → Feeding Spots → Type 0
 ListsSoFar input input' output output' f =
-    (bytes : List ℕ) × (length bytes ≤ 33554433) × Consumes input input' bytes
+    (bytes : List ℕ) × ((length bytes ≤ 33554433) × ArePieces (length bytes)) × Consumes input input' bytes
     × Shows (λ w. w) walking bytes f
     × ((rows : List (List (Option Move))) × AreListed bytes f.tics rows × (f.tics ≡ length rows)
     × Appends output output' (lines_of_rows 0 rows))
 
+whole_pieces : {taken : ℕ} → ArePieces taken → taken < 33554433 → taken % 4096 ≡ 0
+whole_pieces (inl whole) before = whole
+whole_pieces (inr all) before = absurd (omega (arith, all, before))
+
+-- a piece more, which is whole, or the last
+one_more : {taken count n now : ℕ} → ArePieces taken → taken < 33554433 → n ≤ count → now ≡ taken + count
+    → now ≤ 33554433 → (n ≡ 4096) ⊎ (taken + n ≡ 33554433) → count ≤ n → ArePieces now
+one_more before under full same within (inl piece) most =
+    let whole = whole_pieces before under in inl (omega (arith, whole, full, same, piece, most))
+one_more before under full same within (inr last) most = inr (omega (arith, full, same, last, most))
+
 module _ (input mid output output' : Option (List ℕ)) (f : Feeding Spots)
     (so_far : ListsSoFar input mid output output' f) (n : ℕ) (room : f.taken + n ≤ 33554433) where
   -- more bytes were taken, whose rows are not listed
-  pub lists_whole : (input' : Option (List ℕ)) (last : List ℕ) → n ≤ 4096 → Consumes mid input' last
-      → length last ≤ n
+  pub lists_whole : (input' : Option (List ℕ)) (last : List ℕ) → n ≤ 4096 → f.taken < 33554433
+      → Consumes mid input' last → length last ≤ n
       → ListsWhole 33554433 input input' output output'
-  lists_whole input' last small more few =
+  lists_whole input' last small before more few =
       record {
         bytes = so_far.0;
         last = last;
         lines = lines_of_rows 0 so_far.4.0;
         taken = Consumes-trans input mid input' so_far.0 last so_far.2 more;
         within = omega (arith, few, room, so_far.3.taken);
+        pieces = inl (whole_pieces so_far.1.1 (omega (arith, before, so_far.3.taken)));
         few = omega (arith, few, small);
         shown = are_rows so_far.0 f so_far.4.0 so_far.3 so_far.4.1;
         written = so_far.4.3;
@@ -101,6 +117,13 @@ module _ (input mid output output' : Option (List ℕ)) (f : Feeding Spots)
 
     within : length bytes ≤ 33554433
     within = omega (arith, length-append so_far.0 (take count buffer), up.within, room, so_far.3.taken)
+
+    came : length (take count buffer) ≡ count
+    came = length-take-le count buffer fits
+
+    last_piece : (n ≡ 4096) ⊎ (f.taken + n ≡ 33554433) → (n ≡ 4096) ⊎ (length so_far.0 + n ≡ 33554433)
+    last_piece (inl piece) = inl piece
+    last_piece (inr last) = inr (omega (arith, last, so_far.3.taken))
 
     taken : Consumes input input' bytes
     taken = Consumes-trans input mid input' so_far.0 (take count buffer) so_far.2 up.taken
@@ -127,11 +150,16 @@ module _ (input mid output output' : Option (List ℕ)) (f : Feeding Spots)
         (Appends-trans output output' later (lines_of_rows 0 so_far.4.0) text so_far.4.3 put)
 
     -- its lines were written
-    pub lists_more : (later : Option (List ℕ)) → Appends output' later text
+    pub lists_more : (later : Option (List ℕ)) → Appends output' later text → f.taken < 33554433 → n ≤ count
+        → (n ≡ 4096) ⊎ (f.taken + n ≡ 33554433)
         → ListsSoFar input input' output later g
-    lists_more later put = (
+    lists_more later put under full piece = (
       bytes,
-      within,
+      (
+        within,
+        one_more so_far.1.1 (omega (arith, under, so_far.3.taken)) (omega (arith, came, full))
+            (length-append so_far.0 (take count buffer)) within (last_piece piece) up.within,
+      ),
       taken,
       shown,
       (

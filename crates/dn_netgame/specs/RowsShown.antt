@@ -1,5 +1,5 @@
 -- What is shown of a demo's rows.
-use Rattle.std.specs.Prelude.{◌≡◌, ◌≤◌, ◌⊎◌, ℕ, ◌+◌, List, ◌++◌, length, Option}
+use Rattle.std.specs.Prelude.{◌≡◌, ◌≤◌, ◌⊎◌, ℕ, ◌+◌, ◌%◌, List, ◌++◌, length, Option}
 use Rattle.std.specs.Io.KnownBytes.{Appends, Consumes}
 use Rattle.dn_tic.specs.declared.command.Move.{Move}
 use Rattle.dn_demo.specs.Reading.{HasRows}
@@ -22,14 +22,15 @@ IsRowsShown bytes lines status =
 abbrev pub piece_size : ℕ
 piece_size = 4096
 
--- bytes were taken from the input, and all lines of the rows that they have were written; then no more than a
--- piece was taken, and nothing was written for it
+-- bytes were taken from the input, whole pieces or all that is read of it, and all lines of the rows that they
+-- have were written; then no more than a piece was taken, and nothing was written for it
 pub record ListsWhole (limit : ℕ) (input input' output output' : Option (List ℕ)) : Type 0 where
   pub bytes : List ℕ
   pub last : List ℕ
   pub lines : List ℕ
   pub taken : Consumes input input' (bytes ++ last)
   pub within : length bytes + length last ≤ limit
+  pub pieces : (length bytes % piece_size ≡ 0) ⊎ TakesUpTo limit input input' bytes
   pub few : length last ≤ piece_size
   pub shown : AreRows bytes lines
   pub written : Appends output output' lines

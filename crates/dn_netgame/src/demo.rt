@@ -1,11 +1,12 @@
 //! Showing a demo: what it has and where its players end, or why it is none.
 
-ghost use Rattle.std.specs.Prelude.{◌≡◌, ℕ, ◌+◌, List, IfOk, IfErr};
+ghost use Rattle.std.specs.Prelude.{◌≡◌, ℕ, ◌+◌, List, Err, IfOk, IfErr};
 ghost use Rattle.std.specs.String.{string_bytes};
 ghost use Rattle.dn_world.specs.Plane.{walking};
 ghost use Rattle.dn_demo.specs.Feeding.{Shows};
 ghost use Rattle.dn_netgame.specs.DemoShown.{demo_limit, IsDemo};
 ghost use Rattle.dn_netgame.specs.Shown.{ShowsOrFails};
+ghost use Rattle.dn_netgame.specs.Transfer.{TakesUpTo};
 ghost use Rattle.dn_netgame.specs.declared.fault.RunFault.{RunFault};
 
 use crate::fault::RunFault;
@@ -40,8 +41,11 @@ pub fn run_demo<R: Read, W: Write>(
     output: &mut W,
 ) -> Result<u8, RunFault>
     // A byte more than a demo can have is taken, so that no prefix of a longer input is read as a demo.
-    ensures { ShowsOrFails W.contents (demo_limit + 1) IsDemo (R.remaining input.old) (R.remaining input.new)
-        output.old output.new result }
+    ensures shown { ShowsOrFails W.contents (demo_limit + 1) IsDemo (R.remaining input.old)
+        (R.remaining input.new) output.old output.new result }
+    // Memory runs out once all of the input that is read is there.
+    ensures memory { result ≡ Err RunFault.Memory → (bytes : List ℕ)
+        × TakesUpTo (demo_limit + 1) (R.remaining input.old) (R.remaining input.new) bytes }
 {
     let feed = feed_demo(input)?;
     let (text, status) = text_of(alloc, feed)?;

@@ -1,10 +1,11 @@
 //! Upgrading a demo to version 111, or telling why there is none.
 
-ghost use Rattle.std.specs.Prelude.{◌+◌};
+ghost use Rattle.std.specs.Prelude.{◌≡◌, ◌+◌, Err};
 ghost use Rattle.dn_demo.specs.Recorded.{IsLimit};
 ghost use Rattle.dn_netgame.specs.DemoShown.{demo_limit};
 ghost use Rattle.dn_netgame.specs.UpgradeShown.{IsUpgradedTo, IsUpgrade};
 ghost use Rattle.dn_netgame.specs.Shown.{PrintsOrFails, ShowsOrFails};
+ghost use Rattle.dn_netgame.specs.Transfer.{TakesSome};
 ghost use Rattle.dn_netgame.specs.declared.fault.RunFault.{RunFault};
 
 use crate::fault::RunFault;
@@ -47,8 +48,11 @@ pub fn run_upgrade<R: Read, W: Write>(
     output: &mut W,
 ) -> Result<u8, RunFault>
     requires limit { IsLimit limit }
-    ensures { ShowsOrFails W.contents (demo_limit + 1) (IsUpgrade limit) (R.remaining input.old)
+    ensures shown { ShowsOrFails W.contents (demo_limit + 1) (IsUpgrade limit) (R.remaining input.old)
         (R.remaining input.new) output.old output.new result }
+    // An input that ends at once needs no memory.
+    ensures memory { result ≡ Err RunFault.Memory
+        → TakesSome (demo_limit + 1) (R.remaining input.old) (R.remaining input.new) }
 {
     let bytes = gather(alloc, input, INPUT_LIMIT + 1)?;
     match read_demo(bytes) {

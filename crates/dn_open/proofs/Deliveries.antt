@@ -118,7 +118,7 @@ module _ {S : Type 0} (rules : Rules S) (game : Game) where
   after_packet flight = on_packet rules.limits flight.to (game.nodes flight.to) flight
 
   -- a near packet to a node that stands is delivered
-  delivers : (which : ℕ) (flight : Flight) → slice_get game.flights which ≡ Some flight
+  pub delivers : (which : ℕ) (flight : Flight) → slice_get game.flights which ≡ Some flight
       → is_near (made flight.to (game.nodes flight.to)) flight ≡ true → game.stopped flight.to ≡ false
       → applied rules game (Deliver which)
       ≡ (with_node game flight.to (after_packet flight).0, Ok (Done.Heard (after_packet flight).1))

@@ -11,3 +11,5 @@ pub mod Keeping
 pub mod Hearings
 pub mod Receiving
 pub mod Letters
+pub mod Answered
+pub mod BytesAnswered

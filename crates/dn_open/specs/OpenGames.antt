@@ -1,5 +1,5 @@
 -- A game on an open network: any bytes come to any node at any time.
-use Rattle.std.specs.Prelude.{◌≡◌, ◌≢◌, ◌⊎◌, ℕ, pos, List, [], ◌∷◌, slice_get, Option, Some, None, Result, Ok, Err}
+use Rattle.std.specs.Prelude.{◌≡◌, ◌≢◌, ◌⊎◌, ◌&&◌, ℕ, pos, Bool, true, false, List, [], ◌∷◌, slice_get, Option, Some, None, Result, Ok, Err}
 use Rattle.dn_tic.specs.Command.{IsCommand}
 use Rattle.dn_tic.specs.Inputs.{given}
 use Rattle.dn_packet.specs.declared.packet.Packet.{Packet}
@@ -11,7 +11,7 @@ use Rattle.dn_machine.specs.declared.events.Done.{Done}
 use Rattle.dn_machine.specs.declared.events.Event.{Event}
 use Rattle.dn_machine.specs.declared.events.Event.TheVariants.{Give, Deliver}
 use Rattle.dn_machine.specs.declared.events.Refusal.{Refusal}
-use Rattle.dn_machine.specs.Flight.{Flight}
+use Rattle.dn_machine.specs.Flight.{Flight, is_close, is_request_close}
 use Rattle.dn_machine.specs.Game.{Game, applied, opening_game, refused_at, with_node}
 use Rattle.dn_machine.specs.Runs.{Next}
 use Rattle.dn_machine.specs.Worlds.{Rules}
@@ -90,6 +90,29 @@ IsAnswer rules seal game node bytes answer =
     × (told : Result Settings SetupFault) × IsOpenedAs (sealing_of seal node) bytes opened
     × IsRead opened read told
     × (answer ≡ answer_if rules game node opened read told (refused_at rules.players game node))
+
+-- the tics of a packet lie within 64 of this number of commands
+abbrev pub is_timely : ℕ → Flight → Bool
+is_timely made flight = is_close made flight.start && is_request_close made flight.request
+
+-- the answer to the contents of the envelope of this packet, the one of this number that was sent, by its
+-- receiver, who has made so many commands: what the delivery of the packet answers, if its tics lie within 64
+-- of that number; else that it is late
+abbrev pub IsDeliveredAs : {S : Type 0} → Rules S → Game → (made which : ℕ) → Flight → Arrived → Type 0
+IsDeliveredAs rules game made which flight (Arrived.Heard heard) =
+    (is_timely made flight ≡ true) × ((applied rules game (Deliver which)).1 ≡ Ok (Done.Heard heard))
+IsDeliveredAs rules game made which flight Arrived.Late = is_timely made flight ≡ false
+IsDeliveredAs rules game made which flight Arrived.Unlike = ⊥
+IsDeliveredAs rules game made which flight (Arrived.Unopened fault) = ⊥
+
+-- the answer to any bytes, by a node that has made so many commands: if they do not open, why; else they are
+-- the envelope of a packet that was sent to it before, and the answer is that to the contents
+abbrev pub IsArrivedAs : {S : Type 0} → Rules S → Seal → Game → (made node : ℕ) → List ℕ → Arrived → Type 0
+IsArrivedAs rules seal game made node bytes (Arrived.Unopened fault) =
+    IsOpenedAs (sealing_of seal node) bytes (Err fault)
+IsArrivedAs rules seal game made node bytes answer =
+    (which : ℕ) × (found : IsEnvelope seal game.flights node bytes which)
+    × IsDeliveredAs rules game made which found.flight answer
 
 -- an answer to bytes that were not heard
 abbrev pub IsUnheard : Result Arrived Refusal → Type 0

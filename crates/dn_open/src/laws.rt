@@ -14,7 +14,7 @@ ghost use Rattle.dn_machine.specs.Limits.{Limits, IsWindow};
 ghost use Rattle.dn_lockstep.specs.Contents.{Contents};
 ghost use Rattle.dn_lockstep.specs.Near.{IsFair};
 ghost use Rattle.dn_lockstep.specs.Opening.{FitsPackets};
-ghost use Rattle.dn_lockstep.specs.OneGame.{AreOneGame};
+ghost use Rattle.dn_lockstep.specs.OneGame.{beside, AreOneGame};
 ghost use Rattle.dn_lockstep.specs.Session.{Session, with_lockstep, given_on, after_packet};
 ghost use Rattle.dn_lockstep.specs.Sent.{sent_to};
 ghost use Rattle.dn_lockstep.specs.Steps.{Tells};
@@ -23,7 +23,7 @@ ghost use Rattle.dn_lockstep.specs.Marking.{Marking};
 ghost use Rattle.dn_open.specs.Arrivals.{HearsOpened, HearsSealed, HearsPacket, SendsSealed};
 ghost use Rattle.dn_open.specs.declared.arrived.Arrived.{Arrived};
 ghost use Rattle.dn_open.specs.declared.open_event.OpenEvent.{OpenEvent};
-ghost use Rattle.dn_open.specs.OpenGames.{IsGenuine, RunsOpen, StandFor};
+ghost use Rattle.dn_open.specs.OpenGames.{IsArrivedAs, IsDeliveredAs, IsGenuine, RunsOpen, StandFor};
 ghost use Rattle.dn_open.specs.Playable.{IsPlayable};
 ghost use Rattle.dn_seal.specs.declared.seal.Seal.{Seal};
 ghost use Rattle.dn_open.specs.Sealed.{IsSealedAs, WasSealed, envelope_of, opened_of};
@@ -102,6 +102,26 @@ pub fn arrivals_keep_one_game()
     settings_found_again();
 }
 
+/// And what `SealedLockstep::receive` answers is told by that game. Bytes that do not open are answered by the
+/// fault of opening them. Any others are the envelope of a packet that was given to this player: if its tics
+/// lie within 64 of the number of commands that the lockstep has made, the answer is that of the packet's
+/// delivery in the game, and else `Late`. There is one such answer, whatever was sealed.
+pub fn arrivals_are_answered()
+    ensures answered { (marking : Marking) (limits : Limits) (settings : Settings) (session : Session)
+        (seal : Seal) (player : ℕ) (bytes : List ℕ) (new : Contents) (answer : Arrived)
+        → (game : AreOneGame marking limits settings session) → player < limits.players
+        → IsGenuine seal session.given player bytes
+        → HearsSealed seal bytes (session.locksteps player) new answer
+        → IsArrivedAs (beside marking limits) seal game.last (made (session.locksteps player)) player bytes
+        answer }
+    ensures only { (marking : Marking) (limits : Limits) (settings : Settings) (session : Session) (seal : Seal)
+        (player : ℕ) (bytes : List ℕ) (new : Contents) (answer other : Arrived)
+        → (game : AreOneGame marking limits settings session) → player < limits.players
+        → HearsSealed seal bytes (session.locksteps player) new answer
+        → IsArrivedAs (beside marking limits) seal game.last (made (session.locksteps player)) player bytes other
+        → answer ≡ other }
+{}
+
 /// So does what `hear` does with the contents of an envelope of a packet that was given to this player,
 /// whether or not there was such an envelope.
 pub fn letters_keep_one_game()
@@ -114,6 +134,18 @@ pub fn letters_keep_one_game()
 {
     settings_found_again();
 }
+
+/// And what `hear` answers to them is that of the packet's delivery in the game, if its tics lie within 64 of
+/// the number of commands that the lockstep has made, and else `Late`.
+pub fn letters_are_answered()
+    ensures { (marking : Marking) (limits : Limits) (settings : Settings) (session : Session) (which : ℕ)
+        (flight : Flight) (new : Contents) (answer : Arrived)
+        → (game : AreOneGame marking limits settings session)
+        → slice_get session.given which ≡ Some flight
+        → HearsOpened (opened_of flight) (session.locksteps flight.to) new answer
+        → IsDeliveredAs (beside marking limits) game.last (made (session.locksteps flight.to)) which flight
+        answer }
+{}
 
 /// And so does what `SealedLockstep::packet` does: what it gives is the envelope of a packet from this player
 /// to that peer, which was sealed in that game. Where it gives nothing there is no such packet.

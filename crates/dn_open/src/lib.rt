@@ -14,8 +14,9 @@ pub use alike::is_alike;
 pub use arrived::Arrived;
 pub use hearing::hear;
 pub use laws::{
-    arrivals_keep_one_game, letters_keep_one_game, open_games_agree, open_windows_agree,
-    sealed_packets_are_genuine, sealed_packets_are_heard, sends_keep_one_game,
+    arrivals_are_answered, arrivals_keep_one_game, letters_are_answered, letters_keep_one_game,
+    open_games_agree, open_windows_agree, sealed_packets_are_genuine, sealed_packets_are_heard,
+    sends_keep_one_game,
 };
 pub use open_event::OpenEvent;
 pub use sealed::SealedLockstep;

@@ -1,6 +1,6 @@
 //! A lockstep on an open network.
 
-ghost use Rattle.std.specs.Prelude.{◌≡◌, ◌≢◌, ℕ, ◌+◌, false, None, Some, IfOk, IfSome, is_some};
+ghost use Rattle.std.specs.Prelude.{◌≡◌, ◌≢◌, ℕ, ◌+◌, ℤ, false, None, Some, IfOk, IfSome, is_some};
 ghost use Rattle.dn_tic.specs.declared.input.Input.TheVariants.{Pressed, Given};
 ghost use Rattle.dn_machine.specs.declared.answers.Made.TheVariants as made;
 ghost use Rattle.dn_machine.specs.declared.answers.Ran.TheVariants as ran;
@@ -34,7 +34,7 @@ impl SealedLockstep {
     ghost use Rattle.dn_setup.specs.Settings.{Settings as Choice};
     ghost use Rattle.dn_machine.specs.Building.{on_build};
     ghost use Rattle.dn_machine.specs.Game.{fresh};
-    ghost use Rattle.dn_machine.specs.Running.{on_run, on_quit};
+    ghost use Rattle.dn_machine.specs.Running.{on_run, on_quit, row_held};
     ghost use Rattle.dn_lockstep.specs.Commands.{can_make};
     ghost use Rattle.dn_lockstep.specs.Contents.{whose};
     ghost use Rattle.dn_lockstep.specs.Giving.{gives};
@@ -150,6 +150,10 @@ impl SealedLockstep {
         ensures waits { (player : ℕ) → result ≡ ran.Waiting player
             → (locked self.new ≡ locked self.old) × (row.new ≡ row.old) }
         ensures idle { result ≡ ran.NotPlaying → (locked self.new ≡ locked self.old) × (row.new ≡ row.old) }
+        ensures off { (player : ℕ) (was should : ℤ) → result ≡ ran.Inconsistent player was should
+            → row.new ≡ row.old }
+        ensures full { result ≡ ran.DemoFull → Tells (locked self.old) (λ limits me m.
+            row.new ≡ row_held limits m) }
         ensures seal { seal_of self.new ≡ seal_of self.old }
     {
         self.lockstep.run_into(marks, row)

@@ -121,8 +121,8 @@ fn refused_text(refusal: Refusal) -> &'static str
     }
 }
 
-/// Appends what is answered to an event, in the words of a trace. Err where memory is refused; the text may
-/// then have a prefix of the words.
+/// Appends what is answered to an event, in the words of a trace. Err where memory is refused: what the text
+/// then holds is not said, and the caller is to throw it away.
 pub fn push_answer(text: &mut String, answer: Result<Done, Refusal>) -> Result<(), AllocError>
     ensures { OnOk result (string_bytes text.new ≡ string_bytes text.old ++ answer_words answer) }
 {

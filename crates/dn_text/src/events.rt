@@ -111,8 +111,8 @@ pub(crate) fn push_event(text: &mut String, event: Event) -> Result<(), AllocErr
     }
 }
 
-/// Appends an event as a line of a script. Err where memory is refused; the text may then have a prefix of the
-/// line.
+/// Appends an event as a line of a script. Err where memory is refused: what the text then holds is not said,
+/// and the caller is to throw it away.
 pub fn push_event_line(text: &mut String, event: Event) -> Result<(), AllocError>
     ensures { OnOk result (string_bytes text.new ≡ string_bytes text.old ++ event_line event) }
 {

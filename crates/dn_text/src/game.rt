@@ -36,7 +36,7 @@ fn push_events<W: World>(text: &mut String, played: &Played<W>) -> Result<(), Al
 }
 
 /// Appends the lines of all nodes, in the order of their numbers, and the line of the events. Err where memory
-/// is refused; the text may then have a prefix of the lines.
+/// is refused: what the text then holds is not said, and the caller is to throw it away.
 pub fn push_game<W: World>(text: &mut String, played: &Played<W>) -> Result<(), AllocError>
     ensures { OnOk result (string_bytes text.new ≡ string_bytes text.old ++ game_lines played.now) }
 {

@@ -75,8 +75,8 @@ fn line_end(stopped: bool) -> &'static str
     if stopped { " stopped\n" } else { "\n" }
 }
 
-/// Appends the line of a node, which also tells whether its program has stopped. Err where memory is refused;
-/// the text may then have a prefix of the line.
+/// Appends the line of a node, which also tells whether its program has stopped. Err where memory is refused:
+/// what the text then holds is not said, and the caller is to throw it away.
 pub fn push_node<W: World>(
     text: &mut String,
     node: &Node<W>,

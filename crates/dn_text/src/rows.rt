@@ -1,6 +1,6 @@
 //! The lines of a demo's rows.
 
-ghost use Rattle.std.specs.Prelude.{◌≡◌, ◌++◌, OnOk};
+ghost use Rattle.std.specs.Prelude.{◌≡◌, ◌++◌, [], ◌∷◌, None, IsOk, OnOk};
 ghost use Rattle.std.specs.String.{string_bytes};
 ghost use Rattle.dn_text.specs.RowLines.{move_line, step_line, row_lines};
 
@@ -24,7 +24,8 @@ fn push_move(text: &mut String, tic: u64, player: u8, step: Move) -> Result<(), 
 
 /// The line of who has a move, and nothing for another.
 fn push_step(text: &mut String, tic: u64, player: u8, step: Option<Move>) -> Result<(), AllocError>
-    ensures { OnOk result (string_bytes text.new ≡ string_bytes text.old ++ step_line tic player step) }
+    ensures line { OnOk result (string_bytes text.new ≡ string_bytes text.old ++ step_line tic player step) }
+    ensures empty { step ≡ None → IsOk result }
 {
     match step {
         Some(step) => push_move(text, tic, player, step),
@@ -33,9 +34,11 @@ fn push_step(text: &mut String, tic: u64, player: u8, step: Option<Move>) -> Res
 }
 
 /// Appends the lines of a demo's row, which is that of `tic`: one for each player who has a move, in the order
-/// of their numbers. Err where memory is refused; the text may then have a prefix of the lines.
+/// of their numbers; a row in which nobody moves needs no memory. Err where memory is refused: what the text
+/// then holds is not said, and the caller is to throw it away.
 pub fn push_row(text: &mut String, tic: u64, row: [Option<Move>; 4]) -> Result<(), AllocError>
-    ensures { OnOk result (string_bytes text.new ≡ string_bytes text.old ++ row_lines tic 0 row) }
+    ensures lines { OnOk result (string_bytes text.new ≡ string_bytes text.old ++ row_lines tic 0 row) }
+    ensures empty { row ≡ None ∷ None ∷ None ∷ None ∷ [] → IsOk result }
 {
     let [a, b, c, d] = row;
     push_step(text, tic, 0, a)?;

@@ -11,7 +11,8 @@ use dn_game::{Done, Event, Refusal};
 use std::alloc::AllocError;
 
 /// Appends the line of an event in a trace: its number, the event in the words of a script, and its answer in
-/// words. Err where memory is refused; the text may then have a prefix of the line.
+/// words. Err where memory is refused: what the text then holds is not said, and the caller is to throw it
+/// away.
 pub fn push_trace_line(
     text: &mut String,
     number: usize,

@@ -9,13 +9,13 @@ use Rattle.dn_machine.specs.declared.answers.Ran.{Ran}
 use Rattle.dn_setup.specs.Settings.{Settings}
 use Rattle.dn_setup.specs.Starts.{bit}
 use Rattle.dn_lockstep.specs.declared.lockstep.aiming.Aim.{Aim}
-use Rattle.zirmegat.specs.declared.answers.AimAnswer.{AimAnswer}
+use Rattle.zirmegat.specs.declared.read_answers.AimAnswer.{AimAnswer}
 use Rattle.zirmegat.specs.declared.config.KnownSettings.{KnownSettings}
-use Rattle.zirmegat.specs.declared.answers.PhaseAnswer.{PhaseAnswer}
+use Rattle.zirmegat.specs.declared.read_answers.PhaseAnswer.{PhaseAnswer}
 use Rattle.zirmegat.specs.declared.answers.MadeAnswer.{MadeAnswer}
 use Rattle.zirmegat.specs.declared.answers.HeardAnswer.{HeardAnswer}
 use Rattle.zirmegat.specs.declared.answers.RanAnswer.{RanAnswer}
-use Rattle.zirmegat.specs.declared.answers.Number.{Number}
+use Rattle.zirmegat.specs.declared.read_answers.Number.{Number}
 use Rattle.zirmegat.specs.declared.answers.MoveAnswer.{MoveAnswer}
 
 -- a phase with a cause and the marks that a cause tells

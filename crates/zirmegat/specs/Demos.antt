@@ -1,5 +1,5 @@
 -- A demo that is fed in pieces, and then read.
-use Rattle.std.specs.Prelude.{◌≡◌, ◌⊎◌, ℕ, Bool, List, [], ◌∷◌, ◌++◌, length, slice_get, slice_index_or, false, Option, Some, None, if◌then◌else◌, Result, Ok, Err}
+use Rattle.std.specs.Prelude.{◌≡◌, ◌<◌, ◌⊎◌, ℕ, Bool, List, [], ◌∷◌, ◌++◌, length, slice_get, slice_index_or, false, Option, Some, None, if◌then◌else◌, Result, Ok, Err}
 use Rattle.std.specs.Option.{option_map}
 use Rattle.dn_tic.specs.declared.command.Move.{Move}
 use Rattle.dn_setup.specs.Starts.{bit}
@@ -36,11 +36,12 @@ demo_code DemoFault.NoPlayers = 3
 demo_code DemoFault.NoMarker = 4
 demo_code DemoFault.Memory = 5
 
--- a piece is taken behind the others, or there is no memory for it; a demo that was read takes none
+-- a piece is taken behind the others, or there is no memory for it, which an empty piece does not need; a demo
+-- that was read takes none
 abbrev pub PushesBy : Option Recording → List ℕ → Reading → Reading → ℕ → Type 0
 PushesBy (Some demo) piece old new code = (code ≡ 8) × (new ≡ old)
 PushesBy None piece old new code = ((code ≡ 0) × (new ≡ record { bytes = old.bytes ++ piece; demo = None }))
-    ⊎ ((code ≡ 5) × (new ≡ old))
+    ⊎ ((code ≡ 5) × (new ≡ old) × (0 < length piece))
 
 abbrev pub IsPushed : List ℕ → Reading → Reading → ℕ → Type 0
 IsPushed piece old new code = PushesBy old.demo piece old new code

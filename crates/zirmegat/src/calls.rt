@@ -20,8 +20,9 @@ ghost use Rattle.zirmegat.specs.Calls.{lockstep_of, Calls, Reads};
 ghost use Rattle.zirmegat.specs.Answers.{made_told, aim_told, heard_told, ran_told, move_told, row_told_over};
 ghost use Rattle.zirmegat.specs.Going.{Builds, Sends, Hears, Runs, Quits};
 
-use crate::answers::{AimAnswer, HeardAnswer, MadeAnswer, MoveAnswer, RanAnswer, flag};
+use crate::answers::{HeardAnswer, MadeAnswer, MoveAnswer, RanAnswer};
 use crate::handle::LockstepHandle;
+use crate::read_answers::{AimAnswer, flag};
 use dn_lockstep::{Heard, Made, Ran};
 use dn_packet::MAX_DATAGRAM;
 use dn_tic::{Keys, Move};

@@ -11,9 +11,10 @@ ghost use Rattle.zirmegat.specs.Answers.{made_told};
 ghost use Rattle.zirmegat.specs.Commands.{given_in, known_told, CanBuild, TellsCommand};
 ghost use Rattle.zirmegat.specs.Going.{Builds};
 
-use crate::answers::{MadeAnswer, flag};
+use crate::answers::MadeAnswer;
 use crate::handle::LockstepHandle;
 use crate::packets::CommandFields;
+use crate::read_answers::flag;
 use dn_lockstep::Made;
 use dn_tic::{Command, TicCmd};
 

@@ -6,10 +6,11 @@ ghost use Rattle.zirmegat.specs.Answers.{row_told_over};
 ghost use Rattle.zirmegat.specs.Calls.{Calls, Reads};
 ghost use Rattle.zirmegat.specs.Demos.{demo_of, blank, reading_told, row_by, no_demo, IsPushed, IsReadOut};
 
-use crate::answers::{MoveAnswer, flag};
+use crate::answers::MoveAnswer;
 use crate::calls::tell_row;
 use crate::demo_answers::DemoAnswer;
 use crate::demo_handle::DemoHandle;
+use crate::read_answers::flag;
 use crate::reader::{DONE, DemoReader, MEMORY};
 use std::alloc::Global;
 
@@ -40,8 +41,8 @@ pub extern "C" fn zmg_demo_free(alloc: Global, demo: &mut DemoHandle)
     drop(held);
 }
 
-/// Takes the next piece of a demo's bytes: 0, 5 where there is no memory for it, 8 where the demo was
-/// read, 9 for no reader.
+/// Takes the next piece of a demo's bytes: 0, 5 where there is no memory for it, which an empty piece does not
+/// need, 8 where the demo was read, 9 for no reader.
 #[unsafe(no_mangle)]
 pub extern "C" fn zmg_demo_push(alloc: Global, demo: &mut DemoHandle, bytes: &[u8]) -> u32
     ensures { Calls (demo_of demo.old) (demo_of demo.new)

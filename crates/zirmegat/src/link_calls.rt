@@ -9,19 +9,21 @@ ghost use Rattle.dn_machine.specs.declared.answers.Made.TheVariants as Made;
 ghost use Rattle.dn_machine.specs.declared.answers.Ran.{Ran as Answer};
 ghost use Rattle.dn_machine.specs.declared.answers.Ran.TheVariants as Ran;
 ghost use Rattle.dn_link.specs.declared.received.Received.{Received as Arrival};
+ghost use Rattle.dn_lockstep.specs.Runs.{told_by};
 ghost use Rattle.zirmegat.specs.Calls.{Calls};
 ghost use Rattle.zirmegat.specs.Answers.{made_told, ran_told, row_told_over};
 ghost use Rattle.zirmegat.specs.Commands.{given_in};
 ghost use Rattle.zirmegat.specs.Going.{Runs, Quits};
 ghost use Rattle.zirmegat.specs.Links.{link_of, Moves, BuildsOf, CatchesUp, Forgets, GivesOut, Leans, TakesBytes, owed_told, received_told, unopened};
 
-use crate::answers::{MadeAnswer, MoveAnswer, RanAnswer, flag};
+use crate::answers::{MadeAnswer, MoveAnswer, RanAnswer};
 use crate::bytes;
-use crate::calls::tell_row;
+use crate::calls::tell_run;
 use crate::commands::given;
 use crate::link_answers::{ReceivedAnswer, owed_answer};
 use crate::link_handle::LinkHandle;
 use crate::packets::CommandFields;
+use crate::read_answers::flag;
 use dn_lockstep::{Made, Ran};
 use dn_tic::Keys;
 
@@ -135,15 +137,16 @@ pub extern "C" fn zmg_link_run(
     row: &mut [MoveAnswer; 4],
 ) -> RanAnswer
     ensures { Calls (link_of link.old) (link_of link.new)
-        (Moves (λ n k. (ran : Answer) × (moves : Option (List (Option Step)))
-        × (result ≡ ran_told ran) × (row.new ≡ row_told_over row.old moves)
-        × Runs marks.now n k ran moves) (λ old new. new ≡ old))
+        (Moves (λ n k. (ran : Answer) × (moves : List (Option Step))
+        × (result ≡ ran_told ran) × (row.new ≡ row_told_over row.old (told_by ran moves))
+        × Runs marks.now n k ran (told_by ran moves)) (λ old new. new ≡ old))
         ((result ≡ ran_told Ran.NotPlaying) × (row.new ≡ row.old)) }
 {
     match link.held() {
         Some(held) => {
-            let (ran, moves) = held.run(marks);
-            tell_row(row, moves);
+            let mut moves = [None; 4];
+            let ran = held.run_into(marks, &mut moves);
+            tell_run(row, ran, &moves);
             RanAnswer::of(ran)
         }
         None => RanAnswer::of(Ran::NotPlaying),

@@ -1,27 +1,21 @@
-//! The calls that read a link. For a handle that holds none they return 0.
+//! The calls that read the lockstep of a link. For a handle that holds none they return 0.
 
 ghost use Rattle.std.specs.Prelude.{◌≡◌, pos, Bool, Option, Some, None, nat_lt, if◌then◌else◌, length, map, take, drop};
 ghost use Rattle.dn_tic.specs.declared.command.TicCmd.{TicCmd as Cmd};
 ghost use Rattle.dn_setup.specs.Starts.{bit};
 ghost use Rattle.dn_lockstep.specs.Contents.{end_in};
 ghost use Rattle.dn_lockstep.specs.Rings.{count_of};
-ghost use Rattle.dn_link.specs.Linked.{may_leave};
 ghost use Rattle.zirmegat.specs.Calls.{Reads};
 ghost use Rattle.zirmegat.specs.Commands.{known_told, CanBuild, TellsCommand};
-ghost use Rattle.dn_link.specs.declared.presence.Presence.TheVariants.{Unknown};
-ghost use Rattle.dn_link.specs.Pace.{wants_second};
-ghost use Rattle.dn_link.specs.Figures.{unacknowledged};
-ghost use Rattle.zirmegat.specs.Links.{figures_at, line_told, link_of, presence_of, presence_told};
+ghost use Rattle.zirmegat.specs.Links.{link_of};
 ghost use Rattle.zirmegat.specs.Answers.{phase_told, phase_at, number_told, settings_told};
 ghost use Rattle.dn_packet.specs.Written.{IsWritten};
 
-use crate::answers::{Number, PhaseAnswer, flag};
 use crate::bytes;
 use crate::commands::KnownCommand;
 use crate::config::KnownSettings;
-use crate::link_answers::{LineAnswer, PresenceAnswer};
 use crate::link_handle::LinkHandle;
-use dn_link::Presence;
+use crate::read_answers::{Number, PhaseAnswer, flag};
 
 /// The number of its player.
 #[unsafe(no_mangle)]
@@ -165,75 +159,5 @@ pub extern "C" fn zmg_link_command(link: &mut LinkHandle, player: u8, tic: u32) 
     match link.held() {
         Some(held) => KnownCommand::of(held.lockstep().command(player, tic)),
         None => KnownCommand::of(None),
-    }
-}
-
-/// 1 where nobody needs commands of this player any more, nor to know that it has left, and else 0.
-#[unsafe(no_mangle)]
-pub extern "C" fn zmg_link_may_leave(link: &mut LinkHandle) -> u32
-    ensures { Reads (link_of link.old) (link_of link.new) (λ n. result ≡ bit (may_leave n.link)) (result ≡ 0) }
-{
-    match link.held() {
-        Some(held) => flag(held.may_leave()),
-        None => 0,
-    }
-}
-
-/// 1 if a peer reports that datagrams of this player are missing, so that one more, half a tick later, makes up
-/// for those that will be; else 0.
-#[unsafe(no_mangle)]
-pub extern "C" fn zmg_link_wants_second(link: &mut LinkHandle, player: u8) -> u32
-    ensures { Reads (link_of link.old) (link_of link.new)
-        (λ n. result ≡ bit (wants_second n.link n.pace player)) (result ≡ 0) }
-{
-    match link.held() {
-        Some(held) => flag(held.wants_second(player)),
-        None => 0,
-    }
-}
-
-/// Who is there.
-#[unsafe(no_mangle)]
-pub extern "C" fn zmg_link_presence(link: &mut LinkHandle, player: u8) -> PresenceAnswer
-    ensures { Reads (link_of link.old) (link_of link.new)
-        (λ n. result ≡ presence_told (presence_of player n.link)) (result ≡ presence_told Unknown) }
-{
-    match link.held() {
-        Some(held) => PresenceAnswer::of(held.presence(player)),
-        None => PresenceAnswer::of(Presence::Unknown),
-    }
-}
-
-/// What is known of the line to another player.
-#[unsafe(no_mangle)]
-pub extern "C" fn zmg_link_line(link: &mut LinkHandle, player: u8) -> LineAnswer
-    ensures { Reads (link_of link.old) (link_of link.new)
-        (λ n. result ≡ line_told (figures_at player n)) (result ≡ line_told None) }
-{
-    match link.held() {
-        Some(held) => LineAnswer::of(held.figures(player)),
-        None => LineAnswer::of(None),
-    }
-}
-
-/// How often bytes came that were no datagram to this player in this game.
-#[unsafe(no_mangle)]
-pub extern "C" fn zmg_link_refused(link: &mut LinkHandle) -> u32
-    ensures { Reads (link_of link.old) (link_of link.new) (λ n. result ≡ n.pace.refused) (result ≡ 0) }
-{
-    match link.held() {
-        Some(held) => held.refused(),
-        None => 0,
-    }
-}
-
-/// How many of its commands not every remaining player has acknowledged.
-#[unsafe(no_mangle)]
-pub extern "C" fn zmg_link_unacknowledged(link: &mut LinkHandle) -> u32
-    ensures { Reads (link_of link.old) (link_of link.new) (λ n. result ≡ unacknowledged n.link) (result ≡ 0) }
-{
-    match link.held() {
-        Some(held) => held.unacknowledged(),
-        None => 0,
     }
 }

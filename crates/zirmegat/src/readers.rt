@@ -7,10 +7,10 @@ ghost use Rattle.zirmegat.specs.Calls.{lockstep_of, Reads};
 ghost use Rattle.zirmegat.specs.Answers.{phase_told, phase_at, number_told, settings_told};
 ghost use Rattle.dn_packet.specs.Written.{IsWritten};
 
-use crate::answers::{Number, PhaseAnswer};
 use crate::bytes;
 use crate::config::KnownSettings;
 use crate::handle::LockstepHandle;
+use crate::read_answers::{Number, PhaseAnswer};
 
 /// The number of its player.
 #[unsafe(no_mangle)]

@@ -17,11 +17,12 @@ ghost use Rattle.zirmegat.specs.Commands.{given_in};
 ghost use Rattle.zirmegat.specs.Going.{Builds, Runs, Quits};
 ghost use Rattle.zirmegat.specs.Sealed.{sealed_of, Keeps, SendsOut, HearsOpen, arrived_told};
 
-use crate::answers::{HeardAnswer, MadeAnswer, MoveAnswer, RanAnswer, flag};
+use crate::answers::{HeardAnswer, MadeAnswer, MoveAnswer, RanAnswer};
 use crate::bytes;
 use crate::calls::{NOT_PLAYING, tell_run};
 use crate::commands::given;
 use crate::packets::CommandFields;
+use crate::read_answers::flag;
 use crate::sealed_handle::SealedHandle;
 use dn_lockstep::{Heard, Made, Ran};
 use dn_seal::MAX_ENVELOPE;

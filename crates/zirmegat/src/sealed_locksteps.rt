@@ -71,17 +71,17 @@ pub extern "C" fn zmg_sealed_lockstep_new(
     config: &NodeConfig,
     ahead: u8,
     secret: &[u8; 32],
-    number: &[u8; 16],
+    game: &[u8; 16],
 ) -> u32
     ensures set { secret.now ≢ no_secret
-        → OpensSealed config.now ahead (sealed_with Secret secret.now number.now) result (sealed_of node.new) }
+        → OpensSealed config.now ahead (sealed_with Secret secret.now game.now) result (sealed_of node.new) }
     ensures unset { secret.now ≡ no_secret → (result ≡ 11) × (sealed_of node.new ≡ None) }
 {
     if is_unset(secret) {
         drop(node.take(alloc));
         return 11;
     }
-    open(alloc, node, config, ahead, Seal::new(*secret, *number))
+    open(alloc, node, config, ahead, Seal::new(*secret, *game))
 }
 
 /// The same of an open game, whose players share no secret.
@@ -91,11 +91,11 @@ pub extern "C" fn zmg_sealed_lockstep_new_open(
     node: &mut SealedHandle,
     config: &NodeConfig,
     ahead: u8,
-    number: &[u8; 16],
+    game: &[u8; 16],
 ) -> u32
-    ensures { OpensSealed config.now ahead (sealed_with Open no_secret number.now) result (sealed_of node.new) }
+    ensures { OpensSealed config.now ahead (sealed_with Open no_secret game.now) result (sealed_of node.new) }
 {
-    open(alloc, node, config, ahead, Seal::without_secret(*number))
+    open(alloc, node, config, ahead, Seal::without_secret(*game))
 }
 
 /// Gives up the lockstep that the handle holds, if it holds one, with its memory.

@@ -11,10 +11,10 @@ ghost use Rattle.zirmegat.specs.Sealed.{sealed_of};
 ghost use Rattle.zirmegat.specs.Answers.{phase_told, phase_at, number_told, settings_told};
 ghost use Rattle.dn_packet.specs.Written.{IsWritten};
 
-use crate::answers::{Number, PhaseAnswer, flag};
 use crate::bytes;
 use crate::commands::KnownCommand;
 use crate::config::KnownSettings;
+use crate::read_answers::{Number, PhaseAnswer, flag};
 use crate::sealed_handle::SealedHandle;
 
 /// The number of its player.

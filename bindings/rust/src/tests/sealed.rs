@@ -8,7 +8,7 @@ const NUMBER: [u8; 16] = *b"number of a game";
 fn secret() -> Seal {
     Seal::Secret {
         secret: [7; 32],
-        number: NUMBER,
+        game: NUMBER,
     }
 }
 
@@ -44,7 +44,7 @@ fn sealed_players_agree_whatever_comes() {
     for (seal, ahead) in [
         (secret(), 1),
         (secret(), MOST_AHEAD),
-        (Seal::Open { number: NUMBER }, WIDEST_AHEAD),
+        (Seal::Open { game: NUMBER }, WIDEST_AHEAD),
     ] {
         let (mut key, mut other) = pair(seal, ahead);
         let mut old: Vec<Envelope> = Vec::new();
@@ -102,13 +102,13 @@ fn sealed_players_agree_whatever_comes() {
 fn other_games_do_not_open() {
     let other_secret = Seal::Secret {
         secret: [8; 32],
-        number: NUMBER,
+        game: NUMBER,
     };
     let other_number = Seal::Secret {
         secret: [7; 32],
-        number: [0; 16],
+        game: [0; 16],
     };
-    let open = Seal::Open { number: NUMBER };
+    let open = Seal::Open { game: NUMBER };
     for (seal, why) in [
         (other_secret, SealError::Tag),
         (other_number, SealError::Game),
@@ -130,7 +130,7 @@ fn other_games_do_not_open() {
             Config::other(2, 1),
             Seal::Secret {
                 secret,
-                number: NUMBER,
+                game: NUMBER,
             },
             0,
         )

@@ -98,6 +98,7 @@ impl<W: World> Game<W> {
             ⊎ IsLeftOut (contents self.old) (contents self.new) (Send node to) result) }
         ensures unchanged { OnErr result (contents self.new ≡ contents self.old) }
         ensures memory { OnErr result (IsFull self.new) }
+        ensures alone { OnErr result (result ≡ Err Refusal.Memory) }
         ensures grown { HasGrown (contents self.old).flights (room_of self.old) (room_of self.new) }
         ensures whose { KeepsWhose (contents self.old) (contents self.new) }
         ensures others { KeepsOthers (Some node) (contents self.old) (contents self.new) }
@@ -152,6 +153,8 @@ impl<W: World> Game<W> {
         // rooms are their limits, which stay.
         ensures room { is_send event ≡ false → room_of self.new ≡ room_of self.old }
         ensures grown { HasGrown (contents self.old).flights (room_of self.old) (room_of self.new) }
+        // And an event that is refused takes none, unless memory was refused to it.
+        ensures refused { OnErr result (result ≢ Err Refusal.Memory → room_of self.new ≡ room_of self.old) }
         ensures whose { KeepsWhose (contents self.old) (contents self.new) }
         // And whatever open events led to the game, in whichever game of sealed nodes.
         ensures carried_open { (seal : AnySeal) → IsCarriedOnOpen W.state W.physics seal (contents self.old)

@@ -104,6 +104,7 @@ impl<W: World> Game<W> {
             event.now result }
         ensures room { sends event.now ≡ false → room_of self.new ≡ room_of self.old }
         ensures grown { HasGrown (contents self.old).flights (room_of self.old) (room_of self.new) }
+        ensures refused { OnErr result (result ≢ Err Refusal.Memory → room_of self.new ≡ room_of self.old) }
         ensures whose { KeepsWhose (contents self.old) (contents self.new) }
         ensures spared { SparesOpen (contents self.old) (contents self.new) result }
         ensures others { KeepsOthers (named_by_open (contents self.old) event.now) (contents self.old)

@@ -18,9 +18,9 @@ impl Link {
     ghost use Rattle.dn_link.specs.Pacing.{pace_of};
 
     /// The datagram to a peer, for each tick: the packets that are kept until it acknowledges their commands
-    /// and the one of the moment, oldest first, as many as fit, and how far this player is. Before the game
-    /// starts it says who is there, and player 0 gives the settings once all are. After the end it says
-    /// goodbye. None to a number that is no peer's.
+    /// and the one of the moment, oldest first, up to where there may be no room for one more, and how far this
+    /// player is. Before the game starts it says who is there, and player 0 gives the settings once all are.
+    /// After the end it says goodbye. None to a number that is no peer's.
     pub fn datagram(&mut self, to: u8) -> Option<ArrayVec<u8, 1200>>
         ensures gives { IfSome result (λ bytes. Gives (seal_of self.old) (identity_of self.old) (pace_of self.old) to
             (linked self.old) (linked self.new) bytes.items) }

@@ -1,6 +1,6 @@
 //! How a lockstep runs a tic.
 
-ghost use Rattle.std.specs.Prelude.{◌≡◌, ◌≢◌, ℕ, ◌+◌, None};
+ghost use Rattle.std.specs.Prelude.{◌≡◌, ◌≢◌, ℕ, ◌+◌, ℤ, None};
 ghost use Rattle.dn_machine.specs.declared.answers.Phase.TheVariants.{Playing};
 ghost use Rattle.dn_machine.specs.declared.answers.Ran.TheVariants as Ran;
 ghost use Rattle.dn_machine.specs.declared.answers.Ran.TheVariants.{Waiting, NotPlaying};
@@ -25,9 +25,10 @@ fn told_by(ran: Ran, row: [Option<Move>; 4]) -> Option<[Option<Move>; 4]>
 }
 
 impl Lockstep {
-    ghost use Rattle.dn_machine.specs.Running.{on_run, on_run_playing};
+    ghost use Rattle.dn_machine.specs.Running.{on_run, on_run_playing, row_held};
     ghost use Rattle.dn_lockstep.specs.Contents.{contents};
     ghost use Rattle.dn_lockstep.specs.Runs.{RunsBy};
+    ghost use Rattle.dn_lockstep.specs.Steps.{Tells};
 
     /// Runs the next tic, as `run_into` does. Returns the row of moves too, if the tic was run.
     pub fn run(&mut self, marks: &[i16; 4]) -> (Ran, Option<[Option<Move>; 4]>)
@@ -47,9 +48,9 @@ impl Lockstep {
 
     /// Runs the next tic (`d_net.c`, TryRunTics; `g_game.c`, G_Ticker), if no mark is off and the command of
     /// every player who has not left by then is there. It takes each player's mark in the caller's world as it
-    /// stands. If it returns `Ran`, it has filled in the row of moves by which that world goes on. If it waits
-    /// or does not play, it stays as it is, and so does the row; at `DemoFull` and `Inconsistent` the row means
-    /// nothing.
+    /// stands. If it returns `Ran`, it has filled in the row of moves by which that world goes on. At `DemoFull`
+    /// it has filled in the row that the demo has no room for. Otherwise the row stays as it is; and if it waits
+    /// or does not play, so does the lockstep.
     #[inline(always)]
     pub fn run_into(&mut self, marks: &[i16; 4], row: &mut [Option<Move>; 4]) -> Ran
         ensures step { RunsBy marks.now (contents self.old) (contents self.new)
@@ -59,6 +60,10 @@ impl Lockstep {
         ensures waits { (player : ℕ) → result ≡ Waiting player
             → (contents self.new ≡ contents self.old) × (row.new ≡ row.old) }
         ensures idle { result ≡ NotPlaying → (contents self.new ≡ contents self.old) × (row.new ≡ row.old) }
+        ensures off { (player : ℕ) (was should : ℤ) → result ≡ Ran.Inconsistent player was should
+            → row.new ≡ row.old }
+        ensures full { result ≡ Ran.DemoFull → Tells (contents self.old) (λ limits me m.
+            row.new ≡ row_held limits m) }
     {
         let Phase::Playing = self.phase else {
             return Ran::NotPlaying;
@@ -98,6 +103,9 @@ impl Lockstep {
             → (contents self.new).ran ≡ (contents self.old).ran + 1 }
         ensures waits { (player : ℕ) → result ≢ Waiting player }
         ensures idle { result ≢ NotPlaying }
+        ensures off { (player : ℕ) (was should : ℤ) → result ≢ Ran.Inconsistent player was should }
+        ensures full { result ≡ Ran.DemoFull → Tells (contents self.old) (λ limits me m.
+            row.new ≡ row_held limits m) }
     {
         let tic = self.ran;
         *row = [None; 4];

@@ -5,6 +5,7 @@ use Rattle.dn_game.specs.Opening.{rules_in}
 use Rattle.dn_tic.specs.Inputs.{input_of}
 use Rattle.dn_game.specs.Rounds.{IsUnsent}
 use Rattle.dn_game.proofs.Continuing.{gone_on, same_round}
+use Rattle.dn_game.proofs.Whose.{limits_stay}
 use Rattle.dn_game.proofs.going_on.play_on_with.Goals as goal
 
 pub returns-in-Ok-good_rounds_with-clause-promised : goal.returns-in-Ok-good_rounds_with-clause-promised
@@ -39,3 +40,10 @@ returns-in-Err-good_rounds_with-clause-stopped g c fault is =
       unsent = subst (IsUnsent (contents c.good_rounds_with.new.self)) (same_round _ fault _ refl is) at.0;
       cut = at.1;
     }
+
+pub returns-in-Ok-good_rounds_with-clause-limits : goal.returns-in-Ok-good_rounds_with-clause-limits
+returns-in-Ok-good_rounds_with-clause-limits g c =
+    limits_stay _ _ _ c.good_rounds_with.ensures.whose c.in-Ok.ensures.limits
+
+pub returns-in-Ok-good_rounds_with-clause-room : goal.returns-in-Ok-good_rounds_with-clause-room
+returns-in-Ok-good_rounds_with-clause-room g c = c.good_rounds_with.ensures.grown c.in-Ok.ensures.room

@@ -2,35 +2,38 @@ use Rattle.std.proofs.Common.{◌<◌, [], ◌∷◌, ◌++◌, length, take, ap
 use Rattle.std.proofs.lemmas.List.{take_all, take_more}
 use Rattle.dn_open.specs.declared.open_event.OpenEvent.{OpenEvent}
 use Rattle.dn_game.specs.Contents.{contents}
+use Rattle.dn_game.specs.Frame.{MovesNoWorldOpen, named_in_open}
 use Rattle.dn_game.specs.Opening.{rules_in}
 use Rattle.dn_game.proofs.Agreeing.{few, short}
 use Rattle.dn_game.proofs.OpenAnswering.{open_played_more}
-use Rattle.dn_game.proofs.Giving.{given_more, same_at}
-use Rattle.dn_game.proofs.Roomy.{stays_within}
+use Rattle.dn_game.proofs.Giving.{as_many_open, keeps_more, named_stays, same_at}
+use Rattle.dn_game.proofs.Roomy.{none_within, stays_within}
 use Rattle.dn_game.proofs.OpenStanding.{open_promised}
+use Rattle.dn_game.proofs.Whose.{limits_stay}
 use Rattle.dn_game.proofs.open_playing.play_open.Goals as goal
 
 pub loop-event-init : goal.loop-event-init
 loop-event-init g c = (
   refl,
-  record {
-    events_played = record {
+  (
+    record {
       last = _;
       answers = [];
       plays = refl;
       game = c.in_ok-game.ensures.opened;
       done = refl;
       refused = refl;
-    };
-    given = λ i never. same_at _ _ i c.in_ok-game.ensures.given;
-  },
-  rw c.in_ok-game.ensures.room (record { bytes = omega arith; records = omega arith }),
+    },
+    λ i never. same_at _ _ i c.in_ok-game.ensures.given,
+  ),
+  none_within _ _ c.in_ok-game.ensures.room,
+  c.in_ok-game.ensures.limits,
 )
 
 pub loop-event-preserved : goal.loop-event-preserved
 loop-event-preserved g c =
     let before = c.loop-event.invariant in
-    let was = before.1.events_played in
+    let was = before.1.0 in
     let config = c.args.config in
     let events = c.args.events.now in
     let at = c.loop-event.event-index in
@@ -40,33 +43,44 @@ loop-event-preserved g c =
     let longer = take_more events at c.event-item.result c.loop-event-test.true
     ∙ ap (λ (event : OpenEvent). take at events ++ event ∷ []) (sym c.event-item.is) in (
       omega (arith, counted, before.0),
-      rw longer (record {
-        events_played = open_played_more _ _ c.args.seal config.settings (take at events) _ _ c.loop-event.played next was
-            (one.applied _ _ _ was.last was.game) one.done one.refused;
-        given = given_more (contents c.loop-event.played.game) (contents next.game) _ _ c.apply_open.ensures.others c.apply_open.ensures.worlds
-            c.apply_open.ensures.more.0 c.apply_open.ensures.more.1 _ c.args.seal _ was.last c.args.worlds.items
-            (take at events) was.answers was.plays before.1.given;
-      }),
+      rw longer (
+        open_played_more _ _ c.args.seal config.settings (take at events) _ _ c.loop-event.played next was
+            (one.applied _ _ _ was.last was.game) one.done one.refused,
+        keeps_more named_in_open MovesNoWorldOpen named_stays (contents c.loop-event.played.game) (contents next.game)
+            _ _ c.apply_open.ensures.others c.apply_open.ensures.worlds c.apply_open.ensures.more.0
+            c.apply_open.ensures.more.1 c.args.worlds.items (take at events) was.answers
+            (as_many_open _ c.args.seal (take at events) was.answers _ was.last was.plays) before.1.1,
+      ),
       stays_within _ c.apply_open.ensures.more.0 _ _ _ before.2 c.apply_open.ensures.grown c.apply_open.ensures.more.1,
+      limits_stay _ _ _ c.apply_open.ensures.whose before.3,
+    )
+
+-- all events were played, and what is promised of the game that is left
+abbrev played_all : goal.returns-clause-given
+played_all g c =
+    let rules = rules_in g.W.World.physics c.args.config (length c.args.worlds.items) in
+    let whole = rw (take_all c.loop-event.event-index c.args.events.now c.loop-event-test.false)
+    at c.loop-event.invariant.1 in
+    let all = whole.0 in
+    let g_left = contents c.loop-event.played.game in
+    let some : 0 < rules.players = omega (arith, c.in_ok-game.ensures.admitted.0.0) in (
+      record {
+        events_played = all;
+        promised = open_promised _ rules c.args.seal c.args.config.settings c.args.events.now all.answers all.last g_left
+            (few _ rules g_left all.last all.game) (short _ rules g_left all.last all.game some)
+            c.settings_found_again.ensures.only all.plays all.game;
+      },
+      whole.1,
     )
 
 pub returns-clause-promised : goal.returns-clause-promised
-returns-clause-promised g c =
-    let rules = rules_in g.W.World.physics c.args.config (length c.args.worlds.items) in
-    let all = (rw (take_all c.loop-event.event-index c.args.events.now c.loop-event-test.false)
-    at c.loop-event.invariant.1).events_played in
-    let g_left = contents c.loop-event.played.game in
-    let some : 0 < rules.players = omega (arith, c.in_ok-game.ensures.admitted.0.0) in
-    record {
-      events_played = all;
-      promised = open_promised _ rules c.args.seal c.args.config.settings c.args.events.now all.answers all.last g_left
-          (few _ rules g_left all.last all.game) (short _ rules g_left all.last all.game some)
-          c.settings_found_again.ensures.only all.plays all.game;
-    }
+returns-clause-promised g c = (played_all g c).0
 
 pub returns-clause-given : goal.returns-clause-given
-returns-clause-given g c =
-    rw (take_all c.loop-event.event-index c.args.events.now c.loop-event-test.false) at c.loop-event.invariant.1
+returns-clause-given g c = played_all g c
 
 pub returns-clause-room : goal.returns-clause-room
 returns-clause-room g c = c.loop-event.invariant.2
+
+pub returns-clause-limits : goal.returns-clause-limits
+returns-clause-limits g c = c.loop-event.invariant.3

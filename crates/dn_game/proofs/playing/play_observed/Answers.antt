@@ -2,8 +2,10 @@ use Rattle.std.proofs.Common.{[], ◌∷◌, ◌++◌, take, ap, refl, sym, ◌�
 use Rattle.std.proofs.lemmas.List.{take_all, take_more, length-take-le}
 use Rattle.dn_machine.specs.declared.events.Event.{Event}
 use Rattle.dn_game.proofs.Answering.{played_more}
-use Rattle.dn_game.proofs.Giving.{own_given_more, same_at}
+use Rattle.dn_game.proofs.Giving.{as_many, given_more, same_at}
 use Rattle.dn_game.proofs.Observed.{observes_more, played_observed}
+use Rattle.dn_game.proofs.Roomy.{none_within, stays}
+use Rattle.dn_game.proofs.Whose.{limits_stay}
 use Rattle.dn_game.proofs.playing.play_observed.Goals as goal
 
 pub loop-event-init : goal.loop-event-init
@@ -19,18 +21,10 @@ loop-event-init g c = (
       refused = refl;
     },
     refl,
+    λ i never. same_at _ _ i c.in_ok-game.ensures.given,
   ),
-  λ seal. record {
-    events_played = record {
-      last = _;
-      answers = [];
-      plays = refl;
-      game = c.in_ok-game.ensures.opened;
-      done = refl;
-      refused = refl;
-    };
-    given = λ i never. same_at _ _ i c.in_ok-game.ensures.given;
-  },
+  c.in_ok-game.ensures.limits,
+  none_within _ _ c.in_ok-game.ensures.room,
 )
 
 pub loop-event-preserved : goal.loop-event-preserved
@@ -53,9 +47,11 @@ loop-event-preserved g c =
         observes_more g.L.Observer.observes (take at events) before.1.0.answers _ _ 0 _ _ _ _ before.1.1
             (omega (arith, before.0, length-take-le at events (omega (arith, c.loop-event-test.true))))
             told.observed,
+        given_more _ _ c.loop-event.played next _ _ one c.args.worlds.items (take at events) before.1.0.answers
+            (as_many _ (take at events) before.1.0.answers _ before.1.0.last before.1.0.plays) before.1.2,
       ),
-      λ seal. rw longer (own_given_more _ _ _ _ _ seal config.settings _ c.loop-event.played next _ _ one (take at events)
-          (before.2 seal)),
+      limits_stay _ _ _ c.apply_observed.ensures.whose before.2,
+      stays _ _ _ _ c.apply_observed.ensures.grown one.more before.3,
     )
 
 pub returns-clause-promised : goal.returns-clause-promised
@@ -66,5 +62,16 @@ returns-clause-promised g c =
     all.0 all.1
 
 pub returns-clause-given : goal.returns-clause-given
-returns-clause-given g c seal =
-    rw (take_all c.loop-event.event-index c.args.events.now c.loop-event-test.false) at (c.loop-event.invariant.2 seal)
+returns-clause-given g c =
+    let all = rw (take_all c.loop-event.event-index c.args.events.now c.loop-event-test.false)
+    at c.loop-event.invariant.1 in (
+      played_observed _ _ g.L.Observer.observes c.args.config.settings _ _ c.loop-event.played c.args.events.now
+          all.0 all.1,
+      all.2,
+    )
+
+pub returns-clause-limits : goal.returns-clause-limits
+returns-clause-limits g c = c.loop-event.invariant.2
+
+pub returns-clause-room : goal.returns-clause-room
+returns-clause-room g c = c.loop-event.invariant.3

@@ -2,9 +2,14 @@ use Rattle.dn_demo.specs.Recorded.{capacity}
 use Rattle.dn_game.specs.Opening.{rules_in}
 use Rattle.std.proofs.Common.{◌≡◌, [], length, refl, ap, sym, ◌∙◌, arith}
 use Rattle.dn_game.specs.Schedule.{behind_three, scheduled}
-use Rattle.dn_game.proofs.Following.{stormed_more}
+use Rattle.dn_machine.specs.Game.{opening_game}
+use Rattle.dn_game.specs.Schedule.{generator_of}
+use Rattle.dn_game.proofs.Following.{follows_plays, stormed_more}
+use Rattle.dn_game.proofs.Giving.{as_many, given_more, same_at}
 use Rattle.dn_game.proofs.Observed.{observes_more, stormed_observed}
 use Rattle.dn_game.proofs.NeverStopping.{storm_goes_on}
+use Rattle.dn_game.proofs.Roomy.{none_within, stays}
+use Rattle.dn_game.proofs.Whose.{limits_stay}
 use Rattle.dn_game.proofs.storming.storm_observed.Goals as goal
 use Rattle.dn_game.proofs.storming.storm_observed.Goals.{in-Some+in_ok-apply_observed, in_default}
 
@@ -25,7 +30,10 @@ loop-init g c = (
     },
     sym c.new-schedule.ensures,
     refl,
+    λ i never. same_at _ _ i c.in_ok-game.ensures.given,
   ),
+  c.in_ok-game.ensures.limits,
+  none_within _ _ c.in_ok-game.ensures.room,
 )
 
 pub loop-preserved : goal.loop-preserved
@@ -50,9 +58,15 @@ loop-preserved g c =
           one.refused in
           let heard = observes_more observes s.events s.answers _ _ 0 _ _ _ _ c.loop.invariant.1.2
           (omega (arith, c.loop.invariant.0, s.counted)) told.observed in
+          let plays = follows_plays game (generator_of c.args.seed) s.events s.answers s.rest
+          (opening_game config.settings) s.last s.follows in
+          let given_on = given_more _ _ c.loop.played next _ told.answer one c.args.worlds.items s.events s.answers
+          (as_many game s.events s.answers _ s.last plays) c.loop.invariant.1.3 in
           rw (w.observer-is, w.played-is) (
             omega (arith, counted, c.loop.invariant.0),
-            (more, ap behind_three left ∙ sym c.next.ensures.drawn, heard),
+            (more, ap behind_three left ∙ sym c.next.ensures.drawn, heard, given_on),
+            limits_stay _ _ _ w.apply_observed.ensures.whose c.loop.invariant.2,
+            stays _ _ _ _ w.apply_observed.ensures.grown one.more c.loop.invariant.3,
           )
       | in_default w ↦
           absurd (storm_goes_on _ game config.settings c.args.seed c.loop.counter c.loop.played s
@@ -66,3 +80,18 @@ returns-clause-promised g c =
     rw all
     (stormed_observed _ _ g.L.Observer.observes c.args.config.settings _ _ c.loop.played c.args.seed _
     c.loop.invariant.1.0 c.loop.invariant.1.2)
+
+pub returns-clause-given : goal.returns-clause-given
+returns-clause-given g c =
+    let all : c.args.count ≡ c.loop.counter = omega (arith, c.loop-test.false, c.loop.auto.counter-end) in
+    rw all (
+      stormed_observed _ _ g.L.Observer.observes c.args.config.settings _ _ c.loop.played c.args.seed _
+          c.loop.invariant.1.0 c.loop.invariant.1.2,
+      c.loop.invariant.1.3,
+    )
+
+pub returns-clause-limits : goal.returns-clause-limits
+returns-clause-limits g c = c.loop.invariant.2
+
+pub returns-clause-room : goal.returns-clause-room
+returns-clause-room g c = c.loop.invariant.3

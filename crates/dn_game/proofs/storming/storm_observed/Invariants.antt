@@ -1,6 +1,11 @@
 use Rattle.dn_game.specs.Opening.{rules_in}
 use Rattle.std.proofs.Common.{◌≡◌, ◌+◌, length}
+use Rattle.dn_game.specs.Contents.{contents}
+use Rattle.dn_game.specs.Fresh.{AreLimited}
+use Rattle.dn_game.specs.Given.{KeepsGiven}
 use Rattle.dn_game.specs.Observed.{ObservesAll}
+use Rattle.dn_game.specs.Pool.{IsWithinTwice}
+use Rattle.dn_game.specs.Room.{room_of}
 use Rattle.dn_game.specs.Stormed.{IsStormed}
 use Rattle.dn_game.proofs.storming.storm_observed.Given as goal
 
@@ -9,4 +14,7 @@ invariant-loop g l =
     (l.played.done + l.played.refused ≡ l.counter)
     × ((s : IsStormed g.W.World.state (rules_in g.W.World.physics l.fn.config (length l.fn.worlds.items))
     l.fn.config.settings l.seed l.counter l.played) × (s.rest ≡ l.schedule)
-    × ObservesAll g.L.Observer.observes l.initial.observer 0 s.events s.answers l.observer)
+    × ObservesAll g.L.Observer.observes l.initial.observer 0 s.events s.answers l.observer
+    × KeepsGiven l.fn.worlds.items s.events s.answers (contents l.played.game))
+    × AreLimited l.fn.config.limit (contents l.played.game).nodes
+    × IsWithinTwice (contents l.played.game).flights (room_of l.played.game)

@@ -1,8 +1,9 @@
-use Rattle.dn_link.proofs.Covered.{all_covering, carries}
+use Rattle.dn_link.proofs.Covered.{all_covering, carries, reaches_given}
 use Rattle.dn_link.proofs.covering.kept_covers.Goals as goal
 
 pub returns : goal.returns
 returns c = record {
   covers = λ link peer. all_covering link.peers peer;
   carried = carries;
+  reaches = reaches_given;
 }

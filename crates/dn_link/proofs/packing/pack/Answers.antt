@@ -1,5 +1,4 @@
 use Rattle.std.proofs.Common.{rules, ◌≡◌, ◌≤◌, ◌<◌, ◌+◌, ◌∷◌, [], refl, length, arith}
-use Rattle.dn_link.specs.Text.{parts_bytes}
 use Rattle.dn_link.proofs.Packings.{packs_on, packs_all}
 use Rattle.dn_link.proofs.packing.pack.Goals as goal
 use Rattle.dn_link.proofs.packing.pack.Goals.{in-Some+then-is_full, in_default}
@@ -12,6 +11,7 @@ packets-init c = record {
   split = refl;
   told = c.new-packing.ensures.none c.args.from;
   tight = c.new-packing.ensures.tight c.args.from;
+  last = c.new-packing.ensures.last;
 }
 
 pub packets-preserved : goal.packets-preserved
@@ -19,18 +19,17 @@ packets-preserved c =
     let split : c.packets.rest.now ≡ c.in-Some.packet.now ∷ c.in-Some.after.now = search rules in
     packs_on c.args.from c.args.packets.now c.packets.packing c.packets.rest.now c.packets.invariant c.add.new.self
     c.in-Some.packet.now c.in-Some.after.now split c.add.ensures.fits c.add.ensures.parts c.add.ensures.more
-    (c.add.ensures.tight c.packets.invariant.tight)
+    (c.add.ensures.tight c.packets.invariant.tight) c.add.ensures.last
 
 pub returns-clause-packed : goal.returns-clause-packed
 returns-clause-packed c =
     let end = c.end_run.ensures in
-    let all : 1 ≤ length c.packets.rest.now → length c.end_run.new.self.parts.items < 22
-    → 1118 < length (parts_bytes c.end_run.new.self.parts.items) + (5 + 115) =
+    let was = c.packets.packing in
+    let full : 1 ≤ length c.packets.rest.now → length was.parts.items < 22
+    → 1118 < was.bytes + 5 + length was.run.commands.items + 115 =
     elim c.match-split_first.branch [
-      | in-Some+then-is_full w ↦ λ some few.
-          let full = w.is_full.ensures.full w.if-is_full.true (omega (arith, end.many, few)) in
-          omega (arith, full, end.grown, end.fits.bytes)
+      | in-Some+then-is_full w ↦ λ some few. w.is_full.ensures.full w.if-is_full.true few
       | in_default w ↦ λ some few. absurd (omega (arith, some, w.in_default.ensures.cases))
     ] in
-    packs_all c.args.from c.args.packets.now c.packets.packing c.packets.rest.now c.packets.invariant
-    c.end_run.new.self end.none (end.same c.args.from) end.parts all
+    packs_all c.args.from c.args.packets.now was c.packets.rest.now c.packets.invariant
+    c.end_run.new.self end.none (end.same c.args.from) end.parts full

@@ -5,19 +5,19 @@ use Rattle.dn_netgame.proofs.netplay.run_play.Goals as goal
 
 pub returns-in_default : goal.returns-in_default
 returns-in_default g c =
-    prints_such g.W.Write.contents _ c.args.output.now c.print.new.output _ _ 3 c.print.result c.print.ensures
+    prints_such g.W.Write.contents _ c.args.output.now c.print.new.output _ _ 3 c.print.result c.print.ensures.printed
     c.as_bytes.ensures.value (unbound c.args.config c.args.base c.args.seed c.args.count c.args.raw)
 
 pub returns-then-raw : goal.returns-then-raw
 returns-then-raw g c =
     prints_such g.W.Write.contents _ c.args.output.now c.print-then-raw.new.output _ _ 0
-    c.print-then-raw.result c.print-then-raw.ensures c.demo.ensures
+    c.print-then-raw.result c.print-then-raw.ensures.printed c.demo.ensures
     (played c.args.config c.args.base c.args.seed c.args.count c.args.raw c.in_ok-node.field-0
     c.in-Some.node _ c.in-Some.is c.in_ok-node.ensures.played (rw c.if-raw.true refl))
 
 pub returns : goal.returns
 returns g c =
     prints_such g.W.Write.contents _ c.args.output.now c.print-2.new.output _ _ 0 c.print-2.result
-    c.print-2.ensures (c.as_bytes-2.ensures.value ∙ c.in_ok-text.ensures)
+    c.print-2.ensures.printed (c.as_bytes-2.ensures.value ∙ c.in_ok-text.ensures)
     (played c.args.config c.args.base c.args.seed c.args.count c.args.raw c.in_ok-node.field-0
     c.in-Some.node _ c.in-Some.is c.in_ok-node.ensures.played (rw c.if-raw.false refl))

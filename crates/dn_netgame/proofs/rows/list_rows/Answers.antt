@@ -12,7 +12,7 @@ returns-in_err-count-clause-read g c = λ _.
     let size : n ≡ c.min-room.result = search rules in
     let fewer = c.in_err-count.ensures.fewer in
     lists_whole _ _ _ _ _ c.loop-alloc.invariant n (omega (arith, size)) _ fewer.bytes (omega (arith, size))
-    fewer.taken (omega (arith, fewer.fewer))
+    (omega (arith, c.loop-alloc-test.true)) fewer.taken (omega (arith, fewer.fewer))
 
 pub returns-in_err-text-clause-memory : goal.returns-in_err-text-clause-memory
 returns-in_err-text-clause-memory g c = λ _.
@@ -20,7 +20,8 @@ returns-in_err-text-clause-memory g c = λ _.
     let size : n ≡ c.min-room.result = search rules in
     let up = c.in_ok-count.ensures.bytes in
     lists_whole _ _ _ _ _ c.loop-alloc.invariant n (omega (arith, size)) _
-    (take c.in_ok-count.count c.fill.new.buffer) (omega (arith, size)) up.taken up.within
+    (take c.in_ok-count.count c.fill.new.buffer) (omega (arith, size)) (omega (arith, c.loop-alloc-test.true))
+    up.taken up.within
 
 pub returns-in_err-put-clause-write : goal.returns-in_err-put-clause-write
 returns-in_err-put-clause-write g c = λ _.
@@ -52,9 +53,11 @@ loop-alloc-preserved g c =
     (string_bytes c.in_ok-text.text) = search rules in
     lists_more _ _ _ _ _ c.loop-alloc.invariant n (omega (arith, size)) c.fill.new.buffer _
     c.in_ok-count.count _ c.in_ok-count.ensures.count c.in_ok-count.ensures.bytes told.1 told.2 _ put
+    (omega (arith, c.loop-alloc-test.true)) (omega (arith, size, c.if-count-room.false))
+    (grind (arith, size, c.min-room.ensures))
 
 pub returns-clause-shown : goal.returns-clause-shown
 returns-clause-shown g c =
     let so_far = c.loop-alloc.invariant in
-    let full : length so_far.0 ≡ 33554433 = omega (arith, so_far.1, so_far.3.taken) in
+    let full : length so_far.0 ≡ 33554433 = omega (arith, so_far.1.0, c.loop-alloc-test.false, so_far.3.taken) in
     (so_far.0, up_to_full _ _ so_far.0 33554433 full so_far.2, so_far.3, (so_far.4.0, so_far.4.1, so_far.4.3))

@@ -17,6 +17,7 @@ returns-in_err-text-clause-memory g c = λ _.
       taken = subst (λ (t : List ℕ). Consumes (g.R.Read.remaining c.args.input.now)
           (g.R.Read.remaining c.list_rows.new.input) t) (sym (append-nil fed.0)) fed.1.taken;
       within = omega (arith, fed.1.within);
+      pieces = inr fed.1;
       few = omega arith;
       shown = are_rows fed.0 c.in_ok-feed.feed fed.3.0 fed.2 fed.3.1;
       written = fed.3.2;

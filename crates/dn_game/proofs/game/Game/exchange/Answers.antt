@@ -2,6 +2,7 @@ use Rattle.std.proofs.Common.{◌<◌, ◌≤◌, ◌^◌, length, true≢false,
 use Rattle.dn_machine.specs.Worlds.{rules_of}
 use Rattle.dn_game.proofs.Arriving.{exchanges, left_out, not_begun}
 use Rattle.dn_game.proofs.Recent.{flights_are}
+use Rattle.dn_game.proofs.Roomy.{stays}
 use Rattle.dn_game.proofs.game.Game.exchange.Goals as goal
 
 pub returns-clause-good : goal.returns-clause-good
@@ -27,3 +28,11 @@ pub returns-in_default-clause-good : goal.returns-in_default-clause-good
 returns-in_default-clause-good g c players extra capacity m r =
     let all : 2 ^ 32 ≤ length c.args.self.now.pool.flights = search rules in
     (all, not_begun _ (rules_of g.W.World.physics players extra capacity) c.args.node c.args.to m _ r)
+
+pub returns-then-is_left_out-clause-grown : goal.returns-then-is_left_out-clause-grown
+returns-then-is_left_out-clause-grown g c within = stays _ _ _ _ c.apply.ensures.grown c.apply.ensures.more within
+
+pub returns-clause-grown : goal.returns-clause-grown
+returns-clause-grown g c within =
+    stays _ _ _ _ c.apply-2.ensures.grown c.apply-2.ensures.more
+    (stays _ _ _ _ c.apply.ensures.grown c.apply.ensures.more within)

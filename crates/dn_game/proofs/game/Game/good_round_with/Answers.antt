@@ -10,7 +10,7 @@ use Rattle.dn_game.proofs.game.Game.good_round_with.Goals as goal
 
 pub loop-node-init : goal.loop-node-init
 unfolding in_order
-loop-node-init g c = (λ players extra capacity m r. r, refl)
+loop-node-init g c = (λ players extra capacity m r. r, refl, λ within. within)
 
 pub loop-node-preserved : goal.loop-node-preserved
 loop-node-preserved g c = (
@@ -24,6 +24,7 @@ loop-node-preserved g c = (
       (c.turn.ensures.good players extra capacity _ (c.loop-node.invariant.0 players extra capacity m r))) _
       c.in_ok-turn.was,
   c.turn.ensures.whose ∙ c.loop-node.invariant.1,
+  λ within. c.turn.ensures.grown (c.loop-node.invariant.2 within),
 )
 
 pub returns-in_err-turn-clause-good : goal.returns-in_err-turn-clause-good
@@ -62,3 +63,9 @@ returns-in_err-turn-clause-whose g c = c.turn.ensures.whose ∙ c.loop-node.inva
 
 pub returns-clause-whose : goal.returns-clause-whose
 returns-clause-whose g c = c.loop-node.invariant.1
+
+pub returns-in_err-turn-clause-grown : goal.returns-in_err-turn-clause-grown
+returns-in_err-turn-clause-grown g c within = c.turn.ensures.grown (c.loop-node.invariant.2 within)
+
+pub returns-clause-grown : goal.returns-clause-grown
+returns-clause-grown g c = c.loop-node.invariant.2

@@ -10,7 +10,7 @@ use Rattle.dn_game.proofs.game.Game.good_rounds_with.Goals as goal
 
 pub loop-init : goal.loop-init
 unfolding in_order
-loop-init g c = (λ players extra capacity m r. r, refl)
+loop-init g c = (λ players extra capacity m r. r, refl, λ within. within, λ none. refl)
 
 pub loop-preserved : goal.loop-preserved
 loop-preserved g c = (
@@ -23,6 +23,8 @@ loop-preserved g c = (
       (c.good_round_with.ensures.good players extra capacity _ (c.loop.invariant.0 players extra capacity m r))
       _ c.in_ok-good_round_with.was,
   c.good_round_with.ensures.whose ∙ c.loop.invariant.1,
+  λ within. c.good_round_with.ensures.grown (c.loop.invariant.2 within),
+  λ none. absurd (omega (arith, none)),
 )
 
 pub returns-in_err-good_round_with-clause-good : goal.returns-in_err-good_round_with-clause-good
@@ -49,3 +51,18 @@ returns-in_err-good_round_with-clause-whose g c = c.good_round_with.ensures.whos
 
 pub returns-clause-whose : goal.returns-clause-whose
 returns-clause-whose g c = c.loop.invariant.1
+
+pub returns-in_err-good_round_with-clause-grown : goal.returns-in_err-good_round_with-clause-grown
+returns-in_err-good_round_with-clause-grown g c within =
+    c.good_round_with.ensures.grown (c.loop.invariant.2 within)
+
+pub returns-clause-grown : goal.returns-clause-grown
+returns-clause-grown g c = c.loop.invariant.2
+
+pub returns-in_err-good_round_with-clause-none : goal.returns-in_err-good_round_with-clause-none
+returns-in_err-good_round_with-clause-none g c none =
+    absurd (omega (arith, c.loop-test.true, c.loop.auto.counter-end, none))
+
+pub returns-clause-none : goal.returns-clause-none
+returns-clause-none g c none =
+    c.loop.invariant.3 (omega (arith, c.loop-test.false, c.loop.auto.counter-end, none))

@@ -7,6 +7,7 @@ use Rattle.dn_game.specs.Contents.{contents}
 use Rattle.dn_game.specs.RoundEvents.{events_in_order, exchange_events}
 use Rattle.dn_game.proofs.Rounding.{after_exchange}
 use Rattle.dn_game.proofs.Arriving.{after_other, built, goes_on, ends, ended, within}
+use Rattle.dn_game.proofs.Roomy.{stays}
 use Rattle.dn_game.proofs.game.Game.turn.Goals as goal
 
 pub loop-to-init : goal.loop-to-init
@@ -16,6 +17,7 @@ loop-to-init g c = (
       built _ (rules_of g.W.World.physics players extra capacity) _ _ m c.args.node c.args.input _ _
       c.build_of.ensures (c.apply.ensures.applied players extra capacity m r),
   c.apply.ensures.whose,
+  stays _ _ _ _ c.apply.ensures.grown c.apply.ensures.more,
 )
 
 pub loop-to-preserved : goal.loop-to-preserved
@@ -27,6 +29,7 @@ loop-to-preserved g c = (
       (c.exchange.ensures.good players extra capacity _ (c.loop-to.invariant.0 players extra capacity m r)) _
       c.in_ok-exchange.was,
   c.exchange.ensures.whose ∙ c.loop-to.invariant.1,
+  λ within. c.exchange.ensures.grown (c.loop-to.invariant.2 within),
 )
 
 pub returns-in_err-exchange-clause-good : goal.returns-in_err-exchange-clause-good
@@ -74,3 +77,10 @@ returns-in_err-exchange-clause-whose g c = c.exchange.ensures.whose ∙ c.loop-t
 
 pub returns-clause-whose : goal.returns-clause-whose
 returns-clause-whose g c = c.apply-2.ensures.whose ∙ c.loop-to.invariant.1
+
+pub returns-in_err-exchange-clause-grown : goal.returns-in_err-exchange-clause-grown
+returns-in_err-exchange-clause-grown g c within = c.exchange.ensures.grown (c.loop-to.invariant.2 within)
+
+pub returns-clause-grown : goal.returns-clause-grown
+returns-clause-grown g c within =
+    stays _ _ _ _ c.apply-2.ensures.grown c.apply-2.ensures.more (c.loop-to.invariant.2 within)

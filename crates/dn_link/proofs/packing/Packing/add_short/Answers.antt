@@ -28,3 +28,9 @@ returns-clause-tight c =
       bytes = was.bytes;
       run = record { start = was.run.start; commands = c.append.new.bytes };
     }) (c.make_way.ensures.tight from tight) refl refl (omega (arith, grown, both, c.told-command))
+
+pub returns-clause-last : goal.returns-clause-last
+returns-clause-last c =
+    let grown = ap (length {A = ℕ}) c.append.ensures in
+    let both = length-append c.make_way.new.self.run.commands.items c.args.command.now in
+    λ none. absurd (omega (arith, none, grown, both, c.told-command))

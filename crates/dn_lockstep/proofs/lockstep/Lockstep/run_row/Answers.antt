@@ -65,6 +65,10 @@ returns-then-tic-full_at-clause-step c = steps c.finish.ensures.same (λ limits 
     after _ _ (ap (with_row limits m) (row_full limits m _ (sym r.table.ran ∙ c.if-tic-full_at.true ∙ full)))
     (c.finish.ensures.step limits me m r).node (refl, refl))
 
+pub returns-then-tic-full_at-clause-full : goal.returns-then-tic-full_at-clause-full
+returns-then-tic-full_at-clause-full c e limits me m r =
+    c.fill_row-whole.ensures.row ∙ row_is r (fits c.args.self.now) c.requires.there
+
 pub write-requires-clause-room : goal.write-requires-clause-room
 write-requires-clause-room c e =
     let n = c.args.self.now in
