@@ -36,3 +36,7 @@ pub mod RowsMade
 pub mod DemosAgreeing
 pub mod Agreeing
 pub mod Windowed
+pub mod Excusing
+pub mod Settling
+pub mod Wholes
+pub mod Turns

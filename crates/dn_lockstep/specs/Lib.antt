@@ -21,3 +21,4 @@ pub mod Giving
 pub mod Received
 pub mod Near
 pub mod Hearing
+pub mod Settling

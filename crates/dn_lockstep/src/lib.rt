@@ -9,6 +9,7 @@
 
 mod config;
 mod drops;
+mod ends;
 mod laws;
 mod lockstep;
 mod marks;
@@ -21,6 +22,7 @@ mod rows;
 
 pub use config::{Config, NodeFault};
 pub use dn_machine::{Cause, Heard, Made, Phase, Ran};
+pub use ends::{ends_settle_in_turn, last_commands_settle};
 pub use laws::{
     ended_demos_are_read, given_packets_are_heard, locksteps_agree, numbered_packets_are_near,
     one_game_goes_on, one_game_opens, windows_hold,
@@ -28,4 +30,5 @@ pub use laws::{
 pub use lockstep::Lockstep;
 pub use lockstep::aiming::Aim;
 pub use lockstep::opening::{MOST_AHEAD, WIDEST_AHEAD, is_game};
+pub use lockstep::settling::Settled;
 pub use near::are_tics_near;

@@ -19,6 +19,7 @@ mod hearing;
 pub(crate) mod opening;
 mod running;
 mod sending;
+pub(crate) mod settling;
 mod starting;
 mod taking;
 
@@ -175,8 +176,8 @@ impl Lockstep {
         self.settings
     }
 
-    /// The tic after a player's last command: of another player once an EXIT packet has told it, and its own
-    /// once it has played and ended. From that tic on no tic has a move of the player.
+    /// The tic after a player's last command: of another player once an EXIT packet or `settle` has told it, and
+    /// its own once it has played and ended. From that tic on no tic has a move of the player.
     pub fn end(&self, player: u8) -> Option<u32>
         ensures value { result
             ≡ (if nat_lt player (contents self.now).players then end_in (contents self.now) player

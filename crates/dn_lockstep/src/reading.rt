@@ -17,7 +17,7 @@ pub(crate) fn has_flag(packet: &Packet, flag: u8) -> bool
 }
 
 /// Whether some command would read as the end of a demo.
-fn has_stop(commands: &[TicCmd]) -> bool
+pub(crate) fn has_stop(commands: &[TicCmd]) -> bool
     ensures { result ≡ list_any is_stop commands.now }
 {
     commands.iter().any(|command| command.forward == -128)

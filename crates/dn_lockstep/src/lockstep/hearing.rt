@@ -123,7 +123,7 @@ impl Lockstep {
 
     /// Hears a peer while gathering, and starts once every peer was heard. What the packet carries is
     /// not kept.
-    fn hear_gathering(&mut self, from: u8) -> Heard
+    pub(super) fn hear_gathering(&mut self, from: u8) -> Heard
         requires gathers { (contents self.old).phase ≡ Gathering }
         requires peer { from < (contents self.old).players }
         ensures step { Steps (contents self.old) (contents self.new)
