@@ -13,7 +13,7 @@ use Rattle.dn_remain.specs.Wary.{Report, Wary, report_of, newest_seen, can_settl
 
 module _ (limits : Limits) (me : ℕ) (wary : Wary) where
   -- it knows the ends of all whom it has given up, and has the commands before them
-  settled_at : (p : ℕ) → can_settle limits me wary ≡ true → (after_news limits me wary).gone p ≡ true
+  pub settled_at : (p : ℕ) → can_settle limits me wary ≡ true → (after_news limits me wary).gone p ≡ true
       → ends_of (after_news limits me wary).node p ≡ Some (got (after_news limits me wary).node p)
   settled_at p can gone = grind arith
 
@@ -84,7 +84,7 @@ lowest_fails (suc bound) test h = elim (cases_Bool (test bound)) [
 ]
 
 -- whose report is missing
-missing : (limits : Limits) (me : ℕ) (wary next : Wary) → next ≡ wary → can_settle limits me wary ≡ false
+pub missing : (limits : Limits) (me : ℕ) (wary next : Wary) → next ≡ wary → can_settle limits me wary ≡ false
     → (r : ℕ) × (undecided limits me next ≡ Some r)
 missing limits me wary next is cannot =
     let k = lowest_fails limits.players

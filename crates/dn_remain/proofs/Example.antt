@@ -8,7 +8,7 @@ use Rattle.dn_machine.specs.Game.{applied, opening_game}
 use Rattle.dn_machine.specs.Building.{on_build}
 use Rattle.dn_machine.specs.Sending.{on_send}
 use Rattle.dn_machine.specs.Hearing.{on_packet}
-use Rattle.dn_machine.specs.Running.{on_run}
+use Rattle.dn_remain.specs.Running.{on_run_but}
 use Rattle.dn_machine.specs.Limits.{row_of, vanilla_limits}
 use Rattle.dn_machine.specs.Node.{ran, lacks, lowest}
 use Rattle.dn_machine.specs.Worlds.{Rules, rules_of}
@@ -17,24 +17,24 @@ use Rattle.dn_vanish.specs.Calls.{every}
 use Rattle.dn_vanish.specs.Decisions.{longest}
 use Rattle.dn_remain.specs.Seen.{end_seen, rows_to}
 use Rattle.dn_remain.specs.Wary.{on_give_up, on_report}
-use Rattle.dn_remain.specs.Remaining.{Remaining, opening_remaining, after_give_up, after_telling, after_hearing, is_barred}
+use Rattle.dn_remain.specs.Remaining.{Remaining, opening_remaining, after_give_up, after_telling, after_hearing, is_barred, after_event}
 use Rattle.dn_remain.specs.Promise.{IsPair}
 use Rattle.dn_remain.specs.RunsRemain.{NextRemain, LeadsRemain, RunsRemain}
 use Rattle.dn_remain.specs.declared.events.RemainEvent.{RemainEvent}
 use Rattle.dn_remain.specs.declared.events.RemainEvent.TheVariants.{Own, GiveUp, Tell, Hear}
 
 -- one event leads to another game, where it is not barred and nothing is left out
-after_own : {S : Type 0} → Rules S → Remaining → Event → Bool → Remaining
+unfoldable pub after_own : {S : Type 0} → Rules S → Remaining → Event → Bool → Remaining
 after_own rules all event true = all
-after_own rules all event false = record all { game = (applied rules all.game event).0 }
+after_own rules all event false = record all { game = after_event rules all event }
 
-after : {S : Type 0} → Rules S → Remaining → RemainEvent → Remaining
+unfoldable pub after : {S : Type 0} → Rules S → Remaining → RemainEvent → Remaining
 after rules all (Own event) = after_own rules all event (is_barred all event)
 after rules all (GiveUp node player) = after_give_up rules.limits all node player
 after rules all (Tell node to) = after_telling rules.limits all node to
 after rules all (Hear which) = after_hearing rules.limits all (slice_get all.reports which)
 
-after_all : {S : Type 0} → Rules S → Remaining → List RemainEvent → Remaining
+unfoldable pub after_all : {S : Type 0} → Rules S → Remaining → List RemainEvent → Remaining
 after_all rules all [] = all
 after_all rules all (event ∷ events) = after_all rules (after rules all event) events
 
@@ -42,7 +42,7 @@ own_leads : {S : Type 0} (rules : Rules S) (all : Remaining) (event : Event) (b 
     → NextRemain rules all (Own event) (after_own rules all event b)
 unfolding after_own
 own_leads rules all event true h = inl (h, refl)
-own_leads rules all event false h = inr (h, (applied rules all.game event).0, inl refl, refl)
+own_leads rules all event false h = inr (h, after_event rules all event, inl refl, refl)
 
 event_leads : {S : Type 0} (rules : Rules S) (all : Remaining) (event : RemainEvent)
     → NextRemain rules all event (after rules all event)
@@ -52,7 +52,7 @@ event_leads rules all (GiveUp node player) = refl
 event_leads rules all (Tell node to) = inl refl
 event_leads rules all (Hear which) = refl
 
-leads_to : {S : Type 0} (rules : Rules S) (all : Remaining) (events : List RemainEvent)
+pub leads_to : {S : Type 0} (rules : Rules S) (all : Remaining) (events : List RemainEvent)
     → LeadsRemain rules all events (after_all rules all events)
 unfolding after_all
 leads_to rules all [] = refl
@@ -89,7 +89,7 @@ module _ {S : Type 0} (physics : Physics S) (settings : Settings) where
       × (lacks (get_or ((last goes_on).game.nodes 2).rows 0 []) 0 ≡ false)
       × (lacks (get_or ((last goes_on).game.nodes 2).rows 1 []) 0 ≡ true)
       × (lacks (get_or ((last goes_on).game.nodes 2).rows 1 []) 1 ≡ false)
-  unfolding last goes_on starts after_all after after_own applied opening_game on_build on_send on_packet on_run row_of
+  unfolding last goes_on starts after_all after after_own applied opening_game on_build on_send on_packet on_run_but row_of
       lowest every longest rows_to on_give_up on_report opening_remaining
   went_on = (
     refl,
@@ -114,6 +114,6 @@ module _ {S : Type 0} (physics : Physics S) (settings : Settings) where
   pub started : (ran ((last starts).game.nodes 0) ≡ 1) × (ran ((last starts).game.nodes 1) ≡ 1)
       × (lacks (get_or ((last starts).game.nodes 1).rows 0 []) 2 ≡ true)
       × (lacks (get_or ((last starts).game.nodes 1).rows 0 []) 0 ≡ false)
-  unfolding last goes_on starts after_all after after_own applied opening_game on_build on_send on_packet on_run row_of
+  unfolding last goes_on starts after_all after after_own applied opening_game on_build on_send on_packet on_run_but row_of
       lowest every longest rows_to on_give_up on_report opening_remaining
   started = (refl, refl, refl, refl)

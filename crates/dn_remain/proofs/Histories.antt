@@ -1,5 +1,5 @@
 -- Every list of events leads to a game whose nodes have a history.
-use Rattle.std.proofs.Common.{◌≡◌, ℕ, ◌<◌, ltb, refl, arith, List, []}
+use Rattle.std.proofs.Common.{◌≡◌, ℕ, ◌<◌, ltb, refl, subst, arith, List, []}
 use Rattle.std.specs.Prelude.{◌&&◌, Bool, false, Option, Some, None, slice_get}
 use Rattle.std.proofs.lemmas.Bool.{ltb-true, and_parts}
 use Rattle.std.proofs.lemmas.Option.{none-some}
@@ -9,14 +9,17 @@ use Rattle.dn_setup.specs.Settings.{Settings}
 use Rattle.dn_machine.specs.declared.events.Event.{Event}
 use Rattle.dn_machine.specs.declared.events.Event.TheVariants.{Build, Give, Send, Deliver, Run, Quit, Stop}
 use Rattle.dn_machine.specs.declared.events.Refusal.{Refusal}
+use Rattle.dn_machine.specs.declared.answers.Ran.{Ran}
+use Rattle.dn_machine.specs.Node.{Node}
 use Rattle.dn_machine.specs.Worlds.{Rules}
 use Rattle.dn_machine.specs.Flight.{Flight}
-use Rattle.dn_machine.specs.Game.{Game, opening_game, own_marks, refused_at, refused, delivered, on_event, applied_if, applied}
+use Rattle.dn_machine.specs.Game.{Game, opening_game, with_node, own_marks, refused_at, refused, delivered, on_event, applied_if, applied}
 use Rattle.dn_machine.specs.Runs.{Runs}
 use Rattle.dn_machine.proofs.EachEvent.{leads_keep}
 use Rattle.dn_machine.proofs.Games.{passes}
 use Rattle.dn_vanish.specs.Commands.{Holder}
 use Rattle.dn_remain.specs.Seen.{rows_to}
+use Rattle.dn_remain.proofs.ButRuns.{nobody_is}
 use Rattle.dn_remain.proofs.Known.{Follows, Went}
 use Rattle.dn_remain.proofs.Making.{builds}
 use Rattle.dn_remain.proofs.Hearing.{hears}
@@ -67,7 +70,9 @@ module _ {S : Type 0} (rules : Rules S) (settings : Settings) where
         sends known rules game nobody older follows node (ltb-true node rules.players both.0) to
         (ltb-true to rules.players both.1) refl
     happens (Deliver which) h = delivers (slice_get game.flights which) which refl
-    happens (Run node) h = runs known rules game nobody older follows node (named node h) (own_marks rules (game.nodes node))
+    happens (Run node) h = subst (λ (r : Node × Ran). Went known rules (with_node game node r.0) nobody)
+        (nobody_is rules.limits (nobody node) (game.nodes node) (own_marks rules (game.nodes node)) (λ p. refl))
+        (runs known rules game nobody older follows node (named node h) (nobody node) (own_marks rules (game.nodes node)))
     happens (Quit node) h = quits known rules game nobody older follows node (named node h)
     happens (Stop node) h = (
       older,

@@ -59,12 +59,12 @@ noted_is limits node player Gathering e h = cond_both (all_noted limits.players 
     (λ all. record { held = refl; peers = refl; rows = refl; left = and_right true false refl })
     (λ some. record { held = refl; peers = refl; rows = refl; left = not_left node (ap is_ended e) })
 
-module _ {S : Type 0} (rules : Rules S) where
-  module _ (all : Remaining) (older : List (ℕ → Holder TicCmd)) (f : IsFollowed rules all older) where
+module _ {S : Type 0} (known : ℕ → Holder TicCmd → Type 0) (rules : Rules S) where
+  module _ (all : Remaining) (older : List (ℕ → Holder TicCmd)) (f : IsFollowed known rules all older) where
     -- a report that is told tells what its sender is
     tells_some : (node to : ℕ) (o : Option Report)
         → ((report : Report) → o ≡ Some report → report ≡ now_of all.game all.gone node)
-        → AreFollowed rules (with_telling all node to o)
+        → AreFollowed known rules (with_telling all node to o)
     tells_some node to None is = (older, f)
     tells_some node to (Some told) is = (
       older,
@@ -79,7 +79,7 @@ module _ {S : Type 0} (rules : Rules S) where
       },
     )
 
-    pub tells : (node to : ℕ) → AreFollowed rules (with_telling all node to (report_to rules.limits node (wary_of all node) to))
+    pub tells : (node to : ℕ) → AreFollowed known rules (with_telling all node to (report_to rules.limits node (wary_of all node) to))
     tells node to = tells_some node to (report_to rules.limits node (wary_of all node) to)
         (told_is rules.limits node (wary_of all node) to)
 
@@ -90,25 +90,25 @@ module _ {S : Type 0} (rules : Rules S) where
         (sym (ap (λ (n : ℕ → ℕ → Option Report). n x r) (own_put all.newest q)) ∙ h)
 
     news : (q : ℕ) → q < rules.players → has_left (all.game.nodes q) ≡ false
-        → AreFollowed rules (with_wary all q (after_news rules.limits q (wary_of all q)))
-    news q mine here = news_cases rules.limits q (wary_of all q) (λ (w : Wary). AreFollowed rules (with_wary all q w))
-        (subst (λ (r : Remaining). AreFollowed rules r) (sym (own_place all q)) (older, f))
-        (λ can. carried rules (now_of all.game all.gone ∷ older) _ (now_of all.game all.gone ∷ older)
-        (settles (Had (now_of all.game all.gone ∷ older)) rules all.game all.gone older (anchored rules all older f) q mine here (all.newest q)
+        → AreFollowed known rules (with_wary all q (after_news rules.limits q (wary_of all q)))
+    news q mine here = news_cases rules.limits q (wary_of all q) (λ (w : Wary). AreFollowed known rules (with_wary all q w))
+        (subst (λ (r : Remaining). AreFollowed known rules r) (sym (own_place all q)) (older, f))
+        (λ can. carried known rules (now_of all.game all.gone ∷ older) f.follows.knows _ (now_of all.game all.gone ∷ older)
+        (settles (Had (now_of all.game all.gone ∷ older)) rules all.game all.gone older (anchored known rules all older f) q mine here (all.newest q)
         (λ r report h. f.newest q r report h) can)
         (newest_put q) f.reports)
 
   -- a node of which something is known is put, and decides if it can
   pub news_there : (all : Remaining) (q : ℕ) (wary : Wary) → q < rules.players → has_left wary.node ≡ false
-      → AreFollowed rules (with_wary all q wary) → AreFollowed rules (with_wary all q (after_news rules.limits q wary))
+      → AreFollowed known rules (with_wary all q wary) → AreFollowed known rules (with_wary all q (after_news rules.limits q wary))
   news_there all q wary mine here (older, f) =
-      subst (λ (r : Remaining). AreFollowed rules r) (again all q wary (after_news rules.limits q wary))
-      (subst (λ (w : Wary). AreFollowed rules (with_wary (with_wary all q wary) q (after_news rules.limits q w)))
+      subst (λ (r : Remaining). AreFollowed known rules r) (again all q wary (after_news rules.limits q wary))
+      (subst (λ (w : Wary). AreFollowed known rules (with_wary (with_wary all q wary) q (after_news rules.limits q w)))
       (there all q wary)
       (news (with_wary all q wary) older f q mine
       (ap (λ (n : machine.Node). has_left n) (put_at all.game.nodes q q wary.node refl) ∙ here)))
 
-  module _ (all : Remaining) (older : List (ℕ → Holder TicCmd)) (f : IsFollowed rules all older) (q : ℕ)
+  module _ (all : Remaining) (older : List (ℕ → Holder TicCmd)) (f : IsFollowed known rules all older) (q : ℕ)
       (mine : q < rules.players) (phase : is_in_game (all.game.nodes q).phase ≡ true) where
     pub here : has_left (all.game.nodes q) ≡ false
     here = not_left (all.game.nodes q) (in_game_here (all.game.nodes q).phase phase)
@@ -119,7 +119,7 @@ module _ {S : Type 0} (rules : Rules S) where
 
     -- it gives up a player
     pub gives : (player : ℕ) → player < rules.players → (player ≡ q → ⊥)
-        → AreFollowed rules (with_wary all q (with_gone rules.limits (wary_of all q) player))
+        → AreFollowed known rules (with_wary all q (with_gone rules.limits (wary_of all q) player))
     gives player low apart =
         let new : machine.Node = noted_gone rules.limits (all.game.nodes q) player (all.game.nodes q).phase in
         let is = noted player in
@@ -128,8 +128,8 @@ module _ {S : Type 0} (rules : Rules S) where
         λ p. ap (λ (h : ℕ → List TicCmd). reached (length (h p))
         (ends_of (noted_gone rules.limits (all.game.nodes q) player (all.game.nodes q).phase) p)) is.held
         ∙ ap (λ (ps : ℕ → Peer). reached (got (all.game.nodes q) p) (ps p).end) is.peers in
-        let f' = anchored rules all older f in
-        carried rules (now_of all.game all.gone ∷ older) _ (now_of all.game all.gone ∷ older)
+        let f' = anchored known rules all older f in
+        carried known rules (now_of all.game all.gone ∷ older) f.follows.knows _ (now_of all.game all.gone ∷ older)
         (steps_set (Had (now_of all.game all.gone ∷ older)) rules all.game all.gone older f' q mine here
         (noted_gone rules.limits (all.game.nodes q) player (all.game.nodes q).phase) (put (all.gone q) player true)
         (λ p e s g. f'.ends q p e (sym (ap (λ (ps : ℕ → Peer). (ps p).end) is.peers) ∙ s)
@@ -162,14 +162,14 @@ module _ {S : Type 0} (rules : Rules S) where
 
     -- it keeps a report
     pub keeps : (from : ℕ) (told : Report) → Had (now_of all.game all.gone ∷ older) from told
-        → AreFollowed rules (with_wary all q (with_report (wary_of all q) from told))
+        → AreFollowed known rules (with_wary all q (with_report (wary_of all q) from told))
     keeps from told had =
         let base : Follows (Had (now_of all.game all.gone ∷ older)) rules
         (with_wary all q (with_report (wary_of all q) from told)).game
         (with_wary all q (with_report (wary_of all q) from told)).gone older =
         subst (λ (r : Remaining). Follows (Had (now_of all.game all.gone ∷ older)) rules r.game r.gone older)
-        (sym (own_place all q)) (anchored rules all older f) in
-        carried rules (now_of all.game all.gone ∷ older) (with_wary all q (with_report (wary_of all q) from told)) older base
+        (sym (own_place all q)) (anchored known rules all older f) in
+        carried known rules (now_of all.game all.gone ∷ older) f.follows.knows (with_wary all q (with_report (wary_of all q) from told)) older base
         (λ x r report h. elim (cases_eq x q) [
           | inr n ↦ f.newest x r report (sym (ap (λ (g : ℕ → Option Report). g r)
               (put_off all.newest q x (put (all.newest q) from (Some told)) n)) ∙ h)

@@ -10,6 +10,7 @@ use Rattle.dn_machine.specs.Runs.{Leads, Runs}
 use Rattle.dn_machine.specs.Worlds.{Rules}
 use Rattle.dn_remain.specs.Remaining.{Remaining, opening_remaining, is_barred_flight, is_barred}
 use Rattle.dn_remain.specs.RunsRemain.{LeadsRemain, RunsRemain, NobodyGivenUp}
+use Rattle.dn_remain.proofs.ButRuns.{is_next}
 use Rattle.dn_remain.specs.declared.events.RemainEvent.TheVariants.{Own}
 
 -- nothing is barred where nobody is given up
@@ -32,7 +33,7 @@ module _ {S : Type 0} (rules : Rules S) where
   leads [] all last nobody is = ap (λ (g : Game). record all { game = g }) is
   leads (event ∷ own) all last nobody way = (
     record all { game = way.0 },
-    inr (open_event all nobody event, way.0, way.1, refl),
+    inr (open_event all nobody event, way.0, is_next rules all nobody event way.0 way.1, refl),
     leads own (record all { game = way.0 }) last nobody way.2,
   )
 

@@ -20,6 +20,7 @@ use Rattle.dn_remain.specs.Remaining.{Telling, Remaining, opening_remaining, war
 use Rattle.dn_remain.specs.RunsRemain.{NextOwn, NextRemain, LeadsRemain, RunsRemain, NobodyGivenUp}
 use Rattle.dn_remain.specs.declared.events.RemainEvent.{RemainEvent}
 use Rattle.dn_remain.specs.declared.events.RemainEvent.TheVariants.{Own, GiveUp, Tell, Hear}
+use Rattle.dn_remain.proofs.ButRuns.{next_is}
 use Rattle.dn_remain.proofs.Cases.{news_cases, give_up_cases, report_cases}
 
 -- a node in its own place
@@ -117,10 +118,12 @@ module _ {S : Type 0} (rules : Rules S) (settings : Settings) where
       (own.0, subst (λ (r : Remaining). Runs rules settings own.0 r.game) (sym barred.1) own.1)
   by_own all next event (inr goes) before h =
       let is = goes.3 in
-      let own = before (λ q p. sym (ap (λ (r : Remaining). r.gone q p) is) ∙ h q p) in (
+      let old : NobodyGivenUp all = λ q p. sym (ap (λ (r : Remaining). r.gone q p) is) ∙ h q p in
+      let own = before old in (
         own.0 ++ event ∷ [],
         subst (λ (g : Game). Runs rules settings (own.0 ++ event ∷ []) g) (sym (ap (λ (r : Remaining). r.game) is))
-            (goes_on rules settings own.0 event (opening_game settings) all.game goes.1 own.1 goes.2),
+            (goes_on rules settings own.0 event (opening_game settings) all.game goes.1 own.1
+            (next_is rules all old event goes.1 goes.2)),
       )
 
   by_event : (all next : Remaining) (event : RemainEvent) → NextRemain rules all event next → IsOwn all → IsOwn next

@@ -9,11 +9,11 @@ use Rattle.dn_tic.specs.declared.command.Move.{Move}
 use Rattle.dn_machine.specs.Limits.{Limits}
 use Rattle.dn_machine.specs.Node.{blank}
 use Rattle.dn_machine.proofs.Truth.{row_of_same}
-use Rattle.dn_vanish.specs.Node.{is_over}
+use Rattle.dn_vanish.specs.Node.{Node, Was, is_over, ran}
 use Rattle.dn_vanish.specs.Promise.{lacks_at}
 use Rattle.dn_vanish.specs.Steps.{IsRun}
 use Rattle.dn_vanish.specs.Commands.{Holder, seen, past_seen, Had, AreHanded}
-use Rattle.dn_vanish.proofs.Invariant.{IsGrown}
+use Rattle.dn_vanish.proofs.Invariant.{IsGrown, IsKept}
 use Rattle.dn_vanish.proofs.Always.{always}
 use Rattle.dn_vanish.proofs.Handing.{same_held, was_seen, row_held}
 use Rattle.dn_remain.specs.Seen.{row_had}
@@ -38,7 +38,8 @@ module _ (limits : Limits) (history : List (ℕ → Holder TicCmd)) (handed : Ar
         | inl t ↦ cond-true (is_over (u.ends p) tic) None (Some (get_or (u.held p) tic blank)) t
             ∙ sym (cond-true (is_over (v.ends p) tic) None (Some (get_or (v.held p) tic blank)) (sym e ∙ t))
         | inr f ↦
-            let i = row_held limits.players limits.ahead history handed run x p tic u l w a (over x u w a p l ∙ f) in
+            let i = row_held limits.players limits.ahead history handed run x p tic u l w a (over x u w a p l
+            ∙ f) in
             let j = row_held limits.players limits.ahead history handed run z p tic v l y b
             (over z v y b p l ∙ (sym e ∙ f)) in
             let k : get_or (u.held p) tic blank ≡ get_or (v.held p) tic blank =
@@ -56,7 +57,8 @@ module _ (limits : Limits) (history : List (ℕ → Holder TicCmd)) (handed : Ar
 module _ (limits : Limits) (history : List (ℕ → Holder TicCmd)) (handed : AreHanded history)
     (run : IsRun limits.players limits.ahead (past_seen history)) (q : ℕ) (u v : Holder TicCmd)
     (w : Had history q u) (y : Had history q v) (grown : IsGrown (seen u) (seen v))
-    (olds news : List (List (Option Move))) (long : length u.rows ≡ length olds) (long' : length v.rows ≡ length news)
+    (olds news : List (List (Option Move))) (long : length u.rows ≡ length olds)
+    (long' : length v.rows ≡ length news)
     (before : (tic : ℕ) → tic < length olds → get_or olds tic [] ≡ row_had limits u tic) where
   old_row : (tic : ℕ) → tic < length olds → get_or olds tic [] ≡ row_had limits v tic
   old_row tic l =
@@ -79,3 +81,13 @@ module _ (limits : Limits) (history : List (ℕ → Holder TicCmd)) (handed : Ar
             get_or_push olds (row_had limits v (length olds)) [] tic last
             ∙ ap (λ (i : ℕ). row_had limits v i) last
       ]
+
+-- one state of a player's node, and the one in which it made a command
+pub made_row : (players ahead : ℕ) (history : List (ℕ → Node)) → IsKept players history
+    → (p back r : ℕ) (v maker : Node)
+    → Was history p v → Was history p maker → back < ran maker → back < ran v
+    → lacks_at maker back r ≡ lacks_at v back r
+made_row players ahead history kept p back r v maker w y i j = elim (kept.pairs p maker v y w) [
+  | inl order ↦ sym (order.grown.same back r i)
+  | inr order ↦ order.grown.same back r j
+]

@@ -11,8 +11,8 @@ use Rattle.dn_machine.specs.Node as machine
 use Rattle.dn_machine.specs.Node.{ends_of, got, held_at, is_ended, has_left, lowest}
 use Rattle.dn_machine.specs.Game.{Game, with_node}
 use Rattle.dn_machine.specs.Worlds.{Rules}
-use Rattle.dn_machine.specs.Running.{is_absent, is_awaited, row_held, on_run, on_quit}
-use Rattle.dn_machine.proofs.Calls.{ran_on, run_cases, quit_cases}
+use Rattle.dn_machine.specs.Running.{is_absent, is_awaited, row_held, on_quit}
+use Rattle.dn_machine.proofs.Calls.{ran_on, quit_cases}
 use Rattle.dn_machine.proofs.Marks.{lowest_none_each}
 use Rattle.dn_vanish.specs.Node.{is_over}
 use Rattle.dn_vanish.specs.Steps.{Run, Leave}
@@ -20,9 +20,11 @@ use Rattle.dn_vanish.specs.Commands.{Holder, seen, past_seen}
 use Rattle.dn_vanish.proofs.Invariant.{IsKept}
 use Rattle.dn_vanish.proofs.Always.{always}
 use Rattle.dn_vanish.proofs.Mild.{cases_Option}
+use Rattle.dn_remain.specs.Running.{on_run_but}
 use Rattle.dn_remain.specs.Seen.{end_seen, rows_to, holder_of, now_of, row_had}
 use Rattle.dn_machine.proofs.Truth.{row_of_same}
 use Rattle.dn_remain.proofs.Seeing.{same_node, same_holder, length_rows, reached_cases}
+use Rattle.dn_remain.proofs.ButRuns.{run_but_cases}
 use Rattle.dn_remain.proofs.Known.{Follows, IsFit, Went, fit_self, not_left}
 use Rattle.dn_remain.proofs.Following.{stays, steps}
 
@@ -58,7 +60,7 @@ module _ {S : Type 0} (known : ℕ → Holder TicCmd → Type 0) (rules : Rules 
       ]
 
   -- a player is absent just where an end that was reached is over
-  absent_is : (p : ℕ) → p < rules.players
+  pub absent_is : (p : ℕ) → p < rules.players
       → is_absent (game.nodes q) p ≡ is_over (end_seen (game.nodes q) p) (machine.ran (game.nodes q))
   absent_is p l = elim (reached_cases (got (game.nodes q) p) (ends_of (game.nodes q) p)) [
     | inr some ↦ ap (λ (o : Option ℕ). is_over o (machine.ran (game.nodes q))) (some.1 ∙ sym some.2)
@@ -98,7 +100,7 @@ module _ {S : Type 0} (known : ℕ → Holder TicCmd → Type 0) (rules : Rules 
         (row_of_same rules.players _ _ (λ p l. ap (λ (b : Bool). if b then None
         else Some (held_at (game.nodes q) p (machine.ran (game.nodes q)))) (absent_is p l)))
 
-    runs_on : Went known rules (with_node game q (ran_on rules.limits q (game.nodes q) marks)) gone
+    pub runs_on : Went known rules (with_node game q (ran_on rules.limits q (game.nodes q) marks)) gone
     unfolding rows_to
     runs_on =
         let rows = length_rows (end_seen (game.nodes q)) (machine.ran (game.nodes q)) in
@@ -120,8 +122,9 @@ module _ {S : Type 0} (known : ℕ → Holder TicCmd → Type 0) (rules : Rules 
   same : Went known rules (with_node game q (game.nodes q)) gone
   same = (older, stays known rules game gone older follows q (game.nodes q) self refl)
 
-  pub runs : (marks : ℕ → ℤ) → Went known rules (with_node game q (on_run rules.limits (game.nodes q) marks).0) gone
-  runs marks = run_cases rules.limits q (game.nodes q) marks (λ (n : machine.Node). Went known rules (with_node game q n) gone)
+  pub runs : (but : ℕ → Bool) (marks : ℕ → ℤ)
+      → Went known rules (with_node game q (on_run_but rules.limits but (game.nodes q) marks).0) gone
+  runs but marks = run_but_cases rules.limits q but (game.nodes q) marks (λ (n : machine.Node). Went known rules (with_node game q n) gone)
       (λ waits. same)
       (λ player plays none off. ends _ (ap is_ended plays))
       (λ plays none full. ends _ (ap is_ended plays))

@@ -1,7 +1,8 @@
 -- What is seen of nodes.
 use Rattle.std.proofs.Common.{◌≡◌, ℕ, zero, suc, ◌<◌, ◌≤◌, leb, refl, sym, ◌∙◌, ap, arith, inl, inr, List, [], ◌∷◌, ◌++◌, length}
-use Rattle.std.specs.Prelude.{◌⊎◌, Bool, Option, Some, None}
-use Rattle.std.proofs.lemmas.Bool.{cases_eq, cases_lt, le-leb, lt-leb, cond-true, cond-false}
+use Rattle.std.specs.Prelude.{◌⊎◌, Bool, true, false, if◌then◌else◌, Option, Some, None}
+use Rattle.std.specs.Option.{is_none}
+use Rattle.std.proofs.lemmas.Bool.{both_ways, cases_Bool, cases_eq, cases_lt, le-leb, leb-true, lt-leb, cond-true, cond-false}
 use Rattle.std.proofs.lemmas.List.{length_push}
 use Rattle.std.proofs.lemmas.Option.{none-some, same_Some}
 use Rattle.dn_tic.specs.declared.command.TicCmd.{TicCmd}
@@ -36,7 +37,8 @@ rows_alike e f zero h = refl
 rows_alike e f (suc n) h =
     let row : ◌≡◌ {A = ℕ → Bool} (λ p. is_over (e p) n) (λ p. is_over (f p) n) =
     same_functions (λ p. h p n (omega arith)) in
-    ap (λ (rows : List (ℕ → Bool)). rows ++ (λ p. is_over (e p) n) ∷ []) (rows_alike e f n (λ p tic l. h p tic (omega arith)))
+    ap (λ (rows : List (ℕ → Bool)). rows ++ (λ p. is_over (e p) n) ∷ []) (rows_alike e f n (λ p tic l. h p tic
+    (omega arith)))
     ∙ ap (λ (r : ℕ → Bool). rows_to f n ++ r ∷ []) row
 
 -- an end counts, or not
@@ -61,7 +63,8 @@ pub moved : (game : Game) (gone : ℕ → ℕ → Bool) (q : ℕ) (new : machine
     → now_of (with_node game q new) gone ≡ put (now_of game gone) q (holder_of new (gone q))
 moved game gone q new = same_functions (λ x. elim (cases_eq x q) [
   | inl e ↦ ap (λ (n : machine.Node). holder_of n (gone x)) (put_at game.nodes q x new e)
-      ∙ (ap (λ (g : ℕ → Bool). holder_of new g) (ap gone e) ∙ sym (put_at (now_of game gone) q x (holder_of new (gone q)) e))
+      ∙ (ap (λ (g : ℕ → Bool). holder_of new g) (ap gone e)
+      ∙ sym (put_at (now_of game gone) q x (holder_of new (gone q)) e))
   | inr n ↦ ap (λ (m : machine.Node). holder_of m (gone x)) (put_off game.nodes q x new n)
       ∙ sym (put_off (now_of game gone) q x (holder_of new (gone q)) n)
 ])
@@ -70,8 +73,10 @@ moved game gone q new = same_functions (λ x. elim (cases_eq x q) [
 pub seen_put : (nodes : ℕ → Holder TicCmd) (q : ℕ) (new : Holder TicCmd)
     → ◌≡◌ {A = ℕ → Node} (λ x. seen (put nodes q new x)) (put (λ x. seen (nodes x)) q (seen new))
 seen_put nodes q new = same_functions (λ x. elim (cases_eq x q) [
-  | inl e ↦ ap (λ (h : Holder TicCmd). seen h) (put_at nodes q x new e) ∙ sym (put_at (λ y. seen (nodes y)) q x (seen new) e)
-  | inr n ↦ ap (λ (h : Holder TicCmd). seen h) (put_off nodes q x new n) ∙ sym (put_off (λ y. seen (nodes y)) q x (seen new) n)
+  | inl e ↦ ap (λ (h : Holder TicCmd). seen h) (put_at nodes q x new e)
+      ∙ sym (put_at (λ y. seen (nodes y)) q x (seen new) e)
+  | inr n ↦ ap (λ (h : Holder TicCmd). seen h) (put_off nodes q x new n)
+      ∙ sym (put_off (λ y. seen (nodes y)) q x (seen new) n)
 ])
 
 pub put_own : (nodes : ℕ → Holder TicCmd) (q : ℕ) → put nodes q (nodes q) ≡ nodes
@@ -79,3 +84,23 @@ put_own nodes q = same_functions (λ x. elim (cases_eq x q) [
   | inl e ↦ put_at nodes q x (nodes q) e ∙ ap nodes (sym e)
   | inr n ↦ put_off nodes q x (nodes q) n
 ])
+
+-- a seat is empty where its player's end is over
+pub none_over : (b : Bool) (c : TicCmd) → is_none (if b then None else Some c) ≡ b
+none_over true c = refl
+none_over false c = refl
+
+-- an end that is not over at a tic is not over before it
+pub over_before : (o : Option ℕ) (back tic : ℕ) → back ≤ tic → is_over o tic ≡ false → is_over o back ≡ false
+over_before None back tic l h = refl
+over_before (Some e) back tic l h = elim (cases_Bool (is_over (Some e) back)) [
+  | inr f ↦ f
+  | inl t ↦ let a = leb-true e back t in absurd (both_ways (is_over (Some e) tic) h (le-leb e tic
+      (omega arith)))
+]
+
+-- an end that is over stays so
+pub over_stays : (a b : Option ℕ) (tic : ℕ) → ((e : ℕ) → a ≡ Some e → b ≡ Some e) → is_over b tic ≡ false
+    → is_over a tic ≡ false
+over_stays None b tic same h = refl
+over_stays (Some e) b tic same h = sym (ap (λ (o : Option ℕ). is_over o tic) (same e refl)) ∙ h

@@ -15,14 +15,17 @@ use Rattle.dn_machine.specs.Node.{Node, put}
 use Rattle.dn_machine.specs.Building.{on_build}
 use Rattle.dn_machine.specs.Sending.{set_up_flight, on_send}
 use Rattle.dn_machine.specs.Hearing.{on_packet}
-use Rattle.dn_machine.specs.Running.{on_run, on_quit}
-use Rattle.dn_machine.proofs.Calls.{build_cases, send_cases, run_cases, quit_cases, packet_cases}
+use Rattle.dn_machine.specs.Running.{on_quit}
+use Rattle.dn_machine.proofs.Calls.{build_cases, send_cases, quit_cases, packet_cases}
+use Rattle.dn_remain.specs.Running.{on_run_but}
+use Rattle.dn_remain.proofs.ButRuns.{run_but_cases}
 use Rattle.dn_remain.specs.Wary.{Report, settled, noted_gone}
 
--- who gathers, or has started, has these settings
+-- who gathers, or has started, has these settings; and who plays has started
 pub record IsSet (settings : Settings) (node : Node) : Type 0 where
   pub gathers : node.phase ≡ Gathering → node.settings ≡ Some settings
   pub played : node.played ≡ true → node.settings ≡ Some settings
+  pub plays : node.phase ≡ Playing → node.played ≡ true
 
 -- a set-up packet carries them
 abbrev pub Carries : Settings → Flight → Type 0
@@ -33,30 +36,32 @@ phase_apart phase e f = absurd (cc)
 
 -- with another phase, that is not Gathering
 ended_set : (settings : Settings) (node new : Node) → IsSet settings node → new.settings ≡ node.settings
-    → new.played ≡ node.played → (new.phase ≡ Gathering → node.phase ≡ Gathering) → IsSet settings new
-ended_set settings node new h s p e = record {
+    → new.played ≡ node.played → (new.phase ≡ Gathering → node.phase ≡ Gathering)
+    → (new.phase ≡ Playing → node.phase ≡ Playing) → IsSet settings new
+ended_set settings node new h s p e f = record {
   gathers = λ g. s ∙ h.gathers (e g);
   played = λ t. s ∙ h.played (sym p ∙ t);
+  plays = λ g. p ∙ h.plays (f g);
 }
 
 -- a node that starts
-started_set : (settings : Settings) (new : Node) → new.settings ≡ Some settings → IsSet settings new
-started_set settings new s = record { gathers = λ g. s; played = λ t. s }
+started_set : (settings : Settings) (new : Node) → new.settings ≡ Some settings → new.played ≡ true → IsSet settings new
+started_set settings new s p = record { gathers = λ g. s; played = λ t. s; plays = λ g. p }
 
 module _ (settings : Settings) (limits : Limits) (me : ℕ) (node : Node) (h : IsSet settings node) where
   pub set_build : (input : Input) → IsSet settings (on_build limits me node input).0
   set_build input = build_cases limits me node (λ (n : Node). IsSet settings n) input (λ full. h)
-      (λ plays room. ended_set settings node _ h refl refl (λ g. g))
+      (λ plays room. ended_set settings node _ h refl refl (λ g. g) (λ g. g))
 
-  pub set_run : (marks : ℕ → ℤ) → IsSet settings (on_run limits node marks).0
-  set_run marks = run_cases limits me node marks (λ (n : Node). IsSet settings n) (λ waits. h)
-      (λ player plays ready off. ended_set settings node _ h refl refl (λ g. absurd (cc)))
-      (λ plays ready full. ended_set settings node _ h refl refl (λ g. absurd (cc)))
-      (λ plays ready room. ended_set settings node _ h refl refl (λ g. g))
+  pub set_run : (but : ℕ → Bool) (marks : ℕ → ℤ) → IsSet settings (on_run_but limits but node marks).0
+  set_run but marks = run_but_cases limits me but node marks (λ (n : Node). IsSet settings n) (λ waits. h)
+      (λ player plays ready off. ended_set settings node _ h refl refl (λ g. absurd (cc)) (λ g. absurd (cc)))
+      (λ plays ready full. ended_set settings node _ h refl refl (λ g. absurd (cc)) (λ g. absurd (cc)))
+      (λ plays ready room. ended_set settings node _ h refl refl (λ g. g) (λ g. g))
 
   pub set_quit : IsSet settings (on_quit node).0
   set_quit = quit_cases limits me node (λ (n : Node). IsSet settings n) h
-      (λ on. ended_set settings node _ h refl refl (λ g. absurd (cc)))
+      (λ on. ended_set settings node _ h refl refl (λ g. absurd (cc)) (λ g. absurd (cc)))
 
   pub set_sent : (to : ℕ) → IsSet settings (on_send limits me node to).0
       × ((flight : Flight) → (on_send limits me node to).1 ≡ Some flight → Carries settings flight)
@@ -65,11 +70,11 @@ module _ (settings : Settings) (limits : Limits) (me : ℕ) (node : Node) (h : I
       (h, λ flight e. absurd (none-some flight e))
       (λ other g. (h, λ flight e. carried node.settings (h.gathers g) flight e))
       (λ other plays. (
-        ended_set settings node _ h refl refl (λ g. g),
+        ended_set settings node _ h refl refl (λ g. g) (λ g. g),
         λ flight e s k. absurd (cc),
       ))
       (λ other left. (
-        ended_set settings node _ h refl refl (λ g. g),
+        ended_set settings node _ h refl refl (λ g. g) (λ g. g),
         λ flight e s k. absurd (grind arith),
       ))
     where
@@ -80,16 +85,16 @@ module _ (settings : Settings) (limits : Limits) (me : ℕ) (node : Node) (h : I
   pub set_hears : (flight : Flight) → Carries settings flight → IsSet settings (on_packet limits me node flight).0
   set_hears flight carries = packet_cases limits me node flight (λ (r : Node × Heard). IsSet settings r.0) (record {
     dropped = λ number why. h;
-    starts = λ s listens kind. started_set settings _ (ap (λ (i : Settings). Some i) (carries s kind));
-    completes = λ word g all. started_set settings _ (h.gathers g);
-    notes = λ word g some. ended_set settings node _ h refl refl (λ e. e);
+    starts = λ s listens kind. started_set settings _ (ap (λ (i : Settings). Some i) (carries s kind)) refl;
+    completes = λ word g all. started_set settings _ (h.gathers g) refl;
+    notes = λ word g some. ended_set settings node _ h refl refl (λ e. e) (λ e. e);
     commands = λ plays. record {
       dropped = λ number why. h;
-      stale = λ l. ended_set settings node _ h refl refl (λ g. g);
-      gap = λ l. ended_set settings node _ h refl refl (λ g. g);
-      takes = λ first high. ended_set settings node _ h refl refl (λ g. g);
+      stale = λ l. ended_set settings node _ h refl refl (λ g. g) (λ g. g);
+      gap = λ l. ended_set settings node _ h refl refl (λ g. g) (λ g. g);
+      takes = λ first high. ended_set settings node _ h refl refl (λ g. g) (λ g. g);
     };
-    requests = λ ended. ended_set settings node _ h refl refl (λ g. g);
+    requests = λ ended. ended_set settings node _ h refl refl (λ g. g) (λ g. g);
   })
 
   pub set_noted : (player : ℕ) (phase : Phase) → node.phase ≡ phase → IsSet settings (noted_gone limits node player phase)
@@ -98,8 +103,8 @@ module _ (settings : Settings) (limits : Limits) (me : ℕ) (node : Node) (h : I
   set_noted player (Ended cause) e = h
   set_noted player Gathering e = cond_both (all_noted limits.players (put node.noted player true)) _ _
       (λ (r : Node × Heard). IsSet settings r.0)
-      (λ all. started_set settings _ (h.gathers e))
-      (λ some. ended_set settings node _ h refl refl (λ g. g))
+      (λ all. started_set settings _ (h.gathers e) refl)
+      (λ some. ended_set settings node _ h refl refl (λ g. g) (λ g. g))
 
   pub set_settled : (gone : ℕ → Bool) (decided : Report) → IsSet settings (settled node gone decided)
-  set_settled gone decided = ended_set settings node _ h refl refl (λ g. g)
+  set_settled gone decided = ended_set settings node _ h refl refl (λ g. g) (λ g. g)

@@ -1,11 +1,11 @@
 -- The key player's settings are everybody's, after every list of events.
-use Rattle.std.proofs.Common.{◌≡◌, ℕ, refl, sym, subst, inl, inr, List, [], ◌∷◌}
+use Rattle.std.proofs.Common.{◌≡◌, ℕ, refl, sym, subst, inl, inr}
 use Rattle.std.specs.Prelude.{Bool, true, false, nat_lt, ◌==◌, if◌then◌else◌, Option, Some, None, slice_get}
 use Rattle.std.proofs.lemmas.Bool.{cases_eq, cond_both, true≢false}
 use Rattle.std.proofs.lemmas.Option.{none-some}
 use Rattle.dn_setup.specs.Settings.{Settings}
 use Rattle.dn_tic.specs.declared.input.Input.TheVariants.{Pressed, Given}
-use Rattle.dn_machine.specs.declared.answers.Phase.TheVariants.{Listening, Gathering}
+use Rattle.dn_machine.specs.declared.answers.Phase.TheVariants.{Listening, Gathering, Playing}
 use Rattle.dn_machine.specs.declared.events.Event.{Event}
 use Rattle.dn_machine.specs.declared.events.Event.TheVariants.{Build, Give, Send, Deliver, Run, Quit, Stop}
 use Rattle.dn_machine.specs.declared.events.Refusal.{Refusal}
@@ -19,16 +19,17 @@ use Rattle.dn_machine.proofs.Put.{put_at, put_off, slice_get_push}
 use Rattle.dn_vanish.specs.Decisions.{on_decision}
 use Rattle.dn_remain.specs.Wary.{Report, Wary, report_of, or_fresh, after_news, with_gone, with_report, on_give_up, on_report}
 use Rattle.dn_remain.specs.Remaining as remaining
-use Rattle.dn_remain.specs.Remaining.{Telling, Remaining, opening_remaining, wary_of, with_wary, unless, with_telling}
-use Rattle.dn_remain.specs.RunsRemain.{NextOwn, NextRemain, LeadsRemain, RunsRemain}
+use Rattle.dn_remain.specs.Remaining.{Telling, Remaining, opening_remaining, wary_of, with_wary, unless, with_telling, after_run, after_event}
+use Rattle.dn_remain.specs.RunsRemain.{NextOwn, NextRemain}
 use Rattle.dn_remain.specs.declared.events.RemainEvent.{RemainEvent}
 use Rattle.dn_remain.specs.declared.events.RemainEvent.TheVariants.{Own, GiveUp, Tell, Hear}
+use Rattle.dn_remain.proofs.ButRuns.{IsNoRun}
 use Rattle.dn_remain.proofs.Cases.{news_cases, give_up_cases, report_cases}
 use Rattle.dn_remain.proofs.Setting.{IsSet, Carries, set_build, set_run, set_quit, set_sent, set_hears, set_noted, set_settled}
 
 module _ (settings : Settings) where
   -- every node, and every packet that was sent
-  record AreSet (game : Game) : Type 0 where
+  pub record AreSet (game : Game) : Type 0 where
     pub nodes : (q : ℕ) → IsSet settings (game.nodes q)
     pub flights : (which : ℕ) (flight : Flight) → slice_get game.flights which ≡ Some flight → Carries settings flight
 
@@ -73,36 +74,53 @@ module _ (settings : Settings) where
   opened true e = refl
   opened false e = absurd (cc)
 
+  not_playing : (b : Bool) → (if b then Gathering else Listening) ≡ Playing → ⊥
+  not_playing true e = absurd (cc)
+  not_playing false e = absurd (cc)
+
   module _ {S : Type 0} (rules : Rules S) where
-    happens : (game : Game) → AreSet game → (event : Event) → AreSet (on_event rules game event).0
-    happens game a (Build node keys) = put_set game a node _
+    happens : (game : Game) → AreSet game → (event : Event) → IsNoRun event → AreSet (on_event rules game event).0
+    happens game a (Build node keys) n = put_set game a node _
         (set_build settings rules.limits node (game.nodes node) (a.nodes node) (Pressed keys))
-    happens game a (Give node command) = put_set game a node _
+    happens game a (Give node command) n = put_set game a node _
         (set_build settings rules.limits node (game.nodes node) (a.nodes node) (Given command))
-    happens game a (Send node to) =
+    happens game a (Send node to) n =
         let k = set_sent settings rules.limits node (game.nodes node) (a.nodes node) to in
         post_set (with_node game node (on_send rules.limits node (game.nodes node) to).0)
         (put_set game a node (on_send rules.limits node (game.nodes node) to).0 k.0)
         (on_send rules.limits node (game.nodes node) to).1 k.1
-    happens game a (Deliver which) = delivers (slice_get game.flights which) refl
+    happens game a (Deliver which) n = delivers (slice_get game.flights which) refl
       where
         delivers : (o : Option Flight) → slice_get game.flights which ≡ o → AreSet (delivered rules game o).0
         delivers None e = a
         delivers (Some flight) e = put_set game a flight.to _ (set_hears settings rules.limits flight.to
             (game.nodes flight.to) (a.nodes flight.to) flight (a.flights which flight e))
-    happens game a (Run node) = put_set game a node _ (set_run settings rules.limits node (game.nodes node) (a.nodes node)
-        (own_marks rules (game.nodes node)))
-    happens game a (Quit node) = put_set game a node _
+    happens game a (Run node) n = absurd n
+    happens game a (Quit node) n = put_set game a node _
         (set_quit settings rules.limits node (game.nodes node) (a.nodes node))
-    happens game a (Stop node) = record { nodes = a.nodes; flights = a.flights }
+    happens game a (Stop node) n = record { nodes = a.nodes; flights = a.flights }
 
-    applies : (game : Game) → AreSet game → (event : Event) → AreSet (applied rules game event).0
+    applies : (game : Game) → AreSet game → (event : Event) → IsNoRun event → AreSet (applied rules game event).0
     unfolding applied
-    applies game a event = go (refused rules.players game event)
+    applies game a event n = go (refused rules.players game event)
       where
         go : (o : Option Refusal) → AreSet (applied_if rules game event o).0
         go (Some refusal) = a
-        go None = happens game a event
+        go None = happens game a event n
+
+    run_on : (all : Remaining) → AreSet all.game → (node : ℕ) (o : Option Refusal) → AreSet (after_run rules all node o)
+    run_on all a node (Some refusal) = a
+    run_on all a node None = put_set all.game a node _ (set_run settings rules.limits node (all.game.nodes node)
+        (a.nodes node) (all.gone node) (own_marks rules (all.game.nodes node)))
+
+    occurs : (all : Remaining) → AreSet all.game → (event : Event) → AreSet (after_event rules all event)
+    occurs all a (Build node keys) = applies all.game a (Build node keys) tt
+    occurs all a (Give node command) = applies all.game a (Give node command) tt
+    occurs all a (Send node to) = applies all.game a (Send node to) tt
+    occurs all a (Deliver which) = applies all.game a (Deliver which) tt
+    occurs all a (Run node) = run_on all a node (refused_at rules.players all.game node)
+    occurs all a (Quit node) = applies all.game a (Quit node) tt
+    occurs all a (Stop node) = applies all.game a (Stop node) tt
 
     wary_set : (all : Remaining) → AreSet all.game → (q : ℕ) (w : Wary) → IsSet settings w.node
         → AreSet (with_wary all q w).game
@@ -129,11 +147,11 @@ module _ (settings : Settings) where
     by_own : (all next : Remaining) → AreSet all.game → (event : Event) → NextOwn rules all event next → AreSet next.game
     by_own all next a event (inl barred) = subst (λ (r : Remaining). AreSet r.game) (sym barred.1) a
     by_own all next a event (inr goes) = subst (λ (r : Remaining). AreSet r.game) (sym goes.3) (elim goes.2 [
-      | inl is ↦ subst (λ (g : Game). AreSet g) (sym is) (applies all.game a event)
+      | inl is ↦ subst (λ (g : Game). AreSet g) (sym is) (occurs all a event)
       | inr left ↦ subst (λ (g : Game). AreSet g) (sym left.1) a
     ])
 
-    by_event : (all next : Remaining) → AreSet all.game → (event : RemainEvent) → NextRemain rules all event next
+    pub by_event : (all next : Remaining) → AreSet all.game → (event : RemainEvent) → NextRemain rules all event next
         → AreSet next.game
     by_event all next a (Own event) step = by_own all next a event step
     by_event all next a (GiveUp node player) is = subst (λ (r : Remaining). AreSet r.game) (sym is)
@@ -151,19 +169,9 @@ module _ (settings : Settings) where
     by_event all next a (Hear which) is = subst (λ (r : Remaining). AreSet r.game) (sym is)
         (hear_set all a (slice_get all.reports which))
 
-    leads : (events : List RemainEvent) (all last : Remaining) → AreSet all.game → LeadsRemain rules all events last
-        → AreSet last.game
-    leads [] all last a is = subst (λ (r : Remaining). AreSet r.game) (sym is) a
-    leads (event ∷ events) all last a way = leads events way.0 last (by_event all way.0 a event way.1) way.2
-
-    opens : AreSet (opening_game settings)
+    pub opens : AreSet (opening_game settings)
     unfolding opening_game
     opens = record {
-      nodes = λ q. record { gathers = λ e. opened (q == 0) e; played = λ e. absurd (true≢false (sym e)) };
+      nodes = λ q. record { gathers = λ e. opened (q == 0) e; played = λ e. absurd (true≢false (sym e)); plays = λ e. absurd (not_playing (q == 0) e) };
       flights = λ which flight e. absurd (none-some flight e);
     }
-
-    pub all_set : (events : List RemainEvent) (all : Remaining) → RunsRemain rules settings events all → (q : ℕ)
-        → (all.game.nodes q).played ≡ true → (all.game.nodes q).settings ≡ Some settings
-    unfolding opening_remaining
-    all_set events all run q = ((leads events (opening_remaining settings) all opens run).nodes q).played

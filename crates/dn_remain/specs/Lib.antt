@@ -1,5 +1,7 @@
 pub mod Seen
 pub mod Wary
+pub mod Running
 pub mod Remaining
 pub mod RunsRemain
+pub mod Taking
 pub mod Promise

@@ -2,13 +2,17 @@
 use Rattle.std.specs.Prelude.{ℕ, Bool, false, nat_lt, if◌then◌else◌, List, [], ◌∷◌, ◌++◌, Option, Some, None, slice_get}
 use Rattle.dn_setup.specs.Settings.{Settings}
 use Rattle.dn_machine.specs.declared.events.Event.{Event}
-use Rattle.dn_machine.specs.declared.events.Event.TheVariants.{Send, Deliver}
+use Rattle.dn_machine.specs.declared.events.Event.TheVariants.{Send, Deliver, Run}
 use Rattle.dn_machine.specs.declared.events.Refusal.{Refusal}
+use Rattle.dn_machine.specs.declared.answers.Heard.{Heard}
 use Rattle.dn_machine.specs.Flight.{Flight}
-use Rattle.dn_machine.specs.Game.{Game, opening_game, with_node, refused_at}
+use Rattle.dn_machine.specs.Game.{Game, opening_game, with_node, own_marks, refused_at, applied}
+use Rattle.dn_machine.specs.Hearing.{on_packet}
 use Rattle.dn_machine.specs.Node.{put}
 use Rattle.dn_machine.specs.Limits.{Limits}
-use Rattle.dn_remain.specs.Wary.{Report, Wary, on_give_up, on_report, report_to}
+use Rattle.dn_machine.specs.Worlds.{Rules}
+use Rattle.dn_remain.specs.Wary.{Report, Wary, from_given_up, on_give_up, on_report, report_to}
+use Rattle.dn_remain.specs.Running.{on_run_but}
 
 -- a report under way: who tells it to whom, and what
 pub record Telling : Type 0 where
@@ -87,3 +91,21 @@ abbrev pub is_barred : Remaining → Event → Bool
 is_barred all (Send node to) = all.gone node to
 is_barred all (Deliver which) = is_barred_flight all (slice_get all.game.flights which)
 is_barred all _ = false
+
+-- the answer to a packet that comes, where one of a player who is given up is dropped
+abbrev pub heard_of : Limits → Remaining → Flight → Heard
+heard_of limits all flight =
+    if all.gone flight.to flight.from
+    then Heard.Dropped from_given_up
+    else (on_packet limits flight.to (all.game.nodes flight.to) flight).1
+
+-- the game after a run, which compares no mark of a player whom its node has given up
+abbrev pub after_run : {S : Type 0} → Rules S → Remaining → ℕ → Option Refusal → Game
+after_run rules all node (Some refusal) = all.game
+after_run rules all node None = with_node all.game node
+    (on_run_but rules.limits (all.gone node) (all.game.nodes node) (own_marks rules (all.game.nodes node))).0
+
+-- the game after an event of the machine that is not barred
+abbrev pub after_event : {S : Type 0} → Rules S → Remaining → Event → Game
+after_event rules all (Run node) = after_run rules all node (refused_at rules.players all.game node)
+after_event rules all event = (applied rules all.game event).0

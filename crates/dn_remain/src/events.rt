@@ -6,7 +6,8 @@ use dn_machine::Event;
 #[derive(Clone, Copy, Debug, PartialEq, Eq)]
 pub enum RemainEvent {
     /// An event of a game of `dn_machine`. Nothing is sent to a player whom the node has given up, and
-    /// nothing of one is delivered to it: such an event changes nothing.
+    /// nothing of one is delivered to it: such an event changes nothing. Nor does a run compare the mark of
+    /// one.
     Own(Event),
     /// The node is told to give up a player: by its engine, say, or its human.
     GiveUp { node: u32, player: u32 },

@@ -1,23 +1,27 @@
 //! What holds of every game.
 
-ghost use Rattle.std.specs.Prelude.{◌≡◌, ℕ, List, [], ◌∷◌, true, false, Some, get_or, map};
+ghost use Rattle.std.specs.Prelude.{◌≡◌, ◌<◌, ℕ, ℤ, Bool, None, List, [], ◌∷◌, true, false, Some, get_or, map};
 ghost use Rattle.dn_tic.specs.declared.command.TicCmd.{TicCmd};
 ghost use Rattle.dn_setup.specs.Settings.{Settings};
 ghost use Rattle.dn_machine.specs.declared.events.Event.{Event};
 ghost use Rattle.dn_machine.specs.Game.{Game};
 ghost use Rattle.dn_machine.specs.Limits.{Limits, IsWindow, vanilla_limits};
-ghost use Rattle.dn_machine.specs.Node.{ends_of, got, lacks, ran};
+ghost use Rattle.dn_machine.specs.Node.{Node, ends_of, got, held_at, lacks, lowest, ran};
+ghost use Rattle.dn_machine.specs.Running.{is_awaited, is_off};
+ghost use Rattle.dn_machine.specs.declared.answers.Phase.TheVariants.{Playing};
+ghost use Rattle.dn_machine.specs.declared.answers.Ran.TheVariants.{Inconsistent};
 ghost use Rattle.dn_machine.specs.Promise.{Agree, Fits, Steady};
 ghost use Rattle.dn_machine.specs.Runs.{Runs};
-ghost use Rattle.dn_machine.specs.Worlds.{rules_of, rules_within};
+ghost use Rattle.dn_machine.specs.Worlds.{rules_of, rules_within, world_after};
 ghost use Rattle.dn_vanish.specs.Calls.{is_newer};
 ghost use Rattle.dn_vanish.specs.Commands.{AreHanded, Holder, past_seen, seen};
 ghost use Rattle.dn_vanish.specs.Steps.{IsRun};
 ghost use Rattle.dn_remain.specs.Seen.{end_seen, now_of};
 ghost use Rattle.dn_remain.specs.Wary.{Report, Wary, is_in_game, newest_seen, on_give_up, on_report, undecided};
+ghost use Rattle.dn_remain.specs.Running.{on_run_but};
 ghost use Rattle.dn_remain.specs.Remaining.{Remaining};
 ghost use Rattle.dn_remain.specs.RunsRemain.{NobodyGivenUp, RunsRemain};
-ghost use Rattle.dn_remain.specs.Promise.{AgreeInPairs, FitsInPairs, IsPair};
+ghost use Rattle.dn_remain.specs.Promise.{AgreeInPairs, FitsInPairs, IsPair, SteadyInPairs};
 ghost use Rattle.dn_remain.specs.declared.events.GivenUp.{GivenUp};
 ghost use Rattle.dn_remain.specs.declared.events.Reported.{Reported};
 ghost use Rattle.dn_remain.specs.declared.events.RemainEvent.{RemainEvent};
@@ -47,14 +51,22 @@ pub fn remaining_games_are_histories<W: World>()
 {}
 
 /// So, in any window: any two nodes of which neither has given up the other know the same ends, and ran the
-/// same row for each tic that both ran; any two nodes at all have the same command of a player wherever both
-/// have one, and of their demos one is a prefix of the other; no ring overwrites a command that is still
-/// needed; and every node that has started has the key player's settings.
+/// same row for each tic that both ran, so that their worlds are the same; a row has the moves of the commands
+/// that its node has, of all players but those whose ends are over; any two nodes at all have the same command
+/// of a player wherever both have one, and of their demos, which lack nobody, one is a prefix of the other; of
+/// each player at most twice the window is unread, and no packet or report brings more, so a ring of that many
+/// commands overwrites none that is still needed; no demo has more rows than it has room for; and every node
+/// that has started has the key player's settings. In windows up to twelve, where twice as many commands are
+/// kept, no consistency check fails besides, and what is dropped is dropped for a reason.
 pub fn those_who_remain_agree<W: World>()
     ensures agree { (limits : Limits) (settings : Settings) (events : List RemainEvent) (all : Remaining)
-        → RunsRemain (rules_within W.physics limits) settings events all → AgreeInPairs limits all }
+        → RunsRemain (rules_within W.physics limits) settings events all
+        → AgreeInPairs (rules_within W.physics limits) settings all }
     ensures fits { (limits : Limits) (settings : Settings) (events : List RemainEvent) (all : Remaining)
         → RunsRemain (rules_within W.physics limits) settings events all → FitsInPairs limits all }
+    ensures steady { (limits : Limits) (settings : Settings) (events : List RemainEvent) (all : Remaining)
+        → IsWindow limits → RunsRemain (rules_within W.physics limits) settings events all
+        → SteadyInPairs limits all }
     ensures settings { (limits : Limits) (settings : Settings) (events : List RemainEvent) (all : Remaining)
         → RunsRemain (rules_within W.physics limits) settings events all → (q : ℕ)
         → (all.game.nodes q).played ≡ true → (all.game.nodes q).settings ≡ Some settings }
@@ -68,8 +80,9 @@ pub fn quiet_games_are_games<W: World>()
         → (own : List Event) × Runs (rules_within W.physics limits) settings own all.game }
 {}
 
-/// So in such a game, in any window: all nodes agree, no ring overwrites a command that is still needed, and no
-/// check failed. These are the words of `every_window_agrees`.
+/// So in such a game, in any window up to twelve where twice as many commands are kept: all nodes agree, no
+/// ring overwrites a command that is still needed, and no check failed. These are the words of
+/// `every_window_agrees`.
 pub fn quiet_games_agree<W: World>()
     ensures agree { (limits : Limits) (settings : Settings) (events : List RemainEvent) (all : Remaining)
         → IsWindow limits → RunsRemain (rules_within W.physics limits) settings events all
@@ -88,6 +101,20 @@ pub fn games_are_quiet_games<W: World>()
         → Runs (rules_within W.physics limits) settings own game
         → (all : Remaining) × RunsRemain (rules_within W.physics limits) settings (map Own own) all
         × NobodyGivenUp all × (all.game ≡ game) }
+{}
+
+/// A run compares the mark of each player who takes part in the tic and whom its node has not given up: one
+/// that is off ends the node's game. It compares no other.
+pub fn marks_are_compared()
+    ensures ends { (limits : Limits) (gone : ℕ → Bool) (node : Node) (marks : ℕ → ℤ) (player : ℕ)
+        → node.phase ≡ Playing → lowest limits.players (is_awaited node) ≡ None → 12 < ran node
+        → player < limits.players → gone player ≡ false → is_off node player ≡ true
+        → (off : ℕ) × (was : ℤ) × (should : ℤ)
+        × ((on_run_but limits gone node marks).1 ≡ Inconsistent off was should) }
+    ensures spared { (limits : Limits) (gone : ℕ → Bool) (node : Node) (marks : ℕ → ℤ) (player : ℕ)
+        (was should : ℤ)
+        → (on_run_but limits gone node marks).1 ≡ Inconsistent player was should
+        → (gone player ≡ false) × (is_off node player ≡ true) }
 {}
 
 /// A game of three in the window of 1997, as an example: player 0 makes one command, which player 1 takes and
@@ -112,6 +139,22 @@ pub fn a_game_starts<W: World>()
         × (ran (all.game.nodes 0) ≡ 1) × (ran (all.game.nodes 1) ≡ 1)
         × (lacks (get_or (all.game.nodes 1).rows 0 []) 2 ≡ true)
         × (lacks (get_or (all.game.nodes 1).rows 0 []) 0 ≡ false) }
+{}
+
+/// And of three in a window of seven: player 1 hears none of player 2's commands and fourteen of player 0's,
+/// who ran tics with player 2; it gives up both, and runs the tics without player 2. Player 0's command for
+/// tic 13 carries the mark of player 0's own world, in which player 2 took part, and which is not player 1's.
+/// It is not compared, and player 1 goes on.
+pub fn a_wide_game_goes_on<W: World>()
+    ensures { (settings : Settings) → (limits : Limits) × IsWindow limits × (limits.ahead ≡ 7)
+        × (events : List RemainEvent) × (all : Remaining)
+        × RunsRemain (rules_within W.physics limits) settings events all
+        × (all.gone 1 0 ≡ true) × (ran (all.game.nodes 1) ≡ 14)
+        × (lacks (get_or (all.game.nodes 1).rows 13 []) 0 ≡ false)
+        × (lacks (get_or (all.game.nodes 0).rows 0 []) 2 ≡ false)
+        × (lacks (get_or (all.game.nodes 1).rows 0 []) 2 ≡ true)
+        × ((held_at (all.game.nodes 1) 0 13).mark
+        ≡ W.physics.mark (world_after (rules_within W.physics limits) settings (all.game.nodes 0).rows 1) 0) }
 {}
 
 /// What is answered is so. A node that has decided knows the ends of all whom it has given up, and has the

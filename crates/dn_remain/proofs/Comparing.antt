@@ -1,0 +1,52 @@
+-- Which marks a run compares.
+use Rattle.std.proofs.Common.{◌≡◌, ℕ, ℤ, ◌<◌, ◌∙◌, ap, arith, inl, inr, ltb}
+use Rattle.std.specs.Prelude.{Bool, true, false, not, Some, None}
+use Rattle.std.proofs.lemmas.Bool.{both_ways, and_from, and_parts, cond-true, lt-ltb, not-true}
+use Rattle.dn_machine.specs.declared.answers.Phase.TheVariants.{Playing}
+use Rattle.dn_machine.specs.declared.answers.Ran.TheVariants.{Inconsistent}
+use Rattle.dn_machine.specs.Limits.{Limits}
+use Rattle.dn_machine.specs.Node.{Node, held_at, own_mark, lowest, ran}
+use Rattle.dn_machine.specs.Running.{is_awaited, is_off}
+use Rattle.dn_machine.proofs.Marks.{lowest_none_each}
+use Rattle.dn_vanish.proofs.Mild.{cases_Option}
+use Rattle.dn_remain.specs.Running.{is_off_but, first_off_but, on_run_but}
+use Rattle.dn_remain.proofs.Steady.{lowest_passes}
+
+module _ (limits : Limits) (gone : ℕ → Bool) (node : Node) (marks : ℕ → ℤ) where
+  fails : (off : ℕ) → node.phase ≡ Playing → lowest limits.players (is_awaited node) ≡ None
+      → first_off_but limits gone node ≡ Some off
+      → (on_run_but limits gone node marks).1 ≡ Inconsistent off (held_at node off (ran node)).mark
+      (own_mark node off (ran node))
+  unfolding on_run_but
+  fails off plays nobody is = grind arith
+
+  found : (player : ℕ) (was should : ℤ) → (on_run_but limits gone node marks).1 ≡ Inconsistent player was should
+      → lowest limits.players (is_off_but gone node) ≡ Some player
+  unfolding on_run_but
+  found player was should h = grind arith
+
+  pub ends : (player : ℕ) → node.phase ≡ Playing → lowest limits.players (is_awaited node) ≡ None
+      → 12 < ran node
+      → player < limits.players → gone player ≡ false → is_off node player ≡ true
+      → (off : ℕ) × (was : ℤ) × (should : ℤ) × ((on_run_but limits gone node marks).1 ≡ Inconsistent off was
+      should)
+  ends player plays nobody late low here off = elim (cases_Option (lowest limits.players
+      (is_off_but gone node))) [
+        | inl none ↦ absurd (both_ways (is_off_but gone node player)
+            (lowest_none_each limits.players (is_off_but gone node) none player low)
+            (and_from (not (gone player)) (is_off node player) (ap not here) off))
+        | inr some ↦ (
+          some.0,
+          (held_at node some.0 (ran node)).mark,
+          own_mark node some.0 (ran node),
+          fails some.0 plays nobody (cond-true (ltb 12 (ran node)) _ _ (lt-ltb 12 (ran node) late) ∙ some.1),
+        )
+      ]
+
+  pub spared : (player : ℕ) (was should : ℤ)
+      → (on_run_but limits gone node marks).1 ≡ Inconsistent player was should
+      → (gone player ≡ false) × (is_off node player ≡ true)
+  spared player was should h =
+      let parts = and_parts (not (gone player)) (is_off node player)
+      (lowest_passes limits.players (is_off_but gone node) player (found player was should h)) in
+      (not-true (gone player) parts.0, parts.1)

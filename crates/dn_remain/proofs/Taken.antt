@@ -1,0 +1,106 @@
+-- What is decided can be taken.
+use Rattle.std.proofs.Common.{◌≡◌, ℕ, ◌+◌, ◌<◌, ◌≤◌, refl, sym, ◌∙◌, ap, subst, arith, inl, inr, List, ◌∷◌, length, drop}
+use Rattle.std.specs.Prelude.{true, false, Some}
+use Rattle.std.proofs.lemmas.Bool.{both_ways, cond-true}
+use Rattle.dn_tic.specs.declared.command.TicCmd.{TicCmd}
+use Rattle.dn_machine.specs.Game.{with_node}
+use Rattle.dn_machine.specs.Node as machine
+use Rattle.dn_machine.specs.Node.{put, ran, has_left}
+use Rattle.dn_machine.specs.Promise.{IsPrefixOf}
+use Rattle.dn_machine.specs.Worlds.{Rules}
+use Rattle.dn_machine.proofs.Put.{put_at, put_off}
+use Rattle.dn_vanish.specs.Commands.{Holder, Had, seen, past_seen}
+use Rattle.dn_vanish.specs.Decisions.{longest, told, on_decision}
+use Rattle.dn_vanish.proofs.Always.{always}
+use Rattle.dn_vanish.proofs.Catching.{begins}
+use Rattle.dn_vanish.proofs.Fitting.{fits}
+use Rattle.dn_vanish.proofs.Handing.{handed}
+use Rattle.dn_vanish.proofs.Invariant.{IsKept}
+use Rattle.dn_vanish.proofs.Lists.{own_below}
+use Rattle.dn_remain.specs.Seen.{end_seen, holder_of, now_of}
+use Rattle.dn_remain.specs.Wary.{Wary, or_fresh, can_settle, settled}
+use Rattle.dn_remain.specs.Remaining.{Remaining, wary_of, with_wary}
+use Rattle.dn_remain.specs.Taking.{CanBeTaken}
+use Rattle.dn_remain.proofs.Followed.{IsFollowed, AreFollowed, anchored}
+use Rattle.dn_remain.proofs.Histories
+use Rattle.dn_remain.proofs.Known.{Follows}
+use Rattle.dn_remain.proofs.Places.{there}
+use Rattle.dn_remain.proofs.Seeing.{length_rows}
+use Rattle.dn_remain.proofs.Settling.{settles}
+
+module _ {S : Type 0} (known : ℕ → Holder TicCmd → Type 0) (rules : Rules S) (all : Remaining)
+    (older : List (ℕ → Holder TicCmd)) (f : IsFollowed known rules all older) (q : ℕ) (mine : q < rules.players)
+    (here : has_left (all.game.nodes q) ≡ false) (can : can_settle rules.limits q (wary_of all q) ≡ true) where
+  abbrev after : machine.Node
+  after = settled (all.game.nodes q) (all.gone q)
+      (on_decision rules.players q (holder_of (all.game.nodes q) (all.gone q)) (λ r. or_fresh (all.newest q r)))
+
+  -- the game after the decision, and its history
+  abbrev later : ℕ → Holder TicCmd
+  later = now_of (with_node all.game q after) (put all.gone q (all.gone q))
+
+  went : Follows (Had (now_of all.game all.gone ∷ older)) rules (with_node all.game q after)
+      (put all.gone q (all.gone q)) (now_of all.game all.gone ∷ older)
+  went = settles (Had (now_of all.game all.gone ∷ older)) rules all.game all.gone older
+      (anchored known rules all older f) q mine here (all.newest q) (f.newest q) can
+
+  node_is : put all.game.nodes q after q ≡ after
+  node_is = put_at all.game.nodes q q after refl
+
+  kept : IsKept rules.players (past_seen (later ∷ now_of all.game all.gone ∷ older))
+  kept = always rules.players rules.ahead (past_seen (later ∷ now_of all.game all.gone ∷ older)) went.run
+
+  other : (p : ℕ) → all.gone q p ≡ true → (p ≡ q → ⊥)
+  other p t e = both_ways (all.gone q p)
+      (ap (all.gone q) e ∙ (kept.sound q (seen (now_of all.game all.gone q)) (inr (inl refl))).own) t
+
+  room : (p : ℕ) → length (after.held p) ≤ ran (all.game.nodes q) + (rules.ahead + rules.ahead)
+  room p =
+      let a = (fits rules.players rules.ahead (past_seen (later ∷ now_of all.game all.gone ∷ older))
+      went.run).unread q p (seen (later q)) mine (inl refl) in
+      let b = length_rows (end_seen (put all.game.nodes q after q)) (ran (put all.game.nodes q after q)) in
+      let c = ap (λ (n : machine.Node). length (n.held p)) node_is in
+      let d = ap (λ (n : machine.Node). ran n) node_is in
+      omega arith
+
+  made : (p : ℕ) → all.gone q p ≡ true → IsPrefixOf (after.held p) ((all.game.nodes p).held p)
+  made p t = subst (λ (n : machine.Node). IsPrefixOf (after.held p) (n.held p))
+      (put_off all.game.nodes q p after (other p t))
+      (subst (λ (n : machine.Node). IsPrefixOf (n.held p) ((put all.game.nodes q after p).held p)) node_is
+      (handed (later ∷ now_of all.game all.gone ∷ older) went.handed q p (later q) (inl refl)))
+
+  front : (p : ℕ) → all.gone q p ≡ true → IsPrefixOf ((all.game.nodes q).held p) (after.held p)
+  front p t =
+      let a = own_below rules.players q (holder_of (all.game.nodes q) (all.gone q))
+      (λ r. or_fresh (all.newest q r)) p mine in
+      let b = ap (length {A = TicCmd}) (cond-true (all.gone q p)
+      (longest rules.players
+      (told q (holder_of (all.game.nodes q) (all.gone q)) (λ r. or_fresh (all.newest q r)) p))
+      ((all.game.nodes q).held p) t) in (
+        drop (length ((all.game.nodes q).held p)) (after.held p),
+        begins ((all.game.nodes q).held p) (after.held p) ((all.game.nodes p).held p)
+            (handed (now_of all.game all.gone ∷ older) f.follows.handed q p (now_of all.game all.gone q)
+            (inl refl))
+            (made p t) (omega arith),
+      )
+
+  same_end : (p end : ℕ) → end_seen (all.game.nodes q) p ≡ Some end → length (after.held p) ≡ end
+  same_end p end s = sym (ap (λ (n : machine.Node). length (n.held p)) node_is)
+      ∙ (kept.sound q (seen (later q)) (inl refl)).full p end
+      ((kept.order q (seen (now_of all.game all.gone q)) (inr (inl refl))).ends p end s)
+
+  pub taken : CanBeTaken rules.limits all q
+  taken = record {
+    front = front;
+    made = made;
+    room = λ p t. room p;
+    known = λ p end t s. same_end p end s;
+  }
+
+-- in the place of node `q` one that can decide
+pub taken_of : {S : Type 0} (rules : Rules S) (all : Remaining) (q : ℕ) (wary : Wary)
+    → AreFollowed Histories.known rules (with_wary all q wary) → q < rules.players → has_left wary.node ≡ false
+    → can_settle rules.limits q wary ≡ true → CanBeTaken rules.limits (with_wary all q wary) q
+taken_of rules all q wary (older, f) mine here can = taken Histories.known rules (with_wary all q wary) older f
+    q mine (ap (λ (n : machine.Node). has_left n) (put_at all.game.nodes q q wary.node refl) ∙ here)
+    (ap (λ (w : Wary). can_settle rules.limits q w) (there all q wary) ∙ can)
