@@ -1,0 +1,7 @@
+pub mod Bits
+pub mod Lengths
+pub mod Once
+pub mod Orders
+pub mod Pieces
+pub mod Readings
+pub mod Tails
