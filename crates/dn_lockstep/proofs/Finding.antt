@@ -11,11 +11,11 @@ use Rattle.dn_machine.specs.Node as machine
 use Rattle.dn_tic.specs.declared.command.Move.{Move}
 use Rattle.dn_machine.proofs.Demos.{seat_is}
 use Rattle.dn_machine.specs.Node.{blank, held_at, own_mark, lowest}
-use Rattle.dn_machine.specs.Running.{is_over, is_absent, is_awaited, is_off, first_off, row_held, tic_limit, full_at}
+use Rattle.dn_machine.specs.Running.{is_over, is_absent, is_awaited, is_off, is_off_but, first_off_but, row_held, tic_limit, full_at}
 use Rattle.dn_lockstep.specs.Contents.{Contents}
 use Rattle.dn_lockstep.specs.Represents.{Represents}
 use Rattle.dn_lockstep.specs.Rings.{count_of}
-use Rattle.dn_lockstep.specs.Rows.{mark_in_command, mark_at, differs, move_held, is_missing, is_gone}
+use Rattle.dn_lockstep.specs.Rows.{mark_in_command, mark_at, differs, differs_but, move_held, is_missing, is_gone}
 use Rattle.dn_lockstep.proofs.Counting.{below, got_is}
 use Rattle.dn_lockstep.proofs.Keeping.{get_kept, get_some}
 use Rattle.std.proofs.lemmas.Option.{none-some}
@@ -70,23 +70,24 @@ module _ {limits : Limits} {me : ℕ} {n : Contents} {m : machine.Node}
           && not (int_eq (mark_is p (inside p h) i) (should_is p (inside p h) present i))
     ]
 
-    pub finds_off : (found : Option ℕ)
-        → found ≡ (if nat_lt 12 n.ran then lowest n.players (differs n.rings n.peers n.marks n.ran) else None)
-        → first_off limits m ≡ found
-    finds_off found e =
-        let same = ap (λ (k : ℕ). lowest k (differs n.rings n.peers n.marks n.ran)) r.whose.players
-        ∙ lowest_same limits.players _ _ differs_is in
+    pub finds_off : (gone : ℕ → Bool) (found : Option ℕ)
+        → found ≡ (if nat_lt 12 n.ran
+        then lowest n.players (differs_but gone n.rings n.peers n.marks n.ran) else None)
+        → first_off_but limits gone m ≡ found
+    finds_off gone found e =
+        let same = ap (λ (k : ℕ). lowest k (differs_but gone n.rings n.peers n.marks n.ran)) r.whose.players
+        ∙ lowest_same limits.players _ _ (λ p h. λ i. not (gone p) && differs_is p h i) in
         sym (e ∙ (λ i. if nat_lt 12 (r.table.ran i) then same i else None))
 
     -- one whose mark is off is not absent
-    pub off_present : (p : ℕ) → first_off limits m ≡ Some p → is_absent m p ≡ false
-    off_present p e = go (nat_lt 12 (machine.ran m)) e
+    pub off_present : (gone : ℕ → Bool) (p : ℕ) → first_off_but limits gone m ≡ Some p → is_absent m p ≡ false
+    off_present gone p e = go (nat_lt 12 (machine.ran m)) e
       where
-        go : (late : Bool) → (if late then lowest limits.players (is_off m) else None) ≡ Some p
+        go : (late : Bool) → (if late then lowest limits.players (is_off_but gone m) else None) ≡ Some p
             → is_absent m p ≡ false
         go true e =
-            not-true (is_absent m p)
-            (and_parts (not (is_absent m p)) _ (lowest_passes limits.players p (is_off m) e)).0
+            let both = and_parts (not (gone p)) (is_off m p) (lowest_passes limits.players p (is_off_but gone m) e) in
+            not-true (is_absent m p) (and_parts (not (is_absent m p)) _ both.1).0
         go false e = absurd (none-some p e)
 
     -- where no command is missing

@@ -1,5 +1,5 @@
 -- The commands of one tic by the rings.
-use Rattle.std.specs.Prelude.{ℕ, ◌%◌, ℤ, pos, is_some, Bool, not, ◌&&◌, List, Option, Some, None, nat_lt, nat_le, if◌then◌else◌}
+use Rattle.std.specs.Prelude.{ℕ, ◌%◌, ℤ, pos, is_some, get_or, Bool, false, not, ◌&&◌, List, Option, Some, None, nat_lt, nat_le, if◌then◌else◌}
 use Rattle.std.specs.Option.{option_map}
 use Rattle.std.specs.Ordering.{int_eq}
 use Rattle.dn_tic.specs.declared.command.TicCmd.{TicCmd}
@@ -40,6 +40,15 @@ is_missing rings peers tic player = not (is_gone peers tic player) && nat_le (ri
 abbrev pub differs : (ℕ → Ring) → (ℕ → Peer) → (ℕ → ℕ → ℤ) → ℕ → ℕ → Bool
 differs rings peers marks tic player =
     not (is_gone peers tic player) && not (int_eq (mark_at rings tic player) (marks player (tic % 12)))
+
+-- a set has this player
+abbrev pub has : List Bool → ℕ → Bool
+has set player = get_or set player false
+
+-- the same of a player who is not given up
+abbrev pub differs_but : (ℕ → Bool) → (ℕ → Ring) → (ℕ → Peer) → (ℕ → ℕ → ℤ) → ℕ → ℕ → Bool
+differs_but given_up rings peers marks tic player =
+    not (given_up player) && differs rings peers marks tic player
 
 -- the used move of a player's command for a tic, and none of one who is gone
 abbrev pub move_held : (ℕ → Ring) → (ℕ → Peer) → ℕ → ℕ → ℕ → Option Move

@@ -23,7 +23,7 @@ is_no_peer players me player = not (nat_lt player players) || player == me
 abbrev pub has_gap : ℕ → ℕ → ℕ → List TicCmd → Bool
 has_gap got end first commands = nat_lt got end && (nat_lt got first || nat_lt (first + length commands) end)
 
--- an end that is known stands against this one: it is earlier, or tics were run from it on, and this is
+-- an end that is known stands against this one: it is earlier, or all tics before it were run, and this is
 -- another. A later one, as an EXIT packet past a gap has told it, gives way: nobody who remains has all
 -- commands before it
 abbrev pub is_other_end : ℕ → Option ℕ → ℕ → Bool

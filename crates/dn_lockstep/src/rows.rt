@@ -8,7 +8,7 @@ ghost use Rattle.dn_machine.specs.Limits.{four};
 ghost use Rattle.dn_lockstep.specs.Rings.{ring_at};
 ghost use Rattle.dn_lockstep.specs.Marks.{slot};
 ghost use Rattle.dn_lockstep.specs.Peers.{peer_at};
-ghost use Rattle.dn_lockstep.specs.Rows.{seats_of, mark_at, move_held, differs, is_missing, is_gone, has_gone};
+ghost use Rattle.dn_lockstep.specs.Rows.{seats_of, mark_at, move_held, differs, differs_but, has, is_missing, is_gone, has_gone};
 
 use crate::marks::Marks;
 use crate::peers::Peers;
@@ -62,29 +62,48 @@ pub(crate) fn mark_of(rings: &Rings, player: u8, tic: u32) -> i16
     rings.at(player, tic).mark
 }
 
-/// The lowest player, of those who are not gone, whose command carries another mark than the table has.
-fn differing(rings: &Rings, peers: &Peers, marks: &Marks, players: u8, tic: u32) -> Option<u8>
+/// Whether the player is not gone, and the command carries another mark than the table has.
+fn is_differing(rings: &Rings, peers: &Peers, marks: &Marks, player: u8, tic: u32) -> bool
+    requires place { player < 4 }
+    requires there { is_missing (ring_at rings.now) (peer_at peers.now) tic player ≡ false }
+    requires kept { (ring_at rings.now player).count ≤ tic + 32 }
+    ensures differs { result ≡ differs (ring_at rings.now) (peer_at peers.now) (slot marks.now) tic player }
+    ensures there { result ≡ true → tic < (ring_at rings.now player).count }
+{
+    !gone(peers, player, tic) && mark_of(rings, player, tic) != marks.get(player, tic)
+}
+
+/// The lowest player, of those who are not given up, whose command carries another mark than the table has.
+fn differing(
+    rings: &Rings,
+    peers: &Peers,
+    given_up: &[bool; 4],
+    marks: &Marks,
+    players: u8,
+    tic: u32,
+) -> Option<u8>
     requires few { players ≤ 4 }
     requires there { lowest players (is_missing (ring_at rings.now) (peer_at peers.now) tic) ≡ None }
     requires kept { (p : ℕ) → p < players → (ring_at rings.now p).count ≤ tic + 32 }
     ensures below { IfSome result (λ p. p < players) }
     ensures there { IfSome result (λ p. tic < (ring_at rings.now p).count) }
-    ensures lowest { result ≡ lowest players
-        (differs (ring_at rings.now) (peer_at peers.now) (slot marks.now) tic) }
+    ensures lowest { result ≡ lowest players (differs_but (has given_up.now)
+        (ring_at rings.now) (peer_at peers.now) (slot marks.now) tic) }
 {
     for player in 0..players {
-        if !gone(peers, player, tic) && mark_of(rings, player, tic) != marks.get(player, tic) {
+        if !given_up[usize::from(player)] && is_differing(rings, peers, marks, player, tic) {
             return Some(player);
         }
     }
     None
 }
 
-/// The lowest player whose command is off: it carries another mark than the table has, for a tic whose
-/// marks are compared.
+/// The lowest player, of those who are not given up, whose command is off: it carries another mark than the
+/// table has, for a tic whose marks are compared.
 pub(crate) fn first_off(
     rings: &Rings,
     peers: &Peers,
+    given_up: &[bool; 4],
     marks: &Marks,
     players: u8,
     tic: u32,
@@ -95,10 +114,11 @@ pub(crate) fn first_off(
     ensures below { IfSome result (λ p. p < players) }
     ensures there { IfSome result (λ p. tic < (ring_at rings.now p).count) }
     ensures lowest { result ≡ (if nat_lt 12 tic
-        then lowest players (differs (ring_at rings.now) (peer_at peers.now) (slot marks.now) tic)
+        then lowest players (differs_but (has given_up.now)
+        (ring_at rings.now) (peer_at peers.now) (slot marks.now) tic)
         else None) }
 {
-    let off = differing(rings, peers, marks, players, tic);
+    let off = differing(rings, peers, given_up, marks, players, tic);
     if tic > LAST_UNCHECKED { off } else { None }
 }
 

@@ -7,7 +7,7 @@ use Rattle.dn_machine.specs.declared.answers.Phase.TheVariants.{Playing}
 use Rattle.dn_machine.specs.Limits.{Limits}
 use Rattle.dn_machine.specs.Node.{Node, held_at, own_mark, lowest, ran}
 use Rattle.dn_machine.specs.declared.answers.Ran.{Ran}
-use Rattle.dn_machine.specs.Running.{is_awaited, is_off, first_off, row_held, full_at, on_run}
+use Rattle.dn_machine.specs.Running.{is_awaited, is_off, first_off, row_held, full_at, on_run, is_off_but, first_off_but, on_run_but}
 use Rattle.dn_machine.proofs.Calls.{ended_by, ran_on}
 use Rattle.dn_machine.proofs.Put.{same_functions}
 use Rattle.dn_machine.specs.declared.events.Event.{Event}
@@ -18,7 +18,6 @@ use Rattle.dn_machine.specs.Runs.{Next}
 use Rattle.dn_machine.specs.Worlds.{Rules}
 use Rattle.dn_remain.specs.Remaining.{Remaining, after_run, after_event}
 use Rattle.dn_remain.specs.RunsRemain.{NextGame, NobodyGivenUp}
-use Rattle.dn_remain.specs.Running.{is_off_but, first_off_but, on_run_but}
 
 -- all that may happen but a run
 abbrev pub IsNoRun : Event → Type 0

@@ -8,7 +8,7 @@ use Rattle.dn_machine.specs.Game.{applied, opening_game}
 use Rattle.dn_machine.specs.Building.{on_build}
 use Rattle.dn_machine.specs.Sending.{on_send}
 use Rattle.dn_machine.specs.Hearing.{on_packet}
-use Rattle.dn_remain.specs.Running.{on_run_but}
+use Rattle.dn_machine.specs.Running.{on_run_but}
 use Rattle.dn_machine.specs.Limits.{row_of, vanilla_limits}
 use Rattle.dn_machine.specs.Node.{ran, lacks, lowest}
 use Rattle.dn_machine.specs.Worlds.{Rules, rules_of}

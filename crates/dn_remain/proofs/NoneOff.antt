@@ -8,11 +8,10 @@ use Rattle.dn_machine.specs.declared.answers.Phase.TheVariants.{Playing}
 use Rattle.dn_machine.specs.Game.{Game}
 use Rattle.dn_machine.specs.Node as machine
 use Rattle.dn_machine.specs.Node.{blank, got, made, held_at, own_mark, lowest}
-use Rattle.dn_machine.specs.Running.{is_absent, is_awaited, is_off, first_off}
+use Rattle.dn_machine.specs.Running.{is_absent, is_awaited, is_off, first_off, is_off_but, first_off_but}
 use Rattle.dn_machine.specs.Worlds.{Rules}
 use Rattle.dn_machine.proofs.Marks.{lowest_none, same_passes}
 use Rattle.dn_vanish.specs.Commands.{Holder, Had}
-use Rattle.dn_remain.specs.Running.{is_off_but, first_off_but}
 use Rattle.dn_remain.specs.Seen.{now_of}
 use Rattle.dn_remain.proofs.Known.{Follows}
 use Rattle.dn_remain.proofs.Marked.{IsMarked}

@@ -18,7 +18,7 @@ use Rattle.dn_machine.specs.declared.answers.Phase.TheVariants.{Playing}
 use Rattle.dn_machine.specs.Game.{Game, own_marks}
 use Rattle.dn_machine.specs.Node as machine
 use Rattle.dn_machine.specs.Node.{blank, ends_of, got, made, held_at, own_mark, lowest, is_whole, demo_rows}
-use Rattle.dn_machine.specs.Running.{tic_limit, full_at, is_absent, row_held, marks_kept}
+use Rattle.dn_machine.specs.Running.{tic_limit, full_at, is_absent, row_held, marks_kept, on_run_but}
 use Rattle.dn_machine.specs.Worlds.{Rules, mark_in, world_after}
 use Rattle.dn_machine.proofs.Calls.{ended_by, ran_on}
 use Rattle.dn_machine.proofs.Demos.{front_short, front_stops, whole_more}
@@ -26,7 +26,6 @@ use Rattle.dn_machine.proofs.Put.{put_at, put_off}
 use Rattle.dn_vanish.specs.Node.{is_over}
 use Rattle.dn_vanish.specs.Commands.{Holder, Had, seen, past_seen}
 use Rattle.dn_vanish.proofs.Windows.{roomy}
-use Rattle.dn_remain.specs.Running.{on_run_but}
 use Rattle.dn_remain.specs.Seen.{end_seen, now_of}
 use Rattle.dn_remain.proofs.ButRuns.{run_but_cases}
 use Rattle.dn_remain.proofs.NoneOff.{none_off}

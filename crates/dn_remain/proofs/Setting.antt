@@ -15,9 +15,8 @@ use Rattle.dn_machine.specs.Node.{Node, put}
 use Rattle.dn_machine.specs.Building.{on_build}
 use Rattle.dn_machine.specs.Sending.{set_up_flight, on_send}
 use Rattle.dn_machine.specs.Hearing.{on_packet}
-use Rattle.dn_machine.specs.Running.{on_quit}
+use Rattle.dn_machine.specs.Running.{on_quit, on_run_but}
 use Rattle.dn_machine.proofs.Calls.{build_cases, send_cases, quit_cases, packet_cases}
-use Rattle.dn_remain.specs.Running.{on_run_but}
 use Rattle.dn_remain.proofs.ButRuns.{run_but_cases}
 use Rattle.dn_remain.specs.Wary.{Report, settled, noted_gone}
 

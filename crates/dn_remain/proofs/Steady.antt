@@ -11,7 +11,7 @@ use Rattle.dn_machine.specs.Drops as drops
 use Rattle.dn_machine.specs.Limits.{Limits, IsWindow}
 use Rattle.dn_machine.specs.Node as machine
 use Rattle.dn_machine.specs.Node.{ends_of, got, is_ended, has_left, lowest}
-use Rattle.dn_machine.specs.Running.{is_over, is_absent, is_awaited, on_run}
+use Rattle.dn_machine.specs.Running.{is_over, is_absent, is_awaited, on_run, on_run_but}
 use Rattle.dn_machine.specs.Worlds.{Rules}
 use Rattle.dn_vanish.specs.Calls.{is_newer}
 use Rattle.dn_vanish.specs.Node.{Within}
@@ -20,7 +20,6 @@ use Rattle.dn_vanish.proofs.Always.{always}
 use Rattle.dn_vanish.proofs.Handing.{was_seen}
 use Rattle.dn_vanish.proofs.Undecided.{steady}
 use Rattle.dn_remain.specs.declared.events.Reported.TheVariants as Reported
-use Rattle.dn_remain.specs.Running.{on_run_but}
 use Rattle.dn_remain.specs.Seen.{now_of}
 use Rattle.dn_remain.specs.Wary.{Report, Wary, from_given_up, newest_seen, can_settle, on_report}
 use Rattle.dn_remain.specs.Remaining.{Telling, Remaining, wary_of}

@@ -1,6 +1,5 @@
 pub mod Seen
 pub mod Wary
-pub mod Running
 pub mod Remaining
 pub mod RunsRemain
 pub mod Taking

@@ -12,13 +12,12 @@ use Rattle.dn_machine.specs.Flight.{Flight, end_of}
 use Rattle.dn_machine.specs.Limits.{Limits}
 use Rattle.dn_machine.specs.Node.{got, made, ran, held_at, has_left, lacks, demo_rows}
 use Rattle.dn_machine.specs.Promise.{IsPrefixOf}
-use Rattle.dn_machine.specs.Running.{tic_limit, on_run}
+use Rattle.dn_machine.specs.Running.{tic_limit, on_run, on_run_but}
 use Rattle.dn_machine.specs.Worlds.{Rules, world_after}
 use Rattle.dn_vanish.specs.Node.{Within, is_over}
 use Rattle.dn_remain.specs.declared.events.Reported.TheVariants as Reported
 use Rattle.dn_remain.specs.Seen.{end_seen, holder_of, row_had}
 use Rattle.dn_remain.specs.Wary.{Report, from_given_up, on_report, undecided}
-use Rattle.dn_remain.specs.Running.{on_run_but}
 use Rattle.dn_remain.specs.Remaining.{Telling, Remaining, wary_of, heard_of}
 
 -- two players of the game, of whom neither has given up the other; one of them may have left

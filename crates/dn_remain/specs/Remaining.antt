@@ -12,7 +12,7 @@ use Rattle.dn_machine.specs.Node.{put}
 use Rattle.dn_machine.specs.Limits.{Limits}
 use Rattle.dn_machine.specs.Worlds.{Rules}
 use Rattle.dn_remain.specs.Wary.{Report, Wary, from_given_up, on_give_up, on_report, report_to}
-use Rattle.dn_remain.specs.Running.{on_run_but}
+use Rattle.dn_machine.specs.Running.{on_run_but}
 
 -- a report under way: who tells it to whom, and what
 pub record Telling : Type 0 where

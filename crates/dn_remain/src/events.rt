@@ -43,7 +43,7 @@ pub enum Reported {
     Excluded,
     /// It is older than the newest of its sender; nothing changed.
     Stale,
-    /// Nothing changed, for this reason, by the numbers of drops: 13 the node does not play, 15 it has given up
-    /// the sender.
+    /// Nothing changed, for this reason, by the numbers of drops: 13 the node has no settings, or has ended, 15
+    /// it has given up the sender.
     Dropped(u8),
 }

@@ -5,7 +5,7 @@ ghost use Rattle.dn_machine.specs.declared.answers.Phase.TheVariants.{Playing};
 ghost use Rattle.dn_machine.specs.declared.answers.Ran.TheVariants as Ran;
 ghost use Rattle.dn_machine.specs.declared.answers.Ran.TheVariants.{Waiting, NotPlaying};
 ghost use Rattle.dn_machine.specs.Node.{lowest};
-ghost use Rattle.dn_lockstep.specs.Rows.{is_missing};
+ghost use Rattle.dn_lockstep.specs.Rows.{has, is_missing};
 ghost use Rattle.dn_lockstep.specs.Runs.{told_by};
 
 use super::Lockstep;
@@ -25,7 +25,7 @@ fn told_by(ran: Ran, row: [Option<Move>; 4]) -> Option<[Option<Move>; 4]>
 }
 
 impl Lockstep {
-    ghost use Rattle.dn_machine.specs.Running.{on_run, on_run_playing, row_held};
+    ghost use Rattle.dn_machine.specs.Running.{on_run, on_run_but, on_run_playing, row_held};
     ghost use Rattle.dn_lockstep.specs.Contents.{contents};
     ghost use Rattle.dn_lockstep.specs.Runs.{RunsBy};
     ghost use Rattle.dn_lockstep.specs.Steps.{Tells};
@@ -65,6 +65,32 @@ impl Lockstep {
         ensures full { result ≡ Ran.DemoFull → Tells (contents self.old) (λ limits me m.
             row.new ≡ row_held limits m) }
     {
+        self.run_without(&[false; 4], marks, row)
+    }
+
+    /// Runs the next tic as `run_into` does, for a caller who has given up these players: it compares no mark of
+    /// theirs. They went another way, so their marks may tell of another world. It waits for their commands as
+    /// for any, up to the ends that `settle` took, and they are in the row.
+    #[inline(always)]
+    pub fn run_without(
+        &mut self,
+        given_up: &[bool; 4],
+        marks: &[i16; 4],
+        row: &mut [Option<Move>; 4],
+    ) -> Ran
+        ensures step { RunsBy marks.now (contents self.old) (contents self.new)
+            (λ limits m marks. on_run_but limits (has given_up.now) m marks)
+            (λ ran told. (result ≡ ran) × (told_by result row.new ≡ told)) }
+        ensures further { (tic : ℕ) → result ≡ Ran.Ran tic
+            → (contents self.new).ran ≡ (contents self.old).ran + 1 }
+        ensures waits { (player : ℕ) → result ≡ Waiting player
+            → (contents self.new ≡ contents self.old) × (row.new ≡ row.old) }
+        ensures idle { result ≡ NotPlaying → (contents self.new ≡ contents self.old) × (row.new ≡ row.old) }
+        ensures off { (player : ℕ) (was should : ℤ) → result ≡ Ran.Inconsistent player was should
+            → row.new ≡ row.old }
+        ensures full { result ≡ Ran.DemoFull → Tells (contents self.old) (λ limits me m.
+            row.new ≡ row_held limits m) }
+    {
         let Phase::Playing = self.phase else {
             return Ran::NotPlaying;
         };
@@ -72,7 +98,14 @@ impl Lockstep {
         if let Some(player) = awaited(&self.rings, &self.peers, self.players, tic) {
             return Ran::Waiting(player);
         }
-        if let Some(player) = first_off(&self.rings, &self.peers, &self.marks, self.players, tic) {
+        if let Some(player) = first_off(
+            &self.rings,
+            &self.peers,
+            given_up,
+            &self.marks,
+            self.players,
+            tic,
+        ) {
             let was = mark_of(&self.rings, player, tic);
             let should = self.marks.get(player, tic);
             self.finish(Cause::Inconsistent {

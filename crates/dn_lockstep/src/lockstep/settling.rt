@@ -31,7 +31,7 @@ pub enum Settled {
     Overrun,
     /// A missing command would end a demo.
     Stopper,
-    /// An earlier end of the player is known, or tics were run from another one on.
+    /// An earlier end of the player is known, or all tics before another one were run.
     OtherEnd,
 }
 
@@ -50,8 +50,8 @@ fn missing(got: u32, end: u32, first: u32, commands: &[TicCmd]) -> Option<&[TicC
     commands.get((got - first) as usize..(end - first) as usize)
 }
 
-/// Whether an end that is known stands against this one: it is earlier, or tics were run from it on, and this
-/// is another.
+/// Whether an end that is known stands against this one: it is earlier, or all tics before it were run, and
+/// this is another.
 fn is_other_end(ran: u32, known: Option<u32>, end: u32) -> bool
     ensures { result ≡ is_other_end ran known end }
 {

@@ -3,9 +3,9 @@ use Rattle.dn_machine.specs.Node.{lowest}
 use Rattle.dn_lockstep.specs.Rings.{ring_at}
 use Rattle.dn_lockstep.specs.Marks.{slot}
 use Rattle.dn_lockstep.specs.Peers.{peer_at}
-use Rattle.dn_lockstep.specs.Rows.{differs}
+use Rattle.dn_lockstep.specs.Rows.{differs_but, has}
 use Rattle.dn_lockstep.proofs.rows.differing.Given as goal
 
 abbrev pub invariant-loop-player : goal.invariant-loop-player
-invariant-loop-player l = lowest l.player (differs (ring_at l.rings) (peer_at l.peers) (slot l.marks) l.tic)
-    ≡ None
+invariant-loop-player l = lowest l.player
+    (differs_but (has l.given_up) (ring_at l.rings) (peer_at l.peers) (slot l.marks) l.tic) ≡ None

@@ -3,6 +3,7 @@
 use super::{FORWARD, IDLE, NO_KEYS, SPEED, build, given, pair, pass, quit, received, tics};
 use dn_lockstep::{Cause, Heard, Lockstep, Phase, Ran};
 use dn_packet::decode;
+use std::alloc::Global;
 use std::process::Abort;
 use std::test::Fail;
 
@@ -32,18 +33,24 @@ fn marks_come_back_twelve_tics_on(rt: HostRuntime) {
     }
 }
 
-/// Worlds that differ before tic 5 end the game at tic 17, at whoever hands in another mark than the player.
-#[test]
-fn other_marks_end_it(rt: HostRuntime) {
-    let rt = &rt;
-    let (mut key, mut other) = must!(rt; pair(rt.alloc(), false));
+/// Two whose worlds differ before tic 5 have run 17 tics, and have the commands of the next.
+fn differing(rt: &impl Abort, alloc: Global) -> Result<(Lockstep, Lockstep), Fail> {
+    let (mut key, mut other) = pair(alloc, false)?;
     for tic in 0..17 {
-        let _ = must!(rt; exchange(rt, &mut key, &mut other));
+        let _ = exchange(rt, &mut key, &mut other)?;
         let off = if tic == 5 { 8 } else { 7 };
         same!(rt; key.run(&[7, off, 0, 0]).0, Ran::Ran(tic));
         same!(rt; other.run(&[7; 4]).0, Ran::Ran(tic));
     }
-    let _ = must!(rt; exchange(rt, &mut key, &mut other));
+    let _ = exchange(rt, &mut key, &mut other)?;
+    Ok((key, other))
+}
+
+/// Worlds that differ before tic 5 end the game at tic 17, at whoever hands in another mark than the player.
+#[test]
+fn other_marks_end_it(rt: HostRuntime) {
+    let rt = &rt;
+    let (mut key, mut other) = must!(rt; differing(rt, rt.alloc()));
     let ran = Ran::Inconsistent {
         player: 1,
         was: 7,
@@ -57,6 +64,30 @@ fn other_marks_end_it(rt: HostRuntime) {
     };
     same!(rt; key.phase(), Phase::Ended(cause));
     same!(rt; other.run(&[7; 4]).0, Ran::Ran(17));
+}
+
+/// The marks of players who are given up may be any, and their commands are still in the row.
+#[test]
+fn marks_of_those_given_up_do_not_matter(rt: HostRuntime) {
+    let rt = &rt;
+    let off = Ran::Inconsistent {
+        player: 1,
+        was: 7,
+        should: 8,
+    };
+    let rows = [
+        ([false; 4], off),
+        ([true, false, true, true], off),
+        ([false, true, false, false], Ran::Ran(17)),
+        ([true; 4], Ran::Ran(17)),
+    ];
+    for (given_up, answer) in rows {
+        let (mut key, _) = must!(rt; differing(rt, rt.alloc()));
+        let mut row = [None; 4];
+        same!(rt; key.run_without(&given_up, &[7; 4], &mut row), answer, given_up);
+        let runs = answer == Ran::Ran(17);
+        same!(rt; row.map(|step| step.is_some()), [runs, runs, false, false], given_up);
+    }
 }
 
 /// Once a player is gone, the player's mark may be any.

@@ -1,48 +1,19 @@
-use Rattle.std.proofs.Common.{◌∙◌, ap, refl, sym, rules}
-use Rattle.std.specs.Int.{w16}
-use Rattle.std.proofs.lemmas.Int.{to_z-of_z}
+use Rattle.std.proofs.Common.{◌∙◌, ap, refl, sym, rules, ℕ, zero, suc}
+use Rattle.std.specs.Prelude.{◌≡◌, get_or, false, ◌∷◌, []}
 use Rattle.dn_lockstep.specs.Runs.{with_row}
 use Rattle.dn_lockstep.proofs.After.{after, steps}
-use Rattle.dn_lockstep.proofs.Finding.{finds_awaited, finds_off, off_present, mark_is, should_is}
-use Rattle.dn_lockstep.proofs.Running.{run_not, run_waits, run_off, run_on}
-use Rattle.dn_lockstep.proofs.Windowed.{fits}
+use Rattle.dn_lockstep.proofs.Running.{run_all}
 use Rattle.dn_lockstep.proofs.lockstep.Lockstep.run_into.Goals as goal
 
-pub returns-in_default-clause-step : goal.returns-in_default-clause-step
-returns-in_default-clause-step c = steps refl (λ limits me m r.
-    after _ _ (ap (with_row limits m) (run_not _ m _ (λ e. c.in_default.not-Playing (r.stands.phase ∙ e)))) r (refl, refl))
-
-pub returns-in-Some-clause-step : goal.returns-in-Some-clause-step
-returns-in-Some-clause-step c = steps refl (λ limits me m r.
-    after _ _ (ap (with_row limits m) (run_waits _ m _ _ (sym r.stands.phase ∙ c.in-Playing.is)
-    (finds_awaited r _ c.in-Some.ensures))) r (refl, refl))
-
-pub returns-in-Some-first_off-clause-step : goal.returns-in-Some-first_off-clause-step
-returns-in-Some-first_off-clause-step c = steps c.finish.ensures.same (λ limits me m r.
-    let n = c.args.self.now in
-    let p = c.in-Some-first_off.player in
-    let inside = c.in-Some-first_off.ensures.below in
-    let found = finds_off r (fits n) _ c.in-Some-first_off.ensures.lowest in
-    let present = off_present r (fits n) p found in
-    let was = to_z-of_z w16 c.mark_of-was.result (search rules) ∙ c.mark_of-was.ensures
-    ∙ mark_is r (fits n) p inside in
-    let should = to_z-of_z w16 c.get-should.result (search rules) ∙ c.get-should.ensures
-    ∙ should_is r (fits n) p inside present in
-    after _ _ (ap (with_row limits m) (run_off _ m _ p _ _ (sym r.stands.phase ∙ c.in-Playing.is)
-    (finds_awaited r _ c.in_default-awaited.ensures) found was should))
-    (c.finish.ensures.step limits me m r).node (refl, refl))
+-- nobody is in this set
+nobody : (player : ℕ) → get_or (false ∷ false ∷ false ∷ false ∷ []) player false ≡ false
+nobody zero = refl
+nobody (suc zero) = refl
+nobody (suc (suc zero)) = refl
+nobody (suc (suc (suc zero))) = refl
+nobody (suc (suc (suc (suc player)))) = refl
 
 pub returns-clause-step : goal.returns-clause-step
-returns-clause-step c = steps c.run_row.ensures.step.same (λ limits me m r.
-    let n = c.args.self.now in
-    let on = run_on limits m _ (sym r.stands.phase ∙ c.in-Playing.is)
-    (finds_awaited r _ c.in_default-awaited.ensures)
-    (finds_off r (fits n) _ c.in_default-first_off.ensures.lowest) in
-    let ran = c.run_row.ensures.step.step limits me m r in
-    after _ _ (ap (with_row limits m) on) ran.node ran.answer)
-
-pub first_off-requires-clause-there : goal.first_off-requires-clause-there
-first_off-requires-clause-there c = search rules
-
-pub run_row-requires-clause-there : goal.run_row-requires-clause-there
-run_row-requires-clause-there c = search rules
+returns-clause-step c = steps c.run_without.ensures.step.same (λ limits me m r.
+    let ran = c.run_without.ensures.step.step limits me m r in
+    after _ _ (ap (with_row limits m) (sym (run_all limits _ m _ (λ p l. nobody p)))) ran.node ran.answer)
