@@ -1,6 +1,6 @@
 -- The packets that are kept for a peer have each command that it still needs, of those that they cover.
 use Rattle.std.proofs.Common.{◌≡◌, ◌<◌, ◌≤◌, ℕ, zero, suc, Bool, true, false, List, [], ◌∷◌, ◌++◌, length, map, take, append-nil, refl, ap, sym, ◌∙◌, subst, arith, inl, inr, Option, Some, None}
-use Rattle.std.specs.Prelude.{if◌then◌else◌, ◌&&◌, ◌↔◌, nat_le, nat_lt, max}
+use Rattle.std.specs.Prelude.{if◌then◌else◌, ◌&&◌, ◌↔◌, nat_le, nat_lt}
 use Rattle.std.specs.List.{flat_map}
 use Rattle.std.proofs.lemmas.Bool.{and_from, and_parts, and_right, cases_lt, le-ltb, le-leb, leb-true, lt-ltb, ltb-true, or_cases, or_left, or_right, true≢false}
 use Rattle.std.proofs.Math.Seq.{take-append_seam}
@@ -11,7 +11,7 @@ use Rattle.dn_seal.specs.declared.seal.Seal.{Seal}
 use Rattle.dn_link.specs.declared.bundle.Carried.{Carried}
 use Rattle.dn_link.specs.declared.bundle.Identity.{Identity}
 use Rattle.dn_link.specs.declared.peer.Peer.{Peer}
-use Rattle.dn_link.specs.Kept.{IsCovering, Reaches, Unacknowledged, end_of, going, has_tic, is_news, kept_after, taken_by, with_packet}
+use Rattle.dn_link.specs.Kept.{IsCovering, Reaches, Unacknowledged, acknowledged, end_of, going, has_tic, is_news, kept_after, taken_by, with_packet, without}
 use Rattle.dn_link.specs.Linked.{Gives, Linked, PeerState}
 use Rattle.dn_link.specs.Linking.{peers_of}
 use Rattle.dn_link.specs.Paced.{PaceState}
@@ -75,10 +75,24 @@ goes_covering kept (Some packet) covers tic needed before = go (is_news kept pac
     go false old before = has_more tic kept.packets (packet ∷ []) (covers tic needed before)
 
 -- the peer needs fewer
-pub covers_less : (kept : Unacknowledged) (count : ℕ) → IsCovering kept
-    → IsCovering (record kept { covered = max kept.covered count; done = max kept.done count })
+without_covers : (packets : List Carried) (count tic : ℕ) → count ≤ tic → has_tic tic packets ≡ true
+    → has_tic tic (without count packets) ≡ true
+without_covers [] count tic needed has = has
+without_covers (packet ∷ packets) count tic needed has =
+    go (nat_le (end_of packet) count) refl (λ more. without_covers packets count tic needed more)
+  where
+    go : (test : Bool) → nat_le (end_of packet) count ≡ test
+        → (has_tic tic packets ≡ true → has_tic tic (without count packets) ≡ true)
+        → has_tic tic (if test then without count packets else packet ∷ packets) ≡ true
+    go true ends behind =
+        let within = leb-true (end_of packet) count ends in
+        behind (has_behind tic packet packets (omega (arith, within, needed)) has)
+    go false past behind = has
+
+pub covers_less : (kept : Unacknowledged) (count : ℕ) → IsCovering kept → IsCovering (acknowledged kept count)
 covers_less kept count covers tic needed before =
-    covers tic (omega (arith, needed)) (omega (arith, needed, before))
+    without_covers kept.packets count tic (omega (arith, needed))
+    (covers tic (omega (arith, needed)) (omega (arith, needed, before)))
 
 -- for each peer
 pub all_covering : (peers : List Peer) (place : ℕ) → IsCovering (peers_of peers place).kept
@@ -87,7 +101,7 @@ all_covering (peer ∷ peers) zero = peer.kept.covers
 all_covering (peer ∷ peers) (suc place) = all_covering peers place
 
 -- what is covered reaches a packet that is given
-reached : (kept : Unacknowledged) (packet : Carried)
+pub reached : (kept : Unacknowledged) (packet : Carried)
     → (end_of packet ≤ (with_packet kept packet).covered) ↔ Reaches kept packet
 reached kept packet = go (is_news kept packet) refl
   where

@@ -45,7 +45,7 @@ use Rattle.dn_link.proofs.Linking as base
 use Rattle.dn_link.proofs.Reported.{at_most, same_reported, same_presence}
 
 -- what a peer takes was given
-taken_given : (presence : Presence) (given : Option Carried) (carried : Carried)
+pub taken_given : (presence : Presence) (given : Option Carried) (carried : Carried)
     → taken_by presence given ≡ Some carried → Some carried ≡ given
 taken_given presence None carried is = absurd (none-some carried is)
 taken_given presence (Some packet) carried is = go (takes_packet presence packet) is

@@ -7,6 +7,7 @@ pub mod Openings
 pub mod Hearings
 pub mod Keeping
 pub mod Covered
+pub mod Rising
 pub mod Tight
 pub mod Fits
 pub mod Lasts
@@ -21,6 +22,11 @@ pub mod Linking
 pub mod Gives
 pub mod Forgets
 pub mod Receives
+pub mod Sending
+pub mod Ranged
+pub mod Asked
+pub mod Following
+pub mod Requests
 pub mod Holding
 pub mod Growing
 pub mod Leaving

@@ -1,5 +1,7 @@
 -- The packets that a peer has not acknowledged.
 use Rattle.std.specs.Prelude.{◌≡◌, ◌<◌, ◌≤◌, ◌⊎◌, ◌||◌, ℕ, ◌+◌, ◌-◌, ◌/◌, ◌&&◌, ◌==◌, nat_lt, nat_le, if◌then◌else◌, Bool, not, true, false, List, [], ◌∷◌, ◌++◌, length, slice_index, max, Option, Some, None, is_none}
+use Rattle.std.specs.Coded.{×_prop}
+use Rattle.std.proofs.Props.{props}
 use Rattle.dn_link.specs.declared.bundle.Carried.{Carried}
 use Rattle.dn_link.specs.declared.presence.Presence.{Presence}
 use Rattle.dn_link.specs.declared.presence.Presence.TheVariants.{Playing, Left, Forgotten}
@@ -81,6 +83,20 @@ has_tic tic (packet ∷ packets) =
 -- they have each command that the peer still needs, up to the last that they cover
 abbrev pub IsCovering : Unacknowledged → Type 0
 IsCovering kept = (tic : ℕ) → kept.done ≤ tic → tic < kept.covered → has_tic tic kept.packets ≡ true
+
+-- each packet ends past those before it: the first past the commands that the peer needs no more, and the last
+-- not past what they cover
+abbrev pub IsRising : ℕ → List Carried → ℕ → Type 0
+IsRising done [] covered = done ≤ covered
+IsRising done (packet ∷ packets) covered = (done < end_of packet) × IsRising (end_of packet) packets covered
+
+abbrev pub IsKeptRising : Unacknowledged → Type 0
+IsKeptRising kept = IsRising kept.done kept.packets kept.covered
+
+pub IsRising-prop : (done : ℕ) (packets : List Carried) (covered : ℕ) → IsProp (IsRising done packets covered)
+IsRising-prop done [] covered = Prim.hlevel props
+IsRising-prop done (packet ∷ packets) covered =
+    ×_prop (Prim.hlevel props) (IsRising-prop (end_of packet) packets covered)
 
 -- what they cover reaches the end of a packet that is given: it did before; or the packet begins there or
 -- before, and there is room to keep it

@@ -9,6 +9,7 @@ pub mod Linking
 pub mod Packing
 pub mod OpenPacking
 pub mod Kept
+pub mod Onward
 pub mod Keeping
 pub mod Hearing
 pub mod Bundles

@@ -169,8 +169,8 @@ Receives seal identity pace bytes old new answer =
 abbrev pub end_known : Contents → ℕ → Option ℕ
 end_known node player = if nat_lt player node.players then end_in node player else None
 
--- nothing more is expected of a player: it has played and left, or was given up; or player 0 said goodbye
--- before the game, which then never starts
+-- nothing more is expected of a player: it has played and left, or is forgotten; or player 0 said goodbye before
+-- its game, and without another player 0 there will be none
 abbrev pub is_out : Linked → ℕ → Bool
 is_out link player = has_left (link.peers player).presence || has_gone (link.peers 0).presence
 

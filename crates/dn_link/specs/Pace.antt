@@ -84,7 +84,8 @@ playing link pace =
     1 + one_if (is_paced link pace 0) + one_if (is_paced link pace 1) + one_if (is_paced link pace 2)
     + one_if (is_paced link pace 3)
 
--- the newest datagram of a peer that plays told that two or more of the last ones to it are missing
+-- the newest datagram of a peer that plays told that two or more of the last ones to it did not come, or came
+-- after newer ones
 abbrev pub wants_second : Linked → PaceState → ℕ → Bool
 wants_second link pace player = is_paced link pace player && nat_le 2 (pace.lines player).reported_holes
 

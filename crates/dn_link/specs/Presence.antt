@@ -22,7 +22,7 @@ abbrev pub takes_part : Presence → Bool
 takes_part (Different identity) = false
 takes_part presence = true
 
--- it plays, has played and left, or was given up in the game
+-- it plays, has played and left, or is forgotten
 abbrev pub has_played : Presence → Bool
 has_played Playing = true
 has_played (Left cause) = true
@@ -79,7 +79,7 @@ is_there Playing = true
 is_there (Left cause) = true
 is_there presence = false
 
--- it has played and left, or was given up in the game
+-- it has played and left, or is forgotten
 abbrev pub has_left : Presence → Bool
 has_left (Left cause) = true
 has_left Forgotten = true

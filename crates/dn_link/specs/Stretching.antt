@@ -1,4 +1,4 @@
--- How ticks are stretched on a line that is longer than the window.
+-- How ticks are stretched on a line that is longer than the window, and loses little.
 use Rattle.std.specs.Prelude.{ℕ, ◌+◌, ◌-◌, ◌*◌, ◌==◌, ◌||◌, Bool, if◌then◌else◌, nat_lt, min}
 
 -- the ticks of this block of sixteen so far, and how many inputs were dropped in it; how many blocks in a row,

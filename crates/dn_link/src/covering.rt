@@ -1,11 +1,11 @@
 //! What the packets that are kept for a peer have.
 
-ghost use Rattle.std.specs.Prelude.{◌≡◌, ◌<◌, ◌≤◌, ◌↔◌, ℕ, true, List, length, map, Some};
+ghost use Rattle.std.specs.Prelude.{◌≡◌, ◌<◌, ◌≤◌, ◌↔◌, ℕ, ◌+◌, true, List, length, map, Some};
 ghost use Rattle.dn_seal.specs.declared.seal.Seal.{Seal};
 ghost use Rattle.dn_link.specs.declared.bundle.Carried.{Carried};
 ghost use Rattle.dn_link.specs.declared.bundle.Identity.{Identity};
 ghost use Rattle.dn_link.specs.declared.link.Link.{Link};
-ghost use Rattle.dn_link.specs.Kept.{IsCovering, Reaches, end_of, has_tic, taken_by};
+ghost use Rattle.dn_link.specs.Kept.{IsCovering, IsKeptRising, Reaches, Unacknowledged, end_of, has_tic, taken_by};
 ghost use Rattle.dn_link.specs.Linked.{Gives, Linked};
 ghost use Rattle.dn_link.specs.Linking.{linked};
 ghost use Rattle.dn_link.specs.Paced.{PaceState};
@@ -16,9 +16,12 @@ ghost use Rattle.dn_link.specs.Text.{parts_bytes};
 /// last that they cover. And a datagram carries all of these, unless it has no room for some: then it has
 /// twenty-two parts or more, or these have more than 998 bytes. What they cover reaches the end of a packet that
 /// is given exactly if it did before, or if the packet begins there or before and fewer than twenty-four are
-/// kept.
+/// kept. Each kept packet ends past those before it, so no more are kept than commands are covered that the peer
+/// still needs.
 pub fn kept_covers()
     ensures covers { (link : Link) (peer : ℕ) → IsCovering ((linked link).peers peer).kept }
+    ensures rising { (link : Link) (peer : ℕ) → IsKeptRising ((linked link).peers peer).kept }
+    ensures few { (kept : Unacknowledged) → IsKeptRising kept → kept.done + length kept.packets ≤ kept.covered }
     ensures carried { (seal : Seal) (identity : Identity) (pace : PaceState) (to : ℕ) (old new : Linked) (bytes : List ℕ)
         (gives : Gives seal identity pace to old new bytes)
         → IsCovering (old.peers to).kept → length gives.bundle.parts.items < 22

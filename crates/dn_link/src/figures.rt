@@ -13,11 +13,12 @@ pub struct Figures {
     pub came: u32,
     /// How many of them did not, of those numbered before the newest.
     pub lost: u32,
-    /// How many came twice.
+    /// How many came again, less than 64 behind the newest.
     pub repeated: u32,
     /// How many came too late to tell whether they had come before.
     pub too_old: u32,
-    /// How many of the last ones to it are missing there, as its newest datagram reported.
+    /// How many of the last ones to it did not come there, or came after newer ones, as its newest datagram
+    /// reported.
     pub missing_there: u8,
     /// By how many commands this player led it, at this player's last tick.
     pub lead: i8,

@@ -2,7 +2,7 @@
 
 ghost use Rattle.std.specs.Prelude.{◌≡◌, ◌≤◌, ◌<◌, ◌+◌, ◌∷◌, [], ℕ, All, length, nat_le, slice_index, Option};
 ghost use Rattle.std.specs.Option.{option_map};
-ghost use Rattle.dn_link.specs.Kept.{IsCovering, acknowledged, commands_in, end_of, going, is_idle, is_news, kept_after, takes_packet, without};
+ghost use Rattle.dn_link.specs.Kept.{IsCovering, IsRising, IsRising-prop, acknowledged, commands_in, end_of, going, is_idle, is_news, kept_after, takes_packet, without};
 ghost use Rattle.dn_link.specs.Packing.{ArePacked};
 ghost use Rattle.dn_link.specs.Text.{IsPart, parts_bytes};
 
@@ -70,6 +70,18 @@ pub(crate) fn takes_packet(presence: Presence, packet: &Carried) -> bool
     }
 }
 
+/// Drops those at the front of which a peer with so many commands has every command.
+fn drop_front(packets: &mut ArrayVec<Carried, 25>, count: u32)
+    ensures { packets.new.items ≡ without count packets.old.items }
+{
+    'packets: while let Some(packet) = packets.first() {
+        if end_of(packet) > u64::from(count) {
+            break;
+        }
+        packets.remove(0);
+    }
+}
+
 /// The packets that were given to a peer, and of whose commands it has not acknowledged all, oldest first.
 #[derive(Drop)]
 pub(crate) struct Kept {
@@ -80,6 +92,7 @@ pub(crate) struct Kept {
     done: u32,
     ghost few: { length packets.items ≤ 24 },
     ghost covers: { IsCovering (record { packets = packets.items; covered = covered; done = done }) },
+    ghost rising: { IsRising done packets.items covered } by { IsRising-prop done packets.items covered },
 }
 
 impl Kept {
@@ -135,13 +148,8 @@ impl Kept {
     pub(crate) fn acknowledge(&mut self, count: u32)
         ensures { kept self.new ≡ acknowledged (kept self.old) count }
     {
+        drop_front(&mut self.packets, count);
         self.covered = self.covered.max(u64::from(count));
         self.done = self.done.max(count);
-        'packets: while let Some(packet) = self.packets.first() {
-            if end_of(packet) > u64::from(count) {
-                break;
-            }
-            self.packets.remove(0);
-        }
     }
 }

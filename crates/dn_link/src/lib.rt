@@ -13,6 +13,7 @@ mod laws;
 mod leaning;
 mod line;
 mod link;
+mod onward;
 mod pace;
 mod packing;
 mod peer;
@@ -35,6 +36,7 @@ pub use laws::{
     unplayed_links_give_nothing,
 };
 pub use link::Link;
+pub use onward::given_is_covered;
 pub use presence::Presence;
 pub use reading::open_bundle;
 pub use received::Received;

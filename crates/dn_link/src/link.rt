@@ -34,12 +34,12 @@ pub struct Link {
 }
 
 impl Link {
-    ghost use Rattle.std.specs.Prelude.{ℕ, ◌≢◌, ◌<◌, ◌+◌, false, None, Some, IfOk, Ok};
+    ghost use Rattle.std.specs.Prelude.{ℕ, ℤ, ◌≢◌, ◌<◌, ◌+◌, false, None, Some, IfOk, Ok};
     ghost use Rattle.dn_tic.specs.declared.input.Input.TheVariants.{Pressed, Given};
     ghost use Rattle.dn_machine.specs.Building.{on_build};
-    ghost use Rattle.dn_machine.specs.Running.{on_run, on_quit};
+    ghost use Rattle.dn_machine.specs.Running.{on_run, on_quit, row_held};
     ghost use Rattle.dn_lockstep.specs.Runs.{RunsBy, told_by};
-    ghost use Rattle.dn_lockstep.specs.Steps.{Steps};
+    ghost use Rattle.dn_lockstep.specs.Steps.{Steps, Tells};
     ghost use Rattle.dn_setup.specs.Settings.{Settings as Choice};
     ghost use Rattle.dn_machine.specs.Game.{fresh};
     ghost use Rattle.dn_lockstep.specs.Contents.{whose};
@@ -163,6 +163,10 @@ impl Link {
             → ((linked self.new).node ≡ (linked self.old).node) × (row.new ≡ row.old) }
         ensures idle { result ≡ ran.NotPlaying
             → ((linked self.new).node ≡ (linked self.old).node) × (row.new ≡ row.old) }
+        ensures off { (player : ℕ) (was should : ℤ) → result ≡ ran.Inconsistent player was should
+            → row.new ≡ row.old }
+        ensures full { result ≡ ran.DemoFull → Tells (linked self.old).node (λ limits me m.
+            row.new ≡ row_held limits m) }
         ensures peers { (linked self.new).peers ≡ (linked self.old).peers }
         ensures pace { pace_of self.new ≡ pace_of self.old }
         ensures seal { seal_of self.new ≡ seal_of self.old }

@@ -23,13 +23,14 @@ pub enum Presence {
     There,
     /// Its game has started.
     Playing,
-    /// It is there with another identity, and takes no part.
+    /// It said hello with another identity, and takes no part.
     Different(Identity),
     /// It left before its game started, for this cause, or was given up then (0). Another may take its place.
     Away(u8),
     /// It has played and left, for this cause.
     Left(u8),
-    /// It was given up in the game, or after it was given the settings: nobody takes its place.
+    /// It was given up when this link played or had ended, or after it was given the settings or was heard to
+    /// play: nobody takes its place.
     Forgotten,
 }
 
@@ -95,7 +96,7 @@ pub(crate) fn message_of(identity: &Identity, phase: Phase) -> Message
 }
 
 impl Presence {
-    /// Whether it plays, has played and left, or was given up in the game.
+    /// Whether it plays, has played and left, or is forgotten.
     fn has_played(self) -> bool
         ensures { result ≡ has_played self }
     {
@@ -188,7 +189,7 @@ impl Presence {
         )
     }
 
-    /// Whether it has played and left, or was given up in the game.
+    /// Whether it has played and left, or is forgotten.
     pub(crate) fn has_left(self) -> bool
         ensures { result ≡ has_left self }
     {

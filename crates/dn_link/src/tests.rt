@@ -3,6 +3,7 @@
 ghost use Rattle.std.specs.Prelude.{◌≡◌, []};
 ghost use Rattle.dn_seal.specs.Sealing.{sealing};
 
+mod gaps;
 mod links;
 mod lobby;
 mod pace;

@@ -92,7 +92,7 @@ pub(crate) fn owed_answer(made: Option<Made>) -> MadeAnswer
 
 /// Who is there. `state` is 0 for a player of whom nothing is known, 1 for one that is there, 2 for one that
 /// plays, 3 for one with another identity, 4 for one that left before its game or was given up then, 5 for one
-/// that has played and left, and 6 for one that was given up in the game. `cause` is why it left, where it has:
+/// that has played and left, and 6 for one that is forgotten. `cause` is why it left, where it has:
 /// 1 where it quit, 2 where its demo was full, 3 where its world differed, 0 where it was given up. The other
 /// fields are the identity of one that differs, and else 0.
 #[repr(C)]
@@ -175,7 +175,7 @@ pub struct LineAnswer {
     pub repeated: u32,
     /// How many came too late to tell.
     pub too_old: u32,
-    /// How many of the last ones to it are missing there.
+    /// How many of the last ones to it did not come there, or came after newer ones.
     pub missing_there: u8,
     /// By how many commands this player led it, at this player's last tick.
     pub lead: i8,

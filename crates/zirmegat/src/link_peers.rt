@@ -25,8 +25,8 @@ pub extern "C" fn zmg_link_may_leave(link: &mut LinkHandle) -> u32
     }
 }
 
-/// 1 if a peer reports that datagrams of this player are missing, so that one more, half a tick later, makes up
-/// for those that will be; else 0.
+/// 1 if a peer that plays reports that two or more of the last datagrams to it did not come, or came after newer
+/// ones; else 0. Then one more goes half a tick later, in case that one is lost too.
 #[unsafe(no_mangle)]
 pub extern "C" fn zmg_link_wants_second(link: &mut LinkHandle, player: u8) -> u32
     ensures { Reads (link_of link.old) (link_of link.new)

@@ -19,7 +19,7 @@ use dn_tic::TicCmd;
 pub struct CommandFields {
     /// To the left, in 65536ths of a full turn.
     pub turn: i16,
-    /// The consistency mark of the player's own world twelve tics before.
+    /// The consistency mark of the player's own world twelve tics before, 0 below tic 12.
     pub mark: i16,
     /// Forward, or back where negative.
     pub forward: i8,

@@ -8,8 +8,8 @@ impl Link {
     ghost use Rattle.dn_link.specs.Linked.{is_out, may_leave, needs_nothing, never_played, none_needs};
     ghost use Rattle.dn_link.specs.Linking.{linked};
 
-    /// Whether nothing more is expected of a player: it has played and left, or was given up; or player 0 said
-    /// goodbye before the game, which then never starts.
+    /// Whether nothing more is expected of a player: it has played and left, or is forgotten; or player 0 said
+    /// goodbye before its game, and without another player 0 there will be none.
     fn is_out(&self, player: u8) -> bool
         requires { player < 4 }
         ensures { result ≡ is_out (linked self.now) player }

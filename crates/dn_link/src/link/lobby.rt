@@ -72,7 +72,7 @@ impl Link {
     /// Gives up a peer who was not heard for too long. Before the game it is no longer there, and another may
     /// take its place; but not once this player has given it the settings, or has heard that it plays: then the
     /// place stays its own, and another takes a new game with a new number. In the game `may_leave` waits for
-    /// it no more, until a datagram of its game comes.
+    /// it no more, until a new datagram of its game comes.
     pub fn forget(&mut self, player: u8)
         ensures link { linked self.new ≡ forgotten player (linked self.old) }
         ensures pace { pace_of self.new ≡ pace_of self.old }

@@ -72,7 +72,8 @@ impl Link {
 
     /// For each tick, after the build: by how many 32nds of a tick the next tick comes later than usual;
     /// earlier where it is below 0. So players whose clocks differ come to lead each other by the same, and on
-    /// a line that is longer than the window ticks are stretched in place of dropped.
+    /// a line that is longer than the window, and loses little, ticks are stretched once input was dropped for
+    /// a while.
     pub fn lean(&mut self) -> i8
         ensures leans { result ≡ lean (linked self.old) (pace_of self.old) }
         ensures range { nat_abs result ≤ 34 }
@@ -87,8 +88,8 @@ impl Link {
         self.pace.tick(&self.lockstep, differences, playing, lossy)
     }
 
-    /// Whether a peer that plays reports that two or more of the last datagrams to it are missing: one more,
-    /// half a tick after the tick's own, then makes up for those that will be.
+    /// Whether a peer that plays reports that two or more of the last datagrams to it did not come, or came
+    /// after newer ones: then one more goes half a tick after the tick's own, in case that one is lost too.
     pub fn wants_second(&self, player: u8) -> bool
         ensures { result ≡ wants_second (linked self.now) (pace_of self.now) player }
     {

@@ -14,17 +14,30 @@ pub(super) type Bytes = ArrayVec<u8, 1200>;
 
 /// A link of a game of so many players in the window of 1997, with this byte as the host's.
 pub(super) fn link_of(rt: &impl Abort, alloc: Global, players: u8, me: u8, host: u8) -> Link {
+    link_with(rt, alloc, (players, me), host, false, 5)
+}
+
+/// A link of a game of so many players, of this one, whose packets repeat commands or not, in this window.
+pub(super) fn link_with(
+    rt: &impl Abort,
+    alloc: Global,
+    (players, me): (u8, u8),
+    host: u8,
+    extra: bool,
+    ahead: u8,
+) -> Link {
     let Ok(settings) = Settings::new(2, 0, false, false, 1, 1) else {
         panic!(rt; "no settings");
     };
     let config = Config {
         players,
         me,
-        extra: false,
+        extra,
         limit: 131_072,
         settings: if me == 0 { Some(settings) } else { None },
     };
-    let Ok(link) = Link::new(alloc, config, 5, [host; 16], Seal::new([7; 32], [3; 16])) else {
+    let seal = Seal::new([7; 32], [3; 16]);
+    let Ok(link) = Link::new(alloc, config, ahead, [host; 16], seal) else {
         panic!(rt; "no link");
     };
     link
@@ -71,12 +84,17 @@ pub(super) fn run_all(at: &mut Link) -> u32 {
 pub(super) fn playing(rt: &impl Abort, alloc: Global) -> (Link, Link) {
     let mut key = link_of(rt, alloc, 2, 0, 1);
     let mut other = link_of(rt, alloc, 2, 1, 1);
-    meets(rt, &mut other, &mut key);
-    let first = datagram(rt, &mut key, 1);
-    arrives(rt, &mut other, 0, &first, true);
-    let second = datagram(rt, &mut other, 0);
-    arrives(rt, &mut key, 1, &second, true);
+    start(rt, &mut key, &mut other);
     (key, other)
+}
+
+/// Starts the game of two links.
+pub(super) fn start(rt: &impl Abort, key: &mut Link, other: &mut Link) {
+    meets(rt, other, key);
+    let first = datagram(rt, key, 1);
+    arrives(rt, other, 0, &first, true);
+    let second = datagram(rt, other, 0);
+    arrives(rt, key, 1, &second, true);
 }
 
 /// A command of each.

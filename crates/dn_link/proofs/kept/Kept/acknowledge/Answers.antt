@@ -1,19 +1,23 @@
-use Rattle.std.proofs.Common.{rules, ◌≡◌, ◌≤◌, ◌∷◌, List, length, arith, drop, subst, ap, sym, true}
+use Rattle.std.proofs.Common.{rules, ◌≡◌, length, arith, ap, sym, subst}
+use Rattle.std.specs.Prelude.{max}
 use Rattle.dn_link.specs.declared.bundle.Carried.{Carried}
-use Rattle.dn_link.specs.Kept.{end_of, has_tic}
-use Rattle.dn_link.proofs.Covered.{has_behind}
+use Rattle.dn_link.specs.Keeping.{kept}
+use Rattle.dn_link.specs.Kept.{IsCovering, IsKeptRising, Unacknowledged, acknowledged, without}
+use Rattle.dn_link.proofs.Covered.{covers_less}
+use Rattle.dn_link.proofs.Rising.{fewer, rises_past}
 use Rattle.dn_link.proofs.kept.Kept.acknowledge.Goals as goal
 
-pub invariant_of-self-in-Some : goal.invariant_of-self-in-Some
-invariant_of-self-in-Some c =
-    let was : List Carried = c.packets.self.packets.items in
-    let split : was ≡ c.in-Some.packet.now ∷ drop 1 was = search rules in
-    let less = ap (length {A = Carried}) c.remove.ensures.items in
-    let ends : end_of c.in-Some.packet.now ≤ c.packets.self.done =
-    omega (arith, c.end_of.ensures, c.from-in-Some.ensures, c.if-end_of-from.false, c.packets.invariant.2) in
+pub invariant_of-self : goal.invariant_of-self
+invariant_of-self c =
+    let was : Unacknowledged = kept c.args.self.now in
+    let left : c.drop_front.new.packets.items ≡ without c.args.count was.packets = c.drop_front.ensures in
+    let covered : c.max-self.result ≡ max was.covered c.args.count = search rules in
+    let done : c.max-self-2.result ≡ max was.done c.args.count = search rules in
+    let same : ◌≡◌ {A = Unacknowledged} (record { packets = c.drop_front.new.packets.items; covered = c.max-self.result; done = c.max-self-2.result })
+    (acknowledged was c.args.count) = λ i. record { packets = left i; covered = covered i; done = done i } in
     record {
-      few = omega (arith, c.packets.self.few, c.remove.ensures.len);
-      covers = λ tic needed before. subst (λ (ps : List Carried). has_tic tic ps ≡ true) (sym c.remove.ensures.items)
-          (has_behind tic c.in-Some.packet.now (drop 1 was) (omega (arith, ends, needed))
-          (subst (λ (ps : List Carried). has_tic tic ps ≡ true) split (c.packets.self.covers tic needed before)));
+      few = omega (arith, ap (length {A = Carried}) left, fewer was.packets c.args.count, c.args.self.now.few);
+      covers = subst IsCovering (sym same) (covers_less was c.args.count c.args.self.now.covers);
+      rising = subst IsKeptRising (sym same)
+          (rises_past was.done was.packets was.covered c.args.count c.args.self.now.rising);
     }

@@ -3,8 +3,9 @@ use Rattle.std.proofs.lemmas.Bool.{and_parts, ltb-true}
 use Rattle.std.proofs.lemmas.List.{length-append}
 use Rattle.dn_link.specs.declared.bundle.Carried.{Carried}
 use Rattle.dn_link.specs.Keeping.{kept}
-use Rattle.dn_link.specs.Kept.{Unacknowledged, end_of, has_tic, is_news}
+use Rattle.dn_link.specs.Kept.{IsRising, Unacknowledged, end_of, has_tic, is_news}
 use Rattle.dn_link.proofs.Covered.{covers_more}
+use Rattle.dn_link.proofs.Rising.{news_rises}
 use Rattle.dn_link.proofs.kept.Kept.parts.Goals as goal
 
 pub invariant_of-self : goal.invariant_of-self
@@ -21,4 +22,7 @@ invariant_of-self c =
       covers = λ tic needed before. subst (λ (ps : List Carried). has_tic tic ps ≡ true) (sym c.push.ensures.items)
           (covers_more was packet c.args.self.now.covers news tic needed
           (subst (λ (n : ℕ). tic < n) c.end_of-end.ensures before));
+      rising = subst (λ (n : ℕ). IsRising was.done c.push.new.self.items n) (sym c.end_of-end.ensures)
+          (subst (λ (ps : List Carried). IsRising was.done ps (end_of packet)) (sym c.push.ensures.items)
+          (news_rises was packet news c.args.self.now.rising));
     }

@@ -1,0 +1,337 @@
+-- The packets to a peer go on from those that are kept for it, or from earlier ones.
+use Rattle.std.proofs.Common.{ℤ, ◌≡◌, ◌≢◌, ◌≤◌, ◌+◌, ◌⊎◌, ◌&&◌, ◌||◌, ℕ, Bool, true, false, List, [], ◌∷◌, ◌++◌, length, refl, ap, sym, ◌∙◌, subst, arith, Option, Some, None, inl, inr}
+use Rattle.std.specs.Prelude.{if◌then◌else◌, nat_le, nat_lt, not, ◌==◌, ◌%◌, ◌^◌, is_none, is_some, slice_index}
+use Rattle.std.specs.Option.{option_map}
+use Rattle.std.proofs.lemmas.Bool.{and_parts, cases_eq, cases_lt, cond_both, eqb-true, lt-ltb, ltb-true, not-false, true≢false}
+use Rattle.std.proofs.lemmas.Option.{none-some, same_Some}
+use Rattle.dn_tic.specs.declared.command.Move.{Move}
+use Rattle.dn_tic.specs.declared.input.Input.{Input}
+use Rattle.dn_machine.specs.declared.answers.Made.{Made}
+use Rattle.dn_machine.specs.declared.answers.Ran.{Ran}
+use Rattle.dn_machine.specs.declared.peer.Peer.{Peer}
+use Rattle.dn_machine.specs.Building.{on_build}
+use Rattle.dn_machine.specs.Flight.{Flight}
+use Rattle.dn_machine.specs.Limits.{Limits}
+use Rattle.dn_machine.specs.Node as machine
+use Rattle.dn_machine.specs.Node.{put}
+use Rattle.dn_machine.specs.Running.{on_run, on_quit}
+use Rattle.dn_machine.specs.Sending.{on_send}
+use Rattle.dn_machine.proofs.Put.{put_at, put_off}
+use Rattle.dn_lockstep.specs.Contents.{Contents}
+use Rattle.dn_lockstep.specs.Represents.{Represents}
+use Rattle.dn_lockstep.specs.Runs.{RunsBy, marks_in}
+use Rattle.dn_lockstep.specs.Sent.{sent_to}
+use Rattle.dn_lockstep.specs.Steps.{Steps}
+use Rattle.dn_lockstep.specs.Told.{made}
+use Rattle.dn_lockstep.proofs.Counting.{made_is}
+use Rattle.dn_seal.specs.declared.seal.Seal.{Seal}
+use Rattle.dn_link.specs.declared.bundle.Carried.{Carried}
+use Rattle.dn_link.specs.declared.bundle.Identity.{Identity}
+use Rattle.dn_link.specs.declared.presence.Presence.{Presence}
+use Rattle.dn_link.specs.declared.presence.Presence.TheVariants.{Unknown, There, Playing, Different, Away, Left, Forgotten}
+use Rattle.dn_link.specs.Giving.{SendsCarried, carried_of}
+use Rattle.dn_link.specs.Hearing.{ByTest}
+use Rattle.dn_link.specs.Kept.{IsKeptRising, Reaches, Unacknowledged, commands_in, end_of, is_idle, is_news, kept_after, taken_by, takes_packet, with_packet}
+use Rattle.dn_link.specs.Linked.{Gives, Linked, PeerState, forgotten, holds_back, is_gathering, is_peer}
+use Rattle.dn_link.specs.Onward.{GoesOn, IsGone, IsInTime, StillGoesOn, next_to}
+use Rattle.dn_link.specs.Paced.{PaceState}
+use Rattle.dn_link.specs.Presence.{given_up}
+use Rattle.dn_link.proofs.Covered.{reached}
+use Rattle.dn_link.proofs.Gives.{taken_given}
+use Rattle.dn_link.proofs.Rising.{few, news_rises}
+use Rattle.dn_link.proofs.Sending.{Follows, Silent, resend_of, build_same, quit_same, run_same, send_same, sends}
+
+-- a packet that is kept, or is not
+pub kept_rises : (kept : Unacknowledged) (packet : Option Carried) → IsKeptRising kept
+    → IsKeptRising (kept_after kept packet)
+kept_rises kept None rising = rising
+kept_rises kept (Some packet) rising = go (is_news kept packet) refl
+  where
+    go : (test : Bool) → is_news kept packet ≡ test → IsKeptRising
+        (if test then record kept { packets = kept.packets ++ packet ∷ []; covered = end_of packet } else kept)
+    go true news = news_rises kept packet news rising
+    go false old = rising
+
+pub covers_as_much : (kept : Unacknowledged) (packet : Option Carried) → kept.covered ≤ (kept_after kept packet).covered
+covers_as_much kept None = omega arith
+covers_as_much kept (Some packet) = go (is_news kept packet) refl
+  where
+    go : (test : Bool) → is_news kept packet ≡ test → kept.covered
+        ≤ (if test then record kept { packets = kept.packets ++ packet ∷ []; covered = end_of packet } else kept).covered
+    go true news =
+        let room : Bool = nat_lt kept.covered (end_of packet) && nat_lt (length kept.packets) 24 in
+        let past = (and_parts (nat_le packet.start kept.covered) room news).1 in
+        let more = (and_parts (nat_lt kept.covered (end_of packet)) (nat_lt (length kept.packets) 24) past).0 in
+        omega (arith, ltb-true kept.covered (end_of packet) more)
+    go false old = omega arith
+
+-- a packet is not taken by one who is gone, or if it has no command
+idle : (packet : Carried) → not (is_idle packet) ≡ false → commands_in packet ≡ 0
+idle packet not_taken =
+    let is : is_idle packet ≡ true = not-false (is_idle packet) not_taken in
+    eqb-true (commands_in packet) 0 (and_parts (commands_in packet == 0)
+    (is_none packet.ask && nat_lt (slice_index packet.datagram.items 3) 16) is).0
+
+gone_or_idle : (presence : Presence) (packet : Carried) → takes_packet presence packet ≡ false
+    → IsGone presence ⊎ (commands_in packet ≡ 0)
+gone_or_idle (Left cause) packet not_taken = inl (cause, refl)
+gone_or_idle Playing packet not_taken = inr (idle packet not_taken)
+gone_or_idle Forgotten packet not_taken = inr (idle packet not_taken)
+gone_or_idle Unknown packet not_taken = absurd (cc)
+gone_or_idle There packet not_taken = absurd (cc)
+gone_or_idle (Different identity) packet not_taken = absurd (cc)
+gone_or_idle (Away cause) packet not_taken = absurd (cc)
+
+module _ (limits : Limits) (me to : ℕ) (old new : Linked) (goes : GoesOn limits me to old) where
+  abbrev was : Unacknowledged
+  was = (old.peers to).kept
+
+  abbrev now : Unacknowledged
+  now = (new.peers to).kept
+
+  -- the next packet to it begins where it did
+  pub next_same : (node : machine.Node) → was.covered ≤ now.covered
+      → (IsGone (old.peers to).presence → IsGone (new.peers to).presence)
+      → resend_of node to ≡ resend_of goes.node to
+      → IsGone (new.peers to).presence ⊎ (resend_of node to ≤ now.covered)
+  next_same node more gone same = elim goes.next [
+    | inl before ↦ inl (gone before)
+    | inr within ↦
+        let there = ap (λ (p : Peer). p.resend) (goes.shows.peers.known to goes.below) in
+        inr (omega (arith, there, same, within, more))
+  ]
+
+  pub still : (node : machine.Node) → Represents limits me new.node node → IsKeptRising now → was.covered ≤ now.covered
+      → IsGone (new.peers to).presence ⊎ (resend_of node to ≤ now.covered) → StillGoesOn limits me to old new
+  still node shows rising more next = record {
+    goes = record {
+      mine = goes.mine;
+      below = goes.below;
+      node = node;
+      shows = shows;
+      rising = rising;
+      next = elim next [
+        | inl gone ↦ inl gone
+        | inr low ↦
+            let here = ap (λ (p : Peer). p.resend) (shows.peers.known to goes.below) in
+            inr (omega (arith, here, low))
+      ];
+    };
+    covered = more;
+  }
+
+  -- where what is kept is as it was
+  pub same_kept : (node : machine.Node) → Represents limits me new.node node
+      → resend_of node to ≡ resend_of goes.node to → now ≡ was
+      → (IsGone (old.peers to).presence → IsGone (new.peers to).presence) → StillGoesOn limits me to old new
+  same_kept node shows next same gone =
+      let more : was.covered ≤ now.covered = omega (arith, ap (λ (k : Unacknowledged). k.covered) same) in
+      still node shows (subst IsKeptRising (sym same) goes.rising) more (next_same node more gone next)
+
+  pub same_peers : (node : machine.Node) → Represents limits me new.node node
+      → resend_of node to ≡ resend_of goes.node to → new.peers ≡ old.peers → StillGoesOn limits me to old new
+  same_peers node shows next same =
+      same_kept node shows next (ap (λ (f : ℕ → PeerState). (f to).kept) same)
+      (λ gone. (gone.0, ap (λ (f : ℕ → PeerState). (f to).presence) same ∙ gone.1))
+
+  pub builds : (input : Input) (made : Made)
+      → Steps old.node new.node (λ limits me m. on_build limits me m input) (λ answer. made ≡ answer)
+      → new.peers ≡ old.peers → StillGoesOn limits me to old new
+  builds input made step = same_peers _ (step.step limits me goes.node goes.shows).node
+      (build_same limits me goes.node to input)
+
+  pub runs : (marks : List ℤ) (ran : Ran) (row : Option (List (Option Move)))
+      → RunsBy marks old.node new.node (λ limits m marks. on_run limits m marks) (λ answer told. (ran ≡ answer) × (row ≡ told))
+      → new.peers ≡ old.peers → StillGoesOn limits me to old new
+  runs marks ran row step = same_peers _ (step.step limits me goes.node goes.shows).node
+      (run_same limits me goes.node to (marks_in marks))
+
+  pub quits : (quit : Bool) → Steps old.node new.node (λ limits me m. on_quit m) (λ answer. quit ≡ answer)
+      → new.peers ≡ old.peers → StillGoesOn limits me to old new
+  quits quit step = same_peers _ (step.step limits me goes.node goes.shows).node (quit_same limits me goes.node to)
+
+  -- a datagram to another peer
+  pub gives_another : (other : ℕ) (seal : Seal) (identity : Identity) (pace : PaceState) (bytes : List ℕ) → other ≢ to
+      → Gives seal identity pace other old new bytes → StillGoesOn limits me to old new
+  gives_another other seal identity pace bytes apart gives =
+      let off : new.peers to ≡ old.peers to =
+      ap (λ (f : ℕ → PeerState). f to) gives.peers ∙ put_off old.peers other to _ (λ e. apart (sym e)) in
+      go (holds_back old) gives.step (ap (λ (t : PeerState). t.kept) off)
+      (λ gone. (gone.0, ap (λ (t : PeerState). t.presence) off ∙ gone.1))
+    where
+      go : (test : Bool)
+          → ByTest test ((new.node ≡ old.node) × (gives.given ≡ None)) (SendsCarried other old.node new.node gives.given)
+          → now ≡ was → (IsGone (old.peers to).presence → IsGone (new.peers to).presence)
+          → StillGoesOn limits me to old new
+      go true held same gone =
+          same_kept goes.node (subst (λ (n : Contents). Represents limits me n goes.node) (sym held.0) goes.shows) refl
+          same gone
+      go false step same gone =
+          same_kept _ (step.step limits me goes.node goes.shows).node
+          (cond_both (nat_lt other limits.players) _ _
+          (λ (x : machine.Node × Option Flight). resend_of x.0 to ≡ resend_of goes.node to)
+          (λ below. send_same limits me goes.node to other (λ e. apart (sym e))) (λ past. refl)) same gone
+
+  -- a datagram to the peer
+  module _ (seal : Seal) (identity : Identity) (pace : PaceState) (bytes : List ℕ) (time : IsInTime to old)
+      (gives : Gives seal identity pace to old new bytes) where
+    abbrev presence : Presence
+    presence = (old.peers to).presence
+
+    abbrev taken : Option Carried
+    taken = taken_by presence gives.given
+
+    peer_is : new.peers to ≡ record (old.peers to) {
+      kept = kept_after was taken;
+      gave = (old.peers to).gave || (is_gathering old.node.phase && is_some gives.given);
+      number = ((old.peers to).number + 1) % 2 ^ 32;
+    }
+    peer_is = ap (λ (f : ℕ → PeerState). f to) gives.peers ∙ put_at old.peers to to _ refl
+
+    kept_is : now ≡ kept_after was taken
+    kept_is = ap (λ (t : PeerState). t.kept) peer_is
+
+    gone_on : IsGone presence → IsGone (new.peers to).presence
+    gone_on gone = (gone.0, ap (λ (t : PeerState). t.presence) peer_is ∙ gone.1)
+
+    rising_on : IsKeptRising now
+    rising_on = subst IsKeptRising (sym kept_is) (kept_rises was taken goes.rising)
+
+    more_on : was.covered ≤ now.covered
+    more_on = omega (arith, covers_as_much was taken, ap (λ (k : Unacknowledged). k.covered) kept_is)
+
+    -- what is covered, and the next packet
+    abbrev Covers : Type 0
+    Covers = StillGoesOn limits me to old new
+        × ((packet : Carried) → taken ≡ Some packet → end_of packet ≤ now.covered)
+
+    count : made old.node ≡ machine.made me goes.node
+    count = made_is limits me old.node goes.node goes.shows (omega (arith, goes.mine, goes.shows.whose.number, goes.shows.whose.players))
+
+    there : next_to old.node to ≡ resend_of goes.node to
+    there = ap (λ (p : Peer). p.resend) (goes.shows.peers.known to goes.below)
+
+    in_time : machine.made me goes.node ≤ resend_of goes.node to + limits.places
+    in_time = omega (arith, time.there, count, there, goes.shows.whose.places)
+
+    -- nothing, or settings
+    covers_silent : (node : machine.Node) (flight : Option Flight) → Represents limits me new.node node
+        → gives.given ≡ option_map carried_of flight → Silent limits me goes.node to node flight → Covers
+    covers_silent node flight shows is silent = (
+      still node shows rising_on more_on (next_same node more_on gone_on silent.0),
+      (λ packet took. none_past flight silent.1 packet (taken_given presence gives.given packet took ∙ is)),
+    )
+      where
+        none_past : (flight : Option Flight) → ((one : Flight) → flight ≡ Some one → end_of (carried_of one) ≡ 0)
+            → (packet : Carried) → Some packet ≡ option_map carried_of flight → end_of packet ≤ now.covered
+        none_past None none packet e = absurd (cc)
+        none_past (Some one) none packet e =
+            let same = ap end_of (same_Some packet (carried_of one) e) in
+            omega (arith, same, none one refl)
+
+    -- a packet that goes on where the others end
+    module _ (node : machine.Node) (shows : Represents limits me new.node node) (packet : Carried)
+        (is : gives.given ≡ Some packet) (follows : Follows limits me goes.node to node packet) where
+      taken_is : taken ≡ (if takes_packet presence packet then Some packet else None)
+      taken_is = ap (taken_by presence) is
+
+      -- it begins there, or earlier
+      within : takes_packet presence packet ≡ true → resend_of goes.node to ≤ was.covered
+      within takes = elim goes.next [
+        | inl gone ↦ absurd (true≢false (sym takes ∙ ap (λ (p : Presence). takes_packet p packet) gone.1))
+        | inr low ↦ omega (arith, low, there)
+      ]
+
+      reaches : takes_packet presence packet ≡ true → Reaches was packet
+      reaches takes =
+          let low = within takes in
+          let first = follows.start in
+          elim (cases_lt was.covered (end_of packet)) [
+            | inl past ↦ elim follows.end [
+              | inl same ↦ inl (omega (arith, same, low))
+              | inr few_made ↦
+                  let room = few was.done was.packets was.covered goes.rising in
+                  inr (omega (arith, first, low), omega (arith, room, past, few_made, count, time.few))
+            ]
+            | inr before ↦ inl before
+          ]
+
+      covers_packet : Covers
+      covers_packet = go (takes_packet presence packet) refl
+        where
+          go : (test : Bool) → takes_packet presence packet ≡ test → Covers
+          go true takes =
+              let took : taken ≡ Some packet = taken_is ∙ rw takes refl in
+              let covered : now.covered ≡ (with_packet was packet).covered =
+              ap (λ (k : Unacknowledged). k.covered) kept_is ∙ ap (λ (o : Option Carried). (kept_after was o).covered) took in
+              let reach = (reached was packet).1 (reaches takes) in
+              let low = follows.next in (
+                still node shows rising_on more_on (inr (omega (arith, covered, reach, low))),
+                (λ other other_took.
+                    let same = ap end_of (same_Some packet other (sym took ∙ other_took)) in
+                    omega (arith, covered, reach, same)),
+              )
+          go false not_taken =
+              let took : taken ≡ None = taken_is ∙ rw not_taken refl in (
+                still node shows rising_on more_on (elim (gone_or_idle presence packet not_taken) [
+                  | inl gone ↦ inl (gone_on gone)
+                  | inr none ↦ elim goes.next [
+                    | inl gone ↦ inl (gone_on gone)
+                    | inr low ↦
+                        let first = follows.start in
+                        let next = follows.next in
+                        inr (omega (arith, first, next, none, low, there, more_on))
+                  ]
+                ]),
+                (λ other other_took. absurd (none-some other (sym took ∙ other_took))),
+              )
+
+    pub covers : Covers
+    covers = go (holds_back old) gives.step
+      where
+        go : (test : Bool)
+            → ByTest test ((new.node ≡ old.node) × (gives.given ≡ None)) (SendsCarried to old.node new.node gives.given)
+            → Covers
+        go true held =
+            covers_silent goes.node None (subst (λ (n : Contents). Represents limits me n goes.node) (sym held.0) goes.shows)
+            held.1 (refl, (λ one e. absurd (none-some one e)))
+        go false step =
+            let sent_is : sent_to to limits me goes.node ≡ on_send limits me goes.node to =
+            let below = lt-ltb to limits.players goes.below in rw below refl in
+            let after = step.step limits me goes.node goes.shows in
+            let here = subst (λ (r : machine.Node × Option Flight). Represents limits me new.node r.0) sent_is after.node in
+            let answer : gives.given ≡ option_map carried_of (on_send limits me goes.node to).1 =
+            after.answer ∙ ap (λ (r : machine.Node × Option Flight). option_map carried_of r.1) sent_is in
+            elim (sends limits me goes.node to (sym goes.shows.whose.most) in_time) [
+              | inl silent ↦ covers_silent _ _ here answer silent
+              | inr some ↦ covers_packet _ here (carried_of some.0) (answer ∙ ap (option_map carried_of) some.1) some.2
+            ]
+
+-- a peer is given up
+abbrev new_of : Linked → ℕ → PeerState
+new_of old peer =
+    record (old.peers peer) { presence = given_up (old.peers peer).gave old.node.phase (old.peers peer).presence }
+
+pub forgets : (limits : Limits) (me to peer : ℕ) (old : Linked) → GoesOn limits me to old
+    → StillGoesOn limits me to old (forgotten peer old)
+forgets limits me to peer old goes = go (is_peer old.node peer)
+  where
+    go : (test : Bool)
+        → StillGoesOn limits me to old (if test then record old { peers = put old.peers peer (new_of old peer) } else old)
+    go false = same_kept limits me to old old goes goes.node goes.shows refl refl (λ gone. gone)
+    go true = elim (cases_eq to peer) [
+      | inl at ↦
+          let now = put_at old.peers peer to (new_of old peer) at in
+          same_kept limits me to old (record old { peers = put old.peers peer (new_of old peer) }) goes goes.node goes.shows refl
+          (ap (λ (t : PeerState). t.kept) now ∙ ap (λ (k : ℕ). (old.peers k).kept) (sym at))
+          (λ gone. (
+            gone.0,
+            ap (λ (t : PeerState). t.presence) now
+                ∙ ap (given_up (old.peers peer).gave old.node.phase) (ap (λ (k : ℕ). (old.peers k).presence) (sym at) ∙ gone.1),
+          ))
+      | inr off ↦
+          let now = put_off old.peers peer to (new_of old peer) off in
+          same_kept limits me to old (record old { peers = put old.peers peer (new_of old peer) }) goes goes.node goes.shows refl
+          (ap (λ (t : PeerState). t.kept) now)
+          (λ gone. (gone.0, ap (λ (t : PeerState). t.presence) now ∙ gone.1))
+    ]

@@ -1,0 +1,302 @@
+-- What comes in leaves the packets to a peer as they go on, unless the peer asks for commands past those.
+use Rattle.std.proofs.Common.{◌≡◌, ◌≤◌, ◌⊎◌, ◌&&◌, ◌||◌, ℕ, Bool, true, false, List, [], ◌∷◌, refl, ap, sym, ◌∙◌, subst, arith, Option, All, inl, inr}
+use Rattle.std.specs.Prelude.{IfSome, not, Result, Ok, Err, slice_index}
+use Rattle.std.proofs.lemmas.Bool.{cases_eq}
+use Rattle.std.proofs.lemmas.List.Elements.{All-head, All-tail}
+use Rattle.dn_packet.specs.declared.packet.Packet.{Packet}
+use Rattle.dn_packet.specs.declared.packet.PacketFault.{PacketFault}
+use Rattle.dn_packet.specs.Read.{AreBytes, Reading}
+use Rattle.dn_setup.specs.Settings.{Settings}
+use Rattle.dn_setup.specs.Setup.{Told}
+use Rattle.dn_setup.specs.declared.setup.SetupFault.{SetupFault}
+use Rattle.dn_setup.specs.declared.setup.SetupFault.TheVariants.{NotSetup}
+use Rattle.dn_machine.specs.Limits.{Limits}
+use Rattle.dn_machine.specs.Node as machine
+use Rattle.dn_machine.specs.Node.{made, put}
+use Rattle.dn_machine.proofs.Put.{put_at, put_off}
+use Rattle.dn_lockstep.specs.Contents.{Contents}
+use Rattle.dn_lockstep.specs.Received.{IsTold}
+use Rattle.dn_lockstep.specs.Represents.{Represents}
+use Rattle.dn_lockstep.specs.Told.{made as made_in}
+use Rattle.dn_lockstep.proofs.Counting.{made_is}
+use Rattle.dn_seal.specs.declared.opened.Opened.{Opened}
+use Rattle.dn_seal.specs.declared.seal.Seal.{Seal}
+use Rattle.dn_open.specs.Arrivals.{HearsOpened}
+use Rattle.dn_open.specs.declared.arrived.Arrived.{Arrived}
+use Rattle.dn_open.specs.Sealed.{sealing_of}
+use Rattle.dn_link.specs.declared.bundle.Bundle.{Bundle}
+use Rattle.dn_link.specs.declared.bundle.BundleFault.{BundleFault}
+use Rattle.dn_link.specs.declared.bundle.Identity.{Identity}
+use Rattle.dn_link.specs.declared.bundle.Message.{Message}
+use Rattle.dn_link.specs.declared.bundle.Message.TheVariants.{Hello, Game, Goodbye}
+use Rattle.dn_link.specs.declared.presence.Presence.{Presence}
+use Rattle.dn_link.specs.declared.presence.Presence.TheVariants.{Left}
+use Rattle.dn_link.specs.declared.received.Received.{Received}
+use Rattle.dn_link.specs.declared.received.Received.TheVariants.{Stranger}
+use Rattle.dn_link.specs.Ends.{tells_end}
+use Rattle.dn_link.specs.Hearing.{ByTest, HearsAll, HearsUntil, is_start}
+use Rattle.dn_link.specs.Kept.{IsKeptRising}
+use Rattle.dn_link.specs.Linked.{Linked, PeerState, Receives, ReceivesAs, TakesIn, done_with, hears, is_peer, known_by, met, received_of}
+use Rattle.dn_link.specs.Onward.{AskWithin, AsksWithin, GoesOn, IsGone, StillGoesOn}
+use Rattle.dn_link.specs.Paced.{PaceState}
+use Rattle.dn_link.specs.Packets.{packets_in}
+use Rattle.dn_link.specs.Presence.{Becomes, Greets, goes, is_fresh, may_come, plays_on}
+use Rattle.dn_link.specs.Reading.{IsBundledAs}
+use Rattle.dn_link.proofs.Asked.{opened_asked}
+use Rattle.dn_link.proofs.Following.{next_same, same_peers, still}
+use Rattle.dn_link.proofs.Ranged.{IsOf, packets_of_bytes}
+use Rattle.dn_link.proofs.Rising.{rises_past}
+use Rattle.dn_link.proofs.Sending.{resend_of}
+
+-- any bytes are read as something
+pub record AreRead : Type 0 where
+  pub bytes : (bytes : List ℕ) → AreBytes bytes → Reading bytes
+  pub packet : (packet : Packet) → Told packet
+
+telling : AreRead → (read : Result Packet PacketFault) → (told : Result Settings SetupFault) × IsTold read told
+telling are (Ok packet) = let t = are.packet packet in (t.told, t.is_told)
+telling are (Err fault) = (Err NotSetup, tt)
+
+module _ (are : AreRead) (limits : Limits) (me to from bound : ℕ) where
+  -- a node of the machine that is shown afterwards, has made as many commands, and sends next from where one
+  -- did, or not past the bound
+  abbrev pub Heeds : machine.Node → Contents → Type 0
+  Heeds m new = (next : machine.Node) × Represents limits me new next
+      × (made me next ≡ made me m) × ((resend_of next to ≡ resend_of m to) ⊎ (resend_of next to ≤ bound))
+
+  -- no more was made, or the peer asks for no more
+  abbrev pub Within : machine.Node → List Opened → Type 0
+  Within m packets = (made me m ≤ bound) ⊎ (from ≡ to → AskWithin bound packets)
+
+  one_heeds : (packet : Opened) (packets : List Opened) (now next : Contents) (answer : Arrived) (m : machine.Node)
+      → Represents limits me now m → IsOf from packet → Within m (packet ∷ packets)
+      → HearsOpened packet now next answer → Heeds m next
+  one_heeds packet packets now next answer m shows is within heard =
+      let reading = are.bytes packet.datagram.items is.1 in
+      let told = telling are reading.read in
+      let after = heard.step reading.read told.0 (reading.is_read, told.1) limits me m shows in
+      let asked = opened_asked limits me m to packet reading.read told.0 (reading.is_read, told.1) in (
+        _,
+        after.node,
+        asked.0,
+        elim asked.1 [
+          | inl same ↦ inl same
+          | inr tells ↦ inr (elim within [
+            | inl all ↦ omega (arith, all, tells.2)
+            | inr asks ↦ subst (λ (o : Option ℕ). IfSome o (λ tic. tic ≤ bound)) tells.1
+                (All-head (λ p. IfSome p.ask (λ tic. tic ≤ bound)) packet packets (asks (sym is.0 ∙ tells.0)))
+          ])
+        ],
+      )
+
+  heeds_on : (m mid : machine.Node) (new : Contents) → made me mid ≡ made me m
+      → (resend_of mid to ≡ resend_of m to) ⊎ (resend_of mid to ≤ bound) → Heeds mid new → Heeds m new
+  heeds_on m mid new count first (next, shows, counts, later) = (
+    next,
+    shows,
+    counts ∙ count,
+    elim later [
+      | inr low ↦ inr low
+      | inl same ↦ elim first [
+        | inl before ↦ inl (same ∙ before)
+        | inr low ↦ inr (omega (arith, same, low))
+      ]
+    ],
+  )
+
+  within_on : (m mid : machine.Node) (packets more : List Opened) → made me mid ≡ made me m
+      → (AskWithin bound packets → AskWithin bound more) → Within m packets → Within mid more
+  within_on m mid packets more count rest within = elim within [
+    | inl all ↦ inl (omega (arith, all, count))
+    | inr asks ↦ inr (λ e. rest (asks e))
+  ]
+
+  until_heeds : (packets : List Opened) (now new : Contents) (started : Bool) (m : machine.Node)
+      → Represents limits me now m → All (IsOf from) packets → Within m packets
+      → HearsUntil packets now new started → Heeds m new
+  until_heeds [] now new started m shows all within heard =
+      (m, subst (λ (n : Contents). Represents limits me n m) (sym heard.0) shows, refl, inl refl)
+  until_heeds (packet ∷ packets) now new started m shows all within (next, answer, one, spares, then) =
+      let first = one_heeds packet packets now next answer m shows (All-head (IsOf from) packet packets all) within one in
+      go (is_start answer) first
+      (λ later. heeds_on m first.0 new first.2 first.3 (until_heeds packets next new started first.0 first.1
+      (All-tail (IsOf from) packet packets all)
+      (within_on m first.0 (packet ∷ packets) packets first.2
+      (λ asks. All-tail (λ p. IfSome p.ask (λ tic. tic ≤ bound)) packet packets asks) within) later)) then
+    where
+      go : (test : Bool) → Heeds m next → (HearsUntil packets next new started → Heeds m new)
+          → ByTest test ((new ≡ next) × (started ≡ true)) (HearsUntil packets next new started) → Heeds m new
+      go true first later then = subst (Heeds m) (sym then.0) first
+      go false first later then = later then
+
+  all_heeds : (packets : List Opened) (now new : Contents) (started : Bool) (m : machine.Node)
+      → Represents limits me now m → All (IsOf from) packets → Within m packets
+      → HearsAll packets now new started → Heeds m new
+  all_heeds packets now new started m shows all within (next, first, then) =
+      let begun = until_heeds packets now next started m shows all within first in
+      go started begun then
+    where
+      go : (test : Bool) → Heeds m next
+          → ByTest test ((again : Bool) × HearsUntil packets next new again) (new ≡ next) → Heeds m new
+      go true begun then =
+          heeds_on m begun.0 new begun.2 begun.3 (until_heeds packets next new then.0 begun.0 begun.1 all
+          (within_on m begun.0 packets packets begun.2 (λ asks. asks) within) then.1)
+      go false begun then = subst (Heeds m) (sym then) begun
+
+-- one that is gone stays so
+goes_gone : (end : Bool) (cause why : ℕ) → IsGone (goes end why (Left cause))
+goes_gone true cause why = (why, refl)
+goes_gone false cause why = (cause, refl)
+
+becomes_gone : (own : Identity) (gave fresh : Bool) (bundle : Bundle) (message : Message) (old new : Presence)
+    → Becomes own gave fresh bundle message old new → IsGone old → IsGone new
+becomes_gone own gave fresh bundle (Hello identity) old new becomes gone =
+    go fresh gave (subst (λ (p : Presence). ByTest (fresh && may_come gave p) (Greets own identity new) (new ≡ p)) gone.1 becomes)
+  where
+    go : (fresh gave : Bool)
+        → ByTest (fresh && may_come gave (Left gone.0)) (Greets own identity new) (new ≡ Left gone.0) → IsGone new
+    go true true same = (gone.0, same)
+    go true false same = (gone.0, same)
+    go false gave same = (gone.0, same)
+becomes_gone own gave fresh bundle Game old new becomes gone =
+    (gone.0, becomes ∙ ap (plays_on fresh) gone.1)
+becomes_gone own gave fresh bundle (Goodbye why) old new becomes gone = go (fresh || tells_end bundle) becomes
+  where
+    go : (test : Bool) → ByTest test (new ≡ goes (tells_end bundle) why old) (new ≡ old) → IsGone new
+    go true same =
+        let is = goes_gone (tells_end bundle) gone.0 why in
+        (is.0, same ∙ ap (goes (tells_end bundle) why) gone.1 ∙ is.1)
+    go false same = (gone.0, same ∙ gone.1)
+
+module _ (are : AreRead) (limits : Limits) (me to : ℕ) (old new : Linked) (goes_old : GoesOn limits me to old) where
+  -- what is known of its sender
+  module _ (differs : Bool) (bundle : Bundle) (presence : Presence) where
+    abbrev known : PeerState
+    known = known_by differs old.node bundle presence (old.peers bundle.from)
+
+    known_rises : IsKeptRising (old.peers bundle.from).kept → IsKeptRising known.kept
+    known_rises = go differs
+      where
+        go : (differs : Bool) → IsKeptRising (old.peers bundle.from).kept
+            → IsKeptRising (known_by differs old.node bundle presence (old.peers bundle.from)).kept
+        go true rising = rising
+        go false rising = rises_past _ _ _ (done_with presence old.node (slice_index bundle.counts.got old.node.me)) rising
+
+    known_more : (old.peers bundle.from).kept.covered ≤ known.kept.covered
+    known_more = go differs
+      where
+        go : (differs : Bool) → (old.peers bundle.from).kept.covered
+            ≤ (known_by differs old.node bundle presence (old.peers bundle.from)).kept.covered
+        go true = omega arith
+        go false = omega arith
+
+    known_presence : known.presence ≡ presence
+    known_presence = go differs
+      where
+        go : (differs : Bool) → (known_by differs old.node bundle presence (old.peers bundle.from)).presence ≡ presence
+        go true = refl
+        go false = refl
+
+  -- of the peer, which sent the datagram or did not
+  record IsMet : Type 0 where
+    rising : IsKeptRising (new.peers to).kept
+    more : (old.peers to).kept.covered ≤ (new.peers to).kept.covered
+    gone : IsGone (old.peers to).presence → IsGone (new.peers to).presence
+
+  is_met : (identity : Identity) (fresh : Bool) (bundle : Bundle) (presence : Presence) (differs started : Bool)
+      → TakesIn identity fresh bundle old new presence differs started → IsMet
+  is_met identity fresh bundle presence differs started takes = elim (cases_eq to bundle.from) [
+    | inl at ↦
+        let now : new.peers to ≡ known differs bundle presence =
+        ap (λ (f : ℕ → PeerState). f to) takes.peers ∙ put_at old.peers bundle.from to _ at in
+        let was : old.peers to ≡ old.peers bundle.from = ap old.peers at in
+        record {
+          rising = subst (λ (t : PeerState). IsKeptRising t.kept) (sym now)
+              (known_rises differs bundle presence (subst (λ (t : PeerState). IsKeptRising t.kept) was goes_old.rising));
+          more = omega (
+            arith,
+            ap (λ (t : PeerState). t.kept.covered) now,
+            ap (λ (t : PeerState). t.kept.covered) was,
+            known_more differs bundle presence,
+          );
+          gone = λ gone.
+              let is = becomes_gone identity (old.peers bundle.from).gave fresh bundle bundle.message
+              (old.peers bundle.from).presence presence takes.becomes
+              (gone.0, ap (λ (t : PeerState). t.presence) (sym was) ∙ gone.1) in
+              (is.0, ap (λ (t : PeerState). t.presence) now ∙ known_presence differs bundle presence ∙ is.1);
+        }
+    | inr off ↦
+        let same : new.peers to ≡ old.peers to =
+        ap (λ (f : ℕ → PeerState). f to) takes.peers ∙ put_off old.peers bundle.from to _ off in
+        record {
+          rising = subst (λ (t : PeerState). IsKeptRising t.kept) (sym same) goes_old.rising;
+          more = omega (arith, ap (λ (t : PeerState). t.kept.covered) same);
+          gone = λ gone. (gone.0, ap (λ (t : PeerState). t.presence) same ∙ gone.1);
+        }
+  ]
+
+  nothing : new ≡ old → StillGoesOn limits me to old new
+  nothing same =
+      same_peers limits me to old new goes_old goes_old.node
+      (subst (λ (l : Linked). Represents limits me l.node goes_old.node) (sym same) goes_old.shows) refl
+      (ap (λ (l : Linked). l.peers) same)
+
+  taken_in : (identity : Identity) (fresh : Bool) (bundle : Bundle) (presence : Presence) (differs started : Bool)
+      → All (IsOf bundle.from) (packets_in bundle)
+      → Within are limits me to bundle.from (new.peers to).kept.covered goes_old.node (packets_in bundle)
+      → TakesIn identity fresh bundle old new presence differs started → StillGoesOn limits me to old new
+  taken_in identity fresh bundle presence differs started all within takes =
+      let met_now = is_met identity fresh bundle presence differs started takes in
+      let heeds : Heeds are limits me to bundle.from (new.peers to).kept.covered goes_old.node new.node =
+      by_heard (not differs && hears (met differs bundle presence old) presence) takes.heard in
+      still limits me to old new goes_old heeds.0 heeds.1 met_now.rising met_now.more (elim heeds.3 [
+        | inl same ↦ next_same limits me to old new goes_old heeds.0 met_now.more met_now.gone same
+        | inr low ↦ inr low
+      ])
+    where
+      by_heard : (test : Bool) → ByTest test (HearsAll (packets_in bundle) old.node new.node started)
+          ((new.node ≡ old.node) × (started ≡ false))
+          → Heeds are limits me to bundle.from (new.peers to).kept.covered goes_old.node new.node
+      by_heard true heard =
+          all_heeds are limits me to bundle.from (new.peers to).kept.covered (packets_in bundle) old.node new.node
+          started goes_old.node goes_old.shows all within heard
+      by_heard false stays =
+          (goes_old.node, subst (λ (n : Contents). Represents limits me n goes_old.node) (sym stays.0) goes_old.shows, refl, inl refl)
+
+  -- all that the node made is covered, or the peer asks for no more than is
+  abbrev IsWithin : Seal → List ℕ → Type 0
+  IsWithin seal bytes =
+      (made_in old.node ≤ (new.peers to).kept.covered) ⊎ AsksWithin seal me to (new.peers to).kept.covered bytes
+
+  received_as : (seal : Seal) (identity : Identity) (pace : PaceState) (bytes : List ℕ) (answer : Received)
+      → AreBytes bytes → IsWithin seal bytes
+      → (opened : Result Bundle BundleFault) → IsBundledAs (sealing_of seal me) bytes opened
+      → ReceivesAs identity pace opened old new answer → StillGoesOn limits me to old new
+  received_as seal identity pace bytes answer fit asks (Err fault) is comes = nothing comes.1
+  received_as seal identity pace bytes answer fit asks (Ok bundle) is comes = go (is_peer old.node bundle.from) comes
+    where
+      count : made_in old.node ≡ made me goes_old.node
+      count = made_is limits me old.node goes_old.node goes_old.shows
+          (omega (arith, goes_old.mine, goes_old.shows.whose.number, goes_old.shows.whose.players))
+
+      go : (test : Bool) → ByTest test
+          ((presence : Presence) × (differs : Bool) × (started : Bool)
+          × (answer ≡ received_of differs bundle.from started)
+          × TakesIn identity (is_fresh (pace.lines bundle.from).newest bundle.number) bundle old new presence differs
+          started)
+          ((answer ≡ Stranger bundle.from) × (new ≡ old))
+          → StillGoesOn limits me to old new
+      go true comes =
+          taken_in identity _ bundle comes.0 comes.1 comes.2
+          (packets_of_bytes seal bundle (subst AreBytes is.is fit)) (elim asks [
+            | inl all ↦ inl (omega (arith, all, count))
+            | inr none ↦ inr (none bundle is)
+          ]) comes.4
+      go false comes = nothing comes.1
+
+  pub received : (seal : Seal) (identity : Identity) (pace : PaceState) (bytes : List ℕ) (answer : Received)
+      → AreBytes bytes → Receives seal identity pace bytes old new answer → IsWithin seal bytes → StillGoesOn limits me to old new
+  received seal identity pace bytes answer fit receives asks =
+      received_as seal identity pace bytes answer fit asks receives.0
+      (subst (λ (k : ℕ). IsBundledAs (sealing_of seal k) bytes receives.0) goes_old.shows.whose.number receives.1)
+      receives.2

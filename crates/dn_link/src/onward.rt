@@ -1,0 +1,74 @@
+//! That whatever is given to a peer is covered by what is kept for it.
+
+ghost use Rattle.std.specs.Prelude.{◌≡◌, ◌≢◌, ◌<◌, ◌≤◌, ◌⊎◌, ◌+◌, ℕ, ℤ, Bool, List, Option, Some};
+ghost use Rattle.dn_tic.specs.declared.command.Move.{Move};
+ghost use Rattle.dn_tic.specs.declared.input.Input.{Input};
+ghost use Rattle.dn_packet.specs.Read.{AreBytes};
+ghost use Rattle.dn_setup.specs.Settings.{Settings};
+ghost use Rattle.dn_machine.specs.declared.answers.Made.{Made};
+ghost use Rattle.dn_machine.specs.declared.answers.Ran.{Ran};
+ghost use Rattle.dn_machine.specs.Building.{on_build};
+ghost use Rattle.dn_machine.specs.Game.{fresh};
+ghost use Rattle.dn_machine.specs.Limits.{Limits};
+ghost use Rattle.dn_machine.specs.Running.{on_run, on_quit};
+ghost use Rattle.dn_lockstep.specs.Represents.{Represents};
+ghost use Rattle.dn_lockstep.specs.Runs.{RunsBy};
+ghost use Rattle.dn_lockstep.specs.Steps.{Steps};
+ghost use Rattle.dn_lockstep.specs.Told.{made};
+ghost use Rattle.dn_seal.specs.declared.seal.Seal.{Seal};
+ghost use Rattle.dn_link.specs.declared.bundle.Carried.{Carried};
+ghost use Rattle.dn_link.specs.declared.bundle.Identity.{Identity};
+ghost use Rattle.dn_link.specs.declared.received.Received.{Received};
+ghost use Rattle.dn_link.specs.Kept.{end_of, taken_by};
+ghost use Rattle.dn_link.specs.Linked.{Gives, Linked, Receives, forgotten};
+ghost use Rattle.dn_link.specs.Linking.{new_peer};
+ghost use Rattle.dn_link.specs.Onward.{AsksWithin, GoesOn, IsInTime, StillGoesOn};
+ghost use Rattle.dn_link.specs.Paced.{PaceState};
+
+use dn_packet::every_datagram_is_read;
+use dn_setup::every_packet_is_told;
+
+/// The tic from which a peer is to be sent commands is not past those that are covered for it: at the start;
+/// after every call on the link but `receive` and a datagram to this peer; after any bytes came in, unless the
+/// peer asks for a later command than are covered when not all are; and after a datagram to this peer, unless
+/// it comes too late. If it does not, the packet that it gives is then covered. It comes too late if more
+/// commands were made from that tic on than the node keeps, or more than twenty-four that the peer has not
+/// acknowledged.
+pub fn given_is_covered()
+    ensures opened { (limits : Limits) (settings : Settings) (me to : ℕ) (link : Linked)
+        → me < limits.players → to < limits.players → Represents limits me link.node (fresh settings me)
+        → link.peers to ≡ new_peer → GoesOn limits me to link }
+    ensures built { (limits : Limits) (me to : ℕ) (old new : Linked) (input : Input) (made : Made)
+        → GoesOn limits me to old
+        → Steps old.node new.node (λ limits me m. on_build limits me m input) (λ answer. made ≡ answer)
+        → new.peers ≡ old.peers → StillGoesOn limits me to old new }
+    ensures ran { (limits : Limits) (me to : ℕ) (old new : Linked) (marks : List ℤ) (ran : Ran)
+        (row : Option (List (Option Move))) → GoesOn limits me to old
+        → RunsBy marks old.node new.node (λ limits m marks. on_run limits m marks)
+        (λ answer told. (ran ≡ answer) × (row ≡ told))
+        → new.peers ≡ old.peers → StillGoesOn limits me to old new }
+    ensures quit { (limits : Limits) (me to : ℕ) (old new : Linked) (quit : Bool) → GoesOn limits me to old
+        → Steps old.node new.node (λ limits me m. on_quit m) (λ answer. quit ≡ answer)
+        → new.peers ≡ old.peers → StillGoesOn limits me to old new }
+    ensures forgot { (limits : Limits) (me to peer : ℕ) (old : Linked) → GoesOn limits me to old
+        → StillGoesOn limits me to old (forgotten peer old) }
+    ensures received { (limits : Limits) (me to : ℕ) (seal : Seal) (identity : Identity) (pace : PaceState) (bytes : List ℕ)
+        (old new : Linked) (answer : Received) → GoesOn limits me to old → AreBytes bytes
+        → Receives seal identity pace bytes old new answer
+        → (made old.node ≤ (new.peers to).kept.covered) ⊎ AsksWithin seal me to (new.peers to).kept.covered bytes
+        → StillGoesOn limits me to old new }
+    ensures gave_another { (limits : Limits) (me to other : ℕ) (seal : Seal) (identity : Identity) (pace : PaceState)
+        (old new : Linked) (bytes : List ℕ) → other ≢ to → GoesOn limits me to old
+        → Gives seal identity pace other old new bytes → StillGoesOn limits me to old new }
+    ensures gave { (limits : Limits) (me to : ℕ) (seal : Seal) (identity : Identity) (pace : PaceState)
+        (old new : Linked) (bytes : List ℕ) → GoesOn limits me to old → IsInTime to old
+        → Gives seal identity pace to old new bytes → StillGoesOn limits me to old new }
+    ensures covered { (limits : Limits) (me to : ℕ) (seal : Seal) (identity : Identity) (pace : PaceState)
+        (old new : Linked) (bytes : List ℕ) → GoesOn limits me to old → IsInTime to old
+        → (gives : Gives seal identity pace to old new bytes) (packet : Carried)
+        → taken_by (old.peers to).presence gives.given ≡ Some packet
+        → end_of packet ≤ (new.peers to).kept.covered }
+{
+    every_datagram_is_read();
+    every_packet_is_told();
+}
