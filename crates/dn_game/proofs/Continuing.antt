@@ -22,10 +22,11 @@ use Rattle.dn_node.specs.Represents as node_to
 use Rattle.dn_game.specs.declared.going_on.PlayOnFault.{PlayOnFault}
 use Rattle.dn_game.specs.declared.going_on.PlayOnFault.TheVariants.{Round}
 use Rattle.dn_game.specs.declared.rounds.RoundFault.{RoundFault}
-use Rattle.dn_game.specs.Contents.{Contents}
-use Rattle.dn_game.specs.GoingOn.{NoneLost, AllRan, HasRoom, GoesOn, HasGoneOn}
+use Rattle.dn_game.specs.declared.played.Played.{Played}
+use Rattle.dn_game.specs.Contents.{Contents, contents}
+use Rattle.dn_game.specs.GoingOn.{NoneLost, AllRan, HasRoom, GoesOn, HasGoneOn, HasPlayedOn}
 use Rattle.dn_game.specs.Played.{IsReachedWith}
-use Rattle.dn_game.specs.Promised.{IsReached}
+use Rattle.dn_game.specs.Promised.{IsReached, HasPlayed}
 use Rattle.dn_game.specs.Represents.{Represents}
 use Rattle.dn_game.specs.Told.{HasNode}
 use Rattle.dn_lockstep.proofs.Shown.{started, end_is}
@@ -127,4 +128,22 @@ module _ {W S : Type 0} (state : W → S) (rules : Rules S) (settings : Settings
         promised = promised state rules settings _ _ _ later
             (plays_on rules events _ answers _ (opening_game settings) reached.last _ reached.plays
             (plays_rounds rules inputs rounds reached.last)) shown;
+      }
+
+  -- what is promised of playing on. An abbrev, so that its parts compute where it is cited.
+  abbrev pub has_played_on : (events : List Event) (inputs : ℕ → Input) (rounds : ℕ) (before played : Played W)
+      (first : HasPlayed state rules settings events before) → 2 ≤ rules.players
+      → Represents state rules (contents played.game)
+      (good_rounds rules (λ round. inputs) rounds first.events_played.last)
+      → played.done ≡ before.done → played.refused ≡ before.refused
+      → HasPlayedOn state rules settings events inputs rounds played
+  has_played_on events inputs rounds before played first several shown done refused =
+      let e = first.events_played in
+      record {
+        before = before;
+        first = first;
+        on = gone_on events e.answers (contents before.game) (contents played.game)
+            (record { last = e.last; plays = e.plays; game = e.game }) several (λ round. inputs) rounds shown;
+        done = done;
+        refused = refused;
       }

@@ -40,7 +40,8 @@ same_at {X} xs ys i same = ap (λ (zs : List X). slice_get zs i) same
 
 module _ {X : Type 0} where
   -- what stood in a list stands there when more follows
-  at_front : (xs more : List X) (k : ℕ) (x : X) → slice_get xs k ≡ Some x → slice_get (xs ++ more) k ≡ Some x
+  pub at_front : (xs more : List X) (k : ℕ) (x : X) → slice_get xs k ≡ Some x
+      → slice_get (xs ++ more) k ≡ Some x
   at_front [] more k x h = absurd (none-some x h)
   at_front (y ∷ xs) more zero x h = h
   at_front (y ∷ xs) more (suc k) x h = at_front xs more k x h
@@ -96,7 +97,7 @@ module _ {W E A : Type 0} (named_of : List Flight → E → Option ℕ) (MovesNo
     (quiet : MovesNone answer → KeepsWorlds old new) (more : List Flight)
     (sent : new.flights ≡ old.flights ++ more) where
   -- the world of a node that this event does not move
-  stays_at : (i : ℕ) → (named_of old.flights event ≡ Some i → MovesNone answer)
+  pub stays_at : (i : ℕ) → (named_of old.flights event ≡ Some i → MovesNone answer)
       → slice_get (worlds_of new.nodes) i ≡ slice_get (worlds_of old.nodes) i
   stays_at i still =
       let own = λ (n : Node W). (node.contents n).world in

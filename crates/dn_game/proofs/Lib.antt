@@ -20,6 +20,8 @@ pub mod Applying
 pub mod Delivering
 pub mod Sending
 pub mod Rounding
+pub mod Giving
+pub mod Idling
 pub mod Arriving
 pub mod Continuing
 pub mod Following
@@ -31,4 +33,3 @@ pub mod OpenAnswering
 pub mod OpenSending
 pub mod OpenSteps
 pub mod OpenStanding
-pub mod Giving

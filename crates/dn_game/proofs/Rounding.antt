@@ -1,10 +1,12 @@
 -- Good rounds are their events, applied one after another.
-use Rattle.std.proofs.Common.{◌≡◌, ◌<◌, ℕ, zero, suc, List, [], ◌∷◌, ◌++◌, append_assoc, append-nil, refl, ap, sym, ◌∙◌, subst, inl, inr, arith}
+use Rattle.std.proofs.Common.{◌≡◌, ◌<◌, ℕ, zero, suc, List, [], ◌∷◌, ◌++◌, length, Result, append_assoc, append-nil, refl, ap, sym, ◌∙◌, subst, inl, inr, arith}
 use Rattle.std.proofs.lemmas.Bool.{cases_lt}
 use Rattle.dn_tic.specs.declared.input.Input.{Input}
+use Rattle.dn_machine.specs.declared.events.Done.{Done}
 use Rattle.dn_machine.specs.declared.events.Event.{Event}
 use Rattle.dn_machine.specs.declared.events.Event.TheVariants.{Run}
-use Rattle.dn_machine.specs.Game.{Game}
+use Rattle.dn_machine.specs.declared.events.Refusal.{Refusal}
+use Rattle.dn_machine.specs.Game.{Game, applied}
 use Rattle.dn_machine.specs.Progress.{after, build_of, in_order, exchange, turn, good_round, good_rounds}
 use Rattle.dn_machine.specs.Worlds.{Rules}
 use Rattle.dn_game.specs.Played.{Plays}
@@ -16,6 +18,17 @@ module _ {S : Type 0} (rules : Rules S) where
       → after_all rules (events ++ more) game ≡ after_all rules more (after_all rules events game)
   all_after [] more game = refl
   all_after (event ∷ events) more game = all_after events more (after rules event game)
+
+  pub answers_after : (events more : List Event) (game : Game) → answers_to rules (events ++ more) game
+      ≡ answers_to rules events game ++ answers_to rules more (after_all rules events game)
+  answers_after [] more game = refl
+  answers_after (event ∷ events) more game =
+      ap (λ (answers : List (Result Done Refusal)). (applied rules game event).1 ∷ answers)
+      (answers_after events more (after rules event game))
+
+  pub answers_each : (events : List Event) (game : Game) → length events ≡ length (answers_to rules events game)
+  answers_each [] game = refl
+  answers_each (event ∷ events) game = ap suc (answers_each events (after rules event game))
 
   -- each is answered as the machine answers it
   pub plays_all : (events : List Event) (game : Game)

@@ -15,6 +15,7 @@ use Rattle.dn_node.specs.Contents.{locked, end_in}
 use Rattle.dn_game.specs.declared.played.Played.{Played}
 use Rattle.dn_game.specs.declared.rounds.RoundFault.{RoundFault}
 use Rattle.dn_game.specs.Contents.{Contents, contents}
+use Rattle.dn_game.specs.Given.{KeepsGiven}
 use Rattle.dn_game.specs.Promised.{IsPromised, HasPlayed}
 use Rattle.dn_game.specs.Represents.{Represents}
 use Rattle.dn_game.specs.RoundEvents.{rounds_events, answers_to}
@@ -78,6 +79,16 @@ pub record HasPlayedOn {W S : Type 0} (state : W → S) (rules : Rules S) (setti
   pub done : played.done ≡ before.done
   pub refused : played.refused ≡ before.refused
 
+-- events and rounds were played so; and a node has the world that was given for it, unless an answer to an
+-- event that names it, one of the list or one of the rounds, tells that it started or ran
+pub record HasPlayedOnFrom {W S : Type 0} (state : W → S) (rules : Rules S) (settings : Settings)
+    (worlds : List W) (events : List Event) (inputs : ℕ → Input) (rounds : ℕ) (played : Played W) : Type 0 where
+  pub played_on : HasPlayedOn state rules settings events inputs rounds played
+  pub given : let first = played_on.first.events_played in
+      let behind = rounds_events rules (λ round. inputs) rounds first.last in
+      KeepsGiven worlds (events ++ behind) (first.answers ++ answers_to rules behind first.last)
+      (contents played.game)
+
 -- the events were played and left `before`; the rounds after them stopped, and left this game
 pub record HasBrokenOff {W S : Type 0} (state : W → S) (rules : Rules S) (settings : Settings)
     (events : List Event) (inputs : ℕ → Input) (rounds : ℕ) (fault : RoundFault) : Type 0 where
@@ -86,4 +97,4 @@ pub record HasBrokenOff {W S : Type 0} (state : W → S) (rules : Rules S) (sett
   pub left : Contents W
   pub unsent : IsUnsent left fault
   pub cut : IsCutShort state rules (rounds_events rules (λ round. inputs) rounds first.events_played.last)
-      first.events_played.last left
+      first.events_played.last (contents before.game) left

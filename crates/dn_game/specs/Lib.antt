@@ -4,6 +4,7 @@ pub mod Opening
 pub mod Fresh
 pub mod Applied
 pub mod Frame
+pub mod Given
 pub mod Played
 pub mod InputsMade
 pub mod Promised
@@ -22,4 +23,3 @@ pub mod Sealed
 pub mod Arrived
 pub mod OpenPlayed
 pub mod OpenPromised
-pub mod Given

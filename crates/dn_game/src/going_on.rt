@@ -10,7 +10,7 @@ ghost use Rattle.dn_machine.specs.Progress.{good_rounds};
 ghost use Rattle.dn_machine.specs.Worlds.{rules_of};
 ghost use Rattle.dn_game.specs.Contents.{Contents, contents};
 ghost use Rattle.dn_game.specs.Fresh.{AreLimited};
-ghost use Rattle.dn_game.specs.GoingOn.{NoneLost, AllRan, HasRoom, GoesOn, HasGoneOn, HasPlayedOn, HasBrokenOff};
+ghost use Rattle.dn_game.specs.GoingOn.{NoneLost, AllRan, HasRoom, GoesOn, HasGoneOn, HasPlayedOn, HasPlayedOnFrom, HasBrokenOff};
 ghost use Rattle.dn_game.specs.Opening.{IsAdmittedOn, rules_in};
 ghost use Rattle.dn_game.specs.Played.{IsReachedWith};
 ghost use Rattle.dn_game.specs.Pool.{IsWithinTwice};
@@ -96,6 +96,11 @@ pub fn play_on_with<W: World>(
     ensures promised { IfOk result (λ played. HasPlayedOn W.state
         (rules_in W.physics config (length worlds.items)) config.settings events.now (input_of inputs.now) rounds
         played) }
+    // A node has the world that was given for it, unless an answer to an event that names it, one of the list
+    // or one of the rounds, tells that it started or ran.
+    ensures given { IfOk result (λ played. HasPlayedOnFrom W.state
+        (rules_in W.physics config (length worlds.items)) config.settings worlds.items events.now
+        (input_of inputs.now) rounds played) }
     // Where a round stops, the events before some send of the rounds were applied. Of `Memory` nothing more is
     // said here, since the game is given up: that there was no room is a clause of the rounds.
     ensures stopped { (fault : RoundFault) → result ≡ Err (Round fault) → HasBrokenOff W.state
@@ -129,6 +134,9 @@ pub fn play_on<W: World>(
     ensures promised { IfOk result (λ played. HasPlayedOn W.state
         (rules_in W.physics config (length worlds.items)) config.settings events.now (pressed_by keys) rounds
         played) }
+    ensures given { IfOk result (λ played. HasPlayedOnFrom W.state
+        (rules_in W.physics config (length worlds.items)) config.settings worlds.items events.now
+        (pressed_by keys) rounds played) }
     ensures stopped { (fault : RoundFault) → result ≡ Err (Round fault) → HasBrokenOff W.state
         (rules_in W.physics config (length worlds.items)) config.settings events.now (pressed_by keys) rounds
         fault }

@@ -7,6 +7,7 @@ ghost use Rattle.dn_machine.specs.declared.events.Refusal.{Refusal};
 ghost use Rattle.dn_machine.specs.Progress.{build_of, exchange, turn, good_round, good_rounds};
 ghost use Rattle.dn_game.specs.Applied.{Tells};
 ghost use Rattle.dn_game.specs.Contents.{contents};
+ghost use Rattle.dn_game.specs.Frame.{KeepsFlights};
 ghost use Rattle.dn_game.specs.Room.{IsFull, KeepsWhose, StaysWithin};
 ghost use Rattle.dn_game.specs.RoundEvents.{exchange_events, turn_events, round_events, rounds_events};
 ghost use Rattle.dn_game.specs.Rounds.{pressed_by, IsCarriedOut};
@@ -63,10 +64,12 @@ impl<W: World> Game<W> {
     /// Asks a node for a packet to another, and delivers it. To itself a node sends nothing.
     fn exchange(&mut self, node: u32, to: u32) -> Result<(), RoundFault>
         ensures good { Tells W.state W.physics (contents self.old) (λ rules m.
-            IsCarriedOut W.state rules m (exchange_events node m to) (exchange rules node m to) (contents self.new) result) }
+            IsCarriedOut W.state rules m (exchange_events node m to) (exchange rules node m to)
+            (contents self.old) (contents self.new) result) }
         ensures memory { result ≡ Err RoundFault.Memory → IsFull self.new }
         ensures whose { KeepsWhose (contents self.old) (contents self.new) }
         ensures grown { StaysWithin self.old self.new }
+        ensures more { KeepsFlights (contents self.old) (contents self.new) }
     {
         let Ok(which) = u32::try_from(self.flights()) else {
             return Err(RoundFault::Packets);
@@ -82,10 +85,11 @@ impl<W: World> Game<W> {
     fn turn(&mut self, node: u32, input: Input) -> Result<(), RoundFault>
         ensures good { Tells W.state W.physics (contents self.old) (λ rules m.
             IsCarriedOut W.state rules m (turn_events rules (λ me. input) m node) (turn rules (λ me. input) m node)
-            (contents self.new) result) }
+            (contents self.old) (contents self.new) result) }
         ensures memory { result ≡ Err RoundFault.Memory → IsFull self.new }
         ensures whose { KeepsWhose (contents self.old) (contents self.new) }
         ensures grown { StaysWithin self.old self.new }
+        ensures more { KeepsFlights (contents self.old) (contents self.new) }
     {
         let _ = self.apply(build_of(node, input));
         for to in 0..self.players() {
@@ -103,10 +107,11 @@ impl<W: World> Game<W> {
     pub fn good_round_with(&mut self, inputs: &[Input; 4]) -> Result<(), RoundFault>
         ensures good { Tells W.state W.physics (contents self.old) (λ rules m.
             IsCarriedOut W.state rules m (round_events rules (input_of inputs.now) m)
-            (good_round rules (input_of inputs.now) m) (contents self.new) result) }
+            (good_round rules (input_of inputs.now) m) (contents self.old) (contents self.new) result) }
         ensures memory { result ≡ Err RoundFault.Memory → IsFull self.new }
         ensures whose { KeepsWhose (contents self.old) (contents self.new) }
         ensures grown { StaysWithin self.old self.new }
+        ensures more { KeepsFlights (contents self.old) (contents self.new) }
     {
         for node in 0..self.players() {
             self.turn(node, input_of(inputs, node))?;
@@ -118,10 +123,11 @@ impl<W: World> Game<W> {
     pub fn good_round(&mut self, keys: [Keys; 4]) -> Result<(), RoundFault>
         ensures good { Tells W.state W.physics (contents self.old) (λ rules m.
             IsCarriedOut W.state rules m (round_events rules (pressed_by keys) m)
-            (good_round rules (pressed_by keys) m) (contents self.new) result) }
+            (good_round rules (pressed_by keys) m) (contents self.old) (contents self.new) result) }
         ensures memory { result ≡ Err RoundFault.Memory → IsFull self.new }
         ensures whose { KeepsWhose (contents self.old) (contents self.new) }
         ensures grown { StaysWithin self.old self.new }
+        ensures more { KeepsFlights (contents self.old) (contents self.new) }
     {
         self.good_round_with(&pressed(keys))
     }
@@ -131,10 +137,11 @@ impl<W: World> Game<W> {
         ensures good { Tells W.state W.physics (contents self.old) (λ rules m.
             IsCarriedOut W.state rules m (rounds_events rules (λ round. input_of inputs.now) count m)
             (good_rounds rules (λ round. input_of inputs.now) count m)
-            (contents self.new) result) }
+            (contents self.old) (contents self.new) result) }
         ensures memory { result ≡ Err RoundFault.Memory → IsFull self.new }
         ensures whose { KeepsWhose (contents self.old) (contents self.new) }
         ensures grown { StaysWithin self.old self.new }
+        ensures more { KeepsFlights (contents self.old) (contents self.new) }
         ensures none { count ≡ 0 → self.new ≡ self.old }
     {
         for _ in 0..count {
@@ -148,10 +155,11 @@ impl<W: World> Game<W> {
         ensures good { Tells W.state W.physics (contents self.old) (λ rules m.
             IsCarriedOut W.state rules m (rounds_events rules (λ round. pressed_by keys) count m)
             (good_rounds rules (λ round. pressed_by keys) count m)
-            (contents self.new) result) }
+            (contents self.old) (contents self.new) result) }
         ensures memory { result ≡ Err RoundFault.Memory → IsFull self.new }
         ensures whose { KeepsWhose (contents self.old) (contents self.new) }
         ensures grown { StaysWithin self.old self.new }
+        ensures more { KeepsFlights (contents self.old) (contents self.new) }
         ensures none { count ≡ 0 → self.new ≡ self.old }
     {
         self.good_rounds_with(&pressed(keys), count)

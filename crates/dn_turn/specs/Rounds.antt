@@ -1,5 +1,5 @@
 -- Rounds: turns of all nodes, one after another.
-use Rattle.std.specs.Prelude.{◌≡◌, ◌<◌, ℕ, zero, suc, ◌%◌, ◌^◌, List, Some, slice_get}
+use Rattle.std.specs.Prelude.{◌≡◌, ◌<◌, ℕ, zero, suc, ◌%◌, ◌^◌, List, map, Some, slice_get}
 use Rattle.rand_pcg.specs.Lcg.{started, advance, increment_of}
 use Rattle.rand_pcg.specs.Pcg.{multiplier_64, pcg32}
 use Rattle.dn_tic.specs.declared.input.Input.{Input}
@@ -10,11 +10,13 @@ use Rattle.dn_machine.specs.Limits.{Limits}
 use Rattle.dn_machine.specs.Worlds.{Rules, rules_within}
 use Rattle.dn_machine.specs.Node as machine
 use Rattle.dn_machine.specs.Node.{put}
+use Rattle.dn_lockstep.specs.Contents.{Whose}
 use Rattle.dn_node.specs.declared.node.Node.{Node}
-use Rattle.dn_node.specs.Contents.{contents}
+use Rattle.dn_node.specs.Contents.{contents, whose}
 use Rattle.dn_node.specs.Represents.{Represents}
 use Rattle.dn_turn.specs.Giving.{Sends}
 use Rattle.dn_turn.specs.Hearing.{Polls}
+use Rattle.dn_turn.specs.Leading.{risen}
 use Rattle.dn_turn.specs.Turns.{IsTurn}
 use Rattle.dn_turn.specs.declared.turning.Turned.{Turned}
 
@@ -51,31 +53,36 @@ AreSeated {W} state physics nodes seats =
 abbrev pub Table : Type 0 → Type 0
 Table L = (ℕ → Seat) × L
 
--- the node at one place takes a turn with its player's input, and all others stay
-pub record TakesTurn {S L : Type 0} (sends : Sends L) (polls : Polls L) (physics : Physics S) (inputs : ℕ → Input)
-    (place : ℕ) (old new : Table L) : Type 0 where
+-- whose each node is
+abbrev pub whose_of : {W : Type 0} → List (Node W) → List Whose
+whose_of nodes = map (λ n. whose (contents n)) nodes
+
+-- the node at one place takes a turn with its player's input, and all others stay; the line counts what failed
+pub record TakesTurn {S L : Type 0} (sends : Sends L) (polls : Polls L) (failed : L → ℕ) (physics : Physics S)
+    (inputs : ℕ → Input) (place : ℕ) (old new : Table L) : Type 0 where
   pub after : machine.Node
   pub turned : Turned
   pub turn : let seat = old.0 place in
       IsTurn sends polls (rules_at physics seat) seat.me (inputs seat.me) (seat.node, old.1) (after, new.1)
       turned
   pub seats : new.0 ≡ put old.0 place (record (old.0 place) { node = after })
+  pub counted : failed new.1 ≡ risen turned.failed (failed old.1)
 
 -- each node up to this place takes a turn, in the order of the places
-abbrev pub TakeTurns : {S L : Type 0} → Sends L → Polls L → Physics S → (ℕ → Input) → ℕ → Table L → Table L
-    → Type 0
-TakeTurns sends polls physics inputs zero old new = new ≡ old
-TakeTurns {S} {L} sends polls physics inputs (suc place) old new =
-    (mid : Table L) × TakeTurns sends polls physics inputs place old mid
-    × TakesTurn sends polls physics inputs place mid new
+abbrev pub TakeTurns : {S L : Type 0} → Sends L → Polls L → (failed : L → ℕ) → Physics S → (ℕ → Input) → ℕ
+    → Table L → Table L → Type 0
+TakeTurns sends polls failed physics inputs zero old new = new ≡ old
+TakeTurns {S} {L} sends polls failed physics inputs (suc place) old new =
+    (mid : Table L) × TakeTurns sends polls failed physics inputs place old mid
+    × TakesTurn sends polls failed physics inputs place mid new
 
 -- this many rounds of turns of this many nodes, with keys drawn from the seed
-abbrev pub TakeRounds : {S L : Type 0} → Sends L → Polls L → Physics S → ℕ → ℕ → ℕ → Table L → Table L
-    → Type 0
-TakeRounds sends polls physics seed nodes zero old new = new ≡ old
-TakeRounds {S} {L} sends polls physics seed nodes (suc round) old new =
-    (mid : Table L) × TakeRounds sends polls physics seed nodes round old mid
-    × TakeTurns sends polls physics (drawn_in seed round) nodes mid new
+abbrev pub TakeRounds : {S L : Type 0} → Sends L → Polls L → (failed : L → ℕ) → Physics S → ℕ → ℕ → ℕ
+    → Table L → Table L → Type 0
+TakeRounds sends polls failed physics seed nodes zero old new = new ≡ old
+TakeRounds {S} {L} sends polls failed physics seed nodes (suc round) old new =
+    (mid : Table L) × TakeRounds sends polls failed physics seed nodes round old mid
+    × TakeTurns sends polls failed physics (drawn_in seed round) nodes mid new
 
 -- whatever seats the nodes have, they have afterwards ones that this leads to, and so has the line
 pub record AreLed {W S : Type 0} (state : W → S) (physics : Physics S) (new : List (Node W))

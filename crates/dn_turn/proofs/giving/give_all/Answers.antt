@@ -31,6 +31,7 @@ loop-to-preserved-in_default g c =
                 (silent g.L.Line.sends me c.loop-to.to _ line none)
                 (record { sent = omega arith; failed = omega arith });
           },
+      c.packet.ensures.step.same ∙ before.4,
     )
 
 pub loop-to-preserved : goal.loop-to-preserved
@@ -75,6 +76,7 @@ loop-to-preserved g c =
                 (spoken g.L.Line.sends me c.loop-to.to _ c.in-Some.bytes.items answer c.loop-to.line
                 c.send.new.self some said) counted;
           },
+      c.packet.ensures.step.same ∙ before.4,
     )
 
 pub returns-clause-given : goal.returns-clause-given
@@ -92,3 +94,6 @@ returns-clause-given g c limits me m r =
     (giving m c.args.line.now (record { sent = 0; failed = 0 }))
     (giving so_far.after c.loop-to.line c.loop-to.given) in
     record { after = so_far.after; node = so_far.node; leads = subst P all so_far.leads }
+
+pub returns-clause-whose : goal.returns-clause-whose
+returns-clause-whose g c = c.loop-to.invariant.4

@@ -3,8 +3,8 @@ use Rattle.dn_packet.specs.Read.{IsReadAs}
 use Rattle.dn_turn.specs.Hearing.{Reading}
 use Rattle.dn_turn.proofs.hearing.hear.Goals as goal
 
-pub returns : goal.returns
-returns g c limits me m r =
+pub returns-clause-heard : goal.returns-clause-heard
+returns-clause-heard g c limits me m r =
     let t = c.are_read.ensures in
     let s = c.receive.ensures.any.step t.read t.told t.is_read t.is_told _ me m r in
     let P : List ℕ → Type 0 = λ bytes. IsReadAs bytes t.read in
@@ -16,3 +16,6 @@ returns g c limits me m r =
       is_told = t.is_told;
     } in
     record { after = _; node = s.node; leads = record { reading = here; after = refl } }
+
+pub returns-clause-whose : goal.returns-clause-whose
+returns-clause-whose g c = c.receive.ensures.any.same

@@ -55,7 +55,7 @@ loop-heard-preserved g c =
           let so_far = before.3 limits me m r in
           let said = polled_as g.L.Line.polls _ _ _ _ _ _ (c.me-me.ensures ∙ r.lockstep.whose.number)
           (c.in-Ok-Some.is ∙ ap Ok c.in-Ok-Some.field-0-is) c.poll.ensures.polled in
-          let one = c.hear.ensures limits me so_far.after so_far.node in
+          let one = c.hear.ensures.heard limits me so_far.after so_far.node in
           record {
             after = one.after;
             node = one.node;
@@ -63,6 +63,7 @@ loop-heard-preserved g c =
                 c.loop-heard.heard _ (m, c.args.line.now) (so_far.after, c.loop-heard.line)
                 (one.after, c.poll.new.self) so_far.leads said one.leads;
           },
+      c.hear.ensures.whose ∙ before.4,
     )
 
 pub returns-clause-heard : goal.returns-clause-heard
@@ -85,3 +86,12 @@ returns-clause-heard g c limits me m r =
             ends = (end ∙ is, refl, refl);
           });
     }
+
+pub returns-in-Ok-None-clause-whose : goal.returns-in-Ok-None-clause-whose
+returns-in-Ok-None-clause-whose g c = c.loop-heard.invariant.4
+
+pub returns-in-Err-clause-whose : goal.returns-in-Err-clause-whose
+returns-in-Err-clause-whose g c = c.loop-heard.invariant.4
+
+pub returns-clause-whose : goal.returns-clause-whose
+returns-clause-whose g c = c.loop-heard.invariant.4

@@ -1,5 +1,5 @@
 use Rattle.std.proofs.Common.{◌≡◌, length}
-use Rattle.dn_turn.specs.Rounds.{LeadAll, TakeRounds}
+use Rattle.dn_turn.specs.Rounds.{LeadAll, TakeRounds, whose_of}
 use Rattle.dn_turn.specs.Streams.{AreAt}
 use Rattle.dn_turn.proofs.rounding.rounds.Given as goal
 
@@ -8,5 +8,6 @@ invariant-loop g l =
     (length l.nodes ≡ length l.fn.nodes)
     × AreAt l.seed l.counter l.streams
     × LeadAll g.W.World.state g.W.World.physics l.fn.nodes l.nodes
-    (λ seats after. TakeRounds g.L.Line.sends g.L.Line.polls g.W.World.physics l.seed (length l.fn.nodes)
-    l.counter (seats, l.fn.line) (after, l.line))
+    (λ seats after. TakeRounds g.L.Line.sends g.L.Line.polls g.L.Line.failed g.W.World.physics l.seed
+    (length l.fn.nodes) l.counter (seats, l.fn.line) (after, l.line))
+    × (whose_of l.nodes ≡ whose_of l.fn.nodes)

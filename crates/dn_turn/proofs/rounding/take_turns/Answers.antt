@@ -9,7 +9,7 @@ use Rattle.dn_node.specs.Contents.{contents}
 use Rattle.dn_node.specs.Represents.{Represents}
 use Rattle.dn_turn.specs.Rounds.{Seat, rules_at, TakeTurns}
 use Rattle.dn_turn.specs.Turns.{IsTurn}
-use Rattle.dn_turn.proofs.Places.{seated_with, one_of_four}
+use Rattle.dn_turn.proofs.Places.{seated_with, one_of_four, whose_step}
 use Rattle.dn_turn.proofs.rounding.take_turns.Goals as goal
 
 pub loop-place-preserved : goal.loop-place-preserved
@@ -39,7 +39,7 @@ loop-place-preserved g c =
           let then : ℕ → Seat = put so_far.after place (record seat { node = one.after }) in
           let K : Input → Type 0 = λ k. IsTurn g.L.Line.sends g.L.Line.polls (rules_at g.W.World.physics seat)
           seat.me k (seat.node, c.loop-place.line) (one.after, c.turn_with.new.line) c.turn_with.result in
-          let P : ℕ → Type 0 = λ k. TakeTurns g.L.Line.sends g.L.Line.polls g.W.World.physics
+          let P : ℕ → Type 0 = λ k. TakeTurns g.L.Line.sends g.L.Line.polls g.L.Line.failed g.W.World.physics
           by k (seats, c.args.line.now) (then, c.turn_with.new.line) in
           let next : suc place ≡ place + 1 = omega arith in
           record {
@@ -54,16 +54,19 @@ loop-place-preserved g c =
                 turned = c.turn_with.result;
                 turn = subst K own one.leads;
                 seats = refl;
+                counted = c.turn_with.ensures.counted;
               },
             );
           },
+      whose_step nodes place c.index-nodes-place.result c.turn_with.new.node c.turn_with.ensures.whose
+          ∙ before.2,
     )
 
 pub returns-clause-turns : goal.returns-clause-turns
 returns-clause-turns g c =
     λ by of seats seated.
     let so_far = c.loop-place.invariant.1 by of seats seated in
-    let P : ℕ → Type 0 = λ k. TakeTurns g.L.Line.sends g.L.Line.polls g.W.World.physics
+    let P : ℕ → Type 0 = λ k. TakeTurns g.L.Line.sends g.L.Line.polls g.L.Line.failed g.W.World.physics
     by k (seats, c.args.line.now) (so_far.after, c.loop-place.line) in
     record {
       after = so_far.after;
@@ -71,3 +74,6 @@ returns-clause-turns g c =
       leads =
           subst P (omega (arith, c.loop-place-test.false, c.loop-place.auto.place-end)) so_far.leads;
     }
+
+pub returns-clause-whose : goal.returns-clause-whose
+returns-clause-whose g c = c.loop-place.invariant.2

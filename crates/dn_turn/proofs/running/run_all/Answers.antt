@@ -18,10 +18,11 @@ loop-ran-preserved g c =
             leads = ran_more (rules_within g.W.World.physics limits) m c.loop-ran.ran so_far.after
                 so_far.leads (ap is_ran (sym step.answer ∙ c.in-Ran.is));
           },
+      c.run.ensures.step.same ∙ before.2,
     )
 
-pub returns : goal.returns
-returns g c limits me m r =
+pub returns-clause-run : goal.returns-clause-run
+returns-clause-run g c limits me m r =
     let so_far = c.loop-ran.invariant.1 limits me m r in
     let step = c.run.ensures.step.step _ me so_far.after so_far.node in
     record {
@@ -30,3 +31,6 @@ returns g c limits me m r =
       leads = ran_last (rules_within g.W.World.physics limits) m c.loop-ran.ran so_far.after
           so_far.leads (ap is_ran (sym step.answer) ∙ not_ran c.run.result c.in_default.not-Ran);
     }
+
+pub returns-clause-whose : goal.returns-clause-whose
+returns-clause-whose g c = c.run.ensures.step.same ∙ c.loop-ran.invariant.2

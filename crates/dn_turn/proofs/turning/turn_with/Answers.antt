@@ -8,7 +8,7 @@ returns-clause-turned g c limits me m r =
     let built = c.make-made.ensures.step _ me m r in
     let given = c.give_all-given.ensures.given limits me _ built.node in
     let heard = c.hear_all-polled.ensures.heard limits me given.after given.node in
-    let run = c.run_all-ran.ensures limits me heard.after heard.node in
+    let run = c.run_all-ran.ensures.run limits me heard.after heard.node in
     record {
       after = run.after;
       node = run.node;
@@ -31,3 +31,8 @@ returns-clause-counted g c =
     c.give_all-given.ensures.counted
     ∙ sym (risen_add c.give_all-given.result.failed c.hear_all-polled.result.failed
     (g.L.Line.failed c.args.line.now))
+
+pub returns-clause-whose : goal.returns-clause-whose
+returns-clause-whose g c =
+    c.run_all-ran.ensures.whose ∙ c.hear_all-polled.ensures.whose ∙ c.give_all-given.ensures.whose
+    ∙ c.make-made.ensures.same

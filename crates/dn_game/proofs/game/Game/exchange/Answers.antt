@@ -1,6 +1,7 @@
 use Rattle.std.proofs.Common.{◌<◌, ◌≤◌, ◌^◌, length, true≢false, sym, ◌∙◌, rules, arith}
 use Rattle.dn_machine.specs.Worlds.{rules_of}
 use Rattle.dn_game.proofs.Arriving.{exchanges, left_out, not_begun}
+use Rattle.dn_game.proofs.Idling.{flights_on, flights_same}
 use Rattle.dn_game.proofs.Recent.{flights_are}
 use Rattle.dn_game.proofs.Roomy.{stays}
 use Rattle.dn_game.proofs.game.Game.exchange.Goals as goal
@@ -11,6 +12,12 @@ returns-clause-good g c players extra capacity m r =
     exchanges _ rules _ _ _ m c.args.node c.args.to _ _ _
     (c.in-Ok.ensures.1 ∙ c.flights.ensures ∙ flights_are _ rules _ m r)
     (λ e. true≢false (sym (c.is_left_out.ensures.1 e) ∙ c.if-is_left_out.false))
+    (record { others = c.apply.ensures.others; worlds = c.apply.ensures.worlds; more = c.apply.ensures.more })
+    (record {
+      others = c.apply-2.ensures.others;
+      worlds = c.apply-2.ensures.worlds;
+      more = c.apply-2.ensures.more;
+    })
     (c.apply.ensures.applied players extra capacity m r)
     (c.apply-2.ensures.applied players extra capacity _)
 
@@ -36,3 +43,12 @@ pub returns-clause-grown : goal.returns-clause-grown
 returns-clause-grown g c within =
     stays _ _ _ _ c.apply-2.ensures.grown c.apply-2.ensures.more
     (stays _ _ _ _ c.apply.ensures.grown c.apply.ensures.more within)
+
+pub returns-in_default-clause-more : goal.returns-in_default-clause-more
+returns-in_default-clause-more g c = flights_same _
+
+pub returns-then-is_left_out-clause-more : goal.returns-then-is_left_out-clause-more
+returns-then-is_left_out-clause-more g c = c.apply.ensures.more
+
+pub returns-clause-more : goal.returns-clause-more
+returns-clause-more g c = flights_on _ _ _ c.apply.ensures.more c.apply-2.ensures.more

@@ -6,25 +6,34 @@ use Rattle.dn_tic.specs.Inputs.{input_of}
 use Rattle.dn_game.specs.RoundEvents.{round_events}
 use Rattle.dn_game.proofs.Rounding.{after_round}
 use Rattle.dn_game.proofs.Arriving.{goes_on, ends, ended}
+use Rattle.dn_game.proofs.Idling.{flights_on, flights_same}
 use Rattle.dn_game.proofs.game.Game.good_rounds_with.Goals as goal
 
 pub loop-init : goal.loop-init
 unfolding in_order
-loop-init g c = (λ players extra capacity m r. r, refl, λ within. within, λ none. refl)
+loop-init g c = (
+  λ players extra capacity m r. (r, λ i never. refl),
+  refl,
+  λ within. within,
+  λ none. refl,
+  flights_same _,
+)
 
 pub loop-preserved : goal.loop-preserved
 loop-preserved g c = (
   λ players extra capacity m r.
       let rules = rules_of g.W.World.physics players extra capacity in
       let inputs = input_of c.args.inputs.now in
+      let taken = c.loop.invariant.0 players extra capacity m r in
       goes_on _ rules (λ before round. good_round rules inputs before)
-      (λ before round. round_events rules inputs before) (λ before round. after_round rules inputs before) m (contents c.good_round_with.new.self)
-      c.loop.counter c.good_round_with.result
-      (c.good_round_with.ensures.good players extra capacity _ (c.loop.invariant.0 players extra capacity m r))
-      _ c.in_ok-good_round_with.was,
+      (λ before round. round_events rules inputs before) (λ before round. after_round rules inputs before) m
+      (contents c.args.self.now) (contents c.loop.self) (contents c.good_round_with.new.self) c.loop.counter
+      c.good_round_with.result taken c.good_round_with.ensures.more
+      (c.good_round_with.ensures.good players extra capacity _ taken.0) _ c.in_ok-good_round_with.was,
   c.good_round_with.ensures.whose ∙ c.loop.invariant.1,
   λ within. c.good_round_with.ensures.grown (c.loop.invariant.2 within),
   λ none. absurd (omega (arith, none)),
+  flights_on _ _ _ c.loop.invariant.4 c.good_round_with.ensures.more,
 )
 
 pub returns-in_err-good_round_with-clause-good : goal.returns-in_err-good_round_with-clause-good
@@ -32,13 +41,14 @@ returns-in_err-good_round_with-clause-good g c players extra capacity m r =
     let same : c.from_residual.result ≡ Err c.in_err-good_round_with.field-0.0 = search rules in
     let rules = rules_of g.W.World.physics players extra capacity in
     let inputs = input_of c.args.inputs.now in
+    let taken = c.loop.invariant.0 players extra capacity m r in
     let below : c.loop.counter < c.args.count = omega (arith, c.loop-test.true, c.loop.auto.counter-end) in
-    ended _ rules _ m _ (contents c.good_round_with.new.self) _ _ same
+    ended _ rules _ m _ (contents c.args.self.now) (contents c.good_round_with.new.self) _ _ same
     (ends _ rules (λ before round. good_round rules inputs before)
     (λ before round. round_events rules inputs before) (λ before round. after_round rules inputs before) m
-    (contents c.good_round_with.new.self) c.loop.counter c.good_round_with.result
-    (c.good_round_with.ensures.good players extra capacity _ (c.loop.invariant.0 players extra capacity m r))
-    c.args.count below _ c.in_err-good_round_with.was)
+    (contents c.args.self.now) (contents c.loop.self) (contents c.good_round_with.new.self) c.loop.counter
+    c.good_round_with.result taken c.good_round_with.ensures.more
+    (c.good_round_with.ensures.good players extra capacity _ taken.0) c.args.count below _ c.in_err-good_round_with.was)
 
 pub returns-clause-good : goal.returns-clause-good
 unfolding good_rounds
@@ -66,3 +76,10 @@ returns-in_err-good_round_with-clause-none g c none =
 pub returns-clause-none : goal.returns-clause-none
 returns-clause-none g c none =
     c.loop.invariant.3 (omega (arith, c.loop-test.false, c.loop.auto.counter-end, none))
+
+pub returns-in_err-good_round_with-clause-more : goal.returns-in_err-good_round_with-clause-more
+returns-in_err-good_round_with-clause-more g c =
+    flights_on _ _ _ c.loop.invariant.4 c.good_round_with.ensures.more
+
+pub returns-clause-more : goal.returns-clause-more
+returns-clause-more g c = c.loop.invariant.4
