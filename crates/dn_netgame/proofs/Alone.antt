@@ -1,5 +1,5 @@
 -- One node alone.
-use Rattle.std.proofs.Common.{◌≡◌, inl, inr, ℕ, zero, suc, Bool, false, List, [], ◌∷◌, Option, Some, codes, if◌then◌else◌, refl, ap, sym, ◌∙◌, subst}
+use Rattle.std.proofs.Common.{◌≡◌, inr, ℕ, zero, suc, Bool, false, List, [], ◌∷◌, Option, Some, if◌then◌else◌, refl, ap, sym, ◌∙◌, subst}
 use Rattle.std.specs.Prelude.{slice_get, IfSome}
 use Rattle.std.proofs.lemmas.Option.{same_Some}
 use Rattle.dn_world.specs.Physics.{Physics}
@@ -23,10 +23,6 @@ pub alone : {W S : Type 0} (state : W → S) (physics : Physics S) (nodes : List
 alone {W} {S} state physics nodes node seat one is i n there =
     let Q : Node W → Type 0 = λ y. Represents state (rules_at physics seat) seat.me (contents y) seat.node in
     subst Q (one_of_one node n i (ap (λ (ns : List (Node W)). slice_get ns i) (sym one) ∙ there)) is
-
-pub unbound : (config : Config) (base seed count : ℕ) (raw : Bool)
-    → IsPlay config base seed count raw (codes "socket fault\n") 3
-unbound config base seed count raw = inl (refl, refl)
 
 pub played : (config : Config) (base seed count : ℕ) (raw : Bool) (found : Option (Node Spots))
     (node : Node Spots) (lines : List ℕ)

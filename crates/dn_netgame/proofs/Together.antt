@@ -1,5 +1,5 @@
 -- The nodes of a game together.
-use Rattle.std.proofs.Common.{◌≡◌, inl, ℕ, List, Option, Some, codes, refl, subst}
+use Rattle.std.proofs.Common.{◌≡◌, ℕ, List, Option, Some, subst}
 use Rattle.std.specs.Prelude.{IfSome}
 use Rattle.dn_world.specs.Physics.{Physics}
 use Rattle.dn_node.specs.declared.node.Node.{Node}
@@ -18,10 +18,6 @@ together {W} {S} state physics config players worlds nodes same fresh =
     let P : ℕ → Type 0 = λ n. AreSeated state physics nodes (new_seats config n) in
     let here : P worlds = λ i n there. fresh i n there in
     subst P same here
-
-pub unbound : (config : GameConfig) (players base seed count : ℕ)
-    → IsLoop config players base seed count (codes "socket fault\n") 3
-unbound config players base seed count = inl (refl, refl)
 
 pub played : (config : GameConfig) (players base seed count : ℕ) {A : Type 0} (bytes : A → List ℕ)
     (found : Option A) (text : A)

@@ -7,7 +7,7 @@ use Rattle.dn_turn.specs.Rounds.{Seat, Table, AreSeated, TakeRounds}
 use Rattle.dn_game.specs.declared.config.GameConfig.{GameConfig}
 use Rattle.dn_game.specs.Opening.{config_of}
 use Rattle.dn_text.specs.GameLines.{node_lines}
-use Rattle.dn_netgame.specs.PlayShown.{new_ports, new_seat}
+use Rattle.dn_netgame.specs.PlayShown.{failures, new_ports, new_seat}
 
 -- the seats of a game's new nodes
 abbrev pub new_seats : GameConfig → ℕ → ℕ → Seat
@@ -18,7 +18,7 @@ new_seats config players place = new_seat (config_of config players place) confi
 pub record HavePlayed (config : GameConfig) (players base seed count : ℕ) (nodes : List (Node Spots)) : Type 0
   where
     pub last : Table Ports
-    pub rounds : TakeRounds UdpSends UdpPolls walking seed players count
+    pub rounds : TakeRounds UdpSends UdpPolls failures walking seed players count
         (new_seats config players, new_ports base 0 (players - 1) players) last
     pub seated : AreSeated (λ spots. spots) walking nodes last.0
     pub each : length nodes ≡ players

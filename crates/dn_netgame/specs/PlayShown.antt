@@ -21,6 +21,10 @@ abbrev pub new_ports : (base first last players : ℕ) → Ports
 new_ports base first last players =
     record { base = base; first = first; last = last; players = players; failed = 0 }
 
+-- how many calls on them failed
+abbrev pub failures : Ports → ℕ
+failures ports = ports.failed
+
 -- the seat of a new node
 abbrev pub new_seat : Config → Settings → Seat
 new_seat config settings =
@@ -32,17 +36,17 @@ with_quit place table =
     (put table.0 place (record (table.0 place) { node = (on_quit (table.0 place).node).0 }), table.1)
 
 -- `count` rounds of one node, which then quits, and four rounds more
-pub record PlaysOut {S L : Type 0} (sends : Sends L) (polls : Polls L) (physics : Physics S) (seed count : ℕ)
-    (old new : Table L) : Type 0 where
+pub record PlaysOut {S L : Type 0} (sends : Sends L) (polls : Polls L) (failed : L → ℕ) (physics : Physics S)
+    (seed count : ℕ) (old new : Table L) : Type 0 where
   pub mid : Table L
-  pub rounds : TakeRounds sends polls physics seed 1 count old mid
-  pub farewells : TakeRounds sends polls physics seed 1 4 (with_quit 0 mid) new
+  pub rounds : TakeRounds sends polls failed physics seed 1 count old mid
+  pub farewells : TakeRounds sends polls failed physics seed 1 4 (with_quit 0 mid) new
 
 -- a node has played so since it was new
 pub record HasPlayed (config : Config) (settings : Settings) (base seed count : ℕ)
     (n : Contents Spots) : Type 0 where
   pub last : Table Ports
-  pub plays : PlaysOut UdpSends UdpPolls walking seed count
+  pub plays : PlaysOut UdpSends UdpPolls failures walking seed count
       (λ place. new_seat config settings, new_ports base config.me config.me config.players) last
   pub node : Represents (λ spots. spots) (rules_at walking (last.0 0)) (last.0 0).me n (last.0 0).node
 

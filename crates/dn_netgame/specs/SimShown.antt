@@ -10,12 +10,16 @@ use Rattle.dn_game.specs.Opening.{rules_in}
 use Rattle.dn_game.specs.Played.{IsPlayed}
 use Rattle.dn_script.specs.Script.{IsReadAs}
 use Rattle.dn_text.specs.ScriptLines.{bad_line}
-use Rattle.dn_netgame.specs.GameShown.{IsGameShown}
+use Rattle.dn_netgame.specs.Told.{IsText}
+use Rattle.dn_netgame.specs.declared.telling.Telling.{Telling}
 
--- a game of this many walkers has played these events
-abbrev pub WalksBy : GameConfig → ℕ → List Event → Played Spots → Type 0
-WalksBy config players events played =
-    IsPlayed (λ spots. spots) (rules_in walking config players) config.settings events played
+-- the lines and the exit status are those of a game of this many walkers that has played these events, told in
+-- this way
+abbrev pub ArePlayed : Telling → GameConfig → ℕ → List Event → List ℕ → ℕ → Type 0
+ArePlayed telling config players events lines status =
+    (played : Played Spots)
+    × (p : IsPlayed (λ spots. spots) (rules_in walking config players) config.settings events played)
+    × IsText telling events p.answers played lines × (status ≡ 0)
 
 -- the line and the exit status for a text that is no script; there is none for `Memory`
 abbrev pub IsFaultShown : ScriptFault → List ℕ → ℕ → Type 0
@@ -23,19 +27,15 @@ IsFaultShown TooLong lines status = (lines ≡ codes "script: too long\n") × (s
 IsFaultShown (Line number) lines status = (lines ≡ bad_line number) × (status ≡ 1)
 IsFaultShown Memory lines status = ⊥
 
--- the lines and the exit status for what a text is read as: those that AreShown tells for its events, or
--- those of the fault
-abbrev pub IsScriptShownBy : (List Event → List ℕ → ℕ → Type 0) → Result (List Event) ScriptFault → List ℕ → ℕ
-    → Type 0
-IsScriptShownBy AreShown (Ok events) lines status = AreShown events lines status
-IsScriptShownBy AreShown (Err fault) lines status = IsFaultShown fault lines status
+-- the lines and the exit status for what a text is read as: those of its events, told in this way, or those of
+-- the fault
+abbrev pub IsReadingShown : Telling → GameConfig → ℕ → Result (List Event) ScriptFault → List ℕ → ℕ → Type 0
+IsReadingShown telling config players (Ok events) lines status =
+    ArePlayed telling config players events lines status
+IsReadingShown telling config players (Err fault) lines status = IsFaultShown fault lines status
 
--- the lines and the exit status are those of a game of walks that has played these events
-abbrev pub ArePlayed : GameConfig → ℕ → List Event → List ℕ → ℕ → Type 0
-ArePlayed config players events lines status = IsGameShown (WalksBy config players events) lines status
-
--- the lines and the exit status are those of what the bytes are read as
-abbrev pub IsSim : GameConfig → ℕ → List ℕ → List ℕ → ℕ → Type 0
-IsSim config players bytes lines status =
+-- the lines and the exit status are those of what the bytes are read as, told in this way
+abbrev pub IsSim : Telling → GameConfig → ℕ → List ℕ → List ℕ → ℕ → Type 0
+IsSim telling config players bytes lines status =
     (read : Result (List Event) ScriptFault) × IsReadAs bytes read
-    × IsScriptShownBy (ArePlayed config players) read lines status
+    × IsReadingShown telling config players read lines status

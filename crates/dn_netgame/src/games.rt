@@ -1,17 +1,14 @@
-//! Games of walks, played and told.
+//! Games of walks, played and told to an observer.
 
 ghost use Rattle.std.specs.Prelude.{◌≡◌, length, IfOk};
-ghost use Rattle.std.specs.String.{string_bytes};
 ghost use Rattle.dn_world.specs.Plane.{walking};
 ghost use Rattle.dn_demo.specs.Recorded.{IsLimit};
 ghost use Rattle.dn_lockstep.specs.Opening.{IsGame};
 ghost use Rattle.dn_game.specs.Observed.{IsPlayedObserved, IsStormedObserved};
 ghost use Rattle.dn_game.specs.Opening.{rules_in};
-ghost use Rattle.dn_text.specs.GameLines.{game_lines};
 
 use dn_game::{Event, GameConfig, GameFault, Observer, Played, play_observed, storm_observed};
-use dn_text::push_game;
-use dn_world::{Walk, World};
+use dn_world::Walk;
 use std::alloc::{AllocError, Global};
 
 /// A world that nobody is in for each player.
@@ -69,16 +66,4 @@ pub(crate) fn storm_walks<L: Observer>(
         Err(GameFault::Memory) => Err(AllocError),
         Err(GameFault::Players | GameFault::Limit) => unreachable!(),
     }
-}
-
-/// The lines of all nodes, and of the events.
-pub(crate) fn text_of_game<W: World>(
-    alloc: Global,
-    played: &Played<W>,
-) -> Result<String, AllocError>
-    ensures { IfOk result (λ text. string_bytes text ≡ game_lines played.now) }
-{
-    let mut text = String::new(alloc);
-    push_game(&mut text, played)?;
-    Ok(text)
 }

@@ -1,7 +1,6 @@
 //! All nodes of a game over UDP.
 
-ghost use Rattle.std.specs.Prelude.{◌≡◌, ◌++◌, [], length, slice_get, IfOk, IfErr, IfSome, OnOk};
-ghost use Rattle.std.specs.Option.{option_copied};
+ghost use Rattle.std.specs.Prelude.{◌≡◌, ◌++◌, [], length, IfOk, IfErr, IfSome, OnOk};
 ghost use Rattle.std.specs.String.{string_bytes};
 ghost use Rattle.dn_demo.specs.Recorded.{IsLimit};
 ghost use Rattle.dn_lockstep.specs.Opening.{IsGame};
@@ -14,7 +13,7 @@ ghost use Rattle.dn_netgame.specs.declared.fault.RunFault.{RunFault};
 
 use crate::fault::RunFault;
 use crate::games::new_walks;
-use crate::netplay::{NO_SOCKET, UNBOUND};
+use crate::netplay::{NO_SOCKET, NetRounds, UNBOUND};
 use crate::transfer::print;
 use dn_game::{GameConfig, nodes_of};
 use dn_line::{Line, UdpLine};
@@ -26,32 +25,14 @@ use std::alloc::{AllocError, Global};
 use std::io::Write;
 use std::net::Net;
 
-/// The node at a place, if there is one.
-fn node_at<W>(nodes: &[Node<W>], place: usize) -> Option<&Node<W>>
-    ensures { option_copied result ≡ slice_get nodes.now place }
-{
-    nodes.get(place)
-}
-
 /// The lines of nodes, in their order.
 fn push_all<W: World>(text: &mut String, nodes: &[Node<W>]) -> Result<(), AllocError>
     ensures { OnOk result (string_bytes text.new ≡ string_bytes text.old ++ node_lines [] 0 nodes.now) }
 {
-    let mut number = 0;
-    while let Some(node) = node_at(nodes, number) {
+    for node in nodes {
         push_node(text, node, false)?;
-        number += 1;
     }
     Ok(())
-}
-
-/// The lines of all nodes.
-fn text_of<W: World>(alloc: Global, nodes: &[Node<W>]) -> Result<String, AllocError>
-    ensures { IfOk result (λ text. string_bytes text ≡ node_lines [] 0 nodes.now) }
-{
-    let mut text = String::new(alloc);
-    push_all(&mut text, nodes)?;
-    Ok(text)
 }
 
 /// Plays `count` rounds of the nodes, and answers their lines.
@@ -63,7 +44,7 @@ fn play_rounds<W: World, L: Line>(
     count: u32,
 ) -> Result<String, AllocError>
     ensures rounds { LeadAll W.state W.physics nodes.old nodes.new (λ seats after.
-        TakeRounds L.sends L.polls W.physics seed (length nodes.old) count (seats, line.old) (
+        TakeRounds L.sends L.polls L.failed W.physics seed (length nodes.old) count (seats, line.old) (
           after,
           line.new,
         )) }
@@ -71,33 +52,34 @@ fn play_rounds<W: World, L: Line>(
     ensures text { IfOk result (λ text. string_bytes text ≡ node_lines [] 0 nodes.new) }
 {
     rounds(nodes, line, seed, count);
-    text_of(alloc, nodes)
+    let mut text = String::new(alloc);
+    push_all(&mut text, nodes)?;
+    Ok(text)
 }
 
-/// The lines of new nodes that have played `count` rounds with each other over UDP; None where a socket
-/// cannot be bound.
+/// The lines of new nodes that have played the rounds with each other over UDP; None where a socket cannot be
+/// bound.
 fn play_all<R: Net>(
     rt: &R,
     alloc: Global,
     config: GameConfig,
     players: u8,
-    base: u16,
-    seed: u64,
-    count: u32,
+    net: NetRounds,
 ) -> Result<Option<String>, RunFault>
-    requires base { IsBase base }
+    requires base { IsBase net.base }
     requires players { IsGame players }
     requires limit { IsLimit config.limit }
     ensures played { IfOk result
-        (λ found. IfSome found (λ text. IsLoop config players base seed count (string_bytes text) 0)) }
+        (λ found. IfSome found (λ text. IsLoop config players net.base net.seed net.count
+        (string_bytes text) 0)) }
     ensures fault { IfErr result (λ fault. fault ≡ RunFault.Memory) }
 {
     let walks = new_walks(alloc, players)?;
     let mut nodes = nodes_of(alloc, &config, walks)?;
-    let Ok(mut line) = UdpLine::bind(rt, alloc, base, 0, players - 1, players) else {
+    let Ok(mut line) = UdpLine::bind(rt, alloc, net.base, 0, players - 1, players) else {
         return Ok(None);
     };
-    let text = play_rounds(alloc, nodes.as_mut_slice(), &mut line, seed, count)?;
+    let text = play_rounds(alloc, nodes.as_mut_slice(), &mut line, net.seed, net.count)?;
     Ok(Some(text))
 }
 
@@ -122,7 +104,8 @@ pub fn run_loop<R: Net, W: Write>(
     requires limit { IsLimit config.limit }
     ensures { PrintsOrFails W.contents (IsLoop config players base seed count) output.old output.new result }
 {
-    let Some(text) = play_all(rt, alloc, config, players, base, seed, count)? else {
+    let net = NetRounds { base, seed, count };
+    let Some(text) = play_all(rt, alloc, config, players, net)? else {
         return print(output, NO_SOCKET.as_bytes(), UNBOUND);
     };
     print(output, text.as_bytes(), 0)

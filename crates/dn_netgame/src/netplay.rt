@@ -1,13 +1,11 @@
 //! One player's node over UDP.
 
-ghost use Rattle.std.specs.Prelude.{◌≡◌, ◌<◌, false, length, Err, IfOk, IfErr, IfSome};
-ghost use Rattle.std.specs.String.{string_bytes};
+ghost use Rattle.std.specs.Prelude.{◌≡◌, ◌<◌, length, Err, IfOk, IfErr, IfSome};
 ghost use Rattle.dn_demo.specs.Recorded.{IsLimit};
 ghost use Rattle.dn_node.specs.Contents.{contents};
 ghost use Rattle.dn_lockstep.specs.Opening.{IsGame, IsKeyed};
 ghost use Rattle.dn_line.specs.Udp.{IsBase};
 ghost use Rattle.dn_turn.specs.Rounds.{LeadAll};
-ghost use Rattle.dn_text.specs.NodeLines.{node_line};
 ghost use Rattle.dn_netgame.specs.PlayShown.{PlaysOut, HasEverPlayed, IsPlay};
 ghost use Rattle.dn_netgame.specs.Shown.{PrintsOrFails};
 ghost use Rattle.dn_netgame.specs.declared.fault.RunFault.{RunFault};
@@ -19,10 +17,18 @@ use dn_node::{Config, Node, NodeFault};
 use dn_text::push_node;
 use dn_turn::rounds;
 use dn_world::{Walk, World};
-use std::alloc::{AllocError, Global};
+use std::alloc::Global;
 use std::io::Write;
 use std::net::Net;
 use std::slice;
+
+/// Rounds over UDP: the port of player 0, the seed of the keys, and how many rounds.
+#[derive(Clone, Copy)]
+pub(crate) struct NetRounds {
+    pub(crate) base: u16,
+    pub(crate) seed: u64,
+    pub(crate) count: u32,
+}
 
 /// What is printed where a socket cannot be bound.
 pub(crate) const NO_SOCKET: &str = "socket fault\n";
@@ -37,39 +43,29 @@ const FAREWELLS: u32 = 4;
 fn play_out<W: World, L: Line>(nodes: &mut [Node<W>], line: &mut L, seed: u64, count: u32)
     requires { length nodes.old ≡ 1 }
     ensures played { LeadAll W.state W.physics nodes.old nodes.new (λ seats after.
-        PlaysOut L.sends L.polls W.physics seed count (seats, line.old) (after, line.new)) }
+        PlaysOut L.sends L.polls L.failed W.physics seed count (seats, line.old) (after, line.new)) }
 {
     rounds(nodes, line, seed, count);
     nodes[0].quit();
     rounds(nodes, line, seed, FAREWELLS);
 }
 
-/// The line that is printed of a node.
-fn text_of<W: World>(alloc: Global, node: &Node<W>) -> Result<String, AllocError>
-    ensures { IfOk result (λ text. string_bytes text ≡ node_line (contents node.now) false) }
-{
-    let mut text = String::new(alloc);
-    push_node(&mut text, node, false)?;
-    Ok(text)
-}
-
-/// A new node that has played `count` rounds as one player over UDP, and told the others of its end; None
-/// where its socket cannot be bound.
+/// A new node that has played the rounds as one player over UDP, and told the others of its end; None where its
+/// socket cannot be bound.
 fn play<R: Net>(
     rt: &R,
     alloc: Global,
     config: Config,
-    base: u16,
-    seed: u64,
-    count: u32,
+    net: NetRounds,
 ) -> Result<Option<Node<Walk>>, RunFault>
-    requires base { IsBase base }
+    requires base { IsBase net.base }
     requires players { IsGame config.players }
     requires me { config.me < config.players }
     requires keyed { IsKeyed config }
     requires limit { IsLimit config.limit }
     ensures played { IfOk result
-        (λ found. IfSome found (λ node. HasEverPlayed config base seed count (contents node))) }
+        (λ found. IfSome found (λ node. HasEverPlayed config net.base net.seed net.count
+        (contents node))) }
     ensures fault { IfErr result (λ fault. fault ≡ RunFault.Memory) }
 {
     let (me, players) = (config.me, config.players);
@@ -84,10 +80,10 @@ fn play<R: Net>(
             | NodeFault::Ahead,
         ) => unreachable!(),
     };
-    let Ok(mut line) = UdpLine::bind(rt, alloc, base, me, me, players) else {
+    let Ok(mut line) = UdpLine::bind(rt, alloc, net.base, me, me, players) else {
         return Ok(None);
     };
-    play_out(slice::from_mut(&mut node), &mut line, seed, count);
+    play_out(slice::from_mut(&mut node), &mut line, net.seed, net.count);
     Ok(Some(node))
 }
 
@@ -114,12 +110,14 @@ pub fn run_play<R: Net, W: Write>(
     requires limit { IsLimit config.limit }
     ensures { PrintsOrFails W.contents (IsPlay config base seed count raw) output.old output.new result }
 {
-    let Some(node) = play(rt, alloc, config, base, seed, count)? else {
+    let net = NetRounds { base, seed, count };
+    let Some(node) = play(rt, alloc, config, net)? else {
         return print(output, NO_SOCKET.as_bytes(), UNBOUND);
     };
     if raw {
         return print(output, node.demo(), 0);
     }
-    let text = text_of(alloc, &node)?;
+    let mut text = String::new(alloc);
+    push_node(&mut text, &node, false)?;
     print(output, text.as_bytes(), 0)
 }

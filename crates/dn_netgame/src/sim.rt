@@ -5,37 +5,40 @@ ghost use Rattle.std.specs.String.{string_bytes};
 ghost use Rattle.dn_demo.specs.Recorded.{IsLimit};
 ghost use Rattle.dn_lockstep.specs.Opening.{IsGame};
 ghost use Rattle.dn_script.specs.Script.{size_limit};
-ghost use Rattle.dn_netgame.specs.GameShown.{IsGameShown};
 ghost use Rattle.dn_netgame.specs.Shown.{ShowsOrFails};
-ghost use Rattle.dn_netgame.specs.SimShown.{WalksBy, IsFaultShown, IsSim};
+ghost use Rattle.dn_netgame.specs.SimShown.{ArePlayed, IsFaultShown, IsSim};
 ghost use Rattle.dn_netgame.specs.declared.fault.RunFault.{RunFault};
+ghost use Rattle.dn_netgame.specs.declared.telling.Telling.TheVariants.{Quiet, Trace};
 
 use crate::fault::RunFault;
-use crate::games::{play_walks, text_of_game};
+use crate::games::play_walks;
+use crate::telling::{Teller, Telling};
 use crate::transfer::{gather, print};
-use dn_game::{Event, GameConfig, Nobody, ScriptFault, read_script};
-use dn_script::MAX_SCRIPT;
+use dn_game::{Event, GameConfig};
+use dn_script::{MAX_SCRIPT, ScriptFault, read_script};
 use dn_text::text_of_bad_line;
 use std::alloc::{AllocError, Global};
 use std::io::{Read, Write};
 
-/// The lines of a game of walks that has played these events.
+/// What is told of a game of walks that has played these events.
 fn text_of_events(
     alloc: Global,
     config: GameConfig,
     players: u8,
     events: &[Event],
+    telling: Telling,
 ) -> Result<String, AllocError>
     requires players { IsGame players }
     requires limit { IsLimit config.limit }
-    ensures { IfOk result (λ text. IsGameShown (WalksBy config players events.now) (string_bytes text) 0) }
+    ensures { IfOk result (λ text. ArePlayed telling config players events.now (string_bytes text) 0) }
 {
-    let played = play_walks(alloc, config, players, events, &mut Nobody)?;
-    text_of_game(alloc, &played)
+    let mut teller = Teller::new(alloc, telling);
+    let played = play_walks(alloc, config, players, events, &mut teller)?;
+    teller.finish(&played)
 }
 
 /// The line of bytes that are no script, and the exit status.
-pub(crate) fn text_of_fault(alloc: Global, fault: ScriptFault) -> Result<(String, u8), RunFault>
+fn text_of_fault(alloc: Global, fault: ScriptFault) -> Result<(String, u8), RunFault>
     ensures shown { IfOk result (λ shown. IsFaultShown fault (string_bytes shown.0) shown.1) }
     ensures fault { IfErr result (λ fault. fault ≡ RunFault.Memory) }
 {
@@ -52,19 +55,41 @@ fn text_of(
     config: GameConfig,
     players: u8,
     bytes: &[u8],
+    telling: Telling,
 ) -> Result<(String, u8), RunFault>
     requires players { IsGame players }
     requires limit { IsLimit config.limit }
-    ensures shown { IfOk result (λ shown. IsSim config players bytes.now (string_bytes shown.0) shown.1) }
+    ensures shown { IfOk result
+        (λ shown. IsSim telling config players bytes.now (string_bytes shown.0) shown.1) }
     ensures fault { IfErr result (λ fault. fault ≡ RunFault.Memory) }
 {
     match read_script(alloc, bytes) {
-        Ok(events) => Ok((
-            text_of_events(alloc, config, players, events.as_slice())?,
-            0,
-        )),
+        Ok(events) => {
+            let text = text_of_events(alloc, config, players, events.as_slice(), telling)?;
+            Ok((text, 0))
+        }
         Err(fault) => text_of_fault(alloc, fault),
     }
+}
+
+/// Reads a script, plays it, and writes what is told of it.
+fn tell_sim<R: Read, W: Write>(
+    alloc: Global,
+    config: GameConfig,
+    players: u8,
+    telling: Telling,
+    input: &mut R,
+    output: &mut W,
+) -> Result<u8, RunFault>
+    requires players { IsGame players }
+    requires limit { IsLimit config.limit }
+    // A byte more than a script can have is taken, so that no prefix of a longer input is read as a script.
+    ensures { ShowsOrFails W.contents (size_limit + 1) (IsSim telling config players) (R.remaining input.old)
+        (R.remaining input.new) output.old output.new result }
+{
+    let bytes = gather(alloc, input, MAX_SCRIPT + 1)?;
+    let (text, status) = text_of(alloc, config, players, bytes.as_slice(), telling)?;
+    print(output, text.as_bytes(), status)
 }
 
 /// Reads a script of at most 1,048,576 bytes, plays its events in a game of `players` new walks, and
@@ -83,11 +108,26 @@ pub fn run_sim<R: Read, W: Write>(
 ) -> Result<u8, RunFault>
     requires players { IsGame players }
     requires limit { IsLimit config.limit }
-    // A byte more than a script can have is taken, so that no prefix of a longer input is read as a script.
-    ensures { ShowsOrFails W.contents (size_limit + 1) (IsSim config players) (R.remaining input.old)
+    ensures { ShowsOrFails W.contents (size_limit + 1) (IsSim Quiet config players) (R.remaining input.old)
         (R.remaining input.new) output.old output.new result }
 {
-    let bytes = gather(alloc, input, MAX_SCRIPT + 1)?;
-    let (text, status) = text_of(alloc, config, players, bytes.as_slice())?;
-    print(output, text.as_bytes(), status)
+    tell_sim(alloc, config, players, Telling::Quiet, input, output)
+}
+
+/// Does what `run_sim` does, and writes a line for each event before the lines of the game: its number,
+/// counted from 0, the event in the words of a script, and its answer in words. Its faults are those of
+/// `run_sim`.
+pub fn trace_sim<R: Read, W: Write>(
+    alloc: Global,
+    config: GameConfig,
+    players: u8,
+    input: &mut R,
+    output: &mut W,
+) -> Result<u8, RunFault>
+    requires players { IsGame players }
+    requires limit { IsLimit config.limit }
+    ensures { ShowsOrFails W.contents (size_limit + 1) (IsSim Trace config players) (R.remaining input.old)
+        (R.remaining input.new) output.old output.new result }
+{
+    tell_sim(alloc, config, players, Telling::Trace, input, output)
 }

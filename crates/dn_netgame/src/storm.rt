@@ -1,33 +1,70 @@
-//! A storm: the lines of a game under events drawn from a seed.
+//! A storm: a game under events drawn from a seed, and the calm after it.
 
-ghost use Rattle.std.specs.Prelude.{IfOk};
+ghost use Rattle.std.specs.Prelude.{IfOk, None, Some};
 ghost use Rattle.std.specs.String.{string_bytes};
 ghost use Rattle.dn_demo.specs.Recorded.{IsLimit};
 ghost use Rattle.dn_lockstep.specs.Opening.{IsGame};
 ghost use Rattle.dn_netgame.specs.Shown.{PrintsOrFails};
 ghost use Rattle.dn_netgame.specs.StormShown.{IsStorm};
+ghost use Rattle.dn_netgame.specs.declared.telling.Telling.TheVariants.{Quiet, Trace, Script};
 
+use crate::calm::calm_down;
 use crate::fault::RunFault;
-use crate::games::{storm_walks, text_of_game};
+use crate::games::storm_walks;
+use crate::telling::{Teller, Telling};
 use crate::transfer::print;
-use dn_game::{GameConfig, Nobody};
+use dn_game::GameConfig;
 use std::alloc::{AllocError, Global};
 use std::io::Write;
 
-/// The lines of a game of walks that has played `count` events of the seed's schedule.
+/// How many events of which seed's schedule, and how many rounds after them if a calm follows.
+#[derive(Clone, Copy)]
+struct Storm {
+    seed: u64,
+    count: u32,
+    calm: Option<u32>,
+}
+
+/// What is told of a game of walks under the storm, and the exit status.
 fn text_of(
     alloc: Global,
     config: GameConfig,
     players: u8,
-    seed: u64,
-    count: u32,
-) -> Result<String, AllocError>
+    storm: Storm,
+    telling: Telling,
+) -> Result<(String, u8), AllocError>
     requires players { IsGame players }
     requires limit { IsLimit config.limit }
-    ensures { IfOk result (λ text. IsStorm config players seed count (string_bytes text) 0) }
+    ensures { IfOk result (λ shown. IsStorm telling config players storm.seed storm.count storm.calm
+        (string_bytes shown.0) shown.1) }
 {
-    let played = storm_walks(alloc, config, players, seed, count, &mut Nobody)?;
-    text_of_game(alloc, &played)
+    let mut teller = Teller::new(alloc, telling);
+    let mut played = storm_walks(alloc, config, players, storm.seed, storm.count, &mut teller)?;
+    let Some(calm) = storm.calm else {
+        return Ok((teller.finish(&played)?, 0));
+    };
+    if !calm_down(&mut played, calm)? {
+        return Ok((String::from_str(alloc, "too many packets\n")?, 3));
+    }
+    Ok((teller.finish(&played)?, 0))
+}
+
+/// Plays the storm, and writes what is told of it.
+fn tell_storm<W: Write>(
+    alloc: Global,
+    config: GameConfig,
+    players: u8,
+    storm: Storm,
+    telling: Telling,
+    output: &mut W,
+) -> Result<u8, RunFault>
+    requires players { IsGame players }
+    requires limit { IsLimit config.limit }
+    ensures { PrintsOrFails W.contents (IsStorm telling config players storm.seed storm.count storm.calm)
+        output.old output.new result }
+{
+    let (text, status) = text_of(alloc, config, players, storm, telling)?;
+    print(output, text.as_bytes(), status)
 }
 
 /// Plays `count` events of the seed's schedule in a game of `players` new walks, and writes the lines
@@ -46,8 +83,82 @@ pub fn run_storm<W: Write>(
 ) -> Result<u8, RunFault>
     requires players { IsGame players }
     requires limit { IsLimit config.limit }
-    ensures { PrintsOrFails W.contents (IsStorm config players seed count) output.old output.new result }
+    ensures { PrintsOrFails W.contents (IsStorm Quiet config players seed count None) output.old output.new
+        result }
 {
-    let text = text_of(alloc, config, players, seed, count)?;
-    print(output, text.as_bytes(), 0)
+    let calm = None;
+    let storm = Storm { seed, count, calm };
+    tell_storm(alloc, config, players, storm, Telling::Quiet, output)
+}
+
+/// Plays `count` events of the seed's schedule in a game of `players` new Walks, then `calm` rounds in
+/// which every packet arrives and nobody presses a key, and writes the lines of the game. The events
+/// that the last line counts are those of the schedule alone. The answer is the exit status: 0, and 3 where
+/// a round would send a packet after 2^32, which no event can name; then one line says so.
+///
+/// A write that fails or takes no bytes is the fault `Write`, and `Memory` is answered where memory
+/// for the game, a packet of the rounds or the lines was refused. Each ends the run there. A packet
+/// of the storm that found no room is no fault: its event counts as refused.
+pub fn run_calm<W: Write>(
+    alloc: Global,
+    config: GameConfig,
+    players: u8,
+    seed: u64,
+    count: u32,
+    calm: u32,
+    output: &mut W,
+) -> Result<u8, RunFault>
+    requires players { IsGame players }
+    requires limit { IsLimit config.limit }
+    ensures { PrintsOrFails W.contents (IsStorm Quiet config players seed count (Some calm)) output.old
+        output.new result }
+{
+    let calm = Some(calm);
+    let storm = Storm { seed, count, calm };
+    tell_storm(alloc, config, players, storm, Telling::Quiet, output)
+}
+
+/// Does what `run_calm` does, and writes a line for each event of the schedule before the lines of the game:
+/// its number, counted from 0, the event in the words of a script, and its answer in words. The rounds have
+/// no lines. Its faults are those of `run_calm`.
+pub fn trace_storm<W: Write>(
+    alloc: Global,
+    config: GameConfig,
+    players: u8,
+    seed: u64,
+    count: u32,
+    calm: u32,
+    output: &mut W,
+) -> Result<u8, RunFault>
+    requires players { IsGame players }
+    requires limit { IsLimit config.limit }
+    ensures { PrintsOrFails W.contents (IsStorm Trace config players seed count (Some calm)) output.old
+        output.new result }
+{
+    let calm = Some(calm);
+    let storm = Storm { seed, count, calm };
+    tell_storm(alloc, config, players, storm, Telling::Trace, output)
+}
+
+/// Plays `count` events of the seed's schedule in a game of `players` new walks, and writes them as a script,
+/// which `run_sim` reads if it has at most 1,048,576 bytes. The answer is the exit status, which is always 0.
+///
+/// A write that fails or takes no bytes is the fault `Write`, and `Memory` is answered where memory for the
+/// game, a packet or the script was refused. Each ends the run there.
+pub fn storm_script<W: Write>(
+    alloc: Global,
+    config: GameConfig,
+    players: u8,
+    seed: u64,
+    count: u32,
+    output: &mut W,
+) -> Result<u8, RunFault>
+    requires players { IsGame players }
+    requires limit { IsLimit config.limit }
+    ensures { PrintsOrFails W.contents (IsStorm Script config players seed count None) output.old output.new
+        result }
+{
+    let calm = None;
+    let storm = Storm { seed, count, calm };
+    tell_storm(alloc, config, players, storm, Telling::Script, output)
 }

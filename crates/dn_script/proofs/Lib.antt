@@ -6,3 +6,4 @@ pub mod OneEvent
 pub mod Events
 pub mod Reading
 pub mod Writing
+pub mod Letters

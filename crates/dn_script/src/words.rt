@@ -6,7 +6,7 @@ ghost use Rattle.dn_script.specs.Words.{IsNumber, AreKeys, place_in_letters};
 use dn_tic::Keys;
 
 /// The letters of the keys, in the order of their bits.
-const LETTERS: [u8; 18] = *b"fblradtsxu12345678";
+pub(crate) const LETTERS: [u8; 18] = *b"fblradtsxu12345678";
 
 /// The most digits of a number: any nine fit into 32 bits.
 const MOST_DIGITS: usize = 9;

@@ -1,7 +1,6 @@
 //! Labelled numbers, as the printed lines have them.
 
 ghost use Rattle.std.specs.Prelude.{◌≡◌, ◌++◌, codes, OnOk};
-ghost use Rattle.std.specs.Fmt.{decimal};
 ghost use Rattle.std.specs.String.{string_bytes};
 ghost use Rattle.dn_text.specs.Fields.{labelled, fields_of};
 
@@ -26,12 +25,4 @@ pub(crate) fn push_line(text: &mut String, fields: &[(&str, i128)]) -> Result<()
 {
     push_fields(text, fields)?;
     text.push_str("\n")
-}
-
-/// Appends a label and, behind it, a number in decimal.
-pub(crate) fn push_number(text: &mut String, label: &str, number: u32) -> Result<(), AllocError>
-    ensures { OnOk result (string_bytes text.new ≡ string_bytes text.old ++ (label.now ++ decimal number)) }
-{
-    text.push_str(label)?;
-    write!(text, "{number}")
 }

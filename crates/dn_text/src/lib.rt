@@ -4,7 +4,6 @@
 
 mod answers;
 mod demo;
-mod events;
 mod fields;
 mod game;
 mod nodes;
@@ -15,7 +14,6 @@ mod trace;
 
 pub use answers::push_answer;
 pub use demo::text_of_demo;
-pub use events::push_event_line;
 pub use game::push_game;
 pub use nodes::push_node;
 pub use packet::text_of_packet;

@@ -5,9 +5,9 @@ ghost use Rattle.std.specs.String.{string_bytes};
 ghost use Rattle.dn_text.specs.TraceLines.{trace_line};
 
 use crate::answers::push_answer;
-use crate::events::push_event;
 use crate::fields::push_fields;
 use dn_game::{Done, Event, Refusal};
+use dn_script::push_event;
 use std::alloc::AllocError;
 
 /// Appends the line of an event in a trace: its number, the event in the words of a script, and its answer in

@@ -14,7 +14,7 @@ returns-in-Ok c players extra capacity m r =
     (contents c.good_rounds.new.self)
     (good_rounds (rules_of walking players extra capacity) (λ round. pressed_by keys) c.args.calm m) in
     record {
-      game = subst Calm c.no_keys.ensures (c.in-Ok.ensures.good players extra capacity m r);
+      game = subst Calm c.no_keys.ensures ((c.in-Ok.ensures.good players extra capacity m r).0);
       done =
           refl;
       refused = refl;
@@ -24,6 +24,7 @@ pub returns-in-Err-Packets : goal.returns-in-Err-Packets
 returns-in-Err-Packets c players extra capacity m r =
     let rules = rules_of walking players extra capacity in
     let Cut : List ℕ → Type 0 = λ keys. IsCutShort (λ spots. spots) rules
-    (rounds_events rules (λ round. pressed_by keys) c.args.calm m) m (contents c.good_rounds.new.self) in
+    (rounds_events rules (λ round. pressed_by keys) c.args.calm m) m (contents c.args.played.now.game)
+    (contents c.good_rounds.new.self) in
     let at = c.in-Err-Packets.ensures.good players extra capacity m r in
     record { cut = subst Cut c.no_keys.ensures at.1; unsent = subst (IsUnsent (contents c.good_rounds.new.self)) c.in-Err-Packets.field-0-is at.0 }

@@ -4,6 +4,7 @@ use Rattle.dn_line.specs.Udp.{Ports, UdpSends, UdpPolls}
 use Rattle.dn_node.specs.declared.node.Node.{Node}
 use Rattle.dn_turn.specs.Rounds.{AreSeated, TakeRounds}
 use Rattle.dn_netgame.specs.LoopShown.{new_seats, HavePlayed}
+use Rattle.dn_netgame.specs.PlayShown.{failures}
 use Rattle.dn_netgame.proofs.Together.{together}
 use Rattle.dn_netgame.proofs.netloop.play_all.Goals as goal
 
@@ -23,11 +24,11 @@ returns-clause-played g c =
     let out = c.play_rounds.ensures.rounds (new_seats config players) seated in
     let many : length slice ≡ players = ap (λ (nodes : List (Node Spots)). length nodes) own
     ∙ c.in_ok-nodes.ensures.one_each ∙ walks in
-    let P : Ports → Type 0 = λ ports. TakeRounds UdpSends UdpPolls walking c.args.seed players c.args.count
-    (new_seats config players, ports) (out.after, c.play_rounds.new.line) in
-    let N : ℕ → Type 0 = λ n. TakeRounds UdpSends UdpPolls walking c.args.seed n c.args.count
+    let P : Ports → Type 0 = λ ports. TakeRounds UdpSends UdpPolls failures walking c.args.net.seed players
+    c.args.net.count (new_seats config players, ports) (out.after, c.play_rounds.new.line) in
+    let N : ℕ → Type 0 = λ n. TakeRounds UdpSends UdpPolls failures walking c.args.net.seed n c.args.net.count
     (new_seats config players, c.in-Ok.line) (out.after, c.play_rounds.new.line) in
-    let last : HavePlayed config players c.args.base c.args.seed c.args.count c.play_rounds.new.nodes =
+    let last : HavePlayed config players c.args.net.base c.args.net.seed c.args.net.count c.play_rounds.new.nodes =
     record {
       last = (out.after, c.play_rounds.new.line);
       rounds = subst P c.in-Ok.ensures.line (subst N many out.leads);

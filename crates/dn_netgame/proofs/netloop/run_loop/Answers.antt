@@ -1,12 +1,13 @@
+use Rattle.std.proofs.Common.{inl, refl}
 use Rattle.std.specs.String.{string_bytes}
 use Rattle.dn_netgame.proofs.Printing.{prints_such}
-use Rattle.dn_netgame.proofs.Together.{unbound, played}
+use Rattle.dn_netgame.proofs.Together.{played}
 use Rattle.dn_netgame.proofs.netloop.run_loop.Goals as goal
 
 pub returns-in_default : goal.returns-in_default
 returns-in_default g c =
     prints_such g.W.Write.contents _ c.args.output.now c.print.new.output _ _ 3 c.print.result c.print.ensures.printed
-    c.as_bytes.ensures.value (unbound c.args.config c.args.players c.args.base c.args.seed c.args.count)
+    c.as_bytes.ensures.value (inl (refl, refl))
 
 pub returns : goal.returns
 returns g c =

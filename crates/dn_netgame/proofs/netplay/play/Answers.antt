@@ -3,7 +3,7 @@ use Rattle.std.proofs.lemmas.Option.{slice_get-get_or}
 use Rattle.dn_world.specs.Plane.{Spots, walking}
 use Rattle.dn_line.specs.Udp.{Ports, UdpSends, UdpPolls}
 use Rattle.dn_turn.specs.Rounds.{Seat}
-use Rattle.dn_netgame.specs.PlayShown.{new_seat, PlaysOut}
+use Rattle.dn_netgame.specs.PlayShown.{failures, new_seat, PlaysOut}
 use Rattle.dn_netgame.proofs.Alone.{alone}
 use Rattle.dn_netgame.proofs.netplay.play.Goals as goal
 
@@ -18,7 +18,7 @@ returns-clause-played g c settings keyed =
     let nodes = c.play_out.new.nodes in
     let one : length nodes ≡ 1 = c.play_out.auto.nodes ∙ c.from_mut.ensures.len in
     let below : 0 < length nodes = omega (arith, one) in
-    let P : Ports → Type 0 = λ ports. PlaysOut UdpSends UdpPolls walking c.args.seed c.args.count
+    let P : Ports → Type 0 = λ ports. PlaysOut UdpSends UdpPolls failures walking c.args.net.seed c.args.net.count
     ((λ place. seat), ports) (out.after, c.play_out.new.line) in
     record {
       last = (out.after, c.play_out.new.line);

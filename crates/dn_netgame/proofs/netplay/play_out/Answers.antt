@@ -31,10 +31,10 @@ returns g c =
           let last = c.rounds-2.ensures.rounds (put first.after 0 left)
           (seated_with g.W.World.state g.W.World.physics nodes first.after 0 c.quit.new.self left first.seated
           below ended.node) in
-          let N : ℕ → Type 0 = λ n. TakeRounds g.L.Line.sends g.L.Line.polls g.W.World.physics c.args.seed n
-          c.args.count (seats, c.args.line.now) (first.after, c.rounds.new.line) in
-          let M : ℕ → Type 0 = λ n. TakeRounds g.L.Line.sends g.L.Line.polls g.W.World.physics c.args.seed n 4
-          (with_quit 0 (first.after, c.rounds.new.line)) (last.after, c.rounds-2.new.line) in
+          let N : ℕ → Type 0 = λ n. TakeRounds g.L.Line.sends g.L.Line.polls g.L.Line.failed g.W.World.physics
+          c.args.seed n c.args.count (seats, c.args.line.now) (first.after, c.rounds.new.line) in
+          let M : ℕ → Type 0 = λ n. TakeRounds g.L.Line.sends g.L.Line.polls g.L.Line.failed g.W.World.physics
+          c.args.seed n 4 (with_quit 0 (first.after, c.rounds.new.line)) (last.after, c.rounds-2.new.line) in
           record {
             after = last.after;
             seated = last.seated;

@@ -1,4 +1,4 @@
-use Rattle.std.proofs.Common.{rules, ◌<◌, length, inl, inr, refl, arith}
+use Rattle.std.proofs.Common.{rules, inl, inr, refl, arith}
 use Rattle.dn_netgame.specs.UpgradeShown.{IsUpgradedTo, IsUpgrade}
 use Rattle.dn_netgame.proofs.Showing.{shows_printed, shows_such}
 use Rattle.dn_netgame.proofs.upgrade.run_upgrade.Goals as goal

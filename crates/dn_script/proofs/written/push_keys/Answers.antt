@@ -4,7 +4,7 @@ use Rattle.std.proofs.lemmas.Bool.{cond-false, ne_eqb}
 use Rattle.std.proofs.lemmas.Result.{IfOk-weaker}
 use Rattle.dn_script.specs.Words.{letters}
 use Rattle.dn_script.specs.Written.{letters_down, keys_word}
-use Rattle.dn_text.proofs.events.push_keys.Goals as goal
+use Rattle.dn_script.proofs.written.push_keys.Goals as goal
 
 pub returns : goal.returns
 returns c =

@@ -1,5 +1,5 @@
 use Rattle.dn_netgame.proofs.Printing.{prints_such}
-use Rattle.dn_netgame.proofs.trace.trace_storm.Goals as goal
+use Rattle.dn_netgame.proofs.storm.tell_storm.Goals as goal
 
 pub returns : goal.returns
 returns g c =
