@@ -1,5 +1,5 @@
 //! What a node keeps of the others, once players may be given up: whom it has given up, and the newest report
-//! of each player. By these it decides where a player's commands end. No code calls this yet.
+//! of each player. By these it decides where a player's commands end. `dn_survivor` makes these calls.
 //!
 //! A caller tests first, in the order of `dn_remain`'s `on_give_up` and `on_report`:
 //! - before `give_up`: that the player is another of the game; that the node has settings, and has not ended;

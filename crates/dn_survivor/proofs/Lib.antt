@@ -1,0 +1,11 @@
+pub mod Lists
+pub mod Lowest
+pub mod Chains
+pub mod Settling
+pub mod Ends
+pub mod Waries
+pub mod Reports
+pub mod Steps
+pub mod Frozen
+pub mod Ended
+pub mod Taken

@@ -1,0 +1,26 @@
+-- The lowest number that passes a test.
+use Rattle.std.proofs.Common.{◌≡◌, ◌<◌, ℕ, zero, suc, Bool, true, false, not, refl, ap, sym, arith, Option, Some, None}
+use Rattle.std.specs.Option.{IfSome}
+use Rattle.dn_machine.specs.Node.{lowest}
+use Rattle.dn_lockstep.proofs.Lowest.{lowest_found}
+use Rattle.dn_vanish.specs.Calls.{every}
+use Rattle.dn_vanish.proofs.Tests.{every_at}
+
+pub lowest_none : (bound : ℕ) (test : ℕ → Bool) → ((p : ℕ) → p < bound → test p ≡ false)
+    → lowest bound test ≡ None
+unfolding lowest
+lowest_none zero test none = refl
+lowest_none (suc bound) test none =
+    let before = lowest_none bound test (λ p h. none p (omega (arith, h))) in
+    let here = none bound (omega arith) in
+    rw (before, here) refl
+
+-- who fails a test first, if anybody does
+pub first_fails : (n : ℕ) (test : ℕ → Bool) (found : Option ℕ)
+    → IfSome found (λ p. (p < n) × (test p ≡ false) × ((lower : ℕ) → lower < p → test lower ≡ true))
+    → (found ≡ None → every n test ≡ true) → found ≡ lowest n (λ p. not (test p))
+first_fails n test None lacks none =
+    sym (lowest_none n (λ p. not (test p)) (λ p h. ap not (every_at n test p (none refl) h)))
+first_fails n test (Some p) lacks none =
+    sym (lowest_found n p (λ q. not (test q)) lacks.0
+    (lowest_none p (λ q. not (test q)) (λ q h. ap not (lacks.2 q h))) (ap not lacks.1))

@@ -1,0 +1,229 @@
+-- The report that a survivor gives tells what its node has.
+use Rattle.std.proofs.Common.{◌≡◌, ◌≢◌, ◌<◌, ◌≤◌, ◌+◌, ◌-◌, ℕ, zero, suc, Bool, false, List, [], ◌∷◌, length, add-one, refl, sym, ap, subst, ◌∙◌, arith, inl, inr, Some, None}
+use Rattle.std.specs.Prelude.{All, ◌&&◌, ◌||◌, ◌==◌, not, nat_le, min, if◌then◌else◌}
+use Rattle.std.specs.List.{filter_map, range_with_len}
+use Rattle.std.specs.Option.{is_some, option_or}
+use Rattle.std.proofs.lemmas.Bool.{cases_Bool, cases_eq, cases_lt, eq-eqb, ne_eqb, lt-ltb}
+use Rattle.dn_ring.specs.Ring.{Ring}
+use Rattle.dn_report.specs.declared.report.Tail.{Tail}
+use Rattle.dn_report.specs.Text.{AreInOrder, AreTold, IsTail}
+use Rattle.dn_machine.specs.Limits.{Limits}
+use Rattle.dn_machine.specs.Node as machine
+use Rattle.dn_machine.specs.Node.{got, held_at, is_ended, lowest}
+use Rattle.dn_lockstep.specs.Contents.{Contents}
+use Rattle.dn_lockstep.specs.Represents as lockstep
+use Rattle.dn_lockstep.specs.Rings.{count_of, get, ring_of}
+use Rattle.dn_lockstep.specs.Settling.{is_no_peer}
+use Rattle.dn_lockstep.specs.Told.{command_told}
+use Rattle.dn_lockstep.proofs.Keeping.{get_within}
+use Rattle.dn_vanish.specs.Decisions.{last_of}
+use Rattle.dn_others.specs.Hearing.{tells_either}
+use Rattle.dn_others.specs.Keeping.{count_told, has, last_told}
+use Rattle.dn_others.specs.Represents.{Tells}
+use Rattle.dn_others.specs.Represents as others
+use Rattle.dn_remain.specs.Wary.{Wary, has_gone, report_of, report_to}
+use Rattle.dn_survivor.specs.Represents.{Represents}
+use Rattle.dn_survivor.specs.Surviving as now
+use Rattle.dn_survivor.specs.Surviving.{Surviving}
+use Rattle.dn_survivor.specs.Telling.{last_in, report_for, report_in, tails_in, told_in}
+use Rattle.dn_survivor.proofs.Lists.{if_last, lasts, one_less, picks_few, two_less}
+
+-- tests that are alike find the same number
+pub lowest_alike : (bound : ℕ) (f g : ℕ → Bool) → ((i : ℕ) → i < bound → f i ≡ g i) → lowest bound f ≡ lowest bound g
+unfolding lowest
+lowest_alike zero f g alike = refl
+lowest_alike (suc bound) f g alike =
+    let before = lowest_alike bound f g (λ i h. alike i (omega (arith, h))) in
+    let here = alike bound (omega arith) in
+    λ i. option_or (before i) (if here i then Some bound else None)
+
+module _ (n : Contents) (to : ℕ) where
+  abbrev pub tails : ℕ → ℕ → List Tail
+  tails from count = filter_map (told_in n to) (range_with_len from count)
+
+  -- of each player but the two its own tail is told
+  counted : (count from p : ℕ) → p ≢ n.me → p ≢ to → from ≤ p → p < from + count
+      → count_told (tails from count) p ≡ count_of n.rings p
+  counted zero from p apart other low high = absurd (omega (arith, low, high))
+  counted (suc count) from p apart other low high = elim (cases_eq from p) [
+    | inl same ↦
+        let one = ne_eqb from n.me (λ e. apart (sym same ∙ e)) in
+        let two = ne_eqb from to (λ e. other (sym same ∙ e)) in
+        let here = eq-eqb from p same in
+        rw (one, two, here) (ap (count_of n.rings) same)
+    | inr later ↦
+        let rest = counted count (from + 1) p apart other (omega (arith, low, later)) (omega (arith, high)) in
+        let off = ne_eqb from p later in
+        elim (cases_Bool (from == n.me || from == to)) [
+          | inl skip ↦ rw skip rest
+          | inr told ↦ rw (told, off) rest
+        ]
+  ]
+
+  lasted : (count from p : ℕ) → p ≢ n.me → p ≢ to → from ≤ p → p < from + count
+      → last_told (tails from count) p ≡ last_in n p
+  lasted zero from p apart other low high = absurd (omega (arith, low, high))
+  lasted (suc count) from p apart other low high = elim (cases_eq from p) [
+    | inl same ↦
+        let one = ne_eqb from n.me (λ e. apart (sym same ∙ e)) in
+        let two = ne_eqb from to (λ e. other (sym same ∙ e)) in
+        let here = eq-eqb from p same in
+        rw (one, two, here) (ap (last_in n) same)
+    | inr later ↦
+        let rest = lasted count (from + 1) p apart other (omega (arith, low, later)) (omega (arith, high)) in
+        let off = ne_eqb from p later in
+        elim (cases_Bool (from == n.me || from == to)) [
+          | inl skip ↦ rw skip rest
+          | inr told ↦ rw (told, off) rest
+        ]
+  ]
+
+  -- and of neither of these two
+  neither : (count from : ℕ) → tells_either to n.me (tails from count) ≡ false
+  neither zero from = refl
+  neither (suc count) from =
+      let rest = neither count (from + 1) in
+      elim (cases_Bool (from == n.me || from == to)) [
+        | inl skip ↦ rw skip rest
+        | inr told ↦
+            let turned : (from == to || from == n.me) ≡ false = grind (arith, told) in
+            rw (told, turned) rest
+      ]
+
+  -- so there is room for what is told of the others, of whom there are two at most
+  pub few_tails : (player players : ℕ) → player < players → players ≤ 4 → n.me < players → to < players
+      → to ≢ n.me → length (tails 0 (player + 1)) ≤ 2
+  few_tails player players low four mine other apart =
+      let me_none : told_in n to n.me ≡ None = let same = eq-eqb n.me n.me refl in rw same refl in
+      let to_none : told_in n to to ≡ None =
+      let one = ne_eqb to n.me apart in let two = eq-eqb to to refl in rw (one, two) refl in
+      elim (cases_lt player 2) [
+        | inl early ↦
+            let few = picks_few (told_in n to) (player + 1) 0 in
+            omega (arith, few, early)
+        | inr late ↦ elim (cases_lt player 3) [
+          | inr last ↦
+              let few = two_less (told_in n to) (player + 1) 0 to n.me apart to_none me_none (omega arith)
+              (omega (arith, other, four, last)) (omega arith) (omega (arith, mine, four, last)) in
+              omega (arith, few, low, four)
+          | inl third ↦ elim (cases_lt n.me 3) [
+            | inl within ↦
+                let few = one_less (told_in n to) (player + 1) 0 n.me me_none (omega arith) (omega (arith, within, late)) in
+                omega (arith, few, third)
+            | inr past ↦
+                let few = one_less (told_in n to) (player + 1) 0 to to_none (omega arith)
+                (omega (arith, past, late, apart, other, mine, four)) in
+                omega (arith, few, third)
+          ]
+        ]
+      ]
+
+-- from a higher number on they rise from a lower one on
+lower : (least more : ℕ) (told : List Tail) → least ≤ more → AreInOrder more told → AreInOrder least told
+lower least more [] low h = tt
+lower least more (tail ∷ told) low h = let first = h.0 in (omega (arith, low, first), h.1)
+
+in_order : (n : Contents) (to count from : ℕ) → AreInOrder from (tails n to from count)
+in_order n to zero from = tt
+in_order n to (suc count) from =
+    let rest = in_order n to count (from + 1) in
+    elim (cases_Bool (from == n.me || from == to)) [
+      | inl skip ↦ rw skip (lower from (from + 1) (tails n to (from + 1) count) (omega arith) rest)
+      | inr told ↦
+          rw told (omega arith, subst (λ (k : ℕ). AreInOrder k (tails n to (from + 1) count)) (add-one from) rest)
+    ]
+
+-- so players may be told so
+pub are_told : (n : Contents) (to : ℕ) (told : List Tail) → told ≡ tails_in n to → n.players ≤ 4
+    → n.me < n.players → to < n.players → to ≢ n.me → All IsTail told → AreTold told
+are_told n to told is four mine other apart all =
+    let last : (n.players - 1) + 1 ≡ n.players = omega (arith, mine) in
+    let few = few_tails n to (n.players - 1) n.players (omega (arith, mine)) four mine other apart in
+    let same = ap (λ (k : ℕ). length (tails n to 0 k)) last in
+    let size = ap length is in
+    record {
+      few = omega (arith, few, same, size);
+      order = subst (AreInOrder 0) (sym is) (in_order n to n.players 0);
+      tails = all;
+    }
+
+-- what a lockstep tells of a player's commands is what its node has
+module _ (limits : Limits) (me : ℕ) (n : Contents) (m : machine.Node) (r : lockstep.Represents limits me n m)
+    (few : limits.places ≤ 24) (player : ℕ) (below : player < limits.players) where
+  ring : n.rings player ≡ ring_of (m.held player)
+  ring = r.commands.rings player below
+
+  count_is : count_of n.rings player ≡ got m player
+  count_is = ap (λ (k : Ring). k.count) ring
+
+  told_is : (tic : ℕ) → command_told n player tic ≡ if_last limits.places (m.held player) tic
+  told_is tic =
+      let mine = lt-ltb player n.players (let a = r.whose.players in omega (arith, a, below)) in
+      let near : nat_le (count_of n.rings player - tic) n.places ≡ nat_le (got m player - tic) limits.places =
+      λ i. nat_le (count_is i - tic) (r.whose.places i) in
+      let kept = ap (λ (k : Ring). get k tic) ring in
+      elim (cases_Bool (nat_le (got m player - tic) limits.places)) [
+        | inl on ↦
+            let both = near ∙ on in
+            let is = get_within limits.places (m.held player) tic (omega (arith, few)) (grind (arith, on)) in
+            rw (mine, both) (kept ∙ is)
+        | inr off ↦
+            let both = near ∙ off in
+            rw (mine, both, off) (grind arith)
+      ]
+
+  last_is : last_in n player ≡ last_of limits.places (m.held player)
+  last_is =
+      (λ i. filter_map (λ tic. told_is tic i) (range_with_len (count_is i - 24) (min (count_is i) 24)))
+      ∙ lasts limits.places (m.held player) few
+
+module _ (limits : Limits) (me : ℕ) (old : Surviving) (wary : Wary) (r : Represents limits me old wary) where
+  left_is : now.has_left old ≡ machine.has_left wary.node
+  left_is = λ i. r.node.stands.played i && is_ended (r.node.stands.phase i)
+
+  module _ (to : ℕ) (below : to < limits.players) where
+    tells : Tells limits.players limits.places to me (report_of wary) (report_in old to)
+    tells =
+        let n = old.lockstep in
+        let players = r.node.whose.players in
+        let number = r.node.whose.number in
+        record {
+          gone = λ p h. r.others.given_up p h;
+          left = left_is;
+          count = λ p h other apart.
+              counted n to n.players 0 p (λ e. apart (e ∙ number)) other (omega arith) (omega (arith, h, players))
+              ∙ count_is limits me n wary.node r.node r.kept p h;
+          last = λ p h other apart.
+              lasted n to n.players 0 p (λ e. apart (e ∙ number)) other (omega arith) (omega (arith, h, players))
+              ∙ last_is limits me n wary.node r.node r.kept p h;
+          neither = ap (λ (k : ℕ). tells_either to k (report_in old to).told.items) (sym number)
+              ∙ neither n to n.players 0;
+        }
+
+    gone_is : now.has_gone old ≡ has_gone limits wary
+    gone_is =
+        ap (λ (k : ℕ). is_some (lowest k (has old.others.gone))) r.node.whose.players
+        ∙ ap is_some (lowest_alike limits.players (has old.others.gone) wary.gone (λ p h. r.others.given_up p h))
+
+    pub told : others.AreTold limits.players limits.places to me (report_for old to) (report_to limits me wary to)
+    told =
+        let peer : is_no_peer old.lockstep.players old.lockstep.me to ≡ (me == to) =
+        (λ i. is_no_peer (r.node.whose.players i) (r.node.whose.number i) to) ∙ mirrored in
+        let given = r.others.given_up to below in
+        let left = left_is in
+        let gone = gone_is in
+        let same : (is_no_peer old.lockstep.players old.lockstep.me to
+        || (has old.others.gone to || not (now.has_left old || now.has_gone old)))
+        ≡ (me == to || (wary.gone to || not (machine.has_left wary.node || has_gone limits wary))) =
+        λ i. peer i || (given i || not (left i || gone i)) in
+        elim (cases_Bool (me == to || (wary.gone to || not (machine.has_left wary.node || has_gone limits wary)))) [
+          | inl none ↦
+              let both = same ∙ none in
+              rw (both, none) tt
+          | inr some ↦
+              let both = same ∙ some in
+              rw (both, some) tells
+        ]
+      where
+        mirrored : is_no_peer limits.players me to ≡ (me == to)
+        mirrored = grind (arith, below)

@@ -1,0 +1,330 @@
+-- The calls of a survivor are those of a node of `dn_remain`.
+use Rattle.std.proofs.Common.{◌≡◌, ◌≢◌, ◌<◌, ◌≤◌, ℕ, Bool, true, false, refl, sym, ap, subst, ◌∙◌, arith, inl, inr, Option, Some, None}
+use Rattle.std.specs.Prelude.{not, if◌then◌else◌}
+use Rattle.std.proofs.lemmas.Bool.{cases_Bool, cases_eq, cond_both, true≢false}
+use Rattle.dn_report.specs.declared.report.Report.{Report as Told}
+use Rattle.dn_setup.specs.Gathered.{all_noted}
+use Rattle.dn_machine.specs.Drops as drops
+use Rattle.dn_machine.specs.declared.answers.Phase.{Phase}
+use Rattle.dn_machine.specs.declared.answers.Phase.TheVariants.{Listening, Gathering, Playing, Ended}
+use Rattle.dn_machine.specs.declared.answers.Heard.{Heard}
+use Rattle.dn_machine.specs.Limits.{Limits}
+use Rattle.dn_machine.specs.Node as machine
+use Rattle.dn_machine.specs.Node.{put}
+use Rattle.dn_machine.proofs.Put.{put_off}
+use Rattle.dn_lockstep.specs.Represents as lockstep
+use Rattle.dn_lockstep.specs.Settling.{is_no_peer, on_excuse, on_excuse_in}
+use Rattle.dn_lockstep.specs.Steps.{Steps}
+use Rattle.dn_vanish.specs.Calls.{is_newer}
+use Rattle.dn_vanish.specs.Commands.{seen}
+use Rattle.dn_others.specs.declared.others.Others.{Others}
+use Rattle.dn_others.specs.declared.hearing.Reported as noted
+use Rattle.dn_others.specs.Keeping.{has}
+use Rattle.dn_others.specs.Hearing.{reported_as, with_newest}
+use Rattle.dn_others.specs.Represents as others
+use Rattle.dn_others.specs.Represents.{Tells}
+use Rattle.dn_others.proofs.Agreeing as agreeing
+use Rattle.dn_others.proofs.Keeping as keeping
+use Rattle.dn_remain.specs.declared.events.GivenUp as remain_given
+use Rattle.dn_remain.specs.declared.events.Reported as remain_reported
+use Rattle.dn_remain.specs.Wary.{Report, Wary, after_news, can_settle, from_given_up, is_in_game, newest_seen, noted_gone, on_give_up, on_report, with_gone, with_report}
+use Rattle.dn_survivor.specs.declared.answers.Ends.{Ends}
+use Rattle.dn_survivor.specs.declared.answers.GivenUp.{GivenUp}
+use Rattle.dn_survivor.specs.declared.answers.Reported.{Reported}
+use Rattle.dn_survivor.specs.Calls as call
+use Rattle.dn_survivor.specs.Calls.{GivesUp, GivesUpUnless, HearsReport, HearsReportUnless, given_up_as, given_up_by, heard_by, refused_give_up, refused_report, reported_by, unkept}
+use Rattle.dn_survivor.specs.Ending.{decided_by}
+use Rattle.dn_survivor.specs.Represents.{CanTakeAll, Represents, given_up_is, reported_is}
+use Rattle.dn_survivor.specs.Surviving.{Surviving}
+use Rattle.dn_survivor.proofs.Ends.{decides, tests}
+
+-- what has become of the ends, where all can be taken
+abbrev ends_if : Bool → Ends
+ends_if can = if can then Ends.Taken else Ends.Awaited
+
+-- what a node makes of news is what its survivor makes of them
+module _ (limits : Limits) (me : ℕ) (kept : Others) (wary : Wary) (mine : me < limits.players)
+    (r : others.Represents limits.players limits.places me kept wary.gone wary.newest)
+    (peers : (player : ℕ) → wary.gone player ≡ true → is_no_peer limits.players me player ≡ false)
+    (here : is_in_game wary.node.phase ≡ true)
+    (can : can_settle limits me wary ≡ true → CanTakeAll limits me wary) where
+  pub news : decided_by limits me kept wary.node
+      ≡ ((after_news limits me wary).node, ends_if (can_settle limits me wary))
+  news =
+      let test = tests limits me kept wary mine r peers here in
+      elim (cases_Bool (can_settle limits me wary)) [
+        | inl on ↦
+            let both = test ∙ on in
+            let all = decides limits me kept wary mine r peers here (can on) in
+            rw (both, on) all
+        | inr off ↦
+            let both = test ∙ off in
+            rw (both, off) refl
+      ]
+
+-- and nothing else changes
+pub news_gone : (limits : Limits) (me : ℕ) (wary : Wary) → (after_news limits me wary).gone ≡ wary.gone
+news_gone limits me wary = elim (cases_Bool (can_settle limits me wary)) [
+  | inl on ↦ rw on refl
+  | inr off ↦ rw off refl
+]
+
+news_newest : (limits : Limits) (me : ℕ) (wary : Wary) → (after_news limits me wary).newest ≡ wary.newest
+news_newest limits me wary = elim (cases_Bool (can_settle limits me wary)) [
+  | inl on ↦ rw on refl
+  | inr off ↦ rw off refl
+]
+
+-- so a survivor represents the node afterwards, if its lockstep does
+shows : (limits : Limits) (me : ℕ) (now : Surviving) (wary : Wary) → me < limits.players → limits.players ≤ 4
+    → limits.places ≤ 24 → others.Represents limits.players limits.places me now.others wary.gone wary.newest
+    → ((player : ℕ) → wary.gone player ≡ true → is_no_peer limits.players me player ≡ false)
+    → lockstep.Represents limits me now.lockstep (after_news limits me wary).node
+    → Represents limits me now (after_news limits me wary)
+shows limits me now wary mine few room r peers node =
+    record {
+      player = mine;
+      few = few;
+      kept = room;
+      node = node;
+      others = subst (λ (g : ℕ → Bool). others.Represents limits.players limits.places me now.others g
+          (after_news limits me wary).newest) (sym (news_gone limits me wary))
+          (subst (λ (n : ℕ → Option Report). others.Represents limits.players limits.places me now.others wary.gone n)
+          (sym (news_newest limits me wary)) r);
+      peers = λ player given. peers player (ap (λ (g : ℕ → Bool). g player) (sym (news_gone limits me wary)) ∙ given);
+    }
+
+-- to wait no longer for a player before the start is to have noted it
+excused_in : (limits : Limits) (m : machine.Node) (player : ℕ) (phase : Phase)
+    → (on_excuse_in limits m player phase).0 ≡ noted_gone limits m player phase
+excused_in limits m player Listening = refl
+excused_in limits m player Gathering = refl
+excused_in limits m player Playing = refl
+excused_in limits m player (Ended cause) = refl
+
+excused : (limits : Limits) (me : ℕ) (m : machine.Node) (player : ℕ)
+    → is_no_peer limits.players me player ≡ false
+    → (on_excuse limits me m player).0 ≡ noted_gone limits m player m.phase
+unfolding on_excuse
+excused limits me m player peer = rw peer (excused_in limits m player m.phase)
+
+-- and leaves it in the game
+still_in : (limits : Limits) (m : machine.Node) (player : ℕ) (phase : Phase) → m.phase ≡ phase
+    → is_in_game phase ≡ true → is_in_game (noted_gone limits m player phase).phase ≡ true
+still_in limits m player Listening e h = absurd (true≢false (sym h))
+still_in limits m player (Ended cause) e h = absurd (true≢false (sym h))
+still_in limits m player Playing e h = ap is_in_game e
+still_in limits m player Gathering e h = cond_both (all_noted limits.players (put m.noted player true)) _ _
+    (λ (x : machine.Node × Heard). is_in_game x.0.phase ≡ true) (λ all. refl) (λ some. ap is_in_game e)
+
+module _ (limits : Limits) (me : ℕ) (old new : Surviving) (wary : Wary) (r : Represents limits me old wary) where
+  same_peer : (player : ℕ) → is_no_peer old.lockstep.players old.lockstep.me player
+      ≡ is_no_peer limits.players me player
+  same_peer player = λ i. is_no_peer (r.node.whose.players i) (r.node.whose.number i) player
+
+  same_phase : is_in_game old.lockstep.phase ≡ is_in_game wary.node.phase
+  same_phase = ap is_in_game r.node.stands.phase
+
+  below : (player : ℕ) → is_no_peer limits.players me player ≡ false → player < limits.players
+  below player peer = grind (arith, peer)
+
+  same_gone : (player : ℕ) → is_no_peer limits.players me player ≡ false
+      → has old.others.gone player ≡ wary.gone player
+  same_gone player peer = r.others.given_up player (below player peer)
+
+  module _ (player : ℕ) (answer : GivenUp) where
+    abbrev IsGivenUp : Wary × remain_given.GivenUp → Type 0
+    IsGivenUp after = Represents limits me new after.0 × (answer ≡ given_up_is after.1)
+
+    refuses : (reason : remain_given.GivenUp) → refused_give_up old player ≡ Some (given_up_is reason)
+        → on_give_up limits me wary player ≡ (wary, reason) → GivesUp player old new answer
+        → IsGivenUp (on_give_up limits me wary player)
+    refuses reason e is h =
+        let told : (answer ≡ given_up_is reason) × (new ≡ old) =
+        subst (λ (o : Option GivenUp). GivesUpUnless o player old new answer) e h in
+        subst IsGivenUp (sym is)
+        (subst (λ (s : Surviving). Represents limits me s wary) (sym told.1) r, told.0)
+
+    module _ (peer : is_no_peer limits.players me player ≡ false) (here : is_in_game wary.node.phase ≡ true)
+        (can : can_settle limits me (with_gone limits wary player) ≡ true
+        → CanTakeAll limits me (with_gone limits wary player)) where
+      abbrev given : Wary
+      given = with_gone limits wary player
+
+      peers : (p : ℕ) → given.gone p ≡ true → is_no_peer limits.players me p ≡ false
+      peers p h = elim (cases_eq p player) [
+        | inl same ↦ ap (is_no_peer limits.players me) same ∙ peer
+        | inr other ↦ r.peers p (sym (put_off wary.gone player p true other) ∙ h)
+      ]
+
+      kept : others.Represents limits.players limits.places me (call.with_gone old.others player) given.gone given.newest
+      kept = keeping.given_up limits.players limits.places me old.others wary.gone wary.newest r.others player
+          (let low = below player peer in let few = r.few in omega arith)
+
+      after : given_up_by limits me old.others player wary.node
+          ≡ ((after_news limits me given).node, given_up_as (ends_if (can_settle limits me given)))
+      after =
+          ap (λ (m : machine.Node). let x = decided_by limits me (call.with_gone old.others player) m in (x.0, given_up_as x.1))
+          (excused limits me wary.node player peer)
+          ∙ ap (λ (x : machine.Node × Ends). (x.0, given_up_as x.1))
+          (news limits me (call.with_gone old.others player) given r.player kept peers
+          (still_in limits wary.node player wary.node.phase refl here) can)
+
+      gives : (new.others ≡ call.with_gone old.others player)
+          × Steps old.lockstep new.lockstep (λ limits me m. given_up_by limits me old.others player m)
+          (λ a. answer ≡ a)
+          → IsGivenUp (
+            after_news limits me given,
+            if can_settle limits me given then remain_given.GivenUp.Decided else remain_given.GivenUp.Waiting,
+          )
+      gives h =
+          let step = h.1.step limits me wary.node r.node in (
+            shows limits me new given r.player r.few r.kept
+                (subst (λ (o : Others). others.Represents limits.players limits.places me o given.gone given.newest)
+                (sym h.0) kept) peers
+                (subst (λ (x : machine.Node × GivenUp). lockstep.Represents limits me new.lockstep x.0) after step.node),
+            step.answer ∙ ap (λ (x : machine.Node × GivenUp). x.1) after ∙ is (can_settle limits me given),
+          )
+        where
+          is : (b : Bool) → given_up_as (ends_if b)
+              ≡ given_up_is (if b then remain_given.GivenUp.Decided else remain_given.GivenUp.Waiting)
+          is true = refl
+          is false = refl
+
+    pub gave_up : (is_in_game wary.node.phase ≡ true → is_no_peer limits.players me player ≡ false
+        → can_settle limits me (with_gone limits wary player) ≡ true
+        → CanTakeAll limits me (with_gone limits wary player)) → GivesUp player old new answer
+        → IsGivenUp (on_give_up limits me wary player)
+    unfolding on_give_up
+    gave_up can h = elim (cases_Bool (is_no_peer limits.players me player)) [
+      | inl stranger ↦
+          let mine = same_peer player ∙ stranger in
+          refuses remain_given.GivenUp.NotAPlayer (rw mine refl) (rw stranger refl) h
+      | inr peer ↦
+          let mine = same_peer player ∙ peer in
+          elim (cases_Bool (is_in_game wary.node.phase)) [
+            | inr out ↦
+                let both = same_phase ∙ out in
+                refuses remain_given.GivenUp.NotPlaying (rw (mine, both) refl) (rw (peer, out) refl) h
+            | inl here ↦
+                let both = same_phase ∙ here in
+                let alike = same_gone player peer in
+                elim (cases_Bool (wary.gone player)) [
+                  | inl gone ↦
+                      let known = alike ∙ gone in
+                      refuses remain_given.GivenUp.Already (rw (mine, both, known) refl)
+                      (rw (peer, here, gone) refl) h
+                  | inr stays ↦
+                      let known = alike ∙ stays in
+                      let none : refused_give_up old player ≡ None = rw (mine, both, known) refl in
+                      let told = subst (λ (o : Option GivenUp). GivesUpUnless o player old new answer) none h in
+                      rw (peer, here, stays) (gives peer here (can here peer) told)
+                ]
+          ]
+    ]
+
+  -- a report comes
+  module _ (from : ℕ) (report : Told) (holder : Report) (answer : Reported) (player : from < limits.players)
+      (other : from ≢ me) (tells : Tells limits.players limits.places me from holder report)
+      (can : is_in_game wary.node.phase ≡ true
+      → can_settle limits me (with_report wary from holder) ≡ true
+      → CanTakeAll limits me (with_report wary from holder)) where
+    abbrev IsReported : Wary × remain_reported.Reported → Type 0
+    IsReported after = Represents limits me new after.0 × (answer ≡ reported_is after.1)
+
+    unheard : (reason : remain_reported.Reported) → refused_report old from report ≡ Some (reported_is reason)
+        → on_report limits me wary from holder ≡ (wary, reason) → HearsReport from report old new answer
+        → IsReported (on_report limits me wary from holder)
+    unheard reason e is h =
+        let told : (answer ≡ reported_is reason) × (new ≡ old) =
+        subst (λ (o : Option Reported). HearsReportUnless o from report old new answer) e h in
+        subst IsReported (sym is)
+        (subst (λ (s : Surviving). Represents limits me s wary) (sym told.1) r, told.0)
+
+    -- the tests of what is kept of the others
+    noted_as : reported_as old.lockstep.players old.lockstep.me old.others from report
+        ≡ (if wary.gone from then noted.Reported.GivenUp else (
+        if holder.gone me then noted.Reported.Excluded else (
+        if not (is_newer limits.players (newest_seen wary from) (seen holder)) then noted.Reported.Stale
+        else noted.Reported.Kept)))
+    noted_as =
+        (λ i. reported_as (r.node.whose.players i) (r.node.whose.number i) old.others from report)
+        ∙ agreeing.reported limits.players limits.places me old.others wary.gone wary.newest r.others from holder
+        report player tells r.player
+
+    peer : is_no_peer old.lockstep.players old.lockstep.me from ≡ false
+    peer = same_peer from ∙ grind (arith, player, other)
+
+    abbrev told_now : Wary
+    told_now = with_report wary from holder
+
+    newest : others.Represents limits.players limits.places me (with_newest old.others from report) told_now.gone
+        told_now.newest
+    newest = keeping.heard limits.players limits.places me old.others wary.gone wary.newest r.others from holder report
+        (let few = r.few in omega (arith, player, few)) tells
+
+    hears : is_in_game wary.node.phase ≡ true
+        → (new.others ≡ with_newest old.others from report)
+        × Steps old.lockstep new.lockstep (λ limits me m. heard_by limits me (with_newest old.others from report) m)
+        (λ a. answer ≡ a)
+        → IsReported (
+          after_news limits me told_now,
+          if can_settle limits me told_now then remain_reported.Reported.Decided
+              else remain_reported.Reported.Kept,
+        )
+    hears here h =
+        let step = h.1.step limits me wary.node r.node in
+        let after : heard_by limits me (with_newest old.others from report) wary.node
+        ≡ ((after_news limits me told_now).node, reported_by (ends_if (can_settle limits me told_now))) =
+        ap (λ (x : machine.Node × Ends). (x.0, reported_by x.1))
+        (news limits me (with_newest old.others from report) told_now r.player newest r.peers here (can here)) in (
+          shows limits me new told_now r.player r.few r.kept
+              (subst (λ (o : Others). others.Represents limits.players limits.places me o told_now.gone told_now.newest)
+              (sym h.0) newest) r.peers
+              (subst (λ (x : machine.Node × Reported). lockstep.Represents limits me new.lockstep x.0) after step.node),
+          step.answer ∙ ap (λ (x : machine.Node × Reported). x.1) after ∙ is (can_settle limits me told_now),
+        )
+      where
+        is : (b : Bool) → reported_by (ends_if b)
+            ≡ reported_is (if b then remain_reported.Reported.Decided else remain_reported.Reported.Kept)
+        is true = refl
+        is false = refl
+
+    pub heard : HearsReport from report old new answer → IsReported (on_report limits me wary from holder)
+    unfolding on_report
+    heard h = elim (cases_Bool (is_in_game wary.node.phase)) [
+      | inr out ↦
+          let both = same_phase ∙ out in
+          unheard (remain_reported.Reported.Dropped drops.not_playing) (rw both refl) (rw out refl) h
+      | inl here ↦
+          let both = same_phase ∙ here in
+          let another = peer in
+          let note = noted_as in
+          elim (cases_Bool (wary.gone from)) [
+            | inl gone ↦
+                let is : reported_as old.lockstep.players old.lockstep.me old.others from report
+                ≡ noted.Reported.GivenUp = note ∙ rw gone refl in
+                unheard (remain_reported.Reported.Dropped from_given_up) (rw (both, another, is) refl)
+                (rw (here, gone) refl) h
+            | inr stays ↦ elim (cases_Bool (holder.gone me)) [
+              | inl out ↦
+                  let is : reported_as old.lockstep.players old.lockstep.me old.others from report
+                  ≡ noted.Reported.Excluded = note ∙ rw (stays, out) refl in
+                  unheard remain_reported.Reported.Excluded (rw (both, another, is) refl)
+                  (rw (here, stays, out) refl) h
+              | inr within ↦ elim (cases_Bool (is_newer limits.players (newest_seen wary from) (seen holder))) [
+                | inr late ↦
+                    let is : reported_as old.lockstep.players old.lockstep.me old.others from report
+                    ≡ noted.Reported.Stale = note ∙ rw (stays, within, late) refl in
+                    unheard remain_reported.Reported.Stale (rw (both, another, is) refl)
+                    (rw (here, stays, within, late) refl) h
+                | inl new_one ↦
+                    let is : reported_as old.lockstep.players old.lockstep.me old.others from report
+                    ≡ noted.Reported.Kept = note ∙ rw (stays, within, new_one) refl in
+                    let none : refused_report old from report ≡ None = rw (both, another, is) refl in
+                    let told = subst (λ (o : Option Reported). HearsReportUnless o from report old new answer) none h in
+                    rw (here, stays, within, new_one) (hears here told)
+              ]
+            ]
+          ]
+    ]

@@ -1,0 +1,31 @@
+use Rattle.std.proofs.Common.{◌≡◌, ◌∙◌, Option, None, ap, sym, subst}
+use Rattle.std.specs.Prelude.{Bool}
+use Rattle.dn_lockstep.specs.Contents.{contents}
+use Rattle.dn_lockstep.specs.Settling.{on_excuse}
+use Rattle.dn_lockstep.specs.Steps.{Steps}
+use Rattle.dn_lockstep.proofs.After.{steps}
+use Rattle.dn_others.specs.declared.others.Others.{Others}
+use Rattle.dn_survivor.specs.Calls.{GivesUpUnless, given_up_as, refused_give_up, with_gone}
+use Rattle.dn_survivor.specs.Ending.{decided_by}
+use Rattle.dn_survivor.specs.Surviving.{surviving}
+use Rattle.dn_survivor.specs.declared.answers.GivenUp.{GivenUp}
+use Rattle.dn_survivor.proofs.Chains.{chain}
+use Rattle.dn_survivor.proofs.survivor.Survivor.give_up.Goals as goal
+
+pub returns : goal.returns
+returns c =
+    let player = c.args.player in
+    let old = surviving c.args.self.now in
+    let new = surviving c.decide.new.self in
+    let none : refused_give_up old player ≡ None = sym c.refused_give_up.ensures ∙ c.in_default.is in
+    let two = subst (λ (o : Others). Steps (contents c.excuse.new.self) new.lockstep
+    (λ limits me m. decided_by limits me o m) (λ ends. c.decide.result ≡ ends)) c.give_up.ensures
+    c.decide.ensures.step in
+    let both = chain {A = Bool} (λ limits me m. on_excuse limits me m player)
+    (λ limits me before. decided_by limits me (with_gone old.others player) before.0) c.excuse.ensures.step two in
+    subst (λ (o : Option GivenUp). GivesUpUnless o player old new c.given_up_as.result) (sym none) (
+      c.decide.ensures.others ∙ c.give_up.ensures,
+      steps both.same (λ limits me m r.
+          let step = both.step limits me m r in
+          record { node = step.node; answer = c.given_up_as.ensures ∙ ap given_up_as step.answer }),
+    )

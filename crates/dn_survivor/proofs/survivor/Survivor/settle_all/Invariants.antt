@@ -1,0 +1,12 @@
+use Rattle.std.proofs.Common.{◌≡◌}
+use Rattle.dn_lockstep.specs.Contents.{contents}
+use Rattle.dn_lockstep.specs.Steps.{Steps}
+use Rattle.dn_survivor.specs.Ending.{settled_below}
+use Rattle.dn_survivor.proofs.survivor.Survivor.settle_all.Given as goal
+
+abbrev pub invariant-loop-player : goal.invariant-loop-player
+invariant-loop-player l = record {
+  step : Steps (contents l.fn.self.lockstep) (contents l.self.lockstep)
+      (λ limits me m. settled_below limits me l.fn.self.others l.player m) (λ ends. l.ends ≡ ends);
+  others : l.self.others ≡ l.fn.self.others;
+}

@@ -1,0 +1,105 @@
+-- What the calls of a survivor do that are not those of a lockstep.
+use Rattle.std.specs.Prelude.{◌≡◌, ℕ, true, not, slice_set, if◌then◌else◌, Option, Some, None}
+use Rattle.dn_report.specs.declared.report.Report.{Report}
+use Rattle.dn_machine.specs.Drops as drops
+use Rattle.dn_machine.specs.Limits.{Limits}
+use Rattle.dn_machine.specs.Flight.{Flight}
+use Rattle.dn_machine.specs.Node as machine
+use Rattle.dn_machine.specs.Node.{lowest}
+use Rattle.dn_lockstep.specs.Sent.{sent_to}
+use Rattle.dn_lockstep.specs.Settling.{is_no_peer, on_excuse}
+use Rattle.dn_lockstep.specs.Steps.{Steps}
+use Rattle.dn_vanish.specs.Calls.{is_heard}
+use Rattle.dn_remain.specs.Wary.{from_given_up, is_in_game}
+use Rattle.dn_others.specs.declared.others.Others.{Others}
+use Rattle.dn_others.specs.declared.hearing.Reported as others
+use Rattle.dn_others.specs.Keeping.{has, nodes_of, own_of}
+use Rattle.dn_others.specs.Hearing.{reported_as, with_newest}
+use Rattle.dn_survivor.specs.declared.answers.Ends.{Ends}
+use Rattle.dn_survivor.specs.declared.answers.GivenUp.{GivenUp}
+use Rattle.dn_survivor.specs.declared.answers.Reported.{Reported}
+use Rattle.dn_survivor.specs.Ending.{decided_by}
+use Rattle.dn_survivor.specs.Surviving.{Surviving, has_given_up}
+
+-- why a player is not given up, if so: the first reason counts
+abbrev pub refused_give_up : Surviving → ℕ → Option GivenUp
+refused_give_up now player =
+    if is_no_peer now.lockstep.players now.lockstep.me player then Some GivenUp.NotAPlayer else (
+    if not (is_in_game now.lockstep.phase) then Some GivenUp.NotPlaying else (
+    if has_given_up now player then Some GivenUp.Already else None))
+
+-- one player more is given up
+abbrev pub with_gone : Others → ℕ → Others
+with_gone others player = record others { gone = slice_set others.gone player true }
+
+-- the answer of a give-up, by what has become of the ends
+abbrev pub given_up_as : Ends → GivenUp
+given_up_as Ends.Awaited = GivenUp.Waiting
+given_up_as Ends.Taken = GivenUp.Decided
+given_up_as (Ends.Untaken player reason) = GivenUp.Untaken player reason
+
+-- the calls on the lockstep: it waits no longer for the player before the start; and, if all reports are there,
+-- it is told the end of each player who is given up
+abbrev pub given_up_by : Limits → ℕ → Others → ℕ → machine.Node → machine.Node × GivenUp
+given_up_by limits me others player m =
+    let after = decided_by limits me (with_gone others player) (on_excuse limits me m player).0 in
+    (after.0, given_up_as after.1)
+
+-- what is refused changes nothing
+abbrev pub GivesUpUnless : Option GivenUp → ℕ → Surviving → Surviving → GivenUp → Type 0
+GivesUpUnless (Some reason) player old new result = (result ≡ reason) × (new ≡ old)
+GivesUpUnless None player old new result = (new.others ≡ with_gone old.others player)
+    × Steps old.lockstep new.lockstep (λ limits me m. given_up_by limits me old.others player m)
+    (λ answer. result ≡ answer)
+
+-- a player is given up
+abbrev pub GivesUp : ℕ → Surviving → Surviving → GivenUp → Type 0
+GivesUp player old new result = GivesUpUnless (refused_give_up old player) player old new result
+
+-- why a report is not kept, by what is kept of the others
+abbrev pub unkept : others.Reported → Option Reported
+unkept others.Reported.Kept = None
+unkept others.Reported.GivenUp = Some (Reported.Dropped from_given_up)
+unkept others.Reported.Excluded = Some Reported.Excluded
+unkept others.Reported.Improper = Some Reported.Improper
+unkept others.Reported.Stale = Some Reported.Stale
+
+-- why a report is not kept, if so: the first reason counts
+abbrev pub refused_report : Surviving → ℕ → Report → Option Reported
+refused_report now from report =
+    if not (is_in_game now.lockstep.phase) then Some (Reported.Dropped drops.not_playing) else (
+    if is_no_peer now.lockstep.players now.lockstep.me from then Some (Reported.Dropped drops.stranger) else
+    unkept (reported_as now.lockstep.players now.lockstep.me now.others from report))
+
+-- the answer to a report that is kept, by what has become of the ends
+abbrev pub reported_by : Ends → Reported
+reported_by Ends.Awaited = Reported.Kept
+reported_by Ends.Taken = Reported.Decided
+reported_by (Ends.Untaken player reason) = Reported.Untaken player reason
+
+-- the calls on the lockstep, if all reports are there with this one
+abbrev pub heard_by : Limits → ℕ → Others → machine.Node → machine.Node × Reported
+heard_by limits me others m =
+    let after = decided_by limits me others m in (after.0, reported_by after.1)
+
+abbrev pub HearsReportUnless : Option Reported → ℕ → Report → Surviving → Surviving → Reported → Type 0
+HearsReportUnless (Some reason) from report old new result = (result ≡ reason) × (new ≡ old)
+HearsReportUnless None from report old new result = (new.others ≡ with_newest old.others from report)
+    × Steps old.lockstep new.lockstep (λ limits me m. heard_by limits me (with_newest old.others from report) m)
+    (λ answer. result ≡ answer)
+
+-- a report comes
+abbrev pub HearsReport : ℕ → Report → Surviving → Surviving → Reported → Type 0
+HearsReport from report old new result =
+    HearsReportUnless (refused_report old from report) from report old new result
+
+-- of the players whose report is missing the one with the lowest number
+abbrev pub undecided_in : Surviving → Option ℕ
+undecided_in now =
+    lowest now.lockstep.players
+    (λ player. not (is_heard now.lockstep.players now.lockstep.me (own_of now.others (λ other. 0))
+    (nodes_of now.others) player))
+
+-- nothing is sent to one who is given up
+abbrev pub sent_unless : Others → ℕ → Limits → ℕ → machine.Node → machine.Node × Option Flight
+sent_unless others to limits me m = if has others.gone to then (m, None) else sent_to to limits me m

@@ -1,0 +1,5 @@
+pub mod Surviving
+pub mod Ending
+pub mod Calls
+pub mod Telling
+pub mod Represents

@@ -1,0 +1,49 @@
+//! How a survivor hears packets and reports.
+
+use crate::answers::{FROM_GIVEN_UP, NOT_PLAYING, Reported, STRANGER, reported_by, unkept};
+use crate::survivor::Survivor;
+use dn_machine::Heard;
+use dn_report::Report;
+
+impl Survivor {
+    ghost use Rattle.std.specs.Prelude.{◌≡◌, true, false};
+    ghost use Rattle.dn_lockstep.specs.Hearing.{HearsAny, HearsNear, Spares};
+    ghost use Rattle.dn_survivor.specs.Calls.{HearsReport};
+    ghost use Rattle.dn_survivor.specs.Surviving.{surviving, has_given_up};
+
+    /// Hears a datagram that came from player `from`, as `Lockstep::receive` does. Of one who is given up
+    /// nothing is heard, and 15 is answered.
+    pub fn receive(&mut self, from: u8, bytes: &[u8]) -> Heard
+        ensures any { has_given_up (surviving self.old) from ≡ false → HearsAny from bytes.now
+            (surviving self.old).lockstep (surviving self.new).lockstep result }
+        ensures near { has_given_up (surviving self.old) from ≡ false → HearsNear from bytes.now
+            (surviving self.old).lockstep (surviving self.new).lockstep result }
+        ensures barred { has_given_up (surviving self.old) from ≡ true → result ≡ Heard.Dropped 15 }
+        ensures dropped { Spares (surviving self.old) (surviving self.new) result }
+        ensures others { (surviving self.new).others ≡ (surviving self.old).others }
+    {
+        if self.has_given_up(from) {
+            return Heard::Dropped(FROM_GIVEN_UP);
+        }
+        self.lockstep.receive(from, bytes)
+    }
+
+    /// Hears a report that came from player `from` for this one, and keeps it as the newest of that player. If
+    /// all reports are there with it, the ends of all who are given up are settled. Of several reasons not to
+    /// keep it the first counts: 13, 5, 15, `Excluded`, `Improper`, `Stale`.
+    pub fn hear(&mut self, from: u8, report: Report) -> Reported
+        ensures { HearsReport from report (surviving self.old) (surviving self.new) result }
+    {
+        if !self.is_in_game() {
+            return Reported::Dropped(NOT_PLAYING);
+        }
+        if self.is_no_peer(from) {
+            return Reported::Dropped(STRANGER);
+        }
+        let (players, me) = (self.lockstep.players(), self.lockstep.me());
+        if let Some(reason) = unkept(self.others.hear(players, me, from, report)) {
+            return reason;
+        }
+        reported_by(self.decide())
+    }
+}

@@ -1,0 +1,73 @@
+//! The calls of a survivor are those of a node of `dn_remain`.
+
+ghost use Rattle.std.specs.Prelude.{◌≡◌, ◌≢◌, ◌<◌, ◌≤◌, ℕ, ℤ, true, false, List, Option};
+ghost use Rattle.dn_tic.specs.declared.command.Move.{Move};
+ghost use Rattle.dn_report.specs.declared.report.Report.{Report};
+ghost use Rattle.dn_machine.specs.declared.answers.Ran.{Ran};
+ghost use Rattle.dn_machine.specs.Limits.{Limits};
+ghost use Rattle.dn_machine.specs.Node as machine;
+ghost use Rattle.dn_machine.specs.Running.{on_run_but};
+ghost use Rattle.dn_lockstep.specs.Represents as lockstep;
+ghost use Rattle.dn_lockstep.specs.Runs.{RunsBy, marks_in, row_told};
+ghost use Rattle.dn_lockstep.specs.Settling.{is_no_peer};
+ghost use Rattle.dn_others.specs.Keeping.{nothing_kept};
+ghost use Rattle.dn_others.specs.Represents.{AreTold, Tells};
+ghost use Rattle.dn_remain.specs.Wary.{Report as Held, Wary, can_settle, is_in_game, on_give_up, on_report};
+ghost use Rattle.dn_remain.specs.Wary.{report_to, undecided, with_gone, with_report};
+ghost use Rattle.dn_survivor.specs.Calls.{GivesUp, HearsReport, undecided_in};
+ghost use Rattle.dn_survivor.specs.Represents.{CanTakeAll, Represents, given_up_is, nobody_gone, reported_is};
+ghost use Rattle.dn_survivor.specs.Surviving.{Surviving, has_given_up};
+ghost use Rattle.dn_survivor.specs.Telling.{report_for};
+ghost use Rattle.dn_survivor.specs.declared.answers.GivenUp.{GivenUp};
+ghost use Rattle.dn_survivor.specs.declared.answers.Reported.{Reported};
+
+/// A new survivor represents a node that has given up nobody and heard no report. And where one represents a
+/// node, and what that node decides in a game can be taken, each call does what the node does, and answers the
+/// same, so that it represents the node after it: `give_up` and `hear`, of a true report. What `report` and
+/// `undecided` return is what the node tells, and whose report it lacks. `ran` is of `run_into`, and `stepped`
+/// of each call that is the lockstep's alone, and of `receive`, `packet` and `packet_to` for one who is not
+/// given up; for one who is, `barred` says that the node has given it up.
+pub fn calls_are_wary()
+    ensures opened { (limits : Limits) (me : ℕ) (now : Surviving) (node : machine.Node)
+        → me < limits.players → limits.players ≤ 4 → limits.places ≤ 24
+        → lockstep.Represents limits me now.lockstep node → now.others ≡ nothing_kept
+        → Represents limits me now (nobody_gone node) }
+    ensures gave_up { (limits : Limits) (me : ℕ) (old new : Surviving) (wary : Wary) (player : ℕ)
+        (answer : GivenUp) → Represents limits me old wary
+        → (is_in_game wary.node.phase ≡ true → is_no_peer limits.players me player ≡ false
+        → can_settle limits me (with_gone limits wary player) ≡ true
+        → CanTakeAll limits me (with_gone limits wary player))
+        → GivesUp player old new answer
+        → Represents limits me new (on_give_up limits me wary player).0
+        × (answer ≡ given_up_is (on_give_up limits me wary player).1) }
+    ensures heard { (limits : Limits) (me : ℕ) (old new : Surviving) (wary : Wary) (from : ℕ) (report : Report)
+        (told : Held) (answer : Reported) → Represents limits me old wary
+        → from < limits.players → from ≢ me → Tells limits.players limits.places me from told report
+        → (is_in_game wary.node.phase ≡ true
+        → can_settle limits me (with_report wary from told) ≡ true
+        → CanTakeAll limits me (with_report wary from told))
+        → HearsReport from report old new answer
+        → Represents limits me new (on_report limits me wary from told).0
+        × (answer ≡ reported_is (on_report limits me wary from told).1) }
+    ensures told { (limits : Limits) (me : ℕ) (now : Surviving) (wary : Wary) (to : ℕ)
+        → Represents limits me now wary → to < limits.players
+        → AreTold limits.players limits.places to me (report_for now to) (report_to limits me wary to) }
+    ensures asked { (limits : Limits) (me : ℕ) (now : Surviving) (wary : Wary)
+        → Represents limits me now wary → undecided_in now ≡ undecided limits me wary }
+    ensures ran { (limits : Limits) (me : ℕ) (old new : Surviving) (wary : Wary) (marks : List ℤ) (ran : Ran)
+        (row : Option (List (Option Move))) → Represents limits me old wary
+        → RunsBy marks old.lockstep new.lockstep
+        (λ limits m marks. on_run_but limits (has_given_up old) m marks)
+        (λ answer told. (ran ≡ answer) × (row ≡ told))
+        → new.others ≡ old.others
+        → let after = on_run_but limits wary.gone wary.node (marks_in marks) in
+        Represents limits me new (record wary { node = after.0 })
+        × (ran ≡ after.1) × (row ≡ row_told limits wary.node after.1) }
+    ensures stepped { (limits : Limits) (me : ℕ) (old new : Surviving) (wary : Wary) (node : machine.Node)
+        → Represents limits me old wary
+        → lockstep.Represents limits me new.lockstep node → new.others ≡ old.others
+        → Represents limits me new (record wary { node = node }) }
+    ensures barred { (limits : Limits) (me : ℕ) (now : Surviving) (wary : Wary) (player : ℕ)
+        → Represents limits me now wary → player < limits.players
+        → has_given_up now player ≡ wary.gone player }
+{}

@@ -1,0 +1,113 @@
+//! The calls of a lockstep, as a survivor makes them.
+
+ghost use Rattle.dn_tic.specs.declared.input.Input.TheVariants.{Pressed, Given};
+ghost use Rattle.dn_machine.specs.declared.answers.Made.TheVariants as made;
+ghost use Rattle.dn_machine.specs.declared.answers.Ran.TheVariants as ran;
+
+use crate::survivor::Survivor;
+use arrayvec::ArrayVec;
+use dn_machine::{Made, Ran};
+use dn_packet::MAX_DATAGRAM;
+use dn_tic::{Command, Keys, Move};
+
+impl Survivor {
+    ghost use Rattle.std.specs.Prelude.{◌≡◌, ◌≢◌, ◌≤◌, ℕ, ◌+◌, ℤ, true, false, None, IfSome, length};
+    ghost use Rattle.std.specs.Option.{option_map};
+    ghost use Rattle.dn_machine.specs.Building.{on_build};
+    ghost use Rattle.dn_machine.specs.Running.{on_quit, on_run_but, row_held};
+    ghost use Rattle.dn_lockstep.specs.Giving.{IsSentTo, IsSilent};
+    ghost use Rattle.dn_lockstep.specs.Near.{IsFair};
+    ghost use Rattle.dn_lockstep.specs.Runs.{RunsBy, told_by};
+    ghost use Rattle.dn_lockstep.specs.Sent.{sent_to, bytes_of};
+    ghost use Rattle.dn_lockstep.specs.Steps.{Steps, Tells};
+    ghost use Rattle.dn_survivor.specs.Calls.{sent_unless};
+    ghost use Rattle.dn_survivor.specs.Surviving.{surviving, has_given_up};
+
+    /// As `Lockstep::build`.
+    pub fn build(&mut self, keys: Keys) -> Made
+        ensures step { Steps (surviving self.old).lockstep (surviving self.new).lockstep
+            (λ limits me m. on_build limits me m (Pressed keys)) (λ made. result ≡ made) }
+        ensures full { result ≡ made.Full → surviving self.new ≡ surviving self.old }
+        ensures idle { result ≡ made.NotPlaying → surviving self.new ≡ surviving self.old }
+        ensures others { (surviving self.new).others ≡ (surviving self.old).others }
+    {
+        self.lockstep.build(keys)
+    }
+
+    /// As `Lockstep::give`.
+    pub fn give(&mut self, command: Command) -> Made
+        ensures step { Steps (surviving self.old).lockstep (surviving self.new).lockstep
+            (λ limits me m. on_build limits me m (Given command)) (λ made. result ≡ made) }
+        ensures full { result ≡ made.Full → surviving self.new ≡ surviving self.old }
+        ensures idle { result ≡ made.NotPlaying → surviving self.new ≡ surviving self.old }
+        ensures others { (surviving self.new).others ≡ (surviving self.old).others }
+    {
+        self.lockstep.give(command)
+    }
+
+    /// As `Lockstep::quit`.
+    pub fn quit(&mut self) -> bool
+        ensures step { Steps (surviving self.old).lockstep (surviving self.new).lockstep
+            (λ limits me m. on_quit m) (λ quit. result ≡ quit) }
+        ensures idle { result ≡ false → surviving self.new ≡ surviving self.old }
+        ensures others { (surviving self.new).others ≡ (surviving self.old).others }
+    {
+        self.lockstep.quit()
+    }
+
+    /// As `Lockstep::run_into`, but no mark is compared of players who are given up.
+    pub fn run_into(&mut self, marks: &[i16; 4], row: &mut [Option<Move>; 4]) -> Ran
+        ensures step { RunsBy marks.now (surviving self.old).lockstep (surviving self.new).lockstep
+            (λ limits m marks. on_run_but limits (has_given_up (surviving self.old)) m marks)
+            (λ ran told. (result ≡ ran) × (told_by result row.new ≡ told)) }
+        ensures further { (tic : ℕ) → result ≡ ran.Ran tic
+            → (surviving self.new).lockstep.ran ≡ (surviving self.old).lockstep.ran + 1 }
+        ensures waits { (player : ℕ) → result ≡ ran.Waiting player
+            → (surviving self.new ≡ surviving self.old) × (row.new ≡ row.old) }
+        ensures idle { result ≡ ran.NotPlaying
+            → (surviving self.new ≡ surviving self.old) × (row.new ≡ row.old) }
+        ensures off { (player : ℕ) (was should : ℤ) → result ≡ ran.Inconsistent player was should
+            → row.new ≡ row.old }
+        ensures full { result ≡ ran.DemoFull → Tells (surviving self.old).lockstep (λ limits me m.
+            row.new ≡ row_held limits m) }
+        ensures others { (surviving self.new).others ≡ (surviving self.old).others }
+    {
+        self.lockstep.run_without(&self.others.gone, marks, row)
+    }
+
+    /// As `Lockstep::packet_to`; none to one who is given up.
+    pub fn packet_to(&mut self, to: u8, room: &mut [u8]) -> usize
+        requires { 104 ≤ length room.old }
+        ensures sent { has_given_up (surviving self.old) to ≡ false → IsSentTo to (surviving self.old).lockstep
+            (surviving self.new).lockstep room.old room.new result }
+        ensures fair { has_given_up (surviving self.old) to ≡ false → Tells (surviving self.old).lockstep
+            (λ limits me m. IfSome (sent_to to limits me m).1 IsFair) }
+        ensures silent { has_given_up (surviving self.old) to ≡ false → IsSilent to
+            (surviving self.old).lockstep (surviving self.new).lockstep room.old room.new result }
+        ensures barred { has_given_up (surviving self.old) to ≡ true
+            → (result ≡ 0) × (surviving self.new ≡ surviving self.old) × (room.new ≡ room.old) }
+        ensures others { (surviving self.new).others ≡ (surviving self.old).others }
+    {
+        if self.has_given_up(to) {
+            return 0;
+        }
+        self.lockstep.packet_to(to, room)
+    }
+
+    /// As `Lockstep::packet`; none to one who is given up.
+    pub fn packet(&mut self, to: u8) -> Option<ArrayVec<u8, MAX_DATAGRAM>>
+        ensures step { Steps (surviving self.old).lockstep (surviving self.new).lockstep
+            (λ limits me m. sent_unless (surviving self.old).others to limits me m)
+            (λ flight. option_map (λ bytes. bytes.items) result ≡ option_map bytes_of flight) }
+        ensures fair { Tells (surviving self.old).lockstep
+            (λ limits me m. IfSome (sent_unless (surviving self.old).others to limits me m).1 IsFair) }
+        ensures idle { result ≡ None → surviving self.new ≡ surviving self.old }
+        ensures barred { has_given_up (surviving self.old) to ≡ true → result ≡ None }
+        ensures others { (surviving self.new).others ≡ (surviving self.old).others }
+    {
+        if self.has_given_up(to) {
+            return None;
+        }
+        self.lockstep.packet(to)
+    }
+}

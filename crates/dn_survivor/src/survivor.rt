@@ -1,0 +1,120 @@
+//! A lockstep of which players may be given up.
+
+ghost use Rattle.std.specs.Prelude.{◌≡◌, ◌&&◌, ◌||◌, not, Some, IfOk, is_some, true};
+ghost use Rattle.std.specs.Option.{option_map};
+ghost use Rattle.dn_lockstep.specs.Opening.{IsAdmittedWithin, limits_within, whose_within};
+
+use dn_lockstep::{Config, Lockstep, NodeFault};
+use dn_machine::Phase;
+use dn_others::Others;
+use std::alloc::Global;
+
+/// A lockstep of which players may be given up, and what its player keeps of the others for that.
+#[derive(Drop)]
+pub struct Survivor {
+    pub(crate) lockstep: Lockstep,
+    pub(crate) others: Others,
+}
+
+impl Survivor {
+    ghost use Rattle.dn_setup.specs.Settings.{Settings as Choice};
+    ghost use Rattle.dn_machine.specs.Game.{fresh};
+    ghost use Rattle.dn_lockstep.specs.Contents.{contents, whose};
+    ghost use Rattle.dn_lockstep.specs.Represents.{Represents};
+    ghost use Rattle.dn_lockstep.specs.Settling.{is_no_peer};
+    ghost use Rattle.dn_others.specs.Keeping.{nothing_kept};
+    ghost use Rattle.dn_remain.specs.Wary.{is_in_game};
+    ghost use Rattle.dn_survivor.specs.Surviving.{surviving, has_given_up, has_gone, has_left};
+    ghost use Rattle.dn_survivor.specs.Calls.{undecided_in};
+
+    /// A survivor with no history, of a lockstep as `Lockstep::within` makes it: nobody is given up, and
+    /// nothing was told. All memory that it needs is taken here.
+    pub fn new(alloc: Global, config: Config, ahead: u8) -> Result<Survivor, NodeFault>
+        ensures admitted { IsAdmittedWithin config ahead result }
+        ensures opened { IfOk result (λ survivor. (settings : Choice)
+            → (config.me ≡ 0 → config.settings ≡ Some settings)
+            → Represents (limits_within config ahead) config.me (surviving survivor).lockstep
+            (fresh settings config.me)) }
+        ensures whose { IfOk result (λ survivor. whose (surviving survivor).lockstep
+            ≡ whose_within config ahead) }
+        ensures others { IfOk result (λ survivor. (surviving survivor).others ≡ nothing_kept) }
+    {
+        let lockstep = Lockstep::within(alloc, config, ahead)?;
+        Ok(Survivor {
+            lockstep,
+            others: Others::new(),
+        })
+    }
+
+    /// The lockstep, for its readers.
+    pub fn lockstep(&self) -> &Lockstep
+        ensures { contents result.now ≡ (surviving self.now).lockstep }
+    {
+        &self.lockstep
+    }
+
+    /// Whom its player has given up, and the newest reports of the others.
+    pub fn others(&self) -> &Others
+        ensures { result.now ≡ (surviving self.now).others }
+    {
+        &self.others
+    }
+
+    /// Of the players whose report is missing the one with the lowest number: of those who are not given up,
+    /// one whose newest report does not name the same players as given up, or, if it is that of a player who
+    /// left, names others than these. None where the node can decide. Ask it while somebody is given up: else
+    /// it names the lowest other player in every ordinary game.
+    pub fn undecided(&self) -> Option<u8>
+        ensures { result ≡ undecided_in (surviving self.now) }
+    {
+        self.others
+            .undecided(self.lockstep.players(), self.lockstep.me())
+    }
+
+    /// Whether a player is given up.
+    pub(crate) fn has_given_up(&self, player: u8) -> bool
+        ensures { result ≡ has_given_up (surviving self.now) player }
+    {
+        match self.others.gone.get(usize::from(player)) {
+            Some(is_gone) => *is_gone,
+            None => false,
+        }
+    }
+
+    /// Whether somebody is given up.
+    pub(crate) fn has_gone(&self) -> bool
+        ensures { result ≡ has_gone (surviving self.now) }
+    {
+        for player in 0..self.lockstep.players() {
+            if self.has_given_up(player) {
+                return true;
+            }
+        }
+        false
+    }
+
+    /// Whether its player has left.
+    pub(crate) fn has_left(&self) -> bool
+        ensures { result ≡ has_left (surviving self.now) }
+    {
+        self.lockstep.end(self.lockstep.me()).is_some()
+    }
+
+    /// Whether no other player of the game has this number.
+    pub(crate) fn is_no_peer(&self, player: u8) -> bool
+        ensures { result ≡ is_no_peer (surviving self.now).lockstep.players
+            (surviving self.now).lockstep.me player }
+    {
+        player >= self.lockstep.players() || player == self.lockstep.me()
+    }
+
+    /// Whether it takes part in a game.
+    pub(crate) fn is_in_game(&self) -> bool
+        ensures { result ≡ is_in_game (surviving self.now).lockstep.phase }
+    {
+        match self.lockstep.phase() {
+            Phase::Gathering | Phase::Playing => true,
+            Phase::Listening | Phase::Ended(_) => false,
+        }
+    }
+}
