@@ -3,6 +3,8 @@
 //! meets that: its parser has a default for each option and refuses the rest.
 #![tactic(auto)]
 
+mod session;
+
 ghost use Rattle.std.specs.Prelude.{codes};
 ghost use Rattle.dn_options.specs.Given.{Finds, IsNumberOf, IsByteOf, IsFlagOf, IsSettingsOf, IsLimitOf, IsGameOf, IsStormOf, IsRoundsOf};
 
@@ -12,6 +14,7 @@ use dn_game::GameConfig;
 use dn_line::is_base;
 use dn_lockstep::is_game;
 use dn_setup::Settings;
+pub use session::{Pace, address, file, key, pace_of, players, port};
 
 /// The value of an option.
 fn value(matches: &ArgMatches<'_>, name: &str) -> Option<u32>

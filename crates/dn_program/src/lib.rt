@@ -1,8 +1,11 @@
 //! The program `netgame` but for `main`: its subcommands, the call that each makes, and the exit status.
 #![tactic(auto)]
 
+mod ends;
+mod network;
 mod options;
 mod runs;
+mod screen;
 mod words;
 
 pub use runs::finish;

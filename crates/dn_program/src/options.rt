@@ -20,6 +20,14 @@ const FLAGS: [(&str, &str); 3] = [
     ("extra", "Each packet repeats the last command"),
 ];
 
+/// An option with a number as its value.
+fn number<'a>(alloc: Global, name: &'a str, least: i64, greatest: i64, about: &'a str) -> Arg<'a> {
+    Arg::new(alloc, name)
+        .long(name)
+        .value_parser(value_parser!(u32).range(least..=greatest))
+        .help(about)
+}
+
 /// Adds an option with a number as its value.
 fn with_number<'a>(
     alloc: Global,
@@ -30,12 +38,23 @@ fn with_number<'a>(
     default: &'a str,
     about: &'a str,
 ) -> Result<Command<'a>, AllocError> {
-    let number = Arg::new(alloc, name)
-        .long(name)
-        .value_parser(value_parser!(u32).range(least..=greatest))
-        .default_value(default)
+    let number = number(alloc, name, least, greatest, about);
+    command.arg(number.default_value(default))
+}
+
+/// Adds an argument that is not an option, and has to be there.
+fn with_word<'a>(
+    alloc: Global,
+    command: Command<'a>,
+    name: &'a str,
+    value: &'a str,
+    about: &'a str,
+) -> Result<Command<'a>, AllocError> {
+    let word = Arg::new(alloc, name)
+        .value_name(value)
+        .required(true)
         .help(about);
-    command.arg(number)
+    command.arg(word)
 }
 
 /// An option without a value.
@@ -73,20 +92,29 @@ pub(crate) fn with_upgrade<'a>(
     with_limit(alloc, command, "16777216")
 }
 
-/// Adds the options of a game.
-pub(crate) fn with_game<'a>(
+/// Adds the options of a game whose demo has at most so many bytes by default.
+fn with_long_game<'a>(
     alloc: Global,
     command: Command<'a>,
+    limit: &'a str,
 ) -> Result<Command<'a>, AllocError> {
     let mut command = command;
     for (name, least, greatest, default, about) in NUMBERS {
         command = with_number(alloc, command, name, least, greatest, default, about)?;
     }
-    command = with_limit(alloc, command, "131072")?;
+    command = with_limit(alloc, command, limit)?;
     for (name, about) in FLAGS {
         command = command.arg(switch(alloc, name, about))?;
     }
     Ok(command)
+}
+
+/// Adds the options of a game.
+pub(crate) fn with_game<'a>(
+    alloc: Global,
+    command: Command<'a>,
+) -> Result<Command<'a>, AllocError> {
+    with_long_game(alloc, command, "131072")
 }
 
 /// Adds the flag that tells each event.
@@ -144,6 +172,55 @@ pub(crate) fn with_player<'a>(
 ) -> Result<Command<'a>, AllocError> {
     let command = with_rounds(alloc, command)?;
     let command = with_number(alloc, command, "me", 0, 3, "0", "Which player this is")?;
+    with_raw(alloc, command)
+}
+
+/// Adds the flag that prints the demo.
+fn with_raw<'a>(alloc: Global, command: Command<'a>) -> Result<Command<'a>, AllocError> {
     let about = "Prints the bytes of the demo and no line";
     command.arg(switch(alloc, "raw", about))
+}
+
+/// Adds the options that a session over a network has at the host and at those who join.
+fn with_session<'a>(alloc: Global, command: Command<'a>) -> Result<Command<'a>, AllocError> {
+    let key = Arg::new(alloc, "key").long("key").value_name("FILE");
+    let command = command.arg(key.help("The file of the key that the players share"))?;
+    let command = with_seed(alloc, command, "What the keys are drawn from")?;
+    let about = "How many tics a second are played";
+    let command = with_number(alloc, command, "rate", 1, 35, "35", about)?;
+    let about = "How many seconds are played, or 0 until the program is interrupted";
+    let command = with_number(alloc, command, "seconds", 0, 86_400, "0", about)?;
+    with_raw(alloc, command)
+}
+
+/// Adds the options of a host, a game's among them.
+pub(crate) fn with_host<'a>(
+    alloc: Global,
+    command: Command<'a>,
+) -> Result<Command<'a>, AllocError> {
+    let command = with_long_game(alloc, command, "16777216")?;
+    let about = "The UDP port of the host";
+    let command = with_number(alloc, command, "port", 1024, 65_535, "5029", about)?;
+    with_session(alloc, command)
+}
+
+/// Adds the address and the options of one who joins.
+pub(crate) fn with_join<'a>(
+    alloc: Global,
+    command: Command<'a>,
+) -> Result<Command<'a>, AllocError> {
+    let about = "The address of the host, and its port";
+    let command = with_word(alloc, command, "address", "HOST:PORT", about)?;
+    let about = "Which player this is to be; any, if not given";
+    let command = command.arg(number(alloc, "me", 1, 3, about))?;
+    let about = "How many players there have to be; any number, if not given";
+    let command = command.arg(number(alloc, "players", 2, 4, about))?;
+    let about = "The UDP port of this player; any that is free, if not given";
+    let command = command.arg(number(alloc, "port", 1024, 65_535, about))?;
+    with_session(alloc, command)
+}
+
+/// Adds the file of a key.
+pub(crate) fn with_key<'a>(alloc: Global, command: Command<'a>) -> Result<Command<'a>, AllocError> {
+    with_word(alloc, command, "file", "FILE", "The file that is made")
 }

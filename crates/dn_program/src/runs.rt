@@ -1,5 +1,6 @@
 //! What each subcommand runs, and the exit status.
 
+use crate::network::{run_host, run_join, run_key};
 use crate::words::matches_of;
 use clap::error::ErrorKind;
 use clap::{ArgMatches, Error};
@@ -10,14 +11,19 @@ use dn_netgame::{
 use dn_node::Config;
 use std::io::BufReader;
 use std::net::Net;
-use std::rt::Env;
+use std::random::RandomSource;
+use std::rt::{Env, Files};
+use std::time::Clock;
 use std::{env, io};
 
 /// The exit status of a command line that cannot be read.
-const MISUSED: u8 = 2;
+pub(crate) const MISUSED: u8 = 2;
+
+/// The exit status where what was given was refused.
+pub(crate) const REFUSED: u8 = 1;
 
 /// The exit status of a run that ended early.
-const BROKEN_OFF: u8 = 3;
+pub(crate) const BROKEN_OFF: u8 = 3;
 
 /// Prints a fault of the command line on standard error, and help on standard output.
 fn explain(rt: &(impl Print + Eprint), error: &Error) -> Result<u8, RunFault> {
@@ -147,8 +153,9 @@ fn run_one(
 }
 
 /// Runs the subcommand, and answers the exit status.
-fn run(
-    rt: &(impl Input + Print + AllocGlobal + Net),
+fn run<R: Input + Print + Eprint + AllocGlobal + Net + Files + RandomSource + Clock + Drop>(
+    rt: &R,
+    each_second: bool,
     matches: &ArgMatches<'_>,
 ) -> Result<u8, RunFault> {
     match matches.subcommand() {
@@ -160,12 +167,17 @@ fn run(
         Some(("storm", given)) => run_schedule(rt, given),
         Some(("loop", given)) => run_all(rt, given),
         Some(("play", given)) => run_one(rt, given),
+        Some(("host", given)) => run_host(rt, each_second, given),
+        Some(("join", given)) => run_join(rt, each_second, given),
+        Some(("key", given)) => run_key(rt, given),
         _ => Ok(MISUSED),
     }
 }
 
 /// Reads the command line and runs it, and answers the exit status.
-fn answer(rt: &(impl Env + Input + Print + Eprint + AllocGlobal + Net)) -> Result<u8, RunFault> {
+fn answer<
+    R: Env + Input + Print + Eprint + AllocGlobal + Net + Files + RandomSource + Clock + Drop,
+>(rt: &R, each_second: bool) -> Result<u8, RunFault> {
     let alloc = rt.alloc();
     let words: Vec<String> = match env::args(rt) {
         Ok(words) => words.collect(alloc)?,
@@ -176,15 +188,17 @@ fn answer(rt: &(impl Env + Input + Print + Eprint + AllocGlobal + Net)) -> Resul
         }
     };
     match matches_of(alloc, words.as_slice()) {
-        Ok(matches) => run(rt, &matches),
+        Ok(matches) => run(rt, each_second, &matches),
         Err(error) => explain(rt, &error),
     }
 }
 
 /// Reads the command line and runs it, prints the line of a run that ended early, and answers the exit
-/// status.
-pub fn finish(rt: &(impl Env + Input + Print + Eprint + AllocGlobal + Net)) -> u8 {
-    match answer(rt) {
+/// status. With `each_second` a session over a network tells on standard error each second how it goes.
+pub fn finish<
+    R: Env + Input + Print + Eprint + AllocGlobal + Net + Files + RandomSource + Clock + Drop,
+>(rt: &R, each_second: bool) -> u8 {
+    match answer(rt, each_second) {
         Ok(status) => status,
         Err(fault) => {
             let _ = rt.println(fault);

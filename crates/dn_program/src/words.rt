@@ -51,6 +51,25 @@ fn add_play<'a>(alloc: Global, command: Command<'a>) -> Result<Command<'a>, Allo
     command.subcommand(options::with_player(alloc, play)?)
 }
 
+/// Adds `host`.
+fn add_host<'a>(alloc: Global, command: Command<'a>) -> Result<Command<'a>, AllocError> {
+    let about = "Waits for others over a network, and plays with them as player 0";
+    let host = Command::new(alloc, "host").about(about);
+    command.subcommand(options::with_host(alloc, host)?)
+}
+
+/// Adds `join`.
+fn add_join<'a>(alloc: Global, command: Command<'a>) -> Result<Command<'a>, AllocError> {
+    let join = Command::new(alloc, "join").about("Joins a host over a network, and plays");
+    command.subcommand(options::with_join(alloc, join)?)
+}
+
+/// Adds `key`.
+fn add_key<'a>(alloc: Global, command: Command<'a>) -> Result<Command<'a>, AllocError> {
+    let key = Command::new(alloc, "key").about("Makes a key for the players of a game");
+    command.subcommand(options::with_key(alloc, key)?)
+}
+
 /// The program's name, with each subcommand.
 fn netgame<'a>(alloc: Global) -> Result<Command<'a>, AllocError> {
     let command = Command::new(alloc, "netgame")
@@ -66,7 +85,10 @@ fn netgame<'a>(alloc: Global) -> Result<Command<'a>, AllocError> {
     let command = add_sim(alloc, command)?;
     let command = add_storm(alloc, command)?;
     let command = add_loop(alloc, command)?;
-    add_play(alloc, command)
+    let command = add_play(alloc, command)?;
+    let command = add_host(alloc, command)?;
+    let command = add_join(alloc, command)?;
+    add_key(alloc, command)
 }
 
 /// Reads the words of a command line, the program's name first: the subcommand and its options, each number

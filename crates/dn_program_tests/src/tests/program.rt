@@ -2,6 +2,7 @@
 
 mod faults;
 mod host;
+mod keys;
 mod misuse;
 mod ranges;
 mod readings;

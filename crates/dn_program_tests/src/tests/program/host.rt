@@ -5,10 +5,13 @@ use std::alloc::{Allocator, Global};
 use std::cell::{Cell, RefCell};
 use std::env::FillError;
 use std::fmt::Display;
+use std::fs::{Metadata, OpenOptions};
 use std::io;
 use std::io::{BufRead, Lines, Read};
 use std::net::{Ipv4Addr, Net, SocketAddr, TcpListener, TcpStream, UdpSocket};
-use std::rt::Env;
+use std::random::RandomSource;
+use std::rt::{Env, Files};
+use std::time::{Clock, Duration};
 
 /// Gives its bytes, or fails at each call.
 #[derive(Drop)]
@@ -61,6 +64,8 @@ pub(crate) struct Host<'a, N> {
     printed: RefCell<Vec<u8>>,
     /// What went to standard error.
     complained: RefCell<Vec<u8>>,
+    /// Whether the system has no random bytes.
+    pub(crate) dull: bool,
 }
 
 /// What a call of the program answered, what it printed, and which ports it asked for.
@@ -72,10 +77,10 @@ pub(crate) struct Called {
     pub(crate) ports: Vec<u16>,
 }
 
-impl<N: AllocGlobal + Net> Host<'_, N> {
+impl<N: AllocGlobal + Net + Files + RandomSource + Clock> Host<'_, N> {
     /// Calls the program.
     pub(crate) fn call(self) -> Called {
-        let status = finish(&self);
+        let status = finish(&self, false);
         let Host {
             ports,
             printed,
@@ -104,6 +109,7 @@ impl<'a, N: AllocGlobal> Host<'a, N> {
             ports: RefCell::new(Vec::new(rt.alloc())),
             printed: RefCell::new(Vec::new(rt.alloc())),
             complained: RefCell::new(Vec::new(rt.alloc())),
+            dull: false,
         }
     }
 }
@@ -221,5 +227,76 @@ impl<N: Net> Net for Host<'_, N> {
         }
         ports.push(addr.port())?;
         UdpSocket::bind(self.rt, SocketAddr::from((Ipv4Addr::LOCALHOST, 0)))
+    }
+}
+
+impl<N: RandomSource> RandomSource for Host<'_, N> {
+    fn fill_bytes(&self, buf: &mut [u8]) -> io::Result<()> {
+        if self.dull {
+            return Err(io::Error::from(io::ErrorKind::Other));
+        }
+        self.rt.fill_bytes(buf)
+    }
+}
+
+/// Files as the system has them.
+impl<N: Files> Files for Host<'_, N> {
+    type File = N::File;
+
+    type Dir = N::Dir;
+
+    fn open_file(&self, how: &OpenOptions, path: &str) -> io::Result<N::File> {
+        self.rt.open_file(how, path)
+    }
+
+    fn open_dir(&self, path: &str) -> io::Result<N::Dir> {
+        self.rt.open_dir(path)
+    }
+
+    fn metadata(&self, path: &str) -> io::Result<Metadata> {
+        self.rt.metadata(path)
+    }
+
+    fn symlink_metadata(&self, path: &str) -> io::Result<Metadata> {
+        self.rt.symlink_metadata(path)
+    }
+
+    fn copy(&self, from: &str, to: &str) -> io::Result<u64> {
+        self.rt.copy(from, to)
+    }
+
+    fn rename(&self, from: &str, to: &str) -> io::Result<()> {
+        self.rt.rename(from, to)
+    }
+
+    fn remove_file(&self, path: &str) -> io::Result<()> {
+        self.rt.remove_file(path)
+    }
+
+    fn create_dir(&self, path: &str) -> io::Result<()> {
+        self.rt.create_dir(path)
+    }
+
+    fn remove_dir(&self, path: &str) -> io::Result<()> {
+        self.rt.remove_dir(path)
+    }
+
+    fn remove_dir_all<B: Allocator>(&self, alloc: B, path: &str) -> io::Result<()> {
+        self.rt.remove_dir_all(alloc, path)
+    }
+}
+
+/// The clock of the system.
+impl<N: Clock> Clock for Host<'_, N> {
+    fn monotonic(&self) -> io::Result<Duration> {
+        self.rt.monotonic()
+    }
+
+    fn since_1970(&self) -> io::Result<Duration> {
+        self.rt.since_1970()
+    }
+
+    fn sleep(&self, duration: Duration) {
+        self.rt.sleep(duration)
     }
 }

@@ -3,9 +3,16 @@
 use super::host::Host;
 use std::net::Net;
 use std::process::Abort;
+use std::random::RandomSource;
+use std::rt::Files;
+use std::time::Clock;
 
 /// Compares the status and the first words on standard error, and that nothing was printed.
-fn complains(rt: &(impl Abort + AllocGlobal + Net), line: &[u8], text: &str) {
+fn complains(
+    rt: &(impl Abort + AllocGlobal + Net + Files + RandomSource + Clock),
+    line: &[u8],
+    text: &str,
+) {
     let called = Host::new(rt, line, b"").call();
     same!(rt; called.status, 2, text);
     holds!(rt; called.printed.is_empty(), text);
@@ -50,6 +57,19 @@ fn words_that_are_unknown_are_told(rt: HostRuntime) {
         (
             "netgame loop --trace",
             "error: unexpected argument '--trace' found",
+        ),
+        (
+            "netgame join",
+            "error: the following required arguments were not provided",
+        ),
+        ("netgame host one", "error: unexpected argument 'one' found"),
+        (
+            "netgame key",
+            "error: the following required arguments were not provided",
+        ),
+        (
+            "netgame key one two",
+            "error: unexpected argument 'two' found",
         ),
         (
             "netgame storm --script --trace",

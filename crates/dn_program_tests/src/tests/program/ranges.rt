@@ -19,7 +19,7 @@ const NUMBERS: [(&str, i64, i64, u32); 6] = [
 ];
 
 /// Those of some subcommands alone: subcommand, name, least and greatest value, default.
-const OTHERS: [(&str, &str, i64, i64, u32); 11] = [
+const OTHERS: [(&str, &str, i64, i64, u32); 24] = [
     ("upgrade", "limit", 1_024, 16_777_216, 16_777_216),
     ("storm", "seed", 0, 4_294_967_295, 1),
     ("storm", "count", 1, 1_000_000, 1_000),
@@ -31,6 +31,19 @@ const OTHERS: [(&str, &str, i64, i64, u32); 11] = [
     ("play", "rounds", 1, 1_000_000, 100),
     ("play", "base", 1_024, 65_532, 5_029),
     ("play", "me", 0, 3, 0),
+    ("host", "players", 2, 4, 2),
+    ("host", "skill", 0, 4, 2),
+    ("host", "episode", 1, 3, 1),
+    ("host", "map", 1, 32, 1),
+    ("host", "deathmatch", 0, 2, 0),
+    ("host", "limit", 1_024, 16_777_216, 16_777_216),
+    ("host", "port", 1_024, 65_535, 5_029),
+    ("host", "seed", 0, 4_294_967_295, 1),
+    ("host", "rate", 1, 35, 35),
+    ("host", "seconds", 0, 86_400, 0),
+    ("join 127.0.0.1:5029", "seed", 0, 4_294_967_295, 1),
+    ("join 127.0.0.1:5029", "rate", 1, 35, 35),
+    ("join 127.0.0.1:5029", "seconds", 0, 86_400, 0),
 ];
 
 /// What an option of a subcommand is read as where one word follows the subcommand's, or none.
@@ -42,7 +55,9 @@ fn read(
 ) -> Result<Option<u32>, Fail> {
     let mut words = Vec::new(alloc);
     words.push(String::from_str(alloc, "netgame")?)?;
-    words.push(String::from_str(alloc, subcommand)?)?;
+    for part in subcommand.split(' ') {
+        words.push(String::from_str(alloc, part)?)?;
+    }
     if let Some(word) = word {
         words.push(word)?;
     }

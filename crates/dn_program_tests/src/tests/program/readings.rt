@@ -1,6 +1,7 @@
 //! What is made of the options: each value and each flag is that of its own word.
 
 use dn_game::GameConfig;
+use dn_options::Pace;
 use dn_program::matches_of;
 use std::alloc::Global;
 use std::process::Abort;
@@ -136,6 +137,52 @@ fn seeds_and_counts_are_those_of_their_words(rt: HostRuntime) {
             holds!(rt; options.raw);
         }
         None => holds!(rt; false),
+    }
+}
+
+/// What the readers of a session make of a line.
+fn session(
+    alloc: Global,
+    line: &str,
+) -> Result<Option<(Option<Pace>, Option<u16>, Option<u8>)>, Fail> {
+    let words = split(alloc, line)?;
+    let matches = matches_of(alloc, words.as_slice())?;
+    let Some((_, given)) = matches.subcommand() else {
+        return Ok(None);
+    };
+    Ok(Some((
+        dn_options::pace_of(given),
+        dn_options::port(given),
+        dn_options::players(given),
+    )))
+}
+
+#[test]
+fn sessions_are_those_of_their_words(rt: HostRuntime) {
+    let rt = &rt;
+    let pace = Pace {
+        seed: 7,
+        rate: 8,
+        seconds: 9,
+    };
+    let usual = Pace {
+        seed: 1,
+        rate: 35,
+        seconds: 0,
+    };
+    for (line, wanted) in [
+        ("netgame host", (Some(usual), Some(5029), Some(2))),
+        ("netgame join 127.0.0.1:5029", (Some(usual), None, None)),
+        (
+            "netgame host --seed 7 --rate 8 --seconds 9 --port 2000 --players 4",
+            (Some(pace), Some(2000), Some(4)),
+        ),
+        (
+            "netgame join 127.0.0.1:5029 --seed 7 --rate 8 --seconds 9 --port 2000 --players 3",
+            (Some(pace), Some(2000), Some(3)),
+        ),
+    ] {
+        same!(rt; must!(rt; session(rt.alloc(), line)), Some(wanted), line);
     }
 }
 

@@ -4,9 +4,18 @@ use super::host::Host;
 use super::{ONE, TWO};
 use std::net::Net;
 use std::process::Abort;
+use std::random::RandomSource;
+use std::rt::Files;
+use std::time::Clock;
 
 /// Calls the program by the words of a line, and compares what it answers.
-fn runs(rt: &(impl Abort + AllocGlobal + Net), line: &str, input: &[u8], status: u8, text: &[u8]) {
+fn runs(
+    rt: &(impl Abort + AllocGlobal + Net + Files + RandomSource + Clock),
+    line: &str,
+    input: &[u8],
+    status: u8,
+    text: &[u8],
+) {
     let called = Host::new(rt, line.as_bytes(), input).call();
     same!(rt; called.status, status, line);
     same!(rt; called.printed.as_slice(), text, line);

@@ -1,0 +1,57 @@
+/* Sends datagrams of any bytes to one address as fast as it is told, for so many seconds.
+ *
+ *     flood ADDRESS PORT DATAGRAMS_A_MINUTE SECONDS SEED
+ *
+ * Prints how many it sent. One in four has the first bytes of the program's own datagrams. */
+#include <arpa/inet.h>
+#include <stdint.h>
+#include <stdio.h>
+#include <stdlib.h>
+#include <string.h>
+#include <sys/socket.h>
+#include <time.h>
+
+static uint64_t state;
+
+static uint64_t drawn(void) {
+    state ^= state << 13;
+    state ^= state >> 7;
+    state ^= state << 17;
+    return state;
+}
+
+static double now(void) {
+    struct timespec time;
+    clock_gettime(CLOCK_MONOTONIC, &time);
+    return (double)time.tv_sec + (double)time.tv_nsec / 1e9;
+}
+
+int main(int count, char **words) {
+    struct sockaddr_in to = {.sin_family = AF_INET};
+    uint8_t bytes[600];
+    unsigned long sent = 0;
+    if (count != 6 || inet_pton(AF_INET, words[1], &to.sin_addr) != 1) return 2;
+    to.sin_port = htons((uint16_t)atoi(words[2]));
+    double rate = atof(words[3]) / 60, seconds = atof(words[4]);
+    state = strtoull(words[5], NULL, 10) * 2 + 1;
+    int line = socket(AF_INET, SOCK_DGRAM, 0);
+    if (line < 0 || connect(line, (struct sockaddr *)&to, sizeof to) != 0) return 3;
+    double begun = now();
+    for (double past = 0; past < seconds; past = now() - begun) {
+        while ((double)sent < past * rate) {
+            size_t length = drawn() % sizeof bytes;
+            for (size_t at = 0; at < length; at += 8) {
+                uint64_t piece = drawn();
+                size_t more = length - at < 8 ? length - at : 8;
+                memcpy(bytes + at, &piece, more);
+            }
+            if (length > 2 && drawn() % 4 == 0) bytes[0] = 1, bytes[1] %= 8;
+            send(line, bytes, length, 0);
+            sent++;
+        }
+        struct timespec pause = {0, 200000};
+        nanosleep(&pause, NULL);
+    }
+    printf("%lu\n", sent);
+    return 0;
+}

@@ -1,0 +1,30 @@
+-- Bytes are read as one hint.
+use Rattle.std.proofs.Common.{◌≡◌, ℕ, List, [], ◌∷◌, refl, ap, sym, ◌∙◌, Option, Some, None, Result, Ok, Err, inl, inr}
+use Rattle.std.proofs.lemmas.Option.{same_Some, none-some}
+use Rattle.dn_greeting.specs.declared.greeting.GreetingFault.{GreetingFault}
+use Rattle.dn_greeting.specs.declared.greeting.Hint.{Hint}
+use Rattle.dn_greeting.specs.declared.greeting.Hint.TheVariants as hint
+use Rattle.dn_greeting.specs.declared.greeting.Hinted.{Hinted}
+use Rattle.dn_greeting.specs.Text.{hinted_bytes, IsHinted}
+use Rattle.dn_greeting.specs.Reading.{hint_fault, IsHintedIn}
+use Rattle.dn_greeting.proofs.Rests.{same_hinted, sixteen}
+
+-- the bytes of a hint have no fault
+clean_hint : (hinted : Hinted) → IsHinted hinted → hint_fault (hinted_bytes hinted) ≡ None
+unfolding hint_fault
+clean_hint hinted is =
+    sixteen hinted.mark is.mark (λ m. hint_fault (hinted_bytes (record hinted { mark = m })) ≡ None)
+    (λ a b c d e f g h i j k l n o p q. refl)
+
+not_both : (bytes : List ℕ) (h : Hinted) (f : GreetingFault) → IsHintedIn bytes (Ok h) → IsHintedIn bytes (Err f) → ⊥
+not_both bytes h f ok (inl first) = none-some f (sym (ap hint_fault ok.1 ∙ clean_hint h ok.0) ∙ first)
+not_both bytes h f ok (inr (form, none, never)) = never h ok.0 ok.1
+
+pub one_hint : (bytes : List ℕ) (a b : Result Hinted GreetingFault) → IsHintedIn bytes a → IsHintedIn bytes b → a ≡ b
+one_hint bytes (Ok s) (Ok t) x y = ap Ok (same_hinted s t x.0 y.0 (sym x.1 ∙ y.1))
+one_hint bytes (Ok s) (Err f) x y = absurd (not_both bytes s f x y)
+one_hint bytes (Err f) (Ok t) x y = absurd (not_both bytes t f y x)
+one_hint bytes (Err f) (Err g) (inl x) (inl y) = ap Err (same_Some f g (sym x ∙ y))
+one_hint bytes (Err f) (Err g) (inl x) (inr y) = absurd (none-some f (sym y.1 ∙ x))
+one_hint bytes (Err f) (Err g) (inr x) (inl y) = absurd (none-some g (sym x.1 ∙ y))
+one_hint bytes (Err f) (Err g) (inr x) (inr y) = ap Err (x.0 ∙ sym y.0)

@@ -1,0 +1,4 @@
+pub mod Hints
+pub mod Once
+pub mod Readings
+pub mod Rests

@@ -1,0 +1,267 @@
+-- What stands behind the head of a greeting is found again in its bytes.
+use Rattle.std.proofs.Common.{◌≡◌, ◌<◌, ◌≤◌, ◌+◌, ◌^◌, ℕ, zero, suc, List, [], ◌∷◌, ◌++◌, length, take, drop, All, refl, ap, sym, ◌∙◌, arith, Option, Some, None, length-append, append-nil, true, false, Bool}
+use Rattle.std.specs.Prelude.{slice_index, IfSome, ◌==◌, if◌then◌else◌}
+use Rattle.std.specs.List.{flat_map}
+use Rattle.std.specs.Int.{w16, w32, to_le_bytes, from_le_bytes}
+use Rattle.std.proofs.lemmas.Bool.{ne_eqb}
+use Rattle.std.proofs.lemmas.List.{drop-drop}
+use Rattle.std.proofs.lemmas.List.Elements.{All-head, All-tail}
+use Rattle.std.proofs.lemmas.Nat.{from_le_bytes-to_le_bytes_2, from_le_bytes-to_le_bytes_4}
+use Rattle.dn_greeting.specs.declared.greeting.Address.{Address}
+use Rattle.dn_greeting.specs.declared.greeting.Answer.{Answer}
+use Rattle.dn_greeting.specs.declared.greeting.Call.{Call}
+use Rattle.dn_greeting.specs.declared.greeting.Hint.{Hint}
+use Rattle.dn_greeting.specs.declared.greeting.Hint.TheVariants as hint
+use Rattle.dn_greeting.specs.declared.greeting.Hinted.{Hinted}
+use Rattle.dn_greeting.specs.declared.greeting.Refusal.{Refusal}
+use Rattle.dn_greeting.specs.declared.greeting.Refusal.TheVariants as refusal
+use Rattle.dn_greeting.specs.declared.greeting.Refused.{Refused}
+use Rattle.dn_greeting.specs.Text.{address_bytes, answer_rest, bit, call_rest, hinted_bytes, terms_bytes, is_count_or_none, is_wish, named, padding, refused_rest, IsAddress, IsAnswer, IsCall, IsHinted, IsRefused}
+use Rattle.dn_greeting.specs.Told.{told_address, told_answer, told_call, told_hinted, told_name, told_refused}
+
+-- sixteen bytes, one by one
+pub sixteen : (m : List ℕ) → length m ≡ 16 → (P : List ℕ → Type 0)
+    → ((a b c d e f g h i j k l n o p q : ℕ)
+    → P (a ∷ b ∷ c ∷ d ∷ e ∷ f ∷ g ∷ h ∷ i ∷ j ∷ k ∷ l ∷ n ∷ o ∷ p ∷ q ∷ [])) → P m
+sixteen (a ∷ b ∷ c ∷ d ∷ e ∷ f ∷ g ∷ h ∷ i ∷ j ∷ k ∷ l ∷ n ∷ o ∷ p ∷ q ∷ []) long P holds =
+    holds a b c d e f g h i j k l n o p q
+sixteen _ long P holds = absurd (omega (arith, long))
+
+length-padding : length padding ≡ 79
+unfolding padding
+length-padding = refl
+
+-- a call has as many bytes behind its head as an answer
+pub length-call : (call : Call) → IsCall call → length (call_rest call) ≡ 101
+length-call call is = omega (
+  arith,
+  is.mark,
+  length-padding,
+  length-append call.mark
+      (to_le_bytes w32 call.number ++ (named call.seat ∷ named call.players ∷ padding)),
+)
+
+-- a number that is named is found again
+name_back : (n : Option ℕ) → IfSome n (λ m. 1 ≤ m) → told_name (named n) ≡ n
+name_back None is = refl
+name_back (Some n) is = let other = ne_eqb n 0 (λ e. omega (arith, e, is)) in rw other refl
+
+wish_named : (n : Option ℕ) → is_wish n ≡ true → IfSome n (λ m. 1 ≤ m)
+wish_named None is = tt
+wish_named (Some zero) is = absurd (cc)
+wish_named (Some (suc n)) is = omega arith
+
+count_named : (n : Option ℕ) → is_count_or_none n ≡ true → IfSome n (λ m. 1 ≤ m)
+count_named None is = tt
+count_named (Some zero) is = absurd (cc)
+count_named (Some (suc n)) is = omega arith
+
+pub call_back : (call : Call) → IsCall call → told_call (call_rest call) ≡ call
+call_back call is =
+    sixteen call.mark is.mark (λ m. told_call (call_rest (record call { mark = m })) ≡ record call { mark = m })
+    (λ a b c d e f g h i j k l n o p q.
+    let number = from_le_bytes-to_le_bytes_4 call.number is.number in
+    let seat = name_back call.seat (wish_named call.seat is.seat) in
+    let players = name_back call.players (count_named call.players is.players) in
+    λ x. record {
+      mark = a ∷ b ∷ c ∷ d ∷ e ∷ f ∷ g ∷ h ∷ i ∷ j ∷ k ∷ l ∷ n ∷ o ∷ p ∷ q ∷ [];
+      number = number x;
+      seat = seat x;
+      players = players x;
+    })
+
+-- each call has its own bytes
+pub same_call : (a b : Call) → IsCall a → IsCall b → call_rest a ≡ call_rest b → a ≡ b
+same_call a b ha hb e = sym (call_back a ha) ∙ ap told_call e ∙ call_back b hb
+
+-- an address takes nineteen bytes
+length-address : (place : Option Address) → IfSome place IsAddress → length (address_bytes place) ≡ 19
+length-address None is = refl
+length-address (Some a) is = omega (arith, is.ip, length-append a.ip (to_le_bytes w16 a.port))
+
+-- and is found again in them, whatever follows
+address_here : (place : Option Address) (rest : List ℕ) → IfSome place IsAddress
+    → told_address (address_bytes place ++ rest) ≡ place
+address_here None rest is = refl
+address_here (Some a) rest is =
+    sixteen a.ip is.ip (λ ip. told_address (address_bytes (Some (record a { ip = ip })) ++ rest)
+    ≡ Some (record a { ip = ip }))
+    (λ b c d e f g h i j k l m n o p q.
+    let port = from_le_bytes-to_le_bytes_2 a.port is.port in
+    λ x. Some (record {
+      ip = b ∷ c ∷ d ∷ e ∷ f ∷ g ∷ h ∷ i ∷ j ∷ k ∷ l ∷ m ∷ n ∷ o ∷ p ∷ q ∷ [];
+      port = port x;
+    }))
+
+-- nineteen bytes on stands what follows it
+after_address : (place : Option Address) (rest : List ℕ) → IfSome place IsAddress
+    → drop 19 (address_bytes place ++ rest) ≡ rest
+after_address None rest is = refl
+after_address (Some a) rest is =
+    sixteen a.ip is.ip (λ ip. drop 19 (address_bytes (Some (record a { ip = ip })) ++ rest) ≡ rest)
+    (λ b c d e f g h i j k l m n o p q. refl)
+
+-- three addresses, one after the other
+module _ (one two three : Option Address) (i1 : IfSome one IsAddress) (i2 : IfSome two IsAddress)
+    (i3 : IfSome three IsAddress)
+  where
+    abbrev all : List ℕ
+    all = address_bytes one ++ (address_bytes two ++ (address_bytes three ++ []))
+
+    length-all : length all ≡ 57
+    length-all = omega (
+      arith,
+      length-append (address_bytes one) (address_bytes two ++ (address_bytes three ++ [])),
+      length-append (address_bytes two) (address_bytes three ++ []),
+      length-append (address_bytes three) [],
+      length-address one i1,
+      length-address two i2,
+      length-address three i3,
+    )
+
+    second : drop 19 all ≡ address_bytes two ++ (address_bytes three ++ [])
+    second = after_address one _ i1
+
+    third : drop 38 all ≡ address_bytes three ++ []
+    third = sym (drop-drop 19 19 all) ∙ ap (drop 19) second ∙ after_address two _ i2
+
+    pub address_1 : told_address all ≡ one
+    address_1 = address_here one _ i1
+
+    pub address_2 : told_address (drop 19 all) ≡ two
+    address_2 = ap told_address second ∙ address_here two _ i2
+
+    pub address_3 : told_address (drop 38 all) ≡ three
+    address_3 = ap told_address third ∙ address_here three _ i3
+
+pub length-answer : (answer : Answer) → IsAnswer answer → length (answer_rest answer) ≡ 101
+length-answer answer is = go answer.seats is.three is.seats
+  where
+    go : (seats : List (Option Address)) → length seats ≡ 3 → All (λ place. IfSome place IsAddress) seats
+        → length (answer_rest (record answer { seats = seats })) ≡ 101
+    go (one ∷ two ∷ three ∷ []) long all =
+        let i1 = All-head (λ place. IfSome place IsAddress) one (two ∷ three ∷ []) all in
+        let r1 = All-tail (λ place. IfSome place IsAddress) one (two ∷ three ∷ []) all in
+        let i2 = All-head (λ place. IfSome place IsAddress) two (three ∷ []) r1 in
+        let r2 = All-tail (λ place. IfSome place IsAddress) two (three ∷ []) r1 in
+        let i3 = All-head (λ place. IfSome place IsAddress) three [] r2 in
+        let places : List ℕ = flat_map address_bytes (one ∷ two ∷ three ∷ []) in
+        let size : length places ≡ 57 = length-all one two three i1 i2 i3 in
+        let whole = length-append answer.game places in
+        omega (
+          arith,
+          is.mark,
+          is.game,
+          size,
+          whole,
+          length-append answer.mark (to_le_bytes w32 answer.number
+              ++ (answer.seat ∷ (terms_bytes answer.terms ++ (answer.game ++ places)))),
+        )
+    go _ long all = absurd (omega (arith, long))
+
+-- a flag is found again in its byte
+bit_back : (flag : Bool) → (bit flag == 1) ≡ flag
+bit_back true = refl
+bit_back false = refl
+
+seats_back : (seats : List (Option Address)) → length seats ≡ 3 → All (λ place. IfSome place IsAddress) seats
+    → told_address (flat_map address_bytes seats) ∷ told_address (drop 19 (flat_map address_bytes seats))
+    ∷ told_address (drop 38 (flat_map address_bytes seats)) ∷ [] ≡ seats
+seats_back (one ∷ two ∷ three ∷ []) long all =
+    let i1 = All-head (λ place. IfSome place IsAddress) one (two ∷ three ∷ []) all in
+    let r1 = All-tail (λ place. IfSome place IsAddress) one (two ∷ three ∷ []) all in
+    let i2 = All-head (λ place. IfSome place IsAddress) two (three ∷ []) r1 in
+    let r2 = All-tail (λ place. IfSome place IsAddress) two (three ∷ []) r1 in
+    let i3 = All-head (λ place. IfSome place IsAddress) three [] r2 in
+    λ x. address_1 one two three i1 i2 i3 x ∷ address_2 one two three i1 i2 i3 x
+    ∷ address_3 one two three i1 i2 i3 x ∷ []
+seats_back _ long all = absurd (omega (arith, long))
+
+pub answer_back : (answer : Answer) → IsAnswer answer → told_answer (answer_rest answer) ≡ answer
+answer_back answer is =
+    sixteen answer.mark is.mark
+    (λ m. told_answer (answer_rest (record answer { mark = m })) ≡ record answer { mark = m })
+    (λ a b c d e f g h i j k l n o p q.
+    sixteen answer.game is.game
+    (λ m. told_answer (answer_rest (record answer {
+      mark = a ∷ b ∷ c ∷ d ∷ e ∷ f ∷ g ∷ h ∷ i ∷ j ∷ k ∷ l ∷ n ∷ o ∷ p ∷ q ∷ [];
+      game = m;
+    }))
+    ≡ record answer {
+      mark = a ∷ b ∷ c ∷ d ∷ e ∷ f ∷ g ∷ h ∷ i ∷ j ∷ k ∷ l ∷ n ∷ o ∷ p ∷ q ∷ [];
+      game = m;
+    })
+    (λ a' b' c' d' e' f' g' h' i' j' k' l' n' o' p' q'.
+    let number = from_le_bytes-to_le_bytes_4 answer.number is.number in
+    let limit = from_le_bytes-to_le_bytes_4 answer.terms.limit is.limit in
+    let flag = bit_back answer.terms.extra in
+    let seats = seats_back answer.seats is.three is.seats in
+    λ x. record {
+      mark = a ∷ b ∷ c ∷ d ∷ e ∷ f ∷ g ∷ h ∷ i ∷ j ∷ k ∷ l ∷ n ∷ o ∷ p ∷ q ∷ [];
+      number = number x;
+      seat = answer.seat;
+      terms = record {
+        players = answer.terms.players;
+        extra = flag x;
+        ahead = answer.terms.ahead;
+        limit = limit x;
+      };
+      game = a' ∷ b' ∷ c' ∷ d' ∷ e' ∷ f' ∷ g' ∷ h' ∷ i' ∷ j' ∷ k' ∷ l' ∷ n' ∷ o' ∷ p' ∷ q' ∷ [];
+      seats = seats x;
+    }))
+
+pub same_answer : (a b : Answer) → IsAnswer a → IsAnswer b → answer_rest a ≡ answer_rest b → a ≡ b
+same_answer a b ha hb e = sym (answer_back a ha) ∙ ap told_answer e ∙ answer_back b hb
+
+pub length-refused : (refused : Refused) → IsRefused refused → length (refused_rest refused) ≡ 18
+length-refused refused is = go refused.refusal
+  where
+    go : (r : Refusal) → length (refused_rest (record refused { refusal = r })) ≡ 18
+    go refusal.Full = omega (arith, is.mark, length-append refused.mark (1 ∷ 0 ∷ []))
+    go refusal.Taken = omega (arith, is.mark, length-append refused.mark (2 ∷ 0 ∷ []))
+    go (refusal.Players n) = omega (arith, is.mark, length-append refused.mark (3 ∷ n ∷ []))
+    go refusal.Begun = omega (arith, is.mark, length-append refused.mark (4 ∷ 0 ∷ []))
+
+pub refused_back : (refused : Refused) → IsRefused refused → told_refused (refused_rest refused) ≡ refused
+refused_back refused is =
+    sixteen refused.mark is.mark
+    (λ m. told_refused (refused_rest (record refused { mark = m })) ≡ record refused { mark = m })
+    (λ a b c d e f g h i j k l n o p q. go a b c d e f g h i j k l n o p q refused.refusal)
+  where
+    go : (a b c d e f g h i j k l n o p q : ℕ) (r : Refusal)
+        → told_refused (refused_rest (record {
+          mark = a ∷ b ∷ c ∷ d ∷ e ∷ f ∷ g ∷ h ∷ i ∷ j ∷ k ∷ l ∷ n ∷ o ∷ p ∷ q ∷ [];
+          refusal = r;
+        }))
+        ≡ record {
+          mark = a ∷ b ∷ c ∷ d ∷ e ∷ f ∷ g ∷ h ∷ i ∷ j ∷ k ∷ l ∷ n ∷ o ∷ p ∷ q ∷ [];
+          refusal = r;
+        }
+    go a b c d e f g h i j k l n o p q refusal.Full = refl
+    go a b c d e f g h i j k l n o p q refusal.Taken = refl
+    go a b c d e f g h i j k l n o p q (refusal.Players n') = refl
+    go a b c d e f g h i j k l n o p q refusal.Begun = refl
+
+pub same_refused : (a b : Refused) → IsRefused a → IsRefused b → refused_rest a ≡ refused_rest b → a ≡ b
+same_refused a b ha hb e = sym (refused_back a ha) ∙ ap told_refused e ∙ refused_back b hb
+
+pub hinted_back : (hinted : Hinted) → IsHinted hinted → told_hinted (hinted_bytes hinted) ≡ hinted
+hinted_back hinted is =
+    sixteen hinted.mark is.mark
+    (λ m. told_hinted (hinted_bytes (record hinted { mark = m })) ≡ record hinted { mark = m })
+    (λ a b c d e f g h i j k l n o p q. go a b c d e f g h i j k l n o p q hinted.hint)
+  where
+    go : (a b c d e f g h i j k l n o p q : ℕ) (r : Hint)
+        → told_hinted (hinted_bytes (record {
+          mark = a ∷ b ∷ c ∷ d ∷ e ∷ f ∷ g ∷ h ∷ i ∷ j ∷ k ∷ l ∷ n ∷ o ∷ p ∷ q ∷ [];
+          hint = r;
+        }))
+        ≡ record {
+          mark = a ∷ b ∷ c ∷ d ∷ e ∷ f ∷ g ∷ h ∷ i ∷ j ∷ k ∷ l ∷ n ∷ o ∷ p ∷ q ∷ [];
+          hint = r;
+        }
+    go a b c d e f g h i j k l n o p q hint.Key = refl
+    go a b c d e f g h i j k l n o p q (hint.Version v) = refl
+
+pub same_hinted : (a b : Hinted) → IsHinted a → IsHinted b → hinted_bytes a ≡ hinted_bytes b → a ≡ b
+same_hinted a b ha hb e = sym (hinted_back a ha) ∙ ap told_hinted e ∙ hinted_back b hb

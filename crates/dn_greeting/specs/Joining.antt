@@ -1,0 +1,114 @@
+-- A joiner: what it asks, and what it makes of replies.
+use Rattle.std.specs.Prelude.{◌≡◌, ℕ, ◌+◌, ◌-◌, ◌^◌, min, ◌==◌, ◌&&◌, Bool, not, true, false, nat_lt, if◌then◌else◌, List, Option, Some, None, is_none, Result, Ok, Err}
+use Rattle.std.specs.Cmp.Lexicographic.{pointwise}
+use Rattle.std.specs.Str.{bytes_eq}
+use Rattle.dn_seal.specs.declared.seal.Seal.{Seal}
+use Rattle.dn_greeting.specs.declared.greeting.Address.{Address}
+use Rattle.dn_greeting.specs.declared.greeting.Answer.{Answer}
+use Rattle.dn_greeting.specs.declared.greeting.Call.{Call}
+use Rattle.dn_greeting.specs.declared.greeting.GreetingFault.{GreetingFault}
+use Rattle.dn_greeting.specs.declared.greeting.Hinted.{Hinted}
+use Rattle.dn_greeting.specs.declared.greeting.Refused.{Refused}
+use Rattle.dn_greeting.specs.declared.greeting.Terms.{Terms}
+use Rattle.dn_greeting.specs.declared.joiner.Joiner.{Joiner}
+use Rattle.dn_greeting.specs.declared.joiner.News.{News}
+use Rattle.dn_greeting.specs.declared.joiner.News.TheVariants as news
+use Rattle.dn_greeting.specs.Greeter.{same_address}
+use Rattle.dn_greeting.specs.Reading.{IsAnswerIn, IsHintedIn, IsRefusedIn}
+
+-- whom it calls and what it asks for, how often it has called, the newest answer, and whether its game has begun
+pub record Joining : Type 0 where
+  pub seal : Seal
+  pub host : Address
+  pub mark : List ℕ
+  pub seat : Option ℕ
+  pub players : Option ℕ
+  pub calls : ℕ
+  pub answer : Option Answer
+  pub begun : Bool
+
+abbrev pub joining : Joiner → Joining
+joining joiner =
+    record {
+      seal = joiner.sealer.seal;
+      host = joiner.host;
+      mark = joiner.mark;
+      seat = joiner.seat;
+      players = joiner.players;
+      calls = joiner.calls;
+      answer = joiner.answer;
+      begun = joiner.begun;
+    }
+
+-- one more call; the count stops at the largest number of 32 bits
+abbrev pub one_more : Joining → Joining
+one_more joiner = record joiner { calls = min (joiner.calls + 1) 4294967295 }
+
+-- the call of that number
+abbrev pub call_of : Joining → Call
+call_of joiner =
+    record { mark = joiner.mark; number = joiner.calls; seat = joiner.seat; players = joiner.players }
+
+-- an answer to its own call, and to a later one than that of the answer that it has
+abbrev pub is_later : Option Answer → ℕ → Bool
+is_later None number = true
+is_later (Some answer) number = nat_lt answer.number number
+
+abbrev pub same_flag : Bool → Bool → Bool
+same_flag true flag = flag
+same_flag false flag = not flag
+
+abbrev pub same_terms : Terms → Terms → Bool
+same_terms one other =
+    one.players == other.players && (same_flag one.extra other.extra
+    && (one.ahead == other.ahead && one.limit == other.limit))
+
+abbrev pub same_game : Answer → Answer → Bool
+same_game one other =
+    bytes_eq one.game other.game && (one.seat == other.seat && same_terms one.terms other.terms)
+
+abbrev pub same_place : Option Address → Option Address → Bool
+same_place None None = true
+same_place (Some one) (Some other) = same_address one other
+same_place one other = false
+
+-- what is new in an answer: the seat; another game or another seat, as of a host that was started anew; or where
+-- the others are
+abbrev pub news_in : Option Answer → Answer → News
+news_in None answer = news.Seated
+news_in (Some last) answer =
+    if not (same_game last answer) then news.Anew else (
+    if pointwise same_place last.seats answer.seats then news.Same else news.Moved)
+
+abbrev pub on_answer : Answer → Joining → Joining × News
+on_answer answer joiner =
+    if bytes_eq answer.mark joiner.mark && is_later joiner.answer answer.number
+    then (record joiner { answer = Some answer }, news_in joiner.answer answer) else (joiner, news.Nothing)
+
+abbrev pub on_refused : Refused → Joining → News
+on_refused refused joiner =
+    if bytes_eq refused.mark joiner.mark then news.Refused refused.refusal else news.Nothing
+
+-- a hint, for which nobody vouches, says nothing to who has a seat
+abbrev pub on_hinted : Hinted → Joining → News
+on_hinted hinted joiner =
+    if bytes_eq hinted.mark joiner.mark && is_none joiner.answer then news.Hinted hinted.hint else news.Nothing
+
+-- bytes are at most one of the three
+abbrev pub on_reply : Result Answer GreetingFault → Result Refused GreetingFault → Result Hinted GreetingFault
+    → Joining → Joining × News
+on_reply (Ok answer) refused hinted joiner = on_answer answer joiner
+on_reply (Err fault) (Ok refused) hinted joiner = (joiner, on_refused refused joiner)
+on_reply (Err fault) (Err other) (Ok hinted) joiner = (joiner, on_hinted hinted joiner)
+on_reply (Err fault) (Err other) (Err third) joiner = (joiner, news.Nothing)
+
+-- before its game it listens to the address that it calls, and to no other
+abbrev pub listens_to : Address → Joining → Bool
+listens_to from joiner = not joiner.begun && same_address from joiner.host
+
+abbrev pub HearsReply : List ℕ → Joining → Joining → News → Type 0
+HearsReply bytes old new told =
+    (answer : Result Answer GreetingFault) × (refused : Result Refused GreetingFault)
+    × (hinted : Result Hinted GreetingFault)
+    × IsAnswerIn old.seal bytes answer × IsRefusedIn old.seal bytes refused × IsHintedIn bytes hinted
+    × (new ≡ (on_reply answer refused hinted old).0) × (told ≡ (on_reply answer refused hinted old).1)

@@ -1,0 +1,6 @@
+pub mod Text
+pub mod Told
+pub mod Reading
+pub mod Greeter
+pub mod Lobby
+pub mod Joining

@@ -1,0 +1,226 @@
+//! Reading the fields of a greeting.
+
+ghost use Rattle.std.specs.Prelude.{◌≡◌, ◌≢◌, ◌≤◌, ◌+◌, ◌&&◌, length, All, IfSome, MatchOption};
+ghost use Rattle.dn_greeting.specs.declared.greeting.Answer.{Answer};
+ghost use Rattle.dn_greeting.specs.declared.greeting.Call.{Call};
+ghost use Rattle.dn_greeting.specs.declared.greeting.Hinted.{Hinted};
+ghost use Rattle.dn_greeting.specs.declared.greeting.Refused.{Refused};
+ghost use Rattle.dn_greeting.specs.Text.{answer_rest, call_rest, hinted_bytes, refused_rest, is_count_or_none, is_count, is_guest, is_terms, is_wish, IsAddress, IsAnswer, IsCall, IsHinted, IsRefused};
+ghost use Rattle.dn_greeting.specs.Told.{told_address, told_answer, told_call, told_hint, told_hinted, told_name, told_reason, told_refused, told_sixteen, told_terms};
+
+use crate::greeting::{Address, Answer, Call, Hint, Hinted, Refusal, Refused, Terms};
+use crate::writing::{answer_rest, call_rest, hinted_bytes, refused_rest};
+use dn_seal::tic_at;
+
+/// The sixteen bytes from a place on.
+pub(crate) fn sixteen_at(bytes: &[u8], place: usize) -> [u8; 16]
+    requires { place + 16 ≤ length bytes.now }
+    ensures { result ≡ told_sixteen place bytes.now }
+{
+    let mut sixteen = [0; 16];
+    sixteen.copy_from_slice(&bytes[place..place + 16]);
+    sixteen
+}
+
+/// The number that is named, if one is.
+fn name_in(byte: u8) -> Option<u8>
+    ensures { result ≡ told_name byte }
+{
+    if byte == 0 { None } else { Some(byte) }
+}
+
+/// The call that may stand behind the head.
+fn told_call(rest: &[u8]) -> Call
+    requires { 101 ≤ length rest.now }
+    ensures { result ≡ told_call rest.now }
+{
+    Call {
+        mark: sixteen_at(rest, 0),
+        number: tic_at(rest, 16),
+        seat: name_in(rest[20]),
+        players: name_in(rest[21]),
+    }
+}
+
+/// Whether there may be so many players.
+fn is_count(players: u8) -> bool
+    ensures { result ≡ is_count players }
+{
+    2 <= players && players <= 4
+}
+
+/// Whether the numbers of a call fit.
+fn is_call(call: &Call) -> bool
+    ensures { result ≡ (is_wish call.now.seat && is_count_or_none call.now.players) }
+{
+    let wish = match call.seat {
+        None => true,
+        Some(seat) => 1 <= seat && seat <= 3,
+    };
+    let players = match call.players {
+        None => true,
+        Some(players) => is_count(players),
+    };
+    wish && players
+}
+
+/// The address that these bytes begin with, if they do.
+fn address_in(bytes: &[u8]) -> Option<Address>
+    requires { 19 ≤ length bytes.now }
+    ensures value { result ≡ told_address bytes.now }
+    ensures fits { IfSome result IsAddress }
+{
+    if bytes[0] != 1 {
+        return None;
+    }
+    let mut port = [0; 2];
+    port.copy_from_slice(&bytes[17..19]);
+    Some(Address {
+        ip: sixteen_at(bytes, 1),
+        port: u16::from_le_bytes(port),
+    })
+}
+
+/// The terms behind the head.
+fn terms_in(rest: &[u8]) -> Terms
+    requires { 101 ≤ length rest.now }
+    ensures { result ≡ told_terms rest.now }
+{
+    Terms {
+        players: rest[21],
+        extra: rest[22] == 1,
+        ahead: rest[23],
+        limit: tic_at(rest, 24),
+    }
+}
+
+/// The answer that may stand behind the head.
+fn told_answer(rest: &[u8]) -> Answer
+    requires { 101 ≤ length rest.now }
+    ensures value { result ≡ told_answer rest.now }
+    ensures fits { All (λ place. IfSome place IsAddress) result.seats }
+{
+    Answer {
+        mark: sixteen_at(rest, 0),
+        number: tic_at(rest, 16),
+        seat: rest[20],
+        terms: terms_in(rest),
+        game: sixteen_at(rest, 28),
+        seats: [
+            address_in(&rest[44..]),
+            address_in(&rest[63..]),
+            address_in(&rest[82..]),
+        ],
+    }
+}
+
+/// Whether the terms are those of a game.
+fn is_terms(terms: &Terms) -> bool
+    ensures { result ≡ is_terms terms.now }
+{
+    is_count(terms.players) && 1 <= terms.ahead && terms.ahead <= 12
+}
+
+/// Whether the numbers of an answer fit.
+fn is_answer(answer: &Answer) -> bool
+    ensures { result ≡ (is_guest answer.now.terms.players answer.now.seat && is_terms answer.now.terms) }
+{
+    1 <= answer.seat && answer.seat < answer.terms.players && is_terms(&answer.terms)
+}
+
+/// The reason that two bytes tell.
+fn reason_in(reason: u8, players: u8) -> Refusal
+    ensures { result ≡ told_reason reason players }
+{
+    match reason {
+        1 => Refusal::Full,
+        2 => Refusal::Taken,
+        3 => Refusal::Players(players),
+        _ => Refusal::Begun,
+    }
+}
+
+/// The refusal that may stand behind the head.
+fn told_refused(rest: &[u8]) -> Refused
+    requires { 18 ≤ length rest.now }
+    ensures { result ≡ told_refused rest.now }
+{
+    Refused {
+        mark: sixteen_at(rest, 0),
+        refusal: reason_in(rest[16], rest[17]),
+    }
+}
+
+/// The hint that two bytes tell.
+fn hint_in(byte: u8, version: u8) -> Hint
+    ensures { result ≡ told_hint byte version }
+{
+    if byte == 1 {
+        Hint::Key
+    } else {
+        Hint::Version(version)
+    }
+}
+
+/// The hint that these bytes may be.
+fn told_hinted(bytes: &[u8]) -> Hinted
+    requires { 29 ≤ length bytes.now }
+    ensures { result ≡ told_hinted bytes.now }
+{
+    Hinted {
+        mark: sixteen_at(bytes, 12),
+        hint: hint_in(bytes[28], bytes[10]),
+    }
+}
+
+/// What stands behind the head, if it is a call.
+pub(crate) fn call_in(rest: &[u8]) -> Option<Call>
+    requires { 101 ≤ length rest.now }
+    ensures { MatchOption result ((call : Call) → IsCall call → rest.now ≢ call_rest call)
+        (λ call. IsCall call × (rest.now ≡ call_rest call)) }
+{
+    let call = told_call(rest);
+    if is_call(&call) && *rest == *call_rest(&call).as_slice() {
+        return Some(call);
+    }
+    None
+}
+
+/// What stands behind the head, if it is an answer.
+pub(crate) fn answer_in(rest: &[u8]) -> Option<Answer>
+    requires { 101 ≤ length rest.now }
+    ensures { MatchOption result ((answer : Answer) → IsAnswer answer → rest.now ≢ answer_rest answer)
+        (λ answer. IsAnswer answer × (rest.now ≡ answer_rest answer)) }
+{
+    let answer = told_answer(rest);
+    if is_answer(&answer) && *rest == *answer_rest(&answer).as_slice() {
+        return Some(answer);
+    }
+    None
+}
+
+/// What stands behind the head, if it is a refusal.
+pub(crate) fn refused_in(rest: &[u8]) -> Option<Refused>
+    requires { 18 ≤ length rest.now }
+    ensures { MatchOption result ((refused : Refused) → IsRefused refused → rest.now ≢ refused_rest refused)
+        (λ refused. IsRefused refused × (rest.now ≡ refused_rest refused)) }
+{
+    let refused = told_refused(rest);
+    if *rest == *refused_rest(&refused).as_slice() {
+        return Some(refused);
+    }
+    None
+}
+
+/// The hint that these bytes are, if they are one.
+pub(crate) fn hinted_in(bytes: &[u8]) -> Option<Hinted>
+    requires { 29 ≤ length bytes.now }
+    ensures { MatchOption result ((hinted : Hinted) → IsHinted hinted → bytes.now ≢ hinted_bytes hinted)
+        (λ hinted. IsHinted hinted × (bytes.now ≡ hinted_bytes hinted)) }
+{
+    let told = told_hinted(bytes);
+    if *bytes == *hinted_bytes(&told).as_slice() {
+        return Some(told);
+    }
+    None
+}

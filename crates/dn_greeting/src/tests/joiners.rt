@@ -1,0 +1,150 @@
+//! What a joiner makes of replies.
+
+use super::{GAME, MARK, SECRET, mapped};
+use crate::{
+    Address, Answer, Hint, Hinted, Joiner, News, Refusal, Refused, Terms, greeter, hinted_bytes,
+    open_call, seal_answer, seal_refused,
+};
+
+/// Where the host is.
+fn host() -> Address {
+    mapped([10, 0, 0, 1], 5029)
+}
+
+fn joiner() -> Joiner {
+    Joiner::new(Some(SECRET), host(), MARK, Some(1), Some(3))
+}
+
+/// The answer to a call of this number, in this game, where seat 2 is held here.
+fn answer(number: u32, game: [u8; 16], other: Option<Address>) -> Answer {
+    Answer {
+        mark: MARK,
+        number,
+        seat: 1,
+        terms: Terms {
+            players: 3,
+            extra: false,
+            ahead: 5,
+            limit: 4096,
+        },
+        game,
+        seats: [Some(mapped([10, 0, 0, 2], 5029)), other, None],
+    }
+}
+
+/// What the joiner makes of an answer from an address.
+fn hears(joiner: &mut Joiner, from: Address, answer: &Answer) -> News {
+    joiner.hear(from, seal_answer(&greeter(Some(SECRET)), answer).as_slice())
+}
+
+#[test]
+fn calls_are_numbered(rt: HostRuntime) {
+    let mut joiner = joiner();
+    for number in 1..4 {
+        match open_call(&greeter(Some(SECRET)), joiner.call().as_slice()) {
+            Ok(call) => {
+                assert_eq!(rt;
+                    (call.number, call.seat, call.players),
+                    (number, Some(1), Some(3))
+                );
+                assert!(rt; call.mark == MARK);
+            }
+            Err(_) => assert!(rt; false),
+        }
+    }
+}
+
+#[test]
+fn answers_are_taken_in_order(rt: HostRuntime) {
+    let there = mapped([10, 0, 0, 3], 5029);
+    let moved = mapped([10, 0, 0, 4], 5029);
+    let rows = [
+        (host(), answer(1, GAME, None), News::Seated),
+        (host(), answer(1, GAME, Some(there)), News::Nothing),
+        (host(), answer(2, GAME, None), News::Same),
+        (there, answer(3, GAME, Some(there)), News::Nothing),
+        (host(), answer(3, GAME, Some(there)), News::Moved),
+        (host(), answer(4, GAME, Some(moved)), News::Moved),
+        (host(), answer(3, GAME, Some(there)), News::Nothing),
+        (host(), answer(5, [9; 16], Some(moved)), News::Anew),
+        (host(), answer(6, [9; 16], Some(moved)), News::Same),
+    ];
+    let mut joiner = joiner();
+    for (from, answer, news) in rows {
+        let before = joiner.answer();
+        assert_eq!(rt; hears(&mut joiner, from, &answer), news);
+        let after = if news == News::Nothing {
+            before
+        } else {
+            Some(answer)
+        };
+        assert!(rt; joiner.answer() == after);
+    }
+}
+
+#[test]
+fn another_seat_or_other_terms_are_anew(rt: HostRuntime) {
+    let mut joiner = joiner();
+    let mut next = answer(1, GAME, None);
+    assert_eq!(rt; hears(&mut joiner, host(), &next), News::Seated);
+    next.number = 2;
+    next.seat = 2;
+    assert_eq!(rt; hears(&mut joiner, host(), &next), News::Anew);
+    next.number = 3;
+    next.terms.extra = true;
+    assert_eq!(rt; hears(&mut joiner, host(), &next), News::Anew);
+    next.number = 4;
+    next.mark = [0; 16];
+    assert_eq!(rt; hears(&mut joiner, host(), &next), News::Nothing);
+}
+
+#[test]
+fn refusals_are_for_the_mark(rt: HostRuntime) {
+    let mut joiner = joiner();
+    let sealer = greeter(Some(SECRET));
+    for (mark, news) in [
+        (MARK, News::Refused(Refusal::Taken)),
+        ([0; 16], News::Nothing),
+    ] {
+        let refused = Refused {
+            mark,
+            refusal: Refusal::Taken,
+        };
+        let bytes = seal_refused(&sealer, &refused);
+        assert_eq!(rt; joiner.hear(host(), bytes.as_slice()), news);
+        let forged = seal_refused(&greeter(None), &refused);
+        assert_eq!(rt; joiner.hear(host(), forged.as_slice()), News::Nothing);
+    }
+}
+
+#[test]
+fn hints_are_heeded_before_an_answer(rt: HostRuntime) {
+    let mut joiner = joiner();
+    let bytes = hinted_bytes(&Hinted {
+        mark: MARK,
+        hint: Hint::Key,
+    });
+    assert_eq!(rt;
+        joiner.hear(host(), bytes.as_slice()),
+        News::Hinted(Hint::Key)
+    );
+    assert_eq!(rt;
+        hears(&mut joiner, host(), &answer(1, GAME, None)),
+        News::Seated
+    );
+    assert_eq!(rt; joiner.hear(host(), bytes.as_slice()), News::Nothing);
+}
+
+#[test]
+fn in_its_game_it_heeds_nothing(rt: HostRuntime) {
+    let mut joiner = joiner();
+    assert_eq!(rt;
+        hears(&mut joiner, host(), &answer(1, GAME, None)),
+        News::Seated
+    );
+    joiner.begin();
+    assert_eq!(rt;
+        hears(&mut joiner, host(), &answer(2, [9; 16], None)),
+        News::Nothing
+    );
+}

@@ -1,0 +1,42 @@
+-- How the walk of a player goes with its link: what the law of linked games asks of a world.
+use Rattle.std.specs.Prelude.{◌≡◌, ℕ, ℤ, Bool, true, false, List, [], ◌∷◌, Option, Some, None}
+use Rattle.dn_tic.specs.declared.command.Move.{Move}
+use Rattle.dn_setup.specs.Settings.{Settings}
+use Rattle.dn_setup.specs.Starts.{start_of}
+use Rattle.dn_world.specs.Physics.{Physics}
+use Rattle.dn_world.specs.Plane.{Spots, walking}
+use Rattle.dn_machine.specs.Running.{on_run}
+use Rattle.dn_machine.specs.declared.answers.Ran.{Ran}
+use Rattle.dn_lockstep.specs.Contents.{Contents}
+use Rattle.dn_lockstep.specs.Rows.{seats_of}
+use Rattle.dn_lockstep.specs.Runs.{RunsBy}
+use Rattle.dn_link.specs.declared.received.Received.{Received}
+use Rattle.dn_link.specs.declared.received.Received.TheVariants.{Heard}
+
+-- the marks of all players, as the walk stands
+abbrev pub marks_of : Spots → List ℤ
+marks_of walk =
+    walking.mark walk 0 ∷ walking.mark walk 1 ∷ walking.mark walk 2 ∷ walking.mark walk 3 ∷ []
+
+-- the walk goes on by the row that a run told, and by nothing else
+abbrev pub moved_by : Option (List (Option Move)) → Spots → Spots
+moved_by (Some row) walk = walking.step walk row
+moved_by None walk = walk
+
+-- a run of the link's node with the marks of the walk as it stands, and the walk after it
+abbrev pub RunsWalk : Contents → Spots → Contents → Spots → Type 0
+RunsWalk old before new after =
+    (answer : Ran) × (row : Option (List (Option Move)))
+    × RunsBy (marks_of before) old new (λ limits m marks. on_run limits m marks)
+    (λ ran told. (answer ≡ ran) × (row ≡ told))
+    × (after ≡ moved_by row before)
+
+-- the game started with what was received
+abbrev pub is_started : Received → Bool
+is_started (Heard from started) = started
+is_started received = false
+
+-- the walk begins as the settings say
+abbrev pub begun_by : Option Settings → ℕ → Spots → Spots
+begun_by None players walk = walk
+begun_by (Some settings) players walk = walking.begin (start_of settings) (seats_of players)

@@ -1,0 +1,106 @@
+//! When a session ends, and how it leaves.
+
+use crate::ends::Ending;
+use crate::game::Game;
+use dn_machine::{Cause, Phase};
+
+/// For how long it goes on once nobody needs it.
+const FAREWELL: u64 = 2_000_000;
+
+/// For how long it goes on at most.
+const LIMIT: u64 = 10_000_000;
+
+/// How far a session is.
+#[derive(Clone, Copy, Debug, PartialEq, Eq)]
+pub(crate) enum Stage {
+    /// It goes on.
+    Going,
+    /// It leaves since this moment, and nobody needs it since that one.
+    Leaving {
+        ending: Ending,
+        since: u64,
+        free: Option<u64>,
+    },
+    /// It has ended.
+    Ended(Ending),
+}
+
+/// Begins to leave.
+fn leaving(ending: Ending, now: u64) -> Stage {
+    Stage::Leaving {
+        ending,
+        since: now,
+        free: None,
+    }
+}
+
+/// Quits, and begins to leave.
+fn quitting(game: &mut Game, ending: Ending, now: u64) -> Stage {
+    let _ = game.play.link.quit();
+    leaving(ending, now)
+}
+
+/// Whether the seconds of play are over; 0 are never.
+fn is_over(since: u64, now: u64, seconds: u32) -> bool {
+    seconds > 0 && now.saturating_sub(since) >= u64::from(seconds) * 1_000_000
+}
+
+/// How a game goes on that has begun.
+fn after_play(game: &mut Game, now: u64, seconds: u32) -> Stage {
+    match game.phase() {
+        Phase::Ended(Cause::Full) => return leaving(Ending::Full, now),
+        Phase::Ended(Cause::Inconsistent { player, .. }) => {
+            return leaving(Ending::Inconsistent(player), now);
+        }
+        _ => {}
+    }
+    if is_over(game.began(), now, seconds) {
+        return quitting(game, Ending::Left, now);
+    }
+    if game.is_alone() {
+        return quitting(game, Ending::OthersLeft, now);
+    }
+    if let Some(player) = game.lost(now) {
+        game.play.link.forget(player);
+        return quitting(game, Ending::Lost(player), now);
+    }
+    Stage::Going
+}
+
+/// How it goes on leaving.
+fn after_wait(game: &Game, ending: Ending, since: u64, free: Option<u64>, now: u64) -> Stage {
+    let free = match free {
+        Some(free) => Some(free),
+        None if game.play.link.may_leave() => Some(now),
+        None => None,
+    };
+    let waited = match free {
+        Some(free) => now.saturating_sub(free) >= FAREWELL,
+        None => false,
+    };
+    if waited || now.saturating_sub(since) >= LIMIT {
+        Stage::Ended(ending)
+    } else {
+        Stage::Leaving {
+            ending,
+            since,
+            free,
+        }
+    }
+}
+
+impl Stage {
+    /// How far it is now.
+    pub(crate) fn after(self, game: &mut Game, now: u64, seconds: u32) -> Stage {
+        match self {
+            Stage::Going if game.has_begun() => after_play(game, now, seconds),
+            Stage::Going => Stage::Going,
+            Stage::Leaving {
+                ending,
+                since,
+                free,
+            } => after_wait(game, ending, since, free, now),
+            Stage::Ended(ending) => Stage::Ended(ending),
+        }
+    }
+}

@@ -1,0 +1,59 @@
+//! Where the players are.
+
+use dn_greeting::{Address, Answer, Place};
+
+/// Where the players are, as far as it is known.
+#[derive(Clone, Copy, Debug, PartialEq, Eq)]
+pub(crate) struct Peers {
+    places: [Option<Address>; 4],
+}
+
+/// Where the holder of a seat is.
+pub(crate) fn address_of(place: Place) -> Option<Address> {
+    match place {
+        Place::Held(holder) => Some(holder.address),
+        _ => None,
+    }
+}
+
+impl Peers {
+    /// As the host's table says.
+    pub(crate) fn of_table([one, two, three]: [Place; 3]) -> Peers {
+        Peers {
+            places: [None, address_of(one), address_of(two), address_of(three)],
+        }
+    }
+
+    /// As an answer of the host says, who is at this address.
+    pub(crate) fn of_answer(host: Address, answer: &Answer) -> Peers {
+        let [one, two, three] = answer.seats;
+        Peers {
+            places: [Some(host), one, two, three],
+        }
+    }
+
+    /// Where a player is.
+    pub(crate) fn at(&self, player: u8) -> Option<Address> {
+        match self.places.get(usize::from(player)) {
+            Some(place) => *place,
+            None => None,
+        }
+    }
+
+    /// Notes what the host says of a player, if that is new.
+    pub(crate) fn follow(&mut self, player: u8, before: Option<Address>, after: Option<Address>) {
+        if before == after {
+            return;
+        }
+        if let Some(place) = self.places.get_mut(usize::from(player)) {
+            *place = after;
+        }
+    }
+
+    /// Notes where a player is.
+    pub(crate) fn put(&mut self, player: u8, address: Address) {
+        if let Some(place) = self.places.get_mut(usize::from(player)) {
+            *place = Some(address);
+        }
+    }
+}

@@ -1,0 +1,222 @@
+//! One player's link, with its walk and its keys.
+
+ghost use Rattle.std.specs.Prelude.{◌≡◌, ◌≤◌, true, false};
+ghost use Rattle.dn_host.specs.Walks.{marks_of, moved_by};
+
+use crate::ends::HostFault;
+use crate::peers::Peers;
+use crate::wire::Wire;
+use dn_link::{Link, Received};
+use dn_lockstep::Config;
+use dn_machine::{Made, Ran};
+use dn_seal::Seal;
+use dn_tic::{Keys, Move};
+use dn_world::{Walk, World};
+use rand_core::utils::NextWord;
+use rand_pcg::Lcg64Xsh32;
+use std::alloc::Global;
+
+/// The most tics that are run at once: more than the widest window has.
+const MOST_RUNS: u32 = 32;
+
+/// What every program of this kind adds to its identity.
+const PROGRAM: [u8; 16] = *b"zirmegat netgame";
+
+/// By what a game of this number is sealed, under a secret or without one.
+pub(crate) fn seal_of(secret: Option<[u8; 32]>, game: [u8; 16]) -> Seal {
+    match secret {
+        Some(secret) => Seal::new(secret, game),
+        None => Seal::without_secret(game),
+    }
+}
+
+/// One player's link, with its walk and its keys.
+#[derive(Drop)]
+pub(crate) struct Play {
+    pub(crate) link: Link,
+    world: Walk,
+    keys: Lcg64Xsh32,
+    waiting: Option<u8>,
+}
+
+/// What a step of the session did.
+#[derive(Clone, Copy, Debug, PartialEq, Eq)]
+pub(crate) struct Done {
+    /// How many commands were built.
+    pub(crate) built: u32,
+    /// How many tics were run.
+    pub(crate) ran: u32,
+}
+
+impl Done {
+    /// Nothing.
+    pub(crate) fn nothing() -> Done {
+        Done { built: 0, ran: 0 }
+    }
+
+    /// Both.
+    pub(crate) fn and(self, other: Done) -> Done {
+        Done {
+            built: self.built.saturating_add(other.built),
+            ran: self.ran.saturating_add(other.ran),
+        }
+    }
+}
+
+/// The marks of all players, as a walk stands.
+fn marks_of(walk: &Walk) -> [i16; 4]
+    ensures { result ≡ marks_of walk.now }
+{
+    [walk.mark(0), walk.mark(1), walk.mark(2), walk.mark(3)]
+}
+
+/// For whom a run waits.
+fn waits_for(ran: Ran) -> Option<u8> {
+    match ran {
+        Ran::Waiting(player) => Some(player),
+        _ => None,
+    }
+}
+
+/// A walk goes on by a row, if there is one. Whether there was.
+fn go_on(walk: &mut Walk, row: Option<[Option<Move>; 4]>) -> bool
+    ensures { walk.new ≡ moved_by row walk.old }
+{
+    match row {
+        Some(row) => {
+            walk.step(&row);
+            true
+        }
+        None => false,
+    }
+}
+
+impl Play {
+    ghost use Rattle.dn_lockstep.specs.Contents.{contents};
+    ghost use Rattle.dn_link.specs.Linked.{Receives};
+    ghost use Rattle.dn_link.specs.Linking.{identity_of, linked, seal_of};
+    ghost use Rattle.dn_link.specs.Pacing.{pace_of};
+    ghost use Rattle.dn_host.specs.Walks.{RunsWalk, begun_by, is_started};
+
+    /// A player who has not begun, in a window of this width, with keys that are drawn from a seed.
+    pub(crate) fn new(
+        alloc: Global,
+        config: Config,
+        ahead: u8,
+        seal: Seal,
+        seed: u64,
+    ) -> Result<Play, HostFault> {
+        let keys = Lcg64Xsh32::new(seed, u64::from(config.me));
+        let link = Link::new(alloc, config, ahead, PROGRAM, seal)?;
+        Ok(Play {
+            link,
+            world: Walk::new(),
+            keys,
+            waiting: None,
+        })
+    }
+
+    /// Its link.
+    pub(crate) fn into_link(self) -> Link {
+        self.link
+    }
+
+    /// For whose command the next tic waited when it was last tried.
+    pub(crate) fn waiting(&self) -> Option<u8> {
+        self.waiting
+    }
+
+    /// Builds the command that is owed, if there is one, and that of the next keys.
+    pub(crate) fn build(&mut self) -> Done {
+        let owed = matches!(self.link.catch_up(), Some(Made::Made(_)));
+        let keys = Keys::from_bits(self.keys.next_word());
+        let made = matches!(self.link.build(keys), Made::Made(_));
+        Done {
+            built: u32::from(owed) + u32::from(made),
+            ran: 0,
+        }
+    }
+
+    /// Runs the next tic, if it can be run, with the marks of the walk, which goes on by the row of that tic and by
+    /// nothing else.
+    fn run_one(&mut self) -> bool
+        ensures { RunsWalk (linked self.old.link).node self.old.world (linked self.new.link).node self.new.world }
+    {
+        let marks = marks_of(&self.world);
+        let (ran, row) = self.link.run(&marks);
+        self.waiting = waits_for(ran);
+        go_on(&mut self.world, row)
+    }
+
+    /// Runs all tics that can be run.
+    fn run_all(&mut self) -> u32
+        ensures { result ≤ 32 }
+    {
+        for count in 0..MOST_RUNS {
+            if !self.run_one() {
+                return count;
+            }
+        }
+        MOST_RUNS
+    }
+
+    /// Runs all tics that can be run, and once more after the command that is owed is built.
+    pub(crate) fn run<W: Wire>(&mut self, peers: &Peers, wire: &mut W) -> Done {
+        let first = self.run_all();
+        if !matches!(self.link.catch_up(), Some(Made::Made(_))) {
+            return Done {
+                built: 0,
+                ran: first,
+            };
+        }
+        self.send_all(peers, wire);
+        Done {
+            built: 1,
+            ran: first + self.run_all(),
+        }
+    }
+
+    /// Sends a player its datagram, if it is known where it is.
+    fn send<W: Wire>(&mut self, player: u8, peers: &Peers, wire: &mut W) {
+        let Some(address) = peers.at(player) else {
+            return;
+        };
+        if let Some(bytes) = self.link.datagram(player) {
+            wire.send(&address, bytes.as_slice());
+        }
+    }
+
+    /// Sends each other player its datagram.
+    pub(crate) fn send_all<W: Wire>(&mut self, peers: &Peers, wire: &mut W) {
+        for player in 0..4 {
+            self.send(player, peers, wire);
+        }
+    }
+
+    /// Half a tick later: a second datagram to those who miss some.
+    pub(crate) fn send_again<W: Wire>(&mut self, peers: &Peers, wire: &mut W) {
+        for player in 0..4 {
+            if self.link.wants_second(player) {
+                self.send(player, peers, wire);
+            }
+        }
+    }
+
+    /// Takes in any bytes. The world begins where the game starts with them.
+    pub(crate) fn hear(&mut self, bytes: &[u8]) -> Received
+        ensures link { Receives (seal_of self.old.link) (identity_of self.old.link) (pace_of self.old.link) bytes.now
+            (linked self.old.link) (linked self.new.link) result }
+        ensures begins { is_started result ≡ true → self.new.world
+            ≡ begun_by (linked self.new.link).node.settings (linked self.new.link).node.players self.old.world }
+        ensures stays { is_started result ≡ false → self.new.world ≡ self.old.world }
+    {
+        let received = self.link.receive(bytes);
+        if let Received::Heard { started: true, .. } = received {
+            if let Some(settings) = self.link.lockstep().settings() {
+                let present = self.link.lockstep().present();
+                self.world.begin(&settings.start(), present);
+            }
+        }
+        received
+    }
+}

@@ -1,0 +1,36 @@
+-- How a session ended.
+use Rattle.std.specs.Prelude.{ℕ, pos, ◌==◌, Bool, if◌then◌else◌, List, [], ◌∷◌, ◌++◌, Option, Some, None, codes}
+use Rattle.dn_measure.specs.declared.end.End.{End}
+use Rattle.dn_measure.specs.declared.end.End.TheVariants.{Left, OthersLeft, Full, Lost, Inconsistent}
+use Rattle.dn_measure.specs.declared.summary.Summary.{Summary}
+use Rattle.dn_measure.specs.Fields.{labelled}
+use Rattle.dn_measure.specs.SummaryLines.{figure_lines, summary_lines}
+
+-- how it ended, in words
+abbrev pub end_text : End → List ℕ
+end_text Left = codes "ended left\n"
+end_text OthersLeft = codes "ended others left\n"
+end_text Full = codes "ended full\n"
+end_text (Lost player) = labelled ((codes "ended lost ", pos player) ∷ []) ++ codes "\n"
+end_text (Inconsistent player) = labelled ((codes "ended inconsistent ", pos player) ∷ []) ++ codes "\n"
+
+-- the exit status: 0 where the session ended as it should
+abbrev pub status_of : End → ℕ
+status_of Left = 0
+status_of OthersLeft = 0
+status_of Full = 0
+status_of (Lost player) = 3
+status_of (Inconsistent player) = 3
+
+-- what was measured of a game that ended as it should, and what follows from it; of another what was measured
+abbrev pub judged_lines : Bool → Summary → List ℕ
+judged_lines well s = if well then summary_lines s else figure_lines s
+
+-- what was measured, if the game began
+abbrev pub measured_lines : End → Option Summary → List ℕ
+measured_lines end None = []
+measured_lines end (Some s) = judged_lines (status_of end == 0) s
+
+-- how it ended, and what was measured
+abbrev pub session_lines : End → Option Summary → List ℕ
+session_lines end measured = end_text end ++ measured_lines end measured

@@ -1,0 +1,62 @@
+-- The lines of what a line carries or lacks.
+use Rattle.std.specs.Prelude.{ℕ, pos, ◌+◌, ◌*◌, ◌/◌, ◌==◌, Bool, if◌then◌else◌, List, [], ◌∷◌, ◌++◌, length, codes}
+use Rattle.dn_measure.specs.declared.summary.Summary.{Summary}
+use Rattle.dn_measure.specs.declared.verdict.Lack.{Lack}
+use Rattle.dn_measure.specs.declared.verdict.Lack.TheVariants.{Time, Tics, Rate, Calm, Pause, Speed, Datagrams}
+use Rattle.dn_measure.specs.Rate.{tenths_a_second}
+use Rattle.dn_measure.specs.Fields.{labelled, with_tenth}
+use Rattle.dn_measure.specs.Lines.{felt_text}
+use Rattle.dn_measure.specs.Verdict as verdict
+
+-- how the line of what is lacking begins and ends
+abbrev pub beginning : Lack → List ℕ
+beginning Time = codes "lacks time: "
+beginning Tics = codes "lacks tics: none was run"
+beginning Rate = codes "lacks tics: "
+beginning Calm = codes "lacks calm: gaps "
+beginning Pause = codes "lacks calm: longest "
+beginning Speed = codes "lacks speed: "
+beginning (Datagrams player loss) = codes "lacks datagrams: "
+
+abbrev pub ending : Lack → List ℕ
+ending Time = codes " seconds, at least 10\n"
+ending Tics = codes "\n"
+ending Rate = codes " a second\n"
+ending Calm = codes ", at most 1 a minute\n"
+ending Pause = codes " ms, at most 1000\n"
+ending Speed = codes " ms, at most 250\n"
+ending (Datagrams player loss) = codes " %, at most 15\n"
+
+-- how many tics were run a second, of how many: 69 of 70 of those that the clock gave
+unfoldable pub rate_text : Summary → List ℕ
+rate_text s = with_tenth [] (tenths_a_second s.tics s.micros) ++ with_tenth (codes " of ") (s.rate * 69 / 7)
+
+unfoldable pub loss_text : (player loss : ℕ) → List ℕ
+loss_text player loss = labelled ((codes "player ", pos player) ∷ []) ++ with_tenth (codes " lost ") loss
+
+-- what was measured of it
+abbrev pub figure_text : Summary → Lack → List ℕ
+figure_text s Time = with_tenth [] (s.micros / 100000)
+figure_text s Tics = []
+figure_text s Rate = rate_text s
+figure_text s Calm = labelled (([], pos s.gaps) ∷ [])
+figure_text s Pause = labelled (([], pos ((s.longest + 999) / 1000)) ∷ [])
+figure_text s Speed = felt_text s.most
+figure_text s (Datagrams player loss) = loss_text player loss
+
+abbrev pub lack_line : Summary → Lack → List ℕ
+lack_line s lack = beginning lack ++ (figure_text s lack ++ ending lack)
+
+abbrev pub lack_lines : Summary → List Lack → List ℕ
+lack_lines s [] = []
+lack_lines s (lack ∷ lacks) = lack_line s lack ++ lack_lines s lacks
+
+abbrev pub judgement : Bool → List ℕ
+judgement carries =
+    if carries
+    then codes "this line carries a game of four\n"
+    else codes "this line does not carry a game of four\n"
+
+-- whether the line carries a game of four, and what it lacks if it does not
+unfoldable pub verdict_lines : Summary → List ℕ
+verdict_lines s = judgement (length (verdict.lacks_of s) == 0) ++ lack_lines s (verdict.lacks_of s)

@@ -1,0 +1,41 @@
+-- The line that is printed each second of play.
+use Rattle.std.specs.Prelude.{ℕ, pos, ◌+◌, List, [], ◌∷◌, ◌++◌, Option, Some, None, codes}
+use Rattle.dn_measure.specs.declared.status.PeerStatus.{PeerStatus}
+use Rattle.dn_measure.specs.declared.status.Status.{Status}
+use Rattle.dn_measure.specs.Arrivals.{loss_of}
+use Rattle.dn_measure.specs.Rate.{tenths_a_second}
+use Rattle.dn_measure.specs.Fields.{labelled, with_tenth}
+
+-- how many tics were run a second
+unfoldable pub rate_text : Status → List ℕ
+rate_text s = with_tenth (codes "rate ") (tenths_a_second s.tics s.micros)
+
+-- for whom the game waits
+abbrev pub waiting_text : Option ℕ → List ℕ
+waiting_text None = []
+waiting_text (Some player) = labelled ((codes " waiting ", pos player) ∷ [])
+
+unfoldable pub refused_text : ℕ → List ℕ
+refused_text refused = labelled ((codes " refused ", pos refused) ∷ [])
+
+-- how a player stands
+unfoldable pub standing_text : ℕ → PeerStatus → List ℕ
+standing_text player status = labelled (
+    (codes " player ", pos player)
+    ∷ (codes " lead ", status.lead)
+    ∷ (codes " twice ", pos status.arrivals.twice)
+    ∷ (codes " old ", pos status.arrivals.old)
+    ∷ []) ++ with_tenth (codes " loss ") (loss_of status.arrivals)
+
+abbrev pub peer_text : ℕ → Option PeerStatus → List ℕ
+peer_text player None = []
+peer_text player (Some status) = standing_text player status
+
+abbrev pub peer_texts : ℕ → List (Option PeerStatus) → List ℕ
+peer_texts player [] = []
+peer_texts player (peer ∷ peers) = peer_text player peer ++ peer_texts (player + 1) peers
+
+-- how the game stands
+abbrev pub status_line : Status → List ℕ
+status_line s =
+    rate_text s ++ (waiting_text s.waiting ++ (refused_text s.refused ++ (peer_texts 0 s.peers ++ codes "\n")))

@@ -1,0 +1,69 @@
+//! The tics that were run, and the times between them.
+
+/// How many tics were run, when the last, and what is kept of the times between one and the next.
+#[derive(Clone, Copy, Debug)]
+pub(crate) struct Runs {
+    /// How many tics.
+    pub(crate) count: u64,
+    /// When the last was run.
+    last: Option<u64>,
+    /// How many of the times between were longer than a gap may be.
+    pub(crate) gaps: u64,
+    /// The longest of the times between.
+    pub(crate) longest: u64,
+}
+
+impl Runs {
+    ghost use Rattle.std.specs.Prelude.{◌≡◌, ℕ, List, [], ◌∷◌, ◌++◌};
+    ghost use Rattle.dn_measure.specs.Runs.{AreRunsOf, AreWaitsOf, as_count, gaps_in, last_after, longest_of, times_between};
+
+    /// None.
+    pub(crate) fn new() -> Runs
+        ensures { AreRunsOf [] result }
+    {
+        Runs {
+            count: 0,
+            last: None,
+            gaps: 0,
+            longest: 0,
+        }
+    }
+
+    /// There was this time from the last to now.
+    fn wait(&mut self, last: u64, now: u64)
+        ensures gaps { (first : ℕ) (ends : List ℕ) → last ≡ last_after first ends
+            → self.old.gaps ≡ as_count (gaps_in (times_between first ends))
+            → self.new.gaps ≡ as_count (gaps_in (times_between first (ends ++ now ∷ []))) }
+        ensures longest { (first : ℕ) (ends : List ℕ) → last ≡ last_after first ends
+            → self.old.longest ≡ longest_of (times_between first ends)
+            → self.new.longest ≡ longest_of (times_between first (ends ++ now ∷ [])) }
+        ensures last { self.new.last ≡ self.old.last }
+        ensures count { self.new.count ≡ self.old.count }
+    {
+        let time = now.saturating_sub(last);
+        if time > crate::thresholds::GAP {
+            self.gaps = self.gaps.saturating_add(1);
+        }
+        self.longest = self.longest.max(time);
+    }
+
+    /// The time up to now passes: from the last on, if there was one.
+    pub(crate) fn wait_until(&mut self, now: u64)
+        ensures waits { (ends : List ℕ) → AreWaitsOf ends self.old → AreWaitsOf (ends ++ now ∷ []) self.new }
+        ensures count { self.new.count ≡ self.old.count }
+    {
+        let last = self.last;
+        self.last = Some(now);
+        if let Some(last) = last {
+            self.wait(last, now);
+        }
+    }
+
+    /// One more tic is run now.
+    pub(crate) fn add(&mut self, now: u64)
+        ensures { (runs : List ℕ) → AreRunsOf runs self.old → AreRunsOf (runs ++ now ∷ []) self.new }
+    {
+        self.wait_until(now);
+        self.count = self.count.saturating_add(1);
+    }
+}

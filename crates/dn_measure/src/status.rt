@@ -1,0 +1,91 @@
+//! The line that is printed each second of play.
+
+ghost use Rattle.std.specs.Prelude.{◌≡◌, ◌++◌, OnOk, IfOk};
+ghost use Rattle.std.specs.String.{string_bytes};
+ghost use Rattle.dn_measure.specs.StatusLine.{rate_text, waiting_text, refused_text, peer_text, peer_texts, status_line};
+
+use crate::arrivals::Arrivals;
+use crate::fields::{push_fields, push_tenths};
+use crate::summary::tenths_a_second;
+use std::alloc::{AllocError, Global};
+
+/// How a player stands.
+#[derive(Clone, Copy, Debug, PartialEq, Eq)]
+pub struct PeerStatus {
+    /// By how many commands this player leads that one.
+    pub lead: i8,
+    /// What came from that player since the game began.
+    pub arrivals: Arrivals,
+}
+
+/// How the game stands.
+#[derive(Clone, Copy, Debug, PartialEq, Eq)]
+pub struct Status {
+    /// How many tics were run since the line before,
+    pub tics: u64,
+    /// in how many microseconds.
+    pub micros: u64,
+    /// For which player's command the next tic waits, if it waits for one.
+    pub waiting: Option<u8>,
+    /// How often bytes came that were no datagram.
+    pub refused: u32,
+    /// How each other player stands, and None for this player and for a number that is no player's.
+    pub peers: [Option<PeerStatus>; 4],
+}
+
+/// For whom the game waits.
+fn push_waiting(text: &mut String, waiting: Option<u8>) -> Result<(), AllocError>
+    ensures { OnOk result (string_bytes text.new ≡ string_bytes text.old ++ waiting_text waiting) }
+{
+    match waiting {
+        Some(player) => push_fields(text, &[(" waiting ", player as i128)]),
+        None => Ok(()),
+    }
+}
+
+/// How a player stands, and nothing for a number that is no player's.
+#[tactic(auto, unfolding(crate::specs::StatusLine::standing_text))]
+fn push_peer(text: &mut String, player: u8, peer: Option<PeerStatus>) -> Result<(), AllocError>
+    ensures { OnOk result (string_bytes text.new ≡ string_bytes text.old ++ peer_text player peer) }
+{
+    let Some(status) = peer else {
+        return Ok(());
+    };
+    let fields = [
+        (" player ", player as i128),
+        (" lead ", status.lead as i128),
+        (" twice ", status.arrivals.twice as i128),
+        (" old ", status.arrivals.old as i128),
+    ];
+    push_fields(text, &fields)?;
+    push_tenths(text, " loss ", u128::from(status.arrivals.loss()))
+}
+
+/// How each player stands.
+fn push_peers(text: &mut String, peers: [Option<PeerStatus>; 4]) -> Result<(), AllocError>
+    ensures { OnOk result (string_bytes text.new ≡ string_bytes text.old ++ peer_texts 0 peers) }
+{
+    let [a, b, c, d] = peers;
+    push_peer(text, 0, a)?;
+    push_peer(text, 1, b)?;
+    push_peer(text, 2, c)?;
+    push_peer(text, 3, d)
+}
+
+/// The line of how the game stands. Err where memory is refused.
+#[tactic(auto, unfolding(crate::specs::StatusLine::rate_text, crate::specs::StatusLine::refused_text))]
+pub fn text_of_status(alloc: Global, status: &Status) -> Result<String, AllocError>
+    ensures { IfOk result (λ text. string_bytes text ≡ status_line status.now) }
+{
+    let mut text = String::new(alloc);
+    push_tenths(
+        &mut text,
+        "rate ",
+        tenths_a_second(status.tics, status.micros),
+    )?;
+    push_waiting(&mut text, status.waiting)?;
+    push_fields(&mut text, &[(" refused ", status.refused as i128)])?;
+    push_peers(&mut text, status.peers)?;
+    text.push_str("\n")?;
+    Ok(text)
+}

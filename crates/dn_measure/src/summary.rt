@@ -1,0 +1,40 @@
+//! What a session measured.
+
+ghost use Rattle.std.specs.Prelude.{◌≡◌};
+ghost use Rattle.dn_measure.specs.Rate.{tenths_a_second};
+
+use crate::arrivals::Arrivals;
+use crate::felt::Felt;
+
+/// What a session measured over the time of play. Times are in microseconds.
+#[derive(Clone, Copy, Debug, PartialEq, Eq)]
+pub struct Summary {
+    /// How many tics a second the clock gave.
+    pub rate: u8,
+    /// How many tics were run. Counts stop at the largest number of 64 bits.
+    pub tics: u64,
+    /// How long the game was played.
+    pub micros: u64,
+    /// How many times between two tics were longer than 100 ms, the time before the first and that after the
+    /// last among them.
+    pub gaps: u64,
+    /// The longest of these times.
+    pub longest: u64,
+    /// Within which time half of the commands were run, after each was built.
+    pub half: Felt,
+    /// Within which time 95 of a hundred were.
+    pub most: Felt,
+    /// What came from each player, and None for this player and for a number that is no player's.
+    pub peers: [Option<Arrivals>; 4],
+}
+
+/// How many tenths of a tic were run in each second, on average. A part of a tenth does not count, and of no
+/// time there are none.
+pub(crate) fn tenths_a_second(tics: u64, micros: u64) -> u128
+    ensures { result ≡ tenths_a_second tics micros }
+{
+    if micros == 0 {
+        return 0;
+    }
+    10_000_000 * u128::from(tics) / u128::from(micros)
+}

@@ -1,0 +1,71 @@
+//! The options of a session over a network, and of a key, read.
+
+ghost use Rattle.std.specs.Prelude.{◌≡◌, codes};
+ghost use Rattle.std.specs.Option.{option_map};
+ghost use Rattle.clap.specs.Matches.{found_of, first_value};
+ghost use Rattle.dn_options.specs.Given.{Finds, IsByteOf};
+ghost use Rattle.dn_options.specs.Session.{IsPaceOf, IsPortOf};
+
+use crate::{byte, value};
+use clap::ArgMatches;
+
+/// How one player's session goes.
+#[derive(Clone, Copy, Debug, PartialEq, Eq)]
+pub struct Pace {
+    /// What its keys are drawn from.
+    pub seed: u64,
+    /// How many tics a second the clock gives.
+    pub rate: u8,
+    /// For how many seconds it plays; 0 is until it is interrupted.
+    pub seconds: u32,
+}
+
+/// How one player's session goes.
+pub fn pace_of(matches: &ArgMatches<'_>) -> Option<Pace>
+    ensures { Finds (IsPaceOf matches.now) result }
+{
+    let seed = value(matches, "seed")?;
+    let rate = byte(matches, "rate")?;
+    let seconds = value(matches, "seconds")?;
+    Some(Pace {
+        seed: u64::from(seed),
+        rate,
+        seconds,
+    })
+}
+
+/// The UDP port.
+pub fn port(matches: &ArgMatches<'_>) -> Option<u16>
+    ensures { Finds (IsPortOf matches.now) result }
+{
+    u16::try_from(value(matches, "port")?).ok()
+}
+
+/// How many players a game has to have.
+pub fn players(matches: &ArgMatches<'_>) -> Option<u8>
+    ensures { Finds (IsByteOf matches.now (codes "players")) result }
+{
+    byte(matches, "players")
+}
+
+/// The file of the key.
+pub fn key<'a>(matches: &ArgMatches<'a>) -> Option<&'a str>
+    ensures { option_map (λ file. file.now) result ≡ first_value (found_of matches.now) (codes "key") }
+{
+    matches.get_str("key")
+}
+
+/// The file that a key is written to.
+pub fn file<'a>(matches: &ArgMatches<'a>) -> Option<&'a str>
+    ensures { option_map (λ file. file.now) result ≡ first_value (found_of matches.now) (codes "file") }
+{
+    matches.get_str("file")
+}
+
+/// The address of the host.
+pub fn address<'a>(matches: &ArgMatches<'a>) -> Option<&'a str>
+    ensures { option_map (λ address. address.now) result
+        ≡ first_value (found_of matches.now) (codes "address") }
+{
+    matches.get_str("address")
+}

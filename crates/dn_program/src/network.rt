@@ -1,0 +1,159 @@
+//! What `host`, `join` and `key` run.
+
+use crate::ends::print_session;
+use crate::runs::{BROKEN_OFF, MISUSED, REFUSED};
+use crate::screen::ErrorScreen;
+use clap::ArgMatches;
+use dn_game::GameConfig;
+use dn_greeting::{Address, Terms};
+use dn_host::{Guest, Hosting, Plan, Udp, address_of, host_game, join_game};
+use dn_key::{KEY, KeyFault, make_key, read_key};
+use dn_netgame::RunFault;
+use dn_options::Pace;
+use std::net::{Net, ToSocketAddrs};
+use std::random::RandomSource;
+use std::rt::Files;
+use std::time::Clock;
+
+/// How many commands a player makes ahead of its runs: what hides a delay of 200 ms.
+const AHEAD: u8 = 8;
+
+/// Prints a line, and answers the exit status.
+fn tell(rt: &impl Print, line: &str, status: u8) -> Result<u8, RunFault> {
+    if rt.println(line).is_err() {
+        return Err(RunFault::Write);
+    }
+    Ok(status)
+}
+
+/// Prints the line of a key that was not made or not read, and answers the exit status.
+fn tell_key(rt: &impl Print, fault: KeyFault) -> Result<u8, RunFault> {
+    if rt.println(fault).is_err() {
+        return Err(RunFault::Write);
+    }
+    if fault.is_refusal() {
+        Ok(REFUSED)
+    } else {
+        Ok(BROKEN_OFF)
+    }
+}
+
+/// Runs `key`, and answers the exit status.
+pub(crate) fn run_key(
+    rt: &(impl Print + Files + RandomSource),
+    matches: &ArgMatches<'_>,
+) -> Result<u8, RunFault> {
+    let Some(file) = dn_options::file(matches) else {
+        return Ok(MISUSED);
+    };
+    match make_key(rt, file) {
+        Ok(()) => Ok(0),
+        Err(fault) => tell_key(rt, fault),
+    }
+}
+
+/// The key that the players share, if a file of one was given.
+fn secret_of(rt: &impl Files, matches: &ArgMatches<'_>) -> Result<Option<[u8; KEY]>, KeyFault> {
+    match dn_options::key(matches) {
+        Some(path) => Ok(Some(read_key(rt, path)?)),
+        None => Ok(None),
+    }
+}
+
+/// How a session goes.
+fn plan_of(secret: Option<[u8; KEY]>, pace: Pace) -> Plan {
+    Plan {
+        secret,
+        seed: pace.seed,
+        rate: pace.rate,
+        seconds: pace.seconds,
+    }
+}
+
+/// The plan of a session and its wire at a port, or the exit status where there is none.
+fn prepared(
+    rt: &(impl Print + Net + Files),
+    port: u16,
+    matches: &ArgMatches<'_>,
+) -> Result<Result<(Plan, Udp), u8>, RunFault> {
+    let Some(pace) = dn_options::pace_of(matches) else {
+        return Ok(Err(MISUSED));
+    };
+    let secret = match secret_of(rt, matches) {
+        Ok(secret) => secret,
+        Err(fault) => return Ok(Err(tell_key(rt, fault)?)),
+    };
+    let Ok(wire) = Udp::bind(rt, port) else {
+        return Ok(Err(tell(rt, "socket fault", BROKEN_OFF)?));
+    };
+    Ok(Ok((plan_of(secret, pace), wire)))
+}
+
+/// What a host offers.
+fn hosting_of(game: GameConfig, players: u8) -> Hosting {
+    let terms = Terms {
+        players,
+        extra: game.extra,
+        ahead: AHEAD,
+        limit: game.limit,
+    };
+    Hosting {
+        terms,
+        settings: game.settings,
+    }
+}
+
+/// Runs `host`, and answers the exit status. With `each_second` it tells each second how the game stands.
+pub(crate) fn run_host<R: Print + Eprint + AllocGlobal + Net + Files + RandomSource + Clock + Drop>(
+    rt: &R,
+    each_second: bool,
+    matches: &ArgMatches<'_>,
+) -> Result<u8, RunFault> {
+    let (Some((game, players)), Some(port)) = (dn_options::game(matches), dn_options::port(matches))
+    else {
+        return Ok(MISUSED);
+    };
+    let (plan, mut wire) = match prepared(rt, port, matches)? {
+        Ok(ready) => ready,
+        Err(status) => return Ok(status),
+    };
+    let hosting = hosting_of(game, players);
+    let mut screen = ErrorScreen::new(rt, each_second, "");
+    let session = host_game(rt, rt.alloc(), &mut wire, &mut screen, &plan, &hosting);
+    print_session(rt, session, dn_options::raw(matches))
+}
+
+/// The first address of a host's name and port.
+fn found(rt: &impl Net, address: &str) -> Option<Address> {
+    match address.to_socket_addrs(rt) {
+        Ok(mut addresses) => Some(address_of(addresses.next()?)),
+        Err(_) => None,
+    }
+}
+
+/// Runs `join`, and answers the exit status. With `each_second` it tells each second how the game stands.
+pub(crate) fn run_join<R: Print + Eprint + AllocGlobal + Net + Files + RandomSource + Clock + Drop>(
+    rt: &R,
+    each_second: bool,
+    matches: &ArgMatches<'_>,
+) -> Result<u8, RunFault> {
+    let Some(address) = dn_options::address(matches) else {
+        return Ok(MISUSED);
+    };
+    let Some(host) = found(rt, address) else {
+        return tell(rt, "address: not found", REFUSED);
+    };
+    let port = dn_options::port(matches).unwrap_or(0);
+    let (plan, mut wire) = match prepared(rt, port, matches)? {
+        Ok(ready) => ready,
+        Err(status) => return Ok(status),
+    };
+    let guest = Guest {
+        host,
+        seat: dn_options::me(matches),
+        players: dn_options::players(matches),
+    };
+    let mut screen = ErrorScreen::new(rt, each_second, address);
+    let session = join_game(rt, rt.alloc(), &mut wire, &mut screen, &plan, &guest);
+    print_session(rt, session, dn_options::raw(matches))
+}
