@@ -40,15 +40,16 @@
  *     ZMG_RECEIVE_STARTED. It was stepped by every row that zmg_lockstep_run returned, and by nothing else.
  *     Its marks follow from its state alone (no clock, no random numbers but the world's own, no pointers).
  * The library checks every number and every byte itself. A handle that holds nothing may be passed to every
- * call. Build, give and run then return NOT_PLAYING; zmg_lockstep_receive and zmg_sealed_lockstep_receive
- * ZMG_RECEIVE_DROPPED with ZMG_DROP_NOT_PLAYING; zmg_link_receive ZMG_LINK_RECEIVE_UNOPENED with reason 0;
- * zmg_link_catch_up ZMG_BUILD_NONE_OWED; every other call on locksteps and links ZMG_PHASE_NONE or 0. The
- * calls on demos return ZMG_DEMO_NO_READER or 0.
+ * call. Those that make something in a handle do so in this one too. Of the others build, give and run return
+ * NOT_PLAYING; zmg_lockstep_receive and zmg_sealed_lockstep_receive ZMG_RECEIVE_DROPPED with
+ * ZMG_DROP_NOT_PLAYING; zmg_link_receive ZMG_LINK_RECEIVE_UNOPENED with reason 0; zmg_link_catch_up
+ * ZMG_BUILD_NONE_OWED; every other call on locksteps and links ZMG_PHASE_NONE or 0; every other call on demos
+ * ZMG_DEMO_NO_READER or 0.
  *
- * The codes that a call returns carry its name: ZMG_RUN_ are those of zmg_lockstep_run, ZMG_DEMO_ those of the
- * calls on demos. ZMG_DROP_ says why zmg_lockstep_receive or zmg_packet_decode refused a datagram, ZMG_SEAL_
- * why a sealed lockstep did not take bytes for an envelope, and ZMG_BUNDLE_ why a link did not take them for
- * a datagram. The names and numbers of this header do not change. New ones may be added.
+ * Most codes carry the name of a call that returns them: ZMG_RUN_ are those of zmg_lockstep_run. ZMG_DEMO_ are
+ * those of the calls on demos. ZMG_DROP_ says why zmg_lockstep_receive or zmg_packet_decode refused a datagram,
+ * ZMG_SEAL_ why a sealed lockstep did not take bytes for an envelope, and ZMG_BUNDLE_ why a link did not take
+ * them for a datagram. The names and numbers of this header do not change. New ones may be added.
  */
 #ifndef ZIRMEGAT_H
 #define ZIRMEGAT_H
@@ -87,8 +88,8 @@ typedef struct zmg_settings {
 } zmg_settings;
 
 /* limit: how many bytes the demo may have, 1,024 to 16,777,216. The same for all players. A tic takes 5
- *     bytes for each player, and a full demo ends the node: 1 MiB lasts 50 minutes for two players, 25 for
- *     four. The memory for the demo is allocated when the node is made.
+ *     bytes for each player, and the node ends at a tic of all players that does not fit: 1 MiB lasts 50
+ *     minutes for two players, 25 for four. The memory for the demo is allocated when the node is made.
  * players: 2 to 4. The same for all players.
  * me: the number of this player, 0 to players - 1.
  * extra: if not 0, each packet repeats the last command, which helps on lines that lose packets. The same for
@@ -163,7 +164,8 @@ zmg_made zmg_lockstep_build(zmg_lockstep *node, uint32_t keys);
 #define ZMG_MOST_AHEAD 5u
 
 /* A tic command. The fields of the move are as in zmg_move. mark: the consistency mark of the player's own
- * world twelve tics before. chat: a letter of chat, which the library carries and does not read. */
+ * world twelve tics before, 0 below tic 12. chat: a letter of chat, which the library carries and does not
+ * read. */
 typedef struct zmg_command {
     int16_t turn, mark;
     int8_t forward, side;
@@ -288,8 +290,8 @@ typedef struct zmg_move {
 /* code: ZMG_RUN_RAN if `tic` was run; ZMG_RUN_WAITING if the command of `player` is missing, the lowest such
  * player; ZMG_RUN_DEMO_FULL or ZMG_RUN_INCONSISTENT if this call ended the node; ZMG_RUN_NOT_PLAYING if it does
  * not play. With ZMG_RUN_INCONSISTENT the command of `player` for the next tic, the lowest such player too,
- * carries the mark `was` instead of `should`: the worlds have differed since twelve tics before, or earlier.
- * Fields that are not named for a code are 0. */
+ * carries the mark `was` instead of `should`: the worlds have differed since twelve tics before, or earlier,
+ * or a datagram came in that is not as it is owed. Fields that are not named for a code are 0. */
 #define ZMG_RUN_RAN 0u
 #define ZMG_RUN_WAITING 1u
 #define ZMG_RUN_DEMO_FULL 2u
@@ -531,9 +533,10 @@ zmg_made zmg_link_catch_up(zmg_link *link);
 
 /* Call it once a tick, after the build. Returns by how many 32nds of a tick the next tick comes later than
  * one tick after this one, or sooner if it is below 0: -2 to 34. It evens out how far the players are ahead
- * of each other, so that nobody carries another's delay, and on a line that is longer than the window it
- * stretches ticks instead of dropping input. A caller that does not follow the number loses no more than
- * that; but make the call at each tick all the same, since datagrams report the lead that it takes.
+ * of each other, so that nobody carries another's delay. On a line that is longer than the window, and loses
+ * little, it also stretches ticks once input was dropped for a while, so that less is dropped. A caller that
+ * does not follow the number loses no more than that; but make the call at each tick all the same, since
+ * datagrams report the lead that it takes.
  *
  * Count from when this tick was due, not from when you handled it; else each late frame slows the player
  * down. If ticks were missed, as in a slow frame, make up for them at once, one after another, each with its
@@ -541,8 +544,9 @@ zmg_made zmg_link_catch_up(zmg_link *link);
  * Chocolate Doom in engines/ makes up for eight ticks at most. */
 int32_t zmg_link_lean(zmg_link *link);
 
-/* Returns 1 if the player plays, and reports that two or more of the last datagrams to it are missing; then
- * give it one more datagram, half a tick after the tick's own, in case that one is lost too. Else returns 0. */
+/* Returns 1 if the player plays, and reports that two or more of the last datagrams to it did not come, or
+ * came after newer ones; then give it one more datagram, half a tick after the tick's own, in case that one is
+ * lost too. Else returns 0. */
 uint32_t zmg_link_wants_second(zmg_link *link, uint8_t player);
 
 uint32_t zmg_link_can_build(zmg_link *link);
@@ -593,11 +597,12 @@ zmg_received zmg_link_receive(zmg_link *link, const uint8_t *bytes, size_t lengt
 #define ZMG_PRESENCE_UNKNOWN 0u   /* nothing came from the player, or there is no such other player */
 #define ZMG_PRESENCE_THERE 1u     /* it is there, with the same identity */
 #define ZMG_PRESENCE_PLAYING 2u   /* its game has started */
-#define ZMG_PRESENCE_DIFFERENT 3u /* it is there with another identity, which the other fields have */
+#define ZMG_PRESENCE_DIFFERENT 3u /* it said hello with another identity, which the other fields have; its
+                                   * goodbye before its game changes nothing */
 #define ZMG_PRESENCE_AWAY 4u      /* it left before its game started, or was given up before the game of this
                                    * link did; another may take its place, with a link of its own, and is
-                                   * heard within 64 datagrams; but if cause is 0, only if the link that was
-                                   * given up is gone */
+                                   * heard once 64 of its datagrams have come, or before; but if cause is 0,
+                                   * only if the link that was given up is gone */
 #define ZMG_PRESENCE_LEFT 5u      /* it has played, and left */
 #define ZMG_PRESENCE_FORGOTTEN 6u /* it was given up when this link played or had ended, or had given it the
                                    * settings, or had heard that it plays: nobody takes its place */
@@ -611,26 +616,27 @@ typedef struct zmg_presence {
 } zmg_presence;
 
 /* Returns what is known of another player. Player 0 gives its settings once all others are there: until then
- * a player may come, go, and come again. Once they were given, nobody else may take the place of player 0: the
- * caller has to see to that. Nor may anybody take the place of a player who was given them, unless that player
- * said goodbye before its game: player 0's link refuses it. */
+ * a player may come, go, and come again. Once they were given, nobody else may take the place of player 0, nor
+ * of a player who was given them, unless that player said goodbye before its game. The caller has to see to
+ * that: player 0's link may give another the settings too, unless the first is ZMG_PRESENCE_FORGOTTEN there. */
 zmg_presence zmg_link_presence(zmg_link *link, uint8_t player);
 
 /* Gives up a player who has not been heard for too long (`came` of zmg_link_line rises with each new one of
  * its datagrams). While this link listens or gathers, the player is then ZMG_PRESENCE_AWAY, with cause 0,
- * until a new hello or a datagram of its game comes, and another may take its place. But if this link plays
- * or has ended, or has given the player the settings, or has heard that it plays, the player is
- * ZMG_PRESENCE_FORGOTTEN, until a datagram of its game comes that is newer than its newest, or 64 or more
- * behind it, or a goodbye after its game, of any age; zmg_link_may_leave does not wait for it. Then nobody
- * takes its place, since its commands may have reached others: for another player, make a new game with a new
- * number. Its commands are still missing: the game goes on without it only if its end is known. A player who is
- * ZMG_PRESENCE_LEFT stays so. For a number that is not another player's nothing happens. */
+ * until a new hello or goodbye comes, or a datagram of its game or a goodbye after its game, of any age; and
+ * another may take its place. But if this link plays or has ended, or has given the player the settings, or has
+ * heard that it plays, the player is ZMG_PRESENCE_FORGOTTEN, until a datagram of its game comes that is newer
+ * than its newest, or 64 or more behind it, or a goodbye after its game, of any age; zmg_link_may_leave does
+ * not wait for it. Then nobody takes its place, since its commands may have reached others: for another player,
+ * make a new game with a new number. Its commands are still missing: the game goes on without it only if its
+ * end is known. A player who is ZMG_PRESENCE_LEFT stays so. For a number that is not another player's nothing
+ * happens. */
 void zmg_link_forget(zmg_link *link, uint8_t player);
 
 /* Returns 1 if no other player needs anything more from this one: each has played and left, is
  * ZMG_PRESENCE_FORGOTTEN, or has acknowledged all commands of this one and that it has left; or player 0 is
- * ZMG_PRESENCE_AWAY with a cause above 0, and then there will be no game. Also returns 1 for a link that ended
- * before its game started. Else returns 0, and 0 if the handle holds no link.
+ * ZMG_PRESENCE_AWAY with a cause above 0: without another player 0 there will be no game. Also returns 1 for a
+ * link that ended before its game started. Else returns 0, and 0 if the handle holds no link.
  *
  * A peer that has left waits for this link in the same way: give it some more datagrams before the link is
  * freed, and limit the wait, since the last datagram may be lost. A player who started, and quits while
@@ -641,11 +647,12 @@ uint32_t zmg_link_may_leave(zmg_link *link);
 /* What is known of the line to another player, if known is 1; for a number that is not another player's all
  * fields are 0. came: how many of its datagrams came, copies and too old ones not counted. lost: how many of
  * the numbers between the first datagram that came and the newest did not come within 64; a datagram that was
- * sent before the first and came after it takes one off. repeated: how many copies came. too_old: how many came
- * 64 or more behind the newest, unless the line began anew with them. missing_there: how many of the last
- * datagrams to it are missing there. lead, lead_there: how many commands this player was ahead of it, and it of
- * this player, each at its own last tick. Counts stop at the largest number. To know when a player was last
- * heard, note the time whenever `came` has risen. */
+ * sent before the first and came after it takes one off. repeated: how many copies came, less than 64 behind
+ * the newest. too_old: how many came 64 or more behind the newest, unless the line began anew with them.
+ * missing_there: how many of the last datagrams to it did not come there, or came after newer ones. lead,
+ * lead_there: how many commands this player was ahead of it, and it of this player, each at its own last tick.
+ * Counts stop at the largest number. To know when a player was last heard, note the time whenever `came` has
+ * risen. */
 typedef struct zmg_line {
     uint32_t known, came, lost, repeated, too_old;
     uint8_t missing_there;

@@ -10,7 +10,7 @@ macro_rules! lockstep_calls {
         impl $node {
             /// Builds the command of these keys for the next tic. Bits from 18 on are ignored. If no command
             /// is made, a lockstep stays as it is; a link whose window is full owes the command, and
-            /// [`Link::catch_up`](crate::Link::catch_up) makes it.
+            /// [`Link::catch_up`](crate::Link::catch_up) makes it once there is room, if no other comes first.
             pub fn build(&mut self, keys: Keys) -> Made {
                 // SAFETY: the call has exclusive use of the handle (`Held`).
                 values::made(unsafe { raw::$build(self.0.at(), keys.0) })
@@ -74,7 +74,8 @@ macro_rules! lockstep_calls {
             /// Ends the node. Returns true if it had not ended before. If it has played, it still gives
             /// packets, which show the others where its commands end, and still takes datagrams, which may
             /// ask for its last commands again. So go on sending and receiving for a second or so; with a
-            /// link, until [`may_leave`](crate::Link::may_leave) returns true, and two seconds more.
+            /// link, until [`may_leave`](crate::Link::may_leave) returns true, but not for ever, and two
+            /// seconds more.
             pub fn quit(&mut self) -> bool {
                 // SAFETY: the call has exclusive use of the handle (`Held`).
                 unsafe { raw::$quit(self.0.at()) != 0 }
@@ -162,7 +163,8 @@ macro_rules! node_calls {
         impl<W: World> $node<W> {
             /// Builds the command of these keys for the next tic. Bits from 18 on are ignored. If no command
             /// is made, a node stays as it is; one with a link whose window is full owes the command, and
-            /// [`LinkNode::catch_up`](crate::LinkNode::catch_up) makes it.
+            /// [`LinkNode::catch_up`](crate::LinkNode::catch_up) makes it once there is room, if no other
+            /// comes first.
             pub fn build(&mut self, keys: Keys) -> Made {
                 self.node.build(keys)
             }
@@ -229,7 +231,8 @@ macro_rules! node_calls {
             /// Ends the node. Returns true if it had not ended before. If it has played, it still gives
             /// packets, which show the others where its commands end, and still takes datagrams, which may
             /// ask for its last commands again. So go on sending and receiving for a second or so; with a
-            /// link, until [`may_leave`](crate::Link::may_leave) returns true, and two seconds more.
+            /// link, until [`may_leave`](crate::Link::may_leave) returns true, but not for ever, and two
+            /// seconds more.
             pub fn quit(&mut self) -> bool {
                 self.node.quit()
             }

@@ -63,7 +63,7 @@
 //! [`Lockstep::receive`] has the rules. On a network that nobody vouches for, such as the internet, a
 //! [`SealedNode`] takes care of this itself: its packets go out in envelopes under a [`Seal`], and
 //! [`SealedNode::receive`] takes in any bytes. A [`LinkNode`] also takes care of delivery, pace and the
-//! lobby: each of its datagrams has everything that is kept for the peer.
+//! lobby: each of its datagrams has what is kept for the peer, as far as it fits.
 //!
 //! What the caller owes:
 //!

@@ -71,10 +71,10 @@ impl Link {
 
     /// Returns by how many 32nds of a tick the next tick comes later than one tick after this one, or sooner
     /// if it is below 0: -2 to 34. Call it once a tick, after the build. It evens out how far the players are
-    /// ahead of each other, so that nobody carries another's delay, and on a line that is longer than the
-    /// window it stretches ticks instead of dropping input. A caller that does not follow the number loses no
-    /// more than that; but make the call at each tick all the same, since datagrams report the lead that it
-    /// takes.
+    /// ahead of each other, so that nobody carries another's delay. On a line that is longer than the window,
+    /// and loses little, it also stretches ticks once input was dropped for a while, so that less is dropped.
+    /// A caller that does not follow the number loses no more than that; but make the call at each tick all
+    /// the same, since datagrams report the lead that it takes.
     ///
     /// Count from when this tick was due, not from when you handled it; else each late frame slows the player
     /// down. If ticks were missed, as in a slow frame, make up for them at once, one after another, each with
@@ -85,8 +85,9 @@ impl Link {
         unsafe { raw::zmg_link_lean(self.0.at()) }
     }
 
-    /// Returns true if the player plays, and reports that two or more of the last datagrams to it are missing;
-    /// then give it one more datagram, half a tick after the tick's own, in case that one is lost too.
+    /// Returns true if the player plays, and reports that two or more of the last datagrams to it did not
+    /// come, or came after newer ones; then give it one more datagram, half a tick after the tick's own, in
+    /// case that one is lost too.
     pub fn wants_second(&self, player: u8) -> bool {
         // SAFETY: the call has exclusive use of the handle (`Held`).
         unsafe { raw::zmg_link_wants_second(self.0.at(), player) != 0 }
@@ -117,33 +118,33 @@ impl Link {
 
     /// Returns what is known of another player, as far as this link has heard. Player 0 gives its settings
     /// once all others are there: until then a player may come, go, and come again. Once they were given,
-    /// nobody else may take the place of player 0: the caller has to see to that. Nor may anybody take the
-    /// place of a player who was given them, unless that player said goodbye before its game: player 0's link
-    /// refuses it.
+    /// nobody else may take the place of player 0, nor of a player who was given them, unless that player
+    /// said goodbye before its game. The caller has to see to that: player 0's link may give another the
+    /// settings too, unless the first is [`Presence::Forgotten`] there.
     pub fn presence(&self, player: u8) -> Presence {
         // SAFETY: the call has exclusive use of the handle (`Held`).
         presence(unsafe { raw::zmg_link_presence(self.0.at(), player) })
     }
 
     /// Gives up a player who has not been heard for too long ([`came`](Line::came) rises with each new one of
-    /// its datagrams). While this link listens or gathers, the player is then [`Presence::Away`] until a new
-    /// hello or a datagram of its game comes, and another may take its place. But if this link plays or has
-    /// ended, or has given the player the settings, or has heard that it plays, the player is
-    /// [`Presence::Forgotten`], until a datagram of its game comes that is newer than its newest, or 64 or more
-    /// behind it, or a goodbye after its game, of any age; [`may_leave`](Link::may_leave) does not wait for it.
-    /// Then nobody takes its place, since its commands may have reached others: for another player, make a new
-    /// game with a new number. Its commands are still missing: the game goes on without it only if its end is
-    /// known. A player who has [left](Presence::Left) stays so. For a number that is not another player's
-    /// nothing happens.
+    /// its datagrams). While this link listens or gathers, the player is then [`Presence::Away`], with
+    /// [`Parting::Forgotten`], until a new hello or goodbye comes, or a datagram of its game or a goodbye after
+    /// its game, of any age; and another may take its place. But if this link plays or has ended, or has given
+    /// the player the settings, or has heard that it plays, the player is [`Presence::Forgotten`], until a
+    /// datagram of its game comes that is newer than its newest, or 64 or more behind it, or a goodbye after
+    /// its game, of any age; [`may_leave`](Link::may_leave) does not wait for it. Then nobody takes its place,
+    /// since its commands may have reached others: for another player, make a new game with a new number. Its
+    /// commands are still missing: the game goes on without it only if its end is known. A player who has
+    /// [left](Presence::Left) stays so. For a number that is not another player's nothing happens.
     pub fn forget(&mut self, player: u8) {
         // SAFETY: the call has exclusive use of the handle (`Held`).
         unsafe { raw::zmg_link_forget(self.0.at(), player) }
     }
 
-    /// Returns true if no other player needs anything more from this one: each has played and left, was given
-    /// up in the game, or has acknowledged all commands of this one and that it has left; or player 0 said
-    /// goodbye before its game ([`Presence::Away`], but not [`Parting::Forgotten`]), and then there will be
-    /// no game. Also returns true for a link that ended before its game started.
+    /// Returns true if no other player needs anything more from this one: each has played and left, is
+    /// [`Presence::Forgotten`], or has acknowledged all commands of this one and that it has left; or player 0
+    /// is [`Presence::Away`] for another reason than [`Parting::Forgotten`]: without another player 0 there
+    /// will be no game. Also returns true for a link that ended before its game started.
     ///
     /// A peer that has left waits for this link in the same way: give it some more datagrams before the link
     /// is dropped, and limit the wait, since the last datagram may be lost. A player who started, and quits
@@ -297,11 +298,11 @@ pub enum Presence {
     There,
     /// Its game has started.
     Playing,
-    /// It is there with this other identity, and takes no part.
+    /// It said hello with this other identity, and takes no part. Its goodbye before its game changes nothing.
     Different(Identity),
     /// It left before its game started, or was given up before the game of this link did. Another may take its
-    /// place, with a link of its own, and is heard within 64 datagrams; but if it was given up
-    /// ([`Parting::Forgotten`]), only if its link is gone.
+    /// place, with a link of its own, and is heard once 64 of its datagrams have come, or before; but if it was
+    /// given up ([`Parting::Forgotten`]), only if the link that was given up is gone.
     Away(Parting),
     /// It has played and left.
     Left(Parting),
@@ -321,11 +322,11 @@ pub struct Line {
     /// How many of the numbers between the first datagram that came and the newest did not come within 64. A
     /// datagram that was sent before the first and came after it takes one off.
     pub lost: u32,
-    /// How many copies came.
+    /// How many copies came, less than 64 behind the newest.
     pub repeated: u32,
     /// How many came 64 or more behind the newest, unless the line began anew with them.
     pub too_old: u32,
-    /// How many of the last datagrams to it are missing there.
+    /// How many of the last datagrams to it did not come there, or came after newer ones.
     pub missing_there: u8,
     /// How many commands this player was ahead of it, at this player's last tick.
     pub lead: i8,

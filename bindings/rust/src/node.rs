@@ -61,8 +61,8 @@ impl<W: World> Node<W> {
     }
 
     /// Takes in a datagram from player `from`, and begins the world if the game starts. It needs what
-    /// [`Lockstep::receive`] needs: the true sender, and no datagram that is old, is of another game or is for
-    /// another player.
+    /// [`Lockstep::receive`] needs: datagrams as they were sent, their true sender, and none that is old, is of
+    /// another game or is for another player.
     pub fn receive(&mut self, from: u8, bytes: &[u8]) -> Heard {
         let heard = self.node.receive(from, bytes);
         if heard == Heard::Started {

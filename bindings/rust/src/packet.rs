@@ -23,8 +23,8 @@ pub struct Command {
     pub side: i8,
     /// The turn to the left, in 65,536ths of a full turn.
     pub turn: i16,
-    /// The consistency mark of the player's own world twelve tics before. [`give`](crate::Lockstep::give) does
-    /// not read it.
+    /// The consistency mark of the player's own world twelve tics before, 0 below tic 12.
+    /// [`give`](crate::Lockstep::give) does not read it.
     pub mark: i16,
     /// A letter of chat, which the library carries and does not read.
     pub chat: u8,

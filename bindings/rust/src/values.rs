@@ -90,8 +90,8 @@ pub struct Config {
     /// players. A link gains nothing by it: its datagrams repeat what is not acknowledged anyway.
     pub extra: bool,
     /// How many bytes the demo may have: 1,024 to 16,777,216. The same for all players. A tic takes 5 bytes
-    /// for each player, and a full demo ends the node: 1 MiB lasts 50 minutes for two players, 25 for four.
-    /// The memory for the demo is allocated when the node is made.
+    /// for each player, and the node ends at a tic of all players that does not fit: 1 MiB lasts 50 minutes
+    /// for two players, 25 for four. The memory for the demo is allocated when the node is made.
     pub limit: u32,
     /// The settings of player 0, who sends them to the others. Those of other players are not read.
     pub settings: Settings,
@@ -328,7 +328,8 @@ pub enum Ran {
     /// This call ended the node with [`Cause::Full`].
     DemoFull,
     /// This call ended the node. The command of `player` for the next tic carries the mark `was` instead of
-    /// `should`: the worlds have differed since twelve tics before, or earlier.
+    /// `should`: the worlds have differed since twelve tics before, or earlier, or a datagram came in that is
+    /// not as it is owed.
     #[allow(missing_docs)]
     Inconsistent { player: u8, was: i16, should: i16 },
     /// The game has not started, or the node had ended before.

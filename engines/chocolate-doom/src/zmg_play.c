@@ -57,8 +57,8 @@ static zmg_command from_engine(const ticcmd_t *cmd)
  * once for each command that will be made, and never for one that is lost. Where the window is full, the link
  * owes a command of this tick: it is made when a run makes room (see catch_up), with what the player did until
  * now. While it is owed, later ticks give the same command again and build none: so the link counts their ticks,
- * by which it stretches them on a line that is longer than the window, and what the player does in the meantime
- * stays with the engine, for the next command. */
+ * and stretches them once that goes on for a while, on a line that loses little; and what the player does in
+ * the meantime stays with the engine, for the next command. */
 static void give(void)
 {
     ticcmd_t cmd;

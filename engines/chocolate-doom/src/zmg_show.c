@@ -146,7 +146,7 @@ static void write_text(int x, int y, const char *text)
 static unsigned percent(uint32_t part, uint32_t whole) { return whole ? (unsigned) (part * 100.0 / whole + .5) : 0; }
 
 /* Since the beginning: what of its datagrams was lost, and what came twice. Who leads whom by how many commands, and
- * how many of the last datagrams to it are missing there, as it says. */
+ * how many of the last datagrams to it did not come there, or came after newer ones, as it says. */
 static void show_line_to(int p, int x, int y)
 {
     char text[WIDE], there[16] = "";
