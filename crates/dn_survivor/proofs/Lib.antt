@@ -9,3 +9,12 @@ pub mod Steps
 pub mod Frozen
 pub mod Ended
 pub mod Taken
+pub mod Refusing
+pub mod Decided
+pub mod Runs
+pub mod Quiet
+pub mod OneGame
+pub mod Moves
+pub mod Pairs
+pub mod Heard
+pub mod Unsettled

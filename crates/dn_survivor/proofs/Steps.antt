@@ -1,5 +1,5 @@
 -- All other calls of a survivor.
-use Rattle.std.proofs.Common.{◌≡◌, ◌<◌, ℕ, ℤ, Bool, List, refl, sym, ap, subst, ◌∙◌, Option, None}
+use Rattle.std.proofs.Common.{◌≡◌, ◌<◌, ◌≤◌, ℕ, ℤ, Bool, List, refl, sym, ap, subst, ◌∙◌, Option, None}
 use Rattle.std.specs.Prelude.{not, ◌&&◌, nat_lt, if◌then◌else◌}
 use Rattle.dn_tic.specs.declared.command.Move.{Move}
 use Rattle.dn_machine.specs.Limits.{Limits}
@@ -14,14 +14,30 @@ use Rattle.dn_lockstep.specs.Represents as lockstep
 use Rattle.dn_vanish.specs.Calls.{is_heard}
 use Rattle.dn_vanish.specs.Commands.{seen}
 use Rattle.dn_others.specs.declared.others.Others.{Others}
-use Rattle.dn_others.specs.Keeping.{nodes_of, own_of}
+use Rattle.dn_others.specs.Keeping.{nodes_of, nothing_kept, own_of}
 use Rattle.dn_others.specs.Represents as others
 use Rattle.dn_others.proofs.Agreeing as agreeing
+use Rattle.dn_others.proofs.Keeping.{first}
 use Rattle.dn_remain.specs.Wary.{Wary, report_of, undecided}
 use Rattle.dn_survivor.specs.Calls.{undecided_in}
-use Rattle.dn_survivor.specs.Represents.{Represents}
+use Rattle.dn_survivor.specs.Represents.{Represents, nobody_gone}
 use Rattle.dn_survivor.specs.Surviving.{Surviving, has_given_up}
 use Rattle.dn_survivor.proofs.Reports.{lowest_alike}
+
+-- a new survivor
+pub opened : (limits : Limits) (me : ℕ) (now : Surviving) (node : machine.Node) → me < limits.players
+    → limits.players ≤ 4 → limits.places ≤ 24 → lockstep.Represents limits me now.lockstep node
+    → now.others ≡ nothing_kept → Represents limits me now (nobody_gone node)
+opened limits me now node mine few kept shows nothing =
+    record {
+      player = mine;
+      few = few;
+      kept = kept;
+      node = shows;
+      others = subst (λ (o : Others). others.Represents limits.players limits.places me o (nobody_gone node).gone
+          (nobody_gone node).newest) (sym nothing) (first limits.players limits.places me few);
+      peers = λ player e. cc;
+    }
 
 -- a step of the lockstep alone
 pub stepped : (limits : Limits) (me : ℕ) (old new : Surviving) (wary : Wary) (node : machine.Node)

@@ -102,14 +102,14 @@ excused_in limits m player Gathering = refl
 excused_in limits m player Playing = refl
 excused_in limits m player (Ended cause) = refl
 
-excused : (limits : Limits) (me : ℕ) (m : machine.Node) (player : ℕ)
+pub excused : (limits : Limits) (me : ℕ) (m : machine.Node) (player : ℕ)
     → is_no_peer limits.players me player ≡ false
     → (on_excuse limits me m player).0 ≡ noted_gone limits m player m.phase
 unfolding on_excuse
 excused limits me m player peer = rw peer (excused_in limits m player m.phase)
 
 -- and leaves it in the game
-still_in : (limits : Limits) (m : machine.Node) (player : ℕ) (phase : Phase) → m.phase ≡ phase
+pub still_in : (limits : Limits) (m : machine.Node) (player : ℕ) (phase : Phase) → m.phase ≡ phase
     → is_in_game phase ≡ true → is_in_game (noted_gone limits m player phase).phase ≡ true
 still_in limits m player Listening e h = absurd (true≢false (sym h))
 still_in limits m player (Ended cause) e h = absurd (true≢false (sym h))

@@ -19,7 +19,7 @@ use Rattle.dn_survivor.specs.declared.answers.Ends.{Ends}
 use Rattle.dn_survivor.specs.declared.answers.GivenUp.{GivenUp}
 use Rattle.dn_survivor.specs.declared.answers.Reported.{Reported}
 use Rattle.dn_survivor.specs.Ending.{decided_by}
-use Rattle.dn_survivor.specs.Surviving.{Surviving, has_given_up}
+use Rattle.dn_survivor.specs.Surviving.{Surviving, has_given_up, is_unsettled}
 
 -- why a player is not given up, if so: the first reason counts
 abbrev pub refused_give_up : Surviving → ℕ → Option GivenUp
@@ -99,6 +99,10 @@ undecided_in now =
     lowest now.lockstep.players
     (λ player. not (is_heard now.lockstep.players now.lockstep.me (own_of now.others (λ other. 0))
     (nodes_of now.others) player))
+
+-- of those who are given up the one with the lowest number whose end is not settled
+abbrev pub unsettled_in : Surviving → Option ℕ
+unsettled_in now = lowest now.lockstep.players (is_unsettled now)
 
 -- nothing is sent to one who is given up
 abbrev pub sent_unless : Others → ℕ → Limits → ℕ → machine.Node → machine.Node × Option Flight

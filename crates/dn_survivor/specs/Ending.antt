@@ -1,5 +1,5 @@
 -- The ends of those who are given up: one call of the lockstep after another.
-use Rattle.std.specs.Prelude.{ℕ, zero, suc, if◌then◌else◌}
+use Rattle.std.specs.Prelude.{◌≡◌, ◌⊎◌, ℕ, zero, suc, if◌then◌else◌}
 use Rattle.dn_machine.specs.Limits.{Limits}
 use Rattle.dn_machine.specs.Node as machine
 use Rattle.dn_machine.specs.Node.{got}
@@ -28,6 +28,12 @@ ends_with Ends.Taken player (Settled.Taken count) = Ends.Taken
 ends_with Ends.Taken player reason = Ends.Untaken player reason
 ends_with Ends.Awaited player settled = Ends.Awaited
 ends_with (Ends.Untaken first reason) player settled = Ends.Untaken first reason
+
+-- the reasons for which the end of one who is given up may be refused: commands before it are missing and were
+-- not told, there is no room for them, one of them would end a demo, or another end is known
+abbrev pub IsRefusal : Settled → Type 0
+IsRefusal reason = (reason ≡ Settled.Gap) ⊎ ((reason ≡ Settled.Overrun) ⊎ ((reason ≡ Settled.Stopper)
+    ⊎ (reason ≡ Settled.OtherEnd)))
 
 -- one player more, if that one is given up
 abbrev pub settled_with : Limits → ℕ → Others → ℕ → machine.Node × Ends → machine.Node × Ends

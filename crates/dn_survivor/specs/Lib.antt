@@ -1,5 +1,10 @@
 pub mod Surviving
+pub mod Lending
 pub mod Ending
 pub mod Calls
 pub mod Telling
 pub mod Represents
+pub mod Session
+pub mod OneGame
+pub mod Agreed
+pub mod Demos

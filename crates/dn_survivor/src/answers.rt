@@ -1,8 +1,11 @@
 //! What a survivor answers.
 
-ghost use Rattle.std.specs.Prelude.{◌≡◌};
+ghost use Rattle.std.specs.Prelude.{◌≡◌, ◌≢◌};
 ghost use Rattle.dn_survivor.specs.Calls.{given_up_as, reported_by, unkept};
 ghost use Rattle.dn_survivor.specs.Ending.{ends_with};
+ghost use Rattle.dn_survivor.specs.declared.answers.Ends.TheVariants.{Awaited};
+ghost use Rattle.dn_survivor.specs.declared.answers.GivenUp.TheVariants as GivenUp;
+ghost use Rattle.dn_survivor.specs.declared.answers.Reported.TheVariants as Reported;
 
 use dn_lockstep::Settled;
 use dn_others::Reported as Noted;
@@ -16,10 +19,11 @@ pub enum GivenUp {
     /// since nobody else is left.
     Decided,
     /// A player is given up, and all reports are there. But the end of `player`, who need not be the one just
-    /// given up, cannot be taken for this reason: some report is false. The ends of the others are taken, but
-    /// for those of higher numbers that cannot be taken either. It is tried again at each further give-up and
-    /// report. It is also answered of an end that was taken before, if a later report tells of more; the end
-    /// that was taken stays.
+    /// given up, cannot be taken, for this reason: `Gap`, `Overrun`, `Stopper` or `OtherEnd`. Some report is
+    /// false: among the survivors of one game it never comes (`decisions_are_taken`). The ends of the others
+    /// are taken, but for those of higher numbers that cannot be taken either. It is tried again at each
+    /// further give-up and report. It is also answered of an end that was taken before, if a later report tells
+    /// of more; the end that was taken stays.
     Untaken { player: u8, reason: Settled },
     /// The player was given up before.
     Already,
@@ -65,7 +69,8 @@ pub(crate) enum Ends {
 impl Ends {
     /// The same with what has become of one more end.
     pub(crate) fn with(self, player: u8, settled: Settled) -> Ends
-        ensures { result ≡ ends_with self player settled }
+        ensures next { result ≡ ends_with self player settled }
+        ensures decides { self ≢ Awaited → result ≢ Awaited }
     {
         match (self, settled) {
             (Ends::Taken, Settled::Taken(_)) => Ends::Taken,
@@ -77,7 +82,8 @@ impl Ends {
 
 /// The answer of a give-up.
 pub(crate) fn given_up_as(ends: Ends) -> GivenUp
-    ensures { result ≡ given_up_as ends }
+    ensures is { result ≡ given_up_as ends }
+    ensures waits { result ≡ GivenUp.Waiting → ends ≡ Awaited }
 {
     match ends {
         Ends::Awaited => GivenUp::Waiting,
@@ -88,7 +94,8 @@ pub(crate) fn given_up_as(ends: Ends) -> GivenUp
 
 /// The answer to a report that is kept.
 pub(crate) fn reported_by(ends: Ends) -> Reported
-    ensures { result ≡ reported_by ends }
+    ensures is { result ≡ reported_by ends }
+    ensures waits { result ≡ Reported.Kept → ends ≡ Awaited }
 {
     match ends {
         Ends::Awaited => Reported::Kept,

@@ -5,10 +5,11 @@ use crate::survivor::Survivor;
 use dn_lockstep::Settled;
 
 impl Survivor {
-    ghost use Rattle.std.specs.Prelude.{◌≡◌, ◌<◌};
+    ghost use Rattle.std.specs.Prelude.{◌≡◌, ◌≢◌, ◌<◌, ℕ, false};
     ghost use Rattle.dn_lockstep.specs.Steps.{Steps};
     ghost use Rattle.dn_survivor.specs.Ending.{decided_by, settled_below, settled_by, settled_with};
-    ghost use Rattle.dn_survivor.specs.Surviving.{surviving};
+    ghost use Rattle.dn_survivor.specs.Surviving.{has_given_up, surviving};
+    ghost use Rattle.dn_survivor.specs.declared.answers.Ends.TheVariants.{Awaited};
 
     /// Tells the lockstep the end of a player, by what is kept of the others.
     fn settle(&mut self, player: u8) -> Settled
@@ -33,6 +34,8 @@ impl Survivor {
             (λ limits me m. settled_with limits me (surviving self.old).others player (m, ends))
             (λ ends. result ≡ ends) }
         ensures others { (surviving self.new).others ≡ (surviving self.old).others }
+        ensures decides { ends ≢ Awaited → result ≢ Awaited }
+        ensures quiet { has_given_up (surviving self.old) player ≡ false → surviving self.new ≡ surviving self.old }
     {
         if !self.has_given_up(player) {
             return ends;
@@ -47,6 +50,9 @@ impl Survivor {
             (λ limits me m. settled_below limits me (surviving self.old).others limits.players m)
             (λ ends. result ≡ ends) }
         ensures others { (surviving self.new).others ≡ (surviving self.old).others }
+        ensures decides { result ≢ Awaited }
+        ensures quiet { ((player : ℕ) → has_given_up (surviving self.old) player ≡ false)
+            → surviving self.new ≡ surviving self.old }
     {
         let mut ends = Ends::Taken;
         for player in 0..self.lockstep.players() {
@@ -60,6 +66,9 @@ impl Survivor {
         ensures step { Steps (surviving self.old).lockstep (surviving self.new).lockstep
             (λ limits me m. decided_by limits me (surviving self.old).others m) (λ ends. result ≡ ends) }
         ensures others { (surviving self.new).others ≡ (surviving self.old).others }
+        ensures waits { result ≡ Awaited → surviving self.new ≡ surviving self.old }
+        ensures quiet { ((player : ℕ) → has_given_up (surviving self.old) player ≡ false)
+            → surviving self.new ≡ surviving self.old }
     {
         let can_decide = self
             .others

@@ -6,10 +6,11 @@ use dn_machine::Heard;
 use dn_report::Report;
 
 impl Survivor {
-    ghost use Rattle.std.specs.Prelude.{◌≡◌, true, false};
+    ghost use Rattle.std.specs.Prelude.{◌≡◌, ℕ, true, false};
     ghost use Rattle.dn_lockstep.specs.Hearing.{HearsAny, HearsNear, Spares};
     ghost use Rattle.dn_survivor.specs.Calls.{HearsReport};
     ghost use Rattle.dn_survivor.specs.Surviving.{surviving, has_given_up};
+    ghost use Rattle.dn_survivor.specs.declared.answers.Reported.TheVariants as Reported;
 
     /// Hears a datagram that came from player `from`, as `Lockstep::receive` does. Of one who is given up
     /// nothing is heard, and 15 is answered.
@@ -29,10 +30,15 @@ impl Survivor {
     }
 
     /// Hears a report that came from player `from` for this one, and keeps it as the newest of that player. If
-    /// all reports are there with it, the ends of all who are given up are settled. Of several reasons not to
-    /// keep it the first counts: 13, 5, 15, `Excluded`, `Improper`, `Stale`.
+    /// all reports are there with it, the ends of all who are given up are settled; else the lockstep stays as
+    /// it is. Of several reasons not to keep it the first counts: 13, 5, 15, `Excluded`, `Improper`, `Stale`. While
+    /// nobody is given up the lockstep stays as it is.
     pub fn hear(&mut self, from: u8, report: Report) -> Reported
-        ensures { HearsReport from report (surviving self.old) (surviving self.new) result }
+        ensures hears { HearsReport from report (surviving self.old) (surviving self.new) result }
+        ensures waits { result ≡ Reported.Kept
+            → (surviving self.new).lockstep ≡ (surviving self.old).lockstep }
+        ensures quiet { ((player : ℕ) → has_given_up (surviving self.old) player ≡ false)
+            → (surviving self.new).lockstep ≡ (surviving self.old).lockstep }
     {
         if !self.is_in_game() {
             return Reported::Dropped(NOT_PLAYING);

@@ -1,20 +1,23 @@
-//! The calls of a survivor are those of a node of `dn_remain`.
+//! The calls of a survivor are those of a node of `dn_remain`; why an end is refused, and what a give-up does.
 
-ghost use Rattle.std.specs.Prelude.{◌≡◌, ◌≢◌, ◌<◌, ◌≤◌, ℕ, ℤ, true, false, List, Option};
+ghost use Rattle.std.specs.Prelude.{◌≡◌, ◌≢◌, ◌<◌, ◌≤◌, ◌⊎◌, ℕ, ℤ, true, false, List, Option};
 ghost use Rattle.dn_tic.specs.declared.command.Move.{Move};
 ghost use Rattle.dn_report.specs.declared.report.Report.{Report};
 ghost use Rattle.dn_machine.specs.declared.answers.Ran.{Ran};
+ghost use Rattle.dn_machine.specs.declared.answers.Phase.TheVariants.{Gathering, Playing};
 ghost use Rattle.dn_machine.specs.Limits.{Limits};
 ghost use Rattle.dn_machine.specs.Node as machine;
 ghost use Rattle.dn_machine.specs.Running.{on_run_but};
 ghost use Rattle.dn_lockstep.specs.Represents as lockstep;
 ghost use Rattle.dn_lockstep.specs.Runs.{RunsBy, marks_in, row_told};
 ghost use Rattle.dn_lockstep.specs.Settling.{is_no_peer};
+ghost use Rattle.dn_lockstep.specs.declared.lockstep.settling.Settled.{Settled};
 ghost use Rattle.dn_others.specs.Keeping.{nothing_kept};
 ghost use Rattle.dn_others.specs.Represents.{AreTold, Tells};
 ghost use Rattle.dn_remain.specs.Wary.{Report as Held, Wary, can_settle, is_in_game, on_give_up, on_report};
 ghost use Rattle.dn_remain.specs.Wary.{report_to, undecided, with_gone, with_report};
 ghost use Rattle.dn_survivor.specs.Calls.{GivesUp, HearsReport, undecided_in};
+ghost use Rattle.dn_survivor.specs.Ending.{IsRefusal};
 ghost use Rattle.dn_survivor.specs.Represents.{CanTakeAll, Represents, given_up_is, nobody_gone, reported_is};
 ghost use Rattle.dn_survivor.specs.Surviving.{Surviving, has_given_up};
 ghost use Rattle.dn_survivor.specs.Telling.{report_for};
@@ -70,4 +73,36 @@ pub fn calls_are_wary()
     ensures barred { (limits : Limits) (me : ℕ) (now : Surviving) (wary : Wary) (player : ℕ)
         → Represents limits me now wary → player < limits.players
         → has_given_up now player ≡ wary.gone player }
+{}
+
+/// An end that is not taken is that of a player of the game who is given up, and is refused for one of four
+/// reasons: `Gap`, `Overrun`, `Stopper`, `OtherEnd`. Whatever was told, true or false: the premises are that
+/// the lockstep represents a node, as each does, and that its own player is not given up. That no survivor
+/// gives up its own player is said by `own` and `own_heard`; a new one has given up nobody.
+pub fn ends_are_refused_for_reasons()
+    ensures gave_up { (limits : Limits) (me : ℕ) (old new : Surviving) (node : machine.Node) (player other : ℕ)
+        (reason : Settled) → me < limits.players → lockstep.Represents limits me old.lockstep node
+        → has_given_up old me ≡ false → GivesUp player old new (GivenUp.Untaken other reason)
+        → IsRefusal reason × (other < limits.players) × (has_given_up new other ≡ true) }
+    ensures reported { (limits : Limits) (me : ℕ) (old new : Surviving) (node : machine.Node) (from other : ℕ)
+        (report : Report) (reason : Settled) → me < limits.players
+        → lockstep.Represents limits me old.lockstep node → has_given_up old me ≡ false
+        → HearsReport from report old new (Reported.Untaken other reason)
+        → IsRefusal reason × (other < limits.players) × (has_given_up new other ≡ true) }
+    ensures own { (old new : Surviving) (player : ℕ) (answer : GivenUp)
+        → has_given_up old old.lockstep.me ≡ false → GivesUp player old new answer
+        → has_given_up new old.lockstep.me ≡ false }
+    ensures own_heard { (old new : Surviving) (from : ℕ) (report : Report) (answer : Reported)
+        → has_given_up old old.lockstep.me ≡ false → HearsReport from report old new answer
+        → has_given_up new old.lockstep.me ≡ false }
+{}
+
+/// A give-up leaves the phase as it is, but that a lockstep that gathers may start. So the phases before and
+/// after it tell whether it did.
+pub fn give_ups_may_start()
+    ensures { (limits : Limits) (me : ℕ) (old new : Surviving) (node : machine.Node) (player : ℕ)
+        (answer : GivenUp) → me < limits.players → lockstep.Represents limits me old.lockstep node
+        → has_given_up old me ≡ false → GivesUp player old new answer
+        → (new.lockstep.phase ≡ old.lockstep.phase)
+        ⊎ ((old.lockstep.phase ≡ Gathering) × (new.lockstep.phase ≡ Playing)) }
 {}

@@ -1,6 +1,6 @@
 //! A lockstep of which players may be given up.
 
-ghost use Rattle.std.specs.Prelude.{◌≡◌, ◌&&◌, ◌||◌, not, Some, IfOk, is_some, true};
+ghost use Rattle.std.specs.Prelude.{◌≡◌, ◌<◌, ◌&&◌, ◌||◌, not, Some, IfOk, is_some, true};
 ghost use Rattle.std.specs.Option.{option_map};
 ghost use Rattle.dn_lockstep.specs.Opening.{IsAdmittedWithin, limits_within, whose_within};
 
@@ -25,7 +25,8 @@ impl Survivor {
     ghost use Rattle.dn_others.specs.Keeping.{nothing_kept};
     ghost use Rattle.dn_remain.specs.Wary.{is_in_game};
     ghost use Rattle.dn_survivor.specs.Surviving.{surviving, has_given_up, has_gone, has_left};
-    ghost use Rattle.dn_survivor.specs.Calls.{undecided_in};
+    ghost use Rattle.dn_survivor.specs.Surviving.{has_settled, is_unsettled};
+    ghost use Rattle.dn_survivor.specs.Calls.{undecided_in, unsettled_in};
 
     /// A survivor with no history, of a lockstep as `Lockstep::within` makes it: nobody is given up, and
     /// nothing was told. All memory that it needs is taken here.
@@ -69,6 +70,39 @@ impl Survivor {
     {
         self.others
             .undecided(self.lockstep.players(), self.lockstep.me())
+    }
+
+    /// Of the players who are given up the one with the lowest number whose end is not settled: the lockstep
+    /// knows no end of the player, or lacks a command before it. A run waits for such a player once it has come
+    /// to the first command that is missing. None where the ends of all who are given up are settled.
+    pub fn unsettled(&self) -> Option<u8>
+        ensures { result ≡ unsettled_in (surviving self.now) }
+    {
+        for player in 0..self.lockstep.players() {
+            if self.is_unsettled(player) {
+                return Some(player);
+            }
+        }
+        None
+    }
+
+    /// Whether a player is given up whose end is not settled.
+    fn is_unsettled(&self, player: u8) -> bool
+        requires { player < (surviving self.now).lockstep.players }
+        ensures { result ≡ is_unsettled (surviving self.now) player }
+    {
+        self.has_given_up(player) && !self.has_settled(player)
+    }
+
+    /// Whether the lockstep knows a player's end, and has all commands before it.
+    fn has_settled(&self, player: u8) -> bool
+        requires { player < (surviving self.now).lockstep.players }
+        ensures { result ≡ has_settled (surviving self.now) player }
+    {
+        match (self.lockstep.end(player), self.lockstep.got(player)) {
+            (Some(end), Some(got)) => end <= got,
+            _ => false,
+        }
     }
 
     /// Whether a player is given up.

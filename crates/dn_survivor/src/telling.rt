@@ -86,8 +86,9 @@ impl Survivor {
     }
 
     /// The next report to a player: how many commands it has of each player but itself and that one, and the
-    /// last of them; whom it has given up; and whether it has left. None to a number that is no other player's,
-    /// none to one whom it has given up, and none while it has given up nobody and has not left.
+    /// last of them; whom it has given up; and whether it has left. It gives none to a number that is no other
+    /// player's; none to one whom it has given up, whose survivor would answer `Excluded`; and none while it
+    /// has given up nobody and has not left, since such a report would settle nothing.
     pub fn report(&self, to: u8) -> Option<Report>
         ensures told { result ≡ report_for (surviving self.now) to }
         ensures proper { IfSome result IsReport }

@@ -16,7 +16,12 @@ const NOBODY: [bool; 4] = [false; 4];
 const FIRST: [bool; 4] = [true, false, false, false];
 
 /// A survivor of a game of so many.
-fn open(alloc: Global, players: u8, me: u8, settings: Settings) -> Result<Survivor, NodeFault> {
+pub(crate) fn open(
+    alloc: Global,
+    players: u8,
+    me: u8,
+    settings: Settings,
+) -> Result<Survivor, NodeFault> {
     let config = Config {
         players,
         me,
@@ -28,7 +33,7 @@ fn open(alloc: Global, players: u8, me: u8, settings: Settings) -> Result<Surviv
 }
 
 /// The next packet of one goes to another.
-fn pass(from: &mut Survivor, to: &mut Survivor) -> Option<Heard> {
+pub(crate) fn pass(from: &mut Survivor, to: &mut Survivor) -> Option<Heard> {
     let (sender, receiver) = (from.lockstep().me(), to.lockstep().me());
     let packet = from.packet(receiver)?;
     Some(to.receive(sender, packet.as_slice()))
@@ -52,7 +57,7 @@ fn report(gone: [bool; 4], told: Option<(u8, u32)>) -> Report {
 }
 
 /// Runs a tic, and answers which players took part in it.
-fn run(survivor: &mut Survivor) -> (Ran, [bool; 4]) {
+pub(crate) fn run(survivor: &mut Survivor) -> (Ran, [bool; 4]) {
     let mut row = [None; 4];
     let ran = survivor.run_into(&[0; 4], &mut row);
     let [a, b, c, d] = &row;
@@ -60,7 +65,10 @@ fn run(survivor: &mut Survivor) -> (Ran, [bool; 4]) {
 }
 
 /// The three of a game that has started.
-fn start(alloc: Global, settings: Settings) -> Result<(Survivor, Survivor, Survivor), NodeFault> {
+pub(crate) fn start(
+    alloc: Global,
+    settings: Settings,
+) -> Result<(Survivor, Survivor, Survivor), NodeFault> {
     let mut first = open(alloc, 3, 0, settings)?;
     let mut second = open(alloc, 3, 1, settings)?;
     let mut third = open(alloc, 3, 2, settings)?;

@@ -1,24 +1,10 @@
-use Rattle.std.proofs.Common.{subst, sym}
-use Rattle.dn_others.specs.declared.others.Others.{Others}
-use Rattle.dn_others.specs.Represents as others
-use Rattle.dn_others.proofs.Keeping.{first}
 use Rattle.dn_survivor.proofs.Steps as steps
 use Rattle.dn_survivor.proofs.Reports as telling
 use Rattle.dn_survivor.proofs.Waries as waries
-use Rattle.dn_survivor.specs.Represents.{nobody_gone}
 use Rattle.dn_survivor.proofs.laws.calls_are_wary.Goals as goal
 
 pub returns-clause-opened : goal.returns-clause-opened
-returns-clause-opened c limits me now node mine few kept shows nothing =
-    record {
-      player = mine;
-      few = few;
-      kept = kept;
-      node = shows;
-      others = subst (λ (o : Others). others.Represents limits.players limits.places me o (nobody_gone node).gone
-          (nobody_gone node).newest) (sym nothing) (first limits.players limits.places me few);
-      peers = λ player e. cc;
-    }
+returns-clause-opened c = steps.opened
 
 pub returns-clause-gave_up : goal.returns-clause-gave_up
 returns-clause-gave_up c limits me old new wary player answer r can =

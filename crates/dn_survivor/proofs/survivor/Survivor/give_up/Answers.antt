@@ -12,8 +12,8 @@ use Rattle.dn_survivor.specs.declared.answers.GivenUp.{GivenUp}
 use Rattle.dn_survivor.proofs.Chains.{chain}
 use Rattle.dn_survivor.proofs.survivor.Survivor.give_up.Goals as goal
 
-pub returns : goal.returns
-returns c =
+pub returns-clause-gives : goal.returns-clause-gives
+returns-clause-gives c =
     let player = c.args.player in
     let old = surviving c.args.self.now in
     let new = surviving c.decide.new.self in
@@ -27,5 +27,5 @@ returns c =
       c.decide.ensures.others ∙ c.give_up.ensures,
       steps both.same (λ limits me m r.
           let step = both.step limits me m r in
-          record { node = step.node; answer = c.given_up_as.ensures ∙ ap given_up_as step.answer }),
+          record { node = step.node; answer = c.given_up_as.ensures.is ∙ ap given_up_as step.answer }),
     )

@@ -7,10 +7,11 @@ use Rattle.dn_lockstep.proofs.After.{steps}
 use Rattle.dn_others.specs.declared.others.Others.{Others}
 use Rattle.dn_others.specs.declared.hearing.Reported as noted
 use Rattle.dn_others.specs.Hearing.{reported_as}
+use Rattle.dn_others.specs.Keeping.{has}
 use Rattle.dn_remain.specs.Wary.{is_in_game}
 use Rattle.dn_survivor.specs.Calls.{HearsReportUnless, reported_by, refused_report, unkept}
 use Rattle.dn_survivor.specs.Ending.{decided_by}
-use Rattle.dn_survivor.specs.Surviving.{surviving}
+use Rattle.dn_survivor.specs.Surviving.{Surviving, surviving}
 use Rattle.dn_survivor.specs.declared.answers.Reported.{Reported}
 use Rattle.dn_survivor.proofs.survivor.Survivor.hear.Goals as goal
 
@@ -22,8 +23,16 @@ kept_is noted.Reported.Excluded e = absurd (none-some _ (sym e))
 kept_is noted.Reported.Improper e = absurd (none-some _ (sym e))
 kept_is noted.Reported.Stale e = absurd (none-some _ (sym e))
 
-pub returns : goal.returns
-returns c =
+-- where nobody is given up nobody is, with the report
+pub returns-clause-quiet : goal.returns-clause-quiet
+returns-clause-quiet c none =
+    let unrefused : unkept c.hear.result ≡ None = sym c.unkept.ensures ∙ c.in_default.is in
+    let put = c.hear.ensures.kept (kept_is c.hear.result unrefused) in
+    ap (λ (s : Surviving). s.lockstep)
+    (c.decide.ensures.quiet (λ player. ap (λ (o : Others). has o.gone player) put ∙ none player))
+
+pub returns-clause-hears : goal.returns-clause-hears
+returns-clause-hears c =
     let from = c.args.from in
     let report = c.args.report in
     let old = surviving c.args.self.now in
@@ -43,5 +52,5 @@ returns c =
       c.decide.ensures.others ∙ put,
       steps step.same (λ limits me m r.
           let s = step.step limits me m r in
-          record { node = s.node; answer = c.reported_by.ensures ∙ ap reported_by s.answer }),
+          record { node = s.node; answer = c.reported_by.ensures.is ∙ ap reported_by s.answer }),
     )

@@ -5,6 +5,7 @@ use Rattle.dn_lockstep.specs.Steps.{IsAfter, Steps}
 use Rattle.dn_lockstep.proofs.After.{after, steps}
 use Rattle.dn_others.specs.declared.others.Others.{Others}
 use Rattle.dn_survivor.specs.Ending.{settled_below, settled_with}
+use Rattle.dn_survivor.specs.Surviving.{Surviving, has_given_up}
 use Rattle.dn_survivor.specs.declared.answers.Ends.{Ends}
 use Rattle.dn_survivor.proofs.Chains.{below_next, below_zero, chain}
 use Rattle.dn_survivor.proofs.survivor.Survivor.settle_all.Goals as goal
@@ -13,6 +14,8 @@ pub loop-player-init : goal.loop-player-init
 loop-player-init c = record {
   step = steps refl (λ limits me m r. after m Ends.Taken (below_zero limits me _ m) r refl);
   others = refl;
+  decides = λ e. cc;
+  quiet = λ none. refl;
 }
 
 pub settle_next-ends-requires : goal.settle_next-ends-requires
@@ -34,6 +37,11 @@ loop-player-preserved c = record {
       (contents c.settle_next-ends.new.self.lockstep) x (λ ends. c.settle_next-ends.result ≡ ends))
       (sym (below_next limits me others m player)) (both.step limits me m r));
   others = c.settle_next-ends.ensures.others ∙ c.loop-player.invariant.others;
+  decides = c.settle_next-ends.ensures.decides c.loop-player.invariant.decides;
+  quiet = λ none.
+      let same = c.loop-player.invariant.quiet none in
+      c.settle_next-ends.ensures.quiet
+      (ap (λ (s : Surviving). has_given_up s c.loop-player.player) same ∙ none c.loop-player.player) ∙ same;
 }
 
 pub returns-clause-step : goal.returns-clause-step

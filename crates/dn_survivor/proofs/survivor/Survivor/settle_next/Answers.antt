@@ -22,4 +22,4 @@ returns-clause-step c = steps c.settle-settled.ensures.step.same (λ limits me m
     ) = rw gone refl in
     after (settled_by limits me others c.args.player m).0
     (ends_with c.args.ends c.args.player (settled_by limits me others c.args.player m).1) is step.node
-    (c.with.ensures ∙ ap (ends_with c.args.ends c.args.player) step.answer))
+    (c.with.ensures.next ∙ ap (ends_with c.args.ends c.args.player) step.answer))

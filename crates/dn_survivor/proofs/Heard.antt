@@ -1,0 +1,149 @@
+-- What is answered in a game of survivors.
+use Rattle.std.proofs.Common.{◌≡◌, ◌<◌, ℕ, true, false, refl, sym, ◌∙◌, arith, inl, inr}
+use Rattle.std.specs.Prelude.{◌⊎◌, Some, slice_get}
+use Rattle.std.proofs.lemmas.Bool.{both_ways, cond-false}
+use Rattle.dn_setup.specs.Settings.{Settings}
+use Rattle.dn_machine.specs.declared.answers.Heard.{Heard}
+use Rattle.dn_machine.specs.Drops as drops
+use Rattle.dn_machine.specs.Flight.{Flight, is_near}
+use Rattle.dn_machine.specs.Limits.{Limits}
+use Rattle.dn_lockstep.specs.Hearing.{HearsNear}
+use Rattle.dn_lockstep.specs.Marking.{Marking}
+use Rattle.dn_lockstep.specs.Sent.{bytes_of}
+use Rattle.dn_lockstep.specs.Told.{made}
+use Rattle.dn_lockstep.specs.declared.lockstep.settling.Settled.{Settled}
+use Rattle.dn_remain.specs.Remaining.{wary_of, heard_of}
+use Rattle.dn_remain.specs.Wary.{Report, Wary, on_give_up, on_report}
+use Rattle.dn_remain.specs.declared.events.GivenUp as remain_given
+use Rattle.dn_remain.specs.declared.events.Reported as remain_reported
+use Rattle.dn_survivor.specs.Calls.{GivesUp, HearsReport}
+use Rattle.dn_survivor.specs.OneGame.{AreRemaining}
+use Rattle.dn_survivor.specs.Represents.{given_up_is, reported_is}
+use Rattle.dn_survivor.specs.Session.{Given, Session}
+use Rattle.dn_survivor.specs.Surviving.{Surviving, has_given_up}
+use Rattle.dn_survivor.specs.declared.answers.GivenUp.{GivenUp}
+use Rattle.dn_survivor.specs.declared.answers.Reported.{Reported}
+use Rattle.dn_survivor.proofs.OneGame as game_of
+use Rattle.dn_survivor.proofs.Pairs.{steady}
+
+-- no answer of a node is that an end was not taken
+taken_given : (answer : remain_given.GivenUp) (player : ℕ) (reason : Settled)
+    → GivenUp.Untaken player reason ≡ given_up_is answer → ⊥
+taken_given remain_given.GivenUp.Waiting player reason e = absurd (cc)
+taken_given remain_given.GivenUp.Decided player reason e = absurd (cc)
+taken_given remain_given.GivenUp.Already player reason e = absurd (cc)
+taken_given remain_given.GivenUp.NotAPlayer player reason e = absurd (cc)
+taken_given remain_given.GivenUp.NotPlaying player reason e = absurd (cc)
+
+taken_reported : (answer : remain_reported.Reported) (player : ℕ) (reason : Settled)
+    → Reported.Untaken player reason ≡ reported_is answer → ⊥
+taken_reported remain_reported.Reported.Kept player reason e = absurd (cc)
+taken_reported remain_reported.Reported.Decided player reason e = absurd (cc)
+taken_reported remain_reported.Reported.Excluded player reason e = absurd (cc)
+taken_reported remain_reported.Reported.Stale player reason e = absurd (cc)
+taken_reported (remain_reported.Reported.Dropped number) player reason e = absurd (cc)
+
+-- nor that a report is improper
+never_improper : (answer : remain_reported.Reported) → Reported.Improper ≡ reported_is answer → ⊥
+never_improper remain_reported.Reported.Kept e = absurd (cc)
+never_improper remain_reported.Reported.Decided e = absurd (cc)
+never_improper remain_reported.Reported.Excluded e = absurd (cc)
+never_improper remain_reported.Reported.Stale e = absurd (cc)
+never_improper (remain_reported.Reported.Dropped number) e = absurd (cc)
+
+is_excluded : (answer : remain_reported.Reported) → Reported.Excluded ≡ reported_is answer
+    → answer ≡ remain_reported.Reported.Excluded
+is_excluded remain_reported.Reported.Kept e = absurd (cc)
+is_excluded remain_reported.Reported.Decided e = absurd (cc)
+is_excluded remain_reported.Reported.Excluded e = refl
+is_excluded remain_reported.Reported.Stale e = absurd (cc)
+is_excluded (remain_reported.Reported.Dropped number) e = absurd (cc)
+
+is_dropped : (answer : remain_reported.Reported) (number : ℕ) → Reported.Dropped number ≡ reported_is answer
+    → answer ≡ remain_reported.Reported.Dropped number
+is_dropped remain_reported.Reported.Kept number e = absurd (cc)
+is_dropped remain_reported.Reported.Decided number e = absurd (cc)
+is_dropped remain_reported.Reported.Excluded number e = absurd (cc)
+is_dropped remain_reported.Reported.Stale number e = absurd (cc)
+is_dropped (remain_reported.Reported.Dropped other) number e = cc
+
+-- one who is not given up by the sender is not told that it is
+not_out : (limits : Limits) (me : ℕ) (wary : Wary) (from : ℕ) (report : Report) → report.gone me ≡ false
+    → (on_report limits me wary from report).1 ≡ remain_reported.Reported.Excluded → ⊥
+unfolding on_report
+not_out limits me wary from report free e = grind (arith, free, e)
+
+module _ (marking : Marking) (limits : Limits) (settings : Settings) (session : Session)
+    (game : AreRemaining marking limits settings session) where
+  pub given_up_taken : (here : ℕ) → here < limits.players → (player other : ℕ) (new : Surviving) (reason : Settled)
+      → GivesUp player (session.survivors here) new (GivenUp.Untaken other reason) → ⊥
+  given_up_taken here mine player other new reason by =
+      taken_given (on_give_up limits here (wary_of game.last here) player).1 other reason
+      (game_of.gave_up_is marking limits settings game here mine player new (GivenUp.Untaken other reason) by).1
+
+  module _ (which : ℕ) (given : Given) (at : slice_get session.reports which ≡ Some given) (new : Surviving) where
+    is_reported : (answer : Reported)
+        → HearsReport given.from given.report (session.survivors given.to) new answer
+        → answer ≡ reported_is (on_report limits given.to (wary_of game.last given.to) given.from
+        (game_of.holder marking limits settings game which given at)).1
+    is_reported answer by = (game_of.reported marking limits settings game which given at new answer by).1
+
+    pub reported_taken : (other : ℕ) (reason : Settled)
+        → HearsReport given.from given.report (session.survivors given.to) new (Reported.Untaken other reason) → ⊥
+    reported_taken other reason by =
+        taken_reported _ other reason (is_reported (Reported.Untaken other reason) by)
+
+    pub not_excluded : HearsReport given.from given.report (session.survivors given.to) new Reported.Excluded → ⊥
+    not_excluded by =
+        not_out limits given.to (wary_of game.last given.to) given.from
+        (game_of.holder marking limits settings game which given at)
+        (game_of.to_one marking limits settings game which given at).1
+        (is_excluded _ (is_reported Reported.Excluded by))
+
+    pub proper : HearsReport given.from given.report (session.survivors given.to) new Reported.Improper → ⊥
+    proper by = never_improper _ (is_reported Reported.Improper by)
+
+    pub reports_dropped : (number : ℕ)
+        → HearsReport given.from given.report (session.survivors given.to) new (Reported.Dropped number)
+        → (number ≡ drops.not_playing)
+        ⊎ ((number ≡ 15) × (has_given_up (session.survivors given.to) given.from ≡ true))
+    reports_dropped number by =
+        let told = game_of.told_at marking limits settings game which given at in
+        let to_it = (game_of.to_one marking limits settings game which given at).0 in
+        elim ((steady marking limits settings session game).reports which (record {
+          from = given.from;
+          to = given.to;
+          report = game_of.holder marking limits settings game which given at;
+        }) number (game_of.there_at marking limits settings game which given at)
+        (is_dropped _ number (is_reported (Reported.Dropped number) by))) [
+          | inl out ↦ inl out
+          | inr gone ↦ inr (
+            gone.0,
+            (game.nodes given.to to_it).others.given_up given.from told.2.sender ∙ gone.1,
+          )
+        ]
+
+  -- a packet that was given
+  module _ (which : ℕ) (packet : Flight) (at : slice_get session.packets which ≡ Some packet) (new : Surviving)
+      (near : is_near (made (session.survivors packet.to).lockstep) packet ≡ true)
+      (free : has_given_up (session.survivors packet.to) packet.from ≡ false) where
+    pub packets_dropped : (number : ℕ)
+        → HearsNear packet.from (bytes_of packet) (session.survivors packet.to).lockstep new.lockstep
+        (Heard.Dropped number)
+        → (number ≡ drops.out_of_place) ⊎ (number ≡ drops.not_playing)
+    packets_dropped number by =
+        let told = game_of.told_there marking limits settings game which packet at in
+        let there = game_of.given_there marking limits settings game which packet at in
+        let heard = game_of.heard_there marking limits settings game which packet at new (Heard.Dropped number) near
+        (λ open_from. by) free in
+        let off : game.last.gone packet.to packet.from ≡ false =
+        sym ((game.nodes packet.to told.receiver).others.given_up packet.from told.sender) ∙ free in
+        let is : heard_of limits game.last packet ≡ Heard.Dropped number =
+        cond-false (game.last.gone packet.to packet.from) _ _ off ∙ sym heard.answer in
+        elim ((steady marking limits settings session game).kept which packet number there is) [
+          | inl place ↦ inl place
+          | inr rest ↦ elim rest [
+            | inl out ↦ inr out
+            | inr gone ↦ absurd (both_ways (game.last.gone packet.to packet.from) off gone.1)
+          ]
+        ]

@@ -1,0 +1,697 @@
+-- The survivors of one game stay those of one game, call by call.
+use Rattle.std.proofs.Common.{◌≡◌, ◌≢◌, ◌<◌, ◌≤◌, ℕ, zero, suc, ℤ, pos, Bool, true, false, List, [], ◌∷◌, ◌++◌, Option, Some, None, refl, ap, sym, ◌∙◌, subst, arith, inl, inr}
+use Rattle.std.specs.Prelude.{nat_lt, get_or, slice_get, if◌then◌else◌, IfSome}
+use Rattle.std.specs.Option.{option_map}
+use Rattle.std.proofs.lemmas.Bool.{cases_Bool, cases_eq, cases_lt, both_ways, cond-true, lt-ltb, le-ltb}
+use Rattle.std.proofs.lemmas.Option.{none-some}
+use Rattle.dn_tic.specs.declared.command.Move.{Move}
+use Rattle.dn_tic.specs.declared.command.TicCmd.{TicCmd}
+use Rattle.dn_tic.specs.declared.input.Input.{Input}
+use Rattle.dn_tic.specs.declared.input.Input.TheVariants.{Pressed, Given as Handed}
+use Rattle.dn_report.specs.declared.report.Report.{Report as Told}
+use Rattle.dn_setup.specs.Settings.{Settings}
+use Rattle.dn_machine.specs.declared.answers.Heard.{Heard}
+use Rattle.dn_machine.specs.declared.answers.Made.{Made}
+use Rattle.dn_machine.specs.declared.answers.Ran.{Ran}
+use Rattle.dn_machine.specs.declared.events.Event.{Event}
+use Rattle.dn_machine.specs.declared.events.Event.TheVariants.{Send, Deliver, Run, Quit}
+use Rattle.dn_machine.specs.declared.events.Refusal.{Refusal}
+use Rattle.dn_machine.specs.declared.peer.Peer.{Peer}
+use Rattle.dn_machine.specs.Building.{on_build}
+use Rattle.dn_machine.specs.Flight.{Flight, is_near}
+use Rattle.dn_machine.specs.Game.{fresh, opening_game, own_marks, refused_at, refused_flight, refused, applied, applied_if, delivered, on_event}
+use Rattle.dn_machine.specs.Hearing.{on_packet}
+use Rattle.dn_machine.specs.Limits.{Limits, IsWindow}
+use Rattle.dn_machine.specs.Node as machine
+use Rattle.dn_machine.specs.Node.{put, is_ended}
+use Rattle.dn_machine.specs.Progress.{build_of}
+use Rattle.dn_machine.specs.Running.{is_over, on_quit, on_run_but}
+use Rattle.dn_machine.specs.Worlds.{Inputs, Rules}
+use Rattle.dn_machine.proofs.Pairs.{accepted_build}
+use Rattle.dn_machine.proofs.Put.{put_at, put_off, slice_get_push}
+use Rattle.dn_lockstep.specs.Contents.{Contents, end_in}
+use Rattle.dn_lockstep.specs.Hearing.{HearsNear, Spares}
+use Rattle.dn_lockstep.specs.Marking.{History, Marking}
+use Rattle.dn_lockstep.specs.Near.{IsFair}
+use Rattle.dn_lockstep.specs.OneGame.{beside, world_told}
+use Rattle.dn_lockstep.specs.Represents as lockstep
+use Rattle.dn_lockstep.specs.Rings.{count_of}
+use Rattle.dn_lockstep.specs.Rows.{is_gone}
+use Rattle.dn_lockstep.specs.Runs.{RunsBy, marks_in, row_told}
+use Rattle.dn_lockstep.specs.Sent.{bytes_of, sent_to}
+use Rattle.dn_lockstep.specs.Session.{given_on, taken_on, told_on}
+use Rattle.dn_lockstep.specs.Steps.{Steps, Tells, IsAfter}
+use Rattle.dn_lockstep.specs.Told.{made}
+use Rattle.dn_lockstep.proofs.Counting.{got_is}
+use Rattle.dn_lockstep.proofs.OneGame.{IsQuiet, hear_quiet, sent_between}
+use Rattle.dn_lockstep.proofs.Running.{kept_same}
+use Rattle.dn_others.specs.Keeping.{nothing_kept}
+use Rattle.dn_others.specs.Represents as others
+use Rattle.dn_vanish.specs.Commands.{Holder}
+use Rattle.dn_remain.specs.Remaining.{Remaining, Telling, wary_of, with_wary, with_telling, unless, after_event, after_hearing, after_run, after_telling, is_barred, is_barred_flight, opening_remaining}
+use Rattle.dn_remain.specs.RunsRemain.{LeadsRemain, NextRemain}
+use Rattle.dn_remain.specs.Wary.{Report, Wary, on_give_up, on_report, report_to}
+use Rattle.dn_remain.specs.declared.events.RemainEvent.{RemainEvent}
+use Rattle.dn_remain.specs.declared.events.RemainEvent.TheVariants.{Own, GiveUp, Tell, Hear}
+use Rattle.dn_remain.proofs.Known.{IsTold}
+use Rattle.dn_remain.specs.Seen.{now_of}
+use Rattle.dn_remain.proofs.Places.{own_put, there}
+use Rattle.dn_remain.proofs.Reached.{IsReached, reached_by}
+use Rattle.dn_survivor.specs.Calls.{GivesUp, HearsReport, sent_unless}
+use Rattle.dn_survivor.specs.OneGame.{AreRemaining, AreTelling, IsGivenAs, IsTelling}
+use Rattle.dn_survivor.specs.Represents.{Represents, given_up_is, reported_is}
+use Rattle.dn_survivor.specs.Session as session_of
+use Rattle.dn_survivor.specs.Session.{Given, Session, after_build, after_packet, after_report, opening_session, reports_on, with_survivor}
+use Rattle.dn_survivor.specs.Surviving.{Surviving, has_given_up}
+use Rattle.dn_survivor.specs.Telling.{report_for}
+use Rattle.dn_survivor.specs.declared.answers.GivenUp.{GivenUp}
+use Rattle.dn_survivor.specs.declared.answers.Reported.{Reported}
+use Rattle.dn_survivor.proofs.Decided.{gone_can, told_can}
+use Rattle.dn_survivor.proofs.Quiet.{build_inputs, build_rows, give_up_quiet, quit_quiet, report_quiet, send_quiet}
+use Rattle.dn_survivor.proofs.Reports as telling
+use Rattle.dn_survivor.proofs.Runs.{Rows, own_is, run_inputs, run_same, run_tells}
+use Rattle.dn_survivor.proofs.Steps as steps
+use Rattle.dn_survivor.proofs.Waries as waries
+
+-- who is not gone has no end, as a lockstep that has not ended tells it, that is not after the next tic
+not_past : (n : Contents) (p : ℕ) → is_ended n.phase ≡ false → is_gone n.peers n.ran p ≡ false
+    → is_over (end_in n p) n.ran ≡ false
+not_past n p going here = grind arith
+
+-- one more event
+one_more : {S : Type 0} (rules : Rules S) (events : List RemainEvent) (event : RemainEvent) (all mid last : Remaining)
+    → LeadsRemain rules all events mid → NextRemain rules mid event last
+    → LeadsRemain rules all (events ++ event ∷ []) last
+one_more rules [] event all mid last same next =
+    (last, subst (λ (r : Remaining). NextRemain rules r event last) same next, refl)
+one_more rules (e ∷ events) event all mid last way next =
+    (way.0, way.1, one_more rules events event way.0 mid last way.2 next)
+
+-- what is read off the nodes, where one of them is another now
+read_on : {A : Type 0} (f : machine.Node → A) (nodes : ℕ → machine.Node) (values : ℕ → A) (i : ℕ)
+    (m : machine.Node) (value : A) → ((p : ℕ) → f (nodes p) ≡ values p) → f m ≡ value → (p : ℕ)
+    → f (put nodes i m p) ≡ put values i value p
+read_on f nodes values i m value each same p = grind arith
+
+read_same : {A : Type 0} (f : machine.Node → A) (nodes : ℕ → machine.Node) (values : ℕ → A) (i : ℕ)
+    (m : machine.Node) → ((p : ℕ) → f (nodes p) ≡ values p) → f m ≡ f (nodes i) → (p : ℕ)
+    → f (put nodes i m p) ≡ values p
+read_same {A = A} f nodes values i m each same p =
+    read_on f nodes values i m (values i) each (same ∙ each i) p ∙ ap (λ (g : ℕ → A). g p) (own_put values i)
+
+-- a report that was given is one that was told
+telling_at : (limits : Limits) (reports : List Given) (tellings : List Telling) → AreTelling limits reports tellings
+    → (which : ℕ) (given : Given) → slice_get reports which ≡ Some given
+    → (t : Telling) × (slice_get tellings which ≡ Some t) × IsTelling limits given t
+telling_at limits [] [] h which given at = absurd (none-some given at)
+telling_at limits [] (t ∷ tellings) h which given at = absurd h
+telling_at limits (g ∷ reports) [] h which given at = absurd h
+telling_at limits (g ∷ reports) (t ∷ tellings) h zero given at =
+    (t, refl, subst (λ (x : Given). IsTelling limits x t) (cc) h.0)
+telling_at limits (g ∷ reports) (t ∷ tellings) h (suc which) given at =
+    telling_at limits reports tellings h.1 which given at
+
+-- and one more is
+telling_more : (limits : Limits) (reports : List Given) (tellings : List Telling) (given : Given) (t : Telling)
+    → AreTelling limits reports tellings → IsTelling limits given t
+    → AreTelling limits (reports ++ given ∷ []) (tellings ++ t ∷ [])
+telling_more limits [] [] given t h is = (is, tt)
+telling_more limits [] (u ∷ tellings) given t h is = absurd h
+telling_more limits (g ∷ reports) [] given t h is = absurd h
+telling_more limits (g ∷ reports) (u ∷ tellings) given t h is =
+    (h.0, telling_more limits reports tellings given t h.1 is)
+
+-- no report is for its sender
+told_apart : (limits : Limits) (me : ℕ) (wary : Wary) (to : ℕ) (told : Report)
+    → report_to limits me wary to ≡ Some told → me ≢ to
+told_apart limits me wary to told is e = grind (arith, is, e)
+
+module _ (marking : Marking) (limits : Limits) (settings : Settings) where
+  abbrev pub rules : Rules History
+  rules = beside marking limits
+
+  pub opens : (survivors : ℕ → Surviving) → IsWindow limits → limits.players ≤ 4 → limits.places ≤ 24
+      → ((p : ℕ) → p < limits.players → lockstep.Represents limits p (survivors p).lockstep (fresh settings p))
+      → ((p : ℕ) → p < limits.players → (survivors p).others ≡ nothing_kept)
+      → AreRemaining marking limits settings (opening_session survivors)
+  unfolding opening_remaining opening_game
+  opens survivors window few kept each nothing = record {
+    window = window;
+    events = [];
+    last = opening_remaining settings;
+    runs = refl;
+    nodes = λ p below. steps.opened limits p (survivors p) (fresh settings p) below few kept (each p below)
+        (nothing p below);
+    inputs = λ p. refl;
+    packets = refl;
+    reports = tt;
+    rows = λ p. refl;
+    fair = λ which packet h. absurd (none-some packet h);
+    going = λ p. refl;
+  }
+
+  module _ {session : Session} (game : AreRemaining marking limits settings session) where
+    abbrev pub all : Remaining
+    all = game.last
+
+    abbrev pub node : ℕ → machine.Node
+    node = game.last.game.nodes
+
+    pub known : (older : List (ℕ → Holder TicCmd)) × IsReached rules settings game.last older
+    known = reached_by rules settings game.events game.last game.runs
+
+    -- a survivor that is what it was
+    pub keeps : (i : ℕ) (new : Surviving) → new ≡ session.survivors i
+        → AreRemaining marking limits settings (with_survivor session i new)
+    keeps i new same =
+        subst (λ (s : ℕ → Surviving). AreRemaining marking limits settings (record session { survivors = s }))
+        (sym (ap (put session.survivors i) same ∙ own_put session.survivors i)) game
+
+    rows_stay : (i : ℕ) (m : machine.Node) → m.rows ≡ (node i).rows → (p : ℕ)
+        → (put node i m p).rows ≡ session.told p
+    rows_stay i m = read_same (λ (x : machine.Node). x.rows) node session.told i m game.rows
+
+    inputs_stay : (i : ℕ) (m : machine.Node) → m.inputs ≡ (node i).inputs → (p : ℕ)
+        → (put node i m p).inputs ≡ session.inputs p
+    inputs_stay i m = read_same (λ (x : machine.Node). x.inputs) node session.inputs i m game.inputs
+
+    module _ (i : ℕ) (mine : i < limits.players) where
+      accepts : refused_at limits.players game.last.game i ≡ None
+      accepts = rw (lt-ltb i limits.players mine, game.going i) refl
+
+      shown : Represents limits i (session.survivors i) (wary_of game.last i)
+      shown = game.nodes i mine
+
+      -- of all players the survivor is another in one place, and of those where the nodes stay it is as it was
+      placed : (next : Remaining) (new : Surviving) → ((p : ℕ) → p ≢ i → wary_of next p ≡ wary_of game.last p)
+          → Represents limits i new (wary_of next i) → (p : ℕ) → p < limits.players
+          → Represents limits p (put session.survivors i new p) (wary_of next p)
+      placed next new rest shows p below = elim (cases_eq p i) [
+        | inl e ↦
+            subst (λ (s : Surviving). Represents limits p s (wary_of next p))
+            (sym (put_at session.survivors i p new e))
+            (subst (λ (k : ℕ). Represents limits k new (wary_of next k)) (sym e) shows)
+        | inr n ↦
+            subst (λ (w : Wary). Represents limits p (put session.survivors i new p) w) (sym (rest p n))
+            (subst (λ (s : Surviving). Represents limits p s (wary_of game.last p))
+            (sym (put_off session.survivors i p new n)) (game.nodes p below))
+      ]
+
+      -- after an event that changes this node alone
+      changes : (event : RemainEvent) (next : Remaining) (inputs : Inputs) (packets : List Flight)
+          (rows : ℕ → Rows) (new : Surviving)
+          → NextRemain rules game.last event next
+          → ((p : ℕ) → p ≢ i → wary_of next p ≡ wary_of game.last p)
+          → Represents limits i new (wary_of next i)
+          → ((p : ℕ) → (next.game.nodes p).inputs ≡ inputs p) → next.game.flights ≡ packets
+          → next.reports ≡ game.last.reports → ((p : ℕ) → (next.game.nodes p).rows ≡ rows p)
+          → ((which : ℕ) (packet : Flight) → slice_get packets which ≡ Some packet → IsFair packet)
+          → next.game.stopped ≡ game.last.game.stopped
+          → AreRemaining marking limits settings (record {
+            inputs = inputs;
+            packets = packets;
+            reports = session.reports;
+            told = rows;
+            survivors = put session.survivors i new;
+          })
+      changes event next inputs packets rows new step rest shows takes same told tells fair on = record {
+        window = game.window;
+        events = game.events ++ event ∷ [];
+        last = next;
+        runs = one_more rules game.events event (opening_remaining settings) game.last next game.runs step;
+        nodes = placed next new rest shows;
+        inputs = takes;
+        packets = same;
+        reports = subst (AreTelling limits session.reports) (sym told) game.reports;
+        rows = tells;
+        fair = fair;
+        going = λ p. ap (λ (f : ℕ → Bool). f p) on ∙ game.going p;
+      }
+
+      -- after a call that changes nothing of what is represented
+      stays : (new : Surviving) → Represents limits i new (wary_of game.last i)
+          → AreRemaining marking limits settings (with_survivor session i new)
+      stays new shows = record {
+        window = game.window;
+        events = game.events;
+        last = game.last;
+        runs = game.runs;
+        nodes = placed game.last new (λ p n. refl) shows;
+        inputs = game.inputs;
+        packets = game.packets;
+        reports = game.reports;
+        rows = game.rows;
+        fair = game.fair;
+        going = game.going;
+      }
+
+      -- after an event of the machine, which adds to the packets
+      owns : (event : Event) (m : machine.Node) (flights packets : List Flight) (inputs : Inputs)
+          (rows : ℕ → Rows) (new : Surviving) → is_barred game.last event ≡ false
+          → after_event rules game.last event
+          ≡ record { nodes = put node i m; stopped = game.last.game.stopped; flights = flights }
+          → Represents limits i new (record (wary_of game.last i) { node = m })
+          → ((p : ℕ) → (put node i m p).inputs ≡ inputs p) → flights ≡ packets
+          → ((which : ℕ) (packet : Flight) → slice_get packets which ≡ Some packet → IsFair packet)
+          → ((p : ℕ) → (put node i m p).rows ≡ rows p)
+          → AreRemaining marking limits settings (record {
+            inputs = inputs;
+            packets = packets;
+            reports = session.reports;
+            told = rows;
+            survivors = put session.survivors i new;
+          })
+      owns event m flights packets inputs rows new free is shows takes same fair tells =
+          changes (Own event) (record game.last {
+            game = record { nodes = put node i m; stopped = game.last.game.stopped; flights = flights };
+          }) inputs packets rows new (inr (
+            free,
+            record {
+              nodes = put node i m;
+              stopped = game.last.game.stopped;
+              flights = flights;
+            },
+            inl (sym is),
+            refl,
+          ))
+          (λ p n. ap (λ (x : machine.Node). record {
+            node = x;
+            gone = game.last.gone p;
+            newest = game.last.newest p;
+          }) (put_off node i p m n))
+          (subst (λ (x : machine.Node). Represents limits i new (record {
+            node = x;
+            gone = game.last.gone i;
+            newest = game.last.newest i;
+          })) (sym (put_at node i i m refl)) shows)
+          takes same refl tells fair refl
+
+      -- and where neither packets nor rows nor inputs join the session
+      moves : (event : Event) (m : machine.Node) (new : Surviving) → is_barred game.last event ≡ false
+          → after_event rules game.last event
+          ≡ record { nodes = put node i m; stopped = game.last.game.stopped; flights = game.last.game.flights }
+          → Represents limits i new (record (wary_of game.last i) { node = m }) → IsQuiet (node i) m
+          → AreRemaining marking limits settings (with_survivor session i new)
+      moves event m new free is shows quiet =
+          owns event m game.last.game.flights session.packets session.inputs session.told new free is shows
+          (inputs_stay i m quiet.1) game.packets game.fair (rows_stay i m quiet.0)
+
+      by_event : (event : Event) → refused limits.players game.last.game event ≡ None
+          → (applied rules game.last.game event).0 ≡ (on_event rules game.last.game event).0
+      unfolding applied
+      by_event event none =
+          ap (λ (o : Option Refusal). (applied_if rules game.last.game event o).0) none
+
+      -- a build
+      is_built : (input : Input) → after_event rules game.last (build_of i input)
+          ≡ record {
+            nodes = put node i (on_build limits i (node i) input).0;
+            stopped = game.last.game.stopped;
+            flights = game.last.game.flights;
+          }
+      is_built (Pressed keys) = accepted_build rules game.last.game i (Pressed keys) accepts
+      is_built (Handed command) = accepted_build rules game.last.game i (Handed command) accepts
+
+      free_build : (input : Input) → is_barred game.last (build_of i input) ≡ false
+      free_build (Pressed keys) = refl
+      free_build (Handed command) = refl
+
+      pub builds : (new : Surviving) (input : Input) (made : Made)
+          → Steps (session.survivors i).lockstep new.lockstep (λ limits me m. on_build limits me m input)
+          (λ answer. made ≡ answer)
+          → new.others ≡ (session.survivors i).others
+          → AreRemaining marking limits settings (after_build session i input made new)
+      builds new input made by same =
+          let after = by.step limits i (node i) shown.node in
+          let taken : (on_build limits i (node i) input).0.inputs ≡ taken_on (session.inputs i) input made =
+          build_inputs limits i (node i) input
+          ∙ ap (λ (answer : Made). taken_on (node i).inputs input answer) (sym after.answer)
+          ∙ ap (λ (inputs : List Input). taken_on inputs input made) (game.inputs i) in
+          owns (build_of i input) (on_build limits i (node i) input).0 game.last.game.flights session.packets
+          (put session.inputs i (taken_on (session.inputs i) input made)) session.told new (free_build input)
+          (is_built input)
+          (steps.stepped limits i (session.survivors i) new (wary_of game.last i) _ shown after.node same)
+          (read_on (λ (x : machine.Node). x.inputs) node session.inputs i _ _ game.inputs taken)
+          game.packets game.fair (rows_stay i _ (build_rows limits i (node i) input))
+
+      -- a quit
+      pub quits : (new : Surviving) (quit : Bool)
+          → Steps (session.survivors i).lockstep new.lockstep (λ limits me m. on_quit m) (λ answer. quit ≡ answer)
+          → new.others ≡ (session.survivors i).others
+          → AreRemaining marking limits settings (with_survivor session i new)
+      quits new quit by same =
+          moves (Quit i) (on_quit (node i)).0 new refl (by_event (Quit i) accepts)
+          (steps.stepped limits i (session.survivors i) new (wary_of game.last i) _ shown
+          (by.step limits i (node i) shown.node).node same)
+          (quit_quiet limits i (node i))
+
+      -- a run: the marks of the caller's world are those of the node's own
+      pub runs : (new : Surviving) (marks : List ℤ) (ran : Ran) (row : Option (List (Option Move)))
+          → ((tic other : ℕ) → ran ≡ Ran.Ran tic → other < limits.players
+          → is_over (end_in (session.survivors i).lockstep other) (session.survivors i).lockstep.ran ≡ false
+          → get_or marks other (pos 0) ≡ marking (world_told limits settings (session.told i)) other)
+          → RunsBy marks (session.survivors i).lockstep new.lockstep
+          (λ limits m marks. on_run_but limits (has_given_up (session.survivors i)) m marks)
+          (λ answer told. (ran ≡ answer) × (row ≡ told))
+          → new.others ≡ (session.survivors i).others
+          → AreRemaining marking limits settings (session_of.after_run session i row new)
+      runs new marks ran row duty by others_same =
+          let n : Contents = (session.survivors i).lockstep in
+          let m : machine.Node = node i in
+          let r = shown.node in
+          let gone : ℕ → Bool = game.last.gone i in
+          let after = steps.runs limits i (session.survivors i) new (wary_of game.last i) shown marks ran row by
+          others_same in
+          let same : ◌≡◌ {A = machine.Node × Ran} (on_run_but limits gone m (marks_in marks))
+          (on_run_but limits gone m (own_marks rules m)) =
+          run_same limits gone m (marks_in marks) (own_marks rules m) (λ tic plays tells.
+          kept_same limits m (marks_in marks) (own_marks rules m) (λ p below present.
+          duty tic p (after.1 ∙ tells) below
+          (not_past n p (ap is_ended (r.stands.phase ∙ plays))
+          (ap (λ (x : ℕ). is_gone n.peers x p) r.table.ran
+          ∙ ap (λ (x : Option ℕ). is_over x (machine.ran m))
+          (ap (λ (x : Peer). x.end) (r.peers.known p below)) ∙ present))
+          ∙ ap (λ (rows : Rows). marking (world_told limits settings rows) p) (sym (game.rows i))
+          ∙ sym (own_is marking limits settings m p
+          ((known.1.set.nodes i).played ((known.1.set.nodes i).plays plays))))) in
+          let shows = subst (λ (x : machine.Node × Ran). Represents limits i new
+          (record (wary_of game.last i) { node = x.0 })) same after.0 in
+          let tells : (on_run_but limits gone m (own_marks rules m)).0.rows ≡ told_on (session.told i) row =
+          run_tells limits gone m (own_marks rules m)
+          ∙ ap (λ (x : machine.Node × Ran). told_on m.rows (row_told limits m x.1)) (sym same)
+          ∙ ap (told_on m.rows) (sym after.2)
+          ∙ ap (λ (rows : Rows). told_on rows row) (game.rows i) in
+          owns (Run i) (on_run_but limits gone m (own_marks rules m)).0 game.last.game.flights session.packets
+          session.inputs (put session.told i (told_on (session.told i) row)) new refl
+          (ap (after_run rules game.last i) accepts) shows
+          (inputs_stay i _ (run_inputs limits gone m (own_marks rules m))) game.packets game.fair
+          (read_on (λ (x : machine.Node). x.rows) node session.told i _ _ game.rows tells)
+
+      -- a packet, if one is given
+      fair_on : (o : Option Flight) → IfSome o IsFair → (which : ℕ) (packet : Flight)
+          → slice_get (given_on session.packets o) which ≡ Some packet → IsFair packet
+      fair_on None fair which packet h = game.fair which packet h
+      fair_on (Some one) fair which packet h = elim (slice_get_push session.packets one which packet h) [
+        | inl before ↦ game.fair which packet before
+        | inr last ↦ subst IsFair (sym last) fair
+      ]
+
+      sends_to : (to : ℕ) → after_event rules game.last (Send i to)
+          ≡ record {
+            nodes = put node i (sent_to to limits i (node i)).0;
+            stopped = game.last.game.stopped;
+            flights = given_on game.last.game.flights (sent_to to limits i (node i)).1;
+          }
+      unfolding applied
+      sends_to to = grind arith
+
+      -- who is not given up here is not given up there
+      free_of : (to : ℕ) → has_given_up (session.survivors i) to ≡ false → game.last.gone i to ≡ false
+      free_of to free = elim (cases_Bool (game.last.gone i to)) [
+        | inr off ↦ off
+        | inl on ↦
+            let peer = shown.peers to on in
+            let low : to < limits.players = grind (arith, peer) in
+            absurd (both_ways (game.last.gone i to) (sym (shown.others.given_up to low) ∙ free) on)
+      ]
+
+      pub gave_to : (to : ℕ) (new : Surviving) (bytes : Option (List ℕ))
+          → has_given_up (session.survivors i) to ≡ false
+          → Tells (session.survivors i).lockstep (λ limits me m. IfSome (sent_to to limits me m).1 IsFair)
+          → Steps (session.survivors i).lockstep new.lockstep (λ limits me m. sent_to to limits me m)
+          (λ packet. bytes ≡ option_map bytes_of packet)
+          → new.others ≡ (session.survivors i).others
+          → (packet : Option Flight) × IsGivenAs (session.survivors i) i to bytes packet
+          × AreRemaining marking limits settings (after_packet session i packet new)
+      gave_to to new bytes free fair by same =
+          let r = shown.node in
+          let after = by.step limits i (node i) r in (
+            (sent_to to limits i (node i)).1,
+            record {
+              players = sent_between limits i (node i) to;
+              bytes = after.answer;
+              aim = λ open_to numbers tells. tells limits i (node i) r;
+            },
+            owns (Send i to) (sent_to to limits i (node i)).0 _
+                (given_on session.packets (sent_to to limits i (node i)).1) session.inputs session.told new
+                (free_of to free) (sends_to to)
+                (steps.stepped limits i (session.survivors i) new (wary_of game.last i) _ shown after.node same)
+                (inputs_stay i _ (send_quiet limits i (node i) to).1)
+                (ap (λ (fs : List Flight). given_on fs (sent_to to limits i (node i)).1) game.packets)
+                (fair_on _ (fair limits i (node i) r)) (rows_stay i _ (send_quiet limits i (node i) to).0),
+          )
+
+      pub gives : (to : ℕ) (new : Surviving) (bytes : Option (List ℕ))
+          → Tells (session.survivors i).lockstep
+          (λ limits me m. IfSome (sent_unless (session.survivors i).others to limits me m).1 IsFair)
+          → Steps (session.survivors i).lockstep new.lockstep
+          (λ limits me m. sent_unless (session.survivors i).others to limits me m)
+          (λ packet. bytes ≡ option_map bytes_of packet)
+          → new.others ≡ (session.survivors i).others
+          → (packet : Option Flight) × IsGivenAs (session.survivors i) i to bytes packet
+          × AreRemaining marking limits settings (after_packet session i packet new)
+      gives to new bytes fair by same = elim (cases_Bool (has_given_up (session.survivors i) to)) [
+        | inr free ↦ gave_to to new bytes free (as_sent free fair) (as_stepped free by) same
+        | inl given ↦
+            let after = subst (λ (x : machine.Node × Option Flight).
+            IsAfter limits i new.lockstep x (λ packet. bytes ≡ option_map bytes_of packet)) (none_sent given)
+            (by.step limits i (node i) shown.node) in (
+              None,
+              record {
+                players = tt;
+                bytes = after.answer;
+                aim = λ open_to numbers tells.
+                    absurd (both_ways (has_given_up (session.survivors i) to) open_to given);
+              },
+              stays new (steps.stepped limits i (session.survivors i) new (wary_of game.last i) _ shown after.node
+                  same),
+            )
+      ]
+        where
+          sent_if : Bool → Limits → ℕ → machine.Node → machine.Node × Option Flight
+          sent_if b limits me m = if b then (m, None) else sent_to to limits me m
+
+          none_sent : has_given_up (session.survivors i) to ≡ true
+              → ◌≡◌ {A = machine.Node × Option Flight}
+              (sent_unless (session.survivors i).others to limits i (node i)) (node i, None)
+          none_sent given = rw given refl
+
+          as_sent : has_given_up (session.survivors i) to ≡ false
+              → Tells (session.survivors i).lockstep
+              (λ limits me m. IfSome (sent_unless (session.survivors i).others to limits me m).1 IsFair)
+              → Tells (session.survivors i).lockstep (λ limits me m. IfSome (sent_to to limits me m).1 IsFair)
+          as_sent free told =
+              subst (λ (b : Bool). Tells (session.survivors i).lockstep
+              (λ limits me m. IfSome (sent_if b limits me m).1 IsFair)) free told
+
+          as_stepped : has_given_up (session.survivors i) to ≡ false
+              → Steps (session.survivors i).lockstep new.lockstep
+              (λ limits me m. sent_unless (session.survivors i).others to limits me m)
+              (λ packet. bytes ≡ option_map bytes_of packet)
+              → Steps (session.survivors i).lockstep new.lockstep (λ limits me m. sent_to to limits me m)
+              (λ packet. bytes ≡ option_map bytes_of packet)
+          as_stepped free told =
+              subst (λ (b : Bool). Steps (session.survivors i).lockstep new.lockstep
+              (λ limits me m. sent_if b limits me m) (λ packet. bytes ≡ option_map bytes_of packet)) free told
+
+      -- another node is put in its place, with whom it has given up and what it has heard
+      elsewhere : (w : Wary) (p : ℕ) → p ≢ i → wary_of (with_wary game.last i w) p ≡ wary_of game.last p
+      elsewhere w p n = λ k. record {
+        node = put_off node i p w.node n k;
+        gone = put_off game.last.gone i p w.gone n k;
+        newest = put_off game.last.newest i p w.newest n k;
+      }
+
+      becomes : (event : RemainEvent) (w : Wary) (new : Surviving)
+          → NextRemain rules game.last event (with_wary game.last i w)
+          → Represents limits i new w → IsQuiet (node i) w.node
+          → AreRemaining marking limits settings (with_survivor session i new)
+      becomes event w new step shows quiet =
+          changes event (with_wary game.last i w) session.inputs session.packets session.told new step (elsewhere w)
+          (subst (Represents limits i new) (sym (there game.last i w)) shows) (inputs_stay i w.node quiet.1)
+          game.packets refl (rows_stay i w.node quiet.0) game.fair refl
+
+      -- a give-up
+      module _ (player : ℕ) (new : Surviving) (answer : GivenUp) (by : GivesUp player (session.survivors i) new answer)
+        where
+          pub gave_up_is : Represents limits i new (on_give_up limits i (wary_of game.last i) player).0
+              × (answer ≡ given_up_is (on_give_up limits i (wary_of game.last i) player).1)
+          gave_up_is =
+              waries.gave_up limits i (session.survivors i) new (wary_of game.last i) shown player answer
+              (λ phase peer can. gone_can rules settings game.window game.events game.last game.runs i player mine
+              (grind (arith, peer)) (λ e. absurd (grind (arith, peer, e))) phase can) by
+
+          pub gives_up : AreRemaining marking limits settings (with_survivor session i new)
+          gives_up =
+              becomes (GiveUp i player) (on_give_up limits i (wary_of game.last i) player).0 new
+              (sym (ap (λ (o : Option Refusal). unless o game.last
+              (with_wary game.last i (on_give_up limits i (wary_of game.last i) player).0)) accepts))
+              gave_up_is.0 (give_up_quiet limits i (wary_of game.last i) player)
+
+      -- a report, if one is given
+      module _ (to : ℕ) where
+        -- to a number that is no player's there is none
+        none_past : limits.players ≤ to → report_for (session.survivors i) to ≡ None
+        none_past past =
+            let players = shown.node.whose.players in
+            let off = le-ltb to (session.survivors i).lockstep.players (omega (arith, past, players)) in
+            rw off refl
+
+        tells_to : (to < limits.players) → (given : Option Told) (told : Option Report)
+            → report_to limits i (wary_of game.last i) to ≡ told
+            → others.AreTold limits.players limits.places to i given told
+            → AreRemaining marking limits settings (after_report session i to given)
+        tells_to low None None is h = game
+        tells_to low None (Some told) is h = absurd h
+        tells_to low (Some given) None is h = absurd h
+        tells_to low (Some given) (Some told) is h = record {
+          window = game.window;
+          events = game.events ++ Tell i to ∷ [];
+          last = with_telling game.last i to (Some told);
+          runs = one_more rules game.events (Tell i to) (opening_remaining settings) game.last _ game.runs
+              (inl (sym (told_step is)));
+          nodes = game.nodes;
+          inputs = game.inputs;
+          packets = game.packets;
+          reports = telling_more limits session.reports game.last.reports
+              (record { from = i; to = to; report = given }) (record { from = i; to = to; report = told })
+              game.reports (record {
+                from = refl;
+                to = refl;
+                sender = mine;
+                apart = told_apart limits i (wary_of game.last i) to told is;
+                tells = h;
+              });
+          rows = game.rows;
+          fair = game.fair;
+          going = game.going;
+        }
+          where
+            told_step : report_to limits i (wary_of game.last i) to ≡ Some told
+                → after_telling limits game.last i to ≡ with_telling game.last i to (Some told)
+            told_step is =
+                let on = lt-ltb to limits.players low in
+                ap (λ (o : Option Refusal). unless o game.last
+                (if nat_lt to limits.players
+                then with_telling game.last i to (report_to limits i (wary_of game.last i) to)
+                else game.last)) accepts
+                ∙ cond-true (nat_lt to limits.players) _ _ on
+                ∙ ap (with_telling game.last i to) is
+
+        pub tells : (report : Option Told) → report ≡ report_for (session.survivors i) to
+            → AreRemaining marking limits settings (after_report session i to report)
+        tells report is = elim (cases_lt to limits.players) [
+          | inl low ↦ tells_to low report (report_to limits i (wary_of game.last i) to) refl
+              (subst (λ (o : Option Told). others.AreTold limits.players limits.places to i o
+              (report_to limits i (wary_of game.last i) to)) (sym is)
+              (telling.told limits i (session.survivors i) (wary_of game.last i) shown to low))
+          | inr past ↦ subst (λ (o : Option Told). AreRemaining marking limits settings (after_report session i to o))
+              (sym (is ∙ none_past past)) game
+        ]
+
+    -- a packet that was given
+    module _ (which : ℕ) (packet : Flight) (at : slice_get session.packets which ≡ Some packet) where
+      pub given_there : slice_get game.last.game.flights which ≡ Some packet
+      given_there = ap (λ (fs : List Flight). slice_get fs which) game.packets ∙ at
+
+      pub told_there : IsTold limits.players (now_of game.last.game game.last.gone ∷ known.0) packet
+      told_there = known.1.followed.follows.flights which packet given_there
+
+      receiver : Represents limits packet.to (session.survivors packet.to) (wary_of game.last packet.to)
+      receiver = game.nodes packet.to told_there.receiver
+
+      receiver_made : made (session.survivors packet.to).lockstep ≡ machine.made packet.to (node packet.to)
+      receiver_made =
+          let r = receiver.node in
+          ap (count_of (session.survivors packet.to).lockstep.rings) r.whose.number
+          ∙ got_is limits packet.to (session.survivors packet.to).lockstep (node packet.to) r packet.to
+          (omega (arith, told_there.receiver, r.whose.players))
+
+      -- comes as it was given
+      module _ (new : Surviving) (heard : Heard)
+          (near : is_near (made (session.survivors packet.to).lockstep) packet ≡ true)
+          (by : has_given_up (session.survivors packet.to) packet.from ≡ false
+          → HearsNear packet.from (bytes_of packet) (session.survivors packet.to).lockstep new.lockstep heard)
+        where
+          accepted_there : refused_flight game.last.game (Some packet) ≡ None
+          accepted_there =
+              let near_there = ap (λ (k : ℕ). is_near k packet) (sym receiver_made) ∙ near in
+              rw (near_there, game.going packet.to) refl
+
+          pub heard_there : has_given_up (session.survivors packet.to) packet.from ≡ false
+              → IsAfter limits packet.to new.lockstep (on_packet limits packet.to (node packet.to) packet)
+              (λ answer. heard ≡ answer)
+          heard_there free =
+              let r = receiver.node in
+              let told = told_there in
+              let steps = by free packet (game.fair which packet at) refl refl
+              (omega (arith, told.sender, r.whose.players)) (λ e. told.apart (e ∙ r.whose.number)) near in
+              steps.step limits packet.to (node packet.to) r
+
+          delivers : after_event rules game.last (Deliver which)
+              ≡ record {
+                nodes = put node packet.to (on_packet limits packet.to (node packet.to) packet).0;
+                stopped = game.last.game.stopped;
+                flights = game.last.game.flights;
+              }
+          delivers =
+              by_event packet.to told_there.receiver (Deliver which)
+              (ap (refused_flight game.last.game) given_there ∙ accepted_there)
+              ∙ ap (λ (o : Option Flight). (delivered rules game.last.game o).0) given_there
+
+          pub hears : (has_given_up (session.survivors packet.to) packet.from ≡ true → heard ≡ Heard.Dropped 15)
+              → Spares (session.survivors packet.to) new heard
+              → new.others ≡ (session.survivors packet.to).others
+              → AreRemaining marking limits settings (with_survivor session packet.to new)
+          hears barred spares same = elim (cases_Bool (has_given_up (session.survivors packet.to) packet.from)) [
+            | inl given ↦ keeps packet.to new (spares 15 (barred given))
+            | inr free ↦
+                moves packet.to told_there.receiver (Deliver which)
+                (on_packet limits packet.to (node packet.to) packet).0 new
+                (ap (is_barred_flight game.last) given_there
+                ∙ free_of packet.to told_there.receiver packet.from free) delivers
+                (steps.stepped limits packet.to (session.survivors packet.to) new (wary_of game.last packet.to) _
+                receiver (heard_there free).node same)
+                (hear_quiet limits packet.to (node packet.to) packet)
+          ]
+
+    -- a report that was given, and comes as it was given
+    module _ (which : ℕ) (given : Given) (at : slice_get session.reports which ≡ Some given) where
+      pub told_at : (t : Telling) × (slice_get game.last.reports which ≡ Some t) × IsTelling limits given t
+      told_at = telling_at limits session.reports game.last.reports game.reports which given at
+
+      abbrev pub holder : Report
+      holder = told_at.0.report
+
+      pub there_at : slice_get game.last.reports which
+          ≡ Some (record { from = given.from; to = given.to; report = holder })
+      there_at = told_at.1 ∙ (λ k. Some (record {
+        from = sym told_at.2.from k;
+        to = sym told_at.2.to k;
+        report = holder;
+      }))
+
+      pub to_one : (given.to < limits.players) × (holder.gone given.to ≡ false)
+      to_one = known.1.told which (record { from = given.from; to = given.to; report = holder }) there_at
+
+      module _ (new : Surviving) (answer : Reported)
+          (by : HearsReport given.from given.report (session.survivors given.to) new answer) where
+        pub reported : Represents limits given.to new
+            (on_report limits given.to (wary_of game.last given.to) given.from holder).0
+            × (answer ≡ reported_is (on_report limits given.to (wary_of game.last given.to) given.from holder).1)
+        reported =
+            waries.heard limits given.to (session.survivors given.to) new (wary_of game.last given.to)
+            (game.nodes given.to to_one.0) given.from given.report holder answer told_at.2.sender told_at.2.apart
+            told_at.2.tells
+            (λ phase can. told_can rules settings game.window game.events game.last game.runs which
+            (record { from = given.from; to = given.to; report = holder }) there_at phase can) by
+
+        pub reports : AreRemaining marking limits settings (with_survivor session given.to new)
+        reports =
+            becomes given.to to_one.0 (Hear which)
+            (on_report limits given.to (wary_of game.last given.to) given.from holder).0 new
+            (sym (ap (after_hearing limits game.last) there_at
+            ∙ ap (λ (o : Option Refusal). unless o game.last (with_wary game.last given.to
+            (on_report limits given.to (wary_of game.last given.to) given.from holder).0))
+            (accepts given.to to_one.0)))
+            reported.0 (report_quiet limits given.to (wary_of game.last given.to) given.from holder)

@@ -1,0 +1,106 @@
+-- Whose end is not settled, in a game of survivors.
+use Rattle.std.proofs.Common.{◌≡◌, ◌≢◌, ◌<◌, ℕ, true, false, not, refl, ap, sym, ◌∙◌, arith, inl, inr, Option, Some, None, is_some}
+use Rattle.std.specs.Prelude.{◌&&◌, slice_get}
+use Rattle.std.proofs.lemmas.Bool.{cases_Bool, cond-false, ne_eqb}
+use Rattle.std.proofs.lemmas.Option.{none-some}
+use Rattle.dn_setup.specs.Settings.{Settings}
+use Rattle.dn_machine.specs.Limits.{Limits}
+use Rattle.dn_machine.specs.Node as machine
+use Rattle.dn_machine.specs.Node.{ends_of, lowest}
+use Rattle.dn_lockstep.specs.Contents.{end_in}
+use Rattle.dn_lockstep.specs.Marking.{Marking}
+use Rattle.dn_lockstep.proofs.Shown
+use Rattle.dn_remain.specs.Remaining.{wary_of}
+use Rattle.dn_remain.specs.Seen.{end_seen, reached}
+use Rattle.dn_remain.specs.Wary.{Wary, can_settle, on_give_up, on_report}
+use Rattle.dn_remain.specs.declared.events.GivenUp as remain_given
+use Rattle.dn_remain.specs.declared.events.Reported as remain_reported
+use Rattle.dn_remain.proofs.Answering as answering
+use Rattle.dn_remain.proofs.Seeing.{reached_some}
+use Rattle.dn_survivor.specs.Calls.{GivesUp, HearsReport, undecided_in, unsettled_in}
+use Rattle.dn_survivor.specs.OneGame.{AreRemaining}
+use Rattle.dn_survivor.specs.Represents.{Represents, given_up_is, reported_is}
+use Rattle.dn_survivor.specs.Session.{Given, Session}
+use Rattle.dn_survivor.specs.Surviving.{Surviving, end_settled, has_given_up, is_unsettled}
+use Rattle.dn_survivor.specs.declared.answers.GivenUp.{GivenUp}
+use Rattle.dn_survivor.specs.declared.answers.Reported.{Reported}
+use Rattle.dn_survivor.proofs.Lowest.{lowest_none}
+use Rattle.dn_survivor.proofs.OneGame as game_of
+use Rattle.dn_survivor.proofs.Pairs.{known}
+use Rattle.dn_survivor.proofs.Steps as steps
+
+-- where the node has settled the ends of all whom it has given up, none is left
+module _ (limits : Limits) (me : ℕ) (now : Surviving) (wary : Wary) (r : Represents limits me now wary)
+    (settled : (p : ℕ) → wary.gone p ≡ true → end_seen wary.node p ≡ Some (machine.got wary.node p)) where
+  one : (p : ℕ) → p < limits.players → is_unsettled now p ≡ false
+  one p low = elim (cases_Bool (wary.gone p)) [
+    | inr free ↦ let off = r.others.given_up p low ∙ free in rw off refl
+    | inl gone ↦
+        let peer = r.peers p gone in
+        let apart : p ≢ me = λ e. absurd (grind (arith, peer, e)) in
+        let end : end_in now.lockstep p ≡ ends_of wary.node p =
+        Shown.end_is limits me now.lockstep wary.node r.node r.player p low ∙ cond-false _ _ _ (ne_eqb p me apart) in
+        let has = Shown.has limits me now.lockstep wary.node r.node p low in
+        let is : end_settled now p ≡ Some (machine.got wary.node p) =
+        (λ i. reached (has i) (end i)) ∙ settled p gone in
+        ap (λ (o : Option ℕ). has_given_up now p && not (is_some o)) is ∙ grind arith
+  ]
+
+  pub none : unsettled_in now ≡ None
+  none = ap (λ (k : ℕ). lowest k (is_unsettled now)) r.node.whose.players
+      ∙ lowest_none limits.players (is_unsettled now) one
+
+given_is : (answer : remain_given.GivenUp) → GivenUp.Decided ≡ given_up_is answer
+    → answer ≡ remain_given.GivenUp.Decided
+given_is remain_given.GivenUp.Waiting e = absurd (cc)
+given_is remain_given.GivenUp.Decided e = refl
+given_is remain_given.GivenUp.Already e = absurd (cc)
+given_is remain_given.GivenUp.NotAPlayer e = absurd (cc)
+given_is remain_given.GivenUp.NotPlaying e = absurd (cc)
+
+told_is : (answer : remain_reported.Reported) → Reported.Decided ≡ reported_is answer
+    → answer ≡ remain_reported.Reported.Decided
+told_is remain_reported.Reported.Kept e = absurd (cc)
+told_is remain_reported.Reported.Decided e = refl
+told_is remain_reported.Reported.Excluded e = absurd (cc)
+told_is remain_reported.Reported.Stale e = absurd (cc)
+told_is (remain_reported.Reported.Dropped number) e = absurd (cc)
+
+-- an end behind all commands is seen
+seen_at : (m : machine.Node) (p : ℕ) → ends_of m p ≡ Some (machine.got m p)
+    → end_seen m p ≡ Some (machine.got m p)
+seen_at m p is = ap (reached (machine.got m p)) is ∙ reached_some (machine.got m p) (machine.got m p) (omega arith)
+
+module _ (marking : Marking) (limits : Limits) (settings : Settings) (session : Session)
+    (game : AreRemaining marking limits settings session) where
+  -- who has an end that is not settled lacks a report
+  pub lacks : (q : ℕ) → q < limits.players → (p : ℕ) → unsettled_in (session.survivors q) ≡ Some p
+      → (r : ℕ) × (undecided_in (session.survivors q) ≡ Some r)
+  lacks q mine p is = elim (cases_Bool (can_settle limits q (wary_of game.last q))) [
+    | inr cannot ↦
+        let k = answering.missing limits q (wary_of game.last q) (wary_of game.last q) refl cannot in
+        (k.0, steps.asked limits q (session.survivors q) (wary_of game.last q) (game.nodes q mine) ∙ k.1)
+    | inl can ↦
+        let gone = none limits q (session.survivors q) (wary_of game.last q) (game.nodes q mine)
+        ((known marking limits settings session game).1.settled q can) in
+        absurd (none-some p (sym gone ∙ is))
+  ]
+
+  pub decided : (q : ℕ) → q < limits.players → (player : ℕ) (new : Surviving)
+      → GivesUp player (session.survivors q) new GivenUp.Decided → unsettled_in new ≡ None
+  decided q mine player new by =
+      let is = game_of.gave_up_is marking limits settings game q mine player new GivenUp.Decided by in
+      let w : Wary = (on_give_up limits q (wary_of game.last q) player).0 in
+      none limits q new w is.0 (λ p gone. seen_at w.node p (answering.decides limits q (wary_of game.last q) player
+      (given_is _ is.1) p gone))
+
+  pub reported : (which : ℕ) (given : Given) → slice_get session.reports which ≡ Some given → (new : Surviving)
+      → HearsReport given.from given.report (session.survivors given.to) new Reported.Decided
+      → unsettled_in new ≡ None
+  reported which given at new by =
+      let is = game_of.reported marking limits settings game which given at new Reported.Decided by in
+      let w : Wary = (on_report limits given.to (wary_of game.last given.to) given.from
+      (game_of.holder marking limits settings game which given at)).0 in
+      none limits given.to new w is.0 (λ p gone. seen_at w.node p (answering.decides_on limits given.to
+      (wary_of game.last given.to) given.from (game_of.holder marking limits settings game which given at)
+      (told_is _ is.1) p gone))

@@ -1,0 +1,42 @@
+use Rattle.dn_survivor.proofs.OneGame.{builds, gave_to, gives, gives_up, hears, keeps, quits, reports, runs, tells}
+use Rattle.dn_survivor.proofs.game.remaining_game_goes_on.Goals as goal
+
+pub returns-clause-built : goal.returns-clause-built
+returns-clause-built c marking limits settings session player new input made game mine =
+    builds marking limits settings game player mine new input made
+
+pub returns-clause-gave : goal.returns-clause-gave
+returns-clause-gave c marking limits settings session player to new bytes game mine =
+    gives marking limits settings game player mine to new bytes
+
+pub returns-clause-gave_to : goal.returns-clause-gave_to
+returns-clause-gave_to c marking limits settings session player to new bytes game mine =
+    gave_to marking limits settings game player mine to new bytes
+
+pub returns-clause-heard : goal.returns-clause-heard
+returns-clause-heard c marking limits settings session which packet new heard game at =
+    hears marking limits settings game which packet at new heard
+
+pub returns-clause-ran : goal.returns-clause-ran
+returns-clause-ran c marking limits settings session player new marks ran row game mine =
+    runs marking limits settings game player mine new marks ran row
+
+pub returns-clause-quit : goal.returns-clause-quit
+returns-clause-quit c marking limits settings session player new quit game mine =
+    quits marking limits settings game player mine new quit
+
+pub returns-clause-gave_up : goal.returns-clause-gave_up
+returns-clause-gave_up c marking limits settings session here player new answer game mine =
+    gives_up marking limits settings game here mine player new answer
+
+pub returns-clause-told : goal.returns-clause-told
+returns-clause-told c marking limits settings session player to report game mine =
+    tells marking limits settings game player mine to report
+
+pub returns-clause-reported : goal.returns-clause-reported
+returns-clause-reported c marking limits settings session which given new answer game at =
+    reports marking limits settings game which given at new answer
+
+pub returns-clause-kept : goal.returns-clause-kept
+returns-clause-kept c marking limits settings session player new game =
+    keeps marking limits settings game player new

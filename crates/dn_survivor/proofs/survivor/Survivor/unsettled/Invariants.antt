@@ -1,0 +1,7 @@
+use Rattle.std.proofs.Common.{◌≡◌, None}
+use Rattle.dn_machine.specs.Node.{lowest}
+use Rattle.dn_survivor.specs.Surviving.{surviving, is_unsettled}
+use Rattle.dn_survivor.proofs.survivor.Survivor.unsettled.Given as goal
+
+abbrev pub invariant-loop-player : goal.invariant-loop-player
+invariant-loop-player l = lowest l.player (is_unsettled (surviving l.fn.self)) ≡ None

@@ -1,0 +1,23 @@
+//! How a survivor lends its lockstep.
+
+ghost use Rattle.std.specs.Borrow.{sem};
+
+use crate::survivor::Survivor;
+use dn_lockstep::Lockstep;
+
+impl Survivor {
+    ghost use Rattle.std.specs.Prelude.{◌≡◌};
+    ghost use Rattle.dn_lockstep.specs.Contents.{contents};
+    ghost use Rattle.dn_survivor.specs.Lending.{lends_lockstep};
+    ghost use Rattle.dn_survivor.specs.Surviving.{surviving};
+
+    /// The lockstep, for a transport that hears and sends by itself. Such a caller hears nothing of a player who
+    /// is given up, sends nothing to it, and runs tics by `run_into`.
+    #[inline]
+    pub fn lockstep_mut(&mut self) -> &mut Lockstep
+        ensures* writes_back { sem 𝓛 (lends_lockstep self.entry result) }
+        ensures value { contents result.now ≡ (surviving self.old).lockstep }
+    {
+        &mut self.lockstep
+    }
+}
