@@ -1,0 +1,98 @@
+-- A node gives a packet, or none to one who is given up.
+use Rattle.std.proofs.Common.{◌≡◌, ◌<◌, ℕ, Bool, true, false, List, Option, Some, None, refl, ap, sym, ◌∙◌, subst, inl, inr, arith}
+use Rattle.std.specs.Prelude.{if◌then◌else◌}
+use Rattle.std.specs.Option.{option_map}
+use Rattle.std.proofs.lemmas.Bool.{cases_Bool, cond_both}
+use Rattle.std.proofs.lemmas.Option.{none-some}
+use Rattle.arrayvec.specs.ArrayVec.{ArrayVec}
+use Rattle.dn_world.specs.Physics.{Physics}
+use Rattle.dn_machine.specs.Flight.{Flight}
+use Rattle.dn_machine.specs.Limits.{Limits}
+use Rattle.dn_machine.specs.Node.{Node}
+use Rattle.dn_machine.specs.Worlds.{rules_within}
+use Rattle.dn_lockstep.specs.declared.lockstep.aiming.Aim.{Aim}
+use Rattle.dn_lockstep.specs.Sent.{sent_to, aim_of, bytes_of}
+use Rattle.dn_lockstep.specs.Steps as lockstep
+use Rattle.dn_lockstep.proofs.Giving.{no_flight, some_flight}
+use Rattle.dn_remain.specs.Wary.{Wary}
+use Rattle.dn_survivor.specs.Calls.{sent_unless}
+use Rattle.dn_survivor.proofs.Steps.{stepped}
+use Rattle.dn_remain_game.specs.Living.{IsAfter, IsGiven, Living, Represents, on_node}
+use Rattle.dn_remain_game.proofs.Beside.{IsBeside, send_beside, stays}
+use Rattle.dn_remain_game.proofs.Worlds.{beside}
+
+module _ {W S : Type 0} (state : W → S) (physics : Physics S) (old new : Living W) (to : ℕ) (aim : Option Aim)
+    (bytes : Option (ArrayVec ℕ)) (below : to < old.survivor.lockstep.players)
+    (steps : lockstep.Steps old.survivor.lockstep new.survivor.lockstep
+    (λ limits me m. sent_unless old.survivor.others to limits me m)
+    (λ flight. option_map (λ (b : ArrayVec ℕ). b.items) bytes ≡ option_map bytes_of flight))
+    (aimed : lockstep.Tells old.survivor.lockstep
+    (λ limits me m. aim ≡ option_map aim_of (sent_to to limits me m).1))
+    (others : new.survivor.others ≡ old.survivor.others) (same : new.world ≡ old.world) (limits : Limits)
+    (me : ℕ) (wary : Wary) (r : Represents state (rules_within physics limits) me old wary) where
+  abbrev sent : Node × Option Flight
+  sent = sent_to to limits me wary.node
+
+  abbrev unless_gone : Node × Option Flight
+  unless_gone = if wary.gone to then (wary.node, None) else sent
+
+  done : lockstep.IsAfter limits me new.survivor.lockstep unless_gone
+      (λ flight. option_map (λ (b : ArrayVec ℕ). b.items) bytes ≡ option_map bytes_of flight)
+  done = subst (λ (b : Bool). lockstep.IsAfter {A = Option Flight} limits me new.survivor.lockstep
+      (if b then (wary.node, None) else sent)
+      (λ flight. option_map (λ (b : ArrayVec ℕ). b.items) bytes ≡ option_map bytes_of flight))
+      (r.survivor.others.given_up to (let many = r.survivor.node.whose.players in omega (arith, below, many)))
+      (steps.step limits me wary.node r.survivor.node)
+
+  leaves : IsBeside wary.node unless_gone.0
+  leaves = cond_both (wary.gone to) _ _ (λ (x : Node × Option Flight). IsBeside wary.node x.0)
+      (λ barred. stays wary.node) (λ free. send_beside limits me wary.node to)
+
+  after : (given : Option (Aim × ArrayVec ℕ)) → IsGiven given unless_gone.1
+      → IsAfter state (rules_within physics limits) me new (on_node wary unless_gone) (λ flight. IsGiven given flight)
+  after given is = record {
+    node = record {
+      survivor = stepped limits me old.survivor new.survivor wary unless_gone.0 r.survivor done.node others;
+      world = beside state (rules_within physics limits) old.world new.world wary.node unless_gone.0 same
+          leaves r.world;
+    };
+    answer = is;
+  }
+
+  -- a packet that is given is that of the machine, with the numbers that were aimed at
+  aims : (flight : Flight) → unless_gone.1 ≡ Some flight → aim ≡ Some (aim_of flight)
+  aims flight some = elim (cases_Bool (wary.gone to)) [
+    | inl barred ↦
+        let none : unless_gone.1 ≡ None = rw barred refl in absurd (none-some flight (sym none ∙ some))
+    | inr free ↦
+        let there : unless_gone.1 ≡ sent.1 = rw free refl in
+        aimed limits me wary.node r.survivor.node ∙ ap (option_map aim_of) (sym there ∙ some)
+  ]
+
+  pub gives_none : bytes ≡ None → (given : Option (Aim × ArrayVec ℕ)) → given ≡ None
+      → IsAfter state (rules_within physics limits) me new (on_node wary unless_gone) (λ flight. IsGiven given flight)
+  gives_none none given is =
+      let nothing = no_flight bytes_of unless_gone.1
+      (ap (option_map (λ (b : ArrayVec ℕ). b.items)) (sym none) ∙ done.answer) in
+      after given (
+        ap (option_map (λ (x : Aim × ArrayVec ℕ). x.0)) is ∙ ap (option_map aim_of) (sym nothing),
+        ap (option_map (λ (x : Aim × ArrayVec ℕ). x.1.items)) is ∙ ap (option_map bytes_of) (sym nothing),
+      )
+
+  pub gives_both : (given : ArrayVec ℕ) → bytes ≡ Some given
+      → (flight : Flight) × (unless_gone.1 ≡ Some flight) × (given.items ≡ bytes_of flight)
+      × (aim ≡ Some (aim_of flight))
+  gives_both given is =
+      let some = some_flight bytes_of given.items unless_gone.1
+      (ap (option_map (λ (b : ArrayVec ℕ). b.items)) (sym is) ∙ done.answer) in
+      (some.0, some.1, some.2, aims some.0 some.1)
+
+  pub gives_some : (given : ArrayVec ℕ) (numbers : Aim) → bytes ≡ Some given → aim ≡ Some numbers
+      → IsAfter state (rules_within physics limits) me new (on_node wary unless_gone)
+      (λ flight. IsGiven (Some (numbers, given)) flight)
+  gives_some given numbers is aims_at =
+      let both = gives_both given is in
+      after (Some (numbers, given)) (
+        sym aims_at ∙ both.3 ∙ ap (option_map aim_of) (sym both.1),
+        ap (λ (bytes : List ℕ). Some bytes) both.2 ∙ ap (option_map bytes_of) (sym both.1),
+      )

@@ -1,0 +1,179 @@
+//! What a node does.
+
+ghost use Rattle.std.specs.Prelude.{◌≡◌, ◌≢◌, ◌<◌, ℕ, pos, true, false, get_or, Some, None, if◌then◌else◌, IfSome, is_some};
+ghost use Rattle.dn_tic.specs.declared.input.Input.TheVariants.{Pressed, Given};
+ghost use Rattle.dn_setup.specs.Settings.{Settings};
+ghost use Rattle.dn_setup.specs.Starts.{start_of};
+ghost use Rattle.dn_machine.specs.declared.answers.Heard.TheVariants as heard;
+ghost use Rattle.dn_machine.specs.declared.answers.Phase.TheVariants as phase;
+ghost use Rattle.dn_lockstep.specs.Giving.{Gives};
+ghost use Rattle.dn_lockstep.specs.Near.{IsFair};
+ghost use Rattle.dn_lockstep.specs.Rows.{seats_of};
+ghost use Rattle.dn_lockstep.specs.Sent.{sent_to};
+
+use super::Lived;
+use arrayvec::ArrayVec;
+use dn_lockstep::Aim;
+use dn_machine::{Heard, Made, Phase, Ran};
+use dn_packet::MAX_DATAGRAM;
+use dn_report::Report;
+use dn_survivor::{GivenUp, Reported};
+use dn_tic::{Command, Keys};
+use dn_world::World;
+
+impl<W: World> Lived<W> {
+    ghost use Rattle.dn_machine.specs.Building.{on_build};
+    ghost use Rattle.dn_machine.specs.Game.{own_marks};
+    ghost use Rattle.dn_machine.specs.Running.{on_quit, on_run_but};
+    ghost use Rattle.dn_survivor.specs.Surviving.{has_given_up};
+    ghost use Rattle.dn_survivor.specs.Telling.{report_for};
+    ghost use Rattle.dn_remain_game.specs.Living.{GivesUp, Hears, HearsAny, HearsNear, IsGiven, Steps, Tells, living, on_node};
+
+    /// Builds the command of these keys for the next tic. A node that builds none stays as it is.
+    pub fn build(&mut self, keys: Keys) -> Made
+        ensures { Steps W.state W.physics (living self.old) (living self.new)
+            (λ rules me wary. on_node wary (on_build rules.limits me wary.node (Pressed keys)))
+            (λ made. result ≡ made) }
+    {
+        self.survivor.build(keys)
+    }
+
+    /// Takes the given command for the next tic, where [`Lived::build`] would build one.
+    pub fn give(&mut self, command: Command) -> Made
+        ensures { Steps W.state W.physics (living self.old) (living self.new)
+            (λ rules me wary. on_node wary (on_build rules.limits me wary.node (Given command)))
+            (λ made. result ≡ made) }
+    {
+        self.survivor.give(command)
+    }
+
+    /// Ends the node, and answers whether it had not ended.
+    pub fn quit(&mut self) -> bool
+        ensures { Steps W.state W.physics (living self.old) (living self.new)
+            (λ rules me wary. on_node wary (on_quit wary.node)) (λ quit. result ≡ quit) }
+    {
+        self.survivor.quit()
+    }
+
+    /// The next packet to a peer, with its exact numbers; none to one who is given up.
+    pub fn packet(&mut self, to: u8) -> Option<(Aim, ArrayVec<u8, MAX_DATAGRAM>)>
+        ensures step { to < (living self.old).survivor.lockstep.players → Steps W.state W.physics
+            (living self.old) (living self.new)
+            (λ rules me wary. on_node wary (if wary.gone to then (wary.node, None)
+            else sent_to to rules.limits me wary.node)) (λ flight. IsGiven result flight) }
+        ensures peer { IfSome result (λ given. Gives (living self.old).survivor.lockstep to) }
+        ensures fair { Tells W.state W.physics (living self.old) (λ rules me wary. wary.gone to ≡ false
+            → IfSome (sent_to to rules.limits me wary.node).1 IsFair) }
+    {
+        let aim = self.survivor.lockstep().aim(to);
+        let bytes = self.survivor.packet(to)?;
+        Some((aim?, bytes))
+    }
+
+    /// Hears a datagram that came from player `from`. Of one who is given up nothing is heard.
+    pub fn receive(&mut self, from: u8, bytes: &[u8]) -> Heard
+        ensures any { has_given_up (living self.old).survivor from ≡ false → HearsAny W.state W.physics from
+            bytes.now (living self.old) (living self.new) result }
+        ensures near { has_given_up (living self.old).survivor from ≡ false → HearsNear W.state W.physics from
+            bytes.now (living self.old) (living self.new) result }
+        ensures barred { has_given_up (living self.old).survivor from ≡ true
+            → (result ≡ heard.Dropped 15) × (living self.new ≡ living self.old) }
+    {
+        let heard = self.survivor.receive(from, bytes);
+        if let Heard::Started = heard {
+            self.begin();
+        }
+        heard
+    }
+
+    /// Begins its world, as its settings say.
+    fn begin(&mut self)
+        ensures rest { (living self.new).survivor ≡ (living self.old).survivor }
+        ensures begun { (settings : Settings) → (living self.old).survivor.lockstep.settings ≡ Some settings
+            → W.state (living self.new).world
+            ≡ W.physics.begin (start_of settings) (seats_of (living self.old).survivor.lockstep.players) }
+    {
+        let lockstep = self.survivor.lockstep();
+        // who has started has settings
+        if let Some(settings) = lockstep.settings() {
+            self.world.begin(&settings.start(), lockstep.present());
+        }
+    }
+
+    /// Runs the next tic, where no mark is off of a player who is not given up, and the command of every player
+    /// who takes part is there.
+    pub fn run(&mut self) -> Ran
+        ensures { Steps W.state W.physics (living self.old) (living self.new)
+            (λ rules me wary. on_node wary (on_run_but rules.limits wary.gone wary.node
+            (own_marks rules wary.node))) (λ ran. result ≡ ran) }
+    {
+        let marks = self.marks();
+        let mut row = [None; 4];
+        let ran = self.survivor.run_into(&marks, &mut row);
+        if let Ran::Ran(_) = ran {
+            self.world.step(&row);
+        }
+        ran
+    }
+
+    /// Each player's mark in its world.
+    fn marks(&self) -> [i16; 4]
+        ensures { (player : ℕ) → player < 4
+            → get_or result player (pos 0) ≡ W.physics.mark (W.state (living self.now).world) player }
+    {
+        [
+            self.world.mark(0),
+            self.world.mark(1),
+            self.world.mark(2),
+            self.world.mark(3),
+        ]
+    }
+
+    /// Gives up a player, for good. A node that waited only for that one starts.
+    pub fn give_up(&mut self, player: u8) -> GivenUp
+        ensures { GivesUp W.state W.physics player (living self.old) (living self.new) result }
+    {
+        let gathered = self.is_gathering();
+        let given_up = self.survivor.give_up(player);
+        if gathered && self.is_playing() {
+            self.begin();
+        }
+        given_up
+    }
+
+    /// Whether it gathers the players.
+    fn is_gathering(&self) -> bool
+        ensures yes { result ≡ true → (living self.now).survivor.lockstep.phase ≡ phase.Gathering }
+        ensures no { result ≡ false → (living self.now).survivor.lockstep.phase ≢ phase.Gathering }
+    {
+        match self.survivor.lockstep().phase() {
+            Phase::Gathering => true,
+            _ => false,
+        }
+    }
+
+    /// Whether it plays.
+    fn is_playing(&self) -> bool
+        ensures yes { result ≡ true → (living self.now).survivor.lockstep.phase ≡ phase.Playing }
+        ensures no { result ≡ false → (living self.now).survivor.lockstep.phase ≢ phase.Playing }
+    {
+        match self.survivor.lockstep().phase() {
+            Phase::Playing => true,
+            _ => false,
+        }
+    }
+
+    /// The next report to a player.
+    pub fn report(&self, to: u8) -> Option<Report>
+        ensures { result ≡ report_for (living self.now).survivor to }
+    {
+        self.survivor.report(to)
+    }
+
+    /// Hears a report that came from player `from`, and keeps it as the newest of that player.
+    pub fn hear(&mut self, from: u8, report: Report) -> Reported
+        ensures { Hears W.state W.physics from report (living self.old) (living self.new) result }
+    {
+        self.survivor.hear(from, report)
+    }
+}
