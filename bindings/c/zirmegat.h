@@ -43,8 +43,8 @@
  * call. Those that make something in a handle do so in this one too. Of the others build, give and run return
  * NOT_PLAYING; zmg_lockstep_receive and zmg_sealed_lockstep_receive ZMG_RECEIVE_DROPPED with
  * ZMG_DROP_NOT_PLAYING; zmg_link_receive ZMG_LINK_RECEIVE_UNOPENED with reason 0; zmg_link_catch_up
- * ZMG_BUILD_NONE_OWED; every other call on locksteps and links ZMG_PHASE_NONE or 0; every other call on demos
- * ZMG_DEMO_NO_READER or 0.
+ * ZMG_BUILD_NONE_OWED; zmg_link_give_up ZMG_GIVE_UP_NOT_PLAYING; every other call on locksteps and links
+ * ZMG_PHASE_NONE or 0; every other call on demos ZMG_DEMO_NO_READER or 0.
  *
  * Most codes carry the name of a call that returns them: ZMG_RUN_ are those of zmg_lockstep_run. ZMG_DEMO_ are
  * those of the calls on demos. ZMG_DROP_ says why zmg_lockstep_receive or zmg_packet_decode refused a datagram,
@@ -487,6 +487,9 @@ size_t zmg_sealed_lockstep_demo(zmg_sealed_lockstep *node, size_t from, uint8_t 
  *     to run:
  *         while (zmg_link_run(&link, marks of the world, row).code == ZMG_RUN_RAN) step the world by row
  *         if (zmg_link_catch_up(&link).code == ZMG_BUILD_MADE) send to each other player, and run once more
+ *     where a player has vanished for good, and the others are to play on, at each of them:
+ *         zmg_link_give_up(&link, player);  if the game starts by it, begin the world
+ *         from then on also send to each other player, at each tick, what zmg_link_report gives
  *     to leave:
  *         zmg_link_quit(&link);
  *         go on with ticks and bytes until zmg_link_may_leave(&link), but not for ever, and two seconds more
@@ -559,17 +562,21 @@ uint32_t zmg_link_quit(zmg_link *link);
 
 /* Writes the current datagram to player `to` to the front of out, and returns how many bytes it has. It has
  * every packet that is kept for the player, oldest first, as far as they fit, also once the link has ended.
- * Returns 0, and leaves the link and out as they were, if room is below ZMG_LINK_SIZE or if `to` is not another
- * player's number. */
+ * Returns 0, and leaves the link and out as they were, if room is below ZMG_LINK_SIZE, if `to` is not another
+ * player's number, or if that player is given up by zmg_link_give_up. */
 size_t zmg_link_datagram(zmg_link *link, uint8_t to, uint8_t *out, size_t room);
 
-/* What a link made of bytes. With ZMG_LINK_RECEIVE_STRANGER nothing changed, and with ZMG_LINK_RECEIVE_UNOPENED
- * nothing but the count of zmg_link_refused. */
+/* What a link made of bytes. With ZMG_LINK_RECEIVE_STRANGER and ZMG_LINK_RECEIVE_GIVEN_UP nothing changed, and
+ * with ZMG_LINK_RECEIVE_UNOPENED and ZMG_LINK_RECEIVE_UNREPORTED nothing but the count of zmg_link_refused. */
 #define ZMG_LINK_RECEIVE_HEARD 0u     /* a datagram of `player`, which was taken in */
 #define ZMG_LINK_RECEIVE_STRANGER 1u  /* sealed in this game, under a number that is not another player's */
 #define ZMG_LINK_RECEIVE_UNOPENED 2u  /* not a datagram to this player in this game; reason says why */
 #define ZMG_LINK_RECEIVE_DIFFERENT 3u /* `player`, or whoever was `player` before, has another identity; none
                                        * of its commands was taken */
+#define ZMG_LINK_RECEIVE_GIVEN_UP 4u  /* sealed in this game by `player`, who is given up by zmg_link_give_up */
+#define ZMG_LINK_RECEIVE_REPORTED 5u  /* the report of `player`; reason says what became of it (ZMG_REPORT_) */
+#define ZMG_LINK_RECEIVE_UNREPORTED 6u /* of the kind of reports, but not another player's to this one in this
+                                       * game; reason says why (ZMG_BUNDLE_) */
 
 /* Why bytes are not a datagram: the first of these that holds. */
 #define ZMG_BUNDLE_SHORT 1u    /* fewer than 60 bytes */
@@ -581,9 +588,21 @@ size_t zmg_link_datagram(zmg_link *link, uint8_t to, uint8_t *out, size_t room);
 #define ZMG_BUNDLE_TAG 7u      /* altered or forged, or the secrets or the last eight bytes of the numbers
                                 * differ */
 #define ZMG_BUNDLE_FORM 8u     /* its content has a form that no link writes */
+#define ZMG_BUNDLE_SENDER 9u   /* of a report: its sender is no player, or this one */
 
-/* reason: see ZMG_BUNDLE_; 0 except with ZMG_LINK_RECEIVE_UNOPENED, and with that too if the handle holds no
- * link. player: the sender; 0 with ZMG_LINK_RECEIVE_UNOPENED. started: 1 if the game started with these bytes,
+/* What became of a report. One that is dropped has the number of its ZMG_DROP_, which is 5, 13 or 15: its sender
+ * is not another player, the link listens or has ended, its sender is given up. Nothing changed but with the
+ * first two and from ZMG_REPORT_UNTAKEN on. */
+#define ZMG_REPORT_KEPT 0u     /* it is kept; reports are missing, if somebody is given up */
+#define ZMG_REPORT_DECIDED 1u  /* it is kept, and where the commands of all who are given up end is known */
+#define ZMG_REPORT_EXCLUDED 2u /* its sender has given up this player */
+#define ZMG_REPORT_IMPROPER 3u /* it tells of its sender's or its receiver's commands, which none does */
+#define ZMG_REPORT_STALE 4u    /* it is older than the newest of its sender */
+#define ZMG_REPORT_UNTAKEN 16u /* it is kept, but an end cannot be taken: this plus a ZMG_SETTLE_ */
+
+/* reason: see ZMG_BUNDLE_ and ZMG_REPORT_; 0 except with ZMG_LINK_RECEIVE_UNOPENED, _REPORT and _NO_REPORT, and
+ * with the first of them too if the handle holds no link. player: the sender; 0 with ZMG_LINK_RECEIVE_UNOPENED
+ * and ZMG_LINK_RECEIVE_UNREPORTED. started: 1 if the game started with these bytes,
  * and then the caller begins its world with zmg_link_settings; else 0. */
 typedef struct zmg_received {
     uint32_t code, reason;
@@ -632,6 +651,61 @@ zmg_presence zmg_link_presence(zmg_link *link, uint8_t player);
  * end is known. A player who is ZMG_PRESENCE_LEFT stays so. For a number that is not another player's nothing
  * happens. */
 void zmg_link_forget(zmg_link *link, uint8_t player);
+
+/* What zmg_link_give_up returns. */
+#define ZMG_GIVE_UP_WAITING 0u      /* the player is given up; reports are missing */
+#define ZMG_GIVE_UP_DECIDED 1u      /* the player is given up, and where the commands of all who are given up end
+                                     * is known */
+#define ZMG_GIVE_UP_UNTAKEN 2u      /* the player is given up, and all reports are there; but the end of
+                                     * `player`, who need not be the one just given up, cannot be taken: some
+                                     * report is false, and reason says how it shows */
+#define ZMG_GIVE_UP_ALREADY 3u      /* the player was given up before */
+#define ZMG_GIVE_UP_NOT_A_PLAYER 4u /* the number is not another player's */
+#define ZMG_GIVE_UP_NOT_PLAYING 5u  /* the link listens or has ended, or the handle holds none */
+
+/* Why an end cannot be taken. */
+#define ZMG_SETTLE_NOT_A_PLAYER 1u  /* the number is not another player's */
+#define ZMG_SETTLE_NOT_PLAYING 2u   /* the link listens or has ended */
+#define ZMG_SETTLE_GAP 3u           /* a command before the end is missing, and no report has it */
+#define ZMG_SETTLE_BEHIND 4u        /* the end lies before the last command that is there */
+#define ZMG_SETTLE_OVERRUN 5u       /* there is no room for the commands yet */
+#define ZMG_SETTLE_STOPPER 6u       /* a missing command would end a demo */
+#define ZMG_SETTLE_OTHER_END 7u     /* an earlier end is known, or all tics before another one were run */
+
+/* reason: see ZMG_SETTLE_. reason and player are 0 except with ZMG_GIVE_UP_UNTAKEN. */
+typedef struct zmg_given_up {
+    uint32_t code, reason;
+    uint8_t player;
+} zmg_given_up;
+
+/* Gives up a player who vanished, for good, so that the others play on. Unlike zmg_link_forget it cannot be
+ * undone: from here on no datagram goes to the player, nothing of it is taken, zmg_link_run compares no mark of
+ * it, and nothing waits for it. Its presence becomes what zmg_link_forget makes of it. All who play on must give
+ * it up, and hear each other's reports: then its commands end at the same tic at all of them, and the game goes
+ * on from there without it. If the link gathered before the call, and plays after it, the game has started: the
+ * caller begins its world with zmg_link_settings. */
+zmg_given_up zmg_link_give_up(zmg_link *link, uint8_t player);
+
+/* Returns 1 if the player is given up by zmg_link_give_up, else 0. */
+uint32_t zmg_link_has_given_up(zmg_link *link, uint8_t player);
+
+/* Returns 1 if the newest report of another player, the teller, names the player as given up, else 0. Those who
+ * play on together have to give up the same players. */
+uint32_t zmg_link_reports_gone(zmg_link *link, uint8_t teller, uint8_t player);
+
+/* Returns which player's report is missing, the lowest number of them, if known is 1: of those who are not given
+ * up one who has not given up the same players, as far as it reported. Ask it while somebody is given up. */
+zmg_number zmg_link_undecided(zmg_link *link);
+
+/* How many bytes of room zmg_link_report needs: a report has no more. */
+#define ZMG_REPORT_SIZE 425u
+
+/* Writes the report to player `to` to the front of out, and returns how many bytes it has: what this link has of
+ * the others, whom it has given up, and whether it has left. Send one to each other player at each tick while
+ * somebody is given up, also once the link has left; zmg_link_receive takes it. Returns 0, and leaves out as it
+ * was, if room is below ZMG_REPORT_SIZE, if `to` is not another player's number or is given up, or while this
+ * link has given up nobody and has not left. */
+size_t zmg_link_report(zmg_link *link, uint8_t to, uint8_t *out, size_t room);
 
 /* Returns 1 if no other player needs anything more from this one: each has played and left, is
  * ZMG_PRESENCE_FORGOTTEN, or has acknowledged all commands of this one and that it has left; or player 0 is

@@ -487,6 +487,11 @@ static void read_all(seat *s) {
 
 /* ---- Datagrams of any kind ---- */
 
+/* Bytes whose second one was turned into a 3 are of the kind of reports. */
+static int is_refused(zmg_received answer) {
+    return answer.code == ZMG_LINK_RECEIVE_UNOPENED || answer.code == ZMG_LINK_RECEIVE_UNREPORTED;
+}
+
 /* The link and its twin hear the bytes, and the node their packets. */
 static zmg_received receive(seat *s, const uint8_t *bytes, size_t length) {
     told before = tell(&s->link), after;
@@ -496,7 +501,7 @@ static zmg_received receive(seat *s, const uint8_t *bytes, size_t length) {
     MUST(answer.code == twin.code && answer.reason == twin.reason && answer.player == twin.player);
     MUST(answer.started == twin.started && answer.code < 16 && answer.reason < 16);
     received++;
-    MUST(zmg_link_refused(&s->link) == refused + (answer.code == ZMG_LINK_RECEIVE_UNOPENED));
+    MUST(zmg_link_refused(&s->link) == refused + is_refused(answer));
     if (answer.code == ZMG_LINK_RECEIVE_HEARD) {
         acknowledge(s, bytes);
         MUST(answer.started == node_starts_with(s, bytes, length, answer.started));
@@ -572,7 +577,7 @@ static void hear_changed(game *g, const datagram *from) {
     d = *from;
     change(g, &d);
     if (zmg_link_phase(&g->seats[d.to].link).code == ZMG_PHASE_NONE || is_given(g, d.to, &d)) return;
-    MUST(receive(&g->seats[d.to], d.bytes, d.length).code == ZMG_LINK_RECEIVE_UNOPENED);
+    MUST(is_refused(receive(&g->seats[d.to], d.bytes, d.length)));
 }
 
 static void hear_of_other_game(game *g, const datagram *d) {
@@ -586,7 +591,7 @@ static void hear_random(game *g) {
     size_t length = below(4) ? below(200) : below(MOST);
     if (zmg_link_phase(&s->link).code == ZMG_PHASE_NONE) return;
     fill(out, length);
-    MUST(receive(s, out, length).code == ZMG_LINK_RECEIVE_UNOPENED);
+    MUST(is_refused(receive(s, out, length)));
 }
 
 static void any_datagram(unsigned which) {

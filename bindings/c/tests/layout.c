@@ -24,6 +24,7 @@ static void sizes(void) {
     IS(sizeof(zmg_made), 8);
     IS(sizeof(zmg_heard), 8);
     IS(sizeof(zmg_received), 12);
+    IS(sizeof(zmg_given_up), 12);
     IS(sizeof(zmg_presence), 28);
     IS(sizeof(zmg_line), 24);
     IS(sizeof(zmg_number), 8);
@@ -52,6 +53,9 @@ static void offsets(void) {
     IS(offsetof(zmg_received, reason), 4);
     IS(offsetof(zmg_received, player), 8);
     IS(offsetof(zmg_received, started), 9);
+    IS(offsetof(zmg_given_up, code), 0);
+    IS(offsetof(zmg_given_up, reason), 4);
+    IS(offsetof(zmg_given_up, player), 8);
     IS(offsetof(zmg_presence, state), 0);
     IS(offsetof(zmg_presence, limit), 4);
     IS(offsetof(zmg_presence, cause), 8);
@@ -695,6 +699,11 @@ static void no_link(void) {
     IS(zmg_link_refused(&other_link), 0);
     IS(zmg_link_unacknowledged(&other_link), 0);
     zmg_link_forget(&other_link, 1);
+    IS(zmg_link_give_up(&other_link, 1).code, ZMG_GIVE_UP_NOT_PLAYING);
+    IS(zmg_link_has_given_up(&other_link, 1), 0);
+    IS(zmg_link_reports_gone(&other_link, 0, 1), 0);
+    IS(zmg_link_undecided(&other_link).known, 0);
+    IS(zmg_link_report(&other_link, 0, bytes, sizeof bytes), 0);
     IS(zmg_link_can_build(&other_link), 0);
     IS(zmg_link_command(&other_link, 0, 0).known, 0);
     IS(zmg_link_run(&other_link, no_marks, row).code, ZMG_RUN_NOT_PLAYING);

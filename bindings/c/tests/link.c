@@ -2,8 +2,9 @@
  * datagrams; their demos must be the same, and at the end both may leave. Then short games of three on a line
  * that loses nothing: one comes, leaves before the last one has come, and another takes its place; one starts
  * and quits before the others; one has a world that differs; one has another `host`, or seems to; one vanishes,
- * and comes back. At last two on a line that is longer than the window, who lose
- * nothing of the motion of their mice. C99 and C++. Ends with status 0, or names the line that failed. */
+ * and comes back; one vanishes, and is given up for good, of two players and of three. At last two on a line that
+ * is longer than the window, who lose nothing of the motion of their mice. C99 and C++. Ends with status 0, or
+ * names the line that failed. */
 #include "zirmegat.h"
 #include <stdio.h>
 #include <stdlib.h>
@@ -147,7 +148,8 @@ static void turn(const int here[LINKS]) {
         zmg_link_build(&links[me], draw());
         for (uint8_t to = 0; to < LINKS; to++) {
             size_t n = zmg_link_datagram(&links[me], to, bytes, sizeof bytes);
-            MUST((n > 0) == (to != me));
+            MUST((n > 0) == (to != me && to < zmg_link_players(&links[me])
+                && !zmg_link_has_given_up(&links[me], to)));
             if (n == 0 || !here[to]) continue;
             MUST(zmg_link_receive(&links[to], bytes, n).player == me);
             run(to);
@@ -253,6 +255,74 @@ static void one_vanishes(void) {
     /* who has left is not given up */
     zmg_link_forget(&links[1], 0);
     MUST(presence(1, 0).state == ZMG_PRESENCE_LEFT && presence(1, 0).cause == ZMG_CAUSE_QUIT);
+    close_links();
+}
+
+/* Player 1 vanishes from a game of two. Player 0 gives it up for good, and plays on without it. */
+static void one_is_given_up(void) {
+    flight late;
+    uint32_t ran, n = 0;
+    for (uint8_t me = 0; me < 2; me++) open_link(me, 2, 0);
+    turns(SHORT, 1, 1, 0);
+    turns(4, 1, 0, 0);
+    ran = zmg_link_ran(&links[0]);
+    MUST(datagram(1, 0, &late) && zmg_link_unacknowledged(&links[0]) > 0);
+    MUST(zmg_link_give_up(&links[0], 0).code == ZMG_GIVE_UP_NOT_A_PLAYER && !zmg_link_has_given_up(&links[0], 1));
+    MUST(zmg_link_give_up(&links[0], 1).code == ZMG_GIVE_UP_DECIDED && zmg_link_has_given_up(&links[0], 1));
+    MUST(zmg_link_give_up(&links[0], 1).code == ZMG_GIVE_UP_ALREADY && !zmg_link_undecided(&links[0]).known);
+    MUST(presence(0, 1).state == ZMG_PRESENCE_FORGOTTEN && zmg_link_unacknowledged(&links[0]) == 0);
+    MUST(zmg_link_end(&links[0], 1).value == zmg_link_got(&links[0], 1).value);
+    MUST(arrives(0, &late).code == ZMG_LINK_RECEIVE_GIVEN_UP && !datagram(0, 1, &late));
+    for (run(0); n < SHORT; n += zmg_link_build(&links[0], draw()).code == ZMG_BUILD_MADE) run(0);
+    run(0);
+    MUST(zmg_link_ran(&links[0]) >= ran + SHORT && phase(0) == ZMG_PHASE_PLAYING);
+    MUST(zmg_link_quit(&links[0]) == 1 && zmg_link_may_leave(&links[0]) == 1);
+    MUST(zmg_link_give_up(&links[0], 1).code == ZMG_GIVE_UP_NOT_PLAYING);
+    close_links();
+}
+
+/* What became of the report of one to the other. */
+static uint32_t reports(uint8_t from, uint8_t to) {
+    flight f;
+    uint32_t reason;
+    zmg_received received;
+    f.length = zmg_link_report(&links[from], to, f.bytes, ZMG_REPORT_SIZE);
+    MUST(f.length >= 29 && f.length <= ZMG_REPORT_SIZE);
+    received = arrives(to, &f);
+    MUST(received.code == ZMG_LINK_RECEIVE_REPORTED && received.player == from && !received.started);
+    reason = received.reason;
+    f.bytes[f.length - 1] ^= 1;
+    received = arrives(to, &f);
+    MUST(received.code == ZMG_LINK_RECEIVE_UNREPORTED && received.reason == ZMG_BUNDLE_TAG);
+    return reason;
+}
+
+/* Player 2 vanishes from a game of three; player 0 alone has its last command. The others play on, with the same
+ * commands of it. */
+static void two_play_on(void) {
+    flight last;
+    uint32_t got, ran;
+    for (uint8_t me = 0; me < LINKS; me++) open_link(me, LINKS, 0);
+    all_play();
+    got = zmg_link_got(&links[1], 2).value;
+    MUST(zmg_link_build(&links[2], 1).code == ZMG_BUILD_MADE && datagram(2, 0, &last));
+    MUST(arrives(0, &last).code == ZMG_LINK_RECEIVE_HEARD && zmg_link_got(&links[0], 2).value == got + 1);
+    MUST(zmg_link_report(&links[0], 1, last.bytes, ZMG_REPORT_SIZE) == 0);
+    for (uint8_t me = 0; me < 2; me++) {
+        MUST(zmg_link_give_up(&links[me], 2).code == ZMG_GIVE_UP_WAITING);
+        MUST(zmg_link_undecided(&links[me]).known && zmg_link_undecided(&links[me]).value == 1u - me);
+        MUST(zmg_link_report(&links[me], 2, last.bytes, ZMG_REPORT_SIZE) == 0);
+        MUST(zmg_link_report(&links[me], (uint8_t)(1 - me), last.bytes, ZMG_REPORT_SIZE - 1) == 0);
+    }
+    MUST(reports(0, 1) == ZMG_REPORT_DECIDED && reports(1, 0) == ZMG_REPORT_DECIDED);
+    for (uint8_t me = 0; me < 2; me++) {
+        MUST(!zmg_link_undecided(&links[me]).known && zmg_link_got(&links[me], 2).value == got + 1);
+        MUST(zmg_link_end(&links[me], 2).known && zmg_link_end(&links[me], 2).value == got + 1);
+    }
+    ran = zmg_link_ran(&links[0]);
+    turns(SHORT, 1, 1, 0);
+    for (uint8_t me = 0; me < 2; me++)
+        MUST(phase(me) == ZMG_PHASE_PLAYING && zmg_link_ran(&links[me]) >= ran + SHORT - 10);
     close_links();
 }
 
@@ -382,6 +452,8 @@ int main(int argc, char **argv) {
     one_host_differs();
     one_seems_to_differ();
     one_vanishes();
+    one_is_given_up();
+    two_play_on();
     long_line();
     printf("%u turns, %u datagrams lost\n", (unsigned)now, (unsigned)lost);
     return 0;

@@ -99,16 +99,19 @@ mod node;
 mod packet;
 mod raw;
 mod sealed;
+mod surviving;
 mod values;
 
 pub use demo::{upgrade, Demo, DemoError, Reader, UpgradeError};
 pub use link::{
-    BundleError, Identity, Line, Link, LinkDatagram, LinkNode, Parting, Presence, Received,
+    BundleError, Identity, Line, Link, LinkDatagram, LinkNode, LinkReport, Parting, Presence,
+    Received,
 };
 pub use lockstep::{Datagram, Lockstep, NodeError};
 pub use node::{Node, World};
 pub use packet::{Command, Packet, PacketError, EXIT, KILL, RETRANSMIT, SETUP};
 pub use sealed::{Envelope, Seal, SealedLockstep, SealedNode};
+pub use surviving::{GivenUp, Reported, SettleError};
 pub use values::{
     Aim, Arrived, Cause, Config, Dropped, Heard, Keys, Made, Move, Phase, Ran, SealError, Settings,
     Start, MOST_AHEAD, WIDEST_AHEAD,

@@ -5,6 +5,7 @@ use crate::lockstep::{opened, NodeError};
 use crate::node::World;
 use crate::packet::Command;
 use crate::raw;
+use crate::surviving::{given_up, reported, GivenUp, Reported};
 use crate::values::{self, Config, Keys, Made, Move, Phase, Ran, Settings};
 use std::fmt;
 
@@ -96,7 +97,7 @@ impl Link {
     /// Returns the current datagram to player `to`. It has every packet that is kept for the player, oldest
     /// first, as far as they fit, also once the link has ended. Send one to each other player at each tick,
     /// also before the game has started. Returns None, and leaves the link as it was, if `to` is not another
-    /// player's number.
+    /// player's number, or if that player is given up by [`give_up`](Link::give_up).
     pub fn datagram(&mut self, to: u8) -> Option<LinkDatagram> {
         let mut datagram = LinkDatagram {
             bytes: [0; 1200],
@@ -139,6 +140,54 @@ impl Link {
     pub fn forget(&mut self, player: u8) {
         // SAFETY: the call has exclusive use of the handle (`Held`).
         unsafe { raw::zmg_link_forget(self.0.at(), player) }
+    }
+
+    /// Gives up a player who vanished, for good, so that the others play on. Unlike [`forget`](Link::forget) it
+    /// cannot be undone: from here on no datagram goes to the player, nothing of it is taken,
+    /// [`run`](Link::run) compares no mark of it, and nothing waits for it. Its presence becomes what `forget`
+    /// makes of it. All who play on must give it up, and hear each other's reports: then its commands end at the
+    /// same tic at all of them, and the game goes on from there without it. If the link gathered before the
+    /// call, and plays after it, the game has started: the caller begins its world with the start of
+    /// [`settings`](Link::settings).
+    pub fn give_up(&mut self, player: u8) -> GivenUp {
+        // SAFETY: the call has exclusive use of the handle (`Held`).
+        given_up(unsafe { raw::zmg_link_give_up(self.0.at(), player) })
+    }
+
+    /// Returns true if the player is given up by [`give_up`](Link::give_up).
+    pub fn has_given_up(&self, player: u8) -> bool {
+        // SAFETY: the call has exclusive use of the handle (`Held`).
+        unsafe { raw::zmg_link_has_given_up(self.0.at(), player) != 0 }
+    }
+
+    /// Returns true if the newest report of another player, the teller, names the player as given up. Those who
+    /// play on together have to give up the same players.
+    pub fn reports_gone(&self, teller: u8, player: u8) -> bool {
+        // SAFETY: the call has exclusive use of the handle (`Held`).
+        unsafe { raw::zmg_link_reports_gone(self.0.at(), teller, player) != 0 }
+    }
+
+    /// Returns which player's report is missing, the lowest number of them: of those who are not given up one
+    /// who has not given up the same players, as far as it reported. Ask it while somebody is given up.
+    pub fn undecided(&self) -> Option<u8> {
+        // SAFETY: the call has exclusive use of the handle (`Held`).
+        values::number(unsafe { raw::zmg_link_undecided(self.0.at()) }).map(|player| player as u8)
+    }
+
+    /// Returns the report to player `to`: what this link has of the others, whom it has given up, and whether it
+    /// has left. Send one to each other player at each tick while somebody is given up, also once the link has
+    /// left; [`receive`](Link::receive) takes it. Returns None if `to` is not another player's number or is given
+    /// up, and while this link has given up nobody and has not left.
+    pub fn report(&self, to: u8) -> Option<LinkReport> {
+        let mut report = LinkReport {
+            bytes: [0; 425],
+            length: 0,
+        };
+        let out = &mut report.bytes;
+        // SAFETY: the call has exclusive use of the handle (`Held`), and the array is valid for its length.
+        report.length =
+            unsafe { raw::zmg_link_report(self.0.at(), to, out.as_mut_ptr(), out.len()) };
+        (report.length > 0).then_some(report)
     }
 
     /// Returns true if no other player needs anything more from this one: each has played and left, is
@@ -213,6 +262,27 @@ impl std::ops::Deref for LinkDatagram {
     }
 }
 
+/// The bytes of a link's report, at most 425.
+#[derive(Clone, Copy)]
+pub struct LinkReport {
+    bytes: [u8; 425],
+    length: usize,
+}
+
+impl fmt::Debug for LinkReport {
+    fn fmt(&self, f: &mut fmt::Formatter<'_>) -> fmt::Result {
+        f.debug_tuple("LinkReport").field(&&**self).finish()
+    }
+}
+
+impl std::ops::Deref for LinkReport {
+    type Target = [u8];
+
+    fn deref(&self) -> &[u8] {
+        &self.bytes[..self.length]
+    }
+}
+
 /// Why bytes are not a datagram to this player in this game: the first of these that holds.
 #[derive(Clone, Copy, Debug, PartialEq, Eq)]
 #[non_exhaustive]
@@ -233,6 +303,8 @@ pub enum BundleError {
     Tag,
     /// Their content has a form that no link writes.
     Form,
+    /// Of a report: its sender is no player, or this one.
+    Sender,
     /// A code that this crate has no name for.
     Unknown(u32),
 }
@@ -253,6 +325,14 @@ pub enum Received {
     /// This player, or whoever was this player before, has another identity, and none of its commands was
     /// taken.
     Different(u8),
+    /// They were sealed in this game by this player, who is given up by [`Link::give_up`]. Nothing changed.
+    GivenUp(u8),
+    /// They were the report of `player`, and this became of it.
+    #[allow(missing_docs)]
+    Reported { player: u8, reported: Reported },
+    /// They are of the kind of reports, but not another player's to this one in this game. Nothing changed but the
+    /// count of [`Link::refused`].
+    Unreported(BundleError),
     /// A code that this crate has no name for.
     Unknown(u32),
 }
@@ -392,6 +472,7 @@ fn bundle_error(reason: u32) -> BundleError {
         6 => BundleError::Receiver,
         7 => BundleError::Tag,
         8 => BundleError::Form,
+        9 => BundleError::Sender,
         code => BundleError::Unknown(code),
     }
 }
@@ -405,6 +486,12 @@ pub(crate) fn received(raw: raw::Received) -> Received {
         1 => Received::Stranger(raw.player),
         2 => Received::Unopened(bundle_error(raw.reason)),
         3 => Received::Different(raw.player),
+        4 => Received::GivenUp(raw.player),
+        5 => Received::Reported {
+            player: raw.player,
+            reported: reported(raw.reason),
+        },
+        6 => Received::Unreported(bundle_error(raw.reason)),
         code => Received::Unknown(code),
     }
 }
@@ -551,6 +638,37 @@ impl<W: World> LinkNode<W> {
     /// Gives up a player who has not been heard for too long, as [`Link::forget`] does.
     pub fn forget(&mut self, player: u8) {
         self.node.forget(player)
+    }
+
+    /// Gives up a player who vanished, for good, as [`Link::give_up`] does, and begins the world if the game
+    /// starts without that player.
+    pub fn give_up(&mut self, player: u8) -> GivenUp {
+        let gathered = self.node.phase() == Phase::Gathering;
+        let given_up = self.node.give_up(player);
+        if gathered && self.node.phase() == Phase::Playing {
+            self.begin();
+        }
+        given_up
+    }
+
+    /// Returns true if the player is given up, as [`Link::has_given_up`] does.
+    pub fn has_given_up(&self, player: u8) -> bool {
+        self.node.has_given_up(player)
+    }
+
+    /// Returns true if another player has given up the player, as [`Link::reports_gone`] does.
+    pub fn reports_gone(&self, teller: u8, player: u8) -> bool {
+        self.node.reports_gone(teller, player)
+    }
+
+    /// Returns the report to player `to`, as [`Link::report`] does.
+    pub fn report(&self, to: u8) -> Option<LinkReport> {
+        self.node.report(to)
+    }
+
+    /// Returns which player's report is missing, as [`Link::undecided`] does.
+    pub fn undecided(&self) -> Option<u8> {
+        self.node.undecided()
     }
 
     /// Returns true if no other player needs anything more from this one: see [`Link::may_leave`].

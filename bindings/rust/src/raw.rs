@@ -69,6 +69,13 @@ pub struct Received {
 }
 
 #[repr(C)]
+pub struct GivenUp {
+    pub code: u32,
+    pub reason: u32,
+    pub player: u8,
+}
+
+#[repr(C)]
 pub struct Presence {
     pub state: u32,
     pub limit: u32,
@@ -287,6 +294,11 @@ extern "C" {
     pub fn zmg_link_wants_second(link: *mut Handle, player: u8) -> u32;
     pub fn zmg_link_presence(link: *mut Handle, player: u8) -> Presence;
     pub fn zmg_link_forget(link: *mut Handle, player: u8);
+    pub fn zmg_link_give_up(link: *mut Handle, player: u8) -> GivenUp;
+    pub fn zmg_link_has_given_up(link: *mut Handle, player: u8) -> u32;
+    pub fn zmg_link_reports_gone(link: *mut Handle, teller: u8, player: u8) -> u32;
+    pub fn zmg_link_undecided(link: *mut Handle) -> Number;
+    pub fn zmg_link_report(link: *mut Handle, to: u8, out: *mut u8, room: usize) -> usize;
     pub fn zmg_link_may_leave(link: *mut Handle) -> u32;
     pub fn zmg_link_line(link: *mut Handle, player: u8) -> Line;
     pub fn zmg_link_refused(link: *mut Handle) -> u32;

@@ -20,6 +20,7 @@ use Rattle.dn_link.specs.LinkedGame.{AreLinked, IsLater}
 use Rattle.dn_link.specs.Presence.{given_up}
 use Rattle.dn_link.proofs.Growing.{HasAsMuch}
 use Rattle.dn_link.proofs.Relinking.{AreGiven, later_by, relinked}
+use Rattle.dn_others.specs.declared.others.Others.{Others}
 use Rattle.dn_link.proofs.Linking as base
 use Rattle.dn_link.proofs.Reported.{at_most}
 
@@ -97,6 +98,15 @@ module _ (marking : Marking) (limits : Limits) (settings : Settings) (session : 
       go true = refl
       go false = refl
 
+  forgets_others : (peer : ℕ) → (forgotten peer old).others ≡ old.others
+  forgets_others peer = go (is_peer old.node peer)
+    where
+      go : (test : Bool) → (if test then record old {
+        peers = put old.peers peer (record (old.peers peer) { presence = given_up (old.peers peer).gave old.node.phase (old.peers peer).presence });
+      } else old).others ≡ old.others
+      go true = refl
+      go false = refl
+
   pub forgot : ((new : Contents) → new ≡ session.locksteps player
       → AreOneGame marking limits settings (with_lockstep session player new))
       → (peer : ℕ) (new : Linked) → new ≡ forgotten peer old
@@ -108,6 +118,7 @@ module _ (marking : Marking) (limits : Limits) (settings : Settings) (session : 
       let later : Session = with_lockstep session player new.node in
       let is = later_by session later player new.node refl (λ which flight found. found) (same_much new.node same_node) in (
         relinked marking limits settings session later links player new linked (kept_game new.node same_node) refl is
+            (ap (λ (o : Others). o.gone) (ap (λ (l : Linked). l.others) is_new ∙ forgets_others peer))
             (λ other. subst (λ (k : Unacknowledged). AreGiven session.given player other k.packets)
             (sym (same other).0) (linked.kept player other mine))
             (λ other which apart. at_most (ap (λ (l : List ℕ). slice_index l which) (same other).1)

@@ -41,6 +41,7 @@ use Rattle.dn_link.specs.Packing.{ArePacked}
 use Rattle.dn_link.proofs.Growing.{HasAsMuch, grows}
 use Rattle.dn_link.proofs.Holding.{Holds, holds_same, send_holds}
 use Rattle.dn_link.proofs.Relinking.{AreGiven, all_stay, found_later, later_by, keeps_given, packs_given, relinked}
+use Rattle.dn_others.specs.declared.others.Others.{Others}
 use Rattle.dn_link.proofs.Linking as base
 use Rattle.dn_link.proofs.Reported.{at_most, same_reported, same_presence}
 
@@ -142,7 +143,8 @@ module _ (marking : Marking) (limits : Limits) (settings : Settings) (session : 
                 (told_same gives.bundle new.node gives.counts (gives.from ∙ own ∙ sym (own_after new.node game)) tells);
           },
         ),
-        relinked marking limits settings session later links player new linked game refl is kept told left,
+        relinked marking limits settings session later links player new linked game refl is
+            (ap (λ (o : Others). o.gone) gives.others) kept told left,
         is,
       )
     where

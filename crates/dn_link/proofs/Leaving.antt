@@ -14,7 +14,7 @@ use Rattle.dn_lockstep.specs.Told.{got, made}
 use Rattle.dn_link.specs.declared.presence.Presence.{Presence}
 use Rattle.dn_link.specs.declared.presence.Presence.TheVariants.{Unknown, There, Playing, Different, Away, Left, Forgotten}
 use Rattle.dn_link.specs.Counting.{has_ended, has_of, with_end}
-use Rattle.dn_link.specs.Linked.{Linked, certain, is_out, may_leave, needs_nothing, never_played, none_needs}
+use Rattle.dn_link.specs.Linked.{Linked, certain, has_given_up, is_out, may_leave, needs_nothing, never_played, none_needs}
 use Rattle.dn_link.specs.LinkedGame.{AreLinked}
 use Rattle.dn_link.specs.Presence.{has_gone, has_left}
 use Rattle.dn_link.proofs.Lefts.{unended}
@@ -84,8 +84,9 @@ module _ (marking : Marking) (limits : Limits) (settings : Settings) (session : 
       let in_game : nat_lt other link.node.players ≡ true = lt-ltb other link.node.players (omega (arith, below, count)) in
       let another : (other == link.node.me) ≡ false = ne_eqb other link.node.me (λ e. apart (e ∙ number)) in
       let unknown : is_some (end_in link.node other) ≡ false = ap is_some stays in
+      let remains : has_given_up link other ≡ false = linked.whole player mine other in
       ltb-true (made link.node) (slice_index (link.peers other).reported link.node.me)
-      (sym (rw (in_game, unknown, another, here) refl) ∙ needs)
+      (sym (rw (in_game, unknown, another, remains, here) refl) ∙ needs)
 
   own : link.node.me ≡ player
   own = ap (λ (n : Contents). n.me) node ∙ agreed.numbers player mine

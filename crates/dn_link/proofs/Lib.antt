@@ -14,6 +14,8 @@ pub mod Lasts
 pub mod Packings
 pub mod Carrying
 pub mod Linked
+pub mod Whole
+pub mod Surviving
 pub mod Relinking
 pub mod Lefts
 pub mod Reported

@@ -61,13 +61,13 @@ module _ (marking : Marking) (limits : Limits) (settings : Settings) (session : 
   -- what a call leaves that keeps the peers
   pub called : (later : Session) (new : Linked) → AreOneGame marking limits settings later
       → later.locksteps ≡ put session.locksteps player new.node → later.given ≡ session.given
-      → new.peers ≡ old.peers → HasAsMuch player old.node new.node
+      → new.others.gone ≡ old.others.gone → new.peers ≡ old.peers → HasAsMuch player old.node new.node
       → AreLinked marking limits settings later (put links player new) × IsLater session later
-  called later new game locksteps given peers much =
+  called later new game locksteps given others peers much =
       let is = later_by session later player new.node locksteps
       (λ which flight found. ap (λ (fs : List Flight). slice_get fs which) given ∙ found) (has_more new.node much) in (
         relinked marking limits settings session later links player new linked game locksteps is
-            (λ peer. all_later session.given later.given is.given player peer (new.peers peer).kept.packets
+            others (λ peer. all_later session.given later.given is.given player peer (new.peers peer).kept.packets
             (subst (λ (f : ℕ → PeerState). AreGiven session.given player peer (f peer).kept.packets) (sym peers)
             (linked.kept player peer mine)))
             (λ peer which apart. at_most (ap (λ (f : ℕ → PeerState). slice_index (f peer).reported which) peers)
@@ -82,5 +82,6 @@ module _ (marking : Marking) (limits : Limits) (settings : Settings) (session : 
       → new ≡ old → AreLinked marking limits settings (with_lockstep session player new.node) (put links player new)
       × IsLater session (with_lockstep session player new.node)
   stays_linked new game same =
-      called (with_lockstep session player new.node) new game refl refl (ap (λ (l : Linked). l.peers) same)
+      called (with_lockstep session player new.node) new game refl refl (ap (λ (l : Linked). l.others.gone) same)
+      (ap (λ (l : Linked). l.peers) same)
       (subst (λ (l : Linked). HasAsMuch player old.node l.node) (sym same) (as_much player old.node))

@@ -20,10 +20,10 @@ use Rattle.dn_link.specs.Counting.{has_ended, has_of}
 use Rattle.dn_link.specs.declared.presence.Presence.TheVariants.{Left}
 use Rattle.dn_link.proofs.Lefts.{becomes_left}
 use Rattle.dn_link.specs.declared.received.Received.{Received}
-use Rattle.dn_link.specs.declared.received.Received.TheVariants.{Stranger}
+use Rattle.dn_link.specs.declared.received.Received.TheVariants.{GivenUp, Stranger}
 use Rattle.dn_link.specs.Bundles.{HasReached, WasGiven, IsGenuineDatagram}
 use Rattle.dn_link.specs.Hearing.{ByTest, HearsAll}
-use Rattle.dn_link.specs.Linked.{Linked, Receives, ReceivesAs, TakesIn, PeerState, done_with, hears, is_peer, known_by, met, received_of}
+use Rattle.dn_link.specs.Linked.{IsTakenIn, Linked, Receives, ReceivesAs, TakesIn, PeerState, done_with, has_given_up, hears, is_peer, known_by, met, received_of}
 use Rattle.dn_link.specs.LinkedGame.{AreLinked, IsLater}
 use Rattle.dn_link.specs.Paced.{PaceState}
 use Rattle.dn_link.specs.Packets.{packets_in}
@@ -32,6 +32,7 @@ use Rattle.dn_link.specs.Reading.{IsBundledAs}
 use Rattle.dn_link.proofs.Keeping.{LettersKeep, all_keeps}
 use Rattle.dn_link.proofs.Growing.{HasAsMuch, all_grows}
 use Rattle.dn_link.proofs.Relinking.{AreGiven, later_by, without_given, relinked}
+use Rattle.dn_others.specs.declared.others.Others.{Others}
 use Rattle.dn_link.proofs.Linking as base
 use Rattle.dn_link.proofs.Reported.{at_most, larger_most}
 use Rattle.dn_link.proofs.Genuine.{same_bundle}
@@ -141,7 +142,7 @@ module _ (marking : Marking) (limits : Limits) (settings : Settings) (session : 
               ∙ ap (λ (t : PeerState). t.presence) (put_off old.peers bundle.from peer _ off)) ∙ is_left)
         ]) in (
           relinked marking limits settings session later links player new linked game refl is
-              (λ peer. subst (λ (f : ℕ → PeerState). AreGiven session.given player peer (f peer).kept.packets)
+              (ap (λ (o : Others). o.gone) takes.others) (λ peer. subst (λ (f : ℕ → PeerState). AreGiven session.given player peer (f peer).kept.packets)
               (sym takes.peers)
               (elim (cases_eq peer bundle.from) [
                 | inl at ↦ subst (λ (t : PeerState). AreGiven session.given player peer t.kept.packets)
@@ -167,23 +168,33 @@ module _ (marking : Marking) (limits : Limits) (settings : Settings) (session : 
         stays_linked new (kept_game new.node (ap (λ (l : Linked). l.node) comes.1 ∙ linked.nodes player mine)) comes.1
     received_as seal identity pace bytes new answer genuine (Ok bundle) is comes = go (is_peer old.node bundle.from) comes
       where
-        go : (test : Bool) → ByTest test
-            ((presence : Presence) × (differs : Bool) × (started : Bool)
-            × (answer ≡ received_of differs bundle.from started)
-            × TakesIn identity (is_fresh (pace.lines bundle.from).newest bundle.number) bundle old new presence differs
-            started)
-            ((answer ≡ Stranger bundle.from) × (new ≡ old))
+        stays : new ≡ old
             → AreLinked marking limits settings (with_lockstep session player new.node) (put links player new)
             × IsLater session (with_lockstep session player new.node)
-        go true comes =
+        stays same =
+            stays_linked new (kept_game new.node (ap (λ (l : Linked). l.node) same ∙ linked.nodes player mine)) same
+
+        of_peer : (test : Bool) → ByTest test ((answer ≡ GivenUp bundle.from) × (new ≡ old))
+            (IsTakenIn identity pace bundle old new answer)
+            → AreLinked marking limits settings (with_lockstep session player new.node) (put links player new)
+            × IsLater session (with_lockstep session player new.node)
+        of_peer true comes = stays comes.1
+        of_peer false comes =
             let was = genuine bundle is in
             let same = same_bundle seal bytes bundle was.0 player is was.1 was.2 in
             let all = subst (λ (b : Bundle). All (WasGiven session.given b.to) (packets_in b)) same was.3 in
             let reached = subst (HasReached session.locksteps) same was.4 in
             taken_in identity _ bundle new comes.0 comes.1 comes.2
             (subst (λ (k : ℕ). All (WasGiven session.given k) (packets_in bundle)) is.to all) reached comes.4
-        go false comes =
-            stays_linked new (kept_game new.node (ap (λ (l : Linked). l.node) comes.1 ∙ linked.nodes player mine)) comes.1
+
+        go : (test : Bool) → ByTest test
+            (ByTest (has_given_up old bundle.from) ((answer ≡ GivenUp bundle.from) × (new ≡ old))
+            (IsTakenIn identity pace bundle old new answer))
+            ((answer ≡ Stranger bundle.from) × (new ≡ old))
+            → AreLinked marking limits settings (with_lockstep session player new.node) (put links player new)
+            × IsLater session (with_lockstep session player new.node)
+        go true comes = of_peer (has_given_up old bundle.from) comes
+        go false comes = stays comes.1
 
     pub received : (seal : Seal) (identity : Identity) (pace : PaceState) (bytes : List ℕ) (new : Linked) (answer : Received)
         → IsGenuineDatagram seal session player bytes → Receives seal identity pace bytes old new answer

@@ -22,13 +22,14 @@ use Rattle.dn_link.specs.declared.bundle.Carried.{Carried}
 use Rattle.dn_link.specs.Bundles.{WasGiven}
 use Rattle.dn_link.specs.Giving.{carried_of}
 use Rattle.dn_link.specs.Kept.{Unacknowledged, going, is_news, kept_after, without, end_of}
-use Rattle.dn_link.specs.Linked.{Linked}
+use Rattle.dn_link.specs.Linked.{IsWhole, Linked}
 use Rattle.dn_link.specs.Counting.{has_ended, has_of}
 use Rattle.dn_link.specs.declared.presence.Presence.TheVariants.{Left}
 use Rattle.dn_link.specs.LinkedGame.{AreLinked, IsLater}
 use Rattle.dn_link.specs.Packets.{opened_from, packets_of, packets_in}
 use Rattle.dn_link.specs.Packing.{ArePacked}
 use Rattle.dn_link.proofs.Growing.{HasAsMuch}
+use Rattle.dn_link.proofs.Whole.{still_whole}
 
 -- the last of a list, and what was found is found still
 last_at : {A : Type 0} (xs : List A) (x : A) → slice_get (xs ++ x ∷ []) (length xs) ≡ Some x
@@ -170,13 +171,13 @@ later_by session later player new locksteps given much =
 pub relinked : (marking : Marking) (limits : Limits) (settings : Settings) (session later : Session)
     (links : ℕ → Linked) (player : ℕ) (new : Linked) → AreLinked marking limits settings session links
     → AreOneGame marking limits settings later → later.locksteps ≡ put session.locksteps player new.node
-    → IsLater session later
+    → IsLater session later → new.others.gone ≡ (links player).others.gone
     → ((peer : ℕ) → AreGiven later.given player peer (new.peers peer).kept.packets)
     → ((peer which : ℕ) → which ≢ peer
     → slice_index (new.peers peer).reported which ≤ has_of (later.locksteps peer) which)
     → ((peer cause : ℕ) → (new.peers peer).presence ≡ Left cause → has_ended (later.locksteps peer) ≡ true)
     → AreLinked marking limits settings later (put links player new)
-relinked marking limits settings session later links player new linked game locksteps is kept told left =
+relinked marking limits settings session later links player new linked game locksteps is others kept told left =
     record {
       game = game;
       nodes = λ other below. elim (cases_eq other player) [
@@ -206,6 +207,11 @@ relinked marking limits settings session later links player new linked game lock
             (sym (put_at links player other new at)) (left peer cause)
         | inr off ↦ subst (λ (l : Linked). (l.peers peer).presence ≡ Left cause → has_ended (later.locksteps peer) ≡ true)
             (sym (put_off links player other new off)) (λ was. is.ended peer (linked.left other peer cause below was))
+      ];
+      whole = λ other below. elim (cases_eq other player) [
+        | inl at ↦ subst IsWhole (sym (put_at links player other new at))
+            (still_whole (links player) new others (subst (λ (k : ℕ). IsWhole (links k)) at (linked.whole other below)))
+        | inr off ↦ subst IsWhole (sym (put_off links player other new off)) (linked.whole other below)
       ];
     }
   where

@@ -32,11 +32,11 @@ use Rattle.dn_link.specs.declared.bundle.Message.TheVariants.{Hello, Game, Goodb
 use Rattle.dn_link.specs.declared.presence.Presence.{Presence}
 use Rattle.dn_link.specs.declared.presence.Presence.TheVariants.{Left}
 use Rattle.dn_link.specs.declared.received.Received.{Received}
-use Rattle.dn_link.specs.declared.received.Received.TheVariants.{Stranger}
+use Rattle.dn_link.specs.declared.received.Received.TheVariants.{GivenUp, Stranger}
 use Rattle.dn_link.specs.Ends.{tells_end}
 use Rattle.dn_link.specs.Hearing.{ByTest, HearsAll, HearsUntil, is_start}
 use Rattle.dn_link.specs.Kept.{IsKeptRising}
-use Rattle.dn_link.specs.Linked.{Linked, PeerState, Receives, ReceivesAs, TakesIn, done_with, hears, is_peer, known_by, met, received_of}
+use Rattle.dn_link.specs.Linked.{IsTakenIn, Linked, PeerState, Receives, ReceivesAs, TakesIn, done_with, has_given_up, hears, is_peer, known_by, met, received_of}
 use Rattle.dn_link.specs.Onward.{AskWithin, AsksWithin, GoesOn, IsGone, StillGoesOn}
 use Rattle.dn_link.specs.Paced.{PaceState}
 use Rattle.dn_link.specs.Packets.{packets_in}
@@ -279,19 +279,23 @@ module _ (are : AreRead) (limits : Limits) (me to : ℕ) (old new : Linked) (goe
       count = made_is limits me old.node goes_old.node goes_old.shows
           (omega (arith, goes_old.mine, goes_old.shows.whose.number, goes_old.shows.whose.players))
 
-      go : (test : Bool) → ByTest test
-          ((presence : Presence) × (differs : Bool) × (started : Bool)
-          × (answer ≡ received_of differs bundle.from started)
-          × TakesIn identity (is_fresh (pace.lines bundle.from).newest bundle.number) bundle old new presence differs
-          started)
-          ((answer ≡ Stranger bundle.from) × (new ≡ old))
+      of_peer : (test : Bool) → ByTest test ((answer ≡ GivenUp bundle.from) × (new ≡ old))
+          (IsTakenIn identity pace bundle old new answer)
           → StillGoesOn limits me to old new
-      go true comes =
+      of_peer true comes = nothing comes.1
+      of_peer false comes =
           taken_in identity _ bundle comes.0 comes.1 comes.2
           (packets_of_bytes seal bundle (subst AreBytes is.is fit)) (elim asks [
             | inl all ↦ inl (omega (arith, all, count))
             | inr none ↦ inr (none bundle is)
           ]) comes.4
+
+      go : (test : Bool) → ByTest test
+          (ByTest (has_given_up old bundle.from) ((answer ≡ GivenUp bundle.from) × (new ≡ old))
+          (IsTakenIn identity pace bundle old new answer))
+          ((answer ≡ Stranger bundle.from) × (new ≡ old))
+          → StillGoesOn limits me to old new
+      go true comes = of_peer (has_given_up old bundle.from) comes
       go false comes = nothing comes.1
 
   pub received : (seal : Seal) (identity : Identity) (pace : PaceState) (bytes : List ℕ) (answer : Received)

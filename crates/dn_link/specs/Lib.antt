@@ -5,6 +5,8 @@ pub mod Packets
 pub mod Giving
 pub mod Counting
 pub mod Linked
+pub mod Surviving
+pub mod Notices
 pub mod Linking
 pub mod Packing
 pub mod OpenPacking

@@ -5,6 +5,9 @@ use Rattle.dn_machine.specs.declared.answers.Phase.TheVariants.{Gathering}
 use Rattle.dn_machine.specs.Node.{is_ended, put}
 use Rattle.dn_lockstep.specs.Contents.{Contents, end_in}
 use Rattle.dn_lockstep.specs.Told.{made}
+use Rattle.dn_others.specs.Keeping.{has}
+use Rattle.dn_others.specs.declared.others.Others.{Others}
+use Rattle.dn_survivor.specs.Surviving.{Surviving}
 use Rattle.dn_seal.specs.declared.seal.Seal.{Seal}
 use Rattle.dn_open.specs.Sealed.{sealing_of}
 use Rattle.dn_link.specs.declared.bundle.Bundle.{Bundle}
@@ -14,7 +17,7 @@ use Rattle.dn_link.specs.declared.bundle.Identity.{Identity}
 use Rattle.dn_link.specs.declared.presence.Presence.{Presence}
 use Rattle.dn_link.specs.declared.presence.Presence.TheVariants.{Left}
 use Rattle.dn_link.specs.declared.received.Received.{Received}
-use Rattle.dn_link.specs.declared.received.Received.TheVariants.{Unopened, Stranger, Different, Heard}
+use Rattle.dn_link.specs.declared.received.Received.TheVariants.{Unopened, Stranger, GivenUp, Different, Heard}
 use Rattle.dn_link.specs.Reading.{IsBundledAs}
 use Rattle.dn_link.specs.Counting.{counts_of}
 use Rattle.dn_link.specs.Giving.{SendsCarried}
@@ -37,17 +40,35 @@ pub record PeerState : Type 0 where
   pub gave : Bool
   pub number : ℕ
 
+-- its lockstep, whom it has given up and what those who play on reported, and its peers
 pub record Linked : Type 0 where
   pub node : Contents
+  pub others : Others
   pub peers : ℕ → PeerState
+
+-- what it has of a survivor
+abbrev pub surviving_of : Linked → Surviving
+surviving_of link = record { lockstep = link.node; others = link.others }
+
+-- it has given up this player
+abbrev pub has_given_up : Linked → ℕ → Bool
+has_given_up link player = has link.others.gone player
+
+-- and nobody
+abbrev pub IsWhole : Linked → Type 0
+IsWhole link = (player : ℕ) → has_given_up link player ≡ false
 
 -- another player of its game
 abbrev pub is_peer : Contents → ℕ → Bool
 is_peer n player = nat_lt player n.players && not (player == n.me)
 
--- whom it need not wait for before its game: no peer, or one that is there
+-- another player of its game who is not given up
+abbrev pub remains : Linked → ℕ → Bool
+remains link player = is_peer link.node player && not (has_given_up link player)
+
+-- whom it need not wait for before its game: no peer, one who is given up, or one that is there
 abbrev pub is_ready : Linked → ℕ → Bool
-is_ready link player = not (is_peer link.node player) || is_there (link.peers player).presence
+is_ready link player = not (remains link player) || is_there (link.peers player).presence
 
 abbrev pub all_ready : Linked → Bool
 all_ready link =
@@ -86,6 +107,7 @@ pub record Gives (seal : Seal) (identity : Identity) (pace : PaceState) (to : �
   pub counts : bundle.counts ≡ counts_of new.node
   pub packed : ArePacked old.node.me (going (old.peers to).kept (taken_by (old.peers to).presence given))
       bundle.parts.items
+  pub others : new.others ≡ old.others
   pub peers : new.peers ≡ put old.peers to (record (old.peers to) {
     kept = kept_after (old.peers to).kept (taken_by (old.peers to).presence given);
     gave = (old.peers to).gave || (is_gathering old.node.phase && is_some given);
@@ -144,20 +166,27 @@ pub record TakesIn (identity : Identity) (fresh : Bool) (bundle : Bundle) (old n
   pub alike : Differs identity bundle.message presence differs
   pub heard : ByTest (not differs && hears (met differs bundle presence old) presence)
       (HearsAll (packets_in bundle) old.node new.node started) ((new.node ≡ old.node) × (started ≡ false))
+  pub others : new.others ≡ old.others
   pub peers : new.peers ≡ (met differs bundle presence old).peers
 
 abbrev pub received_of : Bool → ℕ → Bool → Received
 received_of differs from started = if differs then Different from else Heard from started
 
--- any bytes are opened as a datagram or for a fault, and what a peer's tells is taken in; all else changes
--- nothing
+-- a datagram of a peer who is not given up is taken in
+abbrev pub IsTakenIn : Identity → PaceState → Bundle → Linked → Linked → Received → Type 0
+IsTakenIn identity pace bundle old new answer =
+    (presence : Presence) × (differs : Bool) × (started : Bool)
+    × (answer ≡ received_of differs bundle.from started)
+    × TakesIn identity (is_fresh (pace.lines bundle.from).newest bundle.number) bundle old new presence differs started
+
+-- any bytes are opened as a datagram or for a fault, and what a peer's tells is taken in, who is not given up;
+-- all else changes nothing
 abbrev pub ReceivesAs : Identity → PaceState → Result Bundle BundleFault → Linked → Linked → Received → Type 0
 ReceivesAs identity pace (Err fault) old new answer = (answer ≡ Unopened fault) × (new ≡ old)
 ReceivesAs identity pace (Ok bundle) old new answer =
     ByTest (is_peer old.node bundle.from)
-    ((presence : Presence) × (differs : Bool) × (started : Bool)
-    × (answer ≡ received_of differs bundle.from started)
-    × TakesIn identity (is_fresh (pace.lines bundle.from).newest bundle.number) bundle old new presence differs started)
+    (ByTest (has_given_up old bundle.from) ((answer ≡ GivenUp bundle.from) × (new ≡ old))
+    (IsTakenIn identity pace bundle old new answer))
     ((answer ≡ Stranger bundle.from) × (new ≡ old))
 
 abbrev pub Receives : Seal → Identity → PaceState → List ℕ → Linked → Linked → Received → Type 0
@@ -174,11 +203,11 @@ end_known node player = if nat_lt player node.players then end_in node player el
 abbrev pub is_out : Linked → ℕ → Bool
 is_out link player = has_left (link.peers player).presence || has_gone (link.peers 0).presence
 
--- a player needs nothing more of the node: it is no peer, has left, as an EXIT packet or its datagrams told, or
--- has told that it has one command more than the node made: all of them, and the end
+-- a player needs nothing more of the node: it is no peer, is given up, has left, as an EXIT packet or its
+-- datagrams told, or has told that it has one command more than the node made: all of them, and the end
 abbrev pub needs_nothing : Linked → ℕ → Bool
 needs_nothing link player =
-    not (is_peer link.node player)
+    not (remains link player)
     || (is_some (end_known link.node player)
     || (is_out link player
     || nat_lt (made link.node) (slice_index (link.peers player).reported link.node.me)))

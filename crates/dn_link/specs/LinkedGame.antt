@@ -9,12 +9,12 @@ use Rattle.dn_lockstep.specs.Session.{Session}
 use Rattle.dn_link.specs.declared.presence.Presence.TheVariants.{Left}
 use Rattle.dn_link.specs.Bundles.{WasGiven}
 use Rattle.dn_link.specs.Counting.{has_ended, has_of}
-use Rattle.dn_link.specs.Linked.{Linked}
+use Rattle.dn_link.specs.Linked.{IsWhole, Linked}
 use Rattle.dn_link.specs.Packets.{opened_from}
 
 -- each player's link has the player's lockstep of one game, keeps for each peer nothing but packets that were
 -- given to that peer in it, and was told of no more than the peer has of any other player, and of none that it
--- has left but one that has
+-- has left but one that has; and none has given up another
 pub record AreLinked (marking : Marking) (limits : Limits) (settings : Settings) (session : Session) (links : ℕ → Linked)
     : Type 0 where
   pub game : AreOneGame marking limits settings session
@@ -26,6 +26,7 @@ pub record AreLinked (marking : Marking) (limits : Limits) (settings : Settings)
       → slice_index ((links player).peers peer).reported which ≤ has_of (session.locksteps peer) which
   pub left : (player peer cause : ℕ) → player < limits.players
       → ((links player).peers peer).presence ≡ Left cause → has_ended (session.locksteps peer) ≡ true
+  pub whole : (player : ℕ) → player < limits.players → IsWhole (links player)
 
 -- what was given was given, each player has as much of each other as before, and who had ended has
 pub record IsLater (session later : Session) : Type 0 where

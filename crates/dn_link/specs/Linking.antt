@@ -1,8 +1,8 @@
 -- What a link is.
 use Rattle.std.specs.Prelude.{ℕ, List, [], ◌∷◌, false}
-use Rattle.dn_lockstep.specs.Contents.{contents}
 use Rattle.dn_seal.specs.declared.seal.Seal.{Seal}
 use Rattle.dn_seal.specs.Sealing.{sealing}
+use Rattle.dn_survivor.specs.Surviving.{surviving}
 use Rattle.dn_link.specs.declared.link.Link.{Link}
 use Rattle.dn_link.specs.declared.bundle.Identity.{Identity}
 use Rattle.dn_link.specs.declared.peer.Peer.{Peer}
@@ -36,7 +36,12 @@ abbrev pub peers_of : List Peer → ℕ → PeerState
 peers_of peers = by_place state_of new_peer peers
 
 abbrev pub linked : Link → Linked
-linked link = record { node = contents link.lockstep; peers = peers_of link.peers }
+linked link =
+    record {
+      node = (surviving link.survivor).lockstep;
+      others = (surviving link.survivor).others;
+      peers = peers_of link.peers;
+    }
 
 -- what it has in common with the others of its game
 abbrev pub seal_of : Link → Seal

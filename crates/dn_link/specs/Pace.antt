@@ -12,7 +12,7 @@ use Rattle.dn_link.specs.declared.bundle.BundleFault.{BundleFault}
 use Rattle.dn_link.specs.Hearing.{ByTest}
 use Rattle.dn_link.specs.Leaning.{LeaningState, looks, step_of, worked_off}
 use Rattle.dn_link.specs.Line.{LineState, heard_on, lead_over, missing}
-use Rattle.dn_link.specs.Linked.{Linked, end_known, is_peer}
+use Rattle.dn_link.specs.Linked.{Linked, end_known, is_peer, remains}
 use Rattle.dn_link.specs.Paced.{PaceState}
 use Rattle.dn_link.specs.Presence.{is_playing, may_come}
 use Rattle.dn_link.specs.Reading.{IsBundledAs}
@@ -49,7 +49,7 @@ after_refusal pace = record pace { refused = stops (pace.refused + 1) }
 abbrev pub PacesAs : Result Bundle BundleFault → Linked → PaceState → PaceState → Type 0
 PacesAs (Err fault) link old new = new ≡ after_refusal old
 PacesAs (Ok bundle) link old new =
-    ByTest (is_peer link.node bundle.from)
+    ByTest (remains link bundle.from)
     (new ≡ after_datagram bundle (may_come (link.peers bundle.from).gave (link.peers bundle.from).presence) old)
     (new ≡ old)
 

@@ -23,6 +23,7 @@ ghost use Rattle.dn_lockstep.specs.Session.{Session, after_build, after_packet, 
 ghost use Rattle.dn_lockstep.specs.Sent.{sent_to};
 ghost use Rattle.dn_lockstep.specs.Steps.{Steps, Tells};
 ghost use Rattle.dn_lockstep.specs.Told.{got, made};
+ghost use Rattle.dn_others.specs.Keeping.{nothing_kept};
 ghost use Rattle.dn_seal.specs.declared.opened.Opened.{Opened};
 ghost use Rattle.dn_seal.specs.declared.seal.Seal.{Seal};
 ghost use Rattle.dn_open.specs.Sealed.{sealing_of};
@@ -69,12 +70,13 @@ pub fn datagrams_keep_one_game()
 }
 
 /// New links of the same limits, one for each player, of which player 0's has these settings, are those of one
-/// game.
+/// game, in which nobody is given up.
 pub fn linked_game_opens()
     ensures { (marking : Marking) (limits : Limits) (settings : Settings) (links : ℕ → Linked)
         → IsWindow limits
         → ((player : ℕ) → player < limits.players
         → Represents limits player (links player).node (fresh settings player))
+        → ((player : ℕ) → player < limits.players → (links player).others ≡ nothing_kept)
         → ((player peer : ℕ) → player < limits.players → (links player).peers peer ≡ new_peer)
         → AreLinked marking limits settings (opening_session (λ player. (links player).node)) links }
 {
@@ -83,13 +85,14 @@ pub fn linked_game_opens()
 
 /// And so they stay after each call on one of them, whatever bytes come in, as long as what it opens was sealed
 /// in this game before; what `Link::datagram` gives was. At a run the caller hands in the marks of a world that
-/// moved on by the rows that it was told.
+/// moved on by the rows that it was told. Nobody is given up: so what `Link::receive` says of a report that comes,
+/// by its clauses `quiet` and `gone`, is what `reported` asks.
 pub fn linked_game_goes_on()
     ensures built { (marking : Marking) (limits : Limits) (settings : Settings) (session : Session) (links : ℕ → Linked)
         (player : ℕ) (new : Linked) (input : Input) (made : Made)
         → AreLinked marking limits settings session links → player < limits.players
         → Steps (links player).node new.node (λ limits me m. on_build limits me m input) (λ answer. made ≡ answer)
-        → new.peers ≡ (links player).peers
+        → new.others ≡ (links player).others → new.peers ≡ (links player).peers
         → AreLinked marking limits settings (after_build session player input made new.node) (put links player new)
         × IsLater session (after_build session player input made new.node) }
     ensures ran { (marking : Marking) (limits : Limits) (settings : Settings) (session : Session) (links : ℕ → Linked)
@@ -100,14 +103,14 @@ pub fn linked_game_goes_on()
         → get_or marks other (pos 0) ≡ marking (world_told limits settings (session.told player)) other)
         → RunsBy marks (links player).node new.node (λ limits m marks. on_run limits m marks)
         (λ answer told. (ran ≡ answer) × (row ≡ told))
-        → new.peers ≡ (links player).peers
+        → new.others ≡ (links player).others → new.peers ≡ (links player).peers
         → AreLinked marking limits settings (after_run session player row new.node) (put links player new)
         × IsLater session (after_run session player row new.node) }
     ensures quit { (marking : Marking) (limits : Limits) (settings : Settings) (session : Session) (links : ℕ → Linked)
         (player : ℕ) (new : Linked) (quit : Bool)
         → AreLinked marking limits settings session links → player < limits.players
         → Steps (links player).node new.node (λ limits me m. on_quit m) (λ answer. quit ≡ answer)
-        → new.peers ≡ (links player).peers
+        → new.others ≡ (links player).others → new.peers ≡ (links player).peers
         → AreLinked marking limits settings (with_lockstep session player new.node) (put links player new)
         × IsLater session (with_lockstep session player new.node) }
     ensures forgot { (marking : Marking) (limits : Limits) (settings : Settings) (session : Session) (links : ℕ → Linked)
@@ -131,6 +134,13 @@ pub fn linked_game_goes_on()
         → AreLinked marking limits settings session links → player < limits.players
         → IsGenuineDatagram seal session player bytes
         → Receives seal identity pace bytes (links player) new answer
+        → AreLinked marking limits settings (with_lockstep session player new.node) (put links player new)
+        × IsLater session (with_lockstep session player new.node) }
+    ensures reported { (marking : Marking) (limits : Limits) (settings : Settings) (session : Session) (links : ℕ → Linked)
+        (player : ℕ) (new : Linked)
+        → AreLinked marking limits settings session links → player < limits.players
+        → new.node ≡ (links player).node → new.others.gone ≡ (links player).others.gone
+        → new.peers ≡ (links player).peers
         → AreLinked marking limits settings (with_lockstep session player new.node) (put links player new)
         × IsLater session (with_lockstep session player new.node) }
 {

@@ -4,6 +4,8 @@ ghost use Rattle.std.specs.Prelude.{◌≡◌};
 ghost use Rattle.dn_link.specs.Linked.{received_of};
 
 use crate::bundle::BundleFault;
+use dn_notice::ReportDatagramFault;
+use dn_survivor::Reported;
 
 /// What a link makes of bytes that came in.
 #[derive(Clone, Copy, Debug, PartialEq, Eq)]
@@ -13,6 +15,13 @@ pub enum Received {
     Unopened(BundleFault),
     /// Their sender's number is not a peer's, and they changed nothing.
     Stranger(u8),
+    /// They are of the kind of reports, but no report of another player's to this one in this game, for this
+    /// fault. They changed nothing but what `Link::refused` counts.
+    Unreported(ReportDatagramFault),
+    /// The report of another player, and what became of it.
+    Reported { from: u8, reported: Reported },
+    /// Their sender is a peer who is given up, and they changed nothing.
+    GivenUp(u8),
     /// The datagram of a peer with another identity, which `Link::presence` returns, or a late hello of such a
     /// peer. No packet of it was received.
     Different(u8),

@@ -7,6 +7,7 @@ mod gaps;
 mod links;
 mod lobby;
 mod pace;
+mod surviving;
 
 use crate::{Bundle, BundleFault, Counts, Identity, Message, open_bundle, seal_bundle};
 use arrayvec::ArrayVec;

@@ -6,7 +6,7 @@ use Rattle.dn_machine.specs.declared.answers.Heard.{Heard}
 use Rattle.dn_machine.specs.declared.answers.Ran.{Ran}
 use Rattle.dn_tic.specs.declared.input.Input.{Input}
 use Rattle.dn_machine.specs.Building.{on_build}
-use Rattle.dn_machine.specs.Running.{on_run, on_quit}
+use Rattle.dn_machine.specs.Running.{on_run, on_run_but, on_quit}
 use Rattle.dn_lockstep.specs.Contents.{Contents}
 use Rattle.dn_lockstep.specs.Hearing.{HearsAny, HearsNear, Spares}
 use Rattle.dn_lockstep.specs.Giving.{IsSentTo, IsSilent}
@@ -38,6 +38,14 @@ Hears from bytes old new heard =
 abbrev pub Runs : List ℤ → Contents → Contents → Ran → Option (List (Option Move)) → Type 0
 Runs marks old new ran row =
     RunsBy marks old new (λ limits m marks. on_run limits m marks) (λ answer told. (ran ≡ answer) × (row ≡ told))
+    × ((tic : ℕ) → ran ≡ Ran.Ran tic → new.ran ≡ old.ran + 1)
+    × ((player : ℕ) → ran ≡ Ran.Waiting player → new ≡ old) × (ran ≡ Ran.NotPlaying → new ≡ old)
+
+-- the same, but no mark is compared of these players
+abbrev pub RunsBut : (ℕ → Bool) → List ℤ → Contents → Contents → Ran → Option (List (Option Move)) → Type 0
+RunsBut gone marks old new ran row =
+    RunsBy marks old new (λ limits m marks. on_run_but limits gone m marks)
+    (λ answer told. (ran ≡ answer) × (row ≡ told))
     × ((tic : ℕ) → ran ≡ Ran.Ran tic → new.ran ≡ old.ran + 1)
     × ((player : ℕ) → ran ≡ Ran.Waiting player → new ≡ old) × (ran ≡ Ran.NotPlaying → new ≡ old)
 

@@ -10,3 +10,4 @@ pub mod Upgrading
 pub mod Demos
 pub mod Sealed
 pub mod Links
+pub mod Surviving

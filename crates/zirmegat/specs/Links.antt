@@ -1,5 +1,5 @@
 -- A link behind a handle, and what its calls do.
-use Rattle.std.specs.Prelude.{◌≡◌, ◌≤◌, ◌==◌, nat_abs, ℕ, ℤ, false, not, List, pos, replicate, Option, None, Some, IfSome, is_some, if◌then◌else◌}
+use Rattle.std.specs.Prelude.{◌≡◌, ◌≤◌, ◌==◌, nat_abs, ℕ, ℤ, true, false, not, List, pos, replicate, Option, None, Some, IfSome, is_some, if◌then◌else◌}
 use Rattle.std.specs.Option.{option_map}
 use Rattle.arrayvec.specs.ArrayVec.{ArrayVec}
 use Rattle.dn_setup.specs.Starts.{bit}
@@ -9,8 +9,12 @@ use Rattle.dn_lockstep.specs.Sent.{sent_to}
 use Rattle.dn_lockstep.specs.Steps.{Steps, Tells}
 use Rattle.dn_machine.specs.declared.answers.Made.{Made}
 use Rattle.dn_machine.specs.declared.answers.Made.TheVariants.{Full, NotPlaying}
+use Rattle.dn_machine.specs.declared.answers.Ran.{Ran}
 use Rattle.dn_machine.specs.Building.{on_build}
 use Rattle.dn_tic.specs.declared.input.Input.{Input}
+use Rattle.dn_tic.specs.declared.command.Move.{Move}
+use Rattle.dn_others.specs.Keeping.{nothing_kept}
+use Rattle.dn_survivor.specs.declared.answers.GivenUp.{GivenUp}
 use Rattle.dn_seal.specs.declared.seal.Seal.{Seal}
 use Rattle.dn_link.specs.declared.bundle.BundleFault.{BundleFault}
 use Rattle.dn_link.specs.declared.link.Link.{Link}
@@ -19,11 +23,13 @@ use Rattle.dn_link.specs.declared.bundle.Identity.{Identity}
 use Rattle.dn_link.specs.declared.figures.Figures.{Figures}
 use Rattle.dn_link.specs.declared.presence.Presence.{Presence}
 use Rattle.dn_link.specs.Figures.{figures_of}
-use Rattle.dn_link.specs.Linked.{Linked, Gives, Receives, forgotten, holds_back, is_peer}
+use Rattle.dn_link.specs.Linked.{IsWhole, Linked, Gives, Receives, forgotten, has_given_up, holds_back, is_peer, remains}
 use Rattle.dn_link.specs.Linking.{identity_of, linked, new_peer, seal_of}
 use Rattle.dn_link.specs.Pace.{Paces, after_input, after_tick, lean, still_owed}
 use Rattle.dn_link.specs.Paced.{PaceState}
+use Rattle.dn_link.specs.Notices.{HearsNotice, is_notice, notice_for}
 use Rattle.dn_link.specs.Pacing.{new_pace, pace_of}
+use Rattle.dn_link.specs.Surviving.{GivesUpPeer}
 use Rattle.zirmegat.specs.declared.answers.MadeAnswer.{MadeAnswer}
 use Rattle.zirmegat.specs.declared.config.NodeConfig.{NodeConfig}
 use Rattle.zirmegat.specs.declared.link_answers.LineAnswer.{LineAnswer}
@@ -31,9 +37,10 @@ use Rattle.zirmegat.specs.declared.link_answers.PresenceAnswer.{PresenceAnswer}
 use Rattle.zirmegat.specs.declared.link_answers.ReceivedAnswer.{ReceivedAnswer}
 use Rattle.zirmegat.specs.declared.link_handle.LinkHandle.{LinkHandle}
 use Rattle.zirmegat.specs.Answers.{made_told}
-use Rattle.zirmegat.specs.Going.{Builds}
+use Rattle.zirmegat.specs.Going.{Builds, Runs, RunsBut}
 use Rattle.zirmegat.specs.Opening.{OpensWithin}
 use Rattle.zirmegat.specs.Sealed.{IsPut}
+use Rattle.zirmegat.specs.Surviving.{notice_code, reported_code}
 
 -- a link, what it keeps for its pace, and what it has in common with the others of its game
 pub record Joined : Type 0 where
@@ -54,10 +61,11 @@ link_of h = if h.live then option_map joined_of h.link else None
 abbrev pub StaysOf : Joined → Joined → Type 0
 StaysOf n k = (k.seal ≡ n.seal) × (k.identity ≡ n.identity)
 
--- its lockstep takes a step, and its pace another; what it keeps of its peers stays
+-- its lockstep takes a step, and its pace another; whom it has given up and what it keeps of its peers stay
 abbrev pub Moves : (Contents → Contents → Type 0) → (PaceState → PaceState → Type 0) → Joined → Joined → Type 0
 Moves Step Paced n k =
-    Step n.link.node k.link.node × (k.link.peers ≡ n.link.peers) × Paced n.pace k.pace × StaysOf n k
+    Step n.link.node k.link.node × (k.link.others ≡ n.link.others) × (k.link.peers ≡ n.link.peers)
+    × Paced n.pace k.pace × StaysOf n k
 
 -- it makes the command of an input, owes it, or does not play
 abbrev pub BuildsOf : Input → Joined → Joined → Made → Type 0
@@ -72,7 +80,12 @@ CatchesUp n k answer =
     × Steps n.link.node k.link.node (λ limits me m. on_build limits me m input) (λ told. made ≡ told)
     × (k.pace ≡ record n.pace { owed = still_owed made n.pace.owed }))
     × (answer ≡ Some Full → k.link.node ≡ n.link.node) × (answer ≡ Some NotPlaying → k.link.node ≡ n.link.node)
-    × (k.link.peers ≡ n.link.peers) × StaysOf n k
+    × (k.link.others ≡ n.link.others) × (k.link.peers ≡ n.link.peers) × StaysOf n k
+
+-- it runs a tic, but compares no mark of players who are given up: as any node, where nobody is
+abbrev pub RunsOf : List ℤ → Linked → Contents → Contents → Ran → Option (List (Option Move)) → Type 0
+RunsOf marks link old new ran row =
+    (IsWhole link → Runs marks old new ran row) × RunsBut (has_given_up link) marks old new ran row
 
 -- who it says it is
 abbrev pub identity_in : NodeConfig → ℕ → List ℕ → Identity
@@ -85,10 +98,10 @@ identity_in config ahead host =
       host = host;
     }
 
--- nothing is known of its peers, nor of its pace, and it has this seal and this identity
+-- nobody is given up, nothing is known of its peers, nor of its pace, and it has this seal and this identity
 abbrev pub IsNew : NodeConfig → ℕ → List ℕ → Seal → Joined → Type 0
 IsNew config ahead host seal n =
-    ((player : ℕ) → n.link.peers player ≡ new_peer) × (n.pace ≡ new_pace) × (n.seal ≡ seal)
+    (n.link.others ≡ nothing_kept) × ((player : ℕ) → n.link.peers player ≡ new_peer) × (n.pace ≡ new_pace) × (n.seal ≡ seal)
     × (n.identity ≡ identity_in config ahead host)
 
 -- its lockstep is made by this configuration in this window, or there is none; and it is new
@@ -96,27 +109,39 @@ abbrev pub OpensLink : NodeConfig → ℕ → List ℕ → Seal → ℕ → Opti
 OpensLink config ahead host seal code made =
     OpensWithin config ahead code (option_map (λ n. n.link.node) made) × IfSome made (IsNew config ahead host seal)
 
--- it gives each peer a datagram, which no other number gets, and for which it stays as it is
+-- it gives each peer who is not given up a datagram, which no other number gets, and for which it stays as it is
 abbrev pub GivesOut : ℕ → List ℕ → List ℕ → ℕ → Joined → Joined → Type 0
 GivesOut to room written count n k =
-    (given : Option (ArrayVec ℕ)) × (is_some given ≡ is_peer n.link.node to)
+    (given : Option (ArrayVec ℕ)) × (is_some given ≡ remains n.link to)
     × IfSome given (λ bytes. Gives n.seal n.identity n.pace to n.link k.link bytes.items
     × (holds_back n.link ≡ false → Tells n.link.node (λ limits me m. IfSome (sent_to to limits me m).1 IsFair)))
     × (given ≡ None → k.link ≡ n.link) × IsPut given room written count × (k.pace ≡ n.pace) × StaysOf n k
 
--- it takes in any bytes
+-- it takes in any bytes: as a report, if they are of that kind, and else as a datagram
 abbrev pub TakesBytes : List ℕ → Joined → Joined → Received → Type 0
 TakesBytes bytes n k answer =
-    Receives n.seal n.identity n.pace bytes n.link k.link answer × Paces n.seal bytes n.link n.pace k.pace × StaysOf n k
+    (is_notice bytes ≡ false → Receives n.seal n.identity n.pace bytes n.link k.link answer)
+    × (is_notice bytes ≡ false → Paces n.seal bytes n.link n.pace k.pace)
+    × (is_notice bytes ≡ true → HearsNotice n.seal bytes n.link n.pace k.link k.pace answer) × StaysOf n k
+
+-- it gives the report to a player, if there is one
+abbrev pub GivesReport : ℕ → List ℕ → List ℕ → ℕ → Joined → Type 0
+GivesReport to room written count n =
+    (given : Option (ArrayVec ℕ)) × (option_map (λ bytes. bytes.items) given ≡ notice_for n.seal n.link to)
+    × IsPut given room written count
 
 -- a tick goes by
 abbrev pub Leans : Joined → Joined → ℤ → Type 0
 Leans n k answer =
     (answer ≡ lean n.link n.pace) × (nat_abs answer ≤ 34) × (k.link ≡ n.link) × (k.pace ≡ after_tick n.link n.pace) × StaysOf n k
 
--- a peer is given up
+-- a peer is forgotten
 abbrev pub Forgets : ℕ → Joined → Joined → Type 0
 Forgets player n k = (k.link ≡ forgotten player n.link) × (k.pace ≡ n.pace) × StaysOf n k
+
+-- a player is given up for good
+abbrev pub GivesUpIn : ℕ → Joined → Joined → GivenUp → Type 0
+GivesUpIn player n k answer = GivesUpPeer player n.link k.link answer × (k.pace ≡ n.pace) × StaysOf n k
 
 abbrev pub bundle_code : BundleFault → ℕ
 bundle_code BundleFault.Short = 1
@@ -136,6 +161,11 @@ abbrev pub received_told : Received → ReceivedAnswer
 received_told (Received.Heard player started) =
     record { code = 0; reason = 0; player = player; started = bit started }
 received_told (Received.Stranger player) = record { code = 1; reason = 0; player = player; started = 0 }
+received_told (Received.Unreported fault) =
+    record { code = 6; reason = notice_code fault; player = 0; started = 0 }
+received_told (Received.Reported player reported) =
+    record { code = 5; reason = reported_code reported; player = player; started = 0 }
+received_told (Received.GivenUp player) = record { code = 4; reason = 0; player = player; started = 0 }
 received_told (Received.Different player) = record { code = 3; reason = 0; player = player; started = 0 }
 received_told (Received.Unopened fault) = unopened (bundle_code fault)
 

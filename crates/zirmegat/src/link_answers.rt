@@ -5,20 +5,23 @@ ghost use Rattle.dn_link.specs.declared.presence.Presence.TheVariants.{Different
 ghost use Rattle.zirmegat.specs.Links.{bundle_code, line_told, no_host, owed_told, presence_at, presence_told, received_told, unopened};
 
 use crate::answers::MadeAnswer;
+use crate::report_answers::{notice_code, reported_code};
 use dn_link::{BundleFault, Figures, Identity, Presence, Received};
 use dn_lockstep::Made;
 
 /// What a link makes of bytes that came in: 0 for the datagram of a peer, 1 for one of `player` who is none, 2
-/// for bytes that are no datagram to this player in this game, for the fault `reason`, and 3 for the datagram
-/// of a peer with another identity.
+/// for bytes that are no datagram to this player in this game, for the fault `reason`, 3 for the datagram of a
+/// peer with another identity, 4 for one of `player` who is given up, 5 for the report of `player`, of which
+/// `reason` tells what became, and 6 for bytes of a report's kind that are none, for the fault `reason`.
 #[repr(C)]
 #[derive(Clone, Copy, Debug, PartialEq, Eq)]
 pub struct ReceivedAnswer {
-    /// 0 to 3, as above.
+    /// 0 to 6, as above.
     pub code: u32,
-    /// The number of the fault, where `code` is 2, and 0 where there is no link.
+    /// The number of the fault, where `code` is 2 or 6, what became of a report, where it is 5; 0 where there is no
+    /// link.
     pub reason: u32,
-    /// Who sent it, where `code` is not 2.
+    /// Who sent it, where `code` is neither 2 nor 6.
     pub player: u8,
     /// 1 where the game started with it, and else 0.
     pub started: u8,
@@ -49,6 +52,24 @@ impl ReceivedAnswer {
             },
             Received::Stranger(from) => ReceivedAnswer {
                 code: 1,
+                reason: 0,
+                player: from,
+                started: 0,
+            },
+            Received::Unreported(fault) => ReceivedAnswer {
+                code: 6,
+                reason: notice_code(fault),
+                player: 0,
+                started: 0,
+            },
+            Received::Reported { from, reported } => ReceivedAnswer {
+                code: 5,
+                reason: reported_code(reported),
+                player: from,
+                started: 0,
+            },
+            Received::GivenUp(from) => ReceivedAnswer {
+                code: 4,
                 reason: 0,
                 player: from,
                 started: 0,

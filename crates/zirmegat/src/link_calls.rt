@@ -13,8 +13,8 @@ ghost use Rattle.dn_lockstep.specs.Runs.{told_by};
 ghost use Rattle.zirmegat.specs.Calls.{Calls};
 ghost use Rattle.zirmegat.specs.Answers.{made_told, ran_told, row_told_over};
 ghost use Rattle.zirmegat.specs.Commands.{given_in};
-ghost use Rattle.zirmegat.specs.Going.{Runs, Quits};
-ghost use Rattle.zirmegat.specs.Links.{link_of, Moves, BuildsOf, CatchesUp, Forgets, GivesOut, Leans, TakesBytes, owed_told, received_told, unopened};
+ghost use Rattle.zirmegat.specs.Going.{Quits};
+ghost use Rattle.zirmegat.specs.Links.{link_of, Moves, BuildsOf, CatchesUp, Forgets, GivesOut, Leans, RunsOf, TakesBytes, owed_told, received_told, unopened};
 
 use crate::answers::{MadeAnswer, MoveAnswer, RanAnswer};
 use crate::bytes;
@@ -95,7 +95,7 @@ pub extern "C" fn zmg_link_forget(link: &mut LinkHandle, player: u8)
 }
 
 /// Writes the datagram of the moment to a peer, and answers how many bytes it has, and 0 where the number is no
-/// peer's. Where the room is below 1,200 bytes, it answers 0, and the link stays as it is.
+/// peer's, or that of one who is given up. Where the room is below 1,200 bytes, it answers 0, and the link stays as it is.
 #[unsafe(no_mangle)]
 pub extern "C" fn zmg_link_datagram(link: &mut LinkHandle, to: u8, out: &mut [u8]) -> usize
     ensures given { 1200 ≤ length out.old → Calls (link_of link.old) (link_of link.new)
@@ -129,7 +129,7 @@ pub extern "C" fn zmg_link_receive(link: &mut LinkHandle, bytes: &[u8]) -> Recei
     }
 }
 
-/// As `zmg_lockstep_run`.
+/// As `zmg_lockstep_run`, but no mark is compared of players who are given up.
 #[unsafe(no_mangle)]
 pub extern "C" fn zmg_link_run(
     link: &mut LinkHandle,
@@ -137,9 +137,9 @@ pub extern "C" fn zmg_link_run(
     row: &mut [MoveAnswer; 4],
 ) -> RanAnswer
     ensures { Calls (link_of link.old) (link_of link.new)
-        (Moves (λ n k. (ran : Answer) × (moves : List (Option Step))
+        (λ n k. Moves (λ old new. (ran : Answer) × (moves : List (Option Step))
         × (result ≡ ran_told ran) × (row.new ≡ row_told_over row.old (told_by ran moves))
-        × Runs marks.now n k ran (told_by ran moves)) (λ old new. new ≡ old))
+        × RunsOf marks.now n.link old new ran (told_by ran moves)) (λ old new. new ≡ old) n k)
         ((result ≡ ran_told Ran.NotPlaying) × (row.new ≡ row.old)) }
 {
     match link.held() {

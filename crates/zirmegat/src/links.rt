@@ -6,6 +6,7 @@ ghost use Rattle.dn_lockstep.specs.Opening.{IsAdmittedWithin, whose_within};
 ghost use Rattle.dn_seal.specs.Keys.{no_secret};
 ghost use Rattle.dn_seal.specs.Sealing.{sealed_with};
 ghost use Rattle.dn_seal.specs.declared.suite.Suite.TheVariants.{Secret};
+ghost use Rattle.dn_others.specs.Keeping.{nothing_kept};
 ghost use Rattle.dn_link.specs.Linking.{identity_of, linked, new_peer, seal_of};
 ghost use Rattle.dn_link.specs.Pacing.{new_pace, pace_of};
 ghost use Rattle.zirmegat.specs.Opening.{IsFresh};
@@ -30,6 +31,7 @@ fn boxed(
     ensures admitted { IsAdmittedWithin config ahead result }
     ensures fresh { IfOk result (λ made. IsFresh config ahead (linked made.value).node) }
     ensures whose { IfOk result (λ made. whose (linked made.value).node ≡ whose_within config ahead) }
+    ensures others { IfOk result (λ made. (linked made.value).others ≡ nothing_kept) }
     ensures peers { IfOk result (λ made. (player : ℕ) → (linked made.value).peers player ≡ new_peer) }
     ensures pace { IfOk result (λ made. pace_of made.value ≡ new_pace) }
     ensures seal { IfOk result (λ made. seal_of made.value ≡ seal) }

@@ -76,7 +76,10 @@ fn other_bytes_are_not_taken_in() {
     for bit in 0..datagram.len() * 8 {
         let mut altered = datagram.to_vec();
         altered[bit / 8] ^= 1 << (bit % 8);
-        assert!(matches!(other.receive(&altered), Received::Unopened(_)));
+        assert!(matches!(
+            other.receive(&altered),
+            Received::Unopened(_) | Received::Unreported(_)
+        ));
     }
     assert_eq!(
         other.receive(&datagram[..59]),
@@ -116,6 +119,7 @@ fn codes_of_links_have_their_names() {
     };
     assert_eq!(of(0, 0), heard);
     assert_eq!(of(1, 0), Received::Stranger(3));
+    assert_eq!(of(4, 0), Received::GivenUp(3));
     let reasons = [
         BundleError::Short,
         BundleError::Long,
@@ -125,12 +129,14 @@ fn codes_of_links_have_their_names() {
         BundleError::Receiver,
         BundleError::Tag,
         BundleError::Form,
-        BundleError::Unknown(9),
+        BundleError::Sender,
+        BundleError::Unknown(10),
     ];
     for (reason, unread) in (1..).zip(reasons) {
         assert_eq!(of(2, reason), Received::Unopened(unread));
     }
     assert_eq!(of(3, 0), Received::Different(3));
+    assert_eq!(of(6, 7), Received::Unreported(BundleError::Tag));
     assert_eq!(of(100, 0), Received::Unknown(100));
 }
 

@@ -13,33 +13,37 @@ impl Link {
     ghost use Rattle.dn_lockstep.specs.Near.{IsFair};
     ghost use Rattle.dn_lockstep.specs.Sent.{sent_to};
     ghost use Rattle.dn_lockstep.specs.Steps.{Tells};
-    ghost use Rattle.dn_link.specs.Linked.{Gives, holds_back, is_peer};
+    ghost use Rattle.dn_link.specs.Linked.{Gives, holds_back, remains};
     ghost use Rattle.dn_link.specs.Linking.{identity_of, linked, seal_of};
     ghost use Rattle.dn_link.specs.Pacing.{pace_of};
 
     /// The datagram to a peer, for each tick: the packets that are kept until it acknowledges their commands
     /// and the one of the moment, oldest first, up to where there may be no room for one more, and how far this
     /// player is. Before the game starts it says who is there, and player 0 gives the settings once all are.
-    /// After the end it says goodbye. None to a number that is no peer's.
+    /// After the end it says goodbye. None to a number that is no peer's, nor to one who is given up.
     pub fn datagram(&mut self, to: u8) -> Option<ArrayVec<u8, 1200>>
         ensures gives { IfSome result (λ bytes. Gives (seal_of self.old) (identity_of self.old) (pace_of self.old) to
             (linked self.old) (linked self.new) bytes.items) }
         ensures fair { IfSome result (λ bytes. holds_back (linked self.old) ≡ false → Tells (linked self.old).node
             (λ limits me m. IfSome (sent_to to limits me m).1 IsFair)) }
-        ensures peer { is_some result ≡ is_peer (linked self.old).node to }
+        ensures peer { is_some result ≡ remains (linked self.old) to }
+        ensures others { (linked self.new).others ≡ (linked self.old).others }
         ensures idle { result ≡ None → linked self.new ≡ linked self.old }
         ensures pace { pace_of self.new ≡ pace_of self.old }
         ensures seal { seal_of self.new ≡ seal_of self.old }
         ensures identity { identity_of self.new ≡ identity_of self.old }
     {
-        let me = self.lockstep.me();
-        if to == me || to >= self.lockstep.players() {
+        let me = self.me();
+        if to == me || to >= self.lockstep().players() {
             return None;
         }
-        let message = message_of(&self.identity, self.lockstep.phase());
+        if self.has_given_up(to) {
+            return None;
+        }
+        let message = message_of(&self.identity, self.lockstep().phase());
         let held = self.holds_back();
         let gathers = self.is_gathering();
-        let packet = next_unless(held, &mut self.lockstep, to);
+        let packet = next_unless(held, self.survivor.lockstep_mut(), to);
         let settings = is_settings(gathers, &packet);
         let (number, parts) = self.peers[to as usize].parts(me, packet, settings);
         let bundle = Bundle {
@@ -48,7 +52,7 @@ impl Link {
             number,
             lead: self.pace.own_lead(to),
             holes: self.pace.missing(to),
-            counts: counts_of(&self.lockstep),
+            counts: counts_of(self.lockstep()),
             message,
             parts,
         };

@@ -18,24 +18,22 @@ impl Link {
     }
 
     /// Whether a player needs nothing more of this one: it has itself left, or has acknowledged all commands
-    /// and the end; or there is no such other player.
+    /// and the end; or it is given up, or there is no such other player.
     pub(super) fn needs_nothing(&self, player: u8) -> bool
         requires { player < 4 }
         ensures { result ≡ needs_nothing (linked self.now) player }
     {
-        if !self.is_peer(player) || self.lockstep.end(player).is_some() {
+        if !self.remains(player) || self.end(player).is_some() {
             return true;
         }
-        self.is_out(player)
-            || self.lockstep.made() < self.peer(player).reported_of(self.lockstep.me())
+        self.is_out(player) || self.made() < self.peer(player).reported_of(self.me())
     }
 
     /// Whether it has ended before its game started.
     fn never_played(&self) -> bool
         ensures { result ≡ never_played (linked self.now).node }
     {
-        matches!(self.lockstep.phase(), Phase::Ended(_))
-            && self.lockstep.end(self.lockstep.me()).is_none()
+        matches!(self.lockstep().phase(), Phase::Ended(_)) && self.end(self.me()).is_none()
     }
 
     /// Whether each other player needs nothing more of this one.
@@ -49,7 +47,7 @@ impl Link {
     }
 
     /// Whether nobody needs commands of this player any more, nor to know that it has left: each other player
-    /// has itself left, or has acknowledged all commands and the end. A peer that has left waits for the same,
+    /// has itself left, is given up, or has acknowledged all commands and the end. A peer that has left waits for the same,
     /// by the counts of this one: give it some more datagrams, and limit the wait, since the last datagram may
     /// be lost. A player who has left before its game started may go at once; some more datagrams let the
     /// others know.

@@ -18,7 +18,7 @@ impl Link {
         ensures value { result ≡ is_peer (linked self.now).node player }
         ensures few { result ≡ true → player < 4 }
     {
-        player < self.lockstep.players() && player != self.lockstep.me()
+        player < self.lockstep().players() && player != self.me()
     }
 
     /// What is kept of a peer.
@@ -29,12 +29,13 @@ impl Link {
         &self.peers[player as usize]
     }
 
-    /// Whether it waits for nobody before its game: for no peer, or for one that is there.
+    /// Whether it need not wait for a player before its game: for no peer, for one who is given up, or for one
+    /// that is there.
     fn is_ready(&self, player: u8) -> bool
         requires { player < 4 }
         ensures { result ≡ is_ready (linked self.now) player }
     {
-        !self.is_peer(player) || self.peer(player).presence.is_there()
+        !self.remains(player) || self.peer(player).presence.is_there()
     }
 
     /// Whether all players are there.
@@ -48,7 +49,7 @@ impl Link {
     pub(super) fn is_gathering(&self) -> bool
         ensures { result ≡ is_gathering (linked self.now).node.phase }
     {
-        matches!(self.lockstep.phase(), Phase::Gathering)
+        matches!(self.lockstep().phase(), Phase::Gathering)
     }
 
     /// Whether it holds its settings back, since not all players are there.
@@ -81,7 +82,7 @@ impl Link {
     {
         if self.is_peer(player) {
             let peer = self.peer(player);
-            let given_up = peer.presence.given_up(peer.gave, self.lockstep.phase());
+            let given_up = peer.presence.given_up(peer.gave, self.lockstep().phase());
             self.peers[player as usize].presence = given_up;
         }
     }

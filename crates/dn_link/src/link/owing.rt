@@ -21,14 +21,15 @@ impl Link {
             (λ limits me m. on_build limits me m input) (λ made. result ≡ made) }
         ensures full { result ≡ made.Full → (linked self.new).node ≡ (linked self.old).node }
         ensures idle { result ≡ made.NotPlaying → (linked self.new).node ≡ (linked self.old).node }
+        ensures others { (linked self.new).others ≡ (linked self.old).others }
         ensures peers { (linked self.new).peers ≡ (linked self.old).peers }
         ensures pace { pace_of self.new ≡ pace_of self.old }
         ensures seal { seal_of self.new ≡ seal_of self.old }
         ensures identity { identity_of self.new ≡ identity_of self.old }
     {
         match input {
-            Input::Pressed(keys) => self.lockstep.build(keys),
-            Input::Given(command) => self.lockstep.give(command),
+            Input::Pressed(keys) => self.survivor.build(keys),
+            Input::Given(command) => self.survivor.give(command),
         }
     }
 
@@ -42,6 +43,7 @@ impl Link {
             × (pace_of self.new ≡ record (pace_of self.old) { owed = still_owed answer (pace_of self.old).owed }) }
         ensures full { result ≡ Some made.Full → (linked self.new).node ≡ (linked self.old).node }
         ensures idle { result ≡ Some made.NotPlaying → (linked self.new).node ≡ (linked self.old).node }
+        ensures others { (linked self.new).others ≡ (linked self.old).others }
         ensures peers { (linked self.new).peers ≡ (linked self.old).peers }
         ensures seal { seal_of self.new ≡ seal_of self.old }
         ensures identity { identity_of self.new ≡ identity_of self.old }

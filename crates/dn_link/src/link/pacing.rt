@@ -1,7 +1,7 @@
 //! How ticks are paced.
 
 use super::Link;
-use crate::line::{apart, lead_over, total};
+use crate::line::{apart, total};
 
 impl Link {
     ghost use Rattle.std.specs.Prelude.{◌<◌, ◌≤◌, ◌+◌, ◌&&◌, nat_abs, nat_lt, ◌≡◌};
@@ -15,7 +15,7 @@ impl Link {
     {
         self.is_peer(player)
             && self.pace.is_heard(player)
-            && self.lockstep.end(player).is_none()
+            && self.end(player).is_none()
             && self.peer(player).presence.is_playing()
     }
 
@@ -28,7 +28,7 @@ impl Link {
         if !self.is_paced(player) {
             return 0;
         }
-        apart(lead_over(&self.lockstep, player), self.pace.lead(player))
+        apart(self.lead_over(player), self.pace.lead(player))
     }
 
     /// Of all peers together.
@@ -85,7 +85,8 @@ impl Link {
         let differences = self.differences();
         let playing = self.playing();
         let lossy = self.is_lossy();
-        self.pace.tick(&self.lockstep, differences, playing, lossy)
+        self.pace
+            .tick(self.survivor.lockstep(), differences, playing, lossy)
     }
 
     /// Whether a peer that plays reports that two or more of the last datagrams to it did not come, or came

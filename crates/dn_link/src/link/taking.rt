@@ -1,8 +1,8 @@
 //! What comes in.
 
 use super::Link;
+use super::notices::is_notice;
 use crate::bundle::Bundle;
-use crate::counting::certain;
 use crate::hearing::hear_bundle;
 use crate::presence::{Presence, differs, is_fresh};
 use crate::reading::open_bundle;
@@ -14,9 +14,10 @@ impl Link {
     ghost use Rattle.dn_machine.specs.Game.{fresh};
     ghost use Rattle.dn_link.specs.Hearing.{ByTest, HearsAll};
     ghost use Rattle.dn_link.specs.Packets.{packets_in};
-    ghost use Rattle.dn_link.specs.Linked.{Receives, ReceivesAs, done_with, hears, is_peer, met};
+    ghost use Rattle.dn_link.specs.Linked.{IsWhole, Receives, ReceivesAs, done_with, has_given_up, hears, is_peer, met};
+    ghost use Rattle.dn_link.specs.Notices.{HearsNotice, is_notice};
     ghost use Rattle.dn_link.specs.Linking.{identity_of, linked, seal_of};
-    ghost use Rattle.dn_link.specs.Pace.{Paces, after_datagram};
+    ghost use Rattle.dn_link.specs.Pace.{Paces, PacesAs, after_datagram};
     ghost use Rattle.dn_link.specs.Pacing.{pace_of};
 
     /// How many commands of this player a peer no longer needs, by its presence and the count that it reported.
@@ -24,8 +25,8 @@ impl Link {
         ensures { result ≡ done_with presence (linked self.now).node count }
     {
         match presence {
-            Presence::Left(_) => self.lockstep.made(),
-            _ => certain(&self.lockstep, count),
+            Presence::Left(_) => self.made(),
+            _ => self.certain(count),
         }
     }
 
@@ -41,7 +42,7 @@ impl Link {
             self.peers[bundle.from as usize].is_now(presence);
             return;
         }
-        let me = self.lockstep.me();
+        let me = self.me();
         let done = self.done_with(presence, bundle.counts.got[me as usize]);
         self.peers[bundle.from as usize].tells(done, &bundle.counts.got, presence);
     }
@@ -58,22 +59,25 @@ impl Link {
         ensures heard { ByTest (not differs && hears (linked self.old) presence)
             (HearsAll (packets_in bundle.now) (linked self.old).node (linked self.new).node result)
             (((linked self.new).node ≡ (linked self.old).node) × (result ≡ false)) }
+        ensures others { (linked self.new).others ≡ (linked self.old).others }
         ensures peers { (linked self.new).peers ≡ (linked self.old).peers }
         ensures pace { pace_of self.new ≡ pace_of self.old }
         ensures seal { seal_of self.new ≡ seal_of self.old }
         ensures identity { identity_of self.new ≡ identity_of self.old }
     {
-        !differs && self.hears(presence) && hear_bundle(&mut self.lockstep, bundle)
+        !differs && self.hears(presence) && hear_bundle(self.survivor.lockstep_mut(), bundle)
     }
 
     /// Takes in the datagram of a peer.
     fn take_in(&mut self, bundle: &Bundle) -> Received
         requires peer { is_peer (linked self.old).node bundle.now.from ≡ true }
         requires few { bundle.now.from < 4 }
+        requires stays { has_given_up (linked self.old) bundle.now.from ≡ false }
         ensures heard { ReceivesAs (identity_of self.old) (pace_of self.old) (Ok bundle.now) (linked self.old) (linked self.new) result }
         ensures pace { pace_of self.new ≡ after_datagram bundle.now
             (may_come ((linked self.old).peers bundle.now.from).gave ((linked self.old).peers bundle.now.from).presence)
             (pace_of self.old) }
+        ensures others { (linked self.new).others ≡ (linked self.old).others }
         ensures seal { seal_of self.new ≡ seal_of self.old }
         ensures identity { identity_of self.new ≡ identity_of self.old }
     {
@@ -91,13 +95,29 @@ impl Link {
         received_of(differs, from, started)
     }
 
-    /// Takes in any bytes, wherever they come from. Answers which peer's datagram they are, and whether the
-    /// game started with it. Bytes that are no datagram to this player in this game change nothing but what
-    /// `refused` counts. A datagram whose sender is no peer changes nothing.
-    pub fn receive(&mut self, bytes: &[u8]) -> Received
+    /// Takes in what was opened, if its sender is a peer who is not given up.
+    fn take(&mut self, bundle: &Bundle) -> Received
+        ensures heard { ReceivesAs (identity_of self.old) (pace_of self.old) (Ok bundle.now) (linked self.old) (linked self.new) result }
+        ensures pace { PacesAs (Ok bundle.now) (linked self.old) (pace_of self.old) (pace_of self.new) }
+        ensures others { (linked self.new).others ≡ (linked self.old).others }
+        ensures seal { seal_of self.new ≡ seal_of self.old }
+        ensures identity { identity_of self.new ≡ identity_of self.old }
+    {
+        if !self.is_peer(bundle.from) {
+            return Received::Stranger(bundle.from);
+        }
+        if self.has_given_up(bundle.from) {
+            return Received::GivenUp(bundle.from);
+        }
+        self.take_in(bundle)
+    }
+
+    /// Takes in bytes that are not of the kind of reports.
+    fn receive_datagram(&mut self, bytes: &[u8]) -> Received
         ensures heard { Receives (seal_of self.old) (identity_of self.old) (pace_of self.old) bytes.now (linked self.old)
             (linked self.new) result }
         ensures pace { Paces (seal_of self.old) bytes.now (linked self.old) (pace_of self.old) (pace_of self.new) }
+        ensures others { (linked self.new).others ≡ (linked self.old).others }
         ensures seal { seal_of self.new ≡ seal_of self.old }
         ensures identity { identity_of self.new ≡ identity_of self.old }
     {
@@ -106,13 +126,31 @@ impl Link {
                 self.pace.refuse();
                 Received::Unopened(fault)
             }
-            Ok(bundle) => {
-                if self.is_peer(bundle.from) {
-                    self.take_in(&bundle)
-                } else {
-                    Received::Stranger(bundle.from)
-                }
-            }
+            Ok(bundle) => self.take(&bundle),
+        }
+    }
+
+    /// Takes in any bytes, wherever they come from. Answers which peer's datagram they are, and whether the
+    /// game started with it; or whose report they are, and what became of it. Bytes that are neither to this
+    /// player in this game change nothing but what `refused` counts. A datagram whose sender is no peer, or is
+    /// given up, changes nothing.
+    pub fn receive(&mut self, bytes: &[u8]) -> Received
+        ensures heard { is_notice bytes.now ≡ false → Receives (seal_of self.old) (identity_of self.old)
+            (pace_of self.old) bytes.now (linked self.old) (linked self.new) result }
+        ensures pace { is_notice bytes.now ≡ false
+            → Paces (seal_of self.old) bytes.now (linked self.old) (pace_of self.old) (pace_of self.new) }
+        ensures told { is_notice bytes.now ≡ true → HearsNotice (seal_of self.old) bytes.now (linked self.old)
+            (pace_of self.old) (linked self.new) (pace_of self.new) result }
+        ensures gone { (linked self.new).others.gone ≡ (linked self.old).others.gone }
+        ensures quiet { is_notice bytes.now ≡ true → IsWhole (linked self.old)
+            → ((linked self.new).node ≡ (linked self.old).node) × ((linked self.new).peers ≡ (linked self.old).peers) }
+        ensures seal { seal_of self.new ≡ seal_of self.old }
+        ensures identity { identity_of self.new ≡ identity_of self.old }
+    {
+        if is_notice(bytes) {
+            self.receive_report(bytes)
+        } else {
+            self.receive_datagram(bytes)
         }
     }
 }

@@ -1,7 +1,6 @@
 //! What a link reports for the screen.
 
 use super::Link;
-use crate::counting::certain;
 use crate::figures::Figures;
 
 impl Link {
@@ -39,12 +38,9 @@ impl Link {
         ensures most { result ≤ made_in (linked self.now).node }
     {
         if self.needs_nothing(player) {
-            return self.lockstep.made();
+            return self.made();
         }
-        certain(
-            &self.lockstep,
-            self.peer(player).reported_of(self.lockstep.me()),
-        )
+        self.certain(self.peer(player).reported_of(self.me()))
     }
 
     /// How many of its commands not every remaining player has acknowledged: the oldest has been on its way for
@@ -54,6 +50,6 @@ impl Link {
     {
         let first = self.acknowledged_by(0).min(self.acknowledged_by(1));
         let second = self.acknowledged_by(2).min(self.acknowledged_by(3));
-        self.lockstep.made() - first.min(second)
+        self.made() - first.min(second)
     }
 }

@@ -7,7 +7,7 @@ use std::alloc::Global;
 use std::process::Abort;
 
 /// Three links of one game.
-fn three(rt: &impl Abort, alloc: Global) -> (Link, Link, Link) {
+pub(super) fn three(rt: &impl Abort, alloc: Global) -> (Link, Link, Link) {
     (
         link_of(rt, alloc, 3, 0, 1),
         link_of(rt, alloc, 3, 1, 1),

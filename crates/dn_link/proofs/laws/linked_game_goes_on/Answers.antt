@@ -1,4 +1,4 @@
-use Rattle.std.proofs.Common.{◌≡◌, ◌<◌, ℕ, pos, false, get_or, refl, subst}
+use Rattle.std.proofs.Common.{◌≡◌, ◌<◌, ◌∙◌, ℕ, pos, false, get_or, refl, ap, sym, subst}
 use Rattle.dn_machine.specs.Building.{on_build}
 use Rattle.dn_machine.specs.Running.{on_run, on_quit, is_over}
 use Rattle.dn_machine.specs.declared.answers.Ran.{Ran}
@@ -7,6 +7,8 @@ use Rattle.dn_lockstep.specs.OneGame.{world_told}
 use Rattle.dn_lockstep.specs.Session.{after_build, after_run, with_lockstep}
 use Rattle.dn_lockstep.specs.Runs.{RunsBy, marks_in, with_row}
 use Rattle.dn_lockstep.specs.Steps.{Steps}
+use Rattle.dn_others.specs.declared.others.Others.{Others}
+use Rattle.dn_link.proofs.Growing.{HasAsMuch, as_much}
 use Rattle.dn_link.proofs.Holding.{build_holds, run_holds, quit_holds}
 use Rattle.dn_link.proofs.Forgets.{forgot}
 use Rattle.dn_link.proofs.Gives.{gave_to}
@@ -18,16 +20,17 @@ pub returns : goal.returns
 returns c =
     let on = c.one_game_goes_on.ensures in
     record {
-      built = λ marking limits settings session links player new input made linked mine step peers.
+      built = λ marking limits settings session links player new input made linked mine step others peers.
           called marking limits settings session links player linked mine
           (after_build session player input made new.node) new
           (on.built marking limits settings session player new.node input made linked.game mine
           (subst (λ (n : Contents). Steps n new.node (λ limits me m. on_build limits me m input) (λ answer. made ≡ answer))
-          (linked.nodes player mine) step)) refl refl peers
+          (linked.nodes player mine) step)) refl refl (ap (λ (o : Others). o.gone) others)
+          peers
           (much_by marking limits settings session links player linked mine new.node
           (λ limits me m. on_build limits me m input) (λ answer. made ≡ answer) step.step
           (build_holds limits player (linked.game.last.nodes player) input));
-      ran = λ marking limits settings session links player new marks ran row linked mine honest step peers.
+      ran = λ marking limits settings session links player new marks ran row linked mine honest step others peers.
           called marking limits settings session links player linked mine
           (after_run session player row new.node) new
           (on.ran marking limits settings session player new.node marks ran row linked.game mine
@@ -36,16 +39,18 @@ returns c =
           → get_or marks other (pos 0) ≡ marking (world_told limits settings (session.told player)) other)
           (linked.nodes player mine) honest)
           (subst (λ (n : Contents). RunsBy marks n new.node (λ limits m marks. on_run limits m marks)
-          (λ answer told. (ran ≡ answer) × (row ≡ told))) (linked.nodes player mine) step)) refl refl peers
+          (λ answer told. (ran ≡ answer) × (row ≡ told))) (linked.nodes player mine) step)) refl refl (ap (λ (o : Others). o.gone) others)
+          peers
           (much_by marking limits settings session links player linked mine new.node
           (λ limits me m. with_row limits m (on_run limits m (marks_in marks)))
           (λ answer. (ran ≡ answer.0) × (row ≡ answer.1)) step.step
           (run_holds limits player (linked.game.last.nodes player) (marks_in marks)));
-      quit = λ marking limits settings session links player new quit linked mine step peers.
+      quit = λ marking limits settings session links player new quit linked mine step others peers.
           called marking limits settings session links player linked mine (with_lockstep session player new.node) new
           (on.quit marking limits settings session player new.node quit linked.game mine
           (subst (λ (n : Contents). Steps n new.node (λ limits me m. on_quit m) (λ answer. quit ≡ answer))
-          (linked.nodes player mine) step)) refl refl peers
+          (linked.nodes player mine) step)) refl refl (ap (λ (o : Others). o.gone) others)
+          peers
           (much_by marking limits settings session links player linked mine new.node
           (λ limits me m. on_quit m) (λ answer. quit ≡ answer) step.step
           (quit_holds limits player (linked.game.last.nodes player)));
@@ -61,4 +66,9 @@ returns c =
           received marking limits settings session links player linked mine c.letters_keep_one_game.ensures
           (λ now same. on.kept marking limits settings session player now linked.game same) seal identity pace bytes
           new answer genuine receives;
+      reported = λ marking limits settings session links player new linked mine same gone peers.
+          called marking limits settings session links player linked mine (with_lockstep session player new.node) new
+          (on.kept marking limits settings session player new.node linked.game (same ∙ linked.nodes player mine))
+          refl refl gone peers
+          (subst (HasAsMuch player (links player).node) (sym same) (as_much player (links player).node));
     }

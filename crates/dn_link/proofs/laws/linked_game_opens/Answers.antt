@@ -9,10 +9,11 @@ use Rattle.dn_link.specs.Linked.{PeerState}
 use Rattle.dn_link.specs.Linking.{new_peer}
 use Rattle.dn_link.specs.Packets.{opened_from}
 use Rattle.dn_link.proofs.Relinking.{AreGiven}
+use Rattle.dn_link.proofs.Whole.{new_whole}
 use Rattle.dn_link.proofs.laws.linked_game_opens.Goals as goal
 
 pub returns : goal.returns
-returns c = λ marking limits settings links window shows nothing. record {
+returns c = λ marking limits settings links window shows kept nothing. record {
   game = c.one_game_opens.ensures marking limits settings (λ player. (links player).node) window shows;
   nodes = λ player below. refl;
   kept = λ player peer below. subst (λ (t : PeerState). AreGiven [] player peer t.kept.packets)
@@ -21,6 +22,7 @@ returns c = λ marking limits settings links window shows nothing. record {
       ≤ has_of (links peer).node which) (sym (nothing player peer below)) (none which (has_of (links peer).node which));
   left = λ player peer cause below is. absurd (unknown cause (ap (λ (t : PeerState). t.presence)
       (sym (nothing player peer below)) ∙ is));
+  whole = λ player below. new_whole (links player) (kept player below);
 }
   where
     unknown : (cause : ℕ) → ◌≡◌ {A = Presence} Unknown (Left cause) → ⊥

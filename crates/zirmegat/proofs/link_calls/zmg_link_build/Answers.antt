@@ -17,6 +17,7 @@ returns-in-Some c =
           c.build.ensures.full,
           c.build.ensures.idle,
         ),
+        c.build.ensures.others,
         c.build.ensures.peers,
         c.build.ensures.pace
             ∙ (λ i. after_input (Pressed (c.from_bits.ensures i)) c.build.result (pace_of c.in-Some.held.now)),

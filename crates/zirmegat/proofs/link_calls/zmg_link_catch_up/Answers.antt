@@ -12,6 +12,7 @@ returns-in-Some c =
         c.catch_up.ensures.owed,
         c.catch_up.ensures.full,
         c.catch_up.ensures.idle,
+        c.catch_up.ensures.others,
         c.catch_up.ensures.peers,
         (c.catch_up.ensures.seal, c.catch_up.ensures.identity),
       ),

@@ -17,6 +17,7 @@ returns-in-Some c =
           c.give.ensures.full,
           c.give.ensures.idle,
         ),
+        c.give.ensures.others,
         c.give.ensures.peers,
         c.give.ensures.pace
             ∙ (λ i. after_input (Given (c.given.ensures i)) c.give.result (pace_of c.in-Some.held.now)),

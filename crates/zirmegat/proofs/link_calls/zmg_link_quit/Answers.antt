@@ -6,6 +6,7 @@ returns-in-Some c =
     link_lent c.args.link.now c.in-Some.held.now c.quit.new.self _ _
     c.in-Some.ensures.live c.in-Some.ensures.value (
       (c.quit.result, c.flag.ensures, (c.quit.ensures.step, c.quit.ensures.idle)),
+      c.quit.ensures.others,
       c.quit.ensures.peers,
       c.quit.ensures.pace,
       (c.quit.ensures.seal, c.quit.ensures.identity),

@@ -7,5 +7,5 @@ returns-in-Some c =
     c.in-Some.ensures.live c.in-Some.ensures.value (
       c.receive.result,
       c.of.ensures,
-      (c.receive.ensures.heard, c.receive.ensures.pace, (c.receive.ensures.seal, c.receive.ensures.identity)),
+      (c.receive.ensures.heard, c.receive.ensures.pace, c.receive.ensures.told, (c.receive.ensures.seal, c.receive.ensures.identity)),
     )

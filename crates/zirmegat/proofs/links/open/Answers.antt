@@ -16,6 +16,7 @@ returns-in-Ok-boxed c =
           c.in-Ok-boxed.ensures.admitted (ap (option_map (λ (n : Joined). n.link.node)) held)
           c.in-Ok-boxed.ensures.fresh c.in-Ok-boxed.ensures.whose,
       subst (λ (o : Option Joined). IfSome o (IsNew c.args.config.now c.args.ahead c.args.host c.args.seal)) (sym held) (
+        c.in-Ok-boxed.ensures.others,
         c.in-Ok-boxed.ensures.peers,
         c.in-Ok-boxed.ensures.pace,
         c.in-Ok-boxed.ensures.seal,

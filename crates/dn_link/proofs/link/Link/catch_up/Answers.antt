@@ -2,8 +2,8 @@ use Rattle.std.proofs.Common.{◌≡◌, refl, ap, sym, ◌∙◌, subst}
 use Rattle.std.proofs.lemmas.Option.{same_Some}
 use Rattle.dn_tic.specs.declared.input.Input.{Input}
 use Rattle.dn_machine.specs.Building.{on_build}
-use Rattle.dn_lockstep.specs.Contents.{contents}
 use Rattle.dn_lockstep.specs.Steps.{Steps}
+use Rattle.dn_link.specs.Linking.{linked}
 use Rattle.dn_link.specs.Pace.{still_owed}
 use Rattle.dn_link.specs.Paced.{PaceState}
 use Rattle.dn_link.proofs.link.Link.catch_up.Goals as goal
@@ -14,7 +14,7 @@ returns-clause-owed c = λ input owed.
     let same = same_Some c.in-Some.input input (sym c.in-Some.is ∙ c.owed.ensures ∙ owed) in (
       made,
       refl,
-      subst (λ (x : Input). Steps (contents c.args.self.now.lockstep) (contents c.make-made.new.self.lockstep)
+      subst (λ (x : Input). Steps (linked c.args.self.now).node (linked c.make-made.new.self).node
           (λ limits me m. on_build limits me m x) (λ answer. made ≡ answer)) same c.make-made.ensures.step,
       c.settle.ensures
           ∙ ap (λ (p : PaceState). record p { owed = still_owed made p.owed }) c.make-made.ensures.pace,

@@ -1,13 +1,15 @@
-use Rattle.std.proofs.Common.{rules, ◌≡◌, ◌<◌, ◌+◌, ◌%◌, ◌^◌, ℕ, length, get_or, w8, to_z, of_z, refl, ap, ◌∙◌, subst, arith}
+use Rattle.std.proofs.Common.{rules, ◌≡◌, ◌<◌, ◌+◌, ◌%◌, ◌^◌, ℕ, length, get_or, w8, to_z, of_z, refl, ap, sym, ◌∙◌, subst, arith}
 use Rattle.dn_machine.specs.Node.{put}
 use Rattle.std.specs.Prelude.{Bool, None, ◌&&◌, ◌||◌, is_some}
-use Rattle.dn_lockstep.specs.Contents.{contents}
+use Rattle.dn_lockstep.specs.Contents.{Contents, contents}
+use Rattle.dn_lockstep.specs.Represents.{Represents}
+use Rattle.dn_link.specs.Counting.{counts_of}
 use Rattle.dn_link.specs.Giving.{SendsCarried}
 use Rattle.dn_link.specs.Hearing.{ByTest}
 use Rattle.dn_link.specs.Presence.{message_of}
 use Rattle.dn_link.specs.Kept.{going, kept_after, taken_by}
-use Rattle.dn_link.specs.Linked.{PeerState, is_gathering}
-use Rattle.dn_link.specs.Linking.{identity_of, peers_of, state_of}
+use Rattle.dn_link.specs.Linked.{PeerState, holds_back, is_gathering}
+use Rattle.dn_link.specs.Linking.{identity_of, linked, peers_of, state_of}
 use Rattle.dn_link.specs.Packing.{ArePacked}
 use Rattle.dn_link.proofs.Linked.{peer_at, peers_put}
 use Rattle.dn_link.proofs.link.Link.datagram.Goals as goal
@@ -16,19 +18,25 @@ pub returns-clause-gives : goal.returns-clause-gives
 returns-clause-gives c =
     let peers = c.args.self.now.peers in
     let packet = c.next_unless-packet.result in
+    let n = (linked c.args.self.now).node in
+    let lent = contents c.lockstep_mut.result.now in
+    let after_it = contents c.next_unless-packet.new.lockstep in
+    let is_lent : lent ≡ n = c.lockstep_mut.ensures.value in
+    let me : c.me-me.result ≡ n.me = c.me-me.ensures in
     let four : length peers ≡ 4 = search rules in
-    let below : c.args.to < length peers = omega (arith, four, c.if-to-players.false, c.players.ensures, c.args.self.now.lockstep.few) in
+    let below : c.args.to < length peers = omega (arith, four, c.if-to-players.false, c.players.ensures, c.lockstep.result.now.few) in
     let here = peer_at peers c.args.to c.index-self-to.result below in
     let after = c.parts-number.ensures in
-    let settings : c.is_settings-settings.result ≡ (is_gathering (contents c.args.self.now.lockstep).phase && is_some packet) =
+    let settings : c.is_settings-settings.result ≡ (is_gathering n.phase && is_some packet) =
     c.is_settings-settings.ensures ∙ (λ i. c.is_gathering-gathers.ensures i && is_some packet) in
     let led : to_z w8 (of_z w8 c.own_lead.result) ≡ c.own_lead.result = search rules in
     record {
       given = packet;
-      step = subst (λ (held : Bool). ByTest held ((contents c.next_unless-packet.new.lockstep ≡ contents c.args.self.now.lockstep)
-          × (packet ≡ None)) (SendsCarried c.args.to (contents c.args.self.now.lockstep)
-          (contents c.next_unless-packet.new.lockstep) packet)) c.holds_back-held.ensures c.next_unless-packet.ensures.step;
-      idle = c.next_unless-packet.ensures.idle;
+      step = subst (λ (m : Contents). ByTest (holds_back (linked c.args.self.now)) ((after_it ≡ m)
+          × (packet ≡ None)) (SendsCarried c.args.to m after_it packet)) is_lent
+          (subst (λ (held : Bool). ByTest held ((after_it ≡ lent) × (packet ≡ None))
+          (SendsCarried c.args.to lent after_it packet)) c.holds_back-held.ensures c.next_unless-packet.ensures.step);
+      idle = λ none. c.next_unless-packet.ensures.idle none ∙ is_lent;
       bundle = record {
         from = c.me-me.result;
         to = c.args.to;
@@ -41,18 +49,20 @@ returns-clause-gives c =
       };
       is = c.seal_bundle.ensures.text;
       fits = c.seal_bundle.ensures.fits;
-      from = c.me-me.ensures;
+      from = me;
       goes = refl;
       number = after.number ∙ ap (λ (t : PeerState). t.number) here;
       lead = led ∙ c.own_lead.ensures;
       holes = c.missing.ensures;
-      message = c.message_of-message.ensures ∙ ap (message_of (identity_of c.args.self.now)) c.phase.ensures;
-      counts = c.counts_of.ensures;
-      packed = subst (λ (t : PeerState). ArePacked c.args.self.now.lockstep.me
+      message = c.message_of-message.ensures ∙ ap (message_of (identity_of c.args.self.now))
+          (c.phase.ensures ∙ ap (λ (n : Contents). n.phase) c.lockstep-2.ensures);
+      counts = c.counts_of.ensures ∙ ap counts_of c.lockstep-3.ensures;
+      packed = subst (λ (t : PeerState). ArePacked n.me
           (going t.kept (taken_by t.presence packet)) c.parts-number.result.1.items) here
           (subst (λ (k : ℕ). ArePacked k (going (state_of (get_or peers c.args.to c.index-self-to.result)).kept
           (taken_by (state_of (get_or peers c.args.to c.index-self-to.result)).presence packet))
-          c.parts-number.result.1.items) c.me-me.ensures after.packed);
+          c.parts-number.result.1.items) me after.packed);
+      others = refl;
       peers = peers_put peers c.args.to c.parts-number.new.self below
           ∙ ap (put (peers_of peers) c.args.to) (after.peer ∙ (λ i. record (here i) {
             kept = kept_after (here i).kept (taken_by (here i).presence packet);
@@ -63,4 +73,5 @@ returns-clause-gives c =
 
 pub returns-clause-fair : goal.returns-clause-fair
 returns-clause-fair c = λ ready limits me m shows.
-    c.next_unless-packet.ensures.fair (c.holds_back-held.ensures ∙ ready) limits me m shows
+    c.next_unless-packet.ensures.fair (c.holds_back-held.ensures ∙ ready) limits me m
+    (subst (λ (n : Contents). Represents limits me n m) (sym c.lockstep_mut.ensures.value) shows)

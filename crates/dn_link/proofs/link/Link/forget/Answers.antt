@@ -1,6 +1,6 @@
 use Rattle.std.proofs.Common.{rules, ◌≡◌, ◌<◌, ℕ, length, true, refl, ap, sym, ◌∙◌, arith}
 use Rattle.dn_machine.specs.Node.{put}
-use Rattle.dn_lockstep.specs.Contents.{contents}
+use Rattle.dn_lockstep.specs.Contents.{Contents}
 use Rattle.dn_link.specs.Presence.{given_up}
 use Rattle.dn_link.specs.Linked.{PeerState, is_peer}
 use Rattle.dn_link.specs.Linking.{linked, peers_of}
@@ -14,9 +14,11 @@ returns-then-is_peer-clause-link c =
     let four : length peers ≡ 4 = search rules in
     let few : player < 4 = c.if-is_peer.ensures.few refl in
     let below : player < length peers = omega (arith, four, few) in
-    let peer : is_peer (contents c.args.self.now.lockstep) player ≡ true = sym c.is_peer.ensures.value ∙ c.if-is_peer.true in
+    let peer : is_peer (linked c.args.self.now).node player ≡ true = sym c.is_peer.ensures.value ∙ c.if-is_peer.true in
+    let phase : c.phase.result ≡ (linked c.args.self.now).node.phase =
+    c.phase.ensures ∙ ap (λ (n : Contents). n.phase) c.lockstep.ensures in
     let gone = c.given_up-given_up.ensures
-    ∙ (λ i. given_up (c.peer-peer.ensures i).gave (c.phase.ensures i) (c.peer-peer.ensures i).presence) in
+    ∙ (λ i. given_up (c.peer-peer.ensures i).gave (phase i) (c.peer-peer.ensures i).presence) in
     rw peer (ap (λ (f : ℕ → PeerState). record (linked c.args.self.now) { peers = f })
     (peers_put peers player _ below
     ∙ (λ i. put (peers_of peers) player (record (peer_at peers player c.index-self-player.result below i) { presence = gone i }))))

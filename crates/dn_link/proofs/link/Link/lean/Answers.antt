@@ -1,6 +1,5 @@
 use Rattle.std.proofs.Common.{rules, ◌≡◌, ◌+ℤ◌, w8, w32, to_z, of_z, ◌∙◌}
 use Rattle.std.specs.Prelude.{pos}
-use Rattle.dn_lockstep.specs.Contents.{contents}
 use Rattle.dn_link.specs.Leaning.{looks, step_of, worked_off}
 use Rattle.dn_link.specs.Pace.{with_leads}
 use Rattle.dn_link.specs.Stretching.{stretches}
@@ -20,7 +19,7 @@ pub returns-clause-pace : goal.returns-clause-pace
 returns-clause-pace c =
     let old : PaceState = pace_of c.args.self.now in
     let seen : to_z w32 (of_z w32 c.differences-differences.result) ≡ c.differences-differences.result = search rules in
-    c.tick.ensures.next ∙ (λ i. record (with_leads (contents c.args.self.now.lockstep) old) {
+    c.tick.ensures.next ∙ (λ i. record (with_leads (c.lockstep.ensures i) old) {
       leaning = worked_off (looks ((seen ∙ c.differences-differences.ensures.value) i)
           (c.playing-playing.ensures.value i) old.leaning);
       stretching = stretches (c.is_lossy-lossy.ensures i) old.stretching;

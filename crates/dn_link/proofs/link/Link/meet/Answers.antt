@@ -1,6 +1,5 @@
 use Rattle.std.proofs.Common.{rules, ◌≡◌, ◌<◌, ℕ, length, ap, ◌∙◌, arith}
 use Rattle.dn_machine.specs.Node.{put}
-use Rattle.dn_lockstep.specs.Contents.{contents}
 use Rattle.std.specs.Prelude.{slice_index}
 use Rattle.dn_link.specs.Kept.{acknowledged}
 use Rattle.dn_link.specs.Linked.{PeerState, done_with, larger}
@@ -27,12 +26,13 @@ pub returns-clause-link : goal.returns-clause-link
 returns-clause-link c =
     let peers = c.args.self.now.peers in
     let bundle = c.args.bundle.now in
-    let n = contents c.args.self.now.lockstep in
+    let n = (linked c.args.self.now).node in
+    let me : c.me-me.result ≡ n.me = c.me-me.ensures in
     let four : length peers ≡ 4 = search rules in
     let below : bundle.from < length peers = omega (arith, four, c.requires) in
     let here = peer_at peers bundle.from c.index-self-bundle-2.result below in
     let done = c.done_with-done.ensures
-    ∙ ap (λ (k : ℕ). done_with c.args.presence n (slice_index bundle.counts.got k)) c.me-me.ensures in
+    ∙ ap (λ (k : ℕ). done_with c.args.presence n (slice_index bundle.counts.got k)) me in
     let tells = c.tells.ensures ∙ (λ i. record {
       kept = acknowledged (here i).kept (done i);
       reported = larger (here i).reported bundle.counts.got;

@@ -1,6 +1,5 @@
 use Rattle.std.proofs.Common.{◌≡◌, false, ap, ◌∙◌, subst}
 use Rattle.std.specs.Prelude.{Bool, not, ◌&&◌}
-use Rattle.dn_lockstep.specs.Contents.{contents}
 use Rattle.dn_link.specs.Hearing.{ByTest, HearsAll}
 use Rattle.dn_link.specs.Linked.{Linked, PeerState, hears}
 use Rattle.dn_link.specs.Linking.{identity_of, linked}
@@ -17,9 +16,9 @@ returns-clause-heard c =
     let differs = c.differs-differs.result in
     let known = (linked c.args.self.now).peers b.from in
     let started = c.hear-started.result in
-    let node = contents c.hear-started.new.self.lockstep in
+    let node = (linked c.hear-started.new.self).node in
     let fresh = c.is_fresh-fresh.ensures ∙ (λ i. is_fresh (c.newest.ensures i) b.number) in
-    rw c.requires.peer (
+    rw (c.requires.peer, c.requires.stays) (
       presence,
       differs,
       started,
@@ -31,6 +30,7 @@ returns-clause-heard c =
         alike = c.differs-differs.ensures;
         heard = subst (λ (l : Linked). ByTest (not differs && hears l presence) (HearsAll (packets_in b) l.node node started)
             ((node ≡ l.node) × (started ≡ false))) c.meet.ensures.link c.hear-started.ensures.heard;
+        others = c.hear-started.ensures.others ∙ ap (λ (l : Linked). l.others) c.meet.ensures.link;
         peers = c.hear-started.ensures.peers ∙ ap (λ (l : Linked). l.peers) c.meet.ensures.link;
       },
     )
@@ -41,3 +41,6 @@ returns-clause-pace c =
     let may = c.may_come-may_come.ensures ∙ ap (λ (t : PeerState). may_come t.gave t.presence) c.peer-peer.ensures in
     c.hear-started.ensures.pace ∙ c.hear.ensures
     ∙ (λ i. after_datagram b (may i) (c.meet.ensures.pace i))
+
+pub returns-clause-others : goal.returns-clause-others
+returns-clause-others c = c.hear-started.ensures.others ∙ ap (λ (l : Linked). l.others) c.meet.ensures.link

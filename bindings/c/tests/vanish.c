@@ -1,0 +1,334 @@
+/* Games of two to four links of which players vanish: `vanish [GAMES [SEED]]`. A line loses, delays and reorders
+ * datagrams. Players crash, one or two of them, also while the others decide about another; one leaves and its
+ * farewell is lost; one stands still, for a shorter or a longer time than the others' patience; and the line
+ * parts two from two. Each engine gives up whom it has not heard for PATIENCE turns, and whom another has given
+ * up that it goes on with. Players neither of whom has given up the other must run the same rows, and of their
+ * demos one must be the beginning of the other; of any two at all the moves of a player must be the same wherever
+ * both have them; and who remains must play on. C99 and C++. Ends with status 0, or names the line that failed. */
+#include "zirmegat.h"
+#include <stdio.h>
+#include <stdlib.h>
+#include <string.h>
+
+/* In turns, of which each player takes one, 35 in a second: how long a player may be silent, how long a game
+ * takes, and within how many turns before its end who remains must have run a tic. */
+enum { NODES = 4, FLIGHTS = 16384, SPAN = 64, PATIENCE = 175, LENGTH = 1400, LATELY = 60 };
+/* The number of the drop of a report of one who is given up. */
+enum { FROM_GIVEN_UP = 15 };
+enum { MOST_ROWS = 2 * LENGTH, MOST_DEMO = 13 + MOST_ROWS * 4 * 5 + 1 };
+
+/* Of a demo: its head, and where that tells whose view it is. */
+enum { HEAD = 13, VIEW = 9 };
+
+typedef enum plot { CRASH, TWO_CRASH, CRASH_WHILE_DECIDING, LOST_FAREWELL, SLOW, TOO_SLOW, PARTED, EARLY, PLOTS } plot;
+
+typedef struct flight {
+    uint32_t next;
+    size_t length;
+    uint8_t from, to, bytes[ZMG_LINK_SIZE];
+} flight;
+
+/* A player: when it crashes, leaves, stands still and wakes, when it last heard each other, how much came from
+ * each by then, how many tics it ran and when the last, and its rows. */
+typedef struct player {
+    uint32_t crashes, leaves, sleeps, wakes, heard[NODES], came[NODES], ran, last_run;
+    uint16_t world;
+    uint8_t gone;
+    zmg_move rows[MOST_ROWS][4];
+} player;
+
+static uint32_t seed = 1, now, players, lost, slowest, spare, cut;
+static plot what;
+static zmg_link links[NODES];
+static player all[NODES];
+static flight flights[FLIGHTS];
+static uint32_t due[SPAN];
+static unsigned long games, plots[PLOTS], given[8], reports, decided, apart;
+
+#define MUST(holds) must(holds, #holds, __FILE__, __LINE__)
+
+static void must(int holds, const char *why, const char *file, int line) {
+    if (holds) return;
+    fprintf(stderr, "%s:%d: not so in game %lu (plot %u, %u players) at turn %u: %s\n", file, line, games,
+        (unsigned)what, players, now, why);
+    exit(1);
+}
+
+static uint32_t draw(void) {
+    seed ^= seed << 13;
+    seed ^= seed >> 17;
+    return seed ^= seed << 5;
+}
+
+static uint32_t below(uint32_t n) { return draw() % n; }
+
+/* ---- The line ---- */
+
+static void post(const flight *f, uint32_t after) {
+    uint32_t k = spare, at = (now + after) % SPAN;
+    MUST(k != 0 && after < SPAN);
+    spare = flights[k].next;
+    flights[k] = *f;
+    flights[k].next = due[at];
+    due[at] = k;
+}
+
+/* The line may be cut between the first two players and the others. */
+static int is_cut(uint8_t from, uint8_t to) { return now >= cut && (from < 2) != (to < 2); }
+
+static void carry(const flight *f) {
+    if (is_cut(f->from, f->to)) return;
+    for (uint32_t copies = below(100) < lost ? 0 : 1 + (below(16) == 0); copies; copies--)
+        post(f, 1 + below(slowest));
+}
+
+static void give(uint8_t from, uint8_t to) {
+    flight f;
+    f.from = from;
+    f.to = to;
+    f.length = zmg_link_datagram(&links[from], to, f.bytes, sizeof f.bytes);
+    MUST((f.length == 0) == (from == to || to >= players || (all[from].gone >> to & 1)));
+    if (f.length) carry(&f);
+    f.length = zmg_link_report(&links[from], to, f.bytes, sizeof f.bytes);
+    MUST(f.length <= ZMG_REPORT_SIZE);
+    if (f.length == 0) return;
+    reports++;
+    carry(&f);
+}
+
+/* ---- An engine ---- */
+
+static void run(uint8_t me) {
+    player *p = &all[me];
+    for (;;) {
+        int16_t marks[4];
+        zmg_move row[4];
+        zmg_ran ran;
+        for (unsigned k = 0; k < 4; k++) marks[k] = (int16_t)p->world;
+        ran = zmg_link_run(&links[me], marks, row);
+        MUST(ran.code != ZMG_RUN_INCONSISTENT && ran.code != ZMG_RUN_DEMO_FULL);
+        if (ran.code != ZMG_RUN_RAN) return;
+        MUST(ran.tic == p->ran && ran.tic < MOST_ROWS);
+        memcpy(p->rows[p->ran++], row, sizeof row);
+        p->last_run = now;
+        for (unsigned k = 0; k < 4; k++)
+            p->world = (uint16_t)(p->world * 31u + (uint16_t)row[k].turn + (uint8_t)row[k].forward
+                + row[k].present);
+    }
+}
+
+static void give_up(uint8_t me, uint8_t of) {
+    zmg_given_up answer;
+    if (all[me].gone >> of & 1) return;
+    answer = zmg_link_give_up(&links[me], of);
+    MUST(answer.code < 8);
+    given[answer.code]++;
+    MUST(answer.code == ZMG_GIVE_UP_WAITING || answer.code == ZMG_GIVE_UP_DECIDED
+        || answer.code == ZMG_GIVE_UP_NOT_PLAYING);
+    if (answer.code == ZMG_GIVE_UP_NOT_PLAYING) return;
+    all[me].gone |= (uint8_t)(1u << of);
+    MUST(zmg_link_has_given_up(&links[me], of));
+    MUST(zmg_link_give_up(&links[me], of).code == ZMG_GIVE_UP_ALREADY);
+}
+
+/* A player is silent of whom nothing new comes, and whose end is not known. */
+static void look_for_silence(uint8_t me, uint8_t of) {
+    player *p = &all[me];
+    uint32_t came = zmg_link_line(&links[me], of).came;
+    if (came != p->came[of] || zmg_link_end(&links[me], of).known) p->heard[of] = now;
+    p->came[of] = came;
+    if (now - p->heard[of] > PATIENCE) give_up(me, of);
+}
+
+/* Whom one gives up that is not given up itself is given up. */
+static void follow(uint8_t me, uint8_t of) {
+    if (all[me].gone >> of & 1) return;
+    MUST(!zmg_link_reports_gone(&links[me], of, me));
+    for (uint8_t p = 0; p < players; p++)
+        if (zmg_link_reports_gone(&links[me], of, p)) give_up(me, p);
+}
+
+static void tick(uint8_t me) {
+    if (all[me].leaves == now) zmg_link_quit(&links[me]);
+    zmg_link_build(&links[me], draw());
+    zmg_link_lean(&links[me]);
+    for (uint8_t p = 0; p < players; p++) {
+        if (p != me) look_for_silence(me, p);
+        if (p != me) follow(me, p);
+    }
+    for (uint8_t to = 0; to < NODES; to++) give(me, to);
+    run(me);
+    if (zmg_link_catch_up(&links[me]).code == ZMG_BUILD_MADE) run(me);
+}
+
+static void hear(const flight *f) {
+    zmg_received r = zmg_link_receive(&links[f->to], f->bytes, f->length);
+    MUST(r.player == f->from);
+    if (all[f->to].gone >> f->from & 1) {
+        MUST(r.code == ZMG_LINK_RECEIVE_GIVEN_UP || (r.code == ZMG_LINK_RECEIVE_REPORTED && r.reason == FROM_GIVEN_UP));
+        return;
+    }
+    MUST(r.code == ZMG_LINK_RECEIVE_HEARD || r.code == ZMG_LINK_RECEIVE_REPORTED);
+    if (r.code == ZMG_LINK_RECEIVE_REPORTED) {
+        MUST(r.reason == ZMG_REPORT_KEPT || r.reason == ZMG_REPORT_DECIDED || r.reason == ZMG_REPORT_STALE
+            || r.reason == ZMG_DROP_NOT_PLAYING);
+        decided += r.reason == ZMG_REPORT_DECIDED;
+    }
+    run(f->to);
+}
+
+static int is_up(uint8_t p) {
+    return now < all[p].crashes && !(all[p].sleeps <= now && now < all[p].wakes);
+}
+
+/* What comes to one that stands still waits for it in its socket. */
+static void arrive(void) {
+    uint32_t k = due[now % SPAN];
+    due[now % SPAN] = 0;
+    while (k) {
+        uint32_t next = flights[k].next;
+        flight f = flights[k];
+        flights[k].next = spare;
+        spare = k;
+        if (is_up(f.to)) hear(&f);
+        else if (now < all[f.to].crashes && below(40)) post(&f, 1);
+        k = next;
+    }
+}
+
+/* ---- A game ---- */
+
+static void make(uint8_t me) {
+    static const uint8_t secret[ZMG_SECRET_SIZE] = { 1 }, host[ZMG_HOST_SIZE] = { 3 };
+    uint8_t number[ZMG_NUMBER_SIZE] = { 2 };
+    zmg_config c;
+    memset(&c, 0, sizeof c);
+    memcpy(number + 1, &games, sizeof games);
+    c.limit = 1 << 20;
+    c.players = (uint8_t)players;
+    c.me = me;
+    c.settings.skill = 2;
+    c.settings.episode = c.settings.map = 1;
+    MUST(zmg_link_new(&links[me], &c, (uint8_t)(5 + games % 8), secret, number, host) == ZMG_NEW_OK);
+}
+
+/* Who does what, and when. */
+static void draw_plot(void) {
+    uint32_t one = below(players), at = 120 + below(400);
+    what = (plot)(games % PLOTS);
+    if (what == PARTED || what == TWO_CRASH || what == CRASH_WHILE_DECIDING) players = what == PARTED ? 4 : 3 + below(2);
+    one = below(players);
+    switch (what) {
+    case TWO_CRASH: all[one].crashes = all[(one + 1) % players].crashes = at; break;
+    case CRASH_WHILE_DECIDING:
+        all[one].crashes = at;
+        all[(one + 1) % players].crashes = at + PATIENCE - 20 + below(60);
+        break;
+    case LOST_FAREWELL:
+        all[one].leaves = at;
+        all[one].crashes = at + 1 + below(3);
+        break;
+    case SLOW:
+        all[one].sleeps = at;
+        all[one].wakes = at + below(PATIENCE - 60);
+        break;
+    case TOO_SLOW:
+        all[one].sleeps = at;
+        all[one].wakes = at + 280;
+        break;
+    case PARTED: cut = at; break;
+    case EARLY: all[one].crashes = below(60); break;
+    default: all[one].crashes = at;
+    }
+    plots[what]++;
+}
+
+static void open_game(void) {
+    memset(all, 0, sizeof all);
+    memset(due, 0, sizeof due);
+    now = 0;
+    cut = UINT32_MAX;
+    players = 2 + below(3);
+    lost = below(26);
+    slowest = 1 + below(8);
+    for (uint32_t k = 1; k < FLIGHTS; k++) flights[k].next = k + 1 < FLIGHTS ? k + 1 : 0;
+    spare = 1;
+    for (uint8_t p = 0; p < NODES; p++) {
+        all[p].crashes = all[p].sleeps = all[p].leaves = UINT32_MAX;
+        all[p].wakes = 0;
+    }
+    draw_plot();
+    for (uint8_t p = 0; p < players; p++) make(p);
+}
+
+static int have_parted(uint8_t one, uint8_t other) {
+    return (all[one].gone >> other & 1) || (all[other].gone >> one & 1);
+}
+
+/* The moves of a player are the same wherever both have them; and if neither has given up the other, both have
+ * them of the same players. */
+static void compare_rows(uint8_t one, uint8_t other) {
+    uint32_t common = all[one].ran < all[other].ran ? all[one].ran : all[other].ran;
+    for (uint32_t tic = 0; tic < common; tic++)
+        for (unsigned p = 0; p < 4; p++) {
+            const zmg_move *a = &all[one].rows[tic][p], *b = &all[other].rows[tic][p];
+            if (a->present && b->present) MUST(memcmp(a, b, sizeof *a) == 0);
+            if (!have_parted(one, other)) MUST(a->present == b->present);
+        }
+}
+
+static void compare_demos(uint8_t one, uint8_t other) {
+    static uint8_t demos[2][MOST_DEMO];
+    size_t lengths[2], shorter;
+    lengths[0] = zmg_link_demo(&links[one], 0, demos[0], MOST_DEMO);
+    lengths[1] = zmg_link_demo(&links[other], 0, demos[1], MOST_DEMO);
+    shorter = lengths[0] < lengths[1] ? lengths[0] : lengths[1];
+    if (shorter <= HEAD + 1) return;
+    demos[1][VIEW - 1] = demos[0][VIEW - 1];
+    /* the last byte may be the marker of the end */
+    MUST(memcmp(demos[0] + VIEW, demos[1] + VIEW, shorter - 1 - VIEW) == 0);
+}
+
+static void compare(uint8_t one, uint8_t other) {
+    compare_rows(one, other);
+    compare_demos(one, other);
+    apart += (unsigned)have_parted(one, other);
+}
+
+/* Who neither crashed nor left plays on, if its game has begun. */
+static void look_for_progress(uint8_t me) {
+    if (all[me].crashes != UINT32_MAX || all[me].leaves != UINT32_MAX) return;
+    if (what == EARLY && zmg_link_phase(&links[me]).code < ZMG_PHASE_PLAYING) return;
+    MUST(all[me].last_run + LATELY > LENGTH);
+}
+
+static void game(void) {
+    open_game();
+    for (; now < LENGTH; now++) {
+        for (uint8_t p = 0; p < players; p++)
+            if (is_up(p)) tick(p);
+        arrive();
+    }
+    for (uint8_t one = 0; one < players; one++) {
+        look_for_progress(one);
+        for (uint8_t other = 0; other < one; other++) compare(other, one);
+    }
+    for (uint8_t p = 0; p < players; p++) zmg_link_free(&links[p]);
+    games++;
+}
+
+int main(int argc, char **argv) {
+    unsigned long count = argc > 1 ? strtoul(argv[1], NULL, 10) : 500;
+    /* never 0 */
+    if (argc > 2) seed = 2 * (uint32_t)strtoul(argv[2], NULL, 10) + 1;
+    while (games < count) game();
+    printf("%lu games: reports %lu, decided by one %lu, pairs that parted %lu; give-ups:", games, reports, decided,
+        apart);
+    for (unsigned k = 0; k < 8; k++) printf(" %lu", given[k]);
+    printf("\n");
+    if (games < 100) return 0;
+    /* in so many games all of it comes */
+    for (unsigned k = 0; k < PLOTS; k++) MUST(plots[k] > 0);
+    MUST(given[ZMG_GIVE_UP_WAITING] > 0 && given[ZMG_GIVE_UP_DECIDED] > 0 && decided > 0 && apart > 0);
+    return 0;
+}

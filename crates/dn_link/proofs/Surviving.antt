@@ -1,0 +1,35 @@
+-- Whose a survivor is stays.
+use Rattle.std.proofs.Common.{◌≡◌, ℕ, Option, Some, None, ap}
+use Rattle.dn_report.specs.declared.report.Report.{Report}
+use Rattle.dn_others.specs.declared.others.Others.{Others}
+use Rattle.dn_survivor.specs.Calls.{GivesUp, GivesUpUnless, HearsReport, HearsReportUnless, refused_give_up, refused_report}
+use Rattle.dn_survivor.specs.Surviving.{Surviving}
+use Rattle.dn_survivor.specs.declared.answers.GivenUp.{GivenUp}
+use Rattle.dn_survivor.specs.declared.answers.Reported.{Reported}
+
+pub hears_own : (from : ℕ) (report : Report) (old new : Surviving) (answer : Reported)
+    → HearsReport from report old new answer → new.lockstep.me ≡ old.lockstep.me
+hears_own from report old new answer hears = go (refused_report old from report) hears
+  where
+    go : (refused : Option Reported) → HearsReportUnless refused from report old new answer
+        → new.lockstep.me ≡ old.lockstep.me
+    go (Some reason) stays = ap (λ (n : Surviving). n.lockstep.me) stays.1
+    go None steps = ap (λ w. w.me) steps.1.same
+
+pub hears_gone : (from : ℕ) (report : Report) (old new : Surviving) (answer : Reported)
+    → HearsReport from report old new answer → new.others.gone ≡ old.others.gone
+hears_gone from report old new answer hears = go (refused_report old from report) hears
+  where
+    go : (refused : Option Reported) → HearsReportUnless refused from report old new answer
+        → new.others.gone ≡ old.others.gone
+    go (Some reason) stays = ap (λ (n : Surviving). n.others.gone) stays.1
+    go None steps = ap (λ (o : Others). o.gone) steps.0
+
+pub gives_up_own : (player : ℕ) (old new : Surviving) (answer : GivenUp)
+    → GivesUp player old new answer → new.lockstep.me ≡ old.lockstep.me
+gives_up_own player old new answer gives = go (refused_give_up old player) gives
+  where
+    go : (refused : Option GivenUp) → GivesUpUnless refused player old new answer
+        → new.lockstep.me ≡ old.lockstep.me
+    go (Some reason) stays = ap (λ (n : Surviving). n.lockstep.me) stays.1
+    go None steps = ap (λ w. w.me) steps.1.same

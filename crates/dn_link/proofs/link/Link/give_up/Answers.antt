@@ -1,0 +1,10 @@
+use Rattle.std.proofs.Common.{sym, ◌∙◌}
+use Rattle.dn_survivor.specs.Surviving.{surviving}
+use Rattle.dn_link.proofs.Surviving.{gives_up_own}
+use Rattle.dn_link.proofs.link.Link.give_up.Goals as goal
+
+pub invariant_of-self : goal.invariant_of-self
+invariant_of-self c = record {
+  own = c.args.self.now.own ∙ sym (gives_up_own c.args.player (surviving c.args.self.now.survivor)
+      (surviving c.give_up-answer.new.self) c.give_up-answer.result c.give_up-answer.ensures.gives);
+}

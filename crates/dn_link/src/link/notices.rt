@@ -1,0 +1,60 @@
+//! Sealed reports: what each player is told of the others, once somebody is given up.
+
+ghost use Rattle.std.specs.Prelude.{◌≡◌};
+ghost use Rattle.dn_link.specs.Notices.{is_notice};
+
+use super::Link;
+use crate::received::Received;
+use arrayvec::ArrayVec;
+use dn_notice::{KIND, MAX_SEALED_REPORT, open_report, seal_report};
+
+/// Whether bytes are of the kind of reports.
+pub(super) fn is_notice(bytes: &[u8]) -> bool
+    ensures { result ≡ is_notice bytes.now }
+{
+    match bytes.get(1) {
+        Some(kind) => *kind == KIND,
+        None => false,
+    }
+}
+
+impl Link {
+    ghost use Rattle.std.specs.Option.{option_map};
+    ghost use Rattle.dn_link.specs.Linked.{IsWhole};
+    ghost use Rattle.dn_link.specs.Notices.{HearsNotice, notice_for};
+    ghost use Rattle.dn_link.specs.Linking.{identity_of, linked, seal_of};
+    ghost use Rattle.dn_link.specs.Pacing.{pace_of};
+
+    /// The report to a player, sealed, for each tick while somebody is given up, and while this player has left:
+    /// what `report` returns.
+    pub fn report_datagram(&self, to: u8) -> Option<ArrayVec<u8, MAX_SEALED_REPORT>>
+        ensures { option_map (λ bytes. bytes.items) result ≡ notice_for (seal_of self.now) (linked self.now) to }
+    {
+        match self.report(to) {
+            Some(report) => Some(seal_report(&self.sealer, to, &report)),
+            None => None,
+        }
+    }
+
+    /// Takes in bytes of the kind of reports.
+    pub(super) fn receive_report(&mut self, bytes: &[u8]) -> Received
+        ensures told { HearsNotice (seal_of self.old) bytes.now (linked self.old) (pace_of self.old)
+            (linked self.new) (pace_of self.new) result }
+        ensures gone { (linked self.new).others.gone ≡ (linked self.old).others.gone }
+        ensures quiet { IsWhole (linked self.old) → ((linked self.new).node ≡ (linked self.old).node)
+            × ((linked self.new).peers ≡ (linked self.old).peers) }
+        ensures seal { seal_of self.new ≡ seal_of self.old }
+        ensures identity { identity_of self.new ≡ identity_of self.old }
+    {
+        match open_report(&self.sealer, bytes) {
+            Err(fault) => {
+                self.pace.refuse();
+                Received::Unreported(fault)
+            }
+            Ok((from, report)) => {
+                let reported = self.hear_report(from, report);
+                Received::Reported { from, reported }
+            }
+        }
+    }
+}

@@ -1,0 +1,47 @@
+//! What a link reads of its lockstep.
+
+use super::Link;
+use crate::{counting, line};
+
+impl Link {
+    ghost use Rattle.std.specs.Prelude.{◌≡◌};
+    ghost use Rattle.dn_lockstep.specs.Told.{made};
+    ghost use Rattle.dn_link.specs.Line.{lead_over};
+    ghost use Rattle.dn_link.specs.Linked.{certain, end_known};
+    ghost use Rattle.dn_link.specs.Linking.{linked};
+
+    /// The number of its player.
+    pub(super) fn me(&self) -> u8
+        ensures { result ≡ (linked self.now).node.me }
+    {
+        self.lockstep().me()
+    }
+
+    /// How many commands it made.
+    pub(super) fn made(&self) -> u32
+        ensures { result ≡ made (linked self.now).node }
+    {
+        self.lockstep().made()
+    }
+
+    /// The tic after a player's last command, where it is known.
+    pub(super) fn end(&self, player: u8) -> Option<u32>
+        ensures { result ≡ end_known (linked self.now).node player }
+    {
+        self.lockstep().end(player)
+    }
+
+    /// How many of its commands a peer that reported this count of them has for certain.
+    pub(super) fn certain(&self, count: u32) -> u32
+        ensures { result ≡ certain (linked self.now).node count }
+    {
+        counting::certain(self.lockstep(), count)
+    }
+
+    /// By how many commands it leads a player.
+    pub(super) fn lead_over(&self, player: u8) -> i8
+        ensures { result ≡ lead_over (linked self.now).node player }
+    {
+        line::lead_over(self.lockstep(), player)
+    }
+}

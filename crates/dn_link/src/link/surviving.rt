@@ -1,0 +1,110 @@
+//! Who is given up for good, and what links report to each other of that.
+
+ghost use Rattle.std.specs.Prelude.{◌≡◌};
+ghost use Rattle.dn_link.specs.Surviving.{is_given_up};
+
+use super::Link;
+use dn_report::Report;
+use dn_survivor::{GivenUp, Reported};
+
+impl Link {
+    ghost use Rattle.std.specs.Prelude.{◌<◌, true, IfSome};
+    ghost use Rattle.dn_report.specs.Text.{IsReport};
+    ghost use Rattle.dn_survivor.specs.Calls.{HearsReport, undecided_in};
+    ghost use Rattle.dn_survivor.specs.Telling.{report_for};
+    ghost use Rattle.dn_link.specs.Linked.{IsWhole, has_given_up, remains, surviving_of};
+    ghost use Rattle.dn_link.specs.Linking.{identity_of, linked, seal_of};
+    ghost use Rattle.dn_link.specs.Pacing.{pace_of};
+    ghost use Rattle.dn_link.specs.Surviving.{GivesUpPeer, reports_gone};
+
+    /// Whether a player is given up.
+    pub fn has_given_up(&self, player: u8) -> bool
+        ensures { result ≡ has_given_up (linked self.now) player }
+    {
+        match self.survivor.others().gone.get(usize::from(player)) {
+            Some(is_gone) => *is_gone,
+            None => false,
+        }
+    }
+
+    /// Whether a number is that of a peer who is not given up.
+    pub(super) fn remains(&self, player: u8) -> bool
+        ensures value { result ≡ remains (linked self.now) player }
+        ensures few { result ≡ true → player < 4 }
+    {
+        self.is_peer(player) && !self.has_given_up(player)
+    }
+
+    /// Whether the newest report of another player names a player as given up. Those who play on together have to
+    /// give up the same players.
+    pub fn reports_gone(&self, teller: u8, player: u8) -> bool
+        ensures { result ≡ reports_gone (linked self.now) teller player }
+    {
+        match self.survivor.others().newest.get(usize::from(teller)) {
+            Some(Some(report)) => match report.gone.get(usize::from(player)) {
+                Some(names) => *names,
+                None => false,
+            },
+            _ => false,
+        }
+    }
+
+    /// As `Survivor::undecided`: of the players whose report is missing the one with the lowest number. None
+    /// where the ends of all who are given up can be decided. Ask it while somebody is given up.
+    pub fn undecided(&self) -> Option<u8>
+        ensures { result ≡ undecided_in (surviving_of (linked self.now)) }
+    {
+        self.survivor.undecided()
+    }
+
+    /// As `Survivor::report`: what a player who is not given up is to be told of the others, while somebody is
+    /// given up or this player has left.
+    pub fn report(&self, to: u8) -> Option<Report>
+        ensures told { result ≡ report_for (surviving_of (linked self.now)) to }
+        ensures proper { IfSome result IsReport }
+    {
+        self.survivor.report(to)
+    }
+
+    /// As `Survivor::hear`: a report came from a player to this one.
+    pub fn hear_report(&mut self, from: u8, report: Report) -> Reported
+        ensures heard { HearsReport from report (surviving_of (linked self.old)) (surviving_of (linked self.new)) result }
+        ensures gone { (linked self.new).others.gone ≡ (linked self.old).others.gone }
+        ensures quiet { IsWhole (linked self.old) → (linked self.new).node ≡ (linked self.old).node }
+        ensures peers { (linked self.new).peers ≡ (linked self.old).peers }
+        ensures pace { pace_of self.new ≡ pace_of self.old }
+        ensures seal { seal_of self.new ≡ seal_of self.old }
+        ensures identity { identity_of self.new ≡ identity_of self.old }
+    {
+        self.survivor.hear(from, report)
+    }
+
+    /// Gives up a player who vanished, for good, so that the others play on: as `Survivor::give_up`, and the
+    /// player is forgotten, too. From here on no datagram goes to it, nothing of it is taken, and nothing waits
+    /// for it. All who play on must give it up, and hear each other's reports: then the game goes on without it
+    /// from the same tic on at all of them. Where this link gathered, and plays after it, the game has started:
+    /// the caller begins its world.
+    pub fn give_up(&mut self, player: u8) -> GivenUp
+        ensures given { GivesUpPeer player (linked self.old) (linked self.new) result }
+        ensures pace { pace_of self.new ≡ pace_of self.old }
+        ensures seal { seal_of self.new ≡ seal_of self.old }
+        ensures identity { identity_of self.new ≡ identity_of self.old }
+    {
+        let answer = self.survivor.give_up(player);
+        if !is_given_up(answer) {
+            return answer;
+        }
+        self.forget(player);
+        answer
+    }
+}
+
+/// Whether a player is given up by the call with this answer.
+fn is_given_up(answer: GivenUp) -> bool
+    ensures { result ≡ is_given_up answer }
+{
+    match answer {
+        GivenUp::Waiting | GivenUp::Decided | GivenUp::Untaken { .. } => true,
+        GivenUp::Already | GivenUp::NotAPlayer | GivenUp::NotPlaying => false,
+    }
+}
