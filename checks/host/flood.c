@@ -2,7 +2,9 @@
  *
  *     flood ADDRESS PORT DATAGRAMS_A_MINUTE SECONDS SEED
  *
- * Prints how many it sent. One in four has the first bytes of the program's own datagrams. */
+ * Prints how many it sent. One in four has the first bytes of the program's own datagrams. One in four is as
+ * long as a call to a host and has its first twelve bytes, which are those of all games with a key: only its
+ * tag shows that it is none. */
 #include <arpa/inet.h>
 #include <stdint.h>
 #include <stdio.h>
@@ -19,6 +21,11 @@ static uint64_t drawn(void) {
     state ^= state << 17;
     return state;
 }
+
+/* The suite, the kind, the name and the version of greetings, and that it is a call. */
+static const uint8_t call[12] = {1, 4, 'z', 'i', 'r', 'm', 'e', 'g', 'a', 't', 1, 1};
+
+enum { CALL_BYTES = 129 };
 
 static double now(void) {
     struct timespec time;
@@ -39,13 +46,15 @@ int main(int count, char **words) {
     double begun = now();
     for (double past = 0; past < seconds; past = now() - begun) {
         while ((double)sent < past * rate) {
-            size_t length = drawn() % sizeof bytes;
+            uint64_t sort = drawn() % 4;
+            size_t length = sort == 1 ? CALL_BYTES : drawn() % sizeof bytes;
             for (size_t at = 0; at < length; at += 8) {
                 uint64_t piece = drawn();
                 size_t more = length - at < 8 ? length - at : 8;
                 memcpy(bytes + at, &piece, more);
             }
-            if (length > 2 && drawn() % 4 == 0) bytes[0] = 1, bytes[1] %= 8;
+            if (length > 2 && sort == 0) bytes[0] = 1, bytes[1] %= 8;
+            if (sort == 1) memcpy(bytes, call, sizeof call);
             send(line, bytes, length, 0);
             sent++;
         }

@@ -12,7 +12,7 @@ text = "\n".join(lines) + "\n"
 tics, seconds, rate, clock = re.search(r"^tics (\d+) seconds ([\d.]+) rate ([\d.]+) of (\d+)$", text, re.M).groups()
 gaps, longest = re.search(r"^gaps (\d+) longest (\d+)$", text, re.M).groups()
 most = re.search(r"^keys half .* most (.*)$", text, re.M).group(1)
-losses = re.findall(r"^player (\d) came \d+ lost \d+ twice \d+ old \d+ loss ([\d.]+)$", text, re.M)
+losses = re.findall(r"^player (\d) came \d+ lost \d+ late \d+ twice \d+ old \d+ loss ([\d.]+)$", text, re.M)
 least = int(clock) * 690 // 70
 
 lacks = []

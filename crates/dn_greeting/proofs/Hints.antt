@@ -1,9 +1,7 @@
 -- Bytes are read as one hint.
-use Rattle.std.proofs.Common.{◌≡◌, ℕ, List, [], ◌∷◌, refl, ap, sym, ◌∙◌, Option, Some, None, Result, Ok, Err, inl, inr}
+use Rattle.std.proofs.Common.{◌≡◌, ℕ, List, refl, ap, sym, ◌∙◌, None, Result, Ok, Err, inl, inr}
 use Rattle.std.proofs.lemmas.Option.{same_Some, none-some}
 use Rattle.dn_greeting.specs.declared.greeting.GreetingFault.{GreetingFault}
-use Rattle.dn_greeting.specs.declared.greeting.Hint.{Hint}
-use Rattle.dn_greeting.specs.declared.greeting.Hint.TheVariants as hint
 use Rattle.dn_greeting.specs.declared.greeting.Hinted.{Hinted}
 use Rattle.dn_greeting.specs.Text.{hinted_bytes, IsHinted}
 use Rattle.dn_greeting.specs.Reading.{hint_fault, IsHintedIn}

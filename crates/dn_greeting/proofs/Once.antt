@@ -1,5 +1,5 @@
 -- Bytes are read as one greeting.
-use Rattle.std.proofs.Common.{◌≡◌, ◌≤◌, ◌+◌, ℕ, List, length, arith, Result}
+use Rattle.std.proofs.Common.{◌≡◌, ℕ, List, arith, Result}
 use Rattle.dn_seal.specs.declared.seal.Seal.{Seal}
 use Rattle.dn_greeting.specs.declared.greeting.Answer.{Answer}
 use Rattle.dn_greeting.specs.declared.greeting.Call.{Call}
@@ -13,12 +13,12 @@ use Rattle.dn_greeting.proofs.Readings.{one_reading}
 pub one_call : (seal : Seal) (bytes : List ℕ) (a b : Result Call GreetingFault) → IsCallIn seal bytes a
     → IsCallIn seal bytes b → a ≡ b
 one_call seal bytes a b =
-    one_reading seal 1 129 IsCall call_rest (omega arith) (λ t is. omega (arith, length-call t is)) same_call bytes a b
+    one_reading seal 1 130 IsCall call_rest (omega arith) (λ t is. omega (arith, length-call t is)) same_call bytes a b
 
 pub one_answer : (seal : Seal) (bytes : List ℕ) (a b : Result Answer GreetingFault) → IsAnswerIn seal bytes a
     → IsAnswerIn seal bytes b → a ≡ b
 one_answer seal bytes a b =
-    one_reading seal 2 129 IsAnswer answer_rest (omega arith) (λ t is. omega (arith, length-answer t is)) same_answer bytes a b
+    one_reading seal 2 130 IsAnswer answer_rest (omega arith) (λ t is. omega (arith, length-answer t is)) same_answer bytes a b
 
 pub one_refused : (seal : Seal) (bytes : List ℕ) (a b : Result Refused GreetingFault) → IsRefusedIn seal bytes a
     → IsRefusedIn seal bytes b → a ≡ b

@@ -1,8 +1,8 @@
 -- What stands behind the head of a greeting is found again in its bytes.
-use Rattle.std.proofs.Common.{◌≡◌, ◌<◌, ◌≤◌, ◌+◌, ◌^◌, ℕ, zero, suc, List, [], ◌∷◌, ◌++◌, length, take, drop, All, refl, ap, sym, ◌∙◌, arith, Option, Some, None, length-append, append-nil, true, false, Bool}
-use Rattle.std.specs.Prelude.{slice_index, IfSome, ◌==◌, if◌then◌else◌}
+use Rattle.std.proofs.Common.{◌≡◌, ◌≤◌, ℕ, zero, suc, List, [], ◌∷◌, ◌++◌, length, drop, All, refl, ap, sym, ◌∙◌, arith, Option, Some, None, length-append, true, false, Bool}
+use Rattle.std.specs.Prelude.{IfSome, ◌==◌}
 use Rattle.std.specs.List.{flat_map}
-use Rattle.std.specs.Int.{w16, w32, to_le_bytes, from_le_bytes}
+use Rattle.std.specs.Int.{w16, w32, to_le_bytes}
 use Rattle.std.proofs.lemmas.Bool.{ne_eqb}
 use Rattle.std.proofs.lemmas.List.{drop-drop}
 use Rattle.std.proofs.lemmas.List.Elements.{All-head, All-tail}
@@ -27,12 +27,12 @@ sixteen (a ∷ b ∷ c ∷ d ∷ e ∷ f ∷ g ∷ h ∷ i ∷ j ∷ k ∷ l ∷
     holds a b c d e f g h i j k l n o p q
 sixteen _ long P holds = absurd (omega (arith, long))
 
-length-padding : length padding ≡ 79
+length-padding : length padding ≡ 80
 unfolding padding
 length-padding = refl
 
 -- a call has as many bytes behind its head as an answer
-pub length-call : (call : Call) → IsCall call → length (call_rest call) ≡ 101
+pub length-call : (call : Call) → IsCall call → length (call_rest call) ≡ 102
 length-call call is = omega (
   arith,
   is.mark,
@@ -134,11 +134,11 @@ module _ (one two three : Option Address) (i1 : IfSome one IsAddress) (i2 : IfSo
     pub address_3 : told_address (drop 38 all) ≡ three
     address_3 = ap told_address third ∙ address_here three _ i3
 
-pub length-answer : (answer : Answer) → IsAnswer answer → length (answer_rest answer) ≡ 101
+pub length-answer : (answer : Answer) → IsAnswer answer → length (answer_rest answer) ≡ 102
 length-answer answer is = go answer.seats is.three is.seats
   where
     go : (seats : List (Option Address)) → length seats ≡ 3 → All (λ place. IfSome place IsAddress) seats
-        → length (answer_rest (record answer { seats = seats })) ≡ 101
+        → length (answer_rest (record answer { seats = seats })) ≡ 102
     go (one ∷ two ∷ three ∷ []) long all =
         let i1 = All-head (λ place. IfSome place IsAddress) one (two ∷ three ∷ []) all in
         let r1 = All-tail (λ place. IfSome place IsAddress) one (two ∷ three ∷ []) all in
@@ -204,6 +204,7 @@ answer_back answer is =
         players = answer.terms.players;
         extra = flag x;
         ahead = answer.terms.ahead;
+        rate = answer.terms.rate;
         limit = limit x;
       };
       game = a' ∷ b' ∷ c' ∷ d' ∷ e' ∷ f' ∷ g' ∷ h' ∷ i' ∷ j' ∷ k' ∷ l' ∷ n' ∷ o' ∷ p' ∷ q' ∷ [];

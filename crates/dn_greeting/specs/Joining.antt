@@ -1,5 +1,5 @@
 -- A joiner: what it asks, and what it makes of replies.
-use Rattle.std.specs.Prelude.{◌≡◌, ℕ, ◌+◌, ◌-◌, ◌^◌, min, ◌==◌, ◌&&◌, Bool, not, true, false, nat_lt, if◌then◌else◌, List, Option, Some, None, is_none, Result, Ok, Err}
+use Rattle.std.specs.Prelude.{◌≡◌, ℕ, ◌+◌, min, ◌==◌, ◌&&◌, ◌||◌, Bool, not, true, false, nat_lt, if◌then◌else◌, List, Option, Some, None, is_none, Result, Ok, Err}
 use Rattle.std.specs.Cmp.Lexicographic.{pointwise}
 use Rattle.std.specs.Str.{bytes_eq}
 use Rattle.dn_seal.specs.declared.seal.Seal.{Seal}
@@ -11,8 +11,8 @@ use Rattle.dn_greeting.specs.declared.greeting.Hinted.{Hinted}
 use Rattle.dn_greeting.specs.declared.greeting.Refused.{Refused}
 use Rattle.dn_greeting.specs.declared.greeting.Terms.{Terms}
 use Rattle.dn_greeting.specs.declared.joiner.Joiner.{Joiner}
-use Rattle.dn_greeting.specs.declared.joiner.News.{News}
-use Rattle.dn_greeting.specs.declared.joiner.News.TheVariants as news
+use Rattle.dn_greeting.specs.declared.news.News.{News}
+use Rattle.dn_greeting.specs.declared.news.News.TheVariants as news
 use Rattle.dn_greeting.specs.Greeter.{same_address}
 use Rattle.dn_greeting.specs.Reading.{IsAnswerIn, IsHintedIn, IsRefusedIn}
 
@@ -49,7 +49,7 @@ abbrev pub call_of : Joining → Call
 call_of joiner =
     record { mark = joiner.mark; number = joiner.calls; seat = joiner.seat; players = joiner.players }
 
--- an answer to its own call, and to a later one than that of the answer that it has
+-- the answer to a later call than that of the answer that it has
 abbrev pub is_later : Option Answer → ℕ → Bool
 is_later None number = true
 is_later (Some answer) number = nat_lt answer.number number
@@ -61,7 +61,7 @@ same_flag false flag = not flag
 abbrev pub same_terms : Terms → Terms → Bool
 same_terms one other =
     one.players == other.players && (same_flag one.extra other.extra
-    && (one.ahead == other.ahead && one.limit == other.limit))
+    && (one.ahead == other.ahead && (one.rate == other.rate && one.limit == other.limit)))
 
 abbrev pub same_game : Answer → Answer → Bool
 same_game one other =
@@ -80,19 +80,32 @@ news_in (Some last) answer =
     if not (same_game last answer) then news.Anew else (
     if pointwise same_place last.seats answer.seats then news.Same else news.Moved)
 
+-- an answer to its own call, and to a later one than that of the answer that it has
+abbrev pub is_due : Answer → Joining → Bool
+is_due answer joiner = bytes_eq answer.mark joiner.mark && is_later joiner.answer answer.number
+
+-- once its game has begun it keeps its seat of that game
+abbrev pub goes_on_by : Option Answer → Answer → Bool → Bool
+goes_on_by None answer begun = not begun
+goes_on_by (Some last) answer begun = not begun || same_game last answer
+
+abbrev pub goes_on : Answer → Joining → Bool
+goes_on answer joiner = goes_on_by joiner.answer answer joiner.begun
+
 abbrev pub on_answer : Answer → Joining → Joining × News
 on_answer answer joiner =
-    if bytes_eq answer.mark joiner.mark && is_later joiner.answer answer.number
+    if is_due answer joiner && goes_on answer joiner
     then (record joiner { answer = Some answer }, news_in joiner.answer answer) else (joiner, news.Nothing)
 
 abbrev pub on_refused : Refused → Joining → News
 on_refused refused joiner =
-    if bytes_eq refused.mark joiner.mark then news.Refused refused.refusal else news.Nothing
+    if bytes_eq refused.mark joiner.mark && not joiner.begun then news.Refused refused.refusal else news.Nothing
 
 -- a hint, for which nobody vouches, says nothing to who has a seat
 abbrev pub on_hinted : Hinted → Joining → News
 on_hinted hinted joiner =
-    if bytes_eq hinted.mark joiner.mark && is_none joiner.answer then news.Hinted hinted.hint else news.Nothing
+    if bytes_eq hinted.mark joiner.mark && (is_none joiner.answer && not joiner.begun)
+    then news.Hinted hinted.hint else news.Nothing
 
 -- bytes are at most one of the three
 abbrev pub on_reply : Result Answer GreetingFault → Result Refused GreetingFault → Result Hinted GreetingFault
@@ -102,10 +115,7 @@ on_reply (Err fault) (Ok refused) hinted joiner = (joiner, on_refused refused jo
 on_reply (Err fault) (Err other) (Ok hinted) joiner = (joiner, on_hinted hinted joiner)
 on_reply (Err fault) (Err other) (Err third) joiner = (joiner, news.Nothing)
 
--- before its game it listens to the address that it calls, and to no other
-abbrev pub listens_to : Address → Joining → Bool
-listens_to from joiner = not joiner.begun && same_address from joiner.host
-
+-- any bytes from the address that it calls
 abbrev pub HearsReply : List ℕ → Joining → Joining → News → Type 0
 HearsReply bytes old new told =
     (answer : Result Answer GreetingFault) × (refused : Result Refused GreetingFault)

@@ -2,5 +2,6 @@ pub mod Text
 pub mod Told
 pub mod Reading
 pub mod Greeter
+pub mod Seats
 pub mod Lobby
 pub mod Joining

@@ -1,6 +1,5 @@
 -- The host's table: who gets which seat.
-use Rattle.std.specs.Prelude.{◌≡◌, ℕ, ◌+◌, ◌-◌, ◌==◌, ◌&&◌, Bool, not, true, false, nat_lt, if◌then◌else◌, List, [], ◌∷◌, length, map, position, slice_index_or, slice_set, Option, Some, None, option_map, Result, Ok, Err}
-use Rattle.std.specs.Str.{bytes_eq}
+use Rattle.std.specs.Prelude.{◌≡◌, ℕ, ◌+◌, ◌-◌, ◌==◌, ◌||◌, Bool, not, false, nat_lt, if◌then◌else◌, List, [], ◌∷◌, map, position, slice_index_or, slice_set, Option, Some, None, option_map, Result, Ok, Err}
 use Rattle.dn_seal.specs.declared.seal.Seal.{Seal}
 use Rattle.dn_greeting.specs.declared.greeting.Address.{Address}
 use Rattle.dn_greeting.specs.declared.greeting.Answer.{Answer}
@@ -12,11 +11,11 @@ use Rattle.dn_greeting.specs.declared.greeting.Hint.TheVariants as hint
 use Rattle.dn_greeting.specs.declared.greeting.Refusal.{Refusal}
 use Rattle.dn_greeting.specs.declared.greeting.Refusal.TheVariants.{Full, Taken, Players, Begun}
 use Rattle.dn_greeting.specs.declared.greeting.Terms.{Terms}
-use Rattle.dn_greeting.specs.declared.table.Place.{Place}
-use Rattle.dn_greeting.specs.declared.table.Place.TheVariants.{Closed, Free, Held}
+use Rattle.dn_greeting.specs.declared.seats.Place.{Place}
+use Rattle.dn_greeting.specs.declared.seats.Place.TheVariants.{Closed, Free, Held}
 use Rattle.dn_greeting.specs.declared.table.Table.{Table}
-use Rattle.dn_greeting.specs.Greeter.{same_address}
 use Rattle.dn_greeting.specs.Reading.{IsCallIn}
+use Rattle.dn_greeting.specs.Seats.{gives_way, holding, is_at, is_free, is_of, is_quiet, kept_at, left_by, number_in, place_for, shown_to}
 use Rattle.dn_greeting.specs.Text.{answer_rest, greeting_bytes, hinted_bytes, refused_rest}
 use Rattle.dn_greeting.specs.Told.{told_mark}
 
@@ -38,10 +37,6 @@ lobby table =
       begun = table.begun;
     }
 
--- a game of so many has the seat
-abbrev pub place_for : ℕ → ℕ → Place
-place_for players seat = if nat_lt seat players then Free else Closed
-
 abbrev pub new_lobby : Seal → Terms → List ℕ → Lobby
 new_lobby seal terms game =
     record {
@@ -52,86 +47,84 @@ new_lobby seal terms game =
       begun = false;
     }
 
--- its holder is at this address
-abbrev pub is_at : Address → Place → Bool
-is_at from (Held holder) = same_address holder.address from
-is_at from place = false
-
--- and has this mark
-abbrev pub is_held_by : Address → List ℕ → Place → Bool
-is_held_by from mark (Held holder) = same_address holder.address from && bytes_eq holder.mark mark
-is_held_by from mark place = false
-
-abbrev pub is_free : Place → Bool
-is_free Free = true
-is_free place = false
-
 -- the place that was found, or else what is said here
 abbrev pub found_or : Option ℕ → Result ℕ Refusal → Result ℕ Refusal
 found_or (Some n) other = Ok n
 found_or None other = other
 
--- the seat that a joiner wants: it is free, or was held from the same address
-abbrev pub wanted : Address → ℕ → ℕ → Place → Result ℕ Refusal
-wanted from players n Free = Ok n
-wanted from players n Closed = Err (Players players)
-wanted from players n (Held holder) = if same_address holder.address from then Ok n else Err Taken
+-- the seat that a newcomer wants: it is free, or was held from the same address, or its holder is quiet
+abbrev pub wanted : Address → ℕ → ℕ → ℕ → Place → Result ℕ Refusal
+wanted from now players n Free = Ok n
+wanted from now players n Closed = Err (Players players)
+wanted from now players n (Held holder) =
+    if is_at from (Held holder) || is_quiet now (Held holder) then Ok n else Err Taken
 
--- one who wants no certain seat gets the one that was held from its address, or the lowest that is free
-abbrev pub any_seat : Address → List Place → Result ℕ Refusal
-any_seat from places =
-    found_or (position (is_at from) places) (found_or (position is_free places) (Err Full))
+-- one who wants no certain seat gets the one that was held from its address, or the lowest that is free, or the
+-- one whose holder gives way
+abbrev pub any_seat : Address → ℕ → List Place → Result ℕ Refusal
+any_seat from now places =
+    found_or (position (is_at from) places) (
+    found_or (position is_free places) (
+    found_or (position (gives_way now places) places) (Err Full)))
 
-abbrev pub some_seat : Address → Option ℕ → Lobby → Result ℕ Refusal
-some_seat from None table = any_seat from table.places
-some_seat from (Some seat) table =
-    wanted from table.terms.players (seat - 1) (slice_index_or table.places (seat - 1) Closed)
+abbrev pub some_seat : Address → Option ℕ → ℕ → Lobby → Result ℕ Refusal
+some_seat from None now table = any_seat from now table.places
+some_seat from (Some seat) now table =
+    wanted from now table.terms.players (seat - 1) (slice_index_or table.places (seat - 1) Closed)
 
 abbrev pub asks_for_other : Option ℕ → ℕ → Bool
 asks_for_other None players = false
 asks_for_other (Some asked) players = not (asked == players)
 
--- who gets which place, counted from 0: who has one keeps it, also in the game; else the first reason to refuse
-abbrev pub seat_for : Address → Call → Lobby → Result ℕ Refusal
-seat_for from call table =
-    found_or (position (is_held_by from call.mark) table.places) (
+-- which place a newcomer gets, counted from 0, or the first reason to refuse
+abbrev pub seat_for : Address → Call → ℕ → Lobby → Result ℕ Refusal
+seat_for from call now table =
     if asks_for_other call.players table.terms.players then Err (Players table.terms.players) else (
-    if table.begun then Err Begun else some_seat from call.seat table))
+    if table.begun then Err Begun else some_seat from call.seat now table)
 
--- nobody at this address holds it any more
-abbrev pub left_by : Address → Place → Place
-left_by from place = if is_at from place then Free else place
+-- the place is the newcomer's, and nobody who was at its address before holds any
+abbrev pub seated : Address → Call → ℕ → ℕ → Lobby → Lobby
+seated from call now n table =
+    record table { places = slice_set (map (left_by from) table.places) n (holding from call now) }
 
--- the place is the caller's, who holds no other
-abbrev pub seated : Address → List ℕ → ℕ → ℕ → Lobby → Lobby
-seated from mark now n table =
-    record table {
-      places = slice_set (map (left_by from) table.places) n
-          (Held (record { address = from; mark = mark; heard = now }));
-    }
+-- the holder of the place is where it calls from
+abbrev pub moved : Address → Call → ℕ → ℕ → Lobby → Lobby
+moved from call now n table = record table { places = slice_set table.places n (holding from call now) }
 
-abbrev pub address_of : Place → Option Address
-address_of (Held holder) = Some holder.address
-address_of place = None
-
-abbrev pub answer_to : Call → ℕ → Lobby → Answer
-answer_to call n table =
+abbrev pub answer_to : Address → Call → ℕ → Lobby → Answer
+answer_to from call n table =
     record {
       mark = call.mark;
       number = call.number;
       seat = n + 1;
       terms = table.terms;
       game = table.game;
-      seats = map address_of table.places;
+      seats = map (shown_to from) table.places;
     }
 
--- the table after a call that was read, and the bytes that are sent back
-abbrev pub on_seat : Address → Call → ℕ → Lobby → Result ℕ Refusal → Lobby × List ℕ
-on_seat from call now table (Ok n) =
-    let next = seated from call.mark now n table in
-    (next, greeting_bytes table.seal 2 (answer_rest (answer_to call n next)))
-on_seat from call now table (Err refusal) =
+abbrev pub answered : Address → Call → ℕ → Lobby → List ℕ
+answered from call n table = greeting_bytes table.seal 2 (answer_rest (answer_to from call n table))
+
+-- a newcomer has a place, or a refusal
+abbrev pub on_newcomer : Address → Call → ℕ → Lobby → Result ℕ Refusal → Lobby × List ℕ
+on_newcomer from call now table (Ok n) =
+    let next = seated from call now n table in (next, answered from call n next)
+on_newcomer from call now table (Err refusal) =
     (table, greeting_bytes table.seal 3 (refused_rest (record { mark = call.mark; refusal = refusal })))
+
+-- the holder of a place keeps it, also in the game, and is followed to wherever it calls from. A call that is
+-- no newer than its newest is one that somebody repeats: it changes nothing, and gets no reply
+abbrev pub on_holder : Address → Call → ℕ → ℕ → Lobby → Lobby × Option (List ℕ)
+on_holder from call now n table =
+    if nat_lt (number_in (slice_index_or table.places n Closed)) call.number
+    then (let next = moved from call now n table in (next, Some (answered from call n next)))
+    else (table, None)
+
+-- the table after a call that was read, and the bytes that are sent back
+abbrev pub on_read : Address → Call → ℕ → Lobby → Option ℕ → Lobby × Option (List ℕ)
+on_read from call now table (Some n) = on_holder from call now n table
+on_read from call now table None =
+    let after = on_newcomer from call now table (seat_for from call now table) in (after.0, Some after.1)
 
 abbrev pub hint_to : List ℕ → Hint → List ℕ
 hint_to bytes hint = hinted_bytes (record { mark = told_mark bytes; hint = hint })
@@ -143,10 +136,10 @@ hint_for fault.Suite = Some hint.Key
 hint_for fault.Tag = Some hint.Key
 hint_for fault = None
 
--- bytes that are no call change nothing
+-- a call is the holder's whose mark it has, or else a newcomer's; bytes that are no call change nothing
 abbrev pub on_call : Address → List ℕ → ℕ → Lobby → Result Call GreetingFault → Lobby × Option (List ℕ)
 on_call from bytes now table (Ok call) =
-    let after = on_seat from call now table (seat_for from call table) in (after.0, Some after.1)
+    on_read from call now table (position (is_of call.mark) table.places)
 on_call from bytes now table (Err fault) = (table, option_map (hint_to bytes) (hint_for fault))
 
 -- any bytes from any address, at a second
@@ -154,11 +147,6 @@ abbrev pub HearsCall : Address → List ℕ → ℕ → Lobby → Lobby → Opti
 HearsCall from bytes now old new reply =
     (read : Result Call GreetingFault) × IsCallIn old.seal bytes read
     × (new ≡ (on_call from bytes now old read).0) × (reply ≡ (on_call from bytes now old read).1)
-
--- the holder was not heard for more than ten seconds
-abbrev pub kept_at : ℕ → Place → Place
-kept_at now (Held holder) = if nat_lt 10 (now - holder.heard) then Free else Held holder
-kept_at now place = place
 
 -- before the game silent holders lose their seats
 abbrev pub swept : ℕ → Lobby → Lobby

@@ -36,10 +36,10 @@ IsReadAs {T} seal what size Is rest bytes (Err fault) =
     × ((read : T) → Is read → drop 12 (told_body bytes) ≢ rest read))
 
 abbrev pub IsCallIn : Seal → List ℕ → Result Call GreetingFault → Type 0
-IsCallIn seal bytes read = IsReadAs seal 1 129 IsCall call_rest bytes read
+IsCallIn seal bytes read = IsReadAs seal 1 130 IsCall call_rest bytes read
 
 abbrev pub IsAnswerIn : Seal → List ℕ → Result Answer GreetingFault → Type 0
-IsAnswerIn seal bytes read = IsReadAs seal 2 129 IsAnswer answer_rest bytes read
+IsAnswerIn seal bytes read = IsReadAs seal 2 130 IsAnswer answer_rest bytes read
 
 abbrev pub IsRefusedIn : Seal → List ℕ → Result Refused GreetingFault → Type 0
 IsRefusedIn seal bytes read = IsReadAs seal 3 46 IsRefused refused_rest bytes read

@@ -1,5 +1,5 @@
 -- The bytes of greetings.
-use Rattle.std.specs.Prelude.{◌≡◌, ◌<◌, ◌≤◌, ◌^◌, ◌&&◌, ◌||◌, ◌==◌, nat_le, nat_lt, ℕ, Bool, true, false, List, [], ◌∷◌, ◌++◌, length, codes, replicate, Option, Some, None, All, IfSome}
+use Rattle.std.specs.Prelude.{◌≡◌, ◌<◌, ◌^◌, ◌&&◌, nat_le, nat_lt, ℕ, Bool, true, false, List, [], ◌∷◌, ◌++◌, length, replicate, Option, Some, None, All, IfSome}
 use Rattle.std.specs.List.{flat_map}
 use Rattle.std.specs.Int.{w16, w32, to_le_bytes}
 use Rattle.dn_seal.specs.declared.seal.Seal.{Seal}
@@ -41,7 +41,7 @@ named (Some n) = n
 
 -- a call is as long as its answer
 unfoldable pub padding : List ℕ
-padding = replicate 79 0
+padding = replicate 80 0
 
 -- of a call: the joiner's mark, the number of the call, the seat that is wanted, the number of players
 abbrev pub call_rest : Call → List ℕ
@@ -52,9 +52,10 @@ abbrev pub bit : Bool → ℕ
 bit true = 1
 bit false = 0
 
--- the seven bytes of the terms
+-- the eight bytes of the terms
 abbrev pub terms_bytes : Terms → List ℕ
-terms_bytes terms = terms.players ∷ bit terms.extra ∷ terms.ahead ∷ to_le_bytes w32 terms.limit
+terms_bytes terms =
+    terms.players ∷ bit terms.extra ∷ terms.ahead ∷ terms.rate ∷ to_le_bytes w32 terms.limit
 
 -- the nineteen bytes of an address, or of none
 abbrev pub address_bytes : Option Address → List ℕ
@@ -113,9 +114,14 @@ pub record IsCall (call : Call) : Type 0 where
   pub seat : is_wish call.seat ≡ true
   pub players : is_count_or_none call.players ≡ true
 
+-- so many tics may be played a second
+abbrev pub is_rate : ℕ → Bool
+is_rate rate = nat_le 1 rate && nat_le rate 35
+
 -- the terms are those of a game
 abbrev pub is_terms : Terms → Bool
-is_terms terms = is_count terms.players && (nat_le 1 terms.ahead && nat_le terms.ahead 12)
+is_terms terms =
+    is_count terms.players && (nat_le 1 terms.ahead && (nat_le terms.ahead 12 && is_rate terms.rate))
 
 -- a game of so many has the seat, and it is not the host's
 abbrev pub is_guest : ℕ → ℕ → Bool

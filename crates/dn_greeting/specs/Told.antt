@@ -48,7 +48,8 @@ told_terms rest =
       players = slice_index rest 21;
       extra = slice_index rest 22 == 1;
       ahead = slice_index rest 23;
-      limit = told_number 24 rest;
+      rate = slice_index rest 24;
+      limit = told_number 25 rest;
     }
 
 -- the answer behind the head
@@ -59,8 +60,8 @@ told_answer rest =
       number = told_number 16 rest;
       seat = slice_index rest 20;
       terms = told_terms rest;
-      game = told_sixteen 28 rest;
-      seats = told_address (drop 44 rest) ∷ told_address (drop 63 rest) ∷ told_address (drop 82 rest) ∷ [];
+      game = told_sixteen 29 rest;
+      seats = told_address (drop 45 rest) ∷ told_address (drop 64 rest) ∷ told_address (drop 83 rest) ∷ [];
     }
 
 abbrev pub told_reason : ℕ → ℕ → Refusal

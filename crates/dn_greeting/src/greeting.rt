@@ -20,6 +20,8 @@ pub struct Terms {
     pub extra: bool,
     /// How many commands a player makes ahead of its runs.
     pub ahead: u8,
+    /// How many tics a second are played.
+    pub rate: u8,
     /// How many bytes the demo may have.
     pub limit: u32,
 }

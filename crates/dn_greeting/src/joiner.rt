@@ -1,38 +1,16 @@
 //! What a joiner makes of replies.
 
 ghost use Rattle.std.specs.Prelude.{◌≡◌, Option, Result, false, true};
-ghost use Rattle.std.specs.Cmp.Lexicographic.{pointwise};
 ghost use Rattle.dn_greeting.specs.Greeter.{greeting_seal};
 ghost use Rattle.dn_greeting.specs.Text.{call_rest, greeting_bytes};
-ghost use Rattle.dn_greeting.specs.Joining.{is_later, news_in, on_answer, on_hinted, on_refused, on_reply, same_flag, same_game, same_place, same_terms};
 
-use crate::greeting::{
-    Address, Answer, Call, GreetingFault, Hint, Hinted, Refusal, Refused, Terms,
-};
+use crate::greeting::{Address, Answer, Call, GreetingFault, Hinted, Refused};
+use crate::news::{News, is_later, news_in, same_game};
 use crate::reading::{open_answer, open_refused, read_hinted};
 use crate::sealing::{greeter, same_address};
 use crate::writing::seal_call;
 use arrayvec::ArrayVec;
 use dn_seal::Sealer;
-
-/// What is new for a joiner.
-#[derive(Clone, Copy, Debug, PartialEq, Eq)]
-pub enum News {
-    /// Nothing: the bytes are no reply to it, or an old one.
-    Nothing,
-    /// It has a seat.
-    Seated,
-    /// The host answers as before.
-    Same,
-    /// Another player is elsewhere, has come or has gone.
-    Moved,
-    /// There is another game, or it has another seat: its link begins anew.
-    Anew,
-    /// The host refuses it.
-    Refused(Refusal),
-    /// The host could not read its call.
-    Hinted(Hint),
-}
 
 /// Who joins: whom it calls, and what it knows.
 #[derive(Drop)]
@@ -47,81 +25,12 @@ pub struct Joiner {
     begun: bool,
 }
 
-/// Whether an answer to the call of this number is newer than the last.
-fn is_later(last: &Option<Answer>, number: u32) -> bool
-    ensures { result ≡ is_later last.now number }
-{
-    match last {
-        None => true,
-        Some(answer) => answer.number < number,
-    }
-}
-
-/// Whether two flags are the same.
-fn same_flag(one: bool, other: bool) -> bool
-    ensures { result ≡ same_flag one other }
-{
-    if one { other } else { !other }
-}
-
-/// Whether the terms are the same.
-fn same_terms(one: &Terms, other: &Terms) -> bool
-    ensures { result ≡ same_terms one.now other.now }
-{
-    one.players == other.players
-        && same_flag(one.extra, other.extra)
-        && one.ahead == other.ahead
-        && one.limit == other.limit
-}
-
-/// Whether two answers give the same seat of the same game.
-fn same_game(one: &Answer, other: &Answer) -> bool
-    ensures { result ≡ same_game one.now other.now }
-{
-    one.game == other.game && one.seat == other.seat && same_terms(&one.terms, &other.terms)
-}
-
-/// Whether a seat is held at the same address, or by nobody.
-fn same_place(one: &Option<Address>, other: &Option<Address>) -> bool
-    ensures { result ≡ same_place one.now other.now }
-{
-    match (one, other) {
-        (None, None) => true,
-        (Some(one), Some(other)) => same_address(one, other),
-        _ => false,
-    }
-}
-
-/// Whether all seats are.
-fn same_places(one: &[Option<Address>; 3], other: &[Option<Address>; 3]) -> bool
-    ensures { result ≡ pointwise same_place one.now other.now }
-{
-    let ([a, b, c], [d, e, f]) = (one, other);
-    same_place(a, d) && same_place(b, e) && same_place(c, f)
-}
-
-/// What is new in an answer.
-fn news_in(last: &Option<Answer>, answer: &Answer) -> News
-    ensures { result ≡ news_in last.now answer.now }
-{
-    let Some(last) = last else {
-        return News::Seated;
-    };
-    if !same_game(last, answer) {
-        return News::Anew;
-    }
-    if same_places(&last.seats, &answer.seats) {
-        News::Same
-    } else {
-        News::Moved
-    }
-}
-
 impl Joiner {
-    ghost use Rattle.dn_greeting.specs.Joining.{call_of, joining, listens_to, one_more, HearsReply};
+    ghost use Rattle.dn_greeting.specs.Greeter.{same_address};
+    ghost use Rattle.dn_greeting.specs.Joining.{call_of, goes_on, is_due, joining, on_answer, on_hinted, on_refused, on_reply, one_more, HearsReply};
     ghost use Rattle.dn_greeting.specs.declared.greeting.Answer.{Answer};
     ghost use Rattle.dn_greeting.specs.declared.greeting.GreetingFault.{GreetingFault};
-    ghost use Rattle.dn_greeting.specs.declared.joiner.News.TheVariants as news;
+    ghost use Rattle.dn_greeting.specs.declared.news.News.TheVariants as news;
 
     /// One who calls this host under a secret or without one, and has drawn this mark. It may want a certain seat,
     /// and may have been told how many players there must be.
@@ -162,7 +71,7 @@ impl Joiner {
         self.answer
     }
 
-    /// Its game has begun: it heeds no reply any more.
+    /// Its game has begun: of replies it heeds but answers with the same seat of the same game.
     pub fn begin(&mut self)
         ensures { joining self.new ≡ record (joining self.old) { begun = true } }
     {
@@ -170,7 +79,7 @@ impl Joiner {
     }
 
     /// The bytes of its next call.
-    pub fn call(&mut self) -> ArrayVec<u8, 129>
+    pub fn call(&mut self) -> ArrayVec<u8, 130>
         ensures counts { joining self.new ≡ one_more (joining self.old) }
         ensures call { result.items
             ≡ greeting_bytes (joining self.new).seal 1 (call_rest (call_of (joining self.new))) }
@@ -185,12 +94,29 @@ impl Joiner {
         seal_call(&self.sealer, &call)
     }
 
+    /// Whether its game lets it take an answer: once it has begun, of the same seat in the same game alone.
+    fn goes_on(&self, answer: &Answer) -> bool
+        ensures { result ≡ goes_on answer.now (joining self.now) }
+    {
+        match &self.answer {
+            Some(last) => !self.begun || same_game(last, answer),
+            None => !self.begun,
+        }
+    }
+
+    /// Whether an answer is the newest to its own calls.
+    fn is_due(&self, answer: &Answer) -> bool
+        ensures { result ≡ is_due answer.now (joining self.now) }
+    {
+        answer.mark == self.mark && is_later(&self.answer, answer.number)
+    }
+
     /// What it makes of an answer.
     fn take(&mut self, answer: Answer) -> News
         ensures joiner { joining self.new ≡ (on_answer answer (joining self.old)).0 }
         ensures news { result ≡ (on_answer answer (joining self.old)).1 }
     {
-        if answer.mark != self.mark || !is_later(&self.answer, answer.number) {
+        if !self.is_due(&answer) || !self.goes_on(&answer) {
             return News::Nothing;
         }
         let news = news_in(&self.answer, &answer);
@@ -202,7 +128,7 @@ impl Joiner {
     fn refused(&self, refused: &Refused) -> News
         ensures { result ≡ on_refused refused.now (joining self.now) }
     {
-        if refused.mark == self.mark {
+        if refused.mark == self.mark && !self.begun {
             News::Refused(refused.refusal)
         } else {
             News::Nothing
@@ -213,7 +139,7 @@ impl Joiner {
     fn hinted(&self, hinted: &Hinted) -> News
         ensures { result ≡ on_hinted hinted.now (joining self.now) }
     {
-        if hinted.mark == self.mark && self.answer.is_none() {
+        if hinted.mark == self.mark && self.answer.is_none() && !self.begun {
             News::Hinted(hinted.hint)
         } else {
             News::Nothing
@@ -244,12 +170,12 @@ impl Joiner {
 
     /// Takes any bytes that came from an address.
     pub fn hear(&mut self, from: Address, bytes: &[u8]) -> News
-        ensures hears { listens_to from (joining self.old) ≡ true
+        ensures hears { same_address from (joining self.old).host ≡ true
             → HearsReply bytes.now (joining self.old) (joining self.new) result }
-        ensures deaf { listens_to from (joining self.old) ≡ false
+        ensures deaf { same_address from (joining self.old).host ≡ false
             → (joining self.new ≡ joining self.old) × (result ≡ news.Nothing) }
     {
-        if self.begun || !same_address(&from, &self.host) {
+        if !same_address(&from, &self.host) {
             return News::Nothing;
         }
         let answer = open_answer(&self.sealer, bytes);

@@ -2,12 +2,17 @@
 #![tactic(auto)]
 
 mod append;
+mod calls;
+mod choosing;
 mod greeting;
+mod hinting;
 mod joiner;
 mod laws;
+mod news;
 mod places;
 mod reading;
 mod sealing;
+mod seats;
 mod table;
 mod telling;
 #[cfg(test)]
@@ -15,9 +20,11 @@ mod tests;
 mod writing;
 
 pub use greeting::{Address, Answer, Call, GreetingFault, Hint, Hinted, Refusal, Refused, Terms};
-pub use joiner::{Joiner, News};
+pub use joiner::Joiner;
 pub use laws::{greetings_are_no_envelopes, greetings_are_read_back, one_greeting};
+pub use news::News;
 pub use reading::{open_answer, open_call, open_refused, read_hinted};
 pub use sealing::greeter;
-pub use table::{Holder, Place, SILENCE, Table};
+pub use seats::{Holder, Place, QUIET, SILENCE};
+pub use table::Table;
 pub use writing::{hinted_bytes, seal_answer, seal_call, seal_refused};

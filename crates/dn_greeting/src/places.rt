@@ -1,12 +1,11 @@
-//! The seats, and which of them a caller gets.
+//! What a seat is to a caller.
 
-ghost use Rattle.std.specs.Prelude.{◌≡◌, ◌<◌, ◌-◌, position, slice_index_or, Result, IfOk, IfSome};
-ghost use Rattle.dn_greeting.specs.Lobby.{address_of, any_seat, asks_for_other, found_or, is_at, is_free, is_held_by, kept_at, left_by, place_for, wanted};
-ghost use Rattle.dn_greeting.specs.declared.greeting.Refusal.{Refusal};
+ghost use Rattle.std.specs.Prelude.{◌≡◌};
+ghost use Rattle.dn_greeting.specs.Seats.{gives_way, holding, is_at, is_free, is_loopback, is_of, is_quiet, is_quietest, kept_at, left_by, number_in, place_for, shown_to, silence_of};
 
-use crate::greeting::{Address, Refusal};
+use crate::greeting::{Address, Call};
 use crate::sealing::same_address;
-use crate::table::{Place, SILENCE};
+use crate::seats::{Holder, Place, QUIET, SILENCE};
 
 /// The seat of a game of so many players before anybody holds it.
 pub(crate) fn place_for(players: u8, seat: u8) -> Place
@@ -20,7 +19,7 @@ pub(crate) fn place_for(players: u8, seat: u8) -> Place
 }
 
 /// Whether its holder is at this address.
-fn is_at(from: &Address, place: &Place) -> bool
+pub(crate) fn is_at(from: &Address, place: &Place) -> bool
     ensures { result ≡ is_at from.now place.now }
 {
     match place {
@@ -29,21 +28,54 @@ fn is_at(from: &Address, place: &Place) -> bool
     }
 }
 
-/// Whether who calls from this address with this mark holds it.
-fn is_held_by(from: &Address, mark: &[u8; 16], place: &Place) -> bool
-    ensures { result ≡ is_held_by from.now mark.now place.now }
+/// Whether its holder has this mark.
+pub(crate) fn is_of(mark: &[u8; 16], place: &Place) -> bool
+    ensures { result ≡ is_of mark.now place.now }
 {
     match place {
-        Place::Held(holder) => same_address(&holder.address, from) && holder.mark == *mark,
+        Place::Held(holder) => holder.mark == *mark,
         _ => false,
     }
 }
 
 /// Whether nobody holds it.
-fn is_free(place: &Place) -> bool
+pub(crate) fn is_free(place: &Place) -> bool
     ensures { result ≡ is_free place.now }
 {
     matches!(place, Place::Free)
+}
+
+/// For how many seconds its holder has not called.
+fn silence_of(now: u32, place: &Place) -> u32
+    ensures { result ≡ silence_of now place.now }
+{
+    match place {
+        Place::Held(holder) => now.saturating_sub(holder.heard),
+        _ => 0,
+    }
+}
+
+/// Whether these are so many that another may have the seat.
+pub(crate) fn is_quiet(now: u32, place: &Place) -> bool
+    ensures { result ≡ is_quiet now place.now }
+{
+    silence_of(now, place) > QUIET
+}
+
+/// Whether no other holder has been silent for longer.
+fn is_quietest(now: u32, places: &[Place; 3], place: &Place) -> bool
+    ensures { result ≡ is_quietest now places.now place.now }
+{
+    let [one, two, three] = places;
+    let most = silence_of(now, place);
+    silence_of(now, one) <= most && silence_of(now, two) <= most && silence_of(now, three) <= most
+}
+
+/// Whether its holder gives way to another.
+pub(crate) fn gives_way(now: u32, places: &[Place; 3], place: &Place) -> bool
+    ensures { result ≡ gives_way now places.now place.now }
+{
+    is_quiet(now, place) && is_quietest(now, places, place)
 }
 
 /// The seat once nobody at this address holds it any more.
@@ -57,13 +89,47 @@ pub(crate) fn left_by(from: &Address, place: Place) -> Place
     }
 }
 
-/// Where its holder is.
-pub(crate) fn address_of(place: Place) -> Option<Address>
-    ensures { result ≡ address_of place }
+/// The seat of who calls from this address at this second.
+pub(crate) fn holding(from: Address, call: &Call, now: u32) -> Place
+    ensures { result ≡ holding from call.now now }
+{
+    Place::Held(Holder {
+        address: from,
+        mark: call.mark,
+        number: call.number,
+        heard: now,
+    })
+}
+
+/// The number of its holder's newest call, and 0 if nobody holds it.
+pub(crate) fn number_in(place: &Place) -> u32
+    ensures { result ≡ number_in place.now }
 {
     match place {
-        Place::Held(holder) => Some(holder.address),
-        _ => None,
+        Place::Held(holder) => holder.number,
+        _ => 0,
+    }
+}
+
+/// Whether an address is the machine's own alone.
+fn is_loopback(address: &Address) -> bool
+    ensures { result ≡ is_loopback address.now }
+{
+    address.ip[..13] == [0, 0, 0, 0, 0, 0, 0, 0, 0, 0, 255, 255, 127]
+        || address.ip == [0, 0, 0, 0, 0, 0, 0, 0, 0, 0, 0, 0, 0, 0, 0, 1]
+}
+
+/// Where its holder is, as far as this is told to who is at an address.
+pub(crate) fn shown_to(from: &Address, place: Place) -> Option<Address>
+    ensures { result ≡ shown_to from.now place }
+{
+    let Place::Held(holder) = place else {
+        return None;
+    };
+    if is_loopback(&holder.address) && !is_loopback(from) {
+        None
+    } else {
+        Some(holder.address)
     }
 }
 
@@ -74,73 +140,5 @@ pub(crate) fn kept_at(now: u32, place: Place) -> Place
     match place {
         Place::Held(holder) if now.saturating_sub(holder.heard) > SILENCE => Place::Free,
         _ => place,
-    }
-}
-
-/// The place of who calls from this address with this mark, if it has one.
-pub(crate) fn held_by(from: &Address, mark: &[u8; 16], places: &[Place; 3]) -> Option<usize>
-    ensures value { result ≡ position (is_held_by from.now mark.now) places.now }
-    ensures within { IfSome result (λ n. n < 3) }
-{
-    places
-        .iter()
-        .position(|place| is_held_by(from, mark, place))
-}
-
-/// The place of whoever is at this address.
-fn held_at(from: &Address, places: &[Place; 3]) -> Option<usize>
-    ensures value { result ≡ position (is_at from.now) places.now }
-    ensures within { IfSome result (λ n. n < 3) }
-{
-    places.iter().position(|place| is_at(from, place))
-}
-
-/// The lowest place that nobody holds.
-fn free_in(places: &[Place; 3]) -> Option<usize>
-    ensures value { result ≡ position is_free places.now }
-    ensures within { IfSome result (λ n. n < 3) }
-{
-    places.iter().position(|place| is_free(place))
-}
-
-/// The place of one who wants no certain seat.
-pub(crate) fn any_seat(from: &Address, places: &[Place; 3]) -> Result<usize, Refusal>
-    ensures value { result ≡ any_seat from.now places.now }
-    ensures within { IfOk result (λ n. n < 3) }
-{
-    if let Some(n) = held_at(from, places) {
-        return Ok(n);
-    }
-    match free_in(places) {
-        Some(n) => Ok(n),
-        None => Err(Refusal::Full),
-    }
-}
-
-/// The place that a joiner wants, if it may have it.
-pub(crate) fn wanted(from: &Address, players: u8, n: usize, place: &Place) -> Result<usize, Refusal>
-    ensures value { result ≡ wanted from.now players n place.now }
-    ensures same { IfOk result (λ m. m ≡ n) }
-{
-    match place {
-        Place::Free => Ok(n),
-        Place::Closed => Err(Refusal::Players(players)),
-        Place::Held(holder) => {
-            if same_address(&holder.address, from) {
-                Ok(n)
-            } else {
-                Err(Refusal::Taken)
-            }
-        }
-    }
-}
-
-/// Whether a joiner was told another number of players.
-pub(crate) fn asks_for_other(asked: Option<u8>, players: u8) -> bool
-    ensures { result ≡ asks_for_other asked players }
-{
-    match asked {
-        Some(asked) => asked != players,
-        None => false,
     }
 }

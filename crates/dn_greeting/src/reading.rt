@@ -61,9 +61,9 @@ pub fn open_call(sealer: &Sealer, bytes: &[u8]) -> Result<Call, GreetingFault>
     ensures only { (read : Result Call GreetingFault)
         → IsCallIn (sealing sealer.now).seal bytes.now read → result ≡ read }
 {
-    match fault_in(sealer, CALL, 129, bytes) {
+    match fault_in(sealer, CALL, 130, bytes) {
         Some(fault) => Err(fault),
-        None => match call_in(&bytes[12..113]) {
+        None => match call_in(&bytes[12..114]) {
             Some(call) => Ok(call),
             None => Err(GreetingFault::Form),
         },
@@ -76,9 +76,9 @@ pub fn open_answer(sealer: &Sealer, bytes: &[u8]) -> Result<Answer, GreetingFaul
     ensures only { (read : Result Answer GreetingFault)
         → IsAnswerIn (sealing sealer.now).seal bytes.now read → result ≡ read }
 {
-    match fault_in(sealer, ANSWER, 129, bytes) {
+    match fault_in(sealer, ANSWER, 130, bytes) {
         Some(fault) => Err(fault),
-        None => match answer_in(&bytes[12..113]) {
+        None => match answer_in(&bytes[12..114]) {
             Some(answer) => Ok(answer),
             None => Err(GreetingFault::Form),
         },

@@ -5,7 +5,7 @@ ghost use Rattle.dn_greeting.specs.declared.greeting.Answer.{Answer};
 ghost use Rattle.dn_greeting.specs.declared.greeting.Call.{Call};
 ghost use Rattle.dn_greeting.specs.declared.greeting.Hinted.{Hinted};
 ghost use Rattle.dn_greeting.specs.declared.greeting.Refused.{Refused};
-ghost use Rattle.dn_greeting.specs.Text.{answer_rest, call_rest, hinted_bytes, refused_rest, is_count_or_none, is_count, is_guest, is_terms, is_wish, IsAddress, IsAnswer, IsCall, IsHinted, IsRefused};
+ghost use Rattle.dn_greeting.specs.Text.{answer_rest, call_rest, hinted_bytes, refused_rest, is_count_or_none, is_count, is_guest, is_rate, is_terms, is_wish, IsAddress, IsAnswer, IsCall, IsHinted, IsRefused};
 ghost use Rattle.dn_greeting.specs.Told.{told_address, told_answer, told_call, told_hint, told_hinted, told_name, told_reason, told_refused, told_sixteen, told_terms};
 
 use crate::greeting::{Address, Answer, Call, Hint, Hinted, Refusal, Refused, Terms};
@@ -31,7 +31,7 @@ fn name_in(byte: u8) -> Option<u8>
 
 /// The call that may stand behind the head.
 fn told_call(rest: &[u8]) -> Call
-    requires { 101 ≤ length rest.now }
+    requires { 102 ≤ length rest.now }
     ensures { result ≡ told_call rest.now }
 {
     Call {
@@ -83,20 +83,21 @@ fn address_in(bytes: &[u8]) -> Option<Address>
 
 /// The terms behind the head.
 fn terms_in(rest: &[u8]) -> Terms
-    requires { 101 ≤ length rest.now }
+    requires { 102 ≤ length rest.now }
     ensures { result ≡ told_terms rest.now }
 {
     Terms {
         players: rest[21],
         extra: rest[22] == 1,
         ahead: rest[23],
-        limit: tic_at(rest, 24),
+        rate: rest[24],
+        limit: tic_at(rest, 25),
     }
 }
 
 /// The answer that may stand behind the head.
 fn told_answer(rest: &[u8]) -> Answer
-    requires { 101 ≤ length rest.now }
+    requires { 102 ≤ length rest.now }
     ensures value { result ≡ told_answer rest.now }
     ensures fits { All (λ place. IfSome place IsAddress) result.seats }
 {
@@ -105,20 +106,27 @@ fn told_answer(rest: &[u8]) -> Answer
         number: tic_at(rest, 16),
         seat: rest[20],
         terms: terms_in(rest),
-        game: sixteen_at(rest, 28),
+        game: sixteen_at(rest, 29),
         seats: [
-            address_in(&rest[44..]),
-            address_in(&rest[63..]),
-            address_in(&rest[82..]),
+            address_in(&rest[45..]),
+            address_in(&rest[64..]),
+            address_in(&rest[83..]),
         ],
     }
+}
+
+/// Whether so many tics may be played a second.
+fn is_rate(rate: u8) -> bool
+    ensures { result ≡ is_rate rate }
+{
+    1 <= rate && rate <= 35
 }
 
 /// Whether the terms are those of a game.
 fn is_terms(terms: &Terms) -> bool
     ensures { result ≡ is_terms terms.now }
 {
-    is_count(terms.players) && 1 <= terms.ahead && terms.ahead <= 12
+    is_count(terms.players) && 1 <= terms.ahead && terms.ahead <= 12 && is_rate(terms.rate)
 }
 
 /// Whether the numbers of an answer fit.
@@ -175,7 +183,7 @@ fn told_hinted(bytes: &[u8]) -> Hinted
 
 /// What stands behind the head, if it is a call.
 pub(crate) fn call_in(rest: &[u8]) -> Option<Call>
-    requires { 101 ≤ length rest.now }
+    requires { 102 ≤ length rest.now }
     ensures { MatchOption result ((call : Call) → IsCall call → rest.now ≢ call_rest call)
         (λ call. IsCall call × (rest.now ≡ call_rest call)) }
 {
@@ -188,7 +196,7 @@ pub(crate) fn call_in(rest: &[u8]) -> Option<Call>
 
 /// What stands behind the head, if it is an answer.
 pub(crate) fn answer_in(rest: &[u8]) -> Option<Answer>
-    requires { 101 ≤ length rest.now }
+    requires { 102 ≤ length rest.now }
     ensures { MatchOption result ((answer : Answer) → IsAnswer answer → rest.now ≢ answer_rest answer)
         (λ answer. IsAnswer answer × (rest.now ≡ answer_rest answer)) }
 {

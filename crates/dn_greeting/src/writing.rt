@@ -32,10 +32,10 @@ pub(crate) const HINTED: u8 = 4;
 pub(crate) const NAME: [u8; 9] = [KIND, 122, 105, 114, 109, 101, 103, 97, 116];
 
 /// A greeting of this kind, with its tag.
-fn sealed(sealer: &Sealer, what: u8, rest: &[u8]) -> ArrayVec<u8, 129>
-    requires { length rest.now ≤ 101 }
+fn sealed(sealer: &Sealer, what: u8, rest: &[u8]) -> ArrayVec<u8, 130>
+    requires { length rest.now ≤ 102 }
     ensures value { result.items ≡ greeting_bytes (sealing sealer.now).seal what rest.now }
-    ensures short { length result.items ≤ 129 }
+    ensures short { length result.items ≤ 130 }
 {
     let front = sealer.front(KIND);
     let mut bytes = ArrayVec::new();
@@ -60,14 +60,14 @@ fn named(number: Option<u8>) -> u8
 
 /// What makes a call as long as its answer.
 #[tactic(auto, unfolding(crate::specs::Text::padding))]
-fn padding() -> [u8; 79]
+fn padding() -> [u8; 80]
     ensures { result ≡ padding }
 {
-    [0; 79]
+    [0; 80]
 }
 
 /// What stands behind the head of a call.
-pub(crate) fn call_rest(call: &Call) -> ArrayVec<u8, 101>
+pub(crate) fn call_rest(call: &Call) -> ArrayVec<u8, 102>
     ensures { result.items ≡ call_rest call.now }
 {
     let mut bytes = ArrayVec::new();
@@ -86,11 +86,20 @@ fn bit(flag: bool) -> u8
 }
 
 /// The bytes of the terms.
-fn terms_bytes(terms: Terms) -> [u8; 7]
+fn terms_bytes(terms: Terms) -> [u8; 8]
     ensures { result ≡ terms_bytes terms }
 {
     let [a, b, c, d] = terms.limit.to_le_bytes();
-    [terms.players, bit(terms.extra), terms.ahead, a, b, c, d]
+    [
+        terms.players,
+        bit(terms.extra),
+        terms.ahead,
+        terms.rate,
+        a,
+        b,
+        c,
+        d,
+    ]
 }
 
 /// The bytes of an address.
@@ -122,7 +131,7 @@ fn seats_bytes(seats: [Option<Address>; 3]) -> ArrayVec<u8, 57>
 }
 
 /// What stands behind the head of an answer.
-pub(crate) fn answer_rest(answer: &Answer) -> ArrayVec<u8, 101>
+pub(crate) fn answer_rest(answer: &Answer) -> ArrayVec<u8, 102>
     ensures { result.items ≡ answer_rest answer.now }
 {
     let mut bytes = ArrayVec::new();
@@ -148,7 +157,7 @@ fn reason_bytes(refusal: Refusal) -> [u8; 2]
 }
 
 /// What stands behind the head of a refusal.
-pub(crate) fn refused_rest(refused: &Refused) -> ArrayVec<u8, 101>
+pub(crate) fn refused_rest(refused: &Refused) -> ArrayVec<u8, 102>
     ensures { result.items ≡ refused_rest refused.now }
 {
     let mut bytes = ArrayVec::new();
@@ -158,25 +167,25 @@ pub(crate) fn refused_rest(refused: &Refused) -> ArrayVec<u8, 101>
 }
 
 /// The bytes of a call.
-pub fn seal_call(sealer: &Sealer, call: &Call) -> ArrayVec<u8, 129>
+pub fn seal_call(sealer: &Sealer, call: &Call) -> ArrayVec<u8, 130>
     ensures value { result.items ≡ greeting_bytes (sealing sealer.now).seal 1 (call_rest call.now) }
-    ensures short { length result.items ≤ 129 }
+    ensures short { length result.items ≤ 130 }
 {
     sealed(sealer, CALL, call_rest(call).as_slice())
 }
 
 /// The bytes of an answer.
-pub fn seal_answer(sealer: &Sealer, answer: &Answer) -> ArrayVec<u8, 129>
+pub fn seal_answer(sealer: &Sealer, answer: &Answer) -> ArrayVec<u8, 130>
     ensures value { result.items ≡ greeting_bytes (sealing sealer.now).seal 2 (answer_rest answer.now) }
-    ensures short { length result.items ≤ 129 }
+    ensures short { length result.items ≤ 130 }
 {
     sealed(sealer, ANSWER, answer_rest(answer).as_slice())
 }
 
 /// The bytes of a refusal.
-pub fn seal_refused(sealer: &Sealer, refused: &Refused) -> ArrayVec<u8, 129>
+pub fn seal_refused(sealer: &Sealer, refused: &Refused) -> ArrayVec<u8, 130>
     ensures value { result.items ≡ greeting_bytes (sealing sealer.now).seal 3 (refused_rest refused.now) }
-    ensures short { length result.items ≤ 129 }
+    ensures short { length result.items ≤ 130 }
 {
     sealed(sealer, REFUSED, refused_rest(refused).as_slice())
 }
@@ -202,7 +211,7 @@ fn hint_byte(hint: Hint) -> u8
 }
 
 /// The bytes of a hint.
-pub fn hinted_bytes(hinted: &Hinted) -> ArrayVec<u8, 129>
+pub fn hinted_bytes(hinted: &Hinted) -> ArrayVec<u8, 130>
     ensures { result.items ≡ hinted_bytes hinted.now }
 {
     let mut bytes = ArrayVec::new();

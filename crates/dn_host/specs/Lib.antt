@@ -1,1 +1,9 @@
 pub mod Walks
+pub mod Coming
+pub mod Endings
+pub mod Measured
+pub mod Addresses
+pub mod Stages
+pub mod Outcomes
+pub mod Begun
+pub mod Replays

@@ -1,9 +1,8 @@
 -- How the walk of a player goes with its link: what the law of linked games asks of a world.
-use Rattle.std.specs.Prelude.{◌≡◌, ℕ, ℤ, Bool, true, false, List, [], ◌∷◌, Option, Some, None}
+use Rattle.std.specs.Prelude.{◌≡◌, ℕ, ℤ, Bool, false, List, [], ◌∷◌, Option, Some, None}
 use Rattle.dn_tic.specs.declared.command.Move.{Move}
 use Rattle.dn_setup.specs.Settings.{Settings}
 use Rattle.dn_setup.specs.Starts.{start_of}
-use Rattle.dn_world.specs.Physics.{Physics}
 use Rattle.dn_world.specs.Plane.{Spots, walking}
 use Rattle.dn_machine.specs.Running.{on_run}
 use Rattle.dn_machine.specs.declared.answers.Ran.{Ran}

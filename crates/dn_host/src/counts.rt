@@ -1,6 +1,9 @@
 //! What is counted of a game from its beginning on.
 
-use crate::play::Done;
+ghost use Rattle.std.specs.Prelude.{◌≡◌, ◌≤◌, ℕ, List};
+ghost use Rattle.dn_host.specs.Measured.{IsMeasured, IsSomeMeasure};
+
+use crate::done::Done;
 use dn_link::Link;
 use dn_measure::{Arrivals, Measure, PeerStatus, Status, Summary, Told};
 
@@ -21,27 +24,40 @@ pub(crate) struct Counts {
     tics: u64,
     /// When the last tic was run, or the game began.
     ran: u64,
+    /// How many datagrams of each player came late.
+    late: [u32; 4],
+    ghost measured: { IsSomeMeasure measure },
 }
 
-/// What came from a player so far.
-fn came_from(link: &Link, player: u8) -> Option<Arrivals> {
+/// What came from a player so far, so much of it late.
+fn came_from(link: &Link, player: u8, late: u32) -> Option<Arrivals> {
     let figures = link.figures(player)?;
     Some(Arrivals {
         came: figures.came,
         lost: figures.lost,
+        late,
         twice: figures.repeated,
         old: figures.too_old,
     })
 }
 
-/// What came from each player so far.
-fn came(link: &Link) -> Came {
+/// What came from each player so far, so much of it late.
+fn came(link: &Link, [a, b, c, d]: [u32; 4]) -> Came {
     [
-        came_from(link, 0),
-        came_from(link, 1),
-        came_from(link, 2),
-        came_from(link, 3),
+        came_from(link, 0, a),
+        came_from(link, 1, b),
+        came_from(link, 2, c),
+        came_from(link, 3, d),
     ]
+}
+
+/// Tells so often the same.
+fn tell(measure: &mut Measure, told: Told, times: u32)
+    ensures { IsSomeMeasure measure.old → IsSomeMeasure measure.new }
+{
+    for _ in 0..times {
+        measure.tell(told);
+    }
 }
 
 /// What came from a player since there was that much.
@@ -66,25 +82,30 @@ impl Counts {
     pub(crate) fn new(link: &Link, now: u64) -> Counts {
         Counts {
             measure: Measure::new(now),
-            before: came(link),
+            before: came(link, [0; 4]),
             shown: 0,
             since: now,
             tics: 0,
             ran: now,
+            late: [0; 4],
         }
     }
 
     /// Counts what was done.
     pub(crate) fn add(&mut self, done: Done, now: u64) {
-        for _ in 0..done.built {
-            self.measure.tell(Told::Built(now));
-        }
-        for _ in 0..done.ran {
-            self.measure.tell(Told::Ran(now));
-        }
+        tell(&mut self.measure, Told::Built(now), done.built);
+        tell(&mut self.measure, Told::Ran(now), done.ran);
         self.tics = self.tics.saturating_add(u64::from(done.ran));
         if done.ran > 0 {
             self.ran = now;
+        }
+    }
+
+    /// Counts a datagram of a player that came late.
+    pub(crate) fn come_late(&mut self, player: u8) {
+        let late = &mut self.late;
+        if let Some(count) = late.get_mut(usize::from(player)) {
+            *count = count.saturating_add(1);
         }
     }
 
@@ -95,7 +116,7 @@ impl Counts {
 
     /// What came from each player since the game began.
     fn arrivals(&self, link: &Link) -> Came {
-        let [a, b, c, d] = came(link);
+        let [a, b, c, d] = came(link, self.late);
         let [e, f, g, h] = self.before;
         [since(a, e), since(b, f), since(c, g), since(d, h)]
     }
@@ -126,7 +147,9 @@ impl Counts {
     }
 
     /// What was measured up to now.
-    pub(crate) fn summary(&self, link: &Link, now: u64, rate: u8) -> Summary {
+    pub(crate) fn summary(&self, link: &Link, now: u64, rate: u8) -> Summary
+        ensures { IsMeasured result }
+    {
         self.measure.summary(now, rate, self.arrivals(link))
     }
 }

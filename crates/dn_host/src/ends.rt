@@ -15,10 +15,14 @@ pub enum Ending {
     OthersLeft,
     /// The demo was full.
     Full,
+    /// All others left, this player since its demo was full.
+    FullAt(u8),
     /// Nothing came from this player for too long.
     Lost(u8),
     /// This player's world is another.
     Inconsistent(u8),
+    /// All others left, this player since it found the world of one to be another.
+    InconsistentAt(u8),
     /// The host gave no seat.
     Refused(Refusal),
     /// The host could not read the calls.

@@ -1,17 +1,19 @@
 //! One player's part in a game: its link, where the others are, and what is counted.
 
 use crate::clock::{after_tick, length};
+use crate::coming::Coming;
 use crate::counts::Counts;
+use crate::heard::LastHeard;
 use crate::peers::Peers;
 use crate::play::Play;
 use crate::wire::Wire;
 use dn_greeting::Address;
 use dn_link::{Link, Presence, Received};
 use dn_machine::Phase;
-use dn_measure::{Status, Summary};
+use dn_measure::{SILENCE as LONGEST_SILENCE, Status, Summary};
 
-/// After how long a silence a player is lost.
-const SILENCE: u64 = 30_000_000;
+/// After how long a silence a player is lost, in microseconds.
+const SILENCE: u64 = LONGEST_SILENCE as u64 * 1_000_000;
 
 /// After how long a silence a player is no longer there before the game,
 const ABSENCE: u64 = 2_000_000;
@@ -29,7 +31,7 @@ pub(crate) struct Game {
     pub(crate) peers: Peers,
     counts: Option<Counts>,
     began: u64,
-    heard: [u64; 4],
+    heard: LastHeard,
     rate: u8,
     due: u64,
     /// What is left of a microsecond, in 32nds of `1 / rate`.
@@ -38,6 +40,12 @@ pub(crate) struct Game {
 }
 
 impl Game {
+    ghost use Rattle.std.specs.Prelude.{◌≡◌, IfSome, None, Some, is_some};
+    ghost use Rattle.dn_link.specs.Linking.{linked};
+    ghost use Rattle.dn_link.specs.Pacing.{pace_of};
+    ghost use Rattle.dn_host.specs.Coming.{came_by, figures_by, news_of, noted};
+    ghost use Rattle.dn_host.specs.Measured.{IsMeasured};
+
     /// A part in a game that has not begun; its first tick is due now.
     pub(crate) fn new(play: Play, peers: Peers, rate: u8, now: u64) -> Game {
         Game {
@@ -45,7 +53,7 @@ impl Game {
             peers,
             counts: None,
             began: now,
-            heard: [now; 4],
+            heard: LastHeard::new(now),
             rate,
             due: now,
             rest: 0,
@@ -54,7 +62,9 @@ impl Game {
     }
 
     /// Whether it has begun.
-    pub(crate) fn has_begun(&self) -> bool {
+    pub(crate) fn has_begun(&self) -> bool
+        ensures { result ≡ is_some self.now.counts }
+    {
         self.counts.is_some()
     }
 
@@ -79,18 +89,28 @@ impl Game {
         }
     }
 
-    /// Notes that a datagram of a player came, and where from.
-    fn note(&mut self, player: u8, from: Address, now: u64) {
-        self.peers.put(player, from);
-        if let Some(heard) = self.heard.get_mut(usize::from(player)) {
-            *heard = now;
+    /// Takes in any bytes, as the link and its walk do. Where they are a new datagram of a player, it is there that
+    /// they came from, and it was heard now: neither is said of who sent an old one again.
+    fn take(&mut self, from: Address, bytes: &[u8], now: u64) -> (Received, Option<Coming>)
+        ensures came { result.1 ≡ came_by result.0
+            (figures_by (linked self.old.play.link) (pace_of self.old.play.link))
+            (figures_by (linked self.new.play.link) (pace_of self.new.play.link)) }
+        ensures places { self.new.peers.places
+            ≡ noted (news_of result.0 result.1) (Some from) self.old.peers.places }
+        ensures heard { self.new.heard.at ≡ noted (news_of result.0 result.1) now self.old.heard.at }
+    {
+        let (received, coming) = self.play.hear(bytes);
+        if let (Received::Heard { from: player, .. }, Some(Coming::New)) = (received, coming) {
+            self.peers.put(player, from);
+            self.heard.note(player, now);
         }
+        (received, coming)
     }
 
     /// The game begins.
     fn begin(&mut self, now: u64) {
         self.began = now;
-        self.heard = [now; 4];
+        self.heard = LastHeard::new(now);
         self.counts = Some(Counts::new(&self.play.link, now));
     }
 
@@ -102,16 +122,19 @@ impl Game {
         }
     }
 
-    /// Takes in any bytes that are no greeting.
+    /// Takes in any bytes that are no greeting. What came before does not say where a player is.
     pub(crate) fn hear<W: Wire>(&mut self, wire: &mut W, from: Address, bytes: &[u8], now: u64) {
+        let (received, coming) = self.take(from, bytes, now);
         if let Received::Heard {
             from: player,
             started,
-        } = self.play.hear(bytes)
+        } = received
         {
-            self.note(player, from, now);
             if started {
                 self.begin(now);
+            }
+            if let (Some(counts), Some(Coming::Late)) = (&mut self.counts, coming) {
+                counts.come_late(player);
             }
             self.run(wire, now);
         }
@@ -123,7 +146,7 @@ impl Game {
         if let Some(counts) = &mut self.counts {
             counts.add(done, now);
         }
-        let lean = self.play.link.lean();
+        let lean = self.play.lean();
         self.play.send_all(&self.peers, wire);
         self.run(wire, now);
         let (next, rest) = after_tick(self.due, self.rest, self.rate, lean);
@@ -169,20 +192,17 @@ impl Game {
             || self.play.link.lockstep().end(player).is_some()
     }
 
-    /// For how long a player was not heard.
-    fn silence(&self, player: u8, now: u64) -> u64 {
-        match self.heard.get(usize::from(player)) {
-            Some(heard) => now.saturating_sub(*heard),
-            None => 0,
-        }
-    }
-
     /// Whether a player is there by its link and yet was not heard for so long that it is not.
     fn is_absent(&self, player: u8, now: u64) -> bool {
         let ticks = length(self.rate).saturating_mul(ABSENT_TICKS);
         let presence = self.play.link.presence(player);
         matches!(presence, Presence::There | Presence::Playing)
-            && self.silence(player, now) >= ABSENCE.max(ticks)
+            && self.heard.silence(player, now) >= ABSENCE.max(ticks)
+    }
+
+    /// Forgets a player.
+    pub(crate) fn forget(&mut self, player: u8) {
+        self.play.link.forget(player);
     }
 
     /// Forgets who is no longer there, before the game.
@@ -197,7 +217,7 @@ impl Game {
     /// Whether a player is another, its last command has not come, and it was not heard for too long.
     fn is_lost(&self, player: u8, now: u64) -> bool {
         let is_whole = self.play.link.lockstep().end(player).is_some();
-        self.is_other(player) && !is_whole && self.silence(player, now) > SILENCE
+        self.is_other(player) && !is_whole && self.heard.silence(player, now) > SILENCE
     }
 
     /// The lowest player who was not heard for too long.
@@ -225,7 +245,10 @@ impl Game {
     }
 
     /// What was measured up to now, if it has begun.
-    pub(crate) fn summary(&self, now: u64) -> Option<Summary> {
+    pub(crate) fn summary(&self, now: u64) -> Option<Summary>
+        ensures measured { IfSome result IsMeasured }
+        ensures begun { self.now.counts ≡ None → result ≡ None }
+    {
         match &self.counts {
             Some(counts) => Some(counts.summary(&self.play.link, now, self.rate)),
             None => None,

@@ -1,15 +1,19 @@
 //! The joiner's side of the lobby.
 
+ghost use Rattle.std.specs.Prelude.{◌≡◌, false, true, None, IfOk, is_some};
+ghost use Rattle.dn_host.specs.Outcomes.{IsOutcome};
+
 use crate::clock::now;
 use crate::ends::{Ending, HostFault, Outcome};
 use crate::game::Game;
 use crate::host::draw;
+use crate::lobby::Lobby;
 use crate::peers::Peers;
 use crate::play::{Play, seal_of};
 use crate::screen::Screen;
-use crate::session::{Lobby, Plan, Session, run};
+use crate::session::{Plan, Session, run};
 use crate::wire::Wire;
-use dn_greeting::{Address, Answer, Joiner, News};
+use dn_greeting::{Address, Answer, Joiner, News, Refusal};
 use dn_lockstep::Config;
 use std::alloc::Global;
 use std::random::RandomSource;
@@ -38,6 +42,18 @@ pub(crate) struct Caller {
     joiner: Joiner,
     game: Option<Game>,
     quiet: u64,
+    /// Why it has no seat, while it goes on asking for one,
+    waits: Option<Refusal>,
+    /// and what of that the screen was told.
+    told: Option<Refusal>,
+}
+
+/// Whether a seat may become free where there was none.
+fn may_pass(refusal: Refusal) -> bool {
+    match refusal {
+        Refusal::Full | Refusal::Taken => true,
+        Refusal::Players(_) | Refusal::Begun => false,
+    }
 }
 
 /// Its part in the game of an answer.
@@ -57,12 +73,17 @@ fn part(
     };
     let seal = seal_of(plan.secret, answer.game);
     let play = Play::new(alloc, config, answer.terms.ahead, seal, plan.seed)?;
-    Ok(Game::new(play, Peers::of_answer(host, answer), plan.rate, now))
+    let peers = Peers::of_answer(host, answer);
+    Ok(Game::new(play, peers, answer.terms.rate, now))
 }
 
 impl Caller {
+    ghost use Rattle.dn_host.specs.Begun.{has_begun};
+
     /// Whether its link has started.
-    fn has_begun(&self) -> bool {
+    fn has_begun(&self) -> bool
+        ensures { result ≡ has_begun self.now.game }
+    {
         match &self.game {
             Some(game) => game.has_begun(),
             None => false,
@@ -74,6 +95,27 @@ impl Caller {
         match &self.game {
             Some(game) => game.has_run(),
             None => false,
+        }
+    }
+
+    /// Once it has run a tic it keeps to its game.
+    fn close(&mut self) {
+        if self.has_run() {
+            self.joiner.begin();
+        }
+    }
+
+    /// Tells why it has no seat, if that is new, and that the host is silent.
+    fn tell<S: Screen>(&mut self, screen: &mut S, now: u64) {
+        if self.waits != self.told {
+            self.told = self.waits;
+            if let Some(refusal) = self.waits {
+                screen.wait(refusal);
+            }
+        }
+        if now.saturating_sub(self.quiet) >= QUIET {
+            screen.miss();
+            self.quiet = now;
         }
     }
 
@@ -101,6 +143,15 @@ impl Caller {
 }
 
 impl Lobby for Caller {
+    ghost use Rattle.dn_host.specs.Begun.{has_begun};
+    ghost use Rattle.dn_host.specs.Stages.{is_refusal};
+
+    ghost Refuses = { λ ending. is_refusal ending ≡ true };
+
+    ghost begun = { λ caller. has_begun caller.game };
+
+    ghost hosts = { false };
+
     fn game(&mut self) -> Option<&mut Game> {
         self.game.as_mut()
     }
@@ -112,17 +163,25 @@ impl Lobby for Caller {
         bytes: &[u8],
         now: u64,
     ) -> Result<Option<Ending>, HostFault> {
+        self.close();
         let before = self.joiner.answer();
+        let begun = self.has_begun();
         match self.joiner.hear(from, bytes) {
             News::Nothing => return Ok(None),
             // Once its link has started only answers count.
-            News::Refused(_) | News::Hinted(_) if self.has_begun() => return Ok(None),
+            News::Refused(_) | News::Hinted(_) if begun => return Ok(None),
+            News::Refused(refusal) if may_pass(refusal) => {
+                self.waits = Some(refusal);
+                self.quiet = now;
+                return Ok(None);
+            }
             News::Refused(refusal) => return Ok(Some(Ending::Refused(refusal))),
             News::Hinted(hint) => return Ok(Some(Ending::Hinted(hint))),
             News::Same => {}
             News::Moved => self.follow(before),
             News::Seated | News::Anew => self.start(now)?,
         }
+        self.waits = None;
         self.quiet = now;
         Ok(None)
     }
@@ -133,15 +192,11 @@ impl Lobby for Caller {
         screen: &mut S,
         now: u64,
     ) -> Result<(), HostFault> {
-        if self.has_run() {
-            self.joiner.begin();
-            return Ok(());
-        }
+        self.close();
         let call = self.joiner.call();
         wire.send(&self.host, call.as_slice());
-        if now.saturating_sub(self.quiet) >= QUIET {
-            screen.miss();
-            self.quiet = now;
+        if !self.has_run() {
+            self.tell(screen, now);
         }
         Ok(())
     }
@@ -167,6 +222,8 @@ pub(crate) fn new_caller(
         joiner: Joiner::new(plan.secret, guest.host, mark, guest.seat, guest.players),
         game: None,
         quiet: now,
+        waits: None,
+        told: None,
     })
 }
 
@@ -178,7 +235,9 @@ pub fn join_game<R: Clock + RandomSource, W: Wire, S: Screen>(
     screen: &mut S,
     plan: &Plan,
     guest: &Guest,
-) -> Result<Outcome, HostFault> {
+) -> Result<Outcome, HostFault>
+    ensures outcome { IfOk result IsOutcome }
+{
     let start = now(rt)?;
     let lobby = new_caller(rt, alloc, plan, guest, start)?;
     run(rt, wire, screen, Session::new(lobby, plan.seconds, start))

@@ -1,12 +1,17 @@
 //! The host's side of the lobby.
 
+ghost use Rattle.std.specs.Prelude.{◌≡◌, false, true, None, IfOk, is_some};
+ghost use Rattle.dn_host.specs.Outcomes.{IsOutcome};
+ghost use Rattle.dn_host.specs.Stages.{is_refusal};
+
 use crate::clock::{now, seconds};
 use crate::ends::{Ending, HostFault, Outcome};
 use crate::game::Game;
+use crate::lobby::Lobby;
 use crate::peers::{Peers, address_of};
 use crate::play::{Play, seal_of};
 use crate::screen::Screen;
-use crate::session::{Lobby, Plan, Session, run};
+use crate::session::{Plan, Session, run};
 use crate::wire::Wire;
 use dn_greeting::{Address, Place, Table, Terms};
 use dn_link::Presence;
@@ -63,7 +68,7 @@ fn part(
     let seal = seal_of(plan.secret, table.game());
     let play = Play::new(alloc, config, hosting.terms.ahead, seal, plan.seed)?;
     let peers = Peers::of_table(table.places());
-    Ok(Game::new(play, peers, plan.rate, now))
+    Ok(Game::new(play, peers, hosting.terms.rate, now))
 }
 
 /// The mark of who holds a seat.
@@ -81,7 +86,7 @@ impl<R: RandomSource + Drop> Keeper<'_, R> {
         peers.follow(player, address_of(before), address_of(after));
         let mark = mark_of(before);
         if mark.is_some() && mark != mark_of(after) {
-            self.game.play.link.forget(player);
+            self.game.forget(player);
         }
     }
 
@@ -113,6 +118,12 @@ impl<R: RandomSource + Drop> Keeper<'_, R> {
 }
 
 impl<R: RandomSource + Drop> Lobby for Keeper<'_, R> {
+    ghost Refuses = { λ ending. ⊥ };
+
+    ghost begun = { λ keeper. is_some keeper.game.counts };
+
+    ghost hosts = { true };
+
     fn game(&mut self) -> Option<&mut Game> {
         Some(&mut self.game)
     }
@@ -179,7 +190,11 @@ pub fn host_game<R: Clock + RandomSource + Drop, W: Wire, S: Screen>(
     screen: &mut S,
     plan: &Plan,
     hosting: &Hosting,
-) -> Result<Outcome, HostFault> {
+) -> Result<Outcome, HostFault>
+    ensures outcome { IfOk result IsOutcome }
+    ensures played { IfOk result (λ o. is_refusal o.ending ≡ false) }
+    ensures linked { IfOk result (λ o. is_some o.link ≡ true) }
+{
     let start = now(rt)?;
     let lobby = new_keeper(rt, alloc, plan, hosting, start)?;
     run(rt, wire, screen, Session::new(lobby, plan.seconds, start))

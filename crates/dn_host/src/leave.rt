@@ -1,7 +1,13 @@
 //! When a session ends, and how it leaves.
 
+ghost use Rattle.std.specs.Prelude.{◌≡◌, false};
+ghost use Rattle.dn_host.specs.Endings.{others_end};
+ghost use Rattle.dn_host.specs.Stages.{IsPlayed, is_refusal};
+
+use crate::endings::others_end;
 use crate::ends::Ending;
 use crate::game::Game;
+use dn_link::Presence;
 use dn_machine::{Cause, Phase};
 
 /// For how long it goes on once nobody needs it.
@@ -26,7 +32,9 @@ pub(crate) enum Stage {
 }
 
 /// Begins to leave.
-fn leaving(ending: Ending, now: u64) -> Stage {
+fn leaving(ending: Ending, now: u64) -> Stage
+    ensures { is_refusal ending ≡ false → IsPlayed result }
+{
     Stage::Leaving {
         ending,
         since: now,
@@ -35,7 +43,9 @@ fn leaving(ending: Ending, now: u64) -> Stage {
 }
 
 /// Quits, and begins to leave.
-fn quitting(game: &mut Game, ending: Ending, now: u64) -> Stage {
+fn quitting(game: &mut Game, ending: Ending, now: u64) -> Stage
+    ensures { is_refusal ending ≡ false → IsPlayed result }
+{
     let _ = game.play.link.quit();
     leaving(ending, now)
 }
@@ -45,8 +55,30 @@ fn is_over(since: u64, now: u64, seconds: u32) -> bool {
     seconds > 0 && now.saturating_sub(since) >= u64::from(seconds) * 1_000_000
 }
 
+/// For which cause a player left, as its byte, if it said so.
+fn cause_of(game: &Game, player: u8) -> Option<u8> {
+    match game.play.link.presence(player) {
+        Presence::Left(cause) => Some(cause),
+        _ => None,
+    }
+}
+
+/// How it ends where all others left.
+fn ending_of(game: &Game) -> Ending
+    ensures { is_refusal result ≡ false }
+{
+    others_end(&[
+        cause_of(game, 0),
+        cause_of(game, 1),
+        cause_of(game, 2),
+        cause_of(game, 3),
+    ])
+}
+
 /// How a game goes on that has begun.
-fn after_play(game: &mut Game, now: u64, seconds: u32) -> Stage {
+fn after_play(game: &mut Game, now: u64, seconds: u32) -> Stage
+    ensures { IsPlayed result }
+{
     match game.phase() {
         Phase::Ended(Cause::Full) => return leaving(Ending::Full, now),
         Phase::Ended(Cause::Inconsistent { player, .. }) => {
@@ -58,7 +90,8 @@ fn after_play(game: &mut Game, now: u64, seconds: u32) -> Stage {
         return quitting(game, Ending::Left, now);
     }
     if game.is_alone() {
-        return quitting(game, Ending::OthersLeft, now);
+        let ending = ending_of(game);
+        return quitting(game, ending, now);
     }
     if let Some(player) = game.lost(now) {
         game.play.link.forget(player);
@@ -68,7 +101,9 @@ fn after_play(game: &mut Game, now: u64, seconds: u32) -> Stage {
 }
 
 /// How it goes on leaving.
-fn after_wait(game: &Game, ending: Ending, since: u64, free: Option<u64>, now: u64) -> Stage {
+fn after_wait(game: &Game, ending: Ending, since: u64, free: Option<u64>, now: u64) -> Stage
+    ensures { is_refusal ending ≡ false → IsPlayed result }
+{
     let free = match free {
         Some(free) => Some(free),
         None if game.play.link.may_leave() => Some(now),
@@ -91,7 +126,9 @@ fn after_wait(game: &Game, ending: Ending, since: u64, free: Option<u64>, now: u
 
 impl Stage {
     /// How far it is now.
-    pub(crate) fn after(self, game: &mut Game, now: u64, seconds: u32) -> Stage {
+    pub(crate) fn after(self, game: &mut Game, now: u64, seconds: u32) -> Stage
+        ensures { IsPlayed self → IsPlayed result }
+    {
         match self {
             Stage::Going if game.has_begun() => after_play(game, now, seconds),
             Stage::Going => Stage::Going,

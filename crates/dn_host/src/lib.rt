@@ -2,12 +2,19 @@
 #![tactic(auto)]
 
 mod clock;
+mod coming;
 mod counts;
+mod done;
+mod endings;
 mod ends;
 mod game;
 mod guest;
+mod heard;
+mod hearing;
 mod host;
+mod laws;
 mod leave;
+mod lobby;
 mod peers;
 mod play;
 mod screen;
@@ -20,6 +27,7 @@ mod wire;
 pub use ends::{Ending, HostFault, Outcome};
 pub use guest::{Guest, join_game};
 pub use host::{Hosting, host_game};
+pub use laws::replays_are_not_new;
 pub use screen::Screen;
 pub use session::Plan;
 pub use udp::{Udp, address_of};

@@ -1,5 +1,8 @@
 //! Where the players are.
 
+ghost use Rattle.std.specs.Prelude.{◌≡◌, Some};
+ghost use Rattle.dn_host.specs.Coming.{noted};
+
 use dn_greeting::{Address, Answer, Place};
 
 /// Where the players are, as far as it is known.
@@ -51,9 +54,11 @@ impl Peers {
     }
 
     /// Notes where a player is.
-    pub(crate) fn put(&mut self, player: u8, address: Address) {
-        if let Some(place) = self.places.get_mut(usize::from(player)) {
-            *place = Some(address);
+    pub(crate) fn put(&mut self, player: u8, address: Address)
+        ensures { self.new.places ≡ noted (Some player) (Some address) self.old.places }
+    {
+        if player < 4 {
+            self.places[usize::from(player)] = Some(address);
         }
     }
 }

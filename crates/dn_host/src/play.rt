@@ -1,8 +1,12 @@
 //! One player's link, with its walk and its keys.
 
 ghost use Rattle.std.specs.Prelude.{◌≡◌, ◌≤◌, true, false};
-ghost use Rattle.dn_host.specs.Walks.{marks_of, moved_by};
+ghost use Rattle.dn_link.specs.Linked.{IsWhole};
+ghost use Rattle.dn_link.specs.Linking.{linked};
+ghost use Rattle.dn_host.specs.Walks.{is_started, marks_of, moved_by};
 
+use crate::coming::{Coming, came_by, lines_of};
+use crate::done::Done;
 use crate::ends::HostFault;
 use crate::peers::Peers;
 use crate::wire::Wire;
@@ -30,37 +34,14 @@ pub(crate) fn seal_of(secret: Option<[u8; 32]>, game: [u8; 16]) -> Seal {
     }
 }
 
-/// One player's link, with its walk and its keys.
+/// One player's link, with its walk and its keys. It gives up nobody for good.
 #[derive(Drop)]
 pub(crate) struct Play {
     pub(crate) link: Link,
     world: Walk,
     keys: Lcg64Xsh32,
     waiting: Option<u8>,
-}
-
-/// What a step of the session did.
-#[derive(Clone, Copy, Debug, PartialEq, Eq)]
-pub(crate) struct Done {
-    /// How many commands were built.
-    pub(crate) built: u32,
-    /// How many tics were run.
-    pub(crate) ran: u32,
-}
-
-impl Done {
-    /// Nothing.
-    pub(crate) fn nothing() -> Done {
-        Done { built: 0, ran: 0 }
-    }
-
-    /// Both.
-    pub(crate) fn and(self, other: Done) -> Done {
-        Done {
-            built: self.built.saturating_add(other.built),
-            ran: self.ran.saturating_add(other.ran),
-        }
-    }
+    ghost whole: { IsWhole (linked link) },
 }
 
 /// The marks of all players, as a walk stands.
@@ -91,12 +72,21 @@ fn go_on(walk: &mut Walk, row: Option<[Option<Move>; 4]>) -> bool
     }
 }
 
+/// Whether the game started with what came in.
+fn is_started(received: &Received) -> bool
+    ensures { result ≡ is_started received.now }
+{
+    matches!(received, Received::Heard { started: true, .. })
+}
+
 impl Play {
     ghost use Rattle.dn_lockstep.specs.Contents.{contents};
     ghost use Rattle.dn_link.specs.Linked.{Receives};
-    ghost use Rattle.dn_link.specs.Linking.{identity_of, linked, seal_of};
+    ghost use Rattle.dn_link.specs.Notices.{HearsNotice, is_notice};
+    ghost use Rattle.dn_link.specs.Linking.{identity_of, seal_of};
     ghost use Rattle.dn_link.specs.Pacing.{pace_of};
-    ghost use Rattle.dn_host.specs.Walks.{RunsWalk, begun_by, is_started};
+    ghost use Rattle.dn_host.specs.Coming.{came_by, figures_by};
+    ghost use Rattle.dn_host.specs.Walks.{RunsWalk, begun_by};
 
     /// A player who has not begun, in a window of this width, with keys that are drawn from a seed.
     pub(crate) fn new(
@@ -135,6 +125,11 @@ impl Play {
             built: u32::from(owed) + u32::from(made),
             ran: 0,
         }
+    }
+
+    /// A tick goes by: by how many 32nds of a tick the next one comes later, as `Link::lean` says.
+    pub(crate) fn lean(&mut self) -> i8 {
+        self.link.lean()
     }
 
     /// Runs the next tic, if it can be run, with the marks of the walk, which goes on by the row of that tic and by
@@ -202,21 +197,28 @@ impl Play {
         }
     }
 
-    /// Takes in any bytes. The world begins where the game starts with them.
-    pub(crate) fn hear(&mut self, bytes: &[u8]) -> Received
-        ensures link { Receives (seal_of self.old.link) (identity_of self.old.link) (pace_of self.old.link) bytes.now
-            (linked self.old.link) (linked self.new.link) result }
-        ensures begins { is_started result ≡ true → self.new.world
+    /// Takes in any bytes, and returns too how the datagram came that they are. The world begins where the game
+    /// starts with them.
+    pub(crate) fn hear(&mut self, bytes: &[u8]) -> (Received, Option<Coming>)
+        ensures link { is_notice bytes.now ≡ false → Receives (seal_of self.old.link) (identity_of self.old.link)
+            (pace_of self.old.link) bytes.now (linked self.old.link) (linked self.new.link) result.0 }
+        ensures told { is_notice bytes.now ≡ true → HearsNotice (seal_of self.old.link) bytes.now
+            (linked self.old.link) (pace_of self.old.link) (linked self.new.link) (pace_of self.new.link) result.0 }
+        ensures begins { is_started result.0 ≡ true → self.new.world
             ≡ begun_by (linked self.new.link).node.settings (linked self.new.link).node.players self.old.world }
-        ensures stays { is_started result ≡ false → self.new.world ≡ self.old.world }
+        ensures stays { is_started result.0 ≡ false → self.new.world ≡ self.old.world }
+        ensures came { result.1 ≡ came_by result.0 (figures_by (linked self.old.link) (pace_of self.old.link))
+            (figures_by (linked self.new.link) (pace_of self.new.link)) }
     {
+        let before = lines_of(&self.link);
         let received = self.link.receive(bytes);
-        if let Received::Heard { started: true, .. } = received {
+        let coming = came_by(&received, &before, &lines_of(&self.link));
+        if is_started(&received) {
             if let Some(settings) = self.link.lockstep().settings() {
                 let present = self.link.lockstep().present();
                 self.world.begin(&settings.start(), present);
             }
         }
-        received
+        (received, coming)
     }
 }

@@ -1,16 +1,18 @@
 //! The loop of a session.
 
+ghost use Rattle.std.specs.Prelude.{◌≡◌, ◌⊎◌, false, true, None, IfOk, IfSome, is_some};
+ghost use Rattle.dn_host.specs.Measured.{IsMeasured};
+ghost use Rattle.dn_host.specs.Outcomes.{IsOutcome};
+ghost use Rattle.dn_host.specs.Stages.{EndsBy, IfEnded, IsPlayed, IsPlayed-prop, is_refusal};
+
 use crate::clock::{nap, now};
 use crate::ends::{Ending, HostFault, Outcome};
-use crate::game::Game;
+use crate::hearing::{Heard, hear_all};
 use crate::leave::Stage;
+use crate::lobby::Lobby;
 use crate::screen::Screen;
-use crate::wire::{MOST, Wire};
-use dn_greeting::Address;
+use crate::wire::Wire;
 use std::time::Clock;
-
-/// The most datagrams that are read between two looks at the clock.
-const POLLS: u32 = 64;
 
 /// A second, in microseconds.
 const SECOND: u64 = 1_000_000;
@@ -22,83 +24,8 @@ pub struct Plan {
     pub secret: Option<[u8; 32]>,
     /// What the keys are drawn from.
     pub seed: u64,
-    /// How many tics a second are played.
-    pub rate: u8,
     /// For how many seconds is played, from the beginning of the game on; 0 is for ever.
     pub seconds: u32,
-}
-
-/// What goes on beside the game until it has begun.
-pub(crate) trait Lobby {
-    /// Its part in the game, once it has one.
-    fn game(&mut self) -> Option<&mut Game>;
-
-    /// Takes a greeting, and returns how the session ends if it does.
-    fn greet<W: Wire>(
-        &mut self,
-        wire: &mut W,
-        from: Address,
-        bytes: &[u8],
-        now: u64,
-    ) -> Result<Option<Ending>, HostFault>;
-
-    /// A second is over.
-    fn second<W: Wire, S: Screen>(
-        &mut self,
-        wire: &mut W,
-        screen: &mut S,
-        now: u64,
-    ) -> Result<(), HostFault>;
-
-    /// Its part in the game, in the end.
-    fn into_game(self) -> Option<Game>;
-}
-
-/// Whether bytes may be a greeting: nothing else has this kind.
-fn is_greeting(bytes: &[u8]) -> bool {
-    bytes.len() >= 2 && bytes[1] == 4
-}
-
-/// What came of the datagrams that were read.
-#[derive(Clone, Copy, Debug, PartialEq, Eq)]
-enum Heard {
-    /// No more are there.
-    Calm,
-    /// There may be more.
-    Busy,
-    /// The session ends.
-    Ending(Ending),
-}
-
-/// Takes any bytes.
-fn hear_one<W: Wire, L: Lobby>(
-    lobby: &mut L,
-    wire: &mut W,
-    from: Address,
-    bytes: &[u8],
-    now: u64,
-) -> Result<Option<Ending>, HostFault> {
-    if is_greeting(bytes) {
-        return lobby.greet(wire, from, bytes, now);
-    }
-    if let Some(game) = lobby.game() {
-        game.hear(wire, from, bytes, now);
-    }
-    Ok(None)
-}
-
-/// Takes the datagrams that are there, up to some number.
-fn hear_all<W: Wire, L: Lobby>(lobby: &mut L, wire: &mut W, now: u64) -> Result<Heard, HostFault> {
-    let mut room = [0; MOST];
-    for _ in 0..POLLS {
-        let Some((from, count)) = wire.poll(&mut room) else {
-            return Ok(Heard::Calm);
-        };
-        if let Some(ending) = hear_one(lobby, wire, from, &room[..count], now)? {
-            return Ok(Heard::Ending(ending));
-        }
-    }
-    Ok(Heard::Busy)
 }
 
 /// What a turn of a session came to.
@@ -121,6 +48,7 @@ pub(crate) struct Session<L> {
     seconds: u32,
     /// When it began to leave.
     left: Option<u64>,
+    ghost played: { IsPlayed stage } by { IsPlayed-prop stage },
 }
 
 /// Tells how the game stands.
@@ -146,15 +74,12 @@ impl<L: Lobby + Drop> Session<L> {
 
     /// Does what is due in the game.
     fn play<W: Wire>(&mut self, wire: &mut W, now: u64) {
-        let (stage, seconds) = (self.stage, self.seconds);
-        self.stage = match self.lobby.game() {
-            Some(game) => {
-                game.go(wire, now);
-                stage.after(game, now, seconds)
-            }
-            None => stage,
-        };
-        if stage == Stage::Going && self.stage != Stage::Going {
+        let (before, seconds) = (self.stage, self.seconds);
+        if let Some(game) = self.lobby.game() {
+            game.go(wire, now);
+            self.stage = before.after(game, now, seconds);
+        }
+        if before == Stage::Going && self.stage != Stage::Going {
             self.left = Some(now);
         }
     }
@@ -189,7 +114,9 @@ impl<L: Lobby + Drop> Session<L> {
         wire: &mut W,
         screen: &mut S,
         now: u64,
-    ) -> Result<Turned, HostFault> {
+    ) -> Result<Turned, HostFault>
+        ensures { IfOk result (λ turned. IfEnded turned (EndsBy L.Refuses (L.begun self.new.lobby))) }
+    {
         let heard = hear_all(&mut self.lobby, wire, now)?;
         if let Heard::Ending(ending) = heard {
             return Ok(Turned::Ended(ending));
@@ -206,7 +133,13 @@ impl<L: Lobby + Drop> Session<L> {
     }
 
     /// What is left of it once it has ended so. The time in which it was leaving is no part of what was measured.
-    pub(crate) fn outcome(self, ending: Ending, now: u64) -> Outcome {
+    pub(crate) fn outcome(self, ending: Ending, now: u64) -> Outcome
+        ensures ending { result.ending ≡ ending }
+        ensures measured { IfSome result.summary IsMeasured }
+        ensures linked { result.link ≡ None → result.summary ≡ None }
+        ensures begun { L.begun self.lobby ≡ false → result.summary ≡ None }
+        ensures hosts { L.hosts ≡ true → is_some result.link ≡ true }
+    {
         let end = self.left.unwrap_or(now);
         match self.lobby.into_game() {
             Some(game) => Outcome {
@@ -229,7 +162,11 @@ pub(crate) fn run<C: Clock, W: Wire, S: Screen, L: Lobby + Drop>(
     wire: &mut W,
     screen: &mut S,
     mut session: Session<L>,
-) -> Result<Outcome, HostFault> {
+) -> Result<Outcome, HostFault>
+    ensures outcome { IfOk result IsOutcome }
+    ensures ends { IfOk result (λ o. (L.Refuses o.ending) ⊎ (is_refusal o.ending ≡ false)) }
+    ensures hosts { L.hosts ≡ true → IfOk result (λ o. is_some o.link ≡ true) }
+{
     for _ in 0..u64::MAX {
         let time = now(clock)?;
         match session.turn(wire, screen, time)? {

@@ -1,9 +1,15 @@
 //! Sessions of several players in one process, over a wire and by a clock of the tests' own.
 
+mod seats;
+
 use crate::clock::after_tick;
-use crate::ends::Ending;
+use crate::endings::others_end;
+use crate::ends::{Ending, HostFault};
+use crate::game::Game;
 use crate::guest::{Caller, Guest, new_caller};
+use crate::hearing::{Heard, hear_all};
 use crate::host::{Hosting, Keeper, new_keeper};
+use crate::lobby::Lobby;
 use crate::screen::Screen;
 use crate::session::{Plan, Session, Turned};
 use crate::wire::{MOST, Wire};
@@ -165,12 +171,30 @@ impl RandomSource for Dice {
 #[derive(Drop)]
 struct Dark {
     shown: u32,
+    waited: u32,
     missed: u32,
+}
+
+impl Dark {
+    /// Nothing.
+    fn new() -> Dark {
+        Dark {
+            shown: 0,
+            waited: 0,
+            missed: 0,
+        }
+    }
 }
 
 impl Screen for Dark {
     fn show(&mut self, _status: &Status) {
         self.shown = self.shown.saturating_add(1);
+    }
+
+    fn wait(&mut self, refusal: Refusal) {
+        if refusal == Refusal::Full {
+            self.waited = self.waited.saturating_add(1);
+        }
     }
 
     fn miss(&mut self) {
@@ -182,7 +206,6 @@ fn plan(secret: u8, seconds: u32) -> Plan {
     Plan {
         secret: Some([secret; 32]),
         seed: 7,
-        rate: 35,
         seconds,
     }
 }
@@ -203,6 +226,7 @@ fn hosting(rt: &impl Abort, players: u8) -> Hosting {
                 players,
                 extra: false,
                 ahead: 9,
+                rate: 35,
                 limit: 1_048_576,
             },
             settings,
@@ -242,7 +266,7 @@ fn new_guest(
 }
 
 /// One turn of a player, and how its session ended if it did.
-fn turn<L: crate::session::Lobby + Drop>(
+fn turn<L: Lobby + Drop>(
     rt: &impl Abort,
     session: &mut Session<L>,
     air: &mut Air,
@@ -253,11 +277,7 @@ fn turn<L: crate::session::Lobby + Drop>(
         air,
         own: at(player),
     };
-    let mut dark = Dark {
-        shown: 0,
-        missed: 0,
-    };
-    match session.turn(&mut port, &mut dark, now) {
+    match session.turn(&mut port, &mut Dark::new(), now) {
         Ok(Turned::Ended(ending)) => Some(ending),
         Ok(_) => None,
         Err(_) => panic!(rt; "a fault"),
@@ -423,9 +443,10 @@ fn who_vanishes_is_lost(rt: HostRuntime) {
     let mut host = new_host(&rt, rt.alloc(), &dice, 2, 0, 0);
     let mut joiner = new_guest(&rt, rt.alloc(), &dice, 1, None, 0);
     let mut found = None;
-    for step in 0..9000 {
+    for step in 0..3000 {
         if found.is_none() {
-            found = turn(&rt, &mut host, &mut air, 0, step * STEP);
+            let ending = turn(&rt, &mut host, &mut air, 0, step * STEP);
+            found = ending.map(|ending| (ending, step * STEP));
         }
         if step < 400 {
             assert!(rt; turn(&rt, &mut joiner, &mut air, 1, step * STEP).is_none());
@@ -433,5 +454,152 @@ fn who_vanishes_is_lost(rt: HostRuntime) {
             air.flights.clear();
         }
     }
-    assert_eq!(rt; found, Some(Ending::Lost(1)));
+    // It was last heard at two seconds: ten more are a silence, and two the farewell.
+    match found {
+        Some((Ending::Lost(1), time)) => {
+            assert!(rt; 13_950_000 <= time && time <= 14_050_000, "at {time}");
+        }
+        _ => panic!(rt; "not lost"),
+    }
+}
+
+/// A copy of a datagram that is on its way from one player to another.
+fn recorded(air: &Air, from: u8, to: u8) -> Option<ArrayVec<u8, MOST>> {
+    for flight in air.flights.as_slice() {
+        if flight.from == at(from) && flight.to == at(to) {
+            let mut bytes = ArrayVec::new();
+            let _ = bytes.try_extend_from_slice(flight.bytes.as_slice());
+            return Some(bytes);
+        }
+    }
+    None
+}
+
+/// A stranger sends the host what it recorded.
+fn send_again(air: &mut Air, recorded: &Option<ArrayVec<u8, MOST>>) {
+    let mut stranger = Port { air, own: at(9) };
+    if let Some(bytes) = recorded {
+        stranger.send(&at(0), bytes.as_slice());
+    }
+}
+
+#[test]
+fn who_repeats_what_others_sent_is_not_taken_for_them(rt: HostRuntime) {
+    let dice = Dice(Cell::new(0));
+    let mut air = Air::open();
+    let mut host = new_host(&rt, rt.alloc(), &dice, 2, 0, 0);
+    let mut joiner = new_guest(&rt, rt.alloc(), &dice, 1, None, 0);
+    // The joiner is gone from 2 s on. Of what a stranger recorded one is then too old to tell, and one is known to
+    // have come.
+    let (mut old, mut known) = (None, None);
+    let (mut found, mut strayed) = (None, false);
+    for step in 0..3000 {
+        let now = step * STEP;
+        if step < 400 {
+            assert!(rt; turn(&rt, &mut joiner, &mut air, 1, now).is_none());
+        } else if step % 40 == 0 {
+            send_again(&mut air, &old);
+            send_again(&mut air, &known);
+        }
+        if step >= 100 && old.is_none() {
+            old = recorded(&air, 1, 0);
+        }
+        if step >= 380 && known.is_none() {
+            known = recorded(&air, 1, 0);
+        }
+        if found.is_none() {
+            found = turn(&rt, &mut host, &mut air, 0, now).map(|ending| (ending, now));
+        }
+        if step >= 400 {
+            let flights = air.flights.as_slice();
+            strayed = strayed || flights.iter().any(|flight| flight.to == at(9));
+            air.flights.clear();
+        }
+    }
+    assert!(rt; old.is_some() && known.is_some() && !strayed);
+    match found {
+        Some((Ending::Lost(1), time)) => {
+            assert!(rt; 13_950_000 <= time && time <= 14_050_000, "at {time}");
+        }
+        _ => panic!(rt; "not lost"),
+    }
+}
+
+/// A lobby that counts the greetings that it is given.
+#[derive(Drop)]
+struct Counter {
+    greeted: u32,
+}
+
+impl Lobby for Counter {
+    ghost use Rattle.std.specs.Prelude.{◌≡◌, ⊤, false};
+
+    ghost Refuses = { λ ending. ⊤ };
+
+    ghost begun = { λ counter. false };
+
+    ghost hosts = { false };
+
+    fn game(&mut self) -> Option<&mut Game> {
+        None
+    }
+
+    fn greet<W: Wire>(
+        &mut self,
+        _wire: &mut W,
+        _from: Address,
+        _bytes: &[u8],
+        _now: u64,
+    ) -> Result<Option<Ending>, HostFault> {
+        self.greeted = self.greeted.saturating_add(1);
+        Ok(None)
+    }
+
+    fn second<W: Wire, S: Screen>(
+        &mut self,
+        _wire: &mut W,
+        _screen: &mut S,
+        _now: u64,
+    ) -> Result<(), HostFault> {
+        Ok(())
+    }
+
+    fn into_game(self) -> Option<Game> {
+        None
+    }
+}
+
+#[test]
+fn two_greetings_are_opened_in_a_turn(rt: HostRuntime) {
+    for (sent, opened) in [(0, 0), (1, 1), (2, 2), (3, 2), (20, 2)] {
+        let mut air = Air::open();
+        let mut stranger = Port {
+            air: &mut air,
+            own: at(9),
+        };
+        for _ in 0..sent {
+            stranger.send(&at(0), &[1, 4, 122]);
+        }
+        let mut port = Port {
+            air: &mut air,
+            own: at(0),
+        };
+        let mut lobby = Counter { greeted: 0 };
+        assert!(rt; hear_all(&mut lobby, &mut port, 0) == Ok(Heard::Calm));
+        assert_eq!(rt; lobby.greeted, opened, "of {sent}");
+        assert!(rt; air.flights.is_empty());
+    }
+}
+
+#[test]
+fn each_cause_has_its_own_end(rt: HostRuntime) {
+    for (causes, ending) in [
+        ([None, Some(1), None, None], Ending::OthersLeft),
+        ([Some(1), None, Some(9), Some(1)], Ending::OthersLeft),
+        ([None, Some(1), Some(2), Some(2)], Ending::FullAt(2)),
+        ([None, Some(2), Some(1), Some(3)], Ending::InconsistentAt(3)),
+        ([Some(3), None, None, None], Ending::InconsistentAt(0)),
+    ] {
+        assert_eq!(rt; others_end(&causes), ending);
+    }
 }

@@ -1,6 +1,8 @@
 //! A wire over UDP.
 
-ghost use Rattle.std.specs.Prelude.{◌≤◌, length, IfSome};
+ghost use Rattle.std.specs.Prelude.{◌≡◌, ◌≤◌, length, IfSome};
+ghost use Rattle.std.specs.Net.Addr.{ipv4_octets};
+ghost use Rattle.dn_host.specs.Addresses.{address_of, mapped};
 
 use crate::wire::Wire;
 use dn_greeting::Address;
@@ -15,13 +17,17 @@ pub struct Udp {
 }
 
 /// The IPv6 address that an IPv4 address is mapped into.
-fn mapped(ip: Ipv4Addr) -> [u8; 16] {
+fn mapped(ip: Ipv4Addr) -> [u8; 16]
+    ensures { result ≡ mapped (ipv4_octets ip) }
+{
     let [a, b, c, d] = ip.octets();
     [0, 0, 0, 0, 0, 0, 0, 0, 0, 0, 255, 255, a, b, c, d]
 }
 
-/// The address of a socket.
-pub fn address_of(socket: SocketAddr) -> Address {
+/// The address of a socket; one of IPv4 is mapped into IPv6.
+pub fn address_of(socket: SocketAddr) -> Address
+    ensures { result ≡ address_of socket }
+{
     let ip = match socket.ip() {
         IpAddr::V4(ip) => mapped(ip),
         IpAddr::V6(ip) => ip.octets(),

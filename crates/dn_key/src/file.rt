@@ -2,6 +2,7 @@
 
 ghost use Rattle.std.specs.Prelude.{◌≡◌, ◌≤◌, length, IfOk, IfErr};
 ghost use Rattle.dn_key.specs.Fault.{IsOfMaking, IsOfReading};
+ghost use Rattle.dn_key.specs.Files.{IsRead};
 ghost use Rattle.dn_key.specs.declared.fault.KeyFault.TheVariants as fault;
 
 use crate::fault::KeyFault;
@@ -32,9 +33,10 @@ fn fill(file: &mut impl Read, room: &mut [u8]) -> Result<usize, KeyFault>
     Ok(filled)
 }
 
-/// The key that a file has.
+/// The key that a file has: one that some text is read as, so never that of zeros.
 pub fn read_key<R: Files>(rt: &R, path: &str) -> Result<[u8; KEY], KeyFault>
-    ensures { IfErr result IsOfReading }
+    ensures reads { IsRead result }
+    ensures fault { IfErr result IsOfReading }
 {
     let Ok(mut file) = fs::open(rt, path) else {
         return Err(KeyFault::Read);

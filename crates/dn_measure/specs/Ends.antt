@@ -1,26 +1,34 @@
 -- How a session ended.
 use Rattle.std.specs.Prelude.{ℕ, pos, ◌==◌, Bool, if◌then◌else◌, List, [], ◌∷◌, ◌++◌, Option, Some, None, codes}
 use Rattle.dn_measure.specs.declared.end.End.{End}
-use Rattle.dn_measure.specs.declared.end.End.TheVariants.{Left, OthersLeft, Full, Lost, Inconsistent}
+use Rattle.dn_measure.specs.declared.end.End.TheVariants.{Left, OthersLeft, Full, FullAt, Lost, Inconsistent, InconsistentAt}
 use Rattle.dn_measure.specs.declared.summary.Summary.{Summary}
 use Rattle.dn_measure.specs.Fields.{labelled}
 use Rattle.dn_measure.specs.SummaryLines.{figure_lines, summary_lines}
+
+-- how it ended at a player, in words before its number and behind it
+abbrev pub player_text : List ℕ → ℕ → List ℕ → List ℕ
+player_text words player rest = labelled ((words, pos player) ∷ []) ++ rest
 
 -- how it ended, in words
 abbrev pub end_text : End → List ℕ
 end_text Left = codes "ended left\n"
 end_text OthersLeft = codes "ended others left\n"
 end_text Full = codes "ended full\n"
-end_text (Lost player) = labelled ((codes "ended lost ", pos player) ∷ []) ++ codes "\n"
-end_text (Inconsistent player) = labelled ((codes "ended inconsistent ", pos player) ∷ []) ++ codes "\n"
+end_text (FullAt player) = player_text (codes "ended full at ") player (codes "\n")
+end_text (Lost player) = player_text (codes "ended lost ") player (codes ": no answer for 10 seconds\n")
+end_text (Inconsistent player) = player_text (codes "ended inconsistent ") player (codes "\n")
+end_text (InconsistentAt player) = player_text (codes "ended inconsistent at ") player (codes "\n")
 
 -- the exit status: 0 where the session ended as it should
 abbrev pub status_of : End → ℕ
 status_of Left = 0
 status_of OthersLeft = 0
 status_of Full = 0
+status_of (FullAt player) = 0
 status_of (Lost player) = 3
 status_of (Inconsistent player) = 3
+status_of (InconsistentAt player) = 3
 
 -- what was measured of a game that ended as it should, and what follows from it; of another what was measured
 abbrev pub judged_lines : Bool → Summary → List ℕ

@@ -40,6 +40,7 @@ came_line player a = labelled (
     (codes "player ", pos player)
     ∷ (codes " came ", pos a.came)
     ∷ (codes " lost ", pos a.lost)
+    ∷ (codes " late ", pos a.late)
     ∷ (codes " twice ", pos a.twice)
     ∷ (codes " old ", pos a.old)
     ∷ []) ++ (with_tenth (codes " loss ") (loss_of a) ++ codes "\n")

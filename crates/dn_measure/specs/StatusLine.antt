@@ -23,6 +23,7 @@ unfoldable pub standing_text : ℕ → PeerStatus → List ℕ
 standing_text player status = labelled (
     (codes " player ", pos player)
     ∷ (codes " lead ", status.lead)
+    ∷ (codes " late ", pos status.arrivals.late)
     ∷ (codes " twice ", pos status.arrivals.twice)
     ∷ (codes " old ", pos status.arrivals.old)
     ∷ []) ++ with_tenth (codes " loss ") (loss_of status.arrivals)

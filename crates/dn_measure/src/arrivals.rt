@@ -10,6 +10,8 @@ pub struct Arrivals {
     pub came: u32,
     /// How many did not, of those numbered before the newest.
     pub lost: u32,
+    /// How many came after newer ones.
+    pub late: u32,
     /// How many came twice.
     pub twice: u32,
     /// How many came too late to tell whether they had come before.
@@ -22,6 +24,7 @@ impl Arrivals {
         ensures { result ≡ record {
           came = self.now.came - before.now.came;
           lost = self.now.lost - before.now.lost;
+          late = self.now.late - before.now.late;
           twice = self.now.twice - before.now.twice;
           old = self.now.old - before.now.old;
         } }
@@ -29,6 +32,7 @@ impl Arrivals {
         Arrivals {
             came: self.came.saturating_sub(before.came),
             lost: self.lost.saturating_sub(before.lost),
+            late: self.late.saturating_sub(before.late),
             twice: self.twice.saturating_sub(before.twice),
             old: self.old.saturating_sub(before.old),
         }

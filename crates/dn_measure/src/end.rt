@@ -2,12 +2,20 @@
 
 ghost use Rattle.std.specs.Prelude.{◌≡◌, ◌++◌, OnOk, IfOk};
 ghost use Rattle.std.specs.String.{string_bytes};
-ghost use Rattle.dn_measure.specs.Ends.{end_text, judged_lines, status_of, session_lines};
+ghost use Rattle.dn_measure.specs.Ends.{end_text, judged_lines, player_text, session_lines, status_of};
 
 use crate::fields::push_fields;
 use crate::summary::Summary;
 use crate::text::{push_figures, push_summary};
 use std::alloc::{AllocError, Global};
+
+/// A player from whom nothing came for more seconds is lost.
+pub const SILENCE: u8 = 10;
+
+/// What is said of it.
+const LOST: &str = ": no answer for 10 seconds\n";
+
+const _: () = prove!(SILENCE == 10);
 
 /// How a session ended.
 #[derive(Clone, Copy, Debug, PartialEq, Eq)]
@@ -18,10 +26,14 @@ pub enum End {
     OthersLeft,
     /// The demo was full.
     Full,
+    /// All others left, this player since its demo was full.
+    FullAt(u8),
     /// Nothing came from this player for too long.
     Lost(u8),
     /// This player's world is another.
     Inconsistent(u8),
+    /// All others left, this player since it found the world of one to be another.
+    InconsistentAt(u8),
 }
 
 impl End {
@@ -30,10 +42,19 @@ impl End {
         ensures { result ≡ status_of self }
     {
         match self {
-            End::Left | End::OthersLeft | End::Full => 0,
-            End::Lost(_) | End::Inconsistent(_) => 3,
+            End::Left | End::OthersLeft | End::Full | End::FullAt(_) => 0,
+            End::Lost(_) | End::Inconsistent(_) | End::InconsistentAt(_) => 3,
         }
     }
+}
+
+/// How it ended at a player, in words before its number and behind it.
+fn push_player(text: &mut String, words: &str, player: u8, rest: &str) -> Result<(), AllocError>
+    ensures { OnOk result (string_bytes text.new
+        ≡ string_bytes text.old ++ player_text words.now player rest.now) }
+{
+    push_fields(text, &[(words, player as i128)])?;
+    text.push_str(rest)
 }
 
 /// How it ended, in words.
@@ -44,14 +65,10 @@ fn push_end(text: &mut String, end: End) -> Result<(), AllocError>
         End::Left => text.push_str("ended left\n"),
         End::OthersLeft => text.push_str("ended others left\n"),
         End::Full => text.push_str("ended full\n"),
-        End::Lost(player) => {
-            push_fields(text, &[("ended lost ", player as i128)])?;
-            text.push_str("\n")
-        }
-        End::Inconsistent(player) => {
-            push_fields(text, &[("ended inconsistent ", player as i128)])?;
-            text.push_str("\n")
-        }
+        End::FullAt(player) => push_player(text, "ended full at ", player, "\n"),
+        End::Lost(player) => push_player(text, "ended lost ", player, LOST),
+        End::Inconsistent(player) => push_player(text, "ended inconsistent ", player, "\n"),
+        End::InconsistentAt(player) => push_player(text, "ended inconsistent at ", player, "\n"),
     }
 }
 

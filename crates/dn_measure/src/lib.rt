@@ -22,7 +22,7 @@ mod told;
 mod verdict;
 
 pub use arrivals::Arrivals;
-pub use end::{End, text_of_session};
+pub use end::{End, SILENCE, text_of_session};
 pub use felt::Felt;
 pub use laws::keys_are_timed_in_order;
 pub use measure::Measure;

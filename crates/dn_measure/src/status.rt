@@ -54,6 +54,7 @@ fn push_peer(text: &mut String, player: u8, peer: Option<PeerStatus>) -> Result<
     let fields = [
         (" player ", player as i128),
         (" lead ", status.lead as i128),
+        (" late ", status.arrivals.late as i128),
         (" twice ", status.arrivals.twice as i128),
         (" old ", status.arrivals.old as i128),
     ];

@@ -21,6 +21,7 @@ const JUST_ENOUGH: Summary = Summary {
         Some(Arrivals {
             came: 85,
             lost: 15,
+            late: 2,
             twice: 3,
             old: 1,
         }),
@@ -107,6 +108,8 @@ fn waits_of_more_than_a_tenth_of_a_second_are_gaps(rt: HostRuntime) {
 fn arrivals_are_counted_since_the_game_began(rt: HostRuntime) {
     let (before, now) = (arrivals(10, 4), arrivals(110, 3));
     assert_eq!(rt; now.since(&before), arrivals(100, 0));
+    let (before, now) = (all_of(1, 2, 3), all_of(11, 22, 33));
+    assert_eq!(rt; now.since(&before), all_of(10, 20, 30));
     for (came, lost, loss) in [
         (0, 0, 1_000),
         (1, 0, 0),
@@ -122,8 +125,20 @@ fn arrivals(came: u32, lost: u32) -> Arrivals {
     Arrivals {
         came,
         lost,
+        late: 0,
         twice: 0,
         old: 0,
+    }
+}
+
+/// Of which so many came late, twice, and too late to tell.
+fn all_of(late: u32, twice: u32, old: u32) -> Arrivals {
+    Arrivals {
+        came: 0,
+        lost: 0,
+        late,
+        twice,
+        old,
     }
 }
 
@@ -176,7 +191,7 @@ fn the_lines_are_those_of_the_manual(rt: HostRuntime) -> Result<(), Fail> {
         "tics 2070 seconds 60.0 rate 34.5 of 35\n\
         gaps 1 longest 1000\n\
         keys half 103 most 250\n\
-        player 1 came 85 lost 15 twice 3 old 1 loss 15.0\n\
+        player 1 came 85 lost 15 late 2 twice 3 old 1 loss 15.0\n\
         this line carries a game of four\n"
     );
     let bad = Summary {
@@ -195,7 +210,7 @@ fn the_lines_are_those_of_the_manual(rt: HostRuntime) -> Result<(), Fail> {
         "tics 1872 seconds 60.0 rate 31.2 of 35\n\
         gaps 3 longest 1001\n\
         keys half 180 most over 1000\n\
-        player 2 came 410 lost 90 twice 0 old 0 loss 18.0\n\
+        player 2 came 410 lost 90 late 0 twice 0 old 0 loss 18.0\n\
         this line does not carry a game of four\n\
         lacks tics: 31.2 of 34.5 a second\n\
         lacks calm: gaps 3, at most 1 a minute\n\
@@ -212,8 +227,10 @@ fn how_a_session_ended_comes_first(rt: HostRuntime) -> Result<(), Fail> {
         (End::Left, 0, "ended left"),
         (End::OthersLeft, 0, "ended others left"),
         (End::Full, 0, "ended full"),
-        (End::Lost(2), 3, "ended lost 2"),
+        (End::FullAt(3), 0, "ended full at 3"),
+        (End::Lost(2), 3, "ended lost 2: no answer for 10 seconds"),
         (End::Inconsistent(1), 3, "ended inconsistent 1"),
+        (End::InconsistentAt(2), 3, "ended inconsistent at 2"),
     ] {
         assert_eq!(rt; end.status(), status, "{line}");
         let text = text_of_session(rt.alloc(), end, &Some(JUST_ENOUGH))?;
@@ -222,7 +239,7 @@ fn how_a_session_ended_comes_first(rt: HostRuntime) -> Result<(), Fail> {
         let last = if status == 0 {
             "\nthis line carries a game of four\n"
         } else {
-            "\nplayer 1 came 85 lost 15 twice 3 old 1 loss 15.0\n"
+            "\nplayer 1 came 85 lost 15 late 2 twice 3 old 1 loss 15.0\n"
         };
         assert!(rt; text.as_str().ends_with(last), "{text}");
     }
@@ -261,7 +278,10 @@ fn the_line_of_a_second_is_that_of_the_manual(rt: HostRuntime) -> Result<(), Fai
             None,
             Some(PeerStatus {
                 lead: -3,
-                arrivals: arrivals(90, 10),
+                arrivals: Arrivals {
+                    late: 5,
+                    ..arrivals(90, 10)
+                },
             }),
             None,
         ],
@@ -269,7 +289,7 @@ fn the_line_of_a_second_is_that_of_the_manual(rt: HostRuntime) -> Result<(), Fai
     let text = text_of_status(rt.alloc(), &status)?;
     assert_eq!(rt;
         text.as_str(),
-        "rate 34.0 waiting 2 refused 4 player 2 lead -3 twice 0 old 0 loss 10.0\n"
+        "rate 34.0 waiting 2 refused 4 player 2 lead -3 late 5 twice 0 old 0 loss 10.0\n"
     );
     status.waiting = None;
     status.peers = [None; 4];

@@ -83,6 +83,7 @@ fn push_peer(text: &mut String, player: u8, peer: Option<Arrivals>) -> Result<()
         ("player ", player as i128),
         (" came ", arrivals.came as i128),
         (" lost ", arrivals.lost as i128),
+        (" late ", arrivals.late as i128),
         (" twice ", arrivals.twice as i128),
         (" old ", arrivals.old as i128),
     ];

@@ -30,6 +30,11 @@ pub enum Lack {
 }
 
 impl Default for Lack {
+    ghost use Rattle.std.specs.Prelude.{◌≡◌};
+    ghost use Rattle.dn_measure.specs.declared.verdict.Lack.TheVariants.{Time};
+
+    ghost is_default = { λ lack. lack ≡ Time };
+
     fn default() -> Lack {
         Lack::Time
     }

@@ -2,12 +2,11 @@
 use Rattle.std.specs.Prelude.{◌<◌, ◌^◌, ℕ, codes}
 use Rattle.clap.specs.declared.parser.matches.ArgMatches.{ArgMatches}
 use Rattle.dn_options.specs.declared.session.Pace.{Pace}
-use Rattle.dn_options.specs.Given.{IsNumberOf, IsByteOf}
+use Rattle.dn_options.specs.Given.{IsNumberOf}
 
 -- how a session goes, each number by its own option
 pub record IsPaceOf (matches : ArgMatches) (pace : Pace) : Type 0 where
   pub seed : IsNumberOf matches (codes "seed") pace.seed
-  pub rate : IsByteOf matches (codes "rate") pace.rate
   pub seconds : IsNumberOf matches (codes "seconds") pace.seconds
 
 -- the number of an option, where it is a port's

@@ -14,7 +14,7 @@ use dn_game::GameConfig;
 use dn_line::is_base;
 use dn_lockstep::is_game;
 use dn_setup::Settings;
-pub use session::{Pace, address, file, key, pace_of, players, port};
+pub use session::{Pace, address, file, key, pace_of, players, port, rate};
 
 /// The value of an option.
 fn value(matches: &ArgMatches<'_>, name: &str) -> Option<u32>

@@ -14,8 +14,6 @@ use clap::ArgMatches;
 pub struct Pace {
     /// What its keys are drawn from.
     pub seed: u64,
-    /// How many tics a second the clock gives.
-    pub rate: u8,
     /// For how many seconds it plays; 0 is until it is interrupted.
     pub seconds: u32,
 }
@@ -25,11 +23,9 @@ pub fn pace_of(matches: &ArgMatches<'_>) -> Option<Pace>
     ensures { Finds (IsPaceOf matches.now) result }
 {
     let seed = value(matches, "seed")?;
-    let rate = byte(matches, "rate")?;
     let seconds = value(matches, "seconds")?;
     Some(Pace {
         seed: u64::from(seed),
-        rate,
         seconds,
     })
 }
@@ -39,6 +35,13 @@ pub fn port(matches: &ArgMatches<'_>) -> Option<u16>
     ensures { Finds (IsPortOf matches.now) result }
 {
     u16::try_from(value(matches, "port")?).ok()
+}
+
+/// How many tics a second are played.
+pub fn rate(matches: &ArgMatches<'_>) -> Option<u8>
+    ensures { Finds (IsByteOf matches.now (codes "rate")) result }
+{
+    byte(matches, "rate")
 }
 
 /// How many players a game has to have.

@@ -1,21 +1,26 @@
 //! How a session over a network ended: what is printed of it, and the exit status.
 
 use crate::runs::{BROKEN_OFF, REFUSED};
+use crate::say::{say, say_line};
 use dn_greeting::{Hint, Refusal};
 use dn_host::{Ending, HostFault, Outcome};
 use dn_measure::{End, text_of_session};
 use dn_netgame::RunFault;
 use std::alloc::{AllocError, Global};
 
-/// The line of a joiner that the host gave no seat.
-fn text_of_refusal(alloc: Global, refusal: Refusal) -> Result<String, AllocError> {
+/// The line of a joiner that the host gave no seat, and of what comes of it.
+pub(crate) fn text_of_refusal(
+    alloc: Global,
+    outcome: &str,
+    refusal: Refusal,
+) -> Result<String, AllocError> {
     match refusal {
-        Refusal::Full => String::from_str(alloc, "refused: no seat is free\n"),
-        Refusal::Taken => String::from_str(alloc, "refused: the seat is taken\n"),
+        Refusal::Full => format!(in alloc; "{outcome}: no seat is free\n"),
+        Refusal::Taken => format!(in alloc; "{outcome}: the seat is taken\n"),
         Refusal::Players(players) => {
-            format!(in alloc; "refused: the game has {players} players\n")
+            format!(in alloc; "{outcome}: the game has {players} players\n")
         }
-        Refusal::Begun => String::from_str(alloc, "refused: the game has begun\n"),
+        Refusal::Begun => format!(in alloc; "{outcome}: the game has begun\n"),
     }
 }
 
@@ -39,33 +44,43 @@ fn told(alloc: Global, outcome: &Outcome) -> Result<(String, u8), AllocError> {
         Ending::Left => ended(alloc, End::Left, outcome),
         Ending::OthersLeft => ended(alloc, End::OthersLeft, outcome),
         Ending::Full => ended(alloc, End::Full, outcome),
+        Ending::FullAt(player) => ended(alloc, End::FullAt(player), outcome),
         Ending::Lost(player) => ended(alloc, End::Lost(player), outcome),
         Ending::Inconsistent(player) => ended(alloc, End::Inconsistent(player), outcome),
-        Ending::Refused(refusal) => Ok((text_of_refusal(alloc, refusal)?, REFUSED)),
+        Ending::InconsistentAt(player) => ended(alloc, End::InconsistentAt(player), outcome),
+        Ending::Refused(refusal) => Ok((text_of_refusal(alloc, "refused", refusal)?, REFUSED)),
         Ending::Hinted(hint) => Ok((text_of_hint(alloc, hint)?, REFUSED)),
     }
 }
 
-/// Prints how a session ended, or its demo, and answers the exit status.
+/// Prints the demo of a session that had one.
+fn print_demo(rt: &impl Print, outcome: &Outcome) -> Result<(), RunFault> {
+    let Some(link) = &outcome.link else {
+        return Ok(());
+    };
+    if rt.write_all(link.lockstep().demo()).is_err() {
+        return Err(RunFault::Write);
+    }
+    Ok(())
+}
+
+/// Prints how a session ended, and with `raw` its demo, and answers the exit status.
 fn print_outcome(
-    rt: &(impl Print + AllocGlobal),
+    rt: &(impl Print + Eprint + AllocGlobal),
     outcome: &Outcome,
     raw: bool,
 ) -> Result<u8, RunFault> {
     let (text, status) = told(rt.alloc(), outcome)?;
-    let printed = match &outcome.link {
-        Some(link) if raw && status != REFUSED => rt.write_all(link.lockstep().demo()),
-        _ => rt.write_all(text.as_bytes()),
-    };
-    if printed.is_err() {
-        return Err(RunFault::Write);
+    say(rt, raw, text.as_str())?;
+    if raw && status != REFUSED {
+        print_demo(rt, outcome)?;
     }
     Ok(status)
 }
 
-/// Prints how a session ended, its demo, or why it broke off, and answers the exit status.
+/// Prints how a session ended, with `raw` its demo, or why it broke off, and answers the exit status.
 pub(crate) fn print_session(
-    rt: &(impl Print + AllocGlobal),
+    rt: &(impl Print + Eprint + AllocGlobal),
     session: Result<Outcome, HostFault>,
     raw: bool,
 ) -> Result<u8, RunFault> {
@@ -73,9 +88,7 @@ pub(crate) fn print_session(
         Ok(outcome) => print_outcome(rt, &outcome, raw),
         Err(HostFault::Memory) => Err(RunFault::Memory),
         Err(fault) => {
-            if rt.println(fault).is_err() {
-                return Err(RunFault::Write);
-            }
+            say_line(rt, raw, fault)?;
             Ok(BROKEN_OFF)
         }
     }

@@ -5,6 +5,7 @@ mod ends;
 mod network;
 mod options;
 mod runs;
+mod say;
 mod screen;
 mod words;
 

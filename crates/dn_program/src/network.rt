@@ -2,6 +2,7 @@
 
 use crate::ends::print_session;
 use crate::runs::{BROKEN_OFF, MISUSED, REFUSED};
+use crate::say::say_line;
 use crate::screen::ErrorScreen;
 use clap::ArgMatches;
 use dn_game::GameConfig;
@@ -18,19 +19,9 @@ use std::time::Clock;
 /// How many commands a player makes ahead of its runs: what hides a delay of 200 ms.
 const AHEAD: u8 = 8;
 
-/// Prints a line, and answers the exit status.
-fn tell(rt: &impl Print, line: &str, status: u8) -> Result<u8, RunFault> {
-    if rt.println(line).is_err() {
-        return Err(RunFault::Write);
-    }
-    Ok(status)
-}
-
 /// Prints the line of a key that was not made or not read, and answers the exit status.
-fn tell_key(rt: &impl Print, fault: KeyFault) -> Result<u8, RunFault> {
-    if rt.println(fault).is_err() {
-        return Err(RunFault::Write);
-    }
+fn tell_key(rt: &(impl Print + Eprint), raw: bool, fault: KeyFault) -> Result<u8, RunFault> {
+    say_line(rt, raw, fault)?;
     if fault.is_refusal() {
         Ok(REFUSED)
     } else {
@@ -40,7 +31,7 @@ fn tell_key(rt: &impl Print, fault: KeyFault) -> Result<u8, RunFault> {
 
 /// Runs `key`, and answers the exit status.
 pub(crate) fn run_key(
-    rt: &(impl Print + Files + RandomSource),
+    rt: &(impl Print + Eprint + Files + RandomSource),
     matches: &ArgMatches<'_>,
 ) -> Result<u8, RunFault> {
     let Some(file) = dn_options::file(matches) else {
@@ -48,7 +39,7 @@ pub(crate) fn run_key(
     };
     match make_key(rt, file) {
         Ok(()) => Ok(0),
-        Err(fault) => tell_key(rt, fault),
+        Err(fault) => tell_key(rt, false, fault),
     }
 }
 
@@ -65,14 +56,14 @@ fn plan_of(secret: Option<[u8; KEY]>, pace: Pace) -> Plan {
     Plan {
         secret,
         seed: pace.seed,
-        rate: pace.rate,
         seconds: pace.seconds,
     }
 }
 
 /// The plan of a session and its wire at a port, or the exit status where there is none.
 fn prepared(
-    rt: &(impl Print + Net + Files),
+    rt: &(impl Print + Eprint + Net + Files),
+    raw: bool,
     port: u16,
     matches: &ArgMatches<'_>,
 ) -> Result<Result<(Plan, Udp), u8>, RunFault> {
@@ -81,20 +72,22 @@ fn prepared(
     };
     let secret = match secret_of(rt, matches) {
         Ok(secret) => secret,
-        Err(fault) => return Ok(Err(tell_key(rt, fault)?)),
+        Err(fault) => return Ok(Err(tell_key(rt, raw, fault)?)),
     };
     let Ok(wire) = Udp::bind(rt, port) else {
-        return Ok(Err(tell(rt, "socket fault", BROKEN_OFF)?));
+        say_line(rt, raw, "socket fault")?;
+        return Ok(Err(BROKEN_OFF));
     };
     Ok(Ok((plan_of(secret, pace), wire)))
 }
 
 /// What a host offers.
-fn hosting_of(game: GameConfig, players: u8) -> Hosting {
+fn hosting_of(game: GameConfig, players: u8, rate: u8) -> Hosting {
     let terms = Terms {
         players,
         extra: game.extra,
         ahead: AHEAD,
+        rate,
         limit: game.limit,
     };
     Hosting {
@@ -109,18 +102,22 @@ pub(crate) fn run_host<R: Print + Eprint + AllocGlobal + Net + Files + RandomSou
     each_second: bool,
     matches: &ArgMatches<'_>,
 ) -> Result<u8, RunFault> {
-    let (Some((game, players)), Some(port)) = (dn_options::game(matches), dn_options::port(matches))
-    else {
+    let (Some((game, players)), Some(rate), Some(port)) = (
+        dn_options::game(matches),
+        dn_options::rate(matches),
+        dn_options::port(matches),
+    ) else {
         return Ok(MISUSED);
     };
-    let (plan, mut wire) = match prepared(rt, port, matches)? {
+    let raw = dn_options::raw(matches);
+    let (plan, mut wire) = match prepared(rt, raw, port, matches)? {
         Ok(ready) => ready,
         Err(status) => return Ok(status),
     };
-    let hosting = hosting_of(game, players);
+    let hosting = hosting_of(game, players, rate);
     let mut screen = ErrorScreen::new(rt, each_second, "");
     let session = host_game(rt, rt.alloc(), &mut wire, &mut screen, &plan, &hosting);
-    print_session(rt, session, dn_options::raw(matches))
+    print_session(rt, session, raw)
 }
 
 /// The first address of a host's name and port.
@@ -140,11 +137,13 @@ pub(crate) fn run_join<R: Print + Eprint + AllocGlobal + Net + Files + RandomSou
     let Some(address) = dn_options::address(matches) else {
         return Ok(MISUSED);
     };
+    let raw = dn_options::raw(matches);
     let Some(host) = found(rt, address) else {
-        return tell(rt, "address: not found", REFUSED);
+        say_line(rt, raw, "address: not found")?;
+        return Ok(REFUSED);
     };
     let port = dn_options::port(matches).unwrap_or(0);
-    let (plan, mut wire) = match prepared(rt, port, matches)? {
+    let (plan, mut wire) = match prepared(rt, raw, port, matches)? {
         Ok(ready) => ready,
         Err(status) => return Ok(status),
     };
@@ -155,5 +154,5 @@ pub(crate) fn run_join<R: Print + Eprint + AllocGlobal + Net + Files + RandomSou
     };
     let mut screen = ErrorScreen::new(rt, each_second, address);
     let session = join_game(rt, rt.alloc(), &mut wire, &mut screen, &plan, &guest);
-    print_session(rt, session, dn_options::raw(matches))
+    print_session(rt, session, raw)
 }

@@ -172,12 +172,15 @@ pub(crate) fn with_player<'a>(
 ) -> Result<Command<'a>, AllocError> {
     let command = with_rounds(alloc, command)?;
     let command = with_number(alloc, command, "me", 0, 3, "0", "Which player this is")?;
-    with_raw(alloc, command)
+    with_raw(alloc, command, "Prints the bytes of the demo and no line")
 }
 
 /// Adds the flag that prints the demo.
-fn with_raw<'a>(alloc: Global, command: Command<'a>) -> Result<Command<'a>, AllocError> {
-    let about = "Prints the bytes of the demo and no line";
+fn with_raw<'a>(
+    alloc: Global,
+    command: Command<'a>,
+    about: &'a str,
+) -> Result<Command<'a>, AllocError> {
     command.arg(switch(alloc, "raw", about))
 }
 
@@ -186,11 +189,10 @@ fn with_session<'a>(alloc: Global, command: Command<'a>) -> Result<Command<'a>, 
     let key = Arg::new(alloc, "key").long("key").value_name("FILE");
     let command = command.arg(key.help("The file of the key that the players share"))?;
     let command = with_seed(alloc, command, "What the keys are drawn from")?;
-    let about = "How many tics a second are played";
-    let command = with_number(alloc, command, "rate", 1, 35, "35", about)?;
     let about = "How many seconds are played, or 0 until the program is interrupted";
     let command = with_number(alloc, command, "seconds", 0, 86_400, "0", about)?;
-    with_raw(alloc, command)
+    let about = "Prints the bytes of the demo, and its lines on standard error";
+    with_raw(alloc, command, about)
 }
 
 /// Adds the options of a host, a game's among them.
@@ -201,6 +203,8 @@ pub(crate) fn with_host<'a>(
     let command = with_long_game(alloc, command, "16777216")?;
     let about = "The UDP port of the host";
     let command = with_number(alloc, command, "port", 1024, 65_535, "5029", about)?;
+    let about = "How many tics a second are played";
+    let command = with_number(alloc, command, "rate", 1, 35, "35", about)?;
     with_session(alloc, command)
 }
 

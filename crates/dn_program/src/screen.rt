@@ -1,5 +1,7 @@
 //! What a session over a network tells on standard error while it goes on.
 
+use crate::ends::text_of_refusal;
+use dn_greeting::Refusal;
 use dn_host::Screen;
 use dn_measure::{Status, text_of_status};
 
@@ -28,6 +30,12 @@ impl<R: Eprint + AllocGlobal> Screen for ErrorScreen<'_, R> {
             return;
         }
         if let Ok(text) = text_of_status(self.rt.alloc(), status) {
+            let _ = self.rt.eprint(text.as_str());
+        }
+    }
+
+    fn wait(&mut self, refusal: Refusal) {
+        if let Ok(text) = text_of_refusal(self.rt.alloc(), "waiting", refusal) {
             let _ = self.rt.eprint(text.as_str());
         }
     }

@@ -25,6 +25,7 @@ fn answer(number: u32, game: [u8; 16], other: Option<Address>) -> Answer {
             players: 3,
             extra: false,
             ahead: 5,
+            rate: 35,
             limit: 4096,
         },
         game,
@@ -94,6 +95,9 @@ fn another_seat_or_other_terms_are_anew(rt: HostRuntime) {
     next.terms.extra = true;
     assert_eq!(rt; hears(&mut joiner, host(), &next), News::Anew);
     next.number = 4;
+    next.terms.rate = 30;
+    assert_eq!(rt; hears(&mut joiner, host(), &next), News::Anew);
+    next.number = 5;
     next.mark = [0; 16];
     assert_eq!(rt; hears(&mut joiner, host(), &next), News::Nothing);
 }
@@ -136,15 +140,44 @@ fn hints_are_heeded_before_an_answer(rt: HostRuntime) {
 }
 
 #[test]
-fn in_its_game_it_heeds_nothing(rt: HostRuntime) {
+fn in_its_game_it_heeds_where_others_are(rt: HostRuntime) {
+    let there = mapped([10, 0, 0, 3], 5029);
+    let rows = [
+        (host(), answer(2, GAME, None), News::Same),
+        (host(), answer(3, GAME, Some(there)), News::Moved),
+        (host(), answer(3, GAME, None), News::Nothing),
+        (there, answer(4, GAME, None), News::Nothing),
+        (host(), answer(5, [9; 16], None), News::Nothing),
+        (host(), answer(4, GAME, None), News::Moved),
+    ];
     let mut joiner = joiner();
     assert_eq!(rt;
         hears(&mut joiner, host(), &answer(1, GAME, None)),
         News::Seated
     );
     joiner.begin();
+    for (from, answer, news) in rows {
+        assert_eq!(rt; hears(&mut joiner, from, &answer), news);
+    }
+    let refused = Refused {
+        mark: MARK,
+        refusal: Refusal::Begun,
+    };
+    let bytes = seal_refused(&greeter(Some(SECRET)), &refused);
+    assert_eq!(rt; joiner.hear(host(), bytes.as_slice()), News::Nothing);
+}
+
+#[test]
+fn a_game_without_a_seat_heeds_nothing(rt: HostRuntime) {
+    let mut joiner = joiner();
+    joiner.begin();
     assert_eq!(rt;
-        hears(&mut joiner, host(), &answer(2, [9; 16], None)),
+        hears(&mut joiner, host(), &answer(1, GAME, None)),
         News::Nothing
     );
+    let bytes = hinted_bytes(&Hinted {
+        mark: MARK,
+        hint: Hint::Key,
+    });
+    assert_eq!(rt; joiner.hear(host(), bytes.as_slice()), News::Nothing);
 }

@@ -2,7 +2,7 @@
 
 use super::{GAME, SECRET, mapped};
 use crate::{
-    Address, Call, Hint, Hinted, Refusal, Refused, Table, Terms, greeter, open_answer,
+    Address, Call, Hint, Hinted, Place, Refusal, Refused, Table, Terms, greeter, open_answer,
     open_refused, read_hinted, seal_call,
 };
 use arrayvec::ArrayVec;
@@ -25,6 +25,7 @@ fn terms(players: u8) -> Terms {
         players,
         extra: false,
         ahead: 9,
+        rate: 35,
         limit: 1_048_576,
     }
 }
@@ -34,19 +35,24 @@ fn at(host: u8) -> Address {
     mapped([10, 0, 0, host], 5029)
 }
 
-/// The bytes of a call by who has this mark.
-fn call(mark: u8, seat: Option<u8>, players: Option<u8>) -> ArrayVec<u8, 129> {
+/// The bytes of a call of this number by who has this mark.
+fn numbered(number: u32, mark: u8, seat: Option<u8>, players: Option<u8>) -> ArrayVec<u8, 130> {
     let call = Call {
         mark: [mark; 16],
-        number: 1,
+        number,
         seat,
         players,
     };
     seal_call(&greeter(Some(SECRET)), &call)
 }
 
+/// The bytes of a first call.
+fn call(mark: u8, seat: Option<u8>, players: Option<u8>) -> ArrayVec<u8, 130> {
+    numbered(1, mark, seat, players)
+}
+
 /// The first bytes of a call, as one of another version has them.
-fn front_of(bytes: &[u8], size: usize, version: u8) -> ArrayVec<u8, 129> {
+fn front_of(bytes: &[u8], size: usize, version: u8) -> ArrayVec<u8, 130> {
     let mut out = ArrayVec::new();
     for (i, byte) in bytes.iter().enumerate() {
         if i < size {
@@ -57,7 +63,7 @@ fn front_of(bytes: &[u8], size: usize, version: u8) -> ArrayVec<u8, 129> {
 }
 
 /// What the bytes of a reply are.
-fn read(reply: Option<ArrayVec<u8, 129>>) -> Brought {
+fn read(reply: Option<ArrayVec<u8, 130>>) -> Brought {
     let Some(bytes) = reply else {
         return Brought::Nothing;
     };
@@ -81,7 +87,7 @@ type Row = (u32, u8, u8, Option<u8>, Option<u8>, Brought);
 
 #[test]
 fn seats_of_a_game_of_four(rt: HostRuntime) {
-    let rows: [Row; 17] = [
+    let rows: [Row; 24] = [
         (0, 1, 1, None, None, Brought::Seat(1, 1)),
         (1, 2, 2, Some(3), Some(4), Brought::Seat(3, 2)),
         (1, 1, 1, None, None, Brought::Seat(1, 2)),
@@ -100,21 +106,121 @@ fn seats_of_a_game_of_four(rt: HostRuntime) {
         // The same again, whatever it asks for.
         (4, 3, 3, Some(1), Some(2), Brought::Seat(2, 3)),
         // Another at the same address takes its seat, or the one that it wants.
-        (5, 3, 5, None, None, Brought::Seat(2, 3)),
-        (5, 3, 6, Some(1), None, Brought::Refused(Refusal::Taken)),
-        (6, 3, 6, Some(2), None, Brought::Seat(2, 3)),
+        (4, 3, 5, None, None, Brought::Seat(2, 3)),
+        (4, 3, 6, Some(1), None, Brought::Refused(Refusal::Taken)),
+        (4, 3, 6, Some(2), None, Brought::Seat(2, 3)),
+        // Who was silent for three seconds keeps its seat, and for four gives way.
+        (4, 4, 4, None, None, Brought::Refused(Refusal::Full)),
+        (5, 1, 1, None, None, Brought::Seat(1, 3)),
+        (5, 4, 4, None, None, Brought::Seat(3, 3)),
+        (5, 2, 2, None, None, Brought::Refused(Refusal::Full)),
+        (8, 2, 2, Some(3), None, Brought::Refused(Refusal::Taken)),
+        (8, 2, 2, Some(2), None, Brought::Seat(2, 3)),
+        // Of several who are silent the one who is for longest gives way, and of equals the lowest.
+        (9, 4, 4, None, None, Brought::Seat(3, 3)),
+        (9, 1, 1, None, None, Brought::Seat(1, 3)),
+        (13, 5, 8, None, None, Brought::Seat(2, 3)),
+        (13, 6, 9, None, None, Brought::Seat(1, 3)),
         // Who is silent for more than ten seconds loses its seat.
-        (11, 1, 1, None, None, Brought::Seat(1, 3)),
-        (12, 4, 4, Some(3), None, Brought::Seat(3, 3)),
-        (12, 2, 2, Some(3), None, Brought::Refused(Refusal::Taken)),
-        (17, 3, 7, Some(2), None, Brought::Seat(2, 3)),
-        (17, 1, 1, None, None, Brought::Seat(1, 3)),
+        (19, 6, 9, None, None, Brought::Seat(1, 3)),
+        (20, 6, 9, None, None, Brought::Seat(1, 2)),
     ];
     let mut table = Table::new(Some(SECRET), terms(4), GAME);
+    let mut number: u32 = 0;
     for (now, from, mark, seat, players, brought) in rows {
+        number = number.saturating_add(1);
         table.sweep(now);
-        let reply = table.hear(at(from), call(mark, seat, players).as_slice(), now);
+        let bytes = numbered(number, mark, seat, players);
+        let reply = table.hear(at(from), bytes.as_slice(), now);
+        assert_eq!(rt; read(reply), brought, "row {number}");
+    }
+}
+
+/// Where the holder of seat 1 is.
+fn first_of(table: &Table) -> Option<Address> {
+    let [one, _, _] = table.places();
+    match one {
+        Place::Held(holder) => Some(holder.address),
+        _ => None,
+    }
+}
+
+#[test]
+fn a_holder_is_followed_by_its_newer_calls(rt: HostRuntime) {
+    // From where, by whom, of which number, what it brings, and where the holder of seat 1 is then.
+    let rows = [
+        (1, 1, 5, Brought::Seat(1, 1), 1),
+        (2, 1, 6, Brought::Seat(1, 1), 2),
+        (1, 1, 6, Brought::Nothing, 2),
+        (3, 1, 4, Brought::Nothing, 2),
+        (2, 1, 6, Brought::Nothing, 2),
+        (3, 2, 1, Brought::Seat(2, 2), 2),
+        // Two holders may be at one address for a while.
+        (3, 1, 7, Brought::Seat(1, 2), 3),
+        (4, 2, 2, Brought::Seat(2, 2), 3),
+        (5, 1, 9, Brought::Seat(1, 2), 5),
+        (6, 3, 9, Brought::Refused(Refusal::Begun), 5),
+    ];
+    let mut table = Table::new(Some(SECRET), terms(3), GAME);
+    for (from, mark, number, brought, place) in rows {
+        if number == 9 {
+            table.begin();
+        }
+        let bytes = numbered(number, mark, None, None);
+        let reply = table.hear(at(from), bytes.as_slice(), 0);
         assert_eq!(rt; read(reply), brought);
+        assert!(rt; first_of(&table) == Some(at(place)));
+    }
+}
+
+#[test]
+fn a_repeated_call_keeps_no_seat(rt: HostRuntime) {
+    let mut table = Table::new(Some(SECRET), terms(2), GAME);
+    let bytes = call(1, None, None);
+    assert_eq!(rt;
+        read(table.hear(at(1), bytes.as_slice(), 0)),
+        Brought::Seat(1, 1)
+    );
+    assert_eq!(rt;
+        read(table.hear(at(1), bytes.as_slice(), 10)),
+        Brought::Nothing
+    );
+    table.sweep(11);
+    assert!(rt; first_of(&table).is_none());
+}
+
+#[test]
+fn an_own_address_of_a_machine_is_told_on_it_alone(rt: HostRuntime) {
+    let mut own = [0; 16];
+    own[15] = 1;
+    let own = Address {
+        ip: own,
+        port: 5030,
+    };
+    let rows = [
+        (mapped([127, 0, 0, 1], 5030), at(2), false),
+        (mapped([127, 255, 3, 9], 5030), at(2), false),
+        (own, at(2), false),
+        (own, mapped([127, 0, 0, 1], 5031), true),
+        (mapped([127, 0, 0, 1], 5030), own, true),
+        (mapped([128, 0, 0, 1], 5030), at(2), true),
+        (mapped([126, 255, 255, 255], 5030), at(2), true),
+        (at(1), own, true),
+    ];
+    for (first, second, is_told) in rows {
+        let mut table = Table::new(Some(SECRET), terms(3), GAME);
+        let _ = table.hear(first, call(1, None, None).as_slice(), 0);
+        let reply = table.hear(second, call(2, None, None).as_slice(), 0);
+        match open_answer(
+            &greeter(Some(SECRET)),
+            reply.unwrap_or(ArrayVec::new()).as_slice(),
+        ) {
+            Ok(answer) => {
+                let told = if is_told { Some(first) } else { None };
+                assert!(rt; answer.seats == [told, Some(second), None]);
+            }
+            Err(_) => assert!(rt; false),
+        }
     }
 }
 
@@ -153,7 +259,7 @@ fn a_game_that_has_begun_takes_nobody(rt: HostRuntime) {
     table.begin();
     table.sweep(100);
     assert_eq!(rt;
-        read(table.hear(at(1), one.as_slice(), 100)),
+        read(table.hear(at(1), numbered(2, 1, None, None).as_slice(), 100)),
         Brought::Seat(1, 1)
     );
     assert_eq!(rt;
@@ -161,7 +267,7 @@ fn a_game_that_has_begun_takes_nobody(rt: HostRuntime) {
         Brought::Refused(Refusal::Begun)
     );
     assert_eq!(rt;
-        read(table.hear(at(2), one.as_slice(), 100)),
+        read(table.hear(at(2), two.as_slice(), 200)),
         Brought::Refused(Refusal::Begun)
     );
 }
@@ -184,8 +290,8 @@ fn another_version_is_told_ours(rt: HostRuntime) {
     let rows = [
         (40, 2, Brought::Hinted(Hint::Version(1))),
         (28, 2, Brought::Nothing),
-        (128, 1, Brought::Nothing),
-        (129, 1, Brought::Seat(1, 1)),
+        (129, 1, Brought::Nothing),
+        (130, 1, Brought::Seat(1, 1)),
     ];
     for (size, version, brought) in rows {
         let bytes = front_of(call(1, None, None).as_slice(), size, version);
@@ -196,10 +302,10 @@ fn another_version_is_told_ours(rt: HostRuntime) {
 #[test]
 fn the_answer_has_the_number_of_the_game(rt: HostRuntime) {
     let mut table = Table::new(Some(SECRET), terms(2), GAME);
-    let bytes = call(1, None, None);
-    for game in [GAME, [9; 16]] {
+    for (number, game) in [(1, GAME), (2, [9; 16])] {
         table.renew(game);
         assert!(rt; table.game() == game);
+        let bytes = numbered(number, 1, None, None);
         let reply = table
             .hear(at(1), bytes.as_slice(), 0)
             .unwrap_or(ArrayVec::new());

@@ -1,4 +1,4 @@
-use Rattle.std.proofs.Common.{◌≡◌, ◌≤◌, ◌+◌, ℕ, length, take, drop, sym, ◌∙◌, arith, inl, None}
+use Rattle.std.proofs.Common.{◌≡◌, sym, ◌∙◌, arith, inl, None}
 use Rattle.dn_seal.specs.declared.seal.Seal.{Seal}
 use Rattle.dn_seal.specs.Sealing.{sealing}
 use Rattle.dn_greeting.specs.Text.{answer_rest, IsAnswer}
@@ -14,9 +14,9 @@ returns-in-Some-clause-only c = λ read. one_answer _ _ _ read (inl (sym c.fault
 opens : goal.returns-in-Some-answer_in-clause-opens
 opens c =
     let seal : Seal = (sealing c.args.sealer.now).seal in
-    let none : first_fault seal 2 129 c.args.bytes.now ≡ None = sym c.fault_in.ensures.first ∙ c.in-None.is in
-    reads_ok seal 2 129 IsAnswer answer_rest (omega arith) (λ t is. omega (arith, length-answer t is)) same_answer
-    c.args.bytes.now 101 _ (omega arith) none c.in-Some-answer_in.ensures.0 c.in-Some-answer_in.ensures.1
+    let none : first_fault seal 2 130 c.args.bytes.now ≡ None = sym c.fault_in.ensures.first ∙ c.in-None.is in
+    reads_ok seal 2 130 IsAnswer answer_rest (omega arith) (λ t is. omega (arith, length-answer t is)) same_answer
+    c.args.bytes.now 102 _ (omega arith) none c.in-Some-answer_in.ensures.0 c.in-Some-answer_in.ensures.1
 
 pub returns-in-Some-answer_in-clause-opens : goal.returns-in-Some-answer_in-clause-opens
 returns-in-Some-answer_in-clause-opens c = opens c
@@ -27,9 +27,9 @@ returns-in-Some-answer_in-clause-only c = λ read. one_answer _ _ _ read (opens 
 fails : goal.returns-in-None-answer_in-clause-opens
 fails c =
     let seal : Seal = (sealing c.args.sealer.now).seal in
-    let none : first_fault seal 2 129 c.args.bytes.now ≡ None = sym c.fault_in.ensures.first ∙ c.in-None.is in
-    reads_form seal 2 129 IsAnswer answer_rest (omega arith) (λ t is. omega (arith, length-answer t is)) same_answer
-    c.args.bytes.now 101 (omega arith) none c.in-None-answer_in.ensures
+    let none : first_fault seal 2 130 c.args.bytes.now ≡ None = sym c.fault_in.ensures.first ∙ c.in-None.is in
+    reads_form seal 2 130 IsAnswer answer_rest (omega arith) (λ t is. omega (arith, length-answer t is)) same_answer
+    c.args.bytes.now 102 (omega arith) none c.in-None-answer_in.ensures
 
 pub returns-in-None-answer_in-clause-opens : goal.returns-in-None-answer_in-clause-opens
 returns-in-None-answer_in-clause-opens c = fails c

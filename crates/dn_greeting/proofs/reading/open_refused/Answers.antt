@@ -1,4 +1,4 @@
-use Rattle.std.proofs.Common.{◌≡◌, ◌≤◌, ◌+◌, ℕ, length, take, drop, sym, ◌∙◌, arith, inl, None}
+use Rattle.std.proofs.Common.{◌≡◌, sym, ◌∙◌, arith, inl, None}
 use Rattle.dn_seal.specs.declared.seal.Seal.{Seal}
 use Rattle.dn_seal.specs.Sealing.{sealing}
 use Rattle.dn_greeting.specs.Text.{refused_rest, IsRefused}

@@ -10,8 +10,8 @@ use Rattle.dn_greeting.proofs.telling.told_answer.Goals as goal
 -- what was read field by field
 gathered : (rest mark game : List ℕ) (number : ℕ) (terms : Terms) (one two three : Option Address)
     → mark ≡ told_sixteen 0 rest → number ≡ told_number 16 rest → terms ≡ told_terms rest
-    → game ≡ told_sixteen 28 rest → one ≡ told_address (drop 44 rest) → two ≡ told_address (drop 63 rest)
-    → three ≡ told_address (drop 82 rest)
+    → game ≡ told_sixteen 29 rest → one ≡ told_address (drop 45 rest) → two ≡ told_address (drop 64 rest)
+    → three ≡ told_address (drop 83 rest)
     → ◌≡◌ {A = Answer} (record {
       mark = mark;
       number = number;
@@ -37,6 +37,6 @@ pub returns-clause-value : goal.returns-clause-value
 returns-clause-value c =
     let rest = c.args.rest.now in
     gathered rest _ _ _ _ _ _ _ c.sixteen_at.ensures c.tic_at.ensures c.terms_in.ensures c.sixteen_at-2.ensures
-    (c.address_in.ensures.value ∙ ap told_address (whole 44 rest))
-    (c.address_in-2.ensures.value ∙ ap told_address (whole 63 rest))
-    (c.address_in-3.ensures.value ∙ ap told_address (whole 82 rest))
+    (c.address_in.ensures.value ∙ ap told_address (whole 45 rest))
+    (c.address_in-2.ensures.value ∙ ap told_address (whole 64 rest))
+    (c.address_in-3.ensures.value ∙ ap told_address (whole 83 rest))

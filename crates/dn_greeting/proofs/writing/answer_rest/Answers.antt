@@ -1,7 +1,7 @@
 use Rattle.std.proofs.Common.{◌≡◌, ◌++◌, ◌∷◌, [], List, ℕ, ap, ◌∙◌, append_assoc}
 use Rattle.std.specs.List.{flat_map}
 use Rattle.std.specs.Int.{w32, to_le_bytes}
-use Rattle.dn_greeting.specs.Text.{address_bytes, answer_rest, terms_bytes}
+use Rattle.dn_greeting.specs.Text.{address_bytes, terms_bytes}
 use Rattle.dn_greeting.proofs.writing.answer_rest.Goals as goal
 
 pub returns : goal.returns

@@ -1,4 +1,4 @@
-use Rattle.std.proofs.Common.{List, ℕ, ap, ◌∙◌}
+use Rattle.std.proofs.Common.{ap, ◌∙◌}
 use Rattle.dn_seal.specs.Sealing.{sealing}
 use Rattle.dn_greeting.specs.Text.{greeting_bytes}
 use Rattle.dn_greeting.proofs.writing.seal_refused.Goals as goal

@@ -8,12 +8,6 @@ returns-in_err-seed c =
     (search rules)
     (λ pace given. (_, given.seed))
 
-pub returns-in_err-rate : goal.returns-in_err-rate
-returns-in_err-rate c =
-    finds_none c.byte.result c.from_residual-in_err-rate.result c.byte.ensures (search rules)
-    (search rules)
-    (λ pace given. (_, given.rate))
-
 pub returns-in_err-seconds : goal.returns-in_err-seconds
 returns-in_err-seconds c =
     finds_none c.value-2.result c.from_residual-in_err-seconds.result c.value-2.ensures (search rules)

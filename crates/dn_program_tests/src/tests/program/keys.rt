@@ -72,3 +72,22 @@ fn a_session_that_cannot_begin_is_told(rt: HostRuntime) {
         answers(rt, &call(rt, line), status, printed);
     }
 }
+
+#[test]
+fn with_raw_all_texts_go_to_standard_error(rt: HostRuntime) {
+    let rt = &rt;
+    for (line, status, told) in [
+        ("netgame host --raw", 3, "socket fault\n"),
+        ("netgame join 127.0.0.1 --raw", 1, "address: not found\n"),
+        (
+            "netgame host --raw --key /nowhere/key",
+            3,
+            "key: cannot read the file\n",
+        ),
+    ] {
+        let called = call(rt, line);
+        same!(rt; called.status, status, line);
+        same!(rt; called.printed.as_slice(), b"", line);
+        same!(rt; called.complained.as_slice(), told.as_bytes(), line);
+    }
+}

@@ -62,6 +62,10 @@ fn words_that_are_unknown_are_told(rt: HostRuntime) {
             "netgame join",
             "error: the following required arguments were not provided",
         ),
+        (
+            "netgame join 127.0.0.1:5029 --rate 35",
+            "error: unexpected argument '--rate' found",
+        ),
         ("netgame host one", "error: unexpected argument 'one' found"),
         (
             "netgame key",

@@ -19,7 +19,7 @@ const NUMBERS: [(&str, i64, i64, u32); 6] = [
 ];
 
 /// Those of some subcommands alone: subcommand, name, least and greatest value, default.
-const OTHERS: [(&str, &str, i64, i64, u32); 24] = [
+const OTHERS: [(&str, &str, i64, i64, u32); 23] = [
     ("upgrade", "limit", 1_024, 16_777_216, 16_777_216),
     ("storm", "seed", 0, 4_294_967_295, 1),
     ("storm", "count", 1, 1_000_000, 1_000),
@@ -42,7 +42,6 @@ const OTHERS: [(&str, &str, i64, i64, u32); 24] = [
     ("host", "rate", 1, 35, 35),
     ("host", "seconds", 0, 86_400, 0),
     ("join 127.0.0.1:5029", "seed", 0, 4_294_967_295, 1),
-    ("join 127.0.0.1:5029", "rate", 1, 35, 35),
     ("join 127.0.0.1:5029", "seconds", 0, 86_400, 0),
 ];
 

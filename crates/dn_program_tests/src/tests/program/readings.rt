@@ -140,11 +140,11 @@ fn seeds_and_counts_are_those_of_their_words(rt: HostRuntime) {
     }
 }
 
+/// The pace of a session, its rate, its port, and how many players it has.
+type Session = (Option<Pace>, Option<u8>, Option<u16>, Option<u8>);
+
 /// What the readers of a session make of a line.
-fn session(
-    alloc: Global,
-    line: &str,
-) -> Result<Option<(Option<Pace>, Option<u16>, Option<u8>)>, Fail> {
+fn session(alloc: Global, line: &str) -> Result<Option<Session>, Fail> {
     let words = split(alloc, line)?;
     let matches = matches_of(alloc, words.as_slice())?;
     let Some((_, given)) = matches.subcommand() else {
@@ -152,6 +152,7 @@ fn session(
     };
     Ok(Some((
         dn_options::pace_of(given),
+        dn_options::rate(given),
         dn_options::port(given),
         dn_options::players(given),
     )))
@@ -162,24 +163,25 @@ fn sessions_are_those_of_their_words(rt: HostRuntime) {
     let rt = &rt;
     let pace = Pace {
         seed: 7,
-        rate: 8,
         seconds: 9,
     };
     let usual = Pace {
         seed: 1,
-        rate: 35,
         seconds: 0,
     };
     for (line, wanted) in [
-        ("netgame host", (Some(usual), Some(5029), Some(2))),
-        ("netgame join 127.0.0.1:5029", (Some(usual), None, None)),
+        ("netgame host", (Some(usual), Some(35), Some(5029), Some(2))),
         (
-            "netgame host --seed 7 --rate 8 --seconds 9 --port 2000 --players 4",
-            (Some(pace), Some(2000), Some(4)),
+            "netgame join 127.0.0.1:5029",
+            (Some(usual), None, None, None),
         ),
         (
-            "netgame join 127.0.0.1:5029 --seed 7 --rate 8 --seconds 9 --port 2000 --players 3",
-            (Some(pace), Some(2000), Some(3)),
+            "netgame host --seed 7 --rate 8 --seconds 9 --port 2000 --players 4",
+            (Some(pace), Some(8), Some(2000), Some(4)),
+        ),
+        (
+            "netgame join 127.0.0.1:5029 --seed 7 --seconds 9 --port 2000 --players 3",
+            (Some(pace), None, Some(2000), Some(3)),
         ),
     ] {
         same!(rt; must!(rt; session(rt.alloc(), line)), Some(wanted), line);

@@ -1,5 +1,5 @@
-use Rattle.std.proofs.Common.{◌≡◌, ◌≢◌, ◌≤◌, ◌+◌, ℕ, List, length, arith, ap, sym, ◌∙◌, Option, Some, Err, inl, inr}
-use Rattle.std.proofs.lemmas.Option.{none-some}
+use Rattle.std.proofs.Common.{◌≡◌, ◌≤◌, ◌+◌, ℕ, List, length, arith, ap, sym, ◌∙◌, Some, Err, inl, inr}
+use Rattle.std.proofs.lemmas.Option.{none-some, IfSome_then}
 use Rattle.dn_seal.specs.declared.seal.Seal.{Seal}
 use Rattle.dn_greeting.specs.declared.greeting.GreetingFault.{GreetingFault}
 use Rattle.dn_greeting.specs.declared.greeting.Hint.{Hint}
@@ -14,7 +14,7 @@ use Rattle.dn_greeting.proofs.table.Table.hear.Goals as goal
 long : (seal : Seal) (bytes : List ℕ) (f : GreetingFault) (h : Hint) → IsCallIn seal bytes (Err f)
     → hint_for f ≡ Some h → 29 ≤ length bytes
 long seal bytes f h (inl first) some =
-    long_fault seal 1 129 bytes f first (λ e. none-some h (sym (ap hint_for e) ∙ some))
+    long_fault seal 1 130 bytes f first (λ e. none-some h (sym (ap hint_for e) ∙ some))
 long seal bytes f h (inr (is, none, never)) some = absurd (none-some h (sym (ap hint_for is) ∙ some))
 
 pub hint_to-requires : goal.hint_to-requires
@@ -28,7 +28,8 @@ returns-in-Ok-clause-no_longer c =
     let seal : Seal = c.args.self.now.sealer.seal in
     let text : length c.args.bytes.now ≡ length (call_rest call) + 28 =
     ap (length {A = ℕ}) read.1 ∙ length-text seal 1 (call_rest call) in
-    omega (arith, text, length-call call read.0, c.take.ensures.short)
+    let whole : 130 ≤ length c.args.bytes.now = omega (arith, text, length-call call read.0) in
+    IfSome_then c.take.result c.take.ensures.short (λ reply short. omega (arith, short, whole))
 
 pub returns-in-Some-clause-no_longer : goal.returns-in-Some-clause-no_longer
 returns-in-Some-clause-no_longer c =

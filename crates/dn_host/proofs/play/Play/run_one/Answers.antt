@@ -1,5 +1,4 @@
-use Rattle.std.proofs.Common.{◌≡◌, ℤ, List, Option, subst}
-use Rattle.dn_tic.specs.declared.command.Move.{Move}
+use Rattle.std.proofs.Common.{◌≡◌, ℤ, List, subst}
 use Rattle.dn_machine.specs.Running.{on_run}
 use Rattle.dn_lockstep.specs.Runs.{RunsBy}
 use Rattle.dn_link.specs.Linking.{linked}
@@ -12,4 +11,4 @@ returns c =
     let row = run.result.1 in
     let P : List ℤ → Type 0 = λ marks. RunsBy marks (linked c.args.self.now.link).node (linked run.new.self).node
     (λ limits m given. on_run limits m given) (λ ran told. (answer ≡ ran) × (row ≡ told)) in
-    (answer, row, subst P c.marks_of-marks.ensures run.ensures.step, c.go_on.ensures)
+    (answer, row, subst P c.marks_of-marks.ensures (run.ensures.step c.args.self.now.whole), c.go_on.ensures)

@@ -1,0 +1,105 @@
+//! Taking the datagrams that are there.
+
+ghost use Rattle.std.specs.Prelude.{◌≡◌, ◌≤◌, length, false, IfOk, IfSome};
+ghost use Rattle.dn_host.specs.Stages.{IfEnding};
+
+use crate::ends::{Ending, HostFault};
+use crate::lobby::Lobby;
+use crate::wire::{MOST, Wire};
+use dn_greeting::Address;
+
+/// The most datagrams that are read between two looks at the clock.
+const POLLS: u32 = 64;
+
+/// The most greetings that are opened between two looks at the clock: each may cost the time of a tag.
+const GREETINGS: u32 = 2;
+
+/// Whether bytes may be a greeting: nothing else has this kind.
+fn is_greeting(bytes: &[u8]) -> bool {
+    bytes.len() >= 2 && bytes[1] == 4
+}
+
+/// Whether bytes may be a hint: no other greeting says that it is one.
+fn is_hint(bytes: &[u8]) -> bool {
+    bytes.len() >= 12 && bytes[11] == 4
+}
+
+/// Whether the game has begun.
+fn has_begun<L: Lobby>(lobby: &mut L) -> bool {
+    match lobby.game() {
+        Some(game) => game.has_begun(),
+        None => false,
+    }
+}
+
+/// What came of the datagrams that were read.
+#[derive(Clone, Copy, Debug, PartialEq, Eq)]
+pub(crate) enum Heard {
+    /// No more are there.
+    Calm,
+    /// There may be more.
+    Busy,
+    /// The session ends.
+    Ending(Ending),
+}
+
+/// Takes a greeting, if so many may still be opened and it is no hint in a game that has begun.
+fn greet_one<W: Wire, L: Lobby>(
+    lobby: &mut L,
+    wire: &mut W,
+    from: Address,
+    bytes: &[u8],
+    left: &mut u32,
+    now: u64,
+) -> Result<Option<Ending>, HostFault>
+    ensures { IfOk result (λ found. IfSome found (λ ending.
+        L.Refuses ending × (L.begun lobby.new ≡ false))) }
+{
+    if *left == 0 || is_hint(bytes) && has_begun(lobby) {
+        return Ok(None);
+    }
+    *left -= 1;
+    lobby.greet(wire, from, bytes, now)
+}
+
+/// Takes any bytes. So many greetings may still be opened.
+fn hear_one<W: Wire, L: Lobby>(
+    lobby: &mut L,
+    wire: &mut W,
+    from: Address,
+    bytes: &[u8],
+    left: &mut u32,
+    now: u64,
+) -> Result<Option<Ending>, HostFault>
+    ensures { IfOk result (λ found. IfSome found (λ ending.
+        L.Refuses ending × (L.begun lobby.new ≡ false))) }
+{
+    if is_greeting(bytes) {
+        return greet_one(lobby, wire, from, bytes, left, now);
+    }
+    if let Some(game) = lobby.game() {
+        game.hear(wire, from, bytes, now);
+    }
+    Ok(None)
+}
+
+/// Takes the datagrams that are there, up to some number. Of more than two greetings the rest is dropped.
+pub(crate) fn hear_all<W: Wire, L: Lobby>(
+    lobby: &mut L,
+    wire: &mut W,
+    now: u64,
+) -> Result<Heard, HostFault>
+    ensures { IfOk result (λ heard. IfEnding heard (λ ending. L.Refuses ending × (L.begun lobby.new ≡ false))) }
+{
+    let mut room = [0; MOST];
+    let mut left = GREETINGS;
+    for _ in 0..POLLS {
+        let Some((from, count)) = wire.poll(&mut room) else {
+            return Ok(Heard::Calm);
+        };
+        if let Some(ending) = hear_one(lobby, wire, from, &room[..count], &mut left, now)? {
+            return Ok(Heard::Ending(ending));
+        }
+    }
+    Ok(Heard::Busy)
+}

@@ -1,0 +1,29 @@
+//! Where the texts of a session over a network go: to standard output, and with `--raw`, which leaves that to the
+//! demo, to standard error.
+
+use dn_netgame::RunFault;
+use std::fmt::Display;
+
+/// Prints a text.
+pub(crate) fn say(rt: &(impl Print + Eprint), raw: bool, text: &str) -> Result<(), RunFault> {
+    if raw {
+        let _ = rt.eprint(text);
+    } else if rt.print(text).is_err() {
+        return Err(RunFault::Write);
+    }
+    Ok(())
+}
+
+/// Prints a line.
+pub(crate) fn say_line<D: Display + Drop>(
+    rt: &(impl Print + Eprint),
+    raw: bool,
+    line: D,
+) -> Result<(), RunFault> {
+    if raw {
+        let _ = rt.eprintln(line);
+    } else if rt.println(line).is_err() {
+        return Err(RunFault::Write);
+    }
+    Ok(())
+}
