@@ -10,7 +10,8 @@ use Rattle.dn_demo.specs.Feeding.{Feeding, Shows, Takes}
 use Rattle.dn_demo.specs.Listed.{AreListed, Lists, TellsFront}
 use Rattle.dn_demo.proofs.Listing.{tells_more, tells_all, rows_of_listed}
 use Rattle.dn_text.specs.RowLines.{row_lines, lines_of_rows}
-use Rattle.dn_netgame.specs.RowsShown.{AreRows, ListsWhole, ListsFront}
+use Rattle.dn_netgame.specs.DemoShown.{IsDemo}
+use Rattle.dn_netgame.specs.RowsShown.{AreRows, IsRowsShown, ListsWhole, ListsFront}
 use Rattle.dn_netgame.specs.Transfer.{TakesUpTo, AppendsFront}
 use Rattle.dn_netgame.proofs.FeedPieces.{up_to_more}
 
@@ -60,6 +61,14 @@ front_behind old mid new first text before front =
 pub are_rows : (bytes : List ℕ) (f : Feeding Spots) (rows : List (List (Option Move)))
     → Shows (λ w. w) walking bytes f → AreListed bytes f.tics rows → AreRows bytes (lines_of_rows 0 rows)
 are_rows bytes f rows shown listed = (rows, rows_of_listed (λ w. w) walking bytes f rows shown listed, refl)
+
+-- and behind them those of the demo
+pub rows_shown : (bytes : List ℕ) (f : Feeding Spots) (rows : List (List (Option Move))) (last : List ℕ)
+    (status : ℕ)
+    → Shows (λ w. w) walking bytes f → AreListed bytes f.tics rows → IsDemo bytes last status
+    → IsRowsShown bytes (lines_of_rows 0 rows ++ last) status
+rows_shown bytes f rows last status shown listed demo =
+    (lines_of_rows 0 rows, last, are_rows bytes f rows shown listed, demo, refl)
 
 -- so many bytes are whole pieces, or all that are read
 abbrev pub ArePieces : ℕ → Type 0

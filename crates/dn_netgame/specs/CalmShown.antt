@@ -1,5 +1,5 @@
 -- The calm after a storm: rounds in which every packet arrives.
-use Rattle.std.specs.Prelude.{ℕ, Bool, true, false, List, [], ◌∷◌, codes}
+use Rattle.std.specs.Prelude.{◌≡◌, ℕ, Bool, true, false, List, [], ◌∷◌, Option, Some, None, codes}
 use Rattle.dn_world.specs.Plane.{Spots, walking}
 use Rattle.dn_machine.specs.Game as machine
 use Rattle.dn_machine.specs.Worlds.{Rules}
@@ -35,6 +35,11 @@ Calms calm before played true =
 Calms calm before played false =
     Tells (λ spots. spots) walking (contents before.game)
     (λ rules m. AreCutShort rules calm m (contents before.game) (contents played.game))
+
+-- where a calm follows a storm; where none does, `played` is `before`
+abbrev pub CalmsAfter : Option ℕ → Played Spots → Played Spots → Bool → Type 0
+CalmsAfter (Some calm) before played calmed = Calms calm before played calmed
+CalmsAfter None before played calmed = (played ≡ before) × (calmed ≡ true)
 
 -- after this many events of the seed's schedule such rounds were cut short
 abbrev pub Overflows : GameConfig → ℕ → (seed count calm : ℕ) → Type 0

@@ -6,6 +6,8 @@ use Rattle.dn_demo.specs.Reading.{HasRows}
 use Rattle.dn_text.specs.RowLines.{lines_of_rows}
 use Rattle.dn_netgame.specs.DemoShown.{IsDemo}
 use Rattle.dn_netgame.specs.Transfer.{TakesUpTo, AppendsFront}
+use Rattle.dn_netgame.specs.declared.fault.RunFault.{RunFault}
+use Rattle.dn_netgame.specs.declared.fault.RunFault.TheVariants.{Read, Write, Memory}
 
 -- the lines are those of the rows that these bytes have
 abbrev pub AreRows : List ℕ → List ℕ → Type 0
@@ -45,3 +47,10 @@ pub record ListsFront (limit : ℕ) (input input' output output' : Option (List 
   pub shown : AreRows bytes lines
       ⊎ (TakesUpTo limit input input' bytes × ((status : ℕ) × IsRowsShown bytes lines status))
   pub written : AppendsFront output output' lines
+
+-- what a fault leaves: a read fault, or refused memory, the lines of the rows so far, but for those of the last
+-- piece; a write fault comes before the last byte of the lines so far is written
+abbrev pub ListsUpTo : (limit : ℕ) → (input input' output output' : Option (List ℕ)) → RunFault → Type 0
+ListsUpTo limit input input' output output' Read = ListsWhole limit input input' output output'
+ListsUpTo limit input input' output output' Write = ListsFront limit input input' output output'
+ListsUpTo limit input input' output output' Memory = ListsWhole limit input input' output output'

@@ -10,16 +10,15 @@ use Rattle.dn_game.specs.Opening.{rules_in}
 use Rattle.dn_game.specs.Played.{IsPlayed}
 use Rattle.dn_script.specs.Script.{IsReadAs}
 use Rattle.dn_text.specs.ScriptLines.{bad_line}
-use Rattle.dn_netgame.specs.Told.{IsText}
-use Rattle.dn_netgame.specs.declared.telling.Telling.{Telling}
+use Rattle.dn_netgame.specs.Told.{Account}
 
 -- the lines and the exit status are those of a game of this many walkers that has played these events, told in
 -- this way
-abbrev pub ArePlayed : Telling → GameConfig → ℕ → List Event → List ℕ → ℕ → Type 0
-ArePlayed telling config players events lines status =
+abbrev pub ArePlayed : Account → GameConfig → ℕ → List Event → List ℕ → ℕ → Type 0
+ArePlayed IsText config players events lines status =
     (played : Played Spots)
     × (p : IsPlayed (λ spots. spots) (rules_in walking config players) config.settings events played)
-    × IsText telling events p.answers played lines × (status ≡ 0)
+    × IsText events p.answers played lines × (status ≡ 0)
 
 -- the line and the exit status for a text that is no script; there is none for `Memory`
 abbrev pub IsFaultShown : ScriptFault → List ℕ → ℕ → Type 0
@@ -29,13 +28,13 @@ IsFaultShown Memory lines status = ⊥
 
 -- the lines and the exit status for what a text is read as: those of its events, told in this way, or those of
 -- the fault
-abbrev pub IsReadingShown : Telling → GameConfig → ℕ → Result (List Event) ScriptFault → List ℕ → ℕ → Type 0
-IsReadingShown telling config players (Ok events) lines status =
-    ArePlayed telling config players events lines status
-IsReadingShown telling config players (Err fault) lines status = IsFaultShown fault lines status
+abbrev pub IsReadingShown : Account → GameConfig → ℕ → Result (List Event) ScriptFault → List ℕ → ℕ → Type 0
+IsReadingShown IsText config players (Ok events) lines status =
+    ArePlayed IsText config players events lines status
+IsReadingShown IsText config players (Err fault) lines status = IsFaultShown fault lines status
 
 -- the lines and the exit status are those of what the bytes are read as, told in this way
-abbrev pub IsSim : Telling → GameConfig → ℕ → List ℕ → List ℕ → ℕ → Type 0
-IsSim telling config players bytes lines status =
+abbrev pub IsSim : Account → GameConfig → ℕ → List ℕ → List ℕ → ℕ → Type 0
+IsSim IsText config players bytes lines status =
     (read : Result (List Event) ScriptFault) × IsReadAs bytes read
-    × IsReadingShown telling config players read lines status
+    × IsReadingShown IsText config players read lines status

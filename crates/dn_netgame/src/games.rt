@@ -1,13 +1,13 @@
-//! Games of walks, played and told to an observer.
+//! Walks for a game, and a storm of them.
 
 ghost use Rattle.std.specs.Prelude.{◌≡◌, length, IfOk};
 ghost use Rattle.dn_world.specs.Plane.{walking};
 ghost use Rattle.dn_demo.specs.Recorded.{IsLimit};
 ghost use Rattle.dn_lockstep.specs.Opening.{IsGame};
-ghost use Rattle.dn_game.specs.Observed.{IsPlayedObserved, IsStormedObserved};
+ghost use Rattle.dn_game.specs.Observed.{IsStormedObserved};
 ghost use Rattle.dn_game.specs.Opening.{rules_in};
 
-use dn_game::{Event, GameConfig, GameFault, Observer, Played, play_observed, storm_observed};
+use dn_game::{GameConfig, GameFault, Observer, Played, storm_observed};
 use dn_world::Walk;
 use std::alloc::{AllocError, Global};
 
@@ -20,28 +20,6 @@ pub(crate) fn new_walks(alloc: Global, players: u8) -> Result<Vec<Walk>, AllocEr
         walks.push(Walk::new())?;
     }
     Ok(walks)
-}
-
-/// Plays the events in a game of `players` new walks, and tells the observer of each.
-pub(crate) fn play_walks<L: Observer>(
-    alloc: Global,
-    config: GameConfig,
-    players: u8,
-    events: &[Event],
-    observer: &mut L,
-) -> Result<Played<Walk>, AllocError>
-    requires players { IsGame players }
-    requires limit { IsLimit config.limit }
-    ensures { IfOk result (λ played. IsPlayedObserved (λ spots. spots) (rules_in walking config players)
-        L.observes
-        config.settings events.now observer.old observer.new played) }
-{
-    let walks = new_walks(alloc, players)?;
-    match play_observed(alloc, config, walks, events, observer) {
-        Ok(played) => Ok(played),
-        Err(GameFault::Memory) => Err(AllocError),
-        Err(GameFault::Players | GameFault::Limit) => unreachable!(),
-    }
 }
 
 /// Plays `count` events of the seed's schedule in a game of `players` new walks, and tells the observer of

@@ -1,6 +1,6 @@
 //! Listing the rows of a demo as it is read.
 
-ghost use Rattle.std.specs.Prelude.{◌≡◌, ◌≤◌, ℕ, ◌+◌, List, [], ◌++◌, length, Option, Err, IfOk, OnOk};
+ghost use Rattle.std.specs.Prelude.{◌≡◌, ◌≤◌, ℕ, ◌+◌, List, [], ◌++◌, length, Option, IfOk, IfErr, OnOk};
 ghost use Rattle.std.specs.String.{string_bytes};
 ghost use Rattle.std.specs.Io.KnownBytes.{Appends};
 ghost use Rattle.dn_tic.specs.declared.command.Move.{Move};
@@ -9,10 +9,9 @@ ghost use Rattle.dn_demo.specs.Feeding.{Shows};
 ghost use Rattle.dn_demo.specs.Listed.{told, AreListed, TellsFront};
 ghost use Rattle.dn_text.specs.RowLines.{lines_of_rows};
 ghost use Rattle.dn_netgame.specs.DemoShown.{demo_limit};
-ghost use Rattle.dn_netgame.specs.RowsShown.{IsRowsShown, ListsWhole, ListsFront};
+ghost use Rattle.dn_netgame.specs.RowsShown.{IsRowsShown, ListsUpTo};
 ghost use Rattle.dn_netgame.specs.Shown.{ShowsInput};
 ghost use Rattle.dn_netgame.specs.Transfer.{TakesUpTo};
-ghost use Rattle.dn_netgame.specs.declared.fault.RunFault.{RunFault};
 
 use crate::demo::text_of;
 use crate::fault::RunFault;
@@ -65,12 +64,8 @@ fn list_rows<R: Read, W: Write>(
         × Shows (λ w. w) walking bytes feed
         × ((rows : List (List (Option Move))) × AreListed bytes feed.tics rows
         × Appends (W.contents output.old) (W.contents output.new) (lines_of_rows 0 rows))) }
-    ensures read { result ≡ Err RunFault.Read → ListsWhole (demo_limit + 1)
-        (R.remaining input.old) (R.remaining input.new) (W.contents output.old) (W.contents output.new) }
-    ensures memory { result ≡ Err RunFault.Memory → ListsWhole (demo_limit + 1)
-        (R.remaining input.old) (R.remaining input.new) (W.contents output.old) (W.contents output.new) }
-    ensures write { result ≡ Err RunFault.Write → ListsFront (demo_limit + 1)
-        (R.remaining input.old) (R.remaining input.new) (W.contents output.old) (W.contents output.new) }
+    ensures fails { IfErr result (ListsUpTo (demo_limit + 1)
+        (R.remaining input.old) (R.remaining input.new) (W.contents output.old) (W.contents output.new)) }
 {
     let mut piece = [0; PIECE];
     let mut feed = Feed::new(Walk::new());
@@ -102,15 +97,10 @@ pub fn run_rows<R: Read, W: Write>(
     ensures shown { IfOk result (λ status. ShowsInput (demo_limit + 1) IsRowsShown
         (R.remaining input.old) (R.remaining input.new)
         (W.contents output.old) (W.contents output.new) status) }
-    // After a read fault the output has the lines of the rows so far, but for those of the last piece.
-    ensures read { result ≡ Err RunFault.Read → ListsWhole (demo_limit + 1)
-        (R.remaining input.old) (R.remaining input.new) (W.contents output.old) (W.contents output.new) }
-    // The same holds where memory was refused.
-    ensures memory { result ≡ Err RunFault.Memory → ListsWhole (demo_limit + 1)
-        (R.remaining input.old) (R.remaining input.new) (W.contents output.old) (W.contents output.new) }
-    // A write fault comes before the last byte of the lines so far is written.
-    ensures write { result ≡ Err RunFault.Write → ListsFront (demo_limit + 1)
-        (R.remaining input.old) (R.remaining input.new) (W.contents output.old) (W.contents output.new) }
+    // After a read fault, or where memory was refused, the output has the lines of the rows so far, but for
+    // those of the last piece. A write fault comes before the last byte of the lines so far is written.
+    ensures fails { IfErr result (ListsUpTo (demo_limit + 1)
+        (R.remaining input.old) (R.remaining input.new) (W.contents output.old) (W.contents output.new)) }
 {
     let feed = list_rows(alloc, input, output)?;
     let (text, status) = text_of(alloc, feed)?;

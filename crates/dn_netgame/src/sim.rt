@@ -7,34 +7,37 @@ ghost use Rattle.dn_lockstep.specs.Opening.{IsGame};
 ghost use Rattle.dn_script.specs.Script.{size_limit};
 ghost use Rattle.dn_netgame.specs.Shown.{ShowsOrFails};
 ghost use Rattle.dn_netgame.specs.SimShown.{ArePlayed, IsFaultShown, IsSim};
+ghost use Rattle.dn_netgame.specs.Told.{IsQuiet, IsTrace};
 ghost use Rattle.dn_netgame.specs.declared.fault.RunFault.{RunFault};
-ghost use Rattle.dn_netgame.specs.declared.telling.Telling.TheVariants.{Quiet, Trace};
 
 use crate::fault::RunFault;
-use crate::games::play_walks;
-use crate::telling::{Teller, Telling};
+use crate::games::new_walks;
+use crate::telling::{Telling, Trace};
 use crate::transfer::{gather, print};
-use dn_game::{Event, GameConfig};
+use dn_game::{Event, GameConfig, GameFault, Nobody, play_observed};
 use dn_script::{MAX_SCRIPT, ScriptFault, read_script};
 use dn_text::text_of_bad_line;
 use std::alloc::{AllocError, Global};
 use std::io::{Read, Write};
 
 /// What is told of a game of walks that has played these events.
-fn text_of_events(
+fn text_of_events<T: Telling>(
     alloc: Global,
     config: GameConfig,
     players: u8,
     events: &[Event],
-    telling: Telling,
 ) -> Result<String, AllocError>
     requires players { IsGame players }
     requires limit { IsLimit config.limit }
-    ensures { IfOk result (λ text. ArePlayed telling config players events.now (string_bytes text) 0) }
+    ensures { IfOk result (λ text. ArePlayed T.account config players events.now (string_bytes text) 0) }
 {
-    let mut teller = Teller::new(alloc, telling);
-    let played = play_walks(alloc, config, players, events, &mut teller)?;
-    teller.finish(&played)
+    let mut teller = T::new(alloc);
+    let walks = new_walks(alloc, players)?;
+    match play_observed(alloc, config, walks, events, &mut teller) {
+        Ok(played) => teller.finish(alloc, &played),
+        Err(GameFault::Memory) => Err(AllocError),
+        Err(GameFault::Players | GameFault::Limit) => unreachable!(),
+    }
 }
 
 /// The line of bytes that are no script, and the exit status.
@@ -50,22 +53,21 @@ fn text_of_fault(alloc: Global, fault: ScriptFault) -> Result<(String, u8), RunF
 }
 
 /// The lines of what a script's bytes are read as, and the exit status.
-fn text_of(
+fn text_of<T: Telling>(
     alloc: Global,
     config: GameConfig,
     players: u8,
     bytes: &[u8],
-    telling: Telling,
 ) -> Result<(String, u8), RunFault>
     requires players { IsGame players }
     requires limit { IsLimit config.limit }
     ensures shown { IfOk result
-        (λ shown. IsSim telling config players bytes.now (string_bytes shown.0) shown.1) }
+        (λ shown. IsSim T.account config players bytes.now (string_bytes shown.0) shown.1) }
     ensures fault { IfErr result (λ fault. fault ≡ RunFault.Memory) }
 {
     match read_script(alloc, bytes) {
         Ok(events) => {
-            let text = text_of_events(alloc, config, players, events.as_slice(), telling)?;
+            let text = text_of_events::<T>(alloc, config, players, events.as_slice())?;
             Ok((text, 0))
         }
         Err(fault) => text_of_fault(alloc, fault),
@@ -73,22 +75,21 @@ fn text_of(
 }
 
 /// Reads a script, plays it, and writes what is told of it.
-fn tell_sim<R: Read, W: Write>(
+fn tell_sim<T: Telling, R: Read, W: Write>(
     alloc: Global,
     config: GameConfig,
     players: u8,
-    telling: Telling,
     input: &mut R,
     output: &mut W,
 ) -> Result<u8, RunFault>
     requires players { IsGame players }
     requires limit { IsLimit config.limit }
     // A byte more than a script can have is taken, so that no prefix of a longer input is read as a script.
-    ensures { ShowsOrFails W.contents (size_limit + 1) (IsSim telling config players) (R.remaining input.old)
+    ensures { ShowsOrFails W.contents (size_limit + 1) (IsSim T.account config players) (R.remaining input.old)
         (R.remaining input.new) output.old output.new result }
 {
     let bytes = gather(alloc, input, MAX_SCRIPT + 1)?;
-    let (text, status) = text_of(alloc, config, players, bytes.as_slice(), telling)?;
+    let (text, status) = text_of::<T>(alloc, config, players, bytes.as_slice())?;
     print(output, text.as_bytes(), status)
 }
 
@@ -108,10 +109,10 @@ pub fn run_sim<R: Read, W: Write>(
 ) -> Result<u8, RunFault>
     requires players { IsGame players }
     requires limit { IsLimit config.limit }
-    ensures { ShowsOrFails W.contents (size_limit + 1) (IsSim Quiet config players) (R.remaining input.old)
+    ensures { ShowsOrFails W.contents (size_limit + 1) (IsSim IsQuiet config players) (R.remaining input.old)
         (R.remaining input.new) output.old output.new result }
 {
-    tell_sim(alloc, config, players, Telling::Quiet, input, output)
+    tell_sim::<Nobody, _, _>(alloc, config, players, input, output)
 }
 
 /// Does what `run_sim` does, and writes a line for each event before the lines of the game: its number,
@@ -126,8 +127,8 @@ pub fn trace_sim<R: Read, W: Write>(
 ) -> Result<u8, RunFault>
     requires players { IsGame players }
     requires limit { IsLimit config.limit }
-    ensures { ShowsOrFails W.contents (size_limit + 1) (IsSim Trace config players) (R.remaining input.old)
+    ensures { ShowsOrFails W.contents (size_limit + 1) (IsSim IsTrace config players) (R.remaining input.old)
         (R.remaining input.new) output.old output.new result }
 {
-    tell_sim(alloc, config, players, Telling::Trace, input, output)
+    tell_sim::<Trace, _, _>(alloc, config, players, input, output)
 }

@@ -1,20 +1,19 @@
 //! A storm: a game under events drawn from a seed, and the calm after it.
 
-ghost use Rattle.std.specs.Prelude.{IfOk, None, Some};
-ghost use Rattle.std.specs.String.{string_bytes};
+ghost use Rattle.std.specs.Prelude.{None, Some};
 ghost use Rattle.dn_demo.specs.Recorded.{IsLimit};
 ghost use Rattle.dn_lockstep.specs.Opening.{IsGame};
 ghost use Rattle.dn_netgame.specs.Shown.{PrintsOrFails};
 ghost use Rattle.dn_netgame.specs.StormShown.{IsStorm};
-ghost use Rattle.dn_netgame.specs.declared.telling.Telling.TheVariants.{Quiet, Trace, Script};
+ghost use Rattle.dn_netgame.specs.Told.{IsQuiet, IsTrace, IsScript};
 
-use crate::calm::calm_down;
+use crate::calm::calm_after;
 use crate::fault::RunFault;
 use crate::games::storm_walks;
-use crate::telling::{Teller, Telling};
+use crate::telling::{Script, Telling, Trace};
 use crate::transfer::print;
-use dn_game::GameConfig;
-use std::alloc::{AllocError, Global};
+use dn_game::{GameConfig, Nobody};
+use std::alloc::Global;
 use std::io::Write;
 
 /// How many events of which seed's schedule, and how many rounds after them if a calm follows.
@@ -25,46 +24,32 @@ struct Storm {
     calm: Option<u32>,
 }
 
-/// What is told of a game of walks under the storm, and the exit status.
-fn text_of(
-    alloc: Global,
-    config: GameConfig,
-    players: u8,
-    storm: Storm,
-    telling: Telling,
-) -> Result<(String, u8), AllocError>
-    requires players { IsGame players }
-    requires limit { IsLimit config.limit }
-    ensures { IfOk result (λ shown. IsStorm telling config players storm.seed storm.count storm.calm
-        (string_bytes shown.0) shown.1) }
-{
-    let mut teller = Teller::new(alloc, telling);
-    let mut played = storm_walks(alloc, config, players, storm.seed, storm.count, &mut teller)?;
-    let Some(calm) = storm.calm else {
-        return Ok((teller.finish(&played)?, 0));
-    };
-    if !calm_down(&mut played, calm)? {
-        return Ok((String::from_str(alloc, "too many packets\n")?, 3));
-    }
-    Ok((teller.finish(&played)?, 0))
-}
+/// The line of a calm that was cut short.
+const TOO_MANY: &str = "too many packets\n";
+
+/// The exit status of a calm that was cut short.
+const CUT_SHORT: u8 = 3;
 
 /// Plays the storm, and writes what is told of it.
-fn tell_storm<W: Write>(
+fn tell_storm<T: Telling, W: Write>(
     alloc: Global,
     config: GameConfig,
     players: u8,
     storm: Storm,
-    telling: Telling,
     output: &mut W,
 ) -> Result<u8, RunFault>
     requires players { IsGame players }
     requires limit { IsLimit config.limit }
-    ensures { PrintsOrFails W.contents (IsStorm telling config players storm.seed storm.count storm.calm)
+    ensures { PrintsOrFails W.contents (IsStorm T.account config players storm.seed storm.count storm.calm)
         output.old output.new result }
 {
-    let (text, status) = text_of(alloc, config, players, storm, telling)?;
-    print(output, text.as_bytes(), status)
+    let mut teller = T::new(alloc);
+    let mut played = storm_walks(alloc, config, players, storm.seed, storm.count, &mut teller)?;
+    if !calm_after(&mut played, storm.calm)? {
+        return print(output, TOO_MANY.as_bytes(), CUT_SHORT);
+    }
+    let text = teller.finish(alloc, &played)?;
+    print(output, text.as_bytes(), 0)
 }
 
 /// Plays `count` events of the seed's schedule in a game of `players` new walks, and writes the lines
@@ -83,12 +68,12 @@ pub fn run_storm<W: Write>(
 ) -> Result<u8, RunFault>
     requires players { IsGame players }
     requires limit { IsLimit config.limit }
-    ensures { PrintsOrFails W.contents (IsStorm Quiet config players seed count None) output.old output.new
+    ensures { PrintsOrFails W.contents (IsStorm IsQuiet config players seed count None) output.old output.new
         result }
 {
     let calm = None;
     let storm = Storm { seed, count, calm };
-    tell_storm(alloc, config, players, storm, Telling::Quiet, output)
+    tell_storm::<Nobody, _>(alloc, config, players, storm, output)
 }
 
 /// Plays `count` events of the seed's schedule in a game of `players` new Walks, then `calm` rounds in
@@ -110,12 +95,12 @@ pub fn run_calm<W: Write>(
 ) -> Result<u8, RunFault>
     requires players { IsGame players }
     requires limit { IsLimit config.limit }
-    ensures { PrintsOrFails W.contents (IsStorm Quiet config players seed count (Some calm)) output.old
+    ensures { PrintsOrFails W.contents (IsStorm IsQuiet config players seed count (Some calm)) output.old
         output.new result }
 {
     let calm = Some(calm);
     let storm = Storm { seed, count, calm };
-    tell_storm(alloc, config, players, storm, Telling::Quiet, output)
+    tell_storm::<Nobody, _>(alloc, config, players, storm, output)
 }
 
 /// Does what `run_calm` does, and writes a line for each event of the schedule before the lines of the game:
@@ -132,12 +117,12 @@ pub fn trace_storm<W: Write>(
 ) -> Result<u8, RunFault>
     requires players { IsGame players }
     requires limit { IsLimit config.limit }
-    ensures { PrintsOrFails W.contents (IsStorm Trace config players seed count (Some calm)) output.old
+    ensures { PrintsOrFails W.contents (IsStorm IsTrace config players seed count (Some calm)) output.old
         output.new result }
 {
     let calm = Some(calm);
     let storm = Storm { seed, count, calm };
-    tell_storm(alloc, config, players, storm, Telling::Trace, output)
+    tell_storm::<Trace, _>(alloc, config, players, storm, output)
 }
 
 /// Plays `count` events of the seed's schedule in a game of `players` new walks, and writes them as a script,
@@ -155,10 +140,10 @@ pub fn storm_script<W: Write>(
 ) -> Result<u8, RunFault>
     requires players { IsGame players }
     requires limit { IsLimit config.limit }
-    ensures { PrintsOrFails W.contents (IsStorm Script config players seed count None) output.old output.new
+    ensures { PrintsOrFails W.contents (IsStorm IsScript config players seed count None) output.old output.new
         result }
 {
     let calm = None;
     let storm = Storm { seed, count, calm };
-    tell_storm(alloc, config, players, storm, Telling::Script, output)
+    tell_storm::<Script, _>(alloc, config, players, storm, output)
 }

@@ -1,76 +1,114 @@
-//! What a run tells of a game, by an observer that owns the text.
+//! What a run tells of a game: three ways, each with an observer of its own.
 
-ghost use Rattle.std.specs.Prelude.{◌≡◌, [], ◌++◌, IfOk};
+ghost use Rattle.std.specs.Prelude.{◌≡◌, [], IfOk};
 ghost use Rattle.std.specs.String.{string_bytes};
-ghost use Rattle.dn_netgame.specs.Told.{adds, ending};
+ghost use Rattle.dn_netgame.specs.Told.{Account, IsQuiet, IsTrace, IsScript, AddsTraced, AddsScripted, HasText};
 
-use dn_game::{Done, Event, Observer, Played, Refusal};
+use dn_game::{Done, Event, Nobody, Observer, Played, Refusal};
 use dn_script::push_event_line;
 use dn_text::{push_game, push_trace_line};
 use dn_world::Walk;
 use std::alloc::{AllocError, Global};
 
-/// What a run tells of a game.
-#[derive(Clone, Copy)]
-pub(crate) enum Telling {
-    /// The lines of the game.
-    Quiet,
-    /// A line for each event with its answer, and then the lines of the game.
-    Trace,
-    /// The script of the events alone. It ends a game that leaves out a send for lack of memory, since the
-    /// script would not lead there again.
-    Script,
-}
+/// A way to tell of a game: it is told of each event, and has the text in the end.
+pub(crate) trait Telling: Observer + Drop {
+    // which text it makes of events, their answers and the game that they led to
+    ghost account: { Account };
 
-/// Is told of each event, and has the text so far.
-#[derive(Drop)]
-pub(crate) struct Teller {
-    telling: Telling,
-    text: String,
-}
+    // it was told of nothing
+    ghost is_new: { Self → Type 0 };
 
-impl Teller {
-    /// It has no text yet.
-    pub(crate) fn new(alloc: Global, telling: Telling) -> Teller
-        ensures telling { result.telling ≡ telling }
-        ensures text { string_bytes result.text ≡ [] }
-    {
-        Teller {
-            telling,
-            text: String::new(alloc),
-        }
-    }
+    /// One that was told of nothing yet.
+    fn new(alloc: Global) -> Self
+        ensures { is_new result };
 
     /// The whole text, once the game was played.
-    pub(crate) fn finish(self, played: &Played<Walk>) -> Result<String, AllocError>
-        ensures { IfOk result (λ text. string_bytes text
-            ≡ string_bytes self.text ++ ending self.telling played.now) }
-    {
-        let mut text = self.text;
-        match self.telling {
-            Telling::Quiet | Telling::Trace => push_game(&mut text, played)?,
-            Telling::Script => {}
-        }
+    fn finish(self, alloc: Global, played: &Played<Walk>) -> Result<String, AllocError>
+        ensures { IfOk result
+            (λ text. HasText Self.observes is_new account self played.now (string_bytes text)) };
+}
+
+/// The lines of the game. Nobody is told of its events, which costs no call.
+impl Telling for Nobody {
+    ghost account = { IsQuiet };
+
+    ghost is_new = { λ nobody. Unit {0} };
+
+    fn new(_alloc: Global) -> Nobody {
+        Nobody
+    }
+
+    fn finish(self, alloc: Global, played: &Played<Walk>) -> Result<String, AllocError> {
+        let mut text = String::new(alloc);
+        push_game(&mut text, played)?;
         Ok(text)
     }
 }
 
-impl Observer for Teller {
-    ghost observes = { adds };
+/// A line for each event with its answer, and then the lines of the game.
+#[derive(Drop)]
+pub(crate) struct Trace(String);
 
-    // Where nothing is told of an event, it costs no call.
-    #[inline(always)]
+impl Observer for Trace {
+    ghost observes = { AddsTraced (λ trace. string_bytes trace.0) };
+
     fn observe(
         &mut self,
         number: usize,
         event: Event,
         answer: Result<Done, Refusal>,
     ) -> Result<(), AllocError> {
-        match (self.telling, answer) {
-            (Telling::Quiet, _) => Ok(()),
-            (Telling::Trace, _) => push_trace_line(&mut self.text, number, event, answer),
-            (Telling::Script, Err(Refusal::Memory)) => Err(AllocError),
-            (Telling::Script, _) => push_event_line(&mut self.text, event),
+        push_trace_line(&mut self.0, number, event, answer)
+    }
+}
+
+impl Telling for Trace {
+    ghost account = { IsTrace };
+
+    ghost is_new = { λ trace. string_bytes trace.0 ≡ [] };
+
+    fn new(alloc: Global) -> Trace {
+        Trace(String::new(alloc))
+    }
+
+    fn finish(self, _alloc: Global, played: &Played<Walk>) -> Result<String, AllocError> {
+        let mut text = self.0;
+        push_game(&mut text, played)?;
+        Ok(text)
+    }
+}
+
+/// The script of the events alone. It ends a game that leaves out a send for lack of memory, since the script
+/// would not lead there again.
+#[derive(Drop)]
+pub(crate) struct Script(String);
+
+impl Observer for Script {
+    ghost observes = { AddsScripted (λ script. string_bytes script.0) };
+
+    fn observe(
+        &mut self,
+        _number: usize,
+        event: Event,
+        answer: Result<Done, Refusal>,
+    ) -> Result<(), AllocError> {
+        match answer {
+            Err(Refusal::Memory) => Err(AllocError),
+            _ => push_event_line(&mut self.0, event),
         }
+    }
+}
+
+impl Telling for Script {
+    ghost account = { IsScript };
+
+    ghost is_new = { λ script. string_bytes script.0 ≡ [] };
+
+    fn new(alloc: Global) -> Script {
+        Script(String::new(alloc))
+    }
+
+    fn finish(self, _alloc: Global, _played: &Played<Walk>) -> Result<String, AllocError> {
+        Ok(self.0)
     }
 }

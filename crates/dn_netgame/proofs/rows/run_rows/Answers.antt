@@ -1,15 +1,19 @@
-use Rattle.std.proofs.Common.{rules, ◌++◌, ℕ, List, [], refl, sym, subst, inr, arith, append-nil}
+use Rattle.std.proofs.Common.{rules, ◌≡◌, ◌++◌, ℕ, List, [], sym, subst, inr, arith, append-nil, Err}
 use Rattle.std.specs.String.{string_bytes}
 use Rattle.std.specs.Io.KnownBytes.{Appends, Consumes}
 use Rattle.std.proofs.KnownBytes.{Appends-trans}
 use Rattle.dn_text.specs.RowLines.{lines_of_rows}
+use Rattle.dn_netgame.specs.RowsShown.{ListsWhole}
 use Rattle.dn_netgame.specs.Transfer.{AppendsFront}
-use Rattle.dn_netgame.proofs.RowPieces.{are_rows, front_behind}
+use Rattle.dn_netgame.specs.declared.fault.RunFault.TheVariants.{Write}
+use Rattle.dn_netgame.proofs.RowPieces.{are_rows, rows_shown, front_behind}
 use Rattle.dn_netgame.proofs.rows.run_rows.Goals as goal
 
-pub returns-in_err-text-clause-memory : goal.returns-in_err-text-clause-memory
-returns-in_err-text-clause-memory g c = λ _.
+pub returns-in_err-text-clause-fails : goal.returns-in_err-text-clause-fails
+returns-in_err-text-clause-fails g c =
     let fed = c.in_ok-feed.ensures.shown in
+    let whole : ListsWhole 33554433 (g.R.Read.remaining c.args.input.now) (g.R.Read.remaining c.list_rows.new.input)
+    (g.W.Write.contents c.args.output.now) (g.W.Write.contents c.list_rows.new.output) =
     record {
       bytes = fed.0;
       last = [];
@@ -21,53 +25,40 @@ returns-in_err-text-clause-memory g c = λ _.
       few = omega arith;
       shown = are_rows fed.0 c.in_ok-feed.feed fed.3.0 fed.2 fed.3.1;
       written = fed.3.2;
-    }
+    } in
+    search rules
 
-pub returns-in_err-put-clause-write : goal.returns-in_err-put-clause-write
-returns-in_err-put-clause-write g c = λ _.
+pub returns-in_err-put-clause-fails : goal.returns-in_err-put-clause-fails
+returns-in_err-put-clause-fails g c =
     let fed = c.in_ok-feed.ensures.shown in
     let front : AppendsFront (g.W.Write.contents c.list_rows.new.output) (g.W.Write.contents c.put.new.output)
     (string_bytes c.in_ok-text.text) = search rules in
-    let first = lines_of_rows 0 fed.3.0 in
-    let last = string_bytes c.in_ok-text.text in
-    record {
+    let write : c.from_residual-in_err-put.result ≡ Err Write = search rules in
+    rw write (record {
       bytes = fed.0;
-      lines = first ++ last;
+      lines = lines_of_rows 0 fed.3.0 ++ string_bytes c.in_ok-text.text;
       taken = fed.1.taken;
       within = fed.1.within;
       shown = inr (
         fed.1,
         (
           c.in_ok-text.status,
-          (
-            first,
-            last,
-            are_rows fed.0 c.in_ok-feed.feed fed.3.0 fed.2 fed.3.1,
-            c.in_ok-text.ensures.shown fed.0 fed.2,
-            refl,
-          ),
+          rows_shown fed.0 c.in_ok-feed.feed fed.3.0 _ _ fed.2 fed.3.1
+              (c.in_ok-text.ensures.shown fed.0 fed.2),
         ),
       );
-      written = front_behind _ _ _ first last fed.3.2 front;
-    }
+      written = front_behind _ _ _ _ _ fed.3.2 front;
+    })
 
 pub returns-clause-shown : goal.returns-clause-shown
 returns-clause-shown g c =
     let fed = c.in_ok-feed.ensures.shown in
     let put : Appends (g.W.Write.contents c.list_rows.new.output) (g.W.Write.contents c.put.new.output)
     (string_bytes c.in_ok-text.text) = search rules in
-    let first = lines_of_rows 0 fed.3.0 in
-    let last = string_bytes c.in_ok-text.text in
     record {
       bytes = fed.0;
-      lines = first ++ last;
+      lines = lines_of_rows 0 fed.3.0 ++ string_bytes c.in_ok-text.text;
       taken = fed.1;
-      shown = (
-        first,
-        last,
-        are_rows fed.0 c.in_ok-feed.feed fed.3.0 fed.2 fed.3.1,
-        c.in_ok-text.ensures.shown fed.0 fed.2,
-        refl,
-      );
-      written = Appends-trans _ _ _ first last fed.3.2 put;
+      shown = rows_shown fed.0 c.in_ok-feed.feed fed.3.0 _ _ fed.2 fed.3.1 (c.in_ok-text.ensures.shown fed.0 fed.2);
+      written = Appends-trans _ _ _ _ _ fed.3.2 put;
     }

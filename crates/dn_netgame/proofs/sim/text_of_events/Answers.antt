@@ -1,20 +1,21 @@
-use Rattle.std.proofs.Common.{refl}
+use Rattle.std.proofs.Common.{rules, ◌≡◌, ℕ, length, refl, subst}
 use Rattle.std.proofs.lemmas.Result.{IfOk-weaker}
 use Rattle.std.specs.String.{string_bytes}
+use Rattle.dn_world.specs.Plane.{walking}
+use Rattle.dn_game.specs.Observed.{IsPlayedObserved}
+use Rattle.dn_game.specs.Opening.{rules_in}
 use Rattle.dn_netgame.specs.SimShown.{ArePlayed}
-use Rattle.dn_netgame.proofs.Tracing.{text_told}
 use Rattle.dn_netgame.proofs.sim.text_of_events.Goals as goal
 
-pub returns : goal.returns
-returns c =
+pub returns-in-Ok : goal.returns-in-Ok
+returns-in-Ok g c =
     let a = c.args in
-    let seen = c.in_ok-played.ensures in
+    let all : length c.in_ok-walks.walks.items ≡ a.players = search rules in
+    let By : ℕ → Type 0 = λ players. IsPlayedObserved (λ spots. spots) (rules_in walking a.config players)
+    g.T.Observer.observes a.config.settings a.events.now c.new-teller.result c.play_observed.new.observer c.in-Ok.played in
+    let seen = subst By all c.in-Ok.ensures.promised in
     let p = seen.promised.events_played in
-    IfOk-weaker c.finish.result _ (λ t. ArePlayed a.telling a.config a.players a.events.now (string_bytes t) 0)
-    (λ t whole. (
-      c.in_ok-played.played,
-      p,
-      text_told a.events.now p.answers c.in_ok-played.played _ _ (string_bytes t) c.new-teller.ensures.text
-          seen.observed whole a.telling c.new-teller.ensures.telling,
-      refl,
-    )) c.finish.ensures
+    IfOk-weaker c.finish.result _
+    (λ t. ArePlayed g.T.Telling.account a.config a.players a.events.now (string_bytes t) 0)
+    (λ t has. (c.in-Ok.played, p, has _ a.events.now p.answers c.new-teller.ensures seen.observed, refl))
+    c.finish.ensures
