@@ -247,6 +247,11 @@ static void send_to(int p)
     ZMG_LineSend(&peers[p], bytes, n);
     zmg_bytes_sent += n;
     zmg_datagrams_sent++;
+    n = zmg_link_report(&zmg_the_link, (uint8_t) p, bytes, sizeof bytes);
+    if (n == 0) return;
+    ZMG_LineSend(&peers[p], bytes, n);
+    zmg_bytes_sent += n;
+    zmg_datagrams_sent++;
 }
 
 void ZMG_PeersSend(void)

@@ -34,7 +34,7 @@ void ZMG_PeersHear(void);
 void ZMG_PeersSend(void);
 /* One more to each who wants it. */
 void ZMG_PeersSendSecond(void);
-/* Gives up who has not been heard for so many milliseconds. */
+/* At the end: waits no more for who has not been heard for so many milliseconds. */
 void ZMG_PeersForget(double silence);
 /* When a player was heard last, or 0. */
 double ZMG_PeersHeard(int player);

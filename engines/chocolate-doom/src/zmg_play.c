@@ -23,12 +23,68 @@ extern byte consistancy[MAXPLAYERS][BACKUPTICS];              /* g_game.c */
 extern loop_interface_t *zmg_loop;                            /* d_loop.c */
 extern void (*zmg_update_hook)(void), (*zmg_run_hook)(void);  /* d_loop.c */
 
-enum { BEHIND = 8, STALL = 143, FAREWELL = 10000, AFTERWARDS = 2000, PATIENCE = 2000, FORGET = 5000 };
+enum { BEHIND = 8, STALL = 143, FAREWELL = 10000, AFTERWARDS = 2000, PATIENCE = 2000, FORGET = 5000, ASK = 3000 };
 static const double TICK = 1000.0 / TICRATE;
 
 zmg_options zmg_the_options;
 
 static boolean leaving;
+
+/* ---- players who vanish ---- */
+
+static int missing = -1;   /* for whom the next tic waits, or -1 */
+
+static boolean is_given_up(int p) { return zmg_link_has_given_up(&zmg_the_link, (uint8_t) p) != 0; }
+
+static void give_up(int p)
+{
+    zmg_given_up answer = zmg_link_give_up(&zmg_the_link, (uint8_t) p);
+    if (answer.code == ZMG_GIVE_UP_WAITING || answer.code == ZMG_GIVE_UP_DECIDED)
+        ZMG_Say("the game goes on without player %d", p + 1);
+    if (answer.code == ZMG_GIVE_UP_UNTAKEN) ZMG_Say("what is told of player %d cannot be", answer.player + 1);
+}
+
+/* Whom the game waits for: whoever's command is missing; or, if that player is given up, whoever has not said yet
+ * that it gives up the same players. */
+static int awaited(void)
+{
+    zmg_number undecided = zmg_link_undecided(&zmg_the_link);
+    if (missing < 0 || !is_given_up(missing)) return missing;
+    return undecided.known ? (int) undecided.value : -1;
+}
+
+/* Whom it waits for and has not heard for so long. */
+static int silent(double milliseconds)
+{
+    int p = awaited();
+    if (!zmg_has_begun || p < 0 || p == zmg_the_game.me || is_given_up(p)) return -1;
+    return ZMG_Now() - ZMG_PeersHeard(p) > milliseconds ? p : -1;
+}
+
+/* Players who play on together give up the same: so whom another has given up is given up. */
+static void follow(void)
+{
+    for (int by = 0; by < zmg_the_game.players; by++)
+        for (int p = 0; p < zmg_the_game.players; p++)
+            if (!is_given_up(by) && zmg_link_reports_gone(&zmg_the_link, (uint8_t) by, (uint8_t) p) && !is_given_up(p))
+                give_up(p);
+}
+
+static void see_vanished(void)
+{
+    int p = zmg_the_options.give_up > 0 ? silent(zmg_the_options.give_up) : -1;
+    if (p >= 0) give_up(p);
+    follow();
+}
+
+/* The key that gives up a silent player, while the screen says so. */
+boolean ZMG_Responder(event_t *event)
+{
+    int p = zmg_the_options.on && !leaving ? silent(ASK) : -1;
+    if (p < 0 || event->type != ev_keydown || event->data1 != 'f') return false;
+    give_up(p);
+    return true;
+}
 
 /* ---- a tick ---- */
 
@@ -89,6 +145,7 @@ static void tick(void)
     zmg_loop->RunMenu();
     give();
     later = zmg_link_lean(&zmg_the_link);
+    see_vanished();
     ZMG_PeersSend();
     half_at = ZMG_Now() + TICK / 2;
     half_due = may_run = true;
@@ -119,7 +176,6 @@ static void update(void)
 /* ---- tics ---- */
 
 static double last_run;
-static int missing = -1;
 static boolean has_left[MAXPLAYERS];
 
 static void see_leavers(const zmg_move row[4])
@@ -129,6 +185,7 @@ static void see_leavers(const zmg_move row[4])
         uint8_t cause = zmg_link_presence(&zmg_the_link, (uint8_t) p).cause;
         if (p == zmg_the_game.me || row[p].present || has_left[p]) continue;
         has_left[p] = true;
+        if (is_given_up(p)) continue;
         if (cause == ZMG_CAUSE_INCONSISTENT) ZMG_Say("player %d has left: its world differed", p + 1);
         else if (cause == ZMG_CAUSE_FULL) ZMG_Say("player %d has left: its demo was full", p + 1);
         else ZMG_Say("player %d has left", p + 1);
@@ -241,7 +298,7 @@ static void run(void)
     {
         double now = ZMG_Now();
         if (zmg_the_options.patience > 0 && now - last_run > zmg_the_options.patience)
-            I_Error("zmg: player %d was missing for %.0f s", missing + 1,
+            I_Error("zmg: player %d was missing for %.0f s", awaited() + 1,
                     zmg_the_options.patience / 1000);
         if (now - entered >= STALL) return;
         ZMG_LineWait(1);
@@ -254,7 +311,7 @@ void ZMG_Drawer(void)
 {
     M_Drawer();
     if (!zmg_the_options.on || leaving) return;
-    ZMG_ShowAbove(ZMG_Now() - last_run, missing);
+    ZMG_ShowAbove(ZMG_Now() - last_run, awaited(), silent(ASK) >= 0);
     update();   /* a wipe draws for a second, and asks for nothing else */
 }
 

@@ -4,11 +4,11 @@
 
 #include "doomtype.h"
 
-/* on: there is a netgame of ours. steady: run one tic a tick. patience: milliseconds, or 0. record: the demo's
- * file, or NULL. */
+/* on: there is a netgame of ours. steady: run one tic a tick. patience, give_up: milliseconds, or 0. record: the
+ * demo's file, or NULL. */
 typedef struct {
     boolean on, steady;
-    double patience;
+    double patience, give_up;
     const char *record;
 } zmg_options;
 

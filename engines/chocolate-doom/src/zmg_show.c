@@ -157,24 +157,25 @@ static void show_line_to(int p, int x, int y)
     write_text(x, y, text);
 }
 
-static void show_waiting(double waits, int player, int x, int y)
+static void show_waiting(double waits, int player, boolean asks, int x, int y)
 {
     char text[WIDE];
     double silent = (ZMG_Now() - ZMG_PeersHeard(player)) / 1000;
-    if (silent > 1) M_snprintf(text, WIDE, "waiting for player %d: silent for %.0f s", player + 1, silent);
+    if (asks) M_snprintf(text, WIDE, "player %d does not answer: F to play on without", player + 1);
+    else if (silent > 1) M_snprintf(text, WIDE, "waiting for player %d: silent for %.0f s", player + 1, silent);
     else M_snprintf(text, WIDE, "waiting for player %d for %.0f s", player + 1, waits / 1000);
     write_text(x, y, text);
 }
 
 /* Within the view: the frame around it is not drawn anew with each picture. */
-void ZMG_ShowAbove(double waits, int player)
+void ZMG_ShowAbove(double waits, int player, boolean asks)
 {
     boolean in_view = gamestate == GS_LEVEL;
     int x = in_view ? viewwindowx + 2 : 2, y = in_view ? viewwindowy + 10 : 10;
     if (hu_font[0] == NULL) return;
     if (waits > 1000 && player >= 0)
     {
-        show_waiting(waits, player, x, y);
+        show_waiting(waits, player, asks, x, y);
         y += 8;
     }
     for (int k = 0; k < LINES; k++)

@@ -14,7 +14,7 @@ void ZMG_LobbyShow(void);
 void ZMG_LobbyClose(void);
 
 /* Above the picture: what was said, and who is waited for. waits: since how many milliseconds no tic was run;
- * player: who is missing, or -1. */
-void ZMG_ShowAbove(double waits, int player);
+ * player: who is missing, or -1; asks: whether F plays on without that player. */
+void ZMG_ShowAbove(double waits, int player, boolean asks);
 
 #endif

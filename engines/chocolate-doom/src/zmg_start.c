@@ -7,6 +7,7 @@
  *   -zmg-me N                the place that a joiner asks for, 2 to 4
  *   -zmg-window N            of the host: how many commands may wait to be run, 1 to 12 (8)
  *   -zmg-patience SECONDS    leave once a player was missing for so long (0: wait)
+ *   -zmg-give-up SECONDS     play on without a player who was silent for so long (0: ask)
  *   -zmg-steady              for a line whose delay varies: run one tic a tick, where that leaves no more than one
  *   -zmg-show                show how the line is
  *   -record NAME             the library's demo, in NAME.lmp
@@ -95,6 +96,7 @@ boolean ZMG_Init(void)
     read_key();
     zmg_the_options.steady = M_CheckParm("-zmg-steady") > 0;
     zmg_the_options.patience = number("-zmg-patience", 0, 0, 86400) * 1000.0;
+    zmg_the_options.give_up = number("-zmg-give-up", 0, 0, 86400) * 1000.0;
     port = number("-zmg-port", host > 0 ? PORT : 0, 0, 65535);
     if (!ZMG_LineOpen((uint16_t) port)) I_Error("zmg: port %d cannot be opened", port);
     zmg_the_options.on = true;
