@@ -3,9 +3,8 @@ use Rattle.std.specs.Prelude.{◌≡◌, ℕ, List, All, map, Some, slice_get}
 use Rattle.dn_setup.specs.Settings.{Settings}
 use Rattle.dn_machine.specs.Game.{fresh}
 use Rattle.dn_machine.specs.Worlds.{Rules}
-use Rattle.dn_lockstep.specs.Contents.{Whose}
 use Rattle.dn_node.specs.declared.node.Node.{Node}
-use Rattle.dn_node.specs.Contents.{contents, whose}
+use Rattle.dn_node.specs.Contents.{contents}
 use Rattle.dn_node.specs.Represents.{Represents}
 
 -- each represents a node of no history
@@ -13,10 +12,6 @@ abbrev pub AreFresh : {W S : Type 0} → (W → S) → Rules S → Settings → 
 AreFresh {W} state rules settings nodes =
     (i : ℕ) (n : Node W) → slice_get nodes i ≡ Some n
     → Represents state rules i (contents n) (fresh settings i)
-
--- whose each node is
-abbrev pub whose_of : {W : Type 0} → List (Node W) → List Whose
-whose_of nodes = map (λ n. whose (contents n)) nodes
 
 -- each node's demo has memory for this many bytes
 abbrev pub AreLimited : {W : Type 0} → ℕ → List (Node W) → Type 0

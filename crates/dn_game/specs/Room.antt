@@ -2,7 +2,7 @@
 use Rattle.std.specs.Prelude.{◌≡◌}
 use Rattle.dn_game.specs.declared.game.Game.{Game}
 use Rattle.dn_game.specs.Contents.{Contents, contents}
-use Rattle.dn_game.specs.Fresh.{whose_of}
+use Rattle.dn_node.specs.Contents.{whose_of}
 use Rattle.dn_game.specs.Pool.{Room, IsWithinTwice, LacksRoom}
 
 -- for its packets

@@ -33,7 +33,7 @@ use Rattle.dn_lockstep.proofs.Replaying.{read_back}
 use Rattle.dn_lockstep.proofs.Shown
 
 -- a command with any mark, and what it says of its own
-own_marked : (inputs : List Input) (mark : ℤ) (command : TicCmd) → command ≡ made_by inputs mark
+pub own_marked : (inputs : List Input) (mark : ℤ) (command : TicCmd) → command ≡ made_by inputs mark
     → command ≡ made_by inputs command.mark
 own_marked inputs mark command e =
     e ∙ ap (made_by inputs) (sym (made_by-mark inputs mark) ∙ ap (λ (c : TicCmd). c.mark) (sym e))

@@ -23,7 +23,7 @@ use Rattle.dn_lockstep.proofs.DemoTexts.{tics_of_text, recorded_in_text, command
 use Rattle.dn_lockstep.proofs.RowsMade.{rows_full, move_there, moves_before, made_by_all, is_made, no_more}
 
 -- a list of rows that goes on has commands that go on
-commands_prefix : (rows more : List (List (Option Move))) → IsPrefixOf rows more
+pub commands_prefix : (rows more : List (List (Option Move))) → IsPrefixOf rows more
     → IsPrefixOf (commands_of long_tics rows) (commands_of long_tics more)
 commands_prefix rows more (rest, whole) = (
   commands_of long_tics rest,
@@ -32,11 +32,12 @@ commands_prefix rows more (rest, whole) = (
 )
 
 -- lists that are equal to two of which one is a prefix of the other
-prefix_same : (xs ys one other : List ℕ) → xs ≡ one → ys ≡ other → IsPrefixOf one other → IsPrefixOf xs ys
+pub prefix_same : {A : Type 0} (xs ys one other : List A) → xs ≡ one → ys ≡ other → IsPrefixOf one other
+    → IsPrefixOf xs ys
 prefix_same xs ys one other e f is = rw (e, f) is
 
 -- a demo is empty or is not
-begun_or : (bytes : List ℕ) → (bytes ≢ []) ⊎ (bytes ≡ [])
+pub begun_or : (bytes : List ℕ) → (bytes ≢ []) ⊎ (bytes ≡ [])
 begun_or [] = inr refl
 begun_or (byte ∷ bytes) = inl (λ e. absurd (cc))
 

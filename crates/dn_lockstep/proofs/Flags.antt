@@ -58,7 +58,7 @@ module _ (limits : Limits) (me : ℕ) (m : machine.Node) (from : ℕ)
 
     pub read_killed : packet.player ≡ from → has_flag packet flag.kill ≡ true
         → ◌≡◌ {A = machine.Node × Heard} (on_read limits me m from told (Ok packet))
-        (m, Heard.Dropped drops.killed)
+        (m, Heard.Dropped drops.kill)
     read_killed own kills =
         let on = listens m.phase heard in
         let same = eq-eqb packet.player from own in

@@ -55,11 +55,11 @@ use Rattle.dn_tic.specs.declared.input.Input.{Input}
 use Rattle.dn_machine.specs.Progress.{build_of}
 use Rattle.dn_machine.proofs.Pairs.{accepted_build}
 
-abbrev Rows : Type 0
+abbrev pub Rows : Type 0
 Rows = List (List (Option Move))
 
 -- who is not gone has no end, as a lockstep that has not ended tells it, that is not after the next tic
-not_past : (n : Contents) (p : ℕ) → is_ended n.phase ≡ false → is_gone n.peers n.ran p ≡ false
+pub not_past : (n : Contents) (p : ℕ) → is_ended n.phase ≡ false → is_gone n.peers n.ran p ≡ false
     → is_over (end_in n p) n.ran ≡ false
 not_past n p going here = grind arith
 
@@ -67,12 +67,12 @@ not_past n p going here = grind arith
 abbrev pub IsQuiet : machine.Node → machine.Node → Type 0
 IsQuiet m after = (after.rows ≡ m.rows) × (after.inputs ≡ m.inputs)
 
-build_rows : (limits : Limits) (me : ℕ) (m : machine.Node) (input : Input)
+pub build_rows : (limits : Limits) (me : ℕ) (m : machine.Node) (input : Input)
     → (on_build limits me m input).0.rows ≡ m.rows
 build_rows limits me m input = build_cases limits me m
     (λ (x : machine.Node). x.rows ≡ m.rows) input (λ full. refl) (λ plays free. refl)
 
-send_quiet : (limits : Limits) (me : ℕ) (m : machine.Node) (to : ℕ) → IsQuiet m (sent_to to limits me m).0
+pub send_quiet : (limits : Limits) (me : ℕ) (m : machine.Node) (to : ℕ) → IsQuiet m (sent_to to limits me m).0
 send_quiet limits me m to =
     let P : machine.Node × Option Flight → Type 0 = λ x. IsQuiet m x.0 in
     cond_both (nat_lt to limits.players) _ _ P
@@ -97,7 +97,7 @@ hear_quiet limits me m flight = packet_cases limits me m flight
       requests = λ ended. (refl, refl);
     })
 
-quit_quiet : (limits : Limits) (me : ℕ) (m : machine.Node) → IsQuiet m (on_quit m).0
+pub quit_quiet : (limits : Limits) (me : ℕ) (m : machine.Node) → IsQuiet m (on_quit m).0
 quit_quiet limits me m = quit_cases limits me m (IsQuiet m) (refl, refl) (λ goes_on. (refl, refl))
 
 run_inputs : (limits : Limits) (me : ℕ) (m : machine.Node) (marks : ℕ → ℤ)
@@ -110,7 +110,7 @@ build_inputs_in : (limits : Limits) (me : ℕ) (m : machine.Node) (input : Input
     ≡ taken_on m.inputs input (on_build_in limits me m input phase).1
 build_inputs_in limits me m input phase = grind arith
 
-build_inputs : (limits : Limits) (me : ℕ) (m : machine.Node) (input : Input)
+pub build_inputs : (limits : Limits) (me : ℕ) (m : machine.Node) (input : Input)
     → (on_build limits me m input).0.inputs ≡ taken_on m.inputs input (on_build limits me m input).1
 unfolding on_build
 build_inputs limits me m input = build_inputs_in limits me m input m.phase
@@ -159,7 +159,7 @@ module _ (marking : Marking) (limits : Limits) (settings : Settings) where
   folds history (row ∷ rows) = folds (record history { rows = history.rows ++ row ∷ [] }) rows
       ∙ (λ i. record history { rows = append_assoc history.rows (row ∷ []) rows i })
 
-  own_is : (m : machine.Node) (p : ℕ) → m.settings ≡ Some settings
+  pub own_is : (m : machine.Node) (p : ℕ) → m.settings ≡ Some settings
       → own_marks rules m p ≡ marking (world_told limits settings m.rows) p
   unfolding world_after
   own_is m p known =

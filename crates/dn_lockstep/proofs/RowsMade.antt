@@ -21,7 +21,7 @@ use Rattle.dn_lockstep.proofs.DemoTexts.{AreFull}
 use Rattle.dn_machine.specs.Limits.{row_of}
 
 -- the move at a player's seat is that of the player's command
-seat_at : (players : ℕ) (f : ℕ → Option TicCmd) (p : ℕ) → p < 4
+pub seat_at : (players : ℕ) (f : ℕ → Option TicCmd) (p : ℕ) → p < 4
     → get_or (row_of players f) p None ≡ cond (ltb p players) (option_map used (f p)) None
 unfolding row_of
 seat_at players f zero s = refl

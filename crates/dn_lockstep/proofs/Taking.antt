@@ -57,7 +57,7 @@ module _ (limits : Limits) (me : ℕ) (m : machine.Node) (f : Flight) where
 
   module _ (fits : nat_lt (machine.ran m + limits.places) (end_of f) ≡ false) where
     odd : is_strange_end (is_exit f.kind) (machine.got m f.from) (ends_of m f.from) (end_of f) ≡ true
-        → ◌≡◌ {A = machine.Node × Heard} (on_commands limits me m f) (m, Heard.Dropped drops.strange_end)
+        → ◌≡◌ {A = machine.Node × Heard} (on_commands limits me m f) (m, Heard.Dropped drops.end)
     odd strange = rw (fits, strange) refl
 
     module _ (fine : is_strange_end (is_exit f.kind) (machine.got m f.from) (ends_of m f.from) (end_of f)
@@ -160,8 +160,8 @@ module _ {limits : Limits} {me : ℕ} {n : Contents} {m : machine.Node}
 
         pub odd_shows : is_strange_end exit got (n.peers from).end (start + length commands) ≡ true
             → IsAfter limits me n (on_player limits me m from packet Playing)
-            (λ heard. Heard.Dropped drops.strange_end ≡ heard)
-        odd_shows strange = after m (Heard.Dropped drops.strange_end)
+            (λ heard. Heard.Dropped drops.end ≡ heard)
+        odd_shows strange = after m (Heard.Dropped drops.end)
             (step ∙ odd limits me m f fits (sym odd_is ∙ strange)) r refl
 
         module _ (usual : is_strange_end exit got (n.peers from).end (start + length commands) ≡ false)

@@ -22,8 +22,8 @@ request_in made packet = if has_flag packet flag.retransmit then exact_tic made 
 
 -- the tic at which commands start, if they do at any; or the number of their drop, since none may end a demo
 abbrev pub start_at : Packet → Option ℕ → Result ℕ ℕ
-start_at packet None = Err drops.strange_tic
-start_at packet (Some start) = if list_any is_stop packet.cmds.items then Err drops.stopper else Ok start
+start_at packet None = Err drops.tic
+start_at packet (Some start) = if list_any is_stop packet.cmds.items then Err drops.command else Ok start
 
 -- the tic of a packet's first command, or the number of its drop
 abbrev pub start_in : ℕ → Packet → Result ℕ ℕ

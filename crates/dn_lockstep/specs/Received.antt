@@ -56,13 +56,13 @@ other_flight from me made packet phase =
     then Err drops.stranger
     else (
     if has_flag packet flag.kill
-    then Err drops.killed
+    then Err drops.kill
     else player_flight from me made packet phase))
 
 -- the number of the drop of a set-up packet whose settings a listener cannot take
 abbrev pub setup_drop : SetupFault → ℕ
 setup_drop NotSetup = drops.out_of_place
-setup_drop Version = drops.other_version
+setup_drop Version = drops.version
 setup_drop Range = drops.range
 
 -- the settings that a set-up packet tells

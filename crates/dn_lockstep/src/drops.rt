@@ -1,48 +1,21 @@
-//! The numbers of dropped packets.
+//! Why what cannot be read is dropped.
 
 ghost use Rattle.std.specs.Prelude.{◌≡◌};
 ghost use Rattle.dn_lockstep.specs.Received.{packet_drop, setup_drop};
 
+use dn_machine::Dropped;
 use dn_packet::PacketFault;
 use dn_setup::SetupFault;
-
-const SHORT: u8 = 1;
-
-const MANY: u8 = 2;
-
-const LENGTH: u8 = 3;
-
-const SUM: u8 = 4;
-
-pub(crate) const STRANGER: u8 = 5;
-
-pub(crate) const OUT_OF_PLACE: u8 = 6;
-
-const OTHER_VERSION: u8 = 7;
-
-const RANGE: u8 = 8;
-
-pub(crate) const KILLED: u8 = 9;
-
-pub(crate) const STRANGE_TIC: u8 = 10;
-
-pub(crate) const STOPPER: u8 = 11;
-
-pub(crate) const OVERRUN: u8 = 12;
-
-pub(crate) const NOT_PLAYING: u8 = 13;
-
-pub(crate) const STRANGE_END: u8 = 14;
 
 /// The number of the drop of bytes that are no packet.
 pub(crate) fn packet_drop(fault: PacketFault) -> u8
     ensures { result ≡ packet_drop fault }
 {
     match fault {
-        PacketFault::Short => SHORT,
-        PacketFault::Many => MANY,
-        PacketFault::Length => LENGTH,
-        PacketFault::Sum => SUM,
+        PacketFault::Short => Dropped::Short as u8,
+        PacketFault::Many => Dropped::Many as u8,
+        PacketFault::Length => Dropped::Length as u8,
+        PacketFault::Sum => Dropped::Sum as u8,
     }
 }
 
@@ -51,8 +24,8 @@ pub(crate) fn setup_drop(fault: SetupFault) -> u8
     ensures { result ≡ setup_drop fault }
 {
     match fault {
-        SetupFault::NotSetup => OUT_OF_PLACE,
-        SetupFault::Version => OTHER_VERSION,
-        SetupFault::Range => RANGE,
+        SetupFault::NotSetup => Dropped::OutOfPlace as u8,
+        SetupFault::Version => Dropped::Version as u8,
+        SetupFault::Range => Dropped::Range as u8,
     }
 }

@@ -5,7 +5,7 @@ ghost use Rattle.std.specs.List.{list_any};
 ghost use Rattle.dn_lockstep.specs.Rings.{is_stop};
 ghost use Rattle.dn_lockstep.specs.Reading.{request_in, start_in, has_flag};
 
-use crate::drops::{STOPPER, STRANGE_TIC};
+use dn_machine::Dropped;
 use dn_packet::{Packet, RETRANSMIT};
 use dn_tic::{TicCmd, expand};
 
@@ -31,10 +31,10 @@ pub(crate) fn start(made: u32, packet: &Packet) -> Result<u32, u8>
     ensures no_stop { IfOk result (λ tic. list_any is_stop packet.now.cmds.items ≡ false) }
 {
     let Some(start) = expand(made, packet.start) else {
-        return Err(STRANGE_TIC);
+        return Err(Dropped::Tic as u8);
     };
     if has_stop(packet.cmds.as_slice()) {
-        return Err(STOPPER);
+        return Err(Dropped::Command as u8);
     }
     Ok(start)
 }

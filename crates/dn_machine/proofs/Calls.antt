@@ -90,7 +90,7 @@ module _ (limits : Limits) (me : ℕ) (node : Node) where
     -- why commands are dropped, by the number that is told
     abbrev pub Refused : ℕ → Type 0
     Refused number = ((number ≡ drops.overrun) × (ran node + limits.places < end_of flight))
-        ⊎ ((number ≡ drops.strange_end)
+        ⊎ ((number ≡ drops.end)
         × (is_strange_end (is_exit flight.kind) (got node flight.from) (ends_of node flight.from)
         (end_of flight) ≡ true))
 

@@ -1,5 +1,5 @@
--- The numbers of drops, by what is wrong with a packet.
-use Rattle.std.specs.Prelude.{ℕ}
+-- The drops: the number of each, by what is wrong with what came, and what is printed of it.
+use Rattle.std.specs.Prelude.{ℕ, slice_index_or, List, [], ◌∷◌, codes}
 
 -- its datagram is too short
 abbrev pub short : ℕ
@@ -26,24 +26,24 @@ abbrev pub out_of_place : ℕ
 out_of_place = 6
 
 -- its settings are those of another version of the game
-abbrev pub other_version : ℕ
-other_version = 7
+abbrev pub version : ℕ
+version = 7
 
 -- its settings are out of range
 abbrev pub range : ℕ
 range = 8
 
 -- it tells the node to end the game
-abbrev pub killed : ℕ
-killed = 9
+abbrev pub kill : ℕ
+kill = 9
 
 -- its first tic lies below 0
-abbrev pub strange_tic : ℕ
-strange_tic = 10
+abbrev pub tic : ℕ
+tic = 10
 
 -- it has a command that would end a demo
-abbrev pub stopper : ℕ
-stopper = 11
+abbrev pub command : ℕ
+command = 11
 
 -- there is no room for its commands yet
 abbrev pub overrun : ℕ
@@ -54,5 +54,34 @@ abbrev pub not_playing : ℕ
 not_playing = 13
 
 -- it ends where it cannot
-abbrev pub strange_end : ℕ
-strange_end = 14
+abbrev pub end : ℕ
+end = 14
+
+-- its sender is given up
+abbrev pub given_up : ℕ
+given_up = 15
+
+-- what is printed of each, by its number
+abbrev pub words : List (List ℕ)
+words =
+    []
+    ∷ codes " short"
+    ∷ codes " many"
+    ∷ codes " length"
+    ∷ codes " sum"
+    ∷ codes " stranger"
+    ∷ codes " set-up"
+    ∷ codes " version"
+    ∷ codes " range"
+    ∷ codes " kill"
+    ∷ codes " tic"
+    ∷ codes " command"
+    ∷ codes " overrun"
+    ∷ codes " not playing"
+    ∷ codes " end"
+    ∷ codes " given up"
+    ∷ []
+
+-- what is printed of the drop of this number, or nothing where none has it
+abbrev pub drop_word : ℕ → List ℕ
+drop_word number = slice_index_or words number []

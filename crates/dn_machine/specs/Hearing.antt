@@ -75,7 +75,7 @@ on_commands limits me node flight =
     then (node, Heard.Dropped drops.overrun)
     else (
     if is_strange_end exit (got node from) (ends_of node from) (end_of flight)
-    then (node, Heard.Dropped drops.strange_end)
+    then (node, Heard.Dropped drops.end)
     else (
     let peer = after_flight limits.places (made me node) (node.peers from) flight in
     if nat_le (end_of flight) (got node from)

@@ -5,3 +5,4 @@ pub mod Building
 pub mod Hearing
 pub mod Running
 pub mod Replaying
+pub mod Whose

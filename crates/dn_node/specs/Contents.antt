@@ -1,5 +1,5 @@
 -- What a node holds: what its lockstep does, and its world.
-use Rattle.std.specs.Prelude.{ℕ, Option}
+use Rattle.std.specs.Prelude.{ℕ, List, map, Option}
 use Rattle.dn_lockstep.specs.Contents as lockstep_of
 use Rattle.dn_node.specs.declared.node.Node.{Node}
 
@@ -22,6 +22,10 @@ contents node = with_world (lockstep_of.contents node.lockstep) node.world
 -- whose a node is
 abbrev pub whose : {W : Type 0} → Contents W → lockstep_of.Whose
 whose n = lockstep_of.whose (locked n)
+
+-- whose each of these nodes is
+abbrev pub whose_of : {W : Type 0} → List (Node W) → List lockstep_of.Whose
+whose_of nodes = map (λ n. whose (contents n)) nodes
 
 -- a player's end as the node knows it
 abbrev pub end_in : {W : Type 0} → Contents W → ℕ → Option ℕ

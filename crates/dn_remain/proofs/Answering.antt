@@ -5,11 +5,12 @@ use Rattle.std.specs.Option.{option_or}
 use Rattle.std.proofs.lemmas.Bool.{both_ways, cases_Bool, cond-true, true≢false}
 use Rattle.dn_machine.specs.Limits.{Limits}
 use Rattle.dn_machine.specs.Node.{got, ends_of, lowest}
+use Rattle.dn_machine.specs.Drops as drops
 use Rattle.dn_vanish.specs.Calls.{every, is_heard, is_newer}
 use Rattle.dn_vanish.specs.Commands.{seen}
 use Rattle.dn_remain.specs.declared.events.GivenUp.{GivenUp}
 use Rattle.dn_remain.specs.declared.events.Reported.{Reported}
-use Rattle.dn_remain.specs.Wary.{Report, Wary, report_of, newest_seen, can_settle, from_given_up, after_news, with_gone, with_report, is_in_game, on_give_up, on_report, undecided}
+use Rattle.dn_remain.specs.Wary.{Report, Wary, report_of, newest_seen, can_settle, after_news, with_gone, with_report, is_in_game, on_give_up, on_report, undecided}
 
 module _ (limits : Limits) (me : ℕ) (wary : Wary) where
   -- it knows the ends of all whom it has given up, and has the commands before them
@@ -42,7 +43,7 @@ module _ (limits : Limits) (me : ℕ) (wary : Wary) where
   report_waits from report h = grind arith
 
   pub barred : (from : ℕ) (report : Report) → is_in_game wary.node.phase ≡ true → wary.gone from ≡ true
-      → on_report limits me wary from report ≡ (wary, Reported.Dropped from_given_up)
+      → on_report limits me wary from report ≡ (wary, Reported.Dropped drops.given_up)
   unfolding on_report
   barred from report e f = grind arith
 

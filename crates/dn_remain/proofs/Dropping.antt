@@ -18,7 +18,6 @@ use Rattle.dn_vanish.specs.Commands.{Holder, Had, seen, past_seen}
 use Rattle.dn_vanish.proofs.Fitting.{fits}
 use Rattle.dn_vanish.proofs.Handing.{was_seen}
 use Rattle.dn_remain.specs.Seen.{end_seen, now_of}
-use Rattle.dn_remain.specs.Wary.{from_given_up}
 use Rattle.dn_remain.specs.Remaining.{Remaining, heard_of}
 use Rattle.dn_remain.proofs.Arriving.{end_is, made_it, below_made}
 use Rattle.dn_remain.proofs.Followed.{anchored}
@@ -39,7 +38,7 @@ same_number a b e = cc
 
 heard_cases : (limits : Limits) (all : Remaining) (flight : Flight) (number : ℕ)
     → heard_of limits all flight ≡ Dropped number
-    → ((number ≡ from_given_up) × (all.gone flight.to flight.from ≡ true))
+    → ((number ≡ drops.given_up) × (all.gone flight.to flight.from ≡ true))
     ⊎ ((all.gone flight.to flight.from ≡ false)
     × ((on_packet limits flight.to (all.game.nodes flight.to) flight).1 ≡ Dropped number))
 heard_cases limits all flight number h = grind arith
@@ -136,7 +135,7 @@ module _ {S : Type 0} (rules : Rules S) (settings : Settings) (all : Remaining) 
   pub kept : (which : ℕ) (flight : Flight) (number : ℕ) → slice_get all.game.flights which ≡ Some flight
       → heard_of rules.limits all flight ≡ Dropped number
       → (number ≡ drops.out_of_place) ⊎ ((number ≡ drops.not_playing)
-      ⊎ ((number ≡ from_given_up) × (all.gone flight.to flight.from ≡ true)))
+      ⊎ ((number ≡ drops.given_up) × (all.gone flight.to flight.from ≡ true)))
   kept which flight number at e = elim (heard_cases rules.limits all flight number e) [
     | inl given ↦ inr (inr given)
     | inr heard ↦ elim (packet_kept flight (follows.flights which flight at) heard.0 number heard.1) [

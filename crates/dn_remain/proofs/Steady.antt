@@ -21,7 +21,7 @@ use Rattle.dn_vanish.proofs.Handing.{was_seen}
 use Rattle.dn_vanish.proofs.Undecided.{steady}
 use Rattle.dn_remain.specs.declared.events.Reported.TheVariants as Reported
 use Rattle.dn_remain.specs.Seen.{now_of}
-use Rattle.dn_remain.specs.Wary.{Report, Wary, from_given_up, newest_seen, can_settle, on_report}
+use Rattle.dn_remain.specs.Wary.{Report, Wary, newest_seen, can_settle, on_report}
 use Rattle.dn_remain.specs.Remaining.{Telling, Remaining, wary_of}
 use Rattle.dn_remain.specs.Promise.{SteadyInPairs}
 use Rattle.dn_remain.proofs.Answering.{missing}
@@ -37,7 +37,7 @@ use Rattle.dn_remain.proofs.Seeing.{reached_cases}
 -- why a report is dropped, and of what it is older
 dropped_for : (limits : Limits) (me : ℕ) (wary : Wary) (from : ℕ) (report : Report) (number : ℕ)
     → (on_report limits me wary from report).1 ≡ Reported.Dropped number
-    → (number ≡ drops.not_playing) ⊎ ((number ≡ from_given_up) × (wary.gone from ≡ true))
+    → (number ≡ drops.not_playing) ⊎ ((number ≡ drops.given_up) × (wary.gone from ≡ true))
 unfolding on_report
 dropped_for limits me wary from report number h = grind arith
 

@@ -17,7 +17,7 @@ use Rattle.dn_machine.specs.Worlds.{Rules, world_after}
 use Rattle.dn_vanish.specs.Node.{Within, is_over}
 use Rattle.dn_remain.specs.declared.events.Reported.TheVariants as Reported
 use Rattle.dn_remain.specs.Seen.{end_seen, holder_of, row_had}
-use Rattle.dn_remain.specs.Wary.{Report, from_given_up, on_report, undecided}
+use Rattle.dn_remain.specs.Wary.{Report, on_report, undecided}
 use Rattle.dn_remain.specs.Remaining.{Telling, Remaining, wary_of, heard_of}
 
 -- two players of the game, of whom neither has given up the other; one of them may have left
@@ -146,12 +146,12 @@ pub record SteadyInPairs (limits : Limits) (all : Remaining) : Type 0 where
   pub kept : (which : ℕ) (flight : Flight) (number : ℕ) → slice_get all.game.flights which ≡ Some flight
       → heard_of limits all flight ≡ Dropped number
       → (number ≡ drops.out_of_place) ⊎ ((number ≡ drops.not_playing)
-      ⊎ ((number ≡ from_given_up) × (all.gone flight.to flight.from ≡ true)))
+      ⊎ ((number ≡ drops.given_up) × (all.gone flight.to flight.from ≡ true)))
   -- a report is dropped only by a node that does not play, or by one that has given up its sender
   pub reports : (which : ℕ) (telling : Telling) (number : ℕ) → slice_get all.reports which ≡ Some telling
       → (on_report limits telling.to (wary_of all telling.to) telling.from telling.report).1
       ≡ Reported.Dropped number
-      → (number ≡ drops.not_playing) ⊎ ((number ≡ from_given_up)
+      → (number ≡ drops.not_playing) ⊎ ((number ≡ drops.given_up)
       × (all.gone telling.to telling.from ≡ true))
   -- and of one that is stale the newest of its sender tells all and more
   pub stale : (which : ℕ) (telling : Telling) → slice_get all.reports which ≡ Some telling

@@ -11,8 +11,9 @@ use Rattle.dn_machine.specs.Hearing.{on_packet}
 use Rattle.dn_machine.specs.Node.{put}
 use Rattle.dn_machine.specs.Limits.{Limits}
 use Rattle.dn_machine.specs.Worlds.{Rules}
-use Rattle.dn_remain.specs.Wary.{Report, Wary, from_given_up, on_give_up, on_report, report_to}
+use Rattle.dn_remain.specs.Wary.{Report, Wary, on_give_up, on_report, report_to}
 use Rattle.dn_machine.specs.Running.{on_run_but}
+use Rattle.dn_machine.specs.Drops as drops
 
 -- a report under way: who tells it to whom, and what
 pub record Telling : Type 0 where
@@ -96,7 +97,7 @@ is_barred all _ = false
 abbrev pub heard_of : Limits → Remaining → Flight → Heard
 heard_of limits all flight =
     if all.gone flight.to flight.from
-    then Heard.Dropped from_given_up
+    then Heard.Dropped drops.given_up
     else (on_packet limits flight.to (all.game.nodes flight.to) flight).1
 
 -- the game after a run, which compares no mark of a player whom its node has given up

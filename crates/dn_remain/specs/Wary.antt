@@ -27,10 +27,6 @@ pub record Wary : Type 0 where
   pub gone : ℕ → Bool
   pub newest : ℕ → Option Report
 
--- the number of the drop of what comes from one who was given up
-abbrev pub from_given_up : ℕ
-from_given_up = 15
-
 -- what it has
 abbrev pub report_of : Wary → Report
 report_of wary = holder_of wary.node wary.gone
@@ -121,7 +117,7 @@ on_report limits me wary from report =
     then (wary, Reported.Dropped drops.not_playing)
     else (
     if wary.gone from
-    then (wary, Reported.Dropped from_given_up)
+    then (wary, Reported.Dropped drops.given_up)
     else (
     if report.gone me
     then (wary, Reported.Excluded)

@@ -3,6 +3,7 @@
 ghost use Rattle.std.specs.Prelude.{◌≡◌, ◌<◌, ℕ, ℤ, Bool, None, List, [], ◌∷◌, true, false, Some, get_or, map};
 ghost use Rattle.dn_tic.specs.declared.command.TicCmd.{TicCmd};
 ghost use Rattle.dn_setup.specs.Settings.{Settings};
+ghost use Rattle.dn_machine.specs.Drops as drops;
 ghost use Rattle.dn_machine.specs.declared.events.Event.{Event};
 ghost use Rattle.dn_machine.specs.Game.{Game};
 ghost use Rattle.dn_machine.specs.Limits.{Limits, IsWindow, vanilla_limits};
@@ -178,7 +179,7 @@ pub fn answers_are_true()
         → (r : ℕ) × (undecided limits me (on_report limits me wary from report).0 ≡ Some r) }
     ensures barred { (limits : Limits) (me from : ℕ) (wary : Wary) (report : Report)
         → is_in_game wary.node.phase ≡ true → wary.gone from ≡ true
-        → on_report limits me wary from report ≡ (wary, Reported.Dropped 15) }
+        → on_report limits me wary from report ≡ (wary, Reported.Dropped drops.given_up) }
     ensures excluded { (limits : Limits) (me from : ℕ) (wary : Wary) (report : Report)
         → is_in_game wary.node.phase ≡ true → wary.gone from ≡ false → report.gone me ≡ true
         → on_report limits me wary from report ≡ (wary, Reported.Excluded) }

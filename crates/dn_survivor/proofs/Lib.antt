@@ -11,7 +11,6 @@ pub mod Ended
 pub mod Taken
 pub mod Refusing
 pub mod Decided
-pub mod Runs
 pub mod Quiet
 pub mod OneGame
 pub mod Moves

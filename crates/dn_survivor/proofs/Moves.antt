@@ -1,10 +1,9 @@
 -- Rows of the moves that inputs make.
-use Rattle.std.proofs.Common.{◌≡◌, ◌<◌, ℕ, zero, suc, ℤ, Bool, true, false, cond, List, [], ◌∷◌, length, get_or, refl, ap, sym, ◌∙◌, Option, Some, None, arith, ltb, inl, inr}
+use Rattle.std.proofs.Common.{◌≡◌, ◌<◌, ℕ, ℤ, Bool, true, false, cond, List, [], ◌∷◌, length, get_or, refl, ap, ◌∙◌, Option, Some, None, arith, ltb, inl, inr}
 use Rattle.std.specs.Prelude.{if◌then◌else◌}
 use Rattle.std.specs.Option.{option_map}
 use Rattle.std.specs.List.{take_while}
 use Rattle.std.proofs.lemmas.Bool.{cases_Bool, cond-true, lt-ltb}
-use Rattle.std.proofs.lemmas.Grind.{flat_map-append}
 use Rattle.std.proofs.lemmas.List.{get_or-take}
 use Rattle.std.proofs.lemmas.List.Folds.{length-prefix_len}
 use Rattle.dn_tic.specs.Pressed.{pressed}
@@ -14,11 +13,9 @@ use Rattle.dn_tic.specs.declared.command.TicCmd.{TicCmd}
 use Rattle.dn_tic.specs.declared.command.Move.{Move}
 use Rattle.dn_tic.specs.declared.input.Input.{Input}
 use Rattle.dn_tic.specs.declared.input.Input.TheVariants.{Pressed, Given}
-use Rattle.dn_demo.specs.Layout.{long_tics}
-use Rattle.dn_demo.specs.Text.{row_bytes, commands_of}
 use Rattle.dn_machine.specs.Limits.{row_of}
 use Rattle.dn_machine.specs.Node.{lacks}
-use Rattle.dn_machine.specs.Promise.{IsPrefixOf}
+use Rattle.dn_lockstep.proofs.RowsMade.{seat_at}
 
 -- no move has a mark
 used_of : (input : Input) (inputs : List Input) (a b : ℤ)
@@ -48,16 +45,6 @@ module _ (players : ℕ) (one other : ℕ → Option TicCmd)
   unfolding row_of
   row_alike = λ i. seat 0 i ∷ seat 1 i ∷ seat 2 i ∷ seat 3 i ∷ []
 
--- the move at a player's seat is that of the player's command
-seat_at : (players : ℕ) (f : ℕ → Option TicCmd) (p : ℕ) → p < 4
-    → get_or (row_of players f) p None ≡ cond (ltb p players) (option_map used (f p)) None
-unfolding row_of
-seat_at players f zero s = refl
-seat_at players f (suc zero) s = refl
-seat_at players f (suc (suc zero)) s = refl
-seat_at players f (suc (suc (suc zero))) s = refl
-seat_at players f (suc (suc (suc (suc p)))) s = absurd (omega arith)
-
 -- of a player whom the row does not lack
 pub seat_there : (players : ℕ) (over : Bool) (c : TicCmd) (f : ℕ → Option TicCmd) (p : ℕ) → p < 4 → p < players
     → f p ≡ (if over then None else Some c) → lacks (row_of players f) p ≡ false
@@ -72,16 +59,3 @@ seat_there players false c f p four low is there =
 pub front_at : (test : List (Option Move) → Bool) (rows : List (List (Option Move))) (tic : ℕ)
     → tic < length (take_while test rows) → get_or (take_while test rows) tic [] ≡ get_or rows tic []
 front_at test rows tic l = grind (arith, length-prefix_len, get_or-take)
-
--- a list of rows that goes on has commands that go on
-pub commands_prefix : (rows more : List (List (Option Move))) → IsPrefixOf rows more
-    → IsPrefixOf (commands_of long_tics rows) (commands_of long_tics more)
-commands_prefix rows more (rest, whole) = (
-  commands_of long_tics rest,
-  sym (flat_map-append (row_bytes long_tics) rows rest) ∙ ap (commands_of long_tics) whole,
-)
-
--- lists that are equal to two of which one is a prefix of the other
-pub prefix_same : {A : Type 0} (xs ys one other : List A) → xs ≡ one → ys ≡ other → IsPrefixOf one other
-    → IsPrefixOf xs ys
-prefix_same xs ys one other e f is = rw (e, f) is

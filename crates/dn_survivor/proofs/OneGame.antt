@@ -10,6 +10,7 @@ use Rattle.dn_tic.specs.declared.input.Input.{Input}
 use Rattle.dn_tic.specs.declared.input.Input.TheVariants.{Pressed, Given as Handed}
 use Rattle.dn_report.specs.declared.report.Report.{Report as Told}
 use Rattle.dn_setup.specs.Settings.{Settings}
+use Rattle.dn_machine.specs.Drops as drops
 use Rattle.dn_machine.specs.declared.answers.Heard.{Heard}
 use Rattle.dn_machine.specs.declared.answers.Made.{Made}
 use Rattle.dn_machine.specs.declared.answers.Ran.{Ran}
@@ -43,8 +44,8 @@ use Rattle.dn_lockstep.specs.Session.{given_on, taken_on, told_on}
 use Rattle.dn_lockstep.specs.Steps.{Steps, Tells, IsAfter}
 use Rattle.dn_lockstep.specs.Told.{made}
 use Rattle.dn_lockstep.proofs.Counting.{got_is}
-use Rattle.dn_lockstep.proofs.OneGame.{IsQuiet, hear_quiet, sent_between}
-use Rattle.dn_lockstep.proofs.Running.{kept_same}
+use Rattle.dn_lockstep.proofs.OneGame.{IsQuiet, Rows, build_inputs, build_rows, hear_quiet, not_past, own_is, quit_quiet, send_quiet, sent_between}
+use Rattle.dn_lockstep.proofs.Running.{but_same, but_tells, kept_same}
 use Rattle.dn_others.specs.Keeping.{nothing_kept}
 use Rattle.dn_others.specs.Represents as others
 use Rattle.dn_vanish.specs.Commands.{Holder}
@@ -67,16 +68,10 @@ use Rattle.dn_survivor.specs.Telling.{report_for}
 use Rattle.dn_survivor.specs.declared.answers.GivenUp.{GivenUp}
 use Rattle.dn_survivor.specs.declared.answers.Reported.{Reported}
 use Rattle.dn_survivor.proofs.Decided.{gone_can, told_can}
-use Rattle.dn_survivor.proofs.Quiet.{build_inputs, build_rows, give_up_quiet, quit_quiet, report_quiet, send_quiet}
+use Rattle.dn_survivor.proofs.Quiet.{give_up_quiet, report_quiet, run_inputs}
 use Rattle.dn_survivor.proofs.Reports as telling
-use Rattle.dn_survivor.proofs.Runs.{Rows, own_is, run_inputs, run_same, run_tells}
 use Rattle.dn_survivor.proofs.Steps as steps
 use Rattle.dn_survivor.proofs.Waries as waries
-
--- who is not gone has no end, as a lockstep that has not ended tells it, that is not after the next tic
-not_past : (n : Contents) (p : ℕ) → is_ended n.phase ≡ false → is_gone n.peers n.ran p ≡ false
-    → is_over (end_in n p) n.ran ≡ false
-not_past n p going here = grind arith
 
 -- one more event
 one_more : {S : Type 0} (rules : Rules S) (events : List RemainEvent) (event : RemainEvent) (all mid last : Remaining)
@@ -364,7 +359,7 @@ module _ (marking : Marking) (limits : Limits) (settings : Settings) where
           others_same in
           let same : ◌≡◌ {A = machine.Node × Ran} (on_run_but limits gone m (marks_in marks))
           (on_run_but limits gone m (own_marks rules m)) =
-          run_same limits gone m (marks_in marks) (own_marks rules m) (λ tic plays tells.
+          but_same limits gone m (marks_in marks) (own_marks rules m) (λ tic plays tells.
           kept_same limits m (marks_in marks) (own_marks rules m) (λ p below present.
           duty tic p (after.1 ∙ tells) below
           (not_past n p (ap is_ended (r.stands.phase ∙ plays))
@@ -377,7 +372,7 @@ module _ (marking : Marking) (limits : Limits) (settings : Settings) where
           let shows = subst (λ (x : machine.Node × Ran). Represents limits i new
           (record (wary_of game.last i) { node = x.0 })) same after.0 in
           let tells : (on_run_but limits gone m (own_marks rules m)).0.rows ≡ told_on (session.told i) row =
-          run_tells limits gone m (own_marks rules m)
+          but_tells limits gone m (own_marks rules m)
           ∙ ap (λ (x : machine.Node × Ran). told_on m.rows (row_told limits m x.1)) (sym same)
           ∙ ap (told_on m.rows) (sym after.2)
           ∙ ap (λ (rows : Rows). told_on rows row) (game.rows i) in
@@ -639,7 +634,7 @@ module _ (marking : Marking) (limits : Limits) (settings : Settings) where
               (ap (refused_flight game.last.game) given_there ∙ accepted_there)
               ∙ ap (λ (o : Option Flight). (delivered rules game.last.game o).0) given_there
 
-          pub hears : (has_given_up (session.survivors packet.to) packet.from ≡ true → heard ≡ Heard.Dropped 15)
+          pub hears : (has_given_up (session.survivors packet.to) packet.from ≡ true → heard ≡ Heard.Dropped drops.given_up)
               → Spares (session.survivors packet.to) new heard
               → new.others ≡ (session.survivors packet.to).others
               → AreRemaining marking limits settings (with_survivor session packet.to new)

@@ -10,7 +10,6 @@ use Rattle.dn_tic.specs.Inputs.{made_by}
 use Rattle.dn_tic.specs.declared.command.Move.{Move}
 use Rattle.dn_tic.specs.declared.command.TicCmd.{TicCmd}
 use Rattle.dn_tic.specs.declared.input.Input.{Input}
-use Rattle.dn_tic.proofs.Making.{made_by-mark}
 use Rattle.dn_setup.specs.Settings.{Settings}
 use Rattle.dn_setup.specs.Starts.{start_of}
 use Rattle.dn_demo.specs.Layout.{long_tics, command_size}
@@ -29,7 +28,9 @@ use Rattle.dn_lockstep.specs.Marking.{Marking}
 use Rattle.dn_lockstep.specs.Represents as lockstep
 use Rattle.dn_lockstep.specs.Rows.{seats_of}
 use Rattle.dn_lockstep.specs.Told.{HasStarted, command_told, got, made}
+use Rattle.dn_lockstep.proofs.Agreeing.{own_marked}
 use Rattle.dn_lockstep.proofs.DemoTexts.{AreFull, recorded_in_text}
+use Rattle.dn_lockstep.proofs.DemosAgreeing.{begun_or, commands_prefix, prefix_same}
 use Rattle.dn_lockstep.proofs.Replaying.{read_back}
 use Rattle.dn_lockstep.proofs.Seats.{seats_whole}
 use Rattle.dn_lockstep.proofs.Shown
@@ -52,20 +53,9 @@ use Rattle.dn_survivor.specs.OneGame.{AreRemaining}
 use Rattle.dn_survivor.specs.Represents.{Represents}
 use Rattle.dn_survivor.specs.Session.{Given, Session}
 use Rattle.dn_survivor.specs.Surviving.{Surviving, end_settled, has_given_up}
-use Rattle.dn_survivor.proofs.Moves.{commands_prefix, front_at, prefix_same, row_alike, seat_there, used_same}
+use Rattle.dn_survivor.proofs.Moves.{front_at, row_alike, seat_there, used_same}
 use Rattle.dn_survivor.proofs.OneGame as game_of
 use Rattle.dn_survivor.proofs.OneGame.{rules}
-
--- a command with any mark, and what it says of its own
-own_marked : (inputs : List Input) (mark : ℤ) (command : TicCmd) → command ≡ made_by inputs mark
-    → command ≡ made_by inputs command.mark
-own_marked inputs mark command e =
-    e ∙ ap (made_by inputs) (sym (made_by-mark inputs mark) ∙ ap (λ (c : TicCmd). c.mark) (sym e))
-
--- a demo is empty or is not
-begun_or : (bytes : List ℕ) → (bytes ≢ []) ⊎ (bytes ≡ [])
-begun_or [] = inr refl
-begun_or (byte ∷ bytes) = inl (λ e. absurd (cc))
 
 none_recorded : (n : Contents) → n.demo.bytes ≡ [] → recorded n ≡ []
 none_recorded n none = grind arith

@@ -27,7 +27,7 @@ use Rattle.dn_others.proofs.Agreeing as agreeing
 use Rattle.dn_others.proofs.Keeping as keeping
 use Rattle.dn_remain.specs.declared.events.GivenUp as remain_given
 use Rattle.dn_remain.specs.declared.events.Reported as remain_reported
-use Rattle.dn_remain.specs.Wary.{Report, Wary, after_news, can_settle, from_given_up, is_in_game, newest_seen, noted_gone, on_give_up, on_report, with_gone, with_report}
+use Rattle.dn_remain.specs.Wary.{Report, Wary, after_news, can_settle, is_in_game, newest_seen, noted_gone, on_give_up, on_report, with_gone, with_report}
 use Rattle.dn_survivor.specs.declared.answers.Ends.{Ends}
 use Rattle.dn_survivor.specs.declared.answers.GivenUp.{GivenUp}
 use Rattle.dn_survivor.specs.declared.answers.Reported.{Reported}
@@ -304,7 +304,7 @@ module _ (limits : Limits) (me : ℕ) (old new : Surviving) (wary : Wary) (r : R
             | inl gone ↦
                 let is : reported_as old.lockstep.players old.lockstep.me old.others from report
                 ≡ noted.Reported.GivenUp = note ∙ rw gone refl in
-                unheard (remain_reported.Reported.Dropped from_given_up) (rw (both, another, is) refl)
+                unheard (remain_reported.Reported.Dropped drops.given_up) (rw (both, another, is) refl)
                 (rw (here, gone) refl) h
             | inr stays ↦ elim (cases_Bool (holder.gone me)) [
               | inl out ↦

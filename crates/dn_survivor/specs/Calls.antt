@@ -10,7 +10,7 @@ use Rattle.dn_lockstep.specs.Sent.{sent_to}
 use Rattle.dn_lockstep.specs.Settling.{is_no_peer, on_excuse}
 use Rattle.dn_lockstep.specs.Steps.{Steps}
 use Rattle.dn_vanish.specs.Calls.{is_heard}
-use Rattle.dn_remain.specs.Wary.{from_given_up, is_in_game}
+use Rattle.dn_remain.specs.Wary.{is_in_game}
 use Rattle.dn_others.specs.declared.others.Others.{Others}
 use Rattle.dn_others.specs.declared.hearing.Reported as others
 use Rattle.dn_others.specs.Keeping.{has, nodes_of, own_of}
@@ -59,7 +59,7 @@ GivesUp player old new result = GivesUpUnless (refused_give_up old player) playe
 -- why a report is not kept, by what is kept of the others
 abbrev pub unkept : others.Reported → Option Reported
 unkept others.Reported.Kept = None
-unkept others.Reported.GivenUp = Some (Reported.Dropped from_given_up)
+unkept others.Reported.GivenUp = Some (Reported.Dropped drops.given_up)
 unkept others.Reported.Excluded = Some Reported.Excluded
 unkept others.Reported.Improper = Some Reported.Improper
 unkept others.Reported.Stale = Some Reported.Stale

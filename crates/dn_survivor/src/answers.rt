@@ -8,6 +8,7 @@ ghost use Rattle.dn_survivor.specs.declared.answers.GivenUp.TheVariants as Given
 ghost use Rattle.dn_survivor.specs.declared.answers.Reported.TheVariants as Reported;
 
 use dn_lockstep::Settled;
+use dn_machine::Dropped;
 use dn_others::Reported as Noted;
 
 /// What a survivor answers that is told to give up a player.
@@ -110,18 +111,9 @@ pub(crate) fn unkept(noted: Noted) -> Option<Reported>
 {
     match noted {
         Noted::Kept => None,
-        Noted::GivenUp => Some(Reported::Dropped(FROM_GIVEN_UP)),
+        Noted::GivenUp => Some(Reported::Dropped(Dropped::GivenUp as u8)),
         Noted::Excluded => Some(Reported::Excluded),
         Noted::Improper => Some(Reported::Improper),
         Noted::Stale => Some(Reported::Stale),
     }
 }
-
-/// The number of the drop of what comes from one who is no other player.
-pub(crate) const STRANGER: u8 = 5;
-
-/// Of what comes to one that does not play.
-pub(crate) const NOT_PLAYING: u8 = 13;
-
-/// And of what comes from one who is given up.
-pub(crate) const FROM_GIVEN_UP: u8 = 15;

@@ -7,6 +7,7 @@ ghost use Rattle.dn_tic.specs.declared.command.Move.{Move};
 ghost use Rattle.dn_tic.specs.declared.input.Input.{Input};
 ghost use Rattle.dn_setup.specs.Settings.{Settings};
 ghost use Rattle.dn_report.specs.declared.report.Report.{Report};
+ghost use Rattle.dn_machine.specs.Drops as drops;
 ghost use Rattle.dn_machine.specs.declared.answers.Heard.{Heard};
 ghost use Rattle.dn_machine.specs.declared.answers.Made.{Made};
 ghost use Rattle.dn_machine.specs.declared.answers.Ran.{Ran};
@@ -89,7 +90,7 @@ pub fn remaining_game_goes_on()
         → is_near (made (session.survivors packet.to).lockstep) packet ≡ true
         → (has_given_up (session.survivors packet.to) packet.from ≡ false
         → HearsNear packet.from (bytes_of packet) (session.survivors packet.to).lockstep new.lockstep heard)
-        → (has_given_up (session.survivors packet.to) packet.from ≡ true → heard ≡ Heard.Dropped 15)
+        → (has_given_up (session.survivors packet.to) packet.from ≡ true → heard ≡ Heard.Dropped drops.given_up)
         → Spares (session.survivors packet.to) new heard
         → new.others ≡ (session.survivors packet.to).others
         → AreRemaining marking limits settings (with_survivor session packet.to new) }

@@ -10,8 +10,6 @@
 
 mod agreeing;
 mod answers;
-#[cfg(test)]
-mod crash_tests;
 mod deciding;
 mod decisions;
 mod game;
@@ -22,8 +20,6 @@ mod lending;
 mod playing;
 mod survivor;
 mod telling;
-#[cfg(test)]
-mod tests;
 
 pub use agreeing::{
     decisions_are_taken, given_reports_are_heard, survivors_agree, unsettled_ends_lack_a_report,

@@ -1,10 +1,11 @@
 -- Answers in words.
-use Rattle.std.specs.Prelude.{ℕ, pos, slice_index_or, Bool, true, false, List, [], ◌∷◌, ◌++◌, codes, Result, Ok, Err}
+use Rattle.std.specs.Prelude.{ℕ, pos, Bool, true, false, List, [], ◌∷◌, ◌++◌, codes, Result, Ok, Err}
 use Rattle.dn_machine.specs.declared.answers.Made.{Made}
 use Rattle.dn_machine.specs.declared.answers.Heard.{Heard}
 use Rattle.dn_machine.specs.declared.answers.Ran.{Ran}
 use Rattle.dn_machine.specs.declared.events.Done.{Done}
 use Rattle.dn_machine.specs.declared.events.Refusal.{Refusal}
+use Rattle.dn_machine.specs.Drops.{drop_word}
 use Rattle.dn_text.specs.Fields.{labelled}
 
 -- what a build answers
@@ -12,29 +13,6 @@ abbrev pub made_words : Made → List ℕ
 made_words (Made.Made tic) = labelled ((codes "built ", pos tic) ∷ [])
 made_words Made.Full = codes "full"
 made_words Made.NotPlaying = codes "not playing"
-
--- why a packet was dropped, by its number; no packet is dropped by the number 0
-abbrev pub reasons : List (List ℕ)
-reasons =
-    []
-    ∷ codes " short"
-    ∷ codes " many"
-    ∷ codes " length"
-    ∷ codes " sum"
-    ∷ codes " stranger"
-    ∷ codes " set-up"
-    ∷ codes " version"
-    ∷ codes " range"
-    ∷ codes " kill"
-    ∷ codes " tic"
-    ∷ codes " command"
-    ∷ codes " overrun"
-    ∷ codes " not playing"
-    ∷ codes " end"
-    ∷ []
-
-abbrev pub dropped_words : ℕ → List ℕ
-dropped_words number = slice_index_or reasons number []
 
 -- what a node answers to a packet
 abbrev pub heard_words : Heard → List ℕ
@@ -44,7 +22,7 @@ heard_words Heard.Stale = codes "stale"
 heard_words Heard.Gap = codes "gap"
 heard_words Heard.Left = codes "left"
 heard_words Heard.Noted = codes "noted"
-heard_words (Heard.Dropped number) = labelled ((codes "dropped ", pos number) ∷ []) ++ dropped_words number
+heard_words (Heard.Dropped number) = labelled ((codes "dropped ", pos number) ∷ []) ++ drop_word number
 
 -- what a run answers
 abbrev pub ran_words : Ran → List ℕ

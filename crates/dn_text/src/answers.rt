@@ -2,11 +2,12 @@
 
 ghost use Rattle.std.specs.Prelude.{◌≡◌, ◌++◌, OnOk};
 ghost use Rattle.std.specs.String.{string_bytes};
-ghost use Rattle.dn_text.specs.AnswerWords.{made_words, dropped_words, heard_words, ran_words, quit_words, done_words, refused_words, answer_words};
+ghost use Rattle.dn_text.specs.AnswerWords.{made_words, heard_words, ran_words, quit_words, done_words, refused_words, answer_words};
 ghost use Rattle.dn_machine.specs.declared.answers.Heard.TheVariants.{Dropped};
 
 use crate::fields::push_fields;
 use dn_game::{Done, Refusal};
+use dn_machine::drop_word;
 use dn_node::{Heard, Made, Ran};
 use std::alloc::AllocError;
 
@@ -20,34 +21,11 @@ fn push_made(text: &mut String, made: Made) -> Result<(), AllocError>
     }
 }
 
-/// Why a packet was dropped.
-fn reason(number: u8) -> &'static str
-    ensures { result.now ≡ dropped_words number }
-{
-    match number {
-        1 => " short",
-        2 => " many",
-        3 => " length",
-        4 => " sum",
-        5 => " stranger",
-        6 => " set-up",
-        7 => " version",
-        8 => " range",
-        9 => " kill",
-        10 => " tic",
-        11 => " command",
-        12 => " overrun",
-        13 => " not playing",
-        14 => " end",
-        _ => "",
-    }
-}
-
 fn push_dropped(text: &mut String, number: u8) -> Result<(), AllocError>
     ensures { OnOk result (string_bytes text.new ≡ string_bytes text.old ++ heard_words (Dropped number)) }
 {
     push_fields(text, &[("dropped ", number as i128)])?;
-    text.push_str(reason(number))
+    text.push_str(drop_word(number))
 }
 
 fn push_heard(text: &mut String, heard: Heard) -> Result<(), AllocError>

@@ -1,13 +1,12 @@
 -- A turn at one place.
 use Rattle.std.proofs.Common.{arith, ◌≡◌, ◌<◌, ℕ, List, length, set, get_or}
-use Rattle.std.proofs.Math.Seq.{map-set_same}
 use Rattle.dn_world.specs.Physics.{Physics}
 use Rattle.dn_machine.specs.Node.{put}
 use Rattle.dn_machine.proofs.Put.{set_and_put}
 use Rattle.dn_node.specs.declared.node.Node.{Node}
-use Rattle.dn_node.specs.Contents.{contents, whose}
+use Rattle.dn_node.specs.Contents.{contents}
 use Rattle.dn_node.specs.Represents.{Represents}
-use Rattle.dn_turn.specs.Rounds.{Seat, rules_at, AreSeated, whose_of}
+use Rattle.dn_turn.specs.Rounds.{Seat, rules_at, AreSeated}
 
 -- another node in one place, and what it represents in its seat
 pub seated_with : {W S : Type 0} (state : W → S) (physics : Physics S) (nodes : List (Node W))
@@ -22,9 +21,3 @@ seated_with {W} {S} state physics nodes seats place n seat before below is =
 -- a node's number is that of one of four players
 pub one_of_four : {W : Type 0} (n : Node W) → (contents n).me < 4
 one_of_four n = omega (arith, n.lockstep.me_below, n.lockstep.few)
-
--- one of the nodes took a turn, and stays whose it is
-pub whose_step : {W : Type 0} (nodes : List (Node W)) (place : ℕ) (old next : Node W)
-    → whose (contents next) ≡ whose (contents (get_or nodes place old))
-    → whose_of (set nodes place next) ≡ whose_of nodes
-whose_step {W} nodes place old next = map-set_same (λ (n : Node W). whose (contents n)) nodes place next old

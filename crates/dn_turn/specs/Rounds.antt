@@ -1,5 +1,5 @@
 -- Rounds: turns of all nodes, one after another.
-use Rattle.std.specs.Prelude.{◌≡◌, ◌<◌, ℕ, zero, suc, ◌%◌, ◌^◌, List, map, Some, slice_get}
+use Rattle.std.specs.Prelude.{◌≡◌, ◌<◌, ℕ, zero, suc, ◌%◌, ◌^◌, List, Some, slice_get}
 use Rattle.rand_pcg.specs.Lcg.{started, advance, increment_of}
 use Rattle.rand_pcg.specs.Pcg.{multiplier_64, pcg32}
 use Rattle.dn_tic.specs.declared.input.Input.{Input}
@@ -10,9 +10,8 @@ use Rattle.dn_machine.specs.Limits.{Limits}
 use Rattle.dn_machine.specs.Worlds.{Rules, rules_within}
 use Rattle.dn_machine.specs.Node as machine
 use Rattle.dn_machine.specs.Node.{put}
-use Rattle.dn_lockstep.specs.Contents.{Whose}
 use Rattle.dn_node.specs.declared.node.Node.{Node}
-use Rattle.dn_node.specs.Contents.{contents, whose}
+use Rattle.dn_node.specs.Contents.{contents}
 use Rattle.dn_node.specs.Represents.{Represents}
 use Rattle.dn_turn.specs.Giving.{Sends}
 use Rattle.dn_turn.specs.Hearing.{Polls}
@@ -52,10 +51,6 @@ AreSeated {W} state physics nodes seats =
 -- the seats and the line
 abbrev pub Table : Type 0 → Type 0
 Table L = (ℕ → Seat) × L
-
--- whose each node is
-abbrev pub whose_of : {W : Type 0} → List (Node W) → List Whose
-whose_of nodes = map (λ n. whose (contents n)) nodes
 
 -- the node at one place takes a turn with its player's input, and all others stay; the line counts what failed
 pub record TakesTurn {S L : Type 0} (sends : Sends L) (polls : Polls L) (failed : L → ℕ) (physics : Physics S)

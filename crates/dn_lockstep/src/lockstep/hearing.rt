@@ -10,9 +10,9 @@ ghost use Rattle.dn_lockstep.specs.Phases.{hears_none};
 ghost use Rattle.dn_lockstep.specs.Received.{on_read, on_set_up, on_player};
 
 use super::Lockstep;
-use crate::drops::{KILLED, NOT_PLAYING, OUT_OF_PLACE, STRANGER, packet_drop, setup_drop};
+use crate::drops::{packet_drop, setup_drop};
 use crate::reading::has_flag;
-use dn_machine::{Heard, Phase};
+use dn_machine::{Dropped, Heard, Phase};
 use dn_packet::{KILL, Packet, SETUP, decode_into};
 use dn_setup::from_packet;
 
@@ -43,10 +43,10 @@ impl Lockstep {
         ensures dropped { Spares (contents self.old) (contents self.new) result }
     {
         if self.hears_none() {
-            return Heard::Dropped(NOT_PLAYING);
+            return Heard::Dropped(Dropped::NotPlaying as u8);
         }
         if from >= self.players || from == self.me {
-            return Heard::Dropped(STRANGER);
+            return Heard::Dropped(Dropped::Stranger as u8);
         }
         let mut packet = Packet::empty();
         match decode_into(bytes, &mut packet) {
@@ -70,13 +70,13 @@ impl Lockstep {
             return self.hear_set_up(from, packet);
         }
         if let Phase::Listening = self.phase {
-            return Heard::Dropped(NOT_PLAYING);
+            return Heard::Dropped(Dropped::NotPlaying as u8);
         }
         if packet.player != from {
-            return Heard::Dropped(STRANGER);
+            return Heard::Dropped(Dropped::Stranger as u8);
         }
         if has_flag(packet, KILL) {
-            return Heard::Dropped(KILLED);
+            return Heard::Dropped(Dropped::Kill as u8);
         }
         self.hear_player(from, packet)
     }
@@ -91,7 +91,7 @@ impl Lockstep {
         ensures dropped { Spares (contents self.old) (contents self.new) result }
     {
         match self.phase {
-            Phase::Listening => Heard::Dropped(NOT_PLAYING),
+            Phase::Listening => Heard::Dropped(Dropped::NotPlaying as u8),
             Phase::Gathering => self.hear_gathering(from),
             Phase::Playing => self.take(from, packet),
             Phase::Ended(_) => self.answer(from, packet),
@@ -107,10 +107,10 @@ impl Lockstep {
         ensures dropped { Spares (contents self.old) (contents self.new) result }
     {
         let Phase::Listening = self.phase else {
-            return Heard::Dropped(OUT_OF_PLACE);
+            return Heard::Dropped(Dropped::OutOfPlace as u8);
         };
         if from != KEY {
-            return Heard::Dropped(OUT_OF_PLACE);
+            return Heard::Dropped(Dropped::OutOfPlace as u8);
         }
         match from_packet(packet) {
             Ok(settings) => {

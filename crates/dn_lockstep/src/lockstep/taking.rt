@@ -8,10 +8,9 @@ ghost use Rattle.dn_machine.specs.Hearing.{left_or};
 ghost use Rattle.dn_lockstep.specs.Received.{on_player};
 
 use super::Lockstep;
-use crate::drops::{NOT_PLAYING, OVERRUN, STRANGE_END};
 use crate::peers::is_strange_end;
 use crate::reading::{has_flag, request, start};
-use dn_machine::Heard;
+use dn_machine::{Dropped, Heard};
 use dn_packet::{EXIT, Packet};
 
 /// The answer to a packet up to whose end nothing is missing.
@@ -43,12 +42,12 @@ impl Lockstep {
         let commands = packet.cmds.as_slice();
         let end = start + commands.len() as u32;
         if end > self.ran + self.places {
-            return Heard::Dropped(OVERRUN);
+            return Heard::Dropped(Dropped::Overrun as u8);
         }
         let exit = has_flag(packet, EXIT);
         let got = self.rings.count(from);
         if is_strange_end(exit, got, self.peers.get(from).end, end) {
-            return Heard::Dropped(STRANGE_END);
+            return Heard::Dropped(Dropped::End as u8);
         }
         self.peers
             .ask(from, self.places, made, request(made, packet));
@@ -76,7 +75,7 @@ impl Lockstep {
         ensures dropped { Spares (contents self.old) (contents self.new) result }
     {
         if has_flag(packet, EXIT) {
-            return Heard::Dropped(NOT_PLAYING);
+            return Heard::Dropped(Dropped::NotPlaying as u8);
         }
         let made = self.made();
         if let Err(number) = start(made, packet) {

@@ -1,5 +1,6 @@
 use Rattle.std.proofs.Common.{◌≡◌, length}
-use Rattle.dn_turn.specs.Rounds.{LeadAll, TakeRounds, whose_of}
+use Rattle.dn_turn.specs.Rounds.{LeadAll, TakeRounds}
+use Rattle.dn_node.specs.Contents.{whose_of}
 use Rattle.dn_turn.specs.Streams.{AreAt}
 use Rattle.dn_turn.proofs.rounding.rounds.Given as goal
 

@@ -7,9 +7,10 @@ use Rattle.dn_machine.specs.Node.{put}
 use Rattle.dn_node.specs.declared.node.Node.{Node}
 use Rattle.dn_node.specs.Contents.{contents}
 use Rattle.dn_node.specs.Represents.{Represents}
+use Rattle.dn_node.proofs.Whose.{whose_set}
 use Rattle.dn_turn.specs.Rounds.{Seat, rules_at, TakeTurns}
 use Rattle.dn_turn.specs.Turns.{IsTurn}
-use Rattle.dn_turn.proofs.Places.{seated_with, one_of_four, whose_step}
+use Rattle.dn_turn.proofs.Places.{seated_with, one_of_four}
 use Rattle.dn_turn.proofs.rounding.take_turns.Goals as goal
 
 pub loop-place-preserved : goal.loop-place-preserved
@@ -58,7 +59,7 @@ loop-place-preserved g c =
               },
             );
           },
-      whose_step nodes place c.index-nodes-place.result c.turn_with.new.node c.turn_with.ensures.whose
+      whose_set nodes place c.index-nodes-place.result c.turn_with.new.node c.turn_with.ensures.whose
           ∙ before.2,
     )
 

@@ -1,6 +1,7 @@
 use Rattle.std.proofs.Common.{◌≡◌, ℕ, length}
 use Rattle.dn_tic.specs.declared.input.Input.{Input}
-use Rattle.dn_turn.specs.Rounds.{AreOf, LeadAll, TakeTurns, whose_of}
+use Rattle.dn_turn.specs.Rounds.{AreOf, LeadAll, TakeTurns}
+use Rattle.dn_node.specs.Contents.{whose_of}
 use Rattle.dn_turn.proofs.rounding.take_turns.Given as goal
 
 abbrev pub invariant-loop-place : goal.invariant-loop-place

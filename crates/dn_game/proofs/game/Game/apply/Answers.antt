@@ -9,7 +9,7 @@ use Rattle.dn_game.proofs.Answering.{carries}
 use Rattle.dn_game.proofs.Applying.{after_refused, after_event, after_send, after_step, stops}
 use Rattle.dn_game.proofs.Framing.{others_step, worlds_step, run_keeps}
 use Rattle.dn_game.proofs.OpenAnswering.{carries_own}
-use Rattle.dn_game.proofs.Whose.{whose_step}
+use Rattle.dn_node.proofs.Whose.{whose_step}
 use Rattle.dn_game.proofs.game.Game.apply.Goals as goal
 
 pub returns-in-Some-clause-applied : goal.returns-in-Some-clause-applied

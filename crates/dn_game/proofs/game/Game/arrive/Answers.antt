@@ -9,7 +9,7 @@ use Rattle.dn_game.proofs.OpenArriving.{only_at, comes_to_nobody, unopened, late
 use Rattle.dn_game.proofs.Framing.{others_step, worlds_step, holds_step}
 use Rattle.dn_game.proofs.OpenAnswering.{carries_arrival}
 use Rattle.dn_game.proofs.Standing.{node_at, made_at}
-use Rattle.dn_game.proofs.Whose.{whose_step}
+use Rattle.dn_node.proofs.Whose.{whose_step}
 use Rattle.dn_game.proofs.game.Game.arrive.Goals as goal
 
 pub returns-in-Some-clause-arrived : goal.returns-in-Some-clause-arrived

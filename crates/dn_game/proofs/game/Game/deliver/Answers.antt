@@ -4,7 +4,7 @@ use Rattle.dn_game.specs.declared.flight.Flight.{Flight}
 use Rattle.dn_game.proofs.Framing.{others_step, worlds_step}
 use Rattle.dn_game.proofs.Places.{there_is}
 use Rattle.dn_game.proofs.Delivering.{delivers}
-use Rattle.dn_game.proofs.Whose.{whose_step}
+use Rattle.dn_node.proofs.Whose.{whose_step}
 use Rattle.dn_game.proofs.Packing.{receiver_below}
 use Rattle.dn_game.proofs.game.Game.deliver.Goals as goal
 

@@ -5,7 +5,7 @@ use Rattle.dn_lockstep.specs.Giving.{aim_in}
 use Rattle.dn_lockstep.specs.Sent.{aim_of}
 use Rattle.dn_lockstep.proofs.Giving.{no_flight, some_given}
 use Rattle.dn_game.proofs.Framing.{others_step, worlds_step, sent_after}
-use Rattle.dn_game.proofs.Whose.{whose_step}
+use Rattle.dn_node.proofs.Whose.{whose_step}
 use Rattle.dn_game.proofs.Sending.{sends_none, sends_packet, joins}
 use Rattle.dn_game.proofs.Standing.{node_at}
 use Rattle.dn_game.proofs.game.Game.send.Goals as goal
