@@ -81,7 +81,7 @@ other_of from me count packet phase flight plain =
     go (is_listening phase) (not (packet.player == from)) (has_flag packet flag.kill)
   where
     go : (one two three : Bool) → (if one then Err drops.not_playing else (if two then Err drops.stranger
-        else (if three then Err drops.killed else player_flight from me count packet phase))) ≡ Ok flight
+        else (if three then Err drops.kill else player_flight from me count packet phase))) ≡ Ok flight
         → IsOf from count packet flight
     go true two three e = absurd (cc)
     go false true three e = absurd (cc)

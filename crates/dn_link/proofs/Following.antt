@@ -37,7 +37,7 @@ use Rattle.dn_link.specs.Onward.{GoesOn, IsGone, IsInTime, StillGoesOn, next_to}
 use Rattle.dn_link.specs.Paced.{PaceState}
 use Rattle.dn_link.specs.Presence.{given_up}
 use Rattle.dn_link.proofs.Covered.{reached}
-use Rattle.dn_link.proofs.Gives.{taken_given}
+use Rattle.dn_link.proofs.Outgoing.{taken_given}
 use Rattle.dn_link.proofs.Rising.{few, news_rises}
 use Rattle.dn_link.proofs.Sending.{Follows, Silent, resend_of, build_same, quit_same, run_same, send_same, sends}
 

@@ -31,7 +31,7 @@ same_bundle seal bytes one other player is fits spelled =
     })) ∙ its_bundle (sealing_of seal player) bytes one is)
 
 -- what was sealed stays so
-opened_later : (given later : List Flight) → ((which : ℕ) (flight : Flight) → slice_get given which ≡ Some flight
+pub opened_later : (given later : List Flight) → ((which : ℕ) (flight : Flight) → slice_get given which ≡ Some flight
     → slice_get later which ≡ Some flight) → (to : ℕ) (packets : List Opened)
     → All (WasGiven given to) packets → All (WasGiven later to) packets
 opened_later given later stay to [] all = All-nil (WasGiven later to)

@@ -1,21 +1,20 @@
 -- What a link gives to a peer, within one game.
-use Rattle.std.proofs.Common.{◌≡◌, ◌<◌, ◌≤◌, ◌≢◌, ◌+◌, ◌%◌, ◌^◌, ℕ, Bool, true, false, List, refl, ap, sym, ◌∙◌, subst, arith, Option, None, Some, All, inl, inr}
-use Rattle.std.specs.Prelude.{if◌then◌else◌, ◌&&◌, ◌||◌, IfSome, is_some, nat_lt, slice_index}
+use Rattle.std.proofs.Common.{◌≡◌, ◌<◌, ◌≤◌, ◌≢◌, ◌+◌, ◌%◌, ◌^◌, ℕ, Bool, true, false, List, refl, ap, sym, ◌∙◌, arith, Option, None}
+use Rattle.std.specs.Prelude.{◌&&◌, ◌||◌, IfSome, is_some, nat_lt, slice_index}
 use Rattle.std.specs.Option.{option_map}
-use Rattle.std.proofs.lemmas.Bool.{cases_eq, cond_both}
-use Rattle.std.proofs.lemmas.Option.{none-some}
+use Rattle.std.proofs.lemmas.Bool.{cond_both}
 use Rattle.dn_setup.specs.Settings.{Settings}
 use Rattle.dn_machine.specs.Flight.{Flight}
 use Rattle.dn_machine.specs.Limits.{Limits}
 use Rattle.dn_machine.specs.Node as machine
 use Rattle.dn_machine.specs.Node.{put}
-use Rattle.dn_machine.proofs.Put.{put_at, put_off}
+use Rattle.dn_machine.proofs.Put.{put_at}
 use Rattle.dn_lockstep.specs.Contents.{Contents}
 use Rattle.dn_lockstep.specs.Marking.{Marking}
 use Rattle.dn_lockstep.specs.OneGame.{AreOneGame}
 use Rattle.dn_lockstep.specs.Represents.{Represents}
 use Rattle.dn_lockstep.specs.Sent.{sent_to}
-use Rattle.dn_lockstep.specs.Session.{Session, with_lockstep, given_on, after_packet}
+use Rattle.dn_lockstep.specs.Session.{Session, with_lockstep, after_packet}
 use Rattle.dn_lockstep.specs.Near.{IsFair}
 use Rattle.dn_lockstep.specs.Steps.{Tells}
 use Rattle.dn_lockstep.proofs.OneGame.{GoesBetween, sent_between, gave}
@@ -24,36 +23,25 @@ use Rattle.dn_link.specs.declared.bundle.Bundle.{Bundle}
 use Rattle.dn_link.specs.declared.bundle.Carried.{Carried}
 use Rattle.dn_link.specs.declared.bundle.Counts.{Counts}
 use Rattle.dn_link.specs.declared.bundle.Identity.{Identity}
-use Rattle.dn_link.specs.declared.presence.Presence.{Presence}
 use Rattle.dn_link.specs.Counting.{counts_of, has_ended, has_of}
 use Rattle.dn_link.specs.Ends.{tells_end}
 use Rattle.dn_link.specs.declared.presence.Presence.TheVariants.{Left}
 use Rattle.dn_link.proofs.Lefts.{counts_reach, tells_own}
-use Rattle.dn_link.specs.Bundles.{WasGiven, WasBundled}
+use Rattle.dn_link.specs.Bundles.{WasBundled}
 use Rattle.dn_link.specs.Hearing.{ByTest}
-use Rattle.dn_link.specs.Kept.{going, kept_after, taken_by, takes_packet}
+use Rattle.dn_link.specs.Kept.{kept_after, taken_by}
 use Rattle.dn_link.specs.Giving.{SendsCarried, carried_of}
 use Rattle.dn_link.specs.Linked.{Linked, Gives, PeerState, holds_back, is_gathering}
 use Rattle.dn_link.specs.LinkedGame.{AreLinked, IsLater}
 use Rattle.dn_link.specs.Paced.{PaceState}
-use Rattle.dn_link.specs.Packets.{packets_in}
-use Rattle.dn_link.specs.Packing.{ArePacked}
 use Rattle.dn_link.proofs.Growing.{HasAsMuch, grows}
 use Rattle.dn_link.proofs.Holding.{Holds, holds_same, send_holds}
-use Rattle.dn_link.proofs.Relinking.{AreGiven, all_stay, found_later, later_by, keeps_given, packs_given, relinked}
+use Rattle.dn_link.proofs.Outgoing.{goes_given, stays_kept}
+use Rattle.dn_link.proofs.Kepts.{AreKept}
+use Rattle.dn_link.proofs.Relinking.{found_later, later_by, relinked}
 use Rattle.dn_others.specs.declared.others.Others.{Others}
 use Rattle.dn_link.proofs.Linking as base
 use Rattle.dn_link.proofs.Reported.{at_most, same_reported, same_presence}
-
--- what a peer takes was given
-pub taken_given : (presence : Presence) (given : Option Carried) (carried : Carried)
-    → taken_by presence given ≡ Some carried → Some carried ≡ given
-taken_given presence None carried is = absurd (none-some carried is)
-taken_given presence (Some packet) carried is = go (takes_packet presence packet) is
-  where
-    go : (test : Bool) → (if test then Some packet else None) ≡ Some carried → Some carried ≡ Some packet
-    go true is = sym is
-    go false is = absurd (none-some carried is)
 
 -- a packet that is sent, or none
 sends_holds : (limits : Limits) (me : ℕ) (m : machine.Node) (to : ℕ) → Holds m (sent_to to limits me m).0
@@ -94,14 +82,8 @@ module _ (marking : Marking) (limits : Limits) (settings : Settings) (session : 
       × AreLinked marking limits settings (after_packet session player flight new.node) (put links player new)
       × IsLater session (after_packet session player flight new.node)
   gave_by seal identity pace to new bytes flight gives game between answer much =
-      let all = linked.kept player to mine in
+      let all : AreKept session.given player old.peers = λ peer. linked.kept player peer mine in
       let taken : Option Carried = taken_by (old.peers to).presence gives.given in
-      let is_given : (carried : Carried) → taken ≡ Some carried → Some carried ≡ option_map carried_of flight =
-      (λ carried taken_is. taken_given (old.peers to).presence gives.given carried taken_is ∙ answer) in
-      let packed = subst (λ (k : ℕ). ArePacked k (going (old.peers to).kept taken) gives.bundle.parts.items) own
-      gives.packed in
-      let every = packs_given session.given flight player to (old.peers to).kept taken between is_given all
-      gives.bundle (gives.from ∙ own) packed in
       let later : Session = after_packet session player flight new.node in
       let is = later_by session later player new.node refl (found_later session.given flight) much in
       let told : (peer which : ℕ) → which ≢ peer
@@ -116,24 +98,12 @@ module _ (marking : Marking) (limits : Limits) (settings : Settings) (session : 
       (λ peer cause was. left_on later is peer cause (sym (ap (λ (f : ℕ → PeerState). (f peer).presence) gives.peers
       ∙ same_presence old.peers to (kept_after (old.peers to).kept taken)
       ((old.peers to).gave || (is_gathering old.node.phase && is_some gives.given))
-      (((old.peers to).number + 1) % 2 ^ 32) peer) ∙ was)) in
-      let kept : (peer : ℕ) → AreGiven (given_on session.given flight) player peer (new.peers peer).kept.packets =
-      (λ peer. subst (λ (f : ℕ → PeerState). AreGiven (given_on session.given flight) player peer (f peer).kept.packets)
-      (sym gives.peers) (elim (cases_eq peer to) [
-        | inl at ↦ subst (λ (t : PeerState). AreGiven (given_on session.given flight) player peer t.kept.packets)
-            (sym (put_at old.peers to peer _ at))
-            (subst (λ (k : ℕ). AreGiven (given_on session.given flight) player k
-            (kept_after (old.peers to).kept taken).packets) (sym at)
-            (keeps_given session.given flight player to (old.peers to).kept taken between is_given all))
-        | inr off ↦ subst (λ (t : PeerState). AreGiven (given_on session.given flight) player peer t.kept.packets)
-            (sym (put_off old.peers to peer _ off))
-            (all_stay session.given flight player peer (old.peers peer).kept.packets (linked.kept player peer mine))
-      ])) in (
+      (((old.peers to).number + 1) % 2 ^ 32) peer) ∙ was)) in (
         (
           gives.bundle,
           gives.fits,
           gives.is,
-          subst (λ (k : ℕ). All (WasGiven (given_on session.given flight) k) (packets_in gives.bundle)) (sym gives.goes) every,
+          goes_given session.given flight player old new own seal identity pace to bytes gives between answer all,
           record {
             got = λ which apart. at_most (ap (λ (c : Counts). slice_index c.got which) gives.counts)
                 (counts_reach new.node which) (at_most refl self (equal (ap (λ (n : Contents). has_of n which)
@@ -144,7 +114,9 @@ module _ (marking : Marking) (limits : Limits) (settings : Settings) (session : 
           },
         ),
         relinked marking limits settings session later links player new linked game refl is
-            (ap (λ (o : Others). o.gone) gives.others) kept told left,
+            (ap (λ (o : Others). o.gone) gives.others)
+            (stays_kept session.given flight player old new own seal identity pace to bytes gives between answer all)
+            told left,
         is,
       )
     where

@@ -1,9 +1,8 @@
 -- What a lockstep has of another player, with the player's end, never grows less; and one that has ended stays
 -- so.
-use Rattle.std.proofs.Common.{◌≡◌, ◌≢◌, ◌<◌, ◌≤◌, ℕ, Bool, true, false, List, [], ◌∷◌, refl, ap, sym, ◌∙◌, subst, arith, Some, All, inl, inr, ◌&&◌}
+use Rattle.std.proofs.Common.{◌≡◌, ◌≢◌, ◌<◌, ◌≤◌, ℕ, Bool, true, false, List, refl, ap, sym, ◌∙◌, subst, arith, Some, All, inl, inr, ◌&&◌}
 use Rattle.std.specs.Prelude.{Ok, ◌==◌, slice_get}
 use Rattle.std.proofs.lemmas.Bool.{cases_lt, cond-false, lt-ltb, le-ltb, ne_eqb}
-use Rattle.std.proofs.lemmas.List.Elements.{All-head, All-tail}
 use Rattle.dn_setup.specs.Settings.{Settings}
 use Rattle.dn_machine.specs.Flight.{Flight, packet_of, is_close, is_request_close}
 use Rattle.dn_machine.specs.Limits.{Limits}
@@ -30,9 +29,10 @@ use Rattle.dn_open.proofs.Deliveries.{near_if}
 use Rattle.dn_open.proofs.Fairness.{are_sealable}
 use Rattle.dn_link.specs.Bundles.{WasGiven}
 use Rattle.dn_link.specs.Counting.{has_ended, has_of, with_end}
-use Rattle.dn_link.specs.Hearing.{ByTest, HearsUntil, HearsAll, is_start}
+use Rattle.dn_link.specs.Hearing.{HearsAll}
 use Rattle.dn_link.proofs.Holding.{Holds, held_of, holds_same, hear_holds}
-use Rattle.dn_link.proofs.Keeping.{LettersKeep, as_it_is, keeps_one, until_keeps}
+use Rattle.dn_link.proofs.Along.{KeepsOne, all_along}
+use Rattle.dn_link.proofs.Keeping.{LettersKeep, as_it_is, keeps_one}
 
 -- as the node that it represents
 pub has_is : (limits : Limits) (me : ℕ) (n : Contents) (m : machine.Node) → Represents limits me n m
@@ -123,41 +123,22 @@ module _ (letters : LettersKeep) (marking : Marking) (limits : Limits) (settings
       grows limits player now next m _ r after.node mine
       (opened_holds limits player m flight good.0.fair good.1.from (λ e. good.1.apart (e ∙ sym to)))
 
-  pub until_grows : (packets : List Opened) (now new : Contents) (started : Bool)
-      → AreOneGame marking limits settings (at now) → All (WasGiven session.given player) packets
-      → HearsUntil packets now new started → HasAsMuch player now new
-  until_grows [] now new started game all hears =
-      subst (λ (n : Contents). HasAsMuch player now n) (sym hears.0) (as_much player now)
-  until_grows (packet ∷ packets) now new started game all (next, answer, hears, spares, then) =
-      let given = All-head (WasGiven session.given player) packet packets all in
-      let first = one_grows packet now next answer game given hears in
-      go (is_start answer) first (until_grows packets next new started
-      (keeps_one letters marking limits settings session player packet now next answer game given hears)
-      (All-tail (WasGiven session.given player) packet packets all)) then
-    where
-      go : (test : Bool) → HasAsMuch player now next → (HearsUntil packets next new started → HasAsMuch player next new)
-          → ByTest test ((new ≡ next) × (started ≡ true)) (HearsUntil packets next new started)
-          → HasAsMuch player now new
-      go true first later then = subst (λ (n : Contents). HasAsMuch player now n) (sym then.0) first
-      go false first later then = much_on player now next new first (later then)
+  -- the locksteps are those of one game with this one, which has as much as at first
+  abbrev GoesOn : Contents → Type 0
+  GoesOn now = AreOneGame marking limits settings (at now) × HasAsMuch player (session.locksteps player) now
+
+  goes_on : KeepsOne (WasGiven session.given player) GoesOn
+  goes_on packet now next answer here given hears spares = (
+    keeps_one letters marking limits settings session player packet now next answer here.0 given hears,
+    much_on player (session.locksteps player) now next here.1
+        (one_grows packet now next answer here.0 given hears),
+  )
 
   pub all_grows : (packets : List Opened) (new : Contents) (started : Bool)
       → AreOneGame marking limits settings session → All (WasGiven session.given player) packets
       → HearsAll packets (session.locksteps player) new started → HasAsMuch player (session.locksteps player) new
-  all_grows packets new started game all (next, first, then) =
+  all_grows packets new started game all hears =
       let begun = subst (AreOneGame marking limits settings)
       (sym (as_it_is letters marking limits settings session player)) game in
-      let one = until_grows packets (session.locksteps player) next started begun all first in
-      let here = until_keeps letters marking limits settings session player packets (session.locksteps player) next
-      started begun all first in
-      go started one here then
-    where
-      go : (test : Bool) → HasAsMuch player (session.locksteps player) next
-          → AreOneGame marking limits settings (at next)
-          → ByTest test ((again : Bool) × HearsUntil packets next new again) (new ≡ next)
-          → HasAsMuch player (session.locksteps player) new
-      go true one here then =
-          let other = until_grows packets next new then.0 here all then.1 in
-          much_on player (session.locksteps player) next new one other
-      go false one here then =
-          subst (λ (n : Contents). HasAsMuch player (session.locksteps player) n) (sym then) one
+      (all_along (WasGiven session.given player) GoesOn goes_on packets (session.locksteps player) new started
+      (begun, as_much player (session.locksteps player)) all hears).1

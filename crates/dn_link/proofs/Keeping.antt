@@ -1,7 +1,6 @@
 -- The locksteps of one game stay those of one game where one hears a datagram.
-use Rattle.std.proofs.Common.{◌≡◌, ℕ, Bool, true, false, List, [], ◌∷◌, ap, sym, ◌∙◌, subst, arith, Some, All}
+use Rattle.std.proofs.Common.{◌≡◌, ℕ, Bool, List, ap, sym, ◌∙◌, subst, arith, Some, All}
 use Rattle.std.specs.Prelude.{slice_get}
-use Rattle.std.proofs.lemmas.List.Elements.{All-head, All-tail}
 use Rattle.dn_setup.specs.Settings.{Settings}
 use Rattle.dn_machine.specs.Flight.{Flight}
 use Rattle.dn_machine.specs.Limits.{Limits}
@@ -16,12 +15,13 @@ use Rattle.dn_open.specs.Arrivals.{HearsOpened}
 use Rattle.dn_open.specs.declared.arrived.Arrived.{Arrived}
 use Rattle.dn_open.specs.Sealed.{opened_of}
 use Rattle.dn_link.specs.Bundles.{WasGiven}
-use Rattle.dn_link.specs.Hearing.{ByTest, HearsUntil, HearsAll, is_start}
+use Rattle.dn_link.specs.Hearing.{HearsAll}
+use Rattle.dn_link.proofs.Along.{all_along}
 
 put_same : {A : Type 0} (f : ℕ → A) (i : ℕ) → put f i (f i) ≡ f
 put_same f i = grind arith
 
-put_twice : {A : Type 0} (f : ℕ → A) (i : ℕ) (x y : A) → put (put f i x) i y ≡ put f i y
+pub put_twice : {A : Type 0} (f : ℕ → A) (i : ℕ) (x y : A) → put (put f i x) i y ≡ put f i y
 put_twice f i x y = grind arith
 
 -- what the contents of an envelope do
@@ -57,36 +57,11 @@ module _ (letters : LettersKeep) (marking : Marking) (limits : Limits) (settings
             ∙ put_twice session.locksteps player now next) i;
       }) after
 
-  pub until_keeps : (packets : List Opened) (now new : Contents) (started : Bool)
-      → AreOneGame marking limits settings (at now) → All (WasGiven session.given player) packets
-      → HearsUntil packets now new started → AreOneGame marking limits settings (at new)
-  until_keeps [] now new started game all hears =
-      subst (λ (n : Contents). AreOneGame marking limits settings (at n)) (sym hears.0) game
-  until_keeps (packet ∷ packets) now new started game all (next, answer, hears, spares, then) =
-      go (is_start answer) (until_keeps packets next new started
-      (keeps_one packet now next answer game (All-head (WasGiven session.given player) packet packets all) hears)
-      (All-tail (WasGiven session.given player) packet packets all))
-      (keeps_one packet now next answer game (All-head (WasGiven session.given player) packet packets all) hears)
-      then
-    where
-      go : (test : Bool) → (HearsUntil packets next new started → AreOneGame marking limits settings (at new))
-          → AreOneGame marking limits settings (at next)
-          → ByTest test ((new ≡ next) × (started ≡ true)) (HearsUntil packets next new started)
-          → AreOneGame marking limits settings (at new)
-      go true later here then =
-          subst (λ (n : Contents). AreOneGame marking limits settings (at n)) (sym then.0) here
-      go false later here then = later then
-
   pub all_keeps : (packets : List Opened) (new : Contents) (started : Bool)
       → AreOneGame marking limits settings session → All (WasGiven session.given player) packets
       → HearsAll packets (session.locksteps player) new started → AreOneGame marking limits settings (at new)
-  all_keeps packets new started game all (next, first, then) =
-      let begun = subst (AreOneGame marking limits settings) (sym as_it_is) game in
-      go started (until_keeps packets (session.locksteps player) next started begun all first) then
-    where
-      go : (test : Bool) → AreOneGame marking limits settings (at next)
-          → ByTest test ((again : Bool) × HearsUntil packets next new again) (new ≡ next)
-          → AreOneGame marking limits settings (at new)
-      go true here then = until_keeps packets next new then.0 here all then.1
-      go false here then =
-          subst (λ (n : Contents). AreOneGame marking limits settings (at n)) (sym then) here
+  all_keeps packets new started game all hears =
+      all_along (WasGiven session.given player) (λ now. AreOneGame marking limits settings (at now))
+      (λ packet now next answer here given heard spares. keeps_one packet now next answer here given heard)
+      packets (session.locksteps player) new started
+      (subst (AreOneGame marking limits settings) (sym as_it_is) game) all hears

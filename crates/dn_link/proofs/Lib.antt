@@ -5,6 +5,7 @@ pub mod Turns
 pub mod Wholes
 pub mod Openings
 pub mod Hearings
+pub mod Along
 pub mod Keeping
 pub mod Covered
 pub mod Rising
@@ -21,7 +22,10 @@ pub mod Lefts
 pub mod Reported
 pub mod Genuine
 pub mod Linking
+pub mod Kepts
+pub mod Outgoing
 pub mod Gives
+pub mod Forgotten
 pub mod Forgets
 pub mod Receives
 pub mod Sending
@@ -35,3 +39,11 @@ pub mod Leaving
 pub mod Places
 pub mod Unplayed
 pub mod Empty
+pub mod Letters
+pub mod Senders
+pub mod Aims
+pub mod Noticed
+pub mod RemainingCalls
+pub mod RemainingGives
+pub mod RemainingReceives
+pub mod RemainingBytes

@@ -23,15 +23,15 @@ use Rattle.dn_link.specs.declared.received.Received.{Received}
 use Rattle.dn_link.specs.declared.received.Received.TheVariants.{GivenUp, Stranger}
 use Rattle.dn_link.specs.Bundles.{HasReached, WasGiven, IsGenuineDatagram}
 use Rattle.dn_link.specs.Hearing.{ByTest, HearsAll}
-use Rattle.dn_link.specs.Linked.{IsTakenIn, Linked, Receives, ReceivesAs, TakesIn, PeerState, done_with, has_given_up, hears, is_peer, known_by, met, received_of}
+use Rattle.dn_link.specs.Linked.{IsTakenIn, Linked, Receives, ReceivesAs, TakesIn, PeerState, has_given_up, hears, is_peer, known_by, met}
 use Rattle.dn_link.specs.LinkedGame.{AreLinked, IsLater}
 use Rattle.dn_link.specs.Paced.{PaceState}
 use Rattle.dn_link.specs.Packets.{packets_in}
-use Rattle.dn_link.specs.Presence.{is_fresh}
 use Rattle.dn_link.specs.Reading.{IsBundledAs}
 use Rattle.dn_link.proofs.Keeping.{LettersKeep, all_keeps}
 use Rattle.dn_link.proofs.Growing.{HasAsMuch, all_grows}
-use Rattle.dn_link.proofs.Relinking.{AreGiven, later_by, without_given, relinked}
+use Rattle.dn_link.proofs.Kepts.{AreKept, met_kept}
+use Rattle.dn_link.proofs.Relinking.{later_by, relinked}
 use Rattle.dn_others.specs.declared.others.Others.{Others}
 use Rattle.dn_link.proofs.Linking as base
 use Rattle.dn_link.proofs.Reported.{at_most, larger_most}
@@ -62,17 +62,7 @@ module _ (marking : Marking) (limits : Limits) (settings : Settings) (session : 
 
   module _ (letters : LettersKeep) (kept_game : (new : Contents) → new ≡ session.locksteps player
       → AreOneGame marking limits settings (with_lockstep session player new)) where
-    -- what is kept for it, and what it told, where its counts are taken, or are not
-    known_given : (differs : Bool) (bundle : Bundle) (presence : Presence) (peer : ℕ)
-        → AreGiven session.given player peer (old.peers bundle.from).kept.packets
-        → AreGiven session.given player peer
-        (known_by differs old.node bundle presence (old.peers bundle.from)).kept.packets
-    known_given true bundle presence peer all = all
-    known_given false bundle presence peer all =
-        without_given session.given player peer
-        (done_with presence old.node (slice_index bundle.counts.got old.node.me))
-        (old.peers bundle.from).kept.packets all
-
+    -- what it told, where its counts are taken, or are not
     known_most : (differs : Bool) (bundle : Bundle) (presence : Presence) (which : ℕ) {bound : ℕ}
         → slice_index (old.peers bundle.from).reported which ≤ bound → slice_index bundle.counts.got which ≤ bound
         → slice_index (known_by differs old.node bundle presence (old.peers bundle.from)).reported which ≤ bound
@@ -142,17 +132,10 @@ module _ (marking : Marking) (limits : Limits) (settings : Settings) (session : 
               ∙ ap (λ (t : PeerState). t.presence) (put_off old.peers bundle.from peer _ off)) ∙ is_left)
         ]) in (
           relinked marking limits settings session later links player new linked game refl is
-              (ap (λ (o : Others). o.gone) takes.others) (λ peer. subst (λ (f : ℕ → PeerState). AreGiven session.given player peer (f peer).kept.packets)
-              (sym takes.peers)
-              (elim (cases_eq peer bundle.from) [
-                | inl at ↦ subst (λ (t : PeerState). AreGiven session.given player peer t.kept.packets)
-                    (sym (put_at old.peers bundle.from peer _ at))
-                    (known_given differs bundle presence peer
-                    (subst (λ (k : ℕ). AreGiven session.given player peer (old.peers k).kept.packets) at
-                    (linked.kept player peer mine)))
-                | inr off ↦ subst (λ (t : PeerState). AreGiven session.given player peer t.kept.packets)
-                    (sym (put_off old.peers bundle.from peer _ off)) (linked.kept player peer mine)
-              ])) told left,
+              (ap (λ (o : Others). o.gone) takes.others)
+              (subst (AreKept session.given player) (sym takes.peers)
+              (met_kept session.given player old differs bundle presence (λ peer. linked.kept player peer mine)))
+              told left,
           is,
         )
       where

@@ -32,11 +32,11 @@ use Rattle.dn_link.proofs.Growing.{HasAsMuch}
 use Rattle.dn_link.proofs.Whole.{still_whole}
 
 -- the last of a list, and what was found is found still
-last_at : {A : Type 0} (xs : List A) (x : A) → slice_get (xs ++ x ∷ []) (length xs) ≡ Some x
+pub last_at : {A : Type 0} (xs : List A) (x : A) → slice_get (xs ++ x ∷ []) (length xs) ≡ Some x
 last_at [] x = refl
 last_at (y ∷ xs) x = last_at xs x
 
-found_on : {A : Type 0} (xs more : List A) (which : ℕ) (x : A) → slice_get xs which ≡ Some x
+pub found_on : {A : Type 0} (xs more : List A) (which : ℕ) (x : A) → slice_get xs which ≡ Some x
     → slice_get (xs ++ more) which ≡ Some x
 found_on [] more which x found = absurd (none-some x found)
 found_on (y ∷ xs) more zero x found = found

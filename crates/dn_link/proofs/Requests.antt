@@ -36,11 +36,11 @@ use Rattle.dn_link.specs.declared.received.Received.TheVariants.{GivenUp, Strang
 use Rattle.dn_link.specs.Ends.{tells_end}
 use Rattle.dn_link.specs.Hearing.{ByTest, HearsAll, HearsUntil, is_start}
 use Rattle.dn_link.specs.Kept.{IsKeptRising}
-use Rattle.dn_link.specs.Linked.{IsTakenIn, Linked, PeerState, Receives, ReceivesAs, TakesIn, done_with, has_given_up, hears, is_peer, known_by, met, received_of}
+use Rattle.dn_link.specs.Linked.{IsTakenIn, Linked, PeerState, Receives, ReceivesAs, TakesIn, done_with, has_given_up, hears, is_peer, known_by, met}
 use Rattle.dn_link.specs.Onward.{AskWithin, AsksWithin, GoesOn, IsGone, StillGoesOn}
 use Rattle.dn_link.specs.Paced.{PaceState}
 use Rattle.dn_link.specs.Packets.{packets_in}
-use Rattle.dn_link.specs.Presence.{Becomes, Greets, goes, is_fresh, may_come, plays_on}
+use Rattle.dn_link.specs.Presence.{Becomes, Greets, goes, may_come, plays_on}
 use Rattle.dn_link.specs.Reading.{IsBundledAs}
 use Rattle.dn_link.proofs.Asked.{opened_asked}
 use Rattle.dn_link.proofs.Following.{next_same, same_peers, still}

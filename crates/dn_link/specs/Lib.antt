@@ -16,6 +16,7 @@ pub mod Keeping
 pub mod Hearing
 pub mod Bundles
 pub mod LinkedGame
+pub mod RemainingLinks
 pub mod Line
 pub mod Leaning
 pub mod Stretching

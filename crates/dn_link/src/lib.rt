@@ -20,11 +20,10 @@ mod peer;
 mod presence;
 mod reading;
 mod received;
+mod remaining;
 mod short;
 mod stretching;
 mod tally;
-#[cfg(test)]
-mod tests;
 mod writing;
 
 pub use bundle::{Bundle, BundleFault, Carried, Counts, Identity, Message, Part, Run};
@@ -40,4 +39,7 @@ pub use onward::given_is_covered;
 pub use presence::Presence;
 pub use reading::open_bundle;
 pub use received::Received;
+pub use remaining::{
+    remaining_bytes_are_genuine, remaining_links_agree, remaining_links_go_on, remaining_links_open,
+};
 pub use writing::seal_bundle;

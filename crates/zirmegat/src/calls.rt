@@ -5,6 +5,7 @@ ghost use Rattle.std.specs.Option.{option_map};
 ghost use Rattle.dn_tic.specs.declared.command.Move.{Move as Step};
 ghost use Rattle.dn_tic.specs.declared.input.Input.TheVariants.{Pressed};
 ghost use Rattle.dn_setup.specs.Starts.{bit};
+ghost use Rattle.dn_machine.specs.Drops as drops;
 ghost use Rattle.dn_machine.specs.declared.answers.Made.{Made as Built};
 ghost use Rattle.dn_machine.specs.declared.answers.Heard.{Heard as Hearing};
 ghost use Rattle.dn_machine.specs.declared.answers.Heard.TheVariants as Heard;
@@ -24,11 +25,9 @@ use crate::answers::{HeardAnswer, MadeAnswer, MoveAnswer, RanAnswer};
 use crate::handle::LockstepHandle;
 use crate::read_answers::{AimAnswer, flag};
 use dn_lockstep::{Heard, Made, Ran};
+use dn_machine::Dropped;
 use dn_packet::MAX_DATAGRAM;
 use dn_tic::{Keys, Move};
-
-/// The number of the drop where a node does not play.
-pub(crate) const NOT_PLAYING: u8 = 13;
 
 /// Builds the command of these keys for the next tic.
 #[unsafe(no_mangle)]
@@ -87,11 +86,11 @@ pub extern "C" fn zmg_lockstep_receive(
     ensures { Calls (lockstep_of node.old) (lockstep_of node.new)
         (λ n k. (heard : Hearing) × (result ≡ heard_told heard)
         × Hears from bytes.now n k heard)
-        (result ≡ heard_told (Heard.Dropped 13)) }
+        (result ≡ heard_told (Heard.Dropped drops.not_playing)) }
 {
     match node.held() {
         Some(held) => HeardAnswer::of(held.receive(from, bytes)),
-        None => HeardAnswer::of(Heard::Dropped(NOT_PLAYING)),
+        None => HeardAnswer::of(Heard::Dropped(Dropped::NotPlaying as u8)),
     }
 }
 

@@ -4,6 +4,7 @@ ghost use Rattle.std.specs.Prelude.{◌≡◌, ◌<◌, ◌≤◌, ◌%◌, ◌^
 ghost use Rattle.dn_tic.specs.declared.command.Move.{Move as Step};
 ghost use Rattle.dn_tic.specs.declared.input.Input.TheVariants.{Pressed, Given};
 ghost use Rattle.dn_setup.specs.Starts.{bit};
+ghost use Rattle.dn_machine.specs.Drops as drops;
 ghost use Rattle.dn_machine.specs.declared.answers.Made.{Made as Built};
 ghost use Rattle.dn_machine.specs.declared.answers.Made.TheVariants as Made;
 ghost use Rattle.dn_machine.specs.declared.answers.Heard.TheVariants as Heard;
@@ -19,12 +20,13 @@ ghost use Rattle.zirmegat.specs.Sealed.{sealed_of, Keeps, SendsOut, HearsOpen, a
 
 use crate::answers::{HeardAnswer, MadeAnswer, MoveAnswer, RanAnswer};
 use crate::bytes;
-use crate::calls::{NOT_PLAYING, tell_run};
+use crate::calls::tell_run;
 use crate::commands::given;
 use crate::packets::CommandFields;
 use crate::read_answers::flag;
 use crate::sealed_handle::SealedHandle;
 use dn_lockstep::{Heard, Made, Ran};
+use dn_machine::Dropped;
 use dn_seal::MAX_ENVELOPE;
 use dn_tic::Keys;
 
@@ -89,11 +91,11 @@ pub extern "C" fn zmg_sealed_lockstep_packet(
 pub extern "C" fn zmg_sealed_lockstep_receive(node: &mut SealedHandle, bytes: &[u8]) -> HeardAnswer
     ensures { Calls (sealed_of node.old) (sealed_of node.new)
         (λ n k. (arrived : Arrival) × (result ≡ arrived_told arrived) × HearsOpen bytes.now n k arrived)
-        (result ≡ heard_told (Heard.Dropped 13)) }
+        (result ≡ heard_told (Heard.Dropped drops.not_playing)) }
 {
     match node.held() {
         Some(held) => HeardAnswer::arrived(held.receive(bytes)),
-        None => HeardAnswer::of(Heard::Dropped(NOT_PLAYING)),
+        None => HeardAnswer::of(Heard::Dropped(Dropped::NotPlaying as u8)),
     }
 }
 

@@ -19,16 +19,20 @@ pub(super) fn is_notice(bytes: &[u8]) -> bool
 }
 
 impl Link {
+    ghost use Rattle.std.specs.Prelude.{IfSome};
     ghost use Rattle.std.specs.Option.{option_map};
-    ghost use Rattle.dn_link.specs.Linked.{IsWhole};
+    ghost use Rattle.dn_report.specs.Text.{IsReport};
+    ghost use Rattle.dn_survivor.specs.Telling.{report_for};
+    ghost use Rattle.dn_link.specs.Linked.{IsWhole, surviving_of};
     ghost use Rattle.dn_link.specs.Notices.{HearsNotice, notice_for};
     ghost use Rattle.dn_link.specs.Linking.{identity_of, linked, seal_of};
     ghost use Rattle.dn_link.specs.Pacing.{pace_of};
 
     /// The report to a player, sealed, for each tick while somebody is given up, and while this player has left:
-    /// what `report` returns.
+    /// what `report` returns, which has the form of a report.
     pub fn report_datagram(&self, to: u8) -> Option<ArrayVec<u8, MAX_SEALED_REPORT>>
-        ensures { option_map (λ bytes. bytes.items) result ≡ notice_for (seal_of self.now) (linked self.now) to }
+        ensures sealed { option_map (λ bytes. bytes.items) result ≡ notice_for (seal_of self.now) (linked self.now) to }
+        ensures proper { IfSome (report_for (surviving_of (linked self.now)) to) IsReport }
     {
         match self.report(to) {
             Some(report) => Some(seal_report(&self.sealer, to, &report)),

@@ -1,0 +1,231 @@
+-- The links of one game in which players may be given up stay so.
+use Rattle.std.proofs.Common.{◌≡◌, ◌<◌, ℕ, ℤ, pos, Bool, true, false, List, get_or, refl, ap, sym, ◌∙◌, subst, Option, Some, inl, inr}
+use Rattle.std.specs.Prelude.{slice_get}
+use Rattle.std.proofs.lemmas.Bool.{cases_eq}
+use Rattle.dn_tic.specs.declared.command.Move.{Move}
+use Rattle.dn_tic.specs.declared.input.Input.{Input}
+use Rattle.dn_report.specs.declared.report.Report.{Report}
+use Rattle.dn_setup.specs.Settings.{Settings}
+use Rattle.dn_machine.specs.declared.answers.Made.{Made}
+use Rattle.dn_machine.specs.declared.answers.Ran.{Ran}
+use Rattle.dn_machine.specs.Building.{on_build}
+use Rattle.dn_machine.specs.Flight.{Flight}
+use Rattle.dn_machine.specs.Limits.{Limits}
+use Rattle.dn_machine.specs.Node.{put}
+use Rattle.dn_machine.specs.Running.{is_over, on_quit, on_run_but}
+use Rattle.dn_machine.proofs.Put.{put_at, put_off}
+use Rattle.dn_lockstep.specs.Contents.{end_in}
+use Rattle.dn_lockstep.specs.Marking.{Marking}
+use Rattle.dn_lockstep.specs.OneGame.{world_told}
+use Rattle.dn_lockstep.specs.Runs.{RunsBy}
+use Rattle.dn_lockstep.specs.Steps.{Steps}
+use Rattle.dn_survivor.specs.Calls.{GivesUp, HearsReport}
+use Rattle.dn_survivor.specs.OneGame.{AreRemaining}
+use Rattle.dn_survivor.specs.Session.{Given, Session, after_build, after_report, after_run, with_survivor}
+use Rattle.dn_survivor.specs.Surviving.{Surviving, has_given_up}
+use Rattle.dn_survivor.specs.Telling.{report_for}
+use Rattle.dn_survivor.specs.declared.answers.GivenUp.{GivenUp}
+use Rattle.dn_survivor.specs.declared.answers.Reported.{Reported}
+use Rattle.dn_survivor.proofs.OneGame as one_game
+use Rattle.dn_link.specs.Kept.{Unacknowledged}
+use Rattle.dn_link.specs.Linked.{Linked, PeerState, forgotten, surviving_of}
+use Rattle.dn_link.specs.RemainingLinks.{AreRemainingLinks, KeepsGiven}
+use Rattle.dn_link.specs.Surviving.{GivesUpPeer, forgotten_if, is_given_up}
+use Rattle.dn_link.proofs.Forgotten.{forgets, forgets_node, forgets_others}
+use Rattle.dn_link.proofs.Kepts.{AreKept}
+use Rattle.dn_link.proofs.Noticed.{reports_stay}
+use Rattle.dn_link.proofs.Relinking.{AreGiven, all_later}
+
+-- what was given is where no more was
+pub nothing_given : (session later : Session) → later.packets ≡ session.packets → later.reports ≡ session.reports
+    → KeepsGiven session later
+nothing_given session later packets reports = record {
+  packets = λ which packet found. ap (λ (fs : List Flight). slice_get fs which) packets ∙ found;
+  reports = λ which given found. ap (λ (gs : List Given). slice_get gs which) reports ∙ found;
+}
+
+-- the survivor of a link stays where a peer is forgotten
+forgets_surviving : (old : Linked) (peer : ℕ) → surviving_of (forgotten peer old) ≡ surviving_of old
+forgets_surviving old peer = λ i. record {
+  lockstep = forgets_node old peer i;
+  others = forgets_others old peer i;
+}
+
+surviving_if : (test : Bool) (peer : ℕ) (old : Linked)
+    → surviving_of (forgotten_if test peer old) ≡ surviving_of old
+surviving_if true peer old = forgets_surviving old peer
+surviving_if false peer old = refl
+
+kept_if : (test : Bool) (peer : ℕ) (old : Linked) (other : ℕ)
+    → ((forgotten_if test peer old).peers other).kept ≡ (old.peers other).kept
+kept_if true peer old other = (forgets old peer other).0
+kept_if false peer old other = refl
+
+module _ (marking : Marking) (limits : Limits) (settings : Settings) (session : Session) (links : ℕ → Linked)
+    (linked : AreRemainingLinks marking limits settings session links) where
+  -- they are those of one game after a call, and what was given stays so
+  abbrev pub GoOn : Session → (ℕ → Linked) → Type 0
+  GoOn later next = AreRemainingLinks marking limits settings later next × KeepsGiven session later
+
+  -- a link is another now, and the session another
+  pub relinked : (later : Session) (player : ℕ) (new : Linked) → AreRemaining marking limits settings later
+      → later.survivors ≡ put session.survivors player (surviving_of new) → KeepsGiven session later
+      → AreKept later.packets player new.peers → GoOn later (put links player new)
+  relinked later player new game placed given kept = (
+    record {
+      game = game;
+      survivors = λ other below. elim (cases_eq other player) [
+        | inl at ↦ ap surviving_of (put_at links player other new at)
+            ∙ sym (ap (λ (f : ℕ → Surviving). f other) placed
+            ∙ put_at session.survivors player other (surviving_of new) at)
+        | inr off ↦ ap surviving_of (put_off links player other new off) ∙ linked.survivors other below
+            ∙ sym (ap (λ (f : ℕ → Surviving). f other) placed
+            ∙ put_off session.survivors player other (surviving_of new) off)
+      ];
+      kept = λ other peer below. elim (cases_eq other player) [
+        | inl at ↦ subst (λ (l : Linked). AreGiven later.packets other peer (l.peers peer).kept.packets)
+            (sym (put_at links player other new at))
+            (subst (λ (k : ℕ). AreGiven later.packets k peer (new.peers peer).kept.packets) (sym at) (kept peer))
+        | inr off ↦ subst (λ (l : Linked). AreGiven later.packets other peer (l.peers peer).kept.packets)
+            (sym (put_off links player other new off))
+            (all_later session.packets later.packets given.packets other peer ((links other).peers peer).kept.packets
+            (linked.kept other peer below))
+      ];
+    },
+    given,
+  )
+
+  module _ (player : ℕ) (mine : player < limits.players) where
+    abbrev pub old : Linked
+    old = links player
+
+    pub survivor : surviving_of old ≡ session.survivors player
+    survivor = linked.survivors player mine
+
+    pub own : old.node.me ≡ player
+    own = ap (λ (s : Surviving). s.lockstep.me) survivor ∙ (linked.game.nodes player mine).node.whose.number
+
+    pub all_kept : AreKept session.packets player old.peers
+    all_kept peer = linked.kept player peer mine
+
+    -- a call that keeps the peers
+    pub called : (later : Session) (new : Linked) → AreRemaining marking limits settings later
+        → later.survivors ≡ put session.survivors player (surviving_of new) → KeepsGiven session later
+        → new.peers ≡ old.peers → GoOn later (put links player new)
+    called later new game placed given peers =
+        relinked later player new game placed given
+        (subst (λ (f : ℕ → PeerState). AreKept later.packets player f) (sym peers)
+        (λ peer. all_later session.packets later.packets given.packets player peer (old.peers peer).kept.packets
+        (all_kept peer)))
+
+    -- and one that changes nothing but who is there, and how far each is known to be
+    pub stays : (new : Linked) → surviving_of new ≡ surviving_of old
+        → AreKept session.packets player new.peers
+        → GoOn (with_survivor session player (surviving_of new)) (put links player new)
+    stays new same kept =
+        relinked (with_survivor session player (surviving_of new)) player new
+        (one_game.keeps marking limits settings linked.game player (surviving_of new) (same ∙ survivor)) refl
+        (nothing_given session (with_survivor session player (surviving_of new)) refl refl) kept
+
+    pub same_link : (new : Linked) → new ≡ old
+        → GoOn (with_survivor session player (surviving_of new)) (put links player new)
+    same_link new same =
+        stays new (ap surviving_of same)
+        (subst (λ (l : Linked). AreKept session.packets player l.peers) (sym same) all_kept)
+
+    pub built : (new : Linked) (input : Input) (made : Made)
+        → Steps old.node new.node (λ limits me m. on_build limits me m input) (λ answer. made ≡ answer)
+        → new.others ≡ old.others → new.peers ≡ old.peers
+        → GoOn (after_build session player input made (surviving_of new)) (put links player new)
+    built new input made step others peers =
+        called (after_build session player input made (surviving_of new)) new
+        (one_game.builds marking limits settings linked.game player mine (surviving_of new) input made
+        (subst (λ (s : Surviving). Steps s.lockstep new.node (λ limits me m. on_build limits me m input)
+        (λ answer. made ≡ answer)) survivor step)
+        (others ∙ ap (λ (s : Surviving). s.others) survivor)) refl
+        (nothing_given session (after_build session player input made (surviving_of new)) refl refl) peers
+
+    pub runs : (new : Linked) (marks : List ℤ) (ran : Ran) (row : Option (List (Option Move)))
+        → ((tic other : ℕ) → ran ≡ Ran.Ran tic → other < limits.players
+        → is_over (end_in old.node other) old.node.ran ≡ false
+        → get_or marks other (pos 0) ≡ marking (world_told limits settings (session.told player)) other)
+        → RunsBy marks old.node new.node
+        (λ limits m marks. on_run_but limits (has_given_up (surviving_of old)) m marks)
+        (λ answer told. (ran ≡ answer) × (row ≡ told))
+        → new.others ≡ old.others → new.peers ≡ old.peers
+        → GoOn (after_run session player row (surviving_of new)) (put links player new)
+    runs new marks ran row honest step others peers =
+        called (after_run session player row (surviving_of new)) new
+        (one_game.runs marking limits settings linked.game player mine (surviving_of new) marks ran row
+        (subst (λ (s : Surviving). (tic other : ℕ) → ran ≡ Ran.Ran tic → other < limits.players
+        → is_over (end_in s.lockstep other) s.lockstep.ran ≡ false
+        → get_or marks other (pos 0) ≡ marking (world_told limits settings (session.told player)) other)
+        survivor honest)
+        (subst (λ (s : Surviving). RunsBy marks s.lockstep new.node
+        (λ limits m marks. on_run_but limits (has_given_up s) m marks)
+        (λ answer told. (ran ≡ answer) × (row ≡ told))) survivor step)
+        (others ∙ ap (λ (s : Surviving). s.others) survivor)) refl
+        (nothing_given session (after_run session player row (surviving_of new)) refl refl) peers
+
+    pub quits : (new : Linked) (quit : Bool)
+        → Steps old.node new.node (λ limits me m. on_quit m) (λ answer. quit ≡ answer)
+        → new.others ≡ old.others → new.peers ≡ old.peers
+        → GoOn (with_survivor session player (surviving_of new)) (put links player new)
+    quits new quit step others peers =
+        called (with_survivor session player (surviving_of new)) new
+        (one_game.quits marking limits settings linked.game player mine (surviving_of new) quit
+        (subst (λ (s : Surviving). Steps s.lockstep new.node (λ limits me m. on_quit m) (λ answer. quit ≡ answer))
+        survivor step)
+        (others ∙ ap (λ (s : Surviving). s.others) survivor)) refl
+        (nothing_given session (with_survivor session player (surviving_of new)) refl refl) peers
+
+    pub forgot : (peer : ℕ) (new : Linked) → new ≡ forgotten peer old
+        → GoOn (with_survivor session player (surviving_of new)) (put links player new)
+    forgot peer new is =
+        stays new (ap surviving_of is ∙ forgets_surviving old peer)
+        (λ other. subst (λ (k : Unacknowledged). AreGiven session.packets player other k.packets)
+        (sym (ap (λ (l : Linked). (l.peers other).kept) is ∙ (forgets old peer other).0)) (all_kept other))
+
+    pub gives_up : (peer : ℕ) (new : Linked) (answer : GivenUp) → GivesUpPeer peer old new answer
+        → GoOn (with_survivor session player (surviving_of new)) (put links player new)
+    gives_up peer new answer (now, gives, is) =
+        let mid : Linked = record old { node = now.lockstep; others = now.others } in
+        let same : surviving_of new ≡ now = ap surviving_of is ∙ surviving_if (is_given_up answer) peer mid in
+        relinked (with_survivor session player (surviving_of new)) player new
+        (subst (λ (s : Surviving). AreRemaining marking limits settings (with_survivor session player s)) (sym same)
+        (one_game.gives_up marking limits settings linked.game player mine peer now answer
+        (subst (λ (s : Surviving). GivesUp peer s now answer) survivor gives))) refl
+        (nothing_given session (with_survivor session player (surviving_of new)) refl refl)
+        (λ other. subst (λ (k : Unacknowledged). AreGiven session.packets player other k.packets)
+        (sym (ap (λ (l : Linked). (l.peers other).kept) is ∙ kept_if (is_given_up answer) peer mid other))
+        (all_kept other))
+
+    pub told : (to : ℕ) (report : Option Report) → report ≡ report_for (surviving_of old) to
+        → GoOn (after_report session player to report) links
+    told to report is = (
+      record {
+        game = one_game.tells marking limits settings linked.game player mine to report
+            (is ∙ ap (λ (s : Surviving). report_for s to) survivor);
+        survivors = linked.survivors;
+        kept = linked.kept;
+      },
+      record {
+        packets = λ which packet found. found;
+        reports = λ which given found. reports_stay session.reports player to report which given found;
+      },
+    )
+
+  -- a report that was given comes to whom it was given
+  pub reported : (which : ℕ) (given : Given) (new : Linked) (answer : Reported)
+      → slice_get session.reports which ≡ Some given
+      → HearsReport given.from given.report (surviving_of (links given.to)) (surviving_of new) answer
+      → new.peers ≡ (links given.to).peers
+      → GoOn (with_survivor session given.to (surviving_of new)) (put links given.to new)
+  reported which given new answer found hears peers =
+      let below : given.to < limits.players =
+      (one_game.to_one marking limits settings linked.game which given found).0 in
+      called given.to below (with_survivor session given.to (surviving_of new)) new
+      (one_game.reports marking limits settings linked.game which given found (surviving_of new) answer
+      (subst (λ (s : Surviving). HearsReport given.from given.report s (surviving_of new) answer)
+      (linked.survivors given.to below) hears)) refl
+      (nothing_given session (with_survivor session given.to (surviving_of new)) refl refl) peers

@@ -1,0 +1,164 @@
+-- What a link takes in, within one game in which players may be given up.
+use Rattle.std.proofs.Common.{◌≡◌, ◌<◌, ℕ, Bool, true, false, List, refl, ap, sym, ◌∙◌, subst, arith, All, Some}
+use Rattle.std.specs.Prelude.{◌&&◌, not, Result, Ok, Err}
+use Rattle.dn_report.specs.declared.report.Report.{Report}
+use Rattle.dn_setup.specs.Settings.{Settings}
+use Rattle.dn_machine.specs.Limits.{Limits}
+use Rattle.dn_machine.specs.Node.{put}
+use Rattle.dn_lockstep.specs.Contents.{Contents}
+use Rattle.dn_lockstep.specs.Marking.{Marking}
+use Rattle.dn_others.specs.declared.others.Others.{Others}
+use Rattle.dn_others.specs.Keeping.{has}
+use Rattle.dn_survivor.specs.OneGame.{AreRemaining}
+use Rattle.dn_survivor.specs.Session.{Given, Session, with_survivor}
+use Rattle.dn_survivor.proofs.OneGame as one_game
+use Rattle.dn_seal.specs.declared.seal.Seal.{Seal}
+use Rattle.dn_notice.specs.declared.fault.ReportDatagramFault.{ReportDatagramFault}
+use Rattle.dn_notice.specs.Opening.{IsOpenedAs}
+use Rattle.dn_open.specs.Sealed.{sealing_of}
+use Rattle.dn_link.specs.declared.bundle.Bundle.{Bundle}
+use Rattle.dn_link.specs.declared.bundle.BundleFault.{BundleFault}
+use Rattle.dn_link.specs.declared.bundle.Identity.{Identity}
+use Rattle.dn_link.specs.declared.presence.Presence.{Presence}
+use Rattle.dn_link.specs.declared.received.Received.{Received}
+use Rattle.dn_link.specs.declared.received.Received.TheVariants.{GivenUp, Stranger}
+use Rattle.dn_link.specs.Bundles.{WasGiven}
+use Rattle.dn_link.specs.Hearing.{ByTest, HearsAll}
+use Rattle.dn_link.specs.Linked.{IsTakenIn, Linked, Receives, ReceivesAs, TakesIn, PeerState, has_given_up, hears, is_peer, met, surviving_of}
+use Rattle.dn_link.specs.Notices.{HearsNotice, HearsNoticeAs, is_notice}
+use Rattle.dn_link.specs.Paced.{PaceState}
+use Rattle.dn_link.specs.Packets.{packets_in}
+use Rattle.dn_link.specs.Reading.{IsBundledAs, IsDatagramOf}
+use Rattle.dn_link.specs.RemainingLinks.{AreRemainingLinks, CarriesGiven, IsGenuineIn}
+use Rattle.dn_link.proofs.Along.{all_along}
+use Rattle.dn_link.proofs.Genuine.{same_bundle}
+use Rattle.dn_link.proofs.Kepts.{AreKept, met_kept}
+use Rattle.dn_link.proofs.Letters.{AreWith, MayBeHeard, packet_keeps}
+use Rattle.dn_link.proofs.Noticed.{opened_given}
+use Rattle.dn_link.proofs.RemainingCalls as base
+use Rattle.dn_link.proofs.RemainingCalls.{GoOn, nothing_given}
+use Rattle.dn_link.proofs.Senders.{parts_from}
+
+module _ (marking : Marking) (limits : Limits) (settings : Settings) (session : Session) (links : ℕ → Linked)
+    (linked : AreRemainingLinks marking limits settings session links) (player : ℕ)
+    (mine : player < limits.players) where
+  abbrev old : Linked
+  old = links player
+
+  survivor : surviving_of old ≡ session.survivors player
+  survivor = base.survivor marking limits settings session links linked player mine
+
+  own : old.node.me ≡ player
+  own = base.own marking limits settings session links linked player mine
+
+  abbrev HasTaken : Linked → Type 0
+  HasTaken new =
+      GoOn marking limits settings session links linked (with_survivor session player (surviving_of new))
+      (put links player new)
+
+  same_link : (new : Linked) → new ≡ old → HasTaken new
+  same_link = base.same_link marking limits settings session links linked player mine
+
+  -- the survivors are those of one game with this lockstep at the player
+  abbrev AreHere : Contents → Type 0
+  AreHere now = AreWith marking limits settings session player old.others now
+
+  here : AreHere old.node
+  here = one_game.keeps marking limits settings linked.game player (surviving_of old) survivor
+
+  -- the packets of a datagram are heard, or none
+  by_heard : (bundle : Bundle) (new : Linked) (started : Bool)
+      → All (WasGiven session.packets player) (packets_in bundle) → has old.others.gone bundle.from ≡ false
+      → (test : Bool) → ByTest test (HearsAll (packets_in bundle) old.node new.node started)
+      ((new.node ≡ old.node) × (started ≡ false)) → AreHere new.node
+  by_heard bundle new started all free true hears =
+      all_along (MayBeHeard marking limits settings session player old.others) AreHere
+      (packet_keeps marking limits settings session player old.others) (packets_in bundle) old.node new.node started
+      here
+      (λ k d below. (
+        all k d below,
+        ap (λ (from : ℕ). has old.others.gone from) (parts_from bundle.from bundle.parts.items k d below) ∙ free,
+      )) hears
+  by_heard bundle new started all free false stays = subst AreHere (sym stays.0) here
+
+  taken_in : (identity : Identity) (fresh : Bool) (bundle : Bundle) (new : Linked) (presence : Presence)
+      (differs started : Bool) → All (WasGiven session.packets player) (packets_in bundle)
+      → has old.others.gone bundle.from ≡ false → TakesIn identity fresh bundle old new presence differs started
+      → HasTaken new
+  taken_in identity fresh bundle new presence differs started all free takes =
+      let game = by_heard bundle new started all free
+      (not differs && hears (met differs bundle presence old) presence) takes.heard in
+      base.relinked marking limits settings session links linked
+      (with_survivor session player (surviving_of new)) player new
+      (subst (λ (o : Others). AreRemaining marking limits settings
+      (with_survivor session player (record { lockstep = new.node; others = o }))) (sym takes.others) game)
+      refl (nothing_given session (with_survivor session player (surviving_of new)) refl refl)
+      (subst (λ (f : ℕ → PeerState). AreKept session.packets player f) (sym takes.peers)
+      (met_kept session.packets player old differs bundle presence
+      (base.all_kept marking limits settings session links linked player mine)))
+
+  -- a datagram that is opened
+  opened_in : (seal : Seal) (identity : Identity) (pace : PaceState) (bytes : List ℕ) (new : Linked)
+      (answer : Received) (bundle : Bundle) → CarriesGiven seal session bytes
+      → IsDatagramOf (sealing_of seal player) bytes bundle → has old.others.gone bundle.from ≡ false
+      → IsTakenIn identity pace bundle old new answer → HasTaken new
+  opened_in seal identity pace bytes new answer bundle was is free comes =
+      let same = same_bundle seal bytes bundle was.0 player is was.1 was.2 in
+      let all = subst (λ (b : Bundle). All (WasGiven session.packets b.to) (packets_in b)) same was.3 in
+      taken_in identity _ bundle new comes.0 comes.1 comes.2
+      (subst (λ (k : ℕ). All (WasGiven session.packets k) (packets_in bundle)) is.to all) free comes.4
+
+  received_as : (seal : Seal) (identity : Identity) (pace : PaceState) (bytes : List ℕ) (new : Linked)
+      (answer : Received) → IsGenuineIn seal session player bytes → (opened : Result Bundle BundleFault)
+      → IsBundledAs (sealing_of seal player) bytes opened → ReceivesAs identity pace opened old new answer
+      → HasTaken new
+  received_as seal identity pace bytes new answer genuine (Err fault) is comes = same_link new comes.1
+  received_as seal identity pace bytes new answer genuine (Ok bundle) is comes =
+      go (is_peer old.node bundle.from) comes
+    where
+      of_peer : (test : Bool) → has_given_up old bundle.from ≡ test
+          → ByTest test ((answer ≡ GivenUp bundle.from) × (new ≡ old)) (IsTakenIn identity pace bundle old new answer)
+          → HasTaken new
+      of_peer true gone comes = same_link new comes.1
+      of_peer false free comes =
+          opened_in seal identity pace bytes new answer bundle (genuine.datagram bundle is) is free comes
+
+      go : (test : Bool) → ByTest test
+          (ByTest (has_given_up old bundle.from) ((answer ≡ GivenUp bundle.from) × (new ≡ old))
+          (IsTakenIn identity pace bundle old new answer))
+          ((answer ≡ Stranger bundle.from) × (new ≡ old)) → HasTaken new
+      go true comes = of_peer (has_given_up old bundle.from) refl comes
+      go false comes = same_link new comes.1
+
+  -- a report that is opened
+  noticed_as : (seal : Seal) (pace after : PaceState) (bytes : List ℕ) (new : Linked) (answer : Received)
+      → IsGenuineIn seal session player bytes → (opened : Result (ℕ × Report) ReportDatagramFault)
+      → IsOpenedAs (sealing_of seal player) bytes opened → HearsNoticeAs opened old pace new after answer
+      → HasTaken new
+  noticed_as seal pace after bytes new answer genuine (Err fault) is comes = same_link new comes.1
+  noticed_as seal pace after bytes new answer genuine (Ok (from, report)) is (reported, said, hears, peers, paced) =
+      let was = genuine.report from report is in
+      let given : Given = was.1 in
+      let telling = (one_game.told_at marking limits settings linked.game was.0 given was.2).2 in
+      let few = (linked.game.nodes player mine).few in
+      let is_given = opened_given seal player bytes from report given (omega (arith, telling.sender, few))
+      telling.apart was.3 was.4 is in
+      let found = was.2 ∙ ap (λ (g : Given). Some g) is_given in
+      base.reported marking limits settings session links linked was.0
+      (record { from = from; to = player; report = report }) new reported found hears peers
+
+  pub received : (seal : Seal) (identity : Identity) (pace after : PaceState) (bytes : List ℕ) (new : Linked)
+      (answer : Received) → IsGenuineIn seal session player bytes
+      → (is_notice bytes ≡ false → Receives seal identity pace bytes old new answer)
+      → (is_notice bytes ≡ true → HearsNotice seal bytes old pace new after answer) → HasTaken new
+  received seal identity pace after bytes new answer genuine receives notices = go (is_notice bytes) refl
+    where
+      go : (test : Bool) → is_notice bytes ≡ test → HasTaken new
+      go true is =
+          let comes = notices is in
+          noticed_as seal pace after bytes new answer genuine comes.0
+          (subst (λ (k : ℕ). IsOpenedAs (sealing_of seal k) bytes comes.0) own comes.1) comes.2
+      go false is =
+          let comes = receives is in
+          received_as seal identity pace bytes new answer genuine comes.0
+          (subst (λ (k : ℕ). IsBundledAs (sealing_of seal k) bytes comes.0) own comes.1) comes.2

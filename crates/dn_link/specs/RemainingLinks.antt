@@ -1,0 +1,61 @@
+-- The links of one game in which players may be given up.
+use Rattle.std.specs.Prelude.{◌≡◌, ◌<◌, ◌⊎◌, ℕ, List, All, Some, slice_get}
+use Rattle.dn_setup.specs.Settings.{Settings}
+use Rattle.dn_report.specs.declared.report.Report.{Report}
+use Rattle.dn_report.specs.Text.{IsReport}
+use Rattle.dn_machine.specs.Flight.{Flight}
+use Rattle.dn_machine.specs.Limits.{Limits}
+use Rattle.dn_lockstep.specs.Marking.{Marking}
+use Rattle.dn_seal.specs.declared.seal.Seal.{Seal}
+use Rattle.dn_notice.specs.Opening.{IsReportFrom}
+use Rattle.dn_notice.specs.Text.{sealed_report_bytes}
+use Rattle.dn_open.specs.Sealed.{sealing_of}
+use Rattle.dn_survivor.specs.OneGame.{AreRemaining}
+use Rattle.dn_survivor.specs.Session.{Given, Session}
+use Rattle.dn_link.specs.declared.bundle.Bundle.{Bundle}
+use Rattle.dn_link.specs.Bundles.{WasGiven}
+use Rattle.dn_link.specs.Linked.{Linked, surviving_of}
+use Rattle.dn_link.specs.Packets.{opened_from, packets_in}
+use Rattle.dn_link.specs.Reading.{IsDatagramOf}
+use Rattle.dn_link.specs.Text.{IsBundle, sealed_bytes}
+
+-- each player's link has the player's survivor of one game, and keeps for each peer nothing but packets that
+-- were given to that peer in it
+pub record AreRemainingLinks (marking : Marking) (limits : Limits) (settings : Settings) (session : Session)
+    (links : ℕ → Linked) : Type 0 where
+  pub game : AreRemaining marking limits settings session
+  pub survivors : (player : ℕ) → player < limits.players → surviving_of (links player) ≡ session.survivors player
+  pub kept : (player peer : ℕ) → player < limits.players
+      → All (λ packet. WasGiven session.packets peer (opened_from player packet))
+      ((links player).peers peer).kept.packets
+
+-- the packets that were given stay so, and the reports
+pub record KeepsGiven (session later : Session) : Type 0 where
+  pub packets : (which : ℕ) (packet : Flight) → slice_get session.packets which ≡ Some packet
+      → slice_get later.packets which ≡ Some packet
+  pub reports : (which : ℕ) (given : Given) → slice_get session.reports which ≡ Some given
+      → slice_get later.reports which ≡ Some given
+
+-- the bytes are a datagram that carries nothing but packets of this game, to whom they were given
+abbrev pub CarriesGiven : Seal → Session → List ℕ → Type 0
+CarriesGiven seal session bytes =
+    (bundle : Bundle) × IsBundle bundle × (bytes ≡ sealed_bytes seal bundle)
+    × All (WasGiven session.packets bundle.to) (packets_in bundle)
+
+-- the bytes are a report of this game, sealed by who gave it to whom it was given
+abbrev pub TellsGiven : Seal → Session → List ℕ → Type 0
+TellsGiven seal session bytes =
+    (which : ℕ) × (given : Given) × (slice_get session.reports which ≡ Some given) × IsReport given.report
+    × (bytes ≡ sealed_report_bytes seal given.from given.to given.report)
+
+-- the bytes were sealed in this game, as a datagram or as a report
+abbrev pub WasSealedIn : Seal → Session → List ℕ → Type 0
+WasSealedIn seal session bytes = CarriesGiven seal session bytes ⊎ TellsGiven seal session bytes
+
+-- the one thing that is asked of the network, and of whoever has it in hand: what a player opens, as a datagram
+-- or as a report, was sealed as such in this game before. No tag was forged
+pub record IsGenuineIn (seal : Seal) (session : Session) (player : ℕ) (bytes : List ℕ) : Type 0 where
+  pub datagram : (bundle : Bundle) → IsDatagramOf (sealing_of seal player) bytes bundle
+      → CarriesGiven seal session bytes
+  pub report : (from : ℕ) (report : Report) → IsReportFrom (sealing_of seal player) bytes from report
+      → TellsGiven seal session bytes

@@ -1,0 +1,200 @@
+//! What holds of links of which players may be given up.
+
+ghost use Rattle.std.specs.Prelude.{◌≡◌, ◌<◌, ◌≤◌, ℕ, ℤ, pos, Bool, true, false, List, get_or, Option, Some, IfSome, Err, slice_get};
+ghost use Rattle.dn_tic.specs.declared.command.Move.{Move};
+ghost use Rattle.dn_tic.specs.declared.input.Input.{Input};
+ghost use Rattle.dn_setup.specs.Settings.{Settings};
+ghost use Rattle.dn_report.specs.declared.report.Report.{Report};
+ghost use Rattle.dn_report.specs.Text.{IsReport};
+ghost use Rattle.dn_machine.specs.declared.answers.Made.{Made};
+ghost use Rattle.dn_machine.specs.declared.answers.Ran.{Ran};
+ghost use Rattle.dn_machine.specs.Building.{on_build};
+ghost use Rattle.dn_machine.specs.Flight.{Flight};
+ghost use Rattle.dn_machine.specs.Game.{fresh};
+ghost use Rattle.dn_machine.specs.Limits.{Limits, IsWindow};
+ghost use Rattle.dn_machine.specs.Node.{put};
+ghost use Rattle.dn_machine.specs.Running.{is_over, on_quit, on_run_but};
+ghost use Rattle.dn_lockstep.specs.Contents.{end_in};
+ghost use Rattle.dn_lockstep.specs.Marking.{Marking};
+ghost use Rattle.dn_lockstep.specs.Near.{IsFair};
+ghost use Rattle.dn_lockstep.specs.OneGame.{world_told};
+ghost use Rattle.dn_lockstep.specs.Represents.{Represents};
+ghost use Rattle.dn_lockstep.specs.Runs.{RunsBy};
+ghost use Rattle.dn_lockstep.specs.Sent.{sent_to};
+ghost use Rattle.dn_lockstep.specs.Steps.{Steps, Tells};
+ghost use Rattle.dn_others.specs.Keeping.{nothing_kept};
+ghost use Rattle.dn_survivor.specs.Agreed.{AreAgreedInPairs, FitInPairs};
+ghost use Rattle.dn_survivor.specs.Calls.{HearsReport};
+ghost use Rattle.dn_survivor.specs.Demos.{DemosAgreeInPairs};
+ghost use Rattle.dn_survivor.specs.Session.{Given, Session, after_build, after_packet, after_report, after_run, opening_session, with_survivor};
+ghost use Rattle.dn_survivor.specs.Telling.{report_for};
+ghost use Rattle.dn_survivor.specs.declared.answers.GivenUp.{GivenUp};
+ghost use Rattle.dn_survivor.specs.declared.answers.Reported.{Reported};
+ghost use Rattle.dn_seal.specs.declared.seal.Seal.{Seal};
+ghost use Rattle.dn_notice.specs.declared.fault.ReportDatagramFault.{ReportDatagramFault};
+ghost use Rattle.dn_notice.specs.Opening.{IsOpenedAs};
+ghost use Rattle.dn_open.specs.Sealed.{sealing_of};
+ghost use Rattle.dn_link.specs.declared.bundle.BundleFault.{BundleFault};
+ghost use Rattle.dn_link.specs.declared.bundle.Identity.{Identity};
+ghost use Rattle.dn_link.specs.declared.received.Received.{Received};
+ghost use Rattle.dn_link.specs.Bundles.{IsEmpty};
+ghost use Rattle.dn_link.specs.Linked.{Gives, Linked, Receives, forgotten, has_given_up, holds_back, remains, surviving_of};
+ghost use Rattle.dn_link.specs.Linking.{new_peer};
+ghost use Rattle.dn_link.specs.Notices.{HearsNotice, is_notice, notice_for};
+ghost use Rattle.dn_link.specs.Paced.{PaceState};
+ghost use Rattle.dn_link.specs.Reading.{IsBundledAs};
+ghost use Rattle.dn_link.specs.RemainingLinks.{AreRemainingLinks, IsGenuineIn, KeepsGiven, WasSealedIn};
+ghost use Rattle.dn_link.specs.Surviving.{GivesUpPeer};
+
+use dn_survivor::{remaining_game_opens, survivors_agree};
+
+/// New links of the same limits, one for each player, of which player 0's has these settings, are those of one
+/// game in which players may be given up. Each premise is what `Link::new` says of one of them, by its clauses
+/// `opened`, `others` and `peers`; the limits are those of a window of a game of four at most, as `windows_hold`
+/// and `new`'s `admitted` say.
+pub fn remaining_links_open()
+    ensures { (marking : Marking) (limits : Limits) (settings : Settings) (links : ℕ → Linked)
+        → IsWindow limits → limits.players ≤ 4 → limits.places ≤ 24
+        → ((player : ℕ) → player < limits.players
+        → Represents limits player (links player).node (fresh settings player))
+        → ((player : ℕ) → player < limits.players → (links player).others ≡ nothing_kept)
+        → ((player peer : ℕ) → player < limits.players → (links player).peers peer ≡ new_peer)
+        → AreRemainingLinks marking limits settings
+        (opening_session (λ player. surviving_of (links player))) links }
+{
+    remaining_game_opens();
+}
+
+/// And so they stay after each call on one of them, whatever bytes come in, as long as what it opens was sealed
+/// in this game before: what `Link::datagram` and `Link::report_datagram` give was. At a run the caller hands in
+/// the marks of a world that moved on by the rows that it was told, of the players who take part in the tic; and
+/// a report that is handed in by itself comes as `Link::report` gave it, to whom it was given. Whom a link gives
+/// up, and when, is not asked. `built` is of `build`, `give` and `catch_up`, `gave` of `datagram`, `told` of
+/// `report`, `sealed` of `report_datagram`, `received` of `receive`, `reported` of `hear_report`, and `kept` of
+/// a call that changes nothing.
+pub fn remaining_links_go_on()
+    ensures built { (marking : Marking) (limits : Limits) (settings : Settings) (session : Session) (links : ℕ → Linked)
+        (player : ℕ) (new : Linked) (input : Input) (made : Made)
+        → AreRemainingLinks marking limits settings session links → player < limits.players
+        → Steps (links player).node new.node (λ limits me m. on_build limits me m input) (λ answer. made ≡ answer)
+        → new.others ≡ (links player).others → new.peers ≡ (links player).peers
+        → AreRemainingLinks marking limits settings (after_build session player input made (surviving_of new))
+        (put links player new)
+        × KeepsGiven session (after_build session player input made (surviving_of new)) }
+    ensures ran { (marking : Marking) (limits : Limits) (settings : Settings) (session : Session) (links : ℕ → Linked)
+        (player : ℕ) (new : Linked) (marks : List ℤ) (ran : Ran) (row : Option (List (Option Move)))
+        → AreRemainingLinks marking limits settings session links → player < limits.players
+        → ((tic : ℕ) (other : ℕ) → ran ≡ Ran.Ran tic → other < limits.players
+        → is_over (end_in (links player).node other) (links player).node.ran ≡ false
+        → get_or marks other (pos 0) ≡ marking (world_told limits settings (session.told player)) other)
+        → RunsBy marks (links player).node new.node
+        (λ limits m marks. on_run_but limits (has_given_up (links player)) m marks)
+        (λ answer told. (ran ≡ answer) × (row ≡ told))
+        → new.others ≡ (links player).others → new.peers ≡ (links player).peers
+        → AreRemainingLinks marking limits settings (after_run session player row (surviving_of new))
+        (put links player new)
+        × KeepsGiven session (after_run session player row (surviving_of new)) }
+    ensures quit { (marking : Marking) (limits : Limits) (settings : Settings) (session : Session) (links : ℕ → Linked)
+        (player : ℕ) (new : Linked) (quit : Bool)
+        → AreRemainingLinks marking limits settings session links → player < limits.players
+        → Steps (links player).node new.node (λ limits me m. on_quit m) (λ answer. quit ≡ answer)
+        → new.others ≡ (links player).others → new.peers ≡ (links player).peers
+        → AreRemainingLinks marking limits settings (with_survivor session player (surviving_of new))
+        (put links player new)
+        × KeepsGiven session (with_survivor session player (surviving_of new)) }
+    ensures forgot { (marking : Marking) (limits : Limits) (settings : Settings) (session : Session) (links : ℕ → Linked)
+        (player peer : ℕ) (new : Linked)
+        → AreRemainingLinks marking limits settings session links → player < limits.players
+        → new ≡ forgotten peer (links player)
+        → AreRemainingLinks marking limits settings (with_survivor session player (surviving_of new))
+        (put links player new)
+        × KeepsGiven session (with_survivor session player (surviving_of new)) }
+    ensures gave_up { (marking : Marking) (limits : Limits) (settings : Settings) (session : Session) (links : ℕ → Linked)
+        (here player : ℕ) (new : Linked) (answer : GivenUp)
+        → AreRemainingLinks marking limits settings session links → here < limits.players
+        → GivesUpPeer player (links here) new answer
+        → AreRemainingLinks marking limits settings (with_survivor session here (surviving_of new))
+        (put links here new)
+        × KeepsGiven session (with_survivor session here (surviving_of new)) }
+    ensures gave { (marking : Marking) (limits : Limits) (settings : Settings) (session : Session) (links : ℕ → Linked)
+        (player to : ℕ) (seal : Seal) (identity : Identity) (pace : PaceState) (new : Linked) (bytes : List ℕ)
+        → AreRemainingLinks marking limits settings session links → player < limits.players
+        → remains (links player) to ≡ true
+        → (holds_back (links player) ≡ false
+        → Tells (links player).node (λ limits me m. IfSome (sent_to to limits me m).1 IsFair))
+        → Gives seal identity pace to (links player) new bytes
+        → (packet : Option Flight) × WasSealedIn seal (after_packet session player packet (surviving_of new)) bytes
+        × AreRemainingLinks marking limits settings (after_packet session player packet (surviving_of new))
+        (put links player new)
+        × KeepsGiven session (after_packet session player packet (surviving_of new)) }
+    ensures told { (marking : Marking) (limits : Limits) (settings : Settings) (session : Session) (links : ℕ → Linked)
+        (player to : ℕ) (report : Option Report)
+        → AreRemainingLinks marking limits settings session links → player < limits.players
+        → report ≡ report_for (surviving_of (links player)) to
+        → AreRemainingLinks marking limits settings (after_report session player to report) links
+        × KeepsGiven session (after_report session player to report) }
+    ensures sealed { (marking : Marking) (limits : Limits) (settings : Settings) (session : Session) (links : ℕ → Linked)
+        (player to : ℕ) (seal : Seal) (report : Option Report) (bytes : Option (List ℕ))
+        → AreRemainingLinks marking limits settings session links → player < limits.players
+        → report ≡ report_for (surviving_of (links player)) to → IfSome report IsReport
+        → bytes ≡ notice_for seal (links player) to
+        → IfSome bytes (WasSealedIn seal (after_report session player to report))
+        × AreRemainingLinks marking limits settings (after_report session player to report) links
+        × KeepsGiven session (after_report session player to report) }
+    ensures received { (marking : Marking) (limits : Limits) (settings : Settings) (session : Session) (links : ℕ → Linked)
+        (player : ℕ) (seal : Seal) (identity : Identity) (pace after : PaceState) (bytes : List ℕ) (new : Linked)
+        (answer : Received)
+        → AreRemainingLinks marking limits settings session links → player < limits.players
+        → IsGenuineIn seal session player bytes
+        → (is_notice bytes ≡ false → Receives seal identity pace bytes (links player) new answer)
+        → (is_notice bytes ≡ true → HearsNotice seal bytes (links player) pace new after answer)
+        → AreRemainingLinks marking limits settings (with_survivor session player (surviving_of new))
+        (put links player new)
+        × KeepsGiven session (with_survivor session player (surviving_of new)) }
+    ensures reported { (marking : Marking) (limits : Limits) (settings : Settings) (session : Session) (links : ℕ → Linked)
+        (which : ℕ) (given : Given) (new : Linked) (answer : Reported)
+        → AreRemainingLinks marking limits settings session links → slice_get session.reports which ≡ Some given
+        → HearsReport given.from given.report (surviving_of (links given.to)) (surviving_of new) answer
+        → new.peers ≡ (links given.to).peers
+        → AreRemainingLinks marking limits settings (with_survivor session given.to (surviving_of new))
+        (put links given.to new)
+        × KeepsGiven session (with_survivor session given.to (surviving_of new)) }
+    ensures kept { (marking : Marking) (limits : Limits) (settings : Settings) (session : Session) (links : ℕ → Linked)
+        (player : ℕ) (new : Linked)
+        → AreRemainingLinks marking limits settings session links → player < limits.players
+        → new ≡ links player
+        → AreRemainingLinks marking limits settings (with_survivor session player (surviving_of new))
+        (put links player new)
+        × KeepsGiven session (with_survivor session player (surviving_of new)) }
+{}
+
+/// What was sealed in such a game may come to any link of it at any later time, and so may bytes that a link
+/// refuses, and a datagram without packets. So whoever hands in nothing but these keeps what
+/// `remaining_links_go_on` asks of bytes that come in.
+pub fn remaining_bytes_are_genuine()
+    ensures stay { (seal : Seal) (session later : Session) (bytes : List ℕ) → KeepsGiven session later
+        → WasSealedIn seal session bytes → WasSealedIn seal later bytes }
+    ensures empty { (seal : Seal) (session : Session) (bytes : List ℕ) → IsEmpty seal bytes
+        → WasSealedIn seal session bytes }
+    ensures genuine { (seal : Seal) (session : Session) (player : ℕ) (bytes : List ℕ)
+        → WasSealedIn seal session bytes → IsGenuineIn seal session player bytes }
+    ensures refused { (seal : Seal) (session : Session) (player : ℕ) (bytes : List ℕ) (fault : BundleFault)
+        (other : ReportDatagramFault)
+        → IsBundledAs (sealing_of seal player) bytes (Err fault)
+        → IsOpenedAs (sealing_of seal player) bytes (Err other) → IsGenuineIn seal session player bytes }
+{}
+
+/// The survivors of such links agree, in all that `survivors_agree` says: any two players of whom neither has
+/// given up the other were told the same rows and know the same ends, any two at all used the same move of every
+/// player that both have, of their demos one is a prefix of the other, and no check failed.
+pub fn remaining_links_agree()
+    ensures agreed { (marking : Marking) (limits : Limits) (settings : Settings) (session : Session) (links : ℕ → Linked)
+        → AreRemainingLinks marking limits settings session links → AreAgreedInPairs limits settings session }
+    ensures fit { (marking : Marking) (limits : Limits) (settings : Settings) (session : Session) (links : ℕ → Linked)
+        → AreRemainingLinks marking limits settings session links → FitInPairs limits session }
+    ensures demos { (marking : Marking) (limits : Limits) (settings : Settings) (session : Session) (links : ℕ → Linked)
+        → AreRemainingLinks marking limits settings session links
+        → DemosAgreeInPairs limits.players settings session }
+{
+    survivors_agree();
+}
