@@ -1,5 +1,5 @@
 -- A node that gives up a player or hears a report starts and begins its world, or leaves its world as it is.
-use Rattle.std.proofs.Common.{◌≡◌, ◌≢◌, ℕ, Bool, true, false, Option, Some, None, refl, ap, sym, ◌∙◌}
+use Rattle.std.proofs.Common.{◌≡◌, ◌≢◌, ℕ, Bool, true, Some, None, refl, ap, sym, ◌∙◌}
 use Rattle.std.proofs.lemmas.Bool.{cond_both}
 use Rattle.dn_report.specs.declared.report.Report.{Report as Told}
 use Rattle.dn_setup.specs.Gathered.{all_noted}

@@ -1,5 +1,5 @@
 -- A run is by the marks of the node's own world, and moves the world on by the row that it tells.
-use Rattle.std.proofs.Common.{◌≡◌, ◌≢◌, ◌<◌, ◌≤◌, ℕ, ℤ, pos, Bool, true, false, List, [], ◌∷◌, ◌++◌, length, fold, Option, Some, None, refl, ap, sym, ◌∙◌, subst, arith}
+use Rattle.std.proofs.Common.{◌≡◌, ◌<◌, ℕ, ℤ, pos, Bool, true, List, [], ◌∷◌, ◌++◌, length, fold, Option, Some, None, refl, ap, sym, ◌∙◌, subst, arith}
 use Rattle.std.specs.Prelude.{get_or, ◌==◌, if◌then◌else◌}
 use Rattle.std.specs.Option.{option_map}
 use Rattle.std.proofs.lemmas.Bool.{cond_both}
@@ -15,7 +15,7 @@ use Rattle.dn_machine.specs.declared.answers.Phase.TheVariants.{Listening, Gathe
 use Rattle.dn_machine.specs.declared.answers.Ran.{Ran}
 use Rattle.dn_machine.specs.Game.{own_world, own_marks}
 use Rattle.dn_machine.specs.Limits.{Limits}
-use Rattle.dn_machine.specs.Node.{Node, lowest, put, ran}
+use Rattle.dn_machine.specs.Node.{Node, lowest, ran}
 use Rattle.dn_machine.specs.Running.{first_off_but, full_at, is_awaited, marks_kept, on_run_but, on_run_but_in, on_run_playing, row_held}
 use Rattle.dn_machine.specs.Worlds.{Rules, mark_in, opening, rules_within, world_after}
 use Rattle.dn_lockstep.specs.Runs.{RunsBy, marks_in, row_told, told_by}

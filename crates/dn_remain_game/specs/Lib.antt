@@ -1,1 +1,10 @@
 pub mod Living
+pub mod Contents
+pub mod Represents
+pub mod Events
+pub mod Applied
+pub mod Room
+pub mod Opening
+pub mod Fresh
+pub mod InputsMade
+pub mod Promised

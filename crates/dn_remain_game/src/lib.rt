@@ -1,14 +1,29 @@
-//! One player's node that can go on without players who vanished: a survivor and a world, kept in step. Where
-//! no report is false, each call is one of `dn_remain`'s node, and the world is the one that the node's own
-//! rows lead to.
+//! Games whose players can go on without those who vanished: each player's node, a survivor and a world, kept
+//! in step; and all nodes of a game under one list of events, with the packets and reports under way.
 //!
-//! Nothing runs these nodes yet, so nothing is promised of games of them.
+//! Where no report is false, each call of a node is one of `dn_remain`'s node, and the world is the one that
+//! the node's own rows lead to. Each event of a game is one of `dn_remain`'s game, so what that promises of
+//! every list of events holds of it.
 #![tactic(auto)]
 
+mod config;
+mod game;
+#[cfg(test)]
+mod game_tests;
+mod happened;
 mod lived;
+mod playing;
 #[cfg(test)]
 mod tests;
+mod under_way;
 
+pub use config::{GameConfig, GameFault};
 pub use dn_lockstep::{Aim, Config, NodeFault};
+pub use dn_machine::{Done, Event, Refusal};
+pub use dn_remain::RemainEvent;
 pub use dn_survivor::{GivenUp, Reported, Survivor};
+pub use game::Game;
+pub use happened::Happened;
 pub use lived::Lived;
+pub use playing::{Played, play_remaining};
+pub use under_way::{Flight, Telling};

@@ -4,6 +4,7 @@ ghost use Rattle.std.specs.Prelude.{◌≡◌, ◌≢◌, ◌<◌, ℕ, pos, tru
 ghost use Rattle.dn_tic.specs.declared.input.Input.TheVariants.{Pressed, Given};
 ghost use Rattle.dn_setup.specs.Settings.{Settings};
 ghost use Rattle.dn_setup.specs.Starts.{start_of};
+ghost use Rattle.dn_machine.specs.Drops as drops;
 ghost use Rattle.dn_machine.specs.declared.answers.Heard.TheVariants as heard;
 ghost use Rattle.dn_machine.specs.declared.answers.Phase.TheVariants as phase;
 ghost use Rattle.dn_lockstep.specs.Giving.{Gives};
@@ -77,7 +78,7 @@ impl<W: World> Lived<W> {
         ensures near { has_given_up (living self.old).survivor from ≡ false → HearsNear W.state W.physics from
             bytes.now (living self.old) (living self.new) result }
         ensures barred { has_given_up (living self.old).survivor from ≡ true
-            → (result ≡ heard.Dropped 15) × (living self.new ≡ living self.old) }
+            → (result ≡ heard.Dropped drops.given_up) × (living self.new ≡ living self.old) }
     {
         let heard = self.survivor.receive(from, bytes);
         if let Heard::Started = heard {

@@ -1,6 +1,5 @@
-use Rattle.std.proofs.Common.{◌≡◌, ℕ, List, Option, Some, None, refl, ap, sym, ◌∙◌}
+use Rattle.std.proofs.Common.{◌≡◌, Some, refl, ap, sym, ◌∙◌}
 use Rattle.std.proofs.lemmas.Option.{none-some, same_Some}
-use Rattle.dn_tic.specs.declared.command.Move.{Move}
 use Rattle.dn_machine.specs.declared.answers.Ran.{Ran}
 use Rattle.dn_lockstep.specs.Runs.{told_by}
 use Rattle.dn_survivor.specs.Surviving.{surviving}

@@ -1,0 +1,50 @@
+-- One event more in a list that was played, and what is promised of the whole.
+use Rattle.std.proofs.Common.{◌≡◌, List, [], ◌∷◌, ◌++◌, Result, Ok, Err, sym, subst, arith}
+use Rattle.std.specs.Prelude.{count_by, is_ok, is_err}
+use Rattle.dn_setup.specs.Settings.{Settings}
+use Rattle.dn_world.specs.Physics.{Physics}
+use Rattle.dn_machine.specs.Limits.{Limits}
+use Rattle.dn_machine.specs.Worlds.{rules_within}
+use Rattle.dn_remain.specs.Remaining.{opening_remaining}
+use Rattle.dn_remain.specs.declared.events.RemainEvent.{RemainEvent}
+use Rattle.dn_remain_game.specs.declared.playing.Played.{Played}
+use Rattle.dn_remain_game.specs.Contents.{contents}
+use Rattle.dn_remain_game.specs.Promised.{AppliesOne, HasPlayed, IsPlayed}
+use Rattle.dn_remain_game.proofs.Answering.{counts_more, plays_leads}
+use Rattle.dn_remain_game.proofs.Promising.{promised}
+
+-- one answer
+pub one_done : {A E : Type 0} (answer : Result A E) (done : A) → answer ≡ Ok done
+    → (count_by is_ok (answer ∷ []) ≡ 1) × (count_by is_err (answer ∷ []) ≡ 0)
+one_done {A} {E} answer done is =
+    let P : Result A E → Type 0 = λ a. (count_by is_ok (a ∷ []) ≡ 1) × (count_by is_err (a ∷ []) ≡ 0) in
+    subst P (sym is) (omega arith, omega arith)
+
+pub one_refused : {A E : Type 0} (answer : Result A E) (refusal : E) → answer ≡ Err refusal
+    → (count_by is_ok (answer ∷ []) ≡ 0) × (count_by is_err (answer ∷ []) ≡ 1)
+one_refused {A} {E} answer refusal is =
+    let P : Result A E → Type 0 = λ a. (count_by is_ok (a ∷ []) ≡ 0) × (count_by is_err (a ∷ []) ≡ 1) in
+    subst P (sym is) (omega arith, omega arith)
+
+module _ {W S : Type 0} (state : W → S) (physics : Physics S) (limits : Limits) (settings : Settings)
+    (events : List RemainEvent) where
+  pub played_more : (event : RemainEvent) (played next : Played W)
+      → IsPlayed state (rules_within physics limits) settings events played
+      → AppliesOne state physics played next event
+      → IsPlayed state (rules_within physics limits) settings (events ++ event ∷ []) next
+  played_more event played next before one = record {
+    answers = before.answers ++ one.answer ∷ [];
+    reached = one.carried limits settings events before.answers before.reached;
+    done = counts_more is_ok before.answers one.answer _ _ before.done one.done;
+    refused = counts_more is_err before.answers one.answer _ _ before.refused one.refused;
+  }
+
+  pub has_played : (played : Played W) → IsPlayed state (rules_within physics limits) settings events played
+      → HasPlayed state (rules_within physics limits) settings events played
+  has_played played is = record {
+    events_played = is;
+    promised = promised state physics limits settings events is.reached.last
+        (plays_leads (rules_within physics limits) events is.answers (opening_remaining settings) is.reached.last
+        is.reached.plays)
+        (contents played.game) is.reached.game is.answers is.reached.plays;
+  }

@@ -1,0 +1,217 @@
+-- A report joins those that were told, and comes to its receiver.
+use Rattle.dn_remain_game.proofs.Vanilla.{window_of}
+use Rattle.std.proofs.Common.{◌≡◌, ◌≢◌, ◌<◌, ◌≤◌, ◌++◌, ℕ, zero, suc, List, [], ◌∷◌, length, map, set, Option, Some, None, Result, refl, ap, sym, ◌∙◌, subst, arith}
+use Rattle.std.specs.Prelude.{slice_get, slice_index_or}
+use Rattle.std.specs.Option.{option_map}
+use Rattle.std.proofs.lemmas.List.{length-map, map_push}
+use Rattle.std.proofs.lemmas.Option.{none-some, slice_get-map, slice_get_read, slice_get_within}
+use Rattle.dn_report.specs.declared.report.Report.{Report as Told}
+use Rattle.dn_setup.specs.Settings.{Settings}
+use Rattle.dn_world.specs.Physics.{Physics}
+use Rattle.dn_machine.specs.declared.events.Refusal.{Refusal}
+use Rattle.dn_machine.specs.Limits.{Limits}
+use Rattle.dn_machine.specs.Worlds.{Rules, rules_within}
+use Rattle.dn_others.specs.Represents.{AreTold, Tells}
+use Rattle.dn_remain.specs.Remaining.{Remaining, Telling as Exact, wary_of}
+use Rattle.dn_remain.specs.Wary.{Report, Wary, on_report, report_to}
+use Rattle.dn_remain.specs.declared.events.RemainEvent.{RemainEvent}
+use Rattle.dn_survivor.specs.OneGame.{AreTelling, IsTelling}
+use Rattle.dn_survivor.specs.Session.{Given}
+use Rattle.dn_survivor.specs.Telling.{report_for}
+use Rattle.dn_survivor.specs.declared.answers.Reported.{Reported}
+use Rattle.dn_survivor.proofs.Decided.{told_can}
+use Rattle.dn_survivor.proofs.Reports as telling
+use Rattle.dn_remain_game.specs.declared.happened.Happened.{Happened}
+use Rattle.dn_remain_game.specs.declared.lived.Lived.{Lived}
+use Rattle.dn_remain_game.specs.declared.under_way.Telling.{Telling}
+use Rattle.dn_remain_game.specs.Applied.{IsAfter, IsReached}
+use Rattle.dn_remain_game.specs.Contents.{Contents}
+use Rattle.dn_machine.specs.Game.{refused_at}
+use Rattle.dn_remain_game.specs.Events.{heard_at, refused_telling, told_report}
+use Rattle.dn_remain_game.specs.Living as node_to
+use Rattle.dn_remain_game.specs.Living.{Hears, living}
+use Rattle.dn_remain_game.specs.Represents.{Represents, given_of}
+use Rattle.dn_remain_game.proofs.Answering.{plays_leads}
+use Rattle.dn_remain_game.proofs.Standing.{node_at, places_wary}
+
+-- a report that was given is one that was told
+telling_at : (limits : Limits) (reports : List Given) (tellings : List Exact) → AreTelling limits reports tellings
+    → (which : ℕ) (given : Given) → slice_get reports which ≡ Some given
+    → (t : Exact) × (slice_get tellings which ≡ Some t) × IsTelling limits given t
+telling_at limits [] [] h which given at = absurd (none-some given at)
+telling_at limits [] (t ∷ tellings) h which given at = absurd h
+telling_at limits (g ∷ reports) [] h which given at = absurd h
+telling_at limits (g ∷ reports) (t ∷ tellings) h zero given at =
+    (t, refl, subst (λ (x : Given). IsTelling limits x t) (cc) h.0)
+telling_at limits (g ∷ reports) (t ∷ tellings) h (suc which) given at =
+    telling_at limits reports tellings h.1 which given at
+
+-- one more is
+telling_more : (limits : Limits) (reports : List Given) (tellings : List Exact) (given : Given) (t : Exact)
+    → AreTelling limits reports tellings → IsTelling limits given t
+    → AreTelling limits (reports ++ given ∷ []) (tellings ++ t ∷ [])
+telling_more limits [] [] given t h is = (is, tt)
+telling_more limits [] (u ∷ tellings) given t h is = absurd h
+telling_more limits (g ∷ reports) [] given t h is = absurd h
+telling_more limits (g ∷ reports) (u ∷ tellings) given t h is =
+    (h.0, telling_more limits reports tellings given t h.1 is)
+
+-- and there are as many
+pub as_many : (limits : Limits) (reports : List Given) (tellings : List Exact)
+    → AreTelling limits reports tellings → length reports ≡ length tellings
+as_many limits [] [] h = refl
+as_many limits [] (t ∷ tellings) h = absurd h
+as_many limits (g ∷ reports) [] h = absurd h
+as_many limits (g ∷ reports) (t ∷ tellings) h = ap suc (as_many limits reports tellings h.1)
+
+-- no report is for its sender
+told_apart : (limits : Limits) (me : ℕ) (wary : Wary) (to : ℕ) (told : Report)
+    → report_to limits me wary to ≡ Some told → me ≢ to
+told_apart limits me wary to told is e = grind (arith, is, e)
+
+module _ {W S : Type 0} (state : W → S) (rules : Rules S) (g : Contents W) (all : Remaining)
+    (r : Represents state rules g all) (node to : ℕ) (n : Lived W) (below : node < length g.nodes)
+    (there : to < length g.nodes) (read : n ≡ slice_index_or g.nodes node n) (reports : List Telling) where
+  abbrev Tells_to : Option Report → Happened → Type 0
+  Tells_to told answer = IsAfter state rules (record g { reports = reports }) (told_report all node to told) answer
+
+  shown : node_to.Represents state rules node (living n) (wary_of all node)
+  shown = node_at state rules g all r node n below read
+
+  are_told : (given : Option Told) → given ≡ report_for (living n).survivor to
+      → AreTold rules.players rules.places to node given (report_to rules.limits node (wary_of all node) to)
+  are_told given is =
+      subst (λ (o : Option Told). AreTold rules.players rules.places to node o
+      (report_to rules.limits node (wary_of all node) to)) (sym is)
+      (telling.told rules.limits node (living n).survivor (wary_of all node) shown.survivor to
+      (omega (arith, there, r.players)))
+
+  none_of : (told : Option Report) → AreTold rules.players rules.places to node None told → reports ≡ g.reports
+      → Tells_to told Happened.Untold
+  none_of (Some told) h same = absurd h
+  none_of None h same = record {
+    game = record {
+      players = r.players;
+      vanilla = r.vanilla;
+      nodes = r.nodes;
+      stopped = r.stopped;
+      flights = r.flights;
+      carried = r.carried;
+      reports = subst (λ (ts : List Telling). AreTelling rules.limits (map given_of ts) all.reports) (sym same) r.reports;
+    };
+    answered = refl;
+  }
+
+  pub tells_none : None ≡ report_for (living n).survivor to → reports ≡ g.reports
+      → Tells_to (report_to rules.limits node (wary_of all node) to) Happened.Untold
+  tells_none is same = none_of (report_to rules.limits node (wary_of all node) to) (are_told None is) same
+
+  some_of : (given : Told) (told : Option Report) → report_to rules.limits node (wary_of all node) to ≡ told
+      → AreTold rules.players rules.places to node (Some given) told
+      → reports ≡ g.reports ++ record { from = node; to = to; report = given } ∷ []
+      → (which : ℕ) → which ≡ length g.reports → Tells_to told (Happened.Told which)
+  some_of given None is h more which last = absurd h
+  some_of given (Some told) is h more which last = record {
+    game = record {
+      players = r.players;
+      vanilla = r.vanilla;
+      nodes = r.nodes;
+      stopped = r.stopped;
+      flights = r.flights;
+      carried = r.carried;
+      reports = subst (λ (gs : List Given). AreTelling rules.limits gs
+          (all.reports ++ record { from = node; to = to; report = told } ∷ []))
+          (sym (ap (map given_of) more
+          ∙ map_push given_of g.reports (record { from = node; to = to; report = given })))
+          (telling_more rules.limits (map given_of g.reports) all.reports
+          (record { from = node; to = to; report = given }) (record { from = node; to = to; report = told })
+          r.reports (record {
+            from = refl;
+            to = refl;
+            sender = omega (arith, below, r.players);
+            apart = told_apart rules.limits node (wary_of all node) to told is;
+            tells = h;
+          }));
+    };
+    answered = ap Happened.Told (last ∙ sym (length-map g.reports given_of)
+        ∙ as_many rules.limits (map given_of g.reports) all.reports r.reports);
+  }
+
+  pub tells_some : (given : Told) → Some given ≡ report_for (living n).survivor to
+      → reports ≡ g.reports ++ record { from = node; to = to; report = given } ∷ []
+      → (which : ℕ) → which ≡ length g.reports
+      → Tells_to (report_to rules.limits node (wary_of all node) to) (Happened.Told which)
+  tells_some given is more which last =
+      some_of given (report_to rules.limits node (wary_of all node) to) refl (are_told (Some given) is) more which
+      last
+
+-- a report comes to its receiver
+pub hears_report : {W S : Type 0} (state : W → S) (physics : Physics S) (g : Contents W) (limits : Limits)
+    (settings : Settings) (events : List RemainEvent) (answers : List (Result Happened Refusal))
+    (reached : IsReached state (rules_within physics limits) settings events answers g) (which to : ℕ)
+    (entry : Telling) (report : Told) (old new : Lived W) (answer : Reported)
+    → which < length g.reports → entry ≡ slice_index_or g.reports which entry → to ≡ entry.to
+    → report ≡ entry.report → to < length g.nodes → old ≡ slice_index_or g.nodes to old
+    → Hears state physics entry.from report (living old) (living new) answer
+    → IsAfter state (rules_within physics limits) (record g { nodes = set g.nodes to new })
+    (heard_at limits reached.last (slice_get reached.last.reports which)) (Happened.Reported answer)
+hears_report {W} {S} state physics g limits settings events answers reached which to entry report old new answer below
+    is_entry is_to is_report inside read by =
+    let rules : Rules S = rules_within physics limits in
+    let all : Remaining = reached.last in
+    let shown = node_at state rules g all reached.game to old inside read in
+    let run = plays_leads rules events answers _ all reached.plays in
+    let at : slice_get (map given_of g.reports) which ≡ Some (given_of entry) =
+    slice_get-map given_of g.reports which
+    ∙ ap (option_map given_of) (slice_get_read g.reports (length g.reports) which entry refl below is_entry) in
+    let found = telling_at limits (map given_of g.reports) all.reports reached.game.reports which (given_of entry) at in
+    let t : Exact = record { from = entry.from; to = to; report = found.0.report } in
+    let there : slice_get all.reports which ≡ Some t =
+    found.1 ∙ (λ k. Some (record {
+      from = sym found.2.from k;
+      to = (sym found.2.to ∙ sym is_to) k;
+      report = found.0.report;
+    })) in
+    let tells : Tells limits.players limits.places to entry.from found.0.report report =
+    subst (λ (k : ℕ). Tells limits.players limits.places k entry.from found.0.report report) (sym is_to)
+    (subst (λ (x : Told). Tells limits.players limits.places entry.to entry.from found.0.report x) (sym is_report)
+    found.2.tells) in
+    let after = by limits to (wary_of all to) found.0.report shown found.2.sender
+    (λ e. found.2.apart (e ∙ is_to)) tells
+    (λ phase can. told_can rules settings (window_of limits reached.game.vanilla) events all run which t there phase
+    can) in
+    subst (λ (o : Option Exact). IsAfter state rules (record g { nodes = set g.nodes to new })
+    (heard_at limits all o) (Happened.Reported answer)) (sym there)
+    (record {
+      game = places_wary state rules g all reached.game to new inside
+          (on_report limits to (wary_of all to) entry.from found.0.report).0 after.node;
+      answered = ap Happened.Reported after.answer;
+    })
+
+-- why the hearing of a report is refused
+module _ {W S : Type 0} (state : W → S) (rules : Rules S) (g : Contents W) (all : Remaining)
+    (r : Represents state rules g all) (which : ℕ) where
+  none_past : length all.reports ≤ which → (o : Option Exact) → slice_get all.reports which ≡ o
+      → Some Refusal.NoPacket ≡ refused_telling rules.players all o
+  none_past past None at = refl
+  none_past past (Some t) at =
+      let inside = slice_get_within all.reports which t at in absurd (omega (arith, past, inside))
+
+  as_told : length g.reports ≡ length all.reports
+  as_told = sym (length-map g.reports given_of) ∙ as_many rules.limits (map given_of g.reports) all.reports r.reports
+
+  pub refused_none : length g.reports ≤ which
+      → Some Refusal.NoPacket ≡ refused_telling rules.players all (slice_get all.reports which)
+  refused_none past =
+      none_past (let same = as_told in omega (arith, past, same)) (slice_get all.reports which) refl
+
+  pub refused_some : which < length g.reports → (entry : Telling) → entry ≡ slice_index_or g.reports which entry
+      → (to : ℕ) → to ≡ entry.to → (refusal : Option Refusal) → refusal ≡ refused_at rules.players all.game to
+      → refusal ≡ refused_telling rules.players all (slice_get all.reports which)
+  refused_some below entry is_entry to is_to refusal is =
+      let at : slice_get (map given_of g.reports) which ≡ Some (given_of entry) =
+      slice_get-map given_of g.reports which
+      ∙ ap (option_map given_of) (slice_get_read g.reports (length g.reports) which entry refl below is_entry) in
+      let found = telling_at rules.limits (map given_of g.reports) all.reports r.reports which (given_of entry) at in
+      is ∙ ap (refused_at rules.players all.game) (is_to ∙ found.2.to)
+      ∙ sym (ap (refused_telling rules.players all) found.1)

@@ -1,0 +1,23 @@
+use Rattle.std.proofs.Common.{◌<◌, length, arith}
+use Rattle.dn_remain_game.specs.declared.under_way.Telling.{Telling}
+use Rattle.dn_remain_game.specs.Contents.{contents}
+use Rattle.dn_remain_game.proofs.Reporting.{hears_report}
+use Rattle.dn_remain_game.proofs.Standing.{all_read}
+use Rattle.dn_remain_game.proofs.game.Game.hear.Goals as goal
+
+pub index_mut-requires : goal.index_mut-requires
+index_mut-requires g c =
+    let n = c.args.self.now in
+    let small = all_read (λ (t : Telling). t.to < length n.nodes.items) n.reports.items c.args.which _ n.hearers
+    c.requires c.index-telling.ensures in
+    omega (arith, small, c.from.ensures)
+
+pub returns : goal.returns
+returns g c limits settings events answers reached =
+    let n = c.args.self.now in
+    let small = all_read (λ (t : Telling). t.to < length n.nodes.items) n.reports.items c.args.which _ n.hearers
+    c.requires c.index-telling.ensures in
+    hears_report g.W.World.state g.W.World.physics (contents n) limits settings events answers reached c.args.which
+    c.from.result _ c.copied-report.result _ c.hear.new.self c.hear.result c.requires c.index-telling.ensures
+    c.from.ensures c.copied-report.ensures (omega (arith, small, c.from.ensures)) c.index_mut.ensures.value
+    c.hear.ensures

@@ -1,0 +1,8 @@
+use Rattle.std.proofs.Common.{refl}
+use Rattle.dn_remain_game.proofs.Freshening.{opens}
+use Rattle.dn_remain_game.proofs.game.Game.new.Goals as goal
+
+pub returns-clause-opened : goal.returns-clause-opened
+returns-clause-opened g c =
+    opens _ _ refl c.args.config.settings c.in_ok-nodes.nodes.items c.new.result.items c.new-2.result.items
+    c.in_ok-nodes.ensures.one_each c.in_ok-nodes.ensures.opened c.new.ensures.items c.new-2.ensures.items

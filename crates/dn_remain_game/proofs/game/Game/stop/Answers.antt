@@ -1,0 +1,11 @@
+use Rattle.std.proofs.Common.{◌<◌, length, arith}
+use Rattle.dn_machine.specs.Worlds.{rules_within}
+use Rattle.dn_remain_game.specs.Contents.{contents}
+use Rattle.dn_remain_game.proofs.NodeSteps.{stops}
+use Rattle.dn_remain_game.proofs.game.Game.stop.Goals as goal
+
+pub returns : goal.returns
+returns g c limits all r =
+    let n = c.args.self.now in
+    let inside : c.args.node < length n.stopped = omega (arith, n.few, c.requires) in
+    stops g.W.World.state (rules_within g.W.World.physics limits) (contents n) all c.args.node r inside

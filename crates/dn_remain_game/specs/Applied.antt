@@ -1,0 +1,103 @@
+-- An event on a game is a step of the game that it represents.
+use Rattle.std.specs.Prelude.{◌≡◌, ◌<◌, ◌⊎◌, List, [], ◌∷◌, IsTrue, length, None, Result, Ok, Err}
+use Rattle.dn_setup.specs.Settings.{Settings}
+use Rattle.dn_world.specs.Physics.{Physics}
+use Rattle.dn_machine.specs.declared.events.Done.{Done}
+use Rattle.dn_machine.specs.declared.events.Event.{Event}
+use Rattle.dn_machine.specs.declared.events.Event.TheVariants.{Build, Give, Send, Deliver, Run, Quit, Stop}
+use Rattle.dn_machine.specs.declared.events.Refusal.{Refusal}
+use Rattle.dn_machine.specs.Limits.{Limits}
+use Rattle.dn_machine.specs.Runs.{is_send}
+use Rattle.dn_machine.specs.Worlds.{Rules, rules_within}
+use Rattle.dn_remain.specs.Remaining.{Remaining, is_barred, opening_remaining}
+use Rattle.dn_remain.specs.declared.events.RemainEvent.{RemainEvent}
+use Rattle.dn_remain.specs.declared.events.RemainEvent.TheVariants.{Own, GiveUp, Tell, Hear}
+use Rattle.dn_remain_game.specs.declared.happened.Happened.{Happened}
+use Rattle.dn_remain_game.specs.Contents.{Contents}
+use Rattle.dn_remain_game.specs.Events.{applied_remain, asks_room, own_unless, refused_remain}
+use Rattle.dn_remain_game.specs.Represents.{Represents}
+
+-- whatever game it represents, this holds of that one
+abbrev pub Tells : {W S : Type 0} → (W → S) → Physics S → Contents W → (Rules S → Remaining → Type 0) → Type 0
+Tells state physics g Fact =
+    (limits : Limits) (all : Remaining) → Represents state (rules_within physics limits) g all
+    → Fact (rules_within physics limits) all
+
+-- an event leads from a game to the next with this answer; one that asks for a packet or a report and that
+-- nothing else refuses may be left out, where memory is refused
+abbrev pub Answers : {S : Type 0} → Rules S → Remaining → RemainEvent → Result Happened Refusal → Remaining
+    → Type 0
+Answers rules all event answer next =
+    ((next ≡ (applied_remain rules all event).0) × (answer ≡ (applied_remain rules all event).1))
+    ⊎ ((refused_remain rules.players all event ≡ None) × IsTrue (asks_room event) × (next ≡ all)
+    × (answer ≡ Err Refusal.Memory))
+
+-- a list of events leads from a game to another, and each event has its answer
+abbrev pub Plays : {S : Type 0} → Rules S → Remaining → List RemainEvent → List (Result Happened Refusal)
+    → Remaining → Type 0
+Plays rules all [] [] last = last ≡ all
+Plays rules all (event ∷ events) (answer ∷ answers) last =
+    (next : Remaining) × Answers rules all event answer next × Plays rules next events answers last
+Plays rules all [] (answer ∷ answers) last = ⊥
+Plays rules all (event ∷ events) [] last = ⊥
+
+-- the events lead from the opening to the game that this one represents, and each has its answer
+pub record IsReached {W S : Type 0} (state : W → S) (rules : Rules S) (settings : Settings)
+    (events : List RemainEvent) (answers : List (Result Happened Refusal)) (g : Contents W) : Type 0 where
+  pub last : Remaining
+  pub plays : Plays rules (opening_remaining settings) events answers last
+  pub game : Represents state rules g last
+
+-- whatever events led to a game, this holds of the one that it represents
+abbrev pub TellsReached : {W S : Type 0} → (W → S) → Physics S → Contents W → (Rules S → Remaining → Type 0)
+    → Type 0
+TellsReached state physics g Fact =
+    (limits : Limits) (settings : Settings) (events : List RemainEvent)
+    (answers : List (Result Happened Refusal))
+    → (reached : IsReached state (rules_within physics limits) settings events answers g)
+    → Fact (rules_within physics limits) reached.last
+
+-- the game represents this one, and this is the answer
+pub record IsAfter {W S A : Type 0} (state : W → S) (rules : Rules S) (new : Contents W)
+    (after : Remaining × A) (answer : A) : Type 0 where
+  pub game : Represents state rules new after.0
+  pub answered : answer ≡ after.1
+
+-- an event is left out since memory was refused, and nothing changes
+pub record IsLeftOut {W : Type 0} (old new : Contents W) (event : RemainEvent)
+    (answer : Result Happened Refusal) : Type 0 where
+  pub asks : IsTrue (asks_room event)
+  pub same : new ≡ old
+  pub answered : answer ≡ Err Refusal.Memory
+
+-- an event is applied, or it is left out, which nothing else refuses
+abbrev pub IsApplied : {W S : Type 0} → (W → S) → Rules S → Contents W → Contents W → Remaining → RemainEvent
+    → Result Happened Refusal → Type 0
+IsApplied state rules old new all event answer =
+    IsAfter state rules new (applied_remain rules all event) answer
+    ⊎ ((refused_remain rules.players all event ≡ None) × IsLeftOut old new event answer)
+
+-- the same of an event of the machine that is not refused
+abbrev pub IsAppliedOwn : {W S : Type 0} → (W → S) → Rules S → Contents W → Remaining → Event
+    → Result Done Refusal → Type 0
+IsAppliedOwn state rules new all event answer =
+    ((done : Done) × (answer ≡ Ok done)
+    × IsAfter state rules new (own_unless rules all event (is_barred all event)) done)
+    ⊎ (IsTrue (is_send event) × (answer ≡ Err Refusal.Memory))
+
+-- the nodes and the packet that an event names are there
+abbrev pub IsAddressedOwn : {W : Type 0} → Contents W → Event → Type 0
+IsAddressedOwn g (Build node keys) = node < length g.nodes
+IsAddressedOwn g (Give node command) = node < length g.nodes
+IsAddressedOwn g (Send node to) = (node < length g.nodes) × (to < length g.nodes)
+IsAddressedOwn g (Deliver which) = which < length g.flights
+IsAddressedOwn g (Run node) = node < length g.nodes
+IsAddressedOwn g (Quit node) = node < length g.nodes
+IsAddressedOwn g (Stop node) = node < length g.nodes
+
+-- and the report
+abbrev pub IsAddressed : {W : Type 0} → Contents W → RemainEvent → Type 0
+IsAddressed g (Own event) = IsAddressedOwn g event
+IsAddressed g (GiveUp node player) = node < length g.nodes
+IsAddressed g (Tell node to) = (node < length g.nodes) × (to < length g.nodes)
+IsAddressed g (Hear which) = which < length g.reports

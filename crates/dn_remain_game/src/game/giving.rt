@@ -1,0 +1,79 @@
+//! Players are given up, and reports are told and heard.
+
+ghost use Rattle.std.specs.Prelude.{◌≡◌, ◌<◌, ◌≤◌, ◌⊎◌, Ok, Err, OnErr, length, slice_get};
+ghost use Rattle.dn_machine.specs.declared.events.Refusal.{Refusal};
+ghost use Rattle.dn_remain.specs.Remaining.{wary_of};
+ghost use Rattle.dn_remain.specs.Wary.{report_to};
+ghost use Rattle.dn_remain_game.specs.Events.{gave_up, heard_at, told_report};
+ghost use Rattle.dn_remain_game.specs.declared.happened.Happened.{Happened};
+
+use super::Game;
+use crate::happened::Happened;
+use crate::under_way::{Telling, copied};
+use dn_machine::Refusal;
+use dn_survivor::{GivenUp, Reported};
+use dn_world::World;
+
+/// The number of a player as a byte; one that no player has, where it is none.
+fn narrow(player: u32) -> u8
+    ensures small { player < 256 → result ≡ player }
+    ensures large { 256 ≤ player → result ≡ 255 }
+{
+    player.min(255) as u8
+}
+
+impl<W: World> Game<W> {
+    ghost use Rattle.dn_remain_game.specs.Contents.{contents};
+    ghost use Rattle.dn_remain_game.specs.Applied.{Tells, TellsReached, IsAfter};
+    ghost use Rattle.dn_remain_game.specs.Room.{IsFullOfReports};
+
+    /// A node gives up a player.
+    pub(super) fn give_up(&mut self, node: u32, player: u32) -> GivenUp
+        requires { node < length (contents self.old).nodes }
+        ensures { TellsReached W.state W.physics (contents self.old) (λ rules all.
+            IsAfter W.state rules (contents self.new) (gave_up rules.limits all node player)
+            (Happened.GivenUp result)) }
+    {
+        self.nodes[node as usize].give_up(narrow(player))
+    }
+
+    /// Asks a node for a report, which joins those that were told. Room for it is made first.
+    pub(super) fn tell(&mut self, node: u32, to: u32) -> Result<Happened, Refusal>
+        requires node { node < length (contents self.old).nodes }
+        requires to { to < length (contents self.old).nodes }
+        ensures told { Tells W.state W.physics (contents self.old) (λ rules all.
+            ((done : Happened) × (result ≡ Ok done) × IsAfter W.state rules (contents self.new)
+            (told_report all node to (report_to rules.limits node (wary_of all node) to)) done)
+            ⊎ (result ≡ Err Refusal.Memory)) }
+        ensures unchanged { OnErr result (contents self.new ≡ contents self.old) }
+        ensures alone { OnErr result (result ≡ Err Refusal.Memory) }
+        ensures memory { OnErr result (IsFullOfReports self.new) }
+    {
+        let Ok(()) = self.reports.reserve(1) else {
+            return Err(Refusal::Memory);
+        };
+        let to = to as u8;
+        let Some(report) = self.nodes[node as usize].report(to) else {
+            return Ok(Happened::Untold);
+        };
+        let which = self.reports.len();
+        self.reports.push_reserved(Telling {
+            from: node as u8,
+            to,
+            report,
+        });
+        Ok(Happened::Told(which))
+    }
+
+    /// Hands a report to its receiver.
+    pub(super) fn hear(&mut self, which: u32) -> Reported
+        requires { which < length (contents self.old).reports }
+        ensures { TellsReached W.state W.physics (contents self.old) (λ rules all.
+            IsAfter W.state rules (contents self.new)
+            (heard_at rules.limits all (slice_get all.reports which)) (Happened.Reported result)) }
+    {
+        let telling = &self.reports[which as usize];
+        let report = copied(&telling.report);
+        self.nodes[usize::from(telling.to)].hear(telling.from, report)
+    }
+}

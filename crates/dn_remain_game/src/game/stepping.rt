@@ -1,0 +1,63 @@
+//! What the events of one node do.
+
+ghost use Rattle.std.specs.Prelude.{◌≡◌, ◌<◌, length};
+ghost use Rattle.dn_machine.specs.declared.events.Event.TheVariants.{Build, Give, Run, Quit, Stop};
+ghost use Rattle.dn_remain_game.specs.Events.{in_game, on_own};
+
+use super::Game;
+use dn_machine::{Made, Ran};
+use dn_tic::{Command, Keys};
+use dn_world::World;
+
+impl<W: World> Game<W> {
+    ghost use Rattle.dn_remain_game.specs.Contents.{contents};
+    ghost use Rattle.dn_remain_game.specs.Applied.{Tells, IsAfter};
+    ghost use Rattle.dn_machine.specs.declared.events.Done.TheVariants as done;
+
+    /// A node builds the command of these keys.
+    pub(super) fn build(&mut self, node: u32, keys: Keys) -> Made
+        requires { node < length (contents self.old).nodes }
+        ensures { Tells W.state W.physics (contents self.old) (λ rules all.
+            IsAfter W.state rules (contents self.new) (in_game all (on_own rules all (Build node keys)))
+            (done.Built result)) }
+    {
+        self.nodes[node as usize].build(keys)
+    }
+
+    /// A node takes the command that is given.
+    pub(super) fn give(&mut self, node: u32, command: Command) -> Made
+        requires { node < length (contents self.old).nodes }
+        ensures { Tells W.state W.physics (contents self.old) (λ rules all.
+            IsAfter W.state rules (contents self.new) (in_game all (on_own rules all (Give node command)))
+            (done.Built result)) }
+    {
+        self.nodes[node as usize].give(command)
+    }
+
+    /// A node is asked to run a tic.
+    pub(super) fn run(&mut self, node: u32) -> Ran
+        requires { node < length (contents self.old).nodes }
+        ensures { Tells W.state W.physics (contents self.old) (λ rules all.
+            IsAfter W.state rules (contents self.new) (in_game all (on_own rules all (Run node))) (done.Ran result)) }
+    {
+        self.nodes[node as usize].run()
+    }
+
+    /// A node quits.
+    pub(super) fn quit(&mut self, node: u32) -> bool
+        requires { node < length (contents self.old).nodes }
+        ensures { Tells W.state W.physics (contents self.old) (λ rules all.
+            IsAfter W.state rules (contents self.new) (in_game all (on_own rules all (Quit node))) (done.Quit result)) }
+    {
+        self.nodes[node as usize].quit()
+    }
+
+    /// A node stops, and takes no further part.
+    pub(super) fn stop(&mut self, node: u32)
+        requires { node < length (contents self.old).nodes }
+        ensures { Tells W.state W.physics (contents self.old) (λ rules all.
+            IsAfter W.state rules (contents self.new) (in_game all (on_own rules all (Stop node))) done.Stopped) }
+    {
+        self.stopped[node as usize] = true;
+    }
+}

@@ -1,0 +1,162 @@
+//! Games in which players vanish, as lists of events with their answers.
+
+mod crashes;
+mod refusals;
+mod weaker;
+
+use crate::{Done, Event, Game, GameConfig, GivenUp, Happened, Refusal, RemainEvent, Reported};
+use dn_machine::{Heard, Made, Ran};
+use dn_setup::Settings;
+use dn_tic::Keys;
+use dn_world::Walk;
+use std::alloc::{AllocError, Global};
+use std::process::Abort;
+use std::test::Fail;
+
+type Answer = Result<Happened, Refusal>;
+
+fn walks(alloc: Global, count: usize) -> Result<Vec<Walk>, AllocError> {
+    let mut worlds = Vec::with_capacity(alloc, count)?;
+    for _ in 0..count {
+        worlds.push(Walk::new())?;
+    }
+    Ok(worlds)
+}
+
+fn config(limit: u32) -> Result<GameConfig, Fail> {
+    Ok(GameConfig {
+        settings: Settings::new(2, 0, false, false, 1, 1)?,
+        extra: false,
+        limit,
+    })
+}
+
+/// A game that no event has met.
+fn opened(alloc: Global, players: usize) -> Result<Game<Walk>, Fail> {
+    let worlds = walks(alloc, players)?;
+    Ok(Game::new(alloc, config(1024)?, worlds)?)
+}
+
+/// All nodes but player 0's hear player 0, and player 0 hears them.
+fn started(rt: &impl Abort, alloc: Global, players: u8) -> Result<Game<Walk>, Fail> {
+    let mut game = opened(alloc, usize::from(players))?;
+    for player in 1..players {
+        let peer = u32::from(player);
+        let first = 2 * (peer - 1);
+        let is_last = player + 1 == players;
+        let answer = if is_last {
+            Heard::Started
+        } else {
+            Heard::Noted
+        };
+        let rows = [
+            (send(0, peer), sent(first)),
+            (deliver(first), heard(Heard::Started)),
+            (send(peer, 0), sent(first + 1)),
+            (deliver(first + 1), heard(answer)),
+        ];
+        applies(rt, &mut game, &rows);
+    }
+    Ok(game)
+}
+
+/// Applies the events, and compares each answer.
+fn applies(rt: &impl Abort, game: &mut Game<Walk>, rows: &[(RemainEvent, Answer)]) {
+    for (event, answer) in rows {
+        assert_eq!(rt; game.apply(*event), *answer);
+    }
+}
+
+fn build(node: u32) -> RemainEvent {
+    let keys = Keys::from_bits(1);
+    RemainEvent::Own(Event::Build { node, keys })
+}
+
+fn send(node: u32, to: u32) -> RemainEvent {
+    RemainEvent::Own(Event::Send { node, to })
+}
+
+fn deliver(which: u32) -> RemainEvent {
+    RemainEvent::Own(Event::Deliver(which))
+}
+
+fn run(node: u32) -> RemainEvent {
+    RemainEvent::Own(Event::Run(node))
+}
+
+fn quit(node: u32) -> RemainEvent {
+    RemainEvent::Own(Event::Quit(node))
+}
+
+fn stop(node: u32) -> RemainEvent {
+    RemainEvent::Own(Event::Stop(node))
+}
+
+fn give_up(node: u32, player: u32) -> RemainEvent {
+    RemainEvent::GiveUp { node, player }
+}
+
+fn tell(node: u32, to: u32) -> RemainEvent {
+    RemainEvent::Tell { node, to }
+}
+
+fn hear(which: u32) -> RemainEvent {
+    RemainEvent::Hear(which)
+}
+
+fn made(tic: u32) -> Answer {
+    Ok(Happened::Own(Done::Built(Made::Made(tic))))
+}
+
+fn sent(which: u32) -> Answer {
+    Ok(Happened::Own(Done::Sent(which as usize)))
+}
+
+fn heard(answer: Heard) -> Answer {
+    Ok(Happened::Own(Done::Heard(answer)))
+}
+
+fn ran(answer: Ran) -> Answer {
+    Ok(Happened::Own(Done::Ran(answer)))
+}
+
+fn left() -> Answer {
+    Ok(Happened::Own(Done::Quit(true)))
+}
+
+fn silent() -> Answer {
+    Ok(Happened::Own(Done::Silent))
+}
+
+fn stopped() -> Answer {
+    Ok(Happened::Own(Done::Stopped))
+}
+
+fn given(answer: GivenUp) -> Answer {
+    Ok(Happened::GivenUp(answer))
+}
+
+fn told(which: usize) -> Answer {
+    Ok(Happened::Told(which))
+}
+
+fn reported(answer: Reported) -> Answer {
+    Ok(Happened::Reported(answer))
+}
+
+/// How many commands of a player one node has, and where it takes the player to end.
+fn known(game: &Game<Walk>, node: u32, player: u8) -> (Option<u32>, Option<u32>) {
+    match game.node(node) {
+        Some(one) => {
+            let lockstep = one.survivor().lockstep();
+            (lockstep.got(player), lockstep.end(player))
+        }
+        None => (None, None),
+    }
+}
+
+/// Where a player stands in the world of a node.
+fn place(game: &Game<Walk>, node: u32, player: u8) -> Option<(i32, i32)> {
+    let world = game.node(node)?.world();
+    Some((world.x(player)?, world.y(player)?))
+}

@@ -1,0 +1,60 @@
+//! Packets and reports under way.
+
+ghost use Rattle.std.specs.Prelude.{◌≡◌};
+
+use arrayvec::ArrayVec;
+use dn_lockstep::Aim;
+use dn_packet::MAX_DATAGRAM;
+use dn_report::{Report, Tail};
+
+/// A packet that was sent. It stays where it is, however often it is delivered.
+#[derive(Debug, Drop, PartialEq, Eq)]
+pub struct Flight {
+    /// The number of the sender.
+    pub from: u8,
+    /// The number of the receiver.
+    pub to: u8,
+    /// Its exact numbers.
+    pub aim: Aim,
+    /// Its datagram.
+    pub bytes: ArrayVec<u8, MAX_DATAGRAM>,
+}
+
+/// A report that was told. It stays where it is, however often it is heard.
+#[derive(Debug, Drop, PartialEq, Eq)]
+pub struct Telling {
+    /// The number of the sender.
+    pub from: u8,
+    /// The number of the receiver.
+    pub to: u8,
+    /// What is told.
+    pub report: Report,
+}
+
+/// The same of a player once more.
+fn copied_tail(tail: &Tail) -> Tail
+    ensures { result ≡ tail.now }
+{
+    let mut commands = ArrayVec::new();
+    let _ = commands.try_extend_from_slice(tail.commands.as_slice());
+    Tail {
+        player: tail.player,
+        count: tail.count,
+        commands,
+    }
+}
+
+/// The same report once more.
+pub(crate) fn copied(report: &Report) -> Report
+    ensures { result ≡ report.now }
+{
+    let mut told = ArrayVec::new();
+    for tail in report.told.as_slice() {
+        told.push(copied_tail(tail));
+    }
+    Report {
+        gone: report.gone,
+        left: report.left,
+        told,
+    }
+}
