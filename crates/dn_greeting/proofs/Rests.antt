@@ -16,8 +16,9 @@ use Rattle.dn_greeting.specs.declared.greeting.Hinted.{Hinted}
 use Rattle.dn_greeting.specs.declared.greeting.Refusal.{Refusal}
 use Rattle.dn_greeting.specs.declared.greeting.Refusal.TheVariants as refusal
 use Rattle.dn_greeting.specs.declared.greeting.Refused.{Refused}
-use Rattle.dn_greeting.specs.Text.{address_bytes, answer_rest, bit, call_rest, hinted_bytes, terms_bytes, is_count_or_none, is_wish, named, padding, refused_rest, IsAddress, IsAnswer, IsCall, IsHinted, IsRefused}
-use Rattle.dn_greeting.specs.Told.{told_address, told_answer, told_call, told_hinted, told_name, told_refused}
+use Rattle.dn_greeting.specs.declared.greeting.Retry.{Retry}
+use Rattle.dn_greeting.specs.Text.{address_bytes, answer_rest, bit, call_rest, hinted_bytes, terms_bytes, is_count_or_none, is_wish, named, padding, refused_rest, retry_rest, IsAddress, IsAnswer, IsCall, IsHinted, IsRefused, IsRetry}
+use Rattle.dn_greeting.specs.Told.{told_address, told_answer, told_call, told_hinted, told_name, told_refused, told_retry}
 
 -- sixteen bytes, one by one
 pub sixteen : (m : List ℕ) → length m ≡ 16 → (P : List ℕ → Type 0)
@@ -27,7 +28,7 @@ sixteen (a ∷ b ∷ c ∷ d ∷ e ∷ f ∷ g ∷ h ∷ i ∷ j ∷ k ∷ l ∷
     holds a b c d e f g h i j k l n o p q
 sixteen _ long P holds = absurd (omega (arith, long))
 
-length-padding : length padding ≡ 80
+length-padding : length padding ≡ 64
 unfolding padding
 length-padding = refl
 
@@ -36,9 +37,11 @@ pub length-call : (call : Call) → IsCall call → length (call_rest call) ≡ 
 length-call call is = omega (
   arith,
   is.mark,
+  is.cookie,
   length-padding,
+  length-append call.cookie padding,
   length-append call.mark
-      (to_le_bytes w32 call.number ++ (named call.seat ∷ named call.players ∷ padding)),
+      (to_le_bytes w32 call.number ++ (named call.seat ∷ named call.players ∷ (call.cookie ++ padding))),
 )
 
 -- a number that is named is found again
@@ -60,6 +63,16 @@ pub call_back : (call : Call) → IsCall call → told_call (call_rest call) ≡
 call_back call is =
     sixteen call.mark is.mark (λ m. told_call (call_rest (record call { mark = m })) ≡ record call { mark = m })
     (λ a b c d e f g h i j k l n o p q.
+    sixteen call.cookie is.cookie
+    (λ m. told_call (call_rest (record call {
+      mark = a ∷ b ∷ c ∷ d ∷ e ∷ f ∷ g ∷ h ∷ i ∷ j ∷ k ∷ l ∷ n ∷ o ∷ p ∷ q ∷ [];
+      cookie = m;
+    }))
+    ≡ record call {
+      mark = a ∷ b ∷ c ∷ d ∷ e ∷ f ∷ g ∷ h ∷ i ∷ j ∷ k ∷ l ∷ n ∷ o ∷ p ∷ q ∷ [];
+      cookie = m;
+    })
+    (λ a' b' c' d' e' f' g' h' i' j' k' l' n' o' p' q'.
     let number = from_le_bytes-to_le_bytes_4 call.number is.number in
     let seat = name_back call.seat (wish_named call.seat is.seat) in
     let players = name_back call.players (count_named call.players is.players) in
@@ -68,7 +81,8 @@ call_back call is =
       number = number x;
       seat = seat x;
       players = players x;
-    })
+      cookie = a' ∷ b' ∷ c' ∷ d' ∷ e' ∷ f' ∷ g' ∷ h' ∷ i' ∷ j' ∷ k' ∷ l' ∷ n' ∷ o' ∷ p' ∷ q' ∷ [];
+    }))
 
 -- each call has its own bytes
 pub same_call : (a b : Call) → IsCall a → IsCall b → call_rest a ≡ call_rest b → a ≡ b
@@ -245,6 +259,34 @@ refused_back refused is =
 
 pub same_refused : (a b : Refused) → IsRefused a → IsRefused b → refused_rest a ≡ refused_rest b → a ≡ b
 same_refused a b ha hb e = sym (refused_back a ha) ∙ ap told_refused e ∙ refused_back b hb
+
+pub length-retry : (retry : Retry) → IsRetry retry → length (retry_rest retry) ≡ 36
+length-retry retry is =
+    omega (arith, is.mark, is.cookie, length-append retry.mark (to_le_bytes w32 retry.number ++ retry.cookie))
+
+pub retry_back : (retry : Retry) → IsRetry retry → told_retry (retry_rest retry) ≡ retry
+retry_back retry is =
+    sixteen retry.mark is.mark (λ m. told_retry (retry_rest (record retry { mark = m })) ≡ record retry { mark = m })
+    (λ a b c d e f g h i j k l n o p q.
+    sixteen retry.cookie is.cookie
+    (λ m. told_retry (retry_rest (record retry {
+      mark = a ∷ b ∷ c ∷ d ∷ e ∷ f ∷ g ∷ h ∷ i ∷ j ∷ k ∷ l ∷ n ∷ o ∷ p ∷ q ∷ [];
+      cookie = m;
+    }))
+    ≡ record retry {
+      mark = a ∷ b ∷ c ∷ d ∷ e ∷ f ∷ g ∷ h ∷ i ∷ j ∷ k ∷ l ∷ n ∷ o ∷ p ∷ q ∷ [];
+      cookie = m;
+    })
+    (λ a' b' c' d' e' f' g' h' i' j' k' l' n' o' p' q'.
+    let number = from_le_bytes-to_le_bytes_4 retry.number is.number in
+    λ x. record {
+      mark = a ∷ b ∷ c ∷ d ∷ e ∷ f ∷ g ∷ h ∷ i ∷ j ∷ k ∷ l ∷ n ∷ o ∷ p ∷ q ∷ [];
+      number = number x;
+      cookie = a' ∷ b' ∷ c' ∷ d' ∷ e' ∷ f' ∷ g' ∷ h' ∷ i' ∷ j' ∷ k' ∷ l' ∷ n' ∷ o' ∷ p' ∷ q' ∷ [];
+    }))
+
+pub same_retry : (a b : Retry) → IsRetry a → IsRetry b → retry_rest a ≡ retry_rest b → a ≡ b
+same_retry a b ha hb e = sym (retry_back a ha) ∙ ap told_retry e ∙ retry_back b hb
 
 pub hinted_back : (hinted : Hinted) → IsHinted hinted → told_hinted (hinted_bytes hinted) ≡ hinted
 hinted_back hinted is =

@@ -1,8 +1,10 @@
--- By what greetings are sealed, and which addresses and marks are the same.
-use Rattle.std.specs.Prelude.{ℕ, ◌==◌, ◌&&◌, Bool, List, codes, Option, Some, None}
+-- By what greetings are sealed, which addresses are the same, and the cookie of an address.
+use Rattle.std.specs.Prelude.{ℕ, ◌==◌, ◌&&◌, ◌++◌, Bool, List, codes, Option, Some, None}
+use Rattle.std.specs.Int.{w16, to_le_bytes}
 use Rattle.std.specs.Str.{bytes_eq}
 use Rattle.dn_seal.specs.declared.seal.Seal.{Seal}
 use Rattle.dn_seal.specs.declared.suite.Suite.TheVariants.{Secret, Open}
+use Rattle.dn_seal.specs.Hmac.{tag_of}
 use Rattle.dn_seal.specs.Keys.{no_secret}
 use Rattle.dn_seal.specs.Sealing.{sealed_with}
 use Rattle.dn_greeting.specs.declared.greeting.Address.{Address}
@@ -18,3 +20,8 @@ greeting_seal (Some secret) = sealed_with Secret secret greeting_number
 
 abbrev pub same_address : Address → Address → Bool
 same_address one other = bytes_eq one.ip other.ip && one.port == other.port
+
+-- what a host makes of an address under a secret of its own, so that only who is reached there can learn it: the
+-- first 16 bytes of the code of the IP address and the port
+abbrev pub cookie_of : List ℕ → Address → List ℕ
+cookie_of secret address = tag_of secret (address.ip ++ to_le_bytes w16 address.port)

@@ -1,5 +1,6 @@
 -- The host's table: who gets which seat.
 use Rattle.std.specs.Prelude.{◌≡◌, ℕ, ◌+◌, ◌-◌, ◌==◌, ◌||◌, Bool, not, false, nat_lt, if◌then◌else◌, List, [], ◌∷◌, map, position, slice_index_or, slice_set, Option, Some, None, option_map, Result, Ok, Err}
+use Rattle.std.specs.Str.{bytes_eq}
 use Rattle.dn_seal.specs.declared.seal.Seal.{Seal}
 use Rattle.dn_greeting.specs.declared.greeting.Address.{Address}
 use Rattle.dn_greeting.specs.declared.greeting.Answer.{Answer}
@@ -10,18 +11,21 @@ use Rattle.dn_greeting.specs.declared.greeting.Hint.{Hint}
 use Rattle.dn_greeting.specs.declared.greeting.Hint.TheVariants as hint
 use Rattle.dn_greeting.specs.declared.greeting.Refusal.{Refusal}
 use Rattle.dn_greeting.specs.declared.greeting.Refusal.TheVariants.{Full, Taken, Players, Begun}
+use Rattle.dn_greeting.specs.declared.greeting.Retry.{Retry}
 use Rattle.dn_greeting.specs.declared.greeting.Terms.{Terms}
 use Rattle.dn_greeting.specs.declared.seats.Place.{Place}
 use Rattle.dn_greeting.specs.declared.seats.Place.TheVariants.{Closed, Free, Held}
 use Rattle.dn_greeting.specs.declared.table.Table.{Table}
+use Rattle.dn_greeting.specs.Greeter.{cookie_of}
 use Rattle.dn_greeting.specs.Reading.{IsCallIn}
 use Rattle.dn_greeting.specs.Seats.{gives_way, holding, is_at, is_free, is_of, is_quiet, kept_at, left_by, number_in, place_for, shown_to}
-use Rattle.dn_greeting.specs.Text.{answer_rest, greeting_bytes, hinted_bytes, refused_rest}
-use Rattle.dn_greeting.specs.Told.{told_mark}
+use Rattle.dn_greeting.specs.Text.{answer_rest, greeting_bytes, hinted_bytes, refused_rest, retry_rest, told_mark}
 
--- the host's table: its terms, the game's number, the seats 1 to 3, and whether the game has begun
+-- the host's table: the secret of its cookies, its terms, the game's number, the seats 1 to 3, and whether the game
+-- has begun
 pub record Lobby : Type 0 where
   pub seal : Seal
+  pub cookies : List ℕ
   pub terms : Terms
   pub game : List ℕ
   pub places : List Place
@@ -31,16 +35,18 @@ abbrev pub lobby : Table → Lobby
 lobby table =
     record {
       seal = table.sealer.seal;
+      cookies = table.cookies;
       terms = table.terms;
       game = table.game;
       places = table.places;
       begun = table.begun;
     }
 
-abbrev pub new_lobby : Seal → Terms → List ℕ → Lobby
-new_lobby seal terms game =
+abbrev pub new_lobby : Seal → List ℕ → Terms → List ℕ → Lobby
+new_lobby seal cookies terms game =
     record {
       seal = seal;
+      cookies = cookies;
       terms = terms;
       game = game;
       places = map (place_for terms.players) (1 ∷ 2 ∷ 3 ∷ []);
@@ -126,6 +132,26 @@ on_read from call now table (Some n) = on_holder from call now n table
 on_read from call now table None =
     let after = on_newcomer from call now table (seat_for from call now table) in (after.0, Some after.1)
 
+-- the call has the cookie of the address from which it came: whoever made it is reached there
+abbrev pub has_cookie : Address → Call → Lobby → Bool
+has_cookie from call table = bytes_eq call.cookie (cookie_of table.cookies from)
+
+-- what asks for the call again, with this cookie
+abbrev pub retry_to : Address → Call → Lobby → Retry
+retry_to from call table =
+    record { mark = call.mark; number = call.number; cookie = cookie_of table.cookies from }
+
+abbrev pub retried : Address → Call → Lobby → List ℕ
+retried from call table = greeting_bytes table.seal 5 (retry_rest (retry_to from call table))
+
+-- a call is the holder's whose mark it has, or else a newcomer's. Without the cookie it is neither's: it changes
+-- nothing, and is asked for again
+abbrev pub on_opened : Address → Call → ℕ → Lobby → Lobby × Option (List ℕ)
+on_opened from call now table =
+    if has_cookie from call table
+    then on_read from call now table (position (is_of call.mark) table.places)
+    else (table, Some (retried from call table))
+
 abbrev pub hint_to : List ℕ → Hint → List ℕ
 hint_to bytes hint = hinted_bytes (record { mark = told_mark bytes; hint = hint })
 
@@ -136,10 +162,9 @@ hint_for fault.Suite = Some hint.Key
 hint_for fault.Tag = Some hint.Key
 hint_for fault = None
 
--- a call is the holder's whose mark it has, or else a newcomer's; bytes that are no call change nothing
+-- bytes that are no call change nothing
 abbrev pub on_call : Address → List ℕ → ℕ → Lobby → Result Call GreetingFault → Lobby × Option (List ℕ)
-on_call from bytes now table (Ok call) =
-    on_read from call now table (position (is_of call.mark) table.places)
+on_call from bytes now table (Ok call) = on_opened from call now table
 on_call from bytes now table (Err fault) = (table, option_map (hint_to bytes) (hint_for fault))
 
 -- any bytes from any address, at a second

@@ -11,7 +11,8 @@ use Rattle.dn_greeting.specs.declared.greeting.GreetingFault.{GreetingFault}
 use Rattle.dn_greeting.specs.declared.greeting.GreetingFault.TheVariants.{Short, Kind, What, Version, Length, Suite, Tag, Form}
 use Rattle.dn_greeting.specs.declared.greeting.Hinted.{Hinted}
 use Rattle.dn_greeting.specs.declared.greeting.Refused.{Refused}
-use Rattle.dn_greeting.specs.Text.{kind_bytes, greeting_bytes, call_rest, answer_rest, refused_rest, hinted_bytes, IsCall, IsAnswer, IsRefused, IsHinted}
+use Rattle.dn_greeting.specs.declared.greeting.Retry.{Retry}
+use Rattle.dn_greeting.specs.Text.{kind_bytes, greeting_bytes, call_rest, answer_rest, refused_rest, retry_rest, hinted_bytes, IsCall, IsAnswer, IsRefused, IsRetry, IsHinted}
 
 -- the first fault of bytes where a greeting with a tag, of this kind and size, is expected. None, where only what
 -- stands under the tag may be one
@@ -43,6 +44,9 @@ IsAnswerIn seal bytes read = IsReadAs seal 2 130 IsAnswer answer_rest bytes read
 
 abbrev pub IsRefusedIn : Seal → List ℕ → Result Refused GreetingFault → Type 0
 IsRefusedIn seal bytes read = IsReadAs seal 3 46 IsRefused refused_rest bytes read
+
+abbrev pub IsRetryIn : Seal → List ℕ → Result Retry GreetingFault → Type 0
+IsRetryIn seal bytes read = IsReadAs seal 5 64 IsRetry retry_rest bytes read
 
 -- the first fault of bytes where a hint is expected
 unfoldable pub hint_fault : List ℕ → Option GreetingFault

@@ -1,5 +1,5 @@
 -- The bytes of greetings.
-use Rattle.std.specs.Prelude.{◌≡◌, ◌<◌, ◌^◌, ◌&&◌, nat_le, nat_lt, ℕ, Bool, true, false, List, [], ◌∷◌, ◌++◌, length, replicate, Option, Some, None, All, IfSome}
+use Rattle.std.specs.Prelude.{◌≡◌, ◌<◌, ◌^◌, ◌&&◌, nat_le, nat_lt, ℕ, Bool, true, false, List, [], ◌∷◌, ◌++◌, length, replicate, take, drop, Option, Some, None, All, IfSome}
 use Rattle.std.specs.List.{flat_map}
 use Rattle.std.specs.Int.{w16, w32, to_le_bytes}
 use Rattle.dn_seal.specs.declared.seal.Seal.{Seal}
@@ -14,6 +14,7 @@ use Rattle.dn_greeting.specs.declared.greeting.Hinted.{Hinted}
 use Rattle.dn_greeting.specs.declared.greeting.Refusal.{Refusal}
 use Rattle.dn_greeting.specs.declared.greeting.Refusal.TheVariants as refusal
 use Rattle.dn_greeting.specs.declared.greeting.Refused.{Refused}
+use Rattle.dn_greeting.specs.declared.greeting.Retry.{Retry}
 use Rattle.dn_greeting.specs.declared.greeting.Terms.{Terms}
 
 -- what stands behind the first byte of every greeting: kind 4, which no envelope and no datagram of a link has,
@@ -22,7 +23,7 @@ abbrev pub kind_bytes : List ℕ
 kind_bytes = 4 ∷ 122 ∷ 105 ∷ 114 ∷ 109 ∷ 101 ∷ 103 ∷ 97 ∷ 116 ∷ []
 
 -- the first twelve bytes of a greeting that has a tag: the suite, the kind, version 1, and what it is: 1 a call,
--- 2 an answer, 3 a refusal
+-- 2 an answer, 3 a refusal, 5 a retry
 abbrev pub head_bytes : Seal → ℕ → List ℕ
 head_bytes seal what = suite_byte seal.suite ∷ (kind_bytes ++ 1 ∷ what ∷ [])
 
@@ -41,12 +42,14 @@ named (Some n) = n
 
 -- a call is as long as its answer
 unfoldable pub padding : List ℕ
-padding = replicate 80 0
+padding = replicate 64 0
 
--- of a call: the joiner's mark, the number of the call, the seat that is wanted, the number of players
+-- of a call: the joiner's mark, the number of the call, the seat that is wanted, the number of players, and the
+-- cookie that the host gave
 abbrev pub call_rest : Call → List ℕ
 call_rest call =
-    call.mark ++ (to_le_bytes w32 call.number ++ (named call.seat ∷ named call.players ∷ padding))
+    call.mark ++ (to_le_bytes w32 call.number
+    ++ (named call.seat ∷ named call.players ∷ (call.cookie ++ padding)))
 
 abbrev pub bit : Bool → ℕ
 bit true = 1
@@ -78,6 +81,14 @@ reason_bytes refusal.Begun = 4 ∷ 0 ∷ []
 -- of a refusal: the mark of the call, and the reason
 abbrev pub refused_rest : Refused → List ℕ
 refused_rest refused = refused.mark ++ reason_bytes refused.refusal
+
+-- of a retry: the mark and the number of the call, and the cookie of the address from which it came
+abbrev pub retry_rest : Retry → List ℕ
+retry_rest retry = retry.mark ++ (to_le_bytes w32 retry.number ++ retry.cookie)
+
+-- the mark of whoever sent a greeting, or to whom it is sent, in all versions
+abbrev pub told_mark : List ℕ → List ℕ
+told_mark bytes = take 16 (drop 12 bytes)
 
 -- the version of the host
 abbrev pub version_of : Hint → ℕ
@@ -113,6 +124,7 @@ pub record IsCall (call : Call) : Type 0 where
   pub number : call.number < 2 ^ 32
   pub seat : is_wish call.seat ≡ true
   pub players : is_count_or_none call.players ≡ true
+  pub cookie : length call.cookie ≡ 16
 
 -- so many tics may be played a second
 abbrev pub is_rate : ℕ → Bool
@@ -143,6 +155,11 @@ pub record IsAnswer (answer : Answer) : Type 0 where
 
 pub record IsRefused (refused : Refused) : Type 0 where
   pub mark : length refused.mark ≡ 16
+
+pub record IsRetry (retry : Retry) : Type 0 where
+  pub mark : length retry.mark ≡ 16
+  pub number : retry.number < 2 ^ 32
+  pub cookie : length retry.cookie ≡ 16
 
 pub record IsHinted (hinted : Hinted) : Type 0 where
   pub mark : length hinted.mark ≡ 16

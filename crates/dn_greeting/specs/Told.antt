@@ -1,4 +1,5 @@
--- What stands where in a greeting, if it is one.
+-- What stands where in a greeting, if it is one: the steps of reading, of which only the contracts of private
+-- functions speak. What bytes are read as is said in `Reading`, without them.
 use Rattle.std.specs.Prelude.{ℕ, ◌==◌, if◌then◌else◌, List, [], ◌∷◌, take, drop, slice_index, Option, Some, None}
 use Rattle.std.specs.Int.{w16, w32, from_le_bytes}
 use Rattle.dn_greeting.specs.declared.greeting.Address.{Address}
@@ -10,17 +11,15 @@ use Rattle.dn_greeting.specs.declared.greeting.Hinted.{Hinted}
 use Rattle.dn_greeting.specs.declared.greeting.Refusal.{Refusal}
 use Rattle.dn_greeting.specs.declared.greeting.Refusal.TheVariants as refusal
 use Rattle.dn_greeting.specs.declared.greeting.Refused.{Refused}
+use Rattle.dn_greeting.specs.declared.greeting.Retry.{Retry}
 use Rattle.dn_greeting.specs.declared.greeting.Terms.{Terms}
+use Rattle.dn_greeting.specs.Text.{told_mark}
 
 abbrev pub told_number : ℕ → List ℕ → ℕ
 told_number place bytes = from_le_bytes w32 (take 4 (drop place bytes))
 
 abbrev pub told_sixteen : ℕ → List ℕ → List ℕ
 told_sixteen place bytes = take 16 (drop place bytes)
-
--- the mark of whoever sent a greeting, or to whom it is sent, in all versions
-abbrev pub told_mark : List ℕ → List ℕ
-told_mark bytes = told_sixteen 12 bytes
 
 abbrev pub told_name : ℕ → Option ℕ
 told_name n = if n == 0 then None else Some n
@@ -33,6 +32,7 @@ told_call rest =
       number = told_number 16 rest;
       seat = told_name (slice_index rest 20);
       players = told_name (slice_index rest 21);
+      cookie = told_sixteen 22 rest;
     }
 
 -- the address that these bytes begin with
@@ -76,6 +76,11 @@ told_refused rest =
       mark = told_sixteen 0 rest;
       refusal = told_reason (slice_index rest 16) (slice_index rest 17);
     }
+
+-- the retry behind the head
+abbrev pub told_retry : List ℕ → Retry
+told_retry rest =
+    record { mark = told_sixteen 0 rest; number = told_number 16 rest; cookie = told_sixteen 20 rest }
 
 abbrev pub told_hint : ℕ → ℕ → Hint
 told_hint byte version = if byte == 1 then hint.Key else hint.Version version

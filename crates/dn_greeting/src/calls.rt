@@ -14,7 +14,7 @@ use arrayvec::ArrayVec;
 
 impl Table {
     ghost use Rattle.dn_greeting.specs.Seats.{is_of};
-    ghost use Rattle.dn_greeting.specs.Lobby.{answer_to, answered, lobby, moved, on_holder, on_newcomer, on_read, seat_for, seated, some_seat, HearsCall};
+    ghost use Rattle.dn_greeting.specs.Lobby.{answer_to, answered, lobby, moved, on_holder, on_newcomer, on_opened, on_read, seat_for, seated, some_seat, HearsCall};
 
     /// The place of a newcomer who wants this seat, or any.
     fn some_seat(&self, from: &Address, seat: Option<u8>, now: u32) -> Result<usize, Refusal>
@@ -160,6 +160,21 @@ impl Table {
         }
     }
 
+    /// What a call makes of the table, and the bytes that are sent back, if any are: without the cookie it is asked
+    /// for again.
+    fn take_opened(&mut self, from: Address, call: &Call, now: u32) -> Option<ArrayVec<u8, 130>>
+        ensures table { lobby self.new ≡ (on_opened from call.now now (lobby self.old)).0 }
+        ensures reply { option_map (λ reply. reply.items) result
+            ≡ (on_opened from call.now now (lobby self.old)).1 }
+        ensures short { IfSome result (λ reply. length reply.items ≤ 130) }
+    {
+        if self.has_cookie(&from, call) {
+            self.take(from, call, now)
+        } else {
+            Some(self.retried(&from, call))
+        }
+    }
+
     /// Takes any bytes that came from an address at this second, and returns what is sent back to it, if anything
     /// is. It is no longer than what came.
     pub fn hear(&mut self, from: Address, bytes: &[u8], now: u32) -> Option<ArrayVec<u8, 130>>
@@ -168,7 +183,7 @@ impl Table {
         ensures no_longer { IfSome result (λ reply. length reply.items ≤ length bytes.now) }
     {
         match open_call(&self.sealer, bytes) {
-            Ok(call) => self.take(from, &call, now),
+            Ok(call) => self.take_opened(from, &call, now),
             Err(fault) => match hint_for(fault) {
                 Some(hint) => Some(hint_to(bytes, hint)),
                 None => None,

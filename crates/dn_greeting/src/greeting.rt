@@ -37,6 +37,8 @@ pub struct Call {
     pub seat: Option<u8>,
     /// How many players the game must have, if it was told.
     pub players: Option<u8>,
+    /// The cookie that the host gave it, and zeros before.
+    pub cookie: [u8; 16],
 }
 
 /// The host's answer to a call.
@@ -76,6 +78,17 @@ pub struct Refused {
     pub mark: [u8; 16],
     /// Why it is refused.
     pub refusal: Refusal,
+}
+
+/// A host asks who has this mark to make its last call again.
+#[derive(Clone, Copy, Debug, PartialEq, Eq)]
+pub struct Retry {
+    /// The mark of the call.
+    pub mark: [u8; 16],
+    /// The number of the call.
+    pub number: u32,
+    /// The cookie of the address from which the call came: who calls with it is reached there.
+    pub cookie: [u8; 16],
 }
 
 /// Why a call was not read. Nobody can vouch for a hint.

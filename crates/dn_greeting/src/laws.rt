@@ -1,15 +1,18 @@
 //! Laws of greetings.
 
-ghost use Rattle.std.specs.Prelude.{◌≡◌, ◌≢◌, ℕ, List, Result, Ok};
+ghost use Rattle.std.specs.Prelude.{◌≡◌, ◌≢◌, ℕ, List, Option, Some, Result, Ok, false};
 ghost use Rattle.dn_seal.specs.declared.seal.Seal.{Seal};
 ghost use Rattle.dn_seal.specs.Envelope.{Letter, body_bytes as letter_bytes};
+ghost use Rattle.dn_greeting.specs.declared.greeting.Address.{Address};
 ghost use Rattle.dn_greeting.specs.declared.greeting.Answer.{Answer};
 ghost use Rattle.dn_greeting.specs.declared.greeting.Call.{Call};
 ghost use Rattle.dn_greeting.specs.declared.greeting.GreetingFault.{GreetingFault};
 ghost use Rattle.dn_greeting.specs.declared.greeting.Hinted.{Hinted};
 ghost use Rattle.dn_greeting.specs.declared.greeting.Refused.{Refused};
-ghost use Rattle.dn_greeting.specs.Reading.{IsAnswerIn, IsCallIn, IsHintedIn, IsRefusedIn};
-ghost use Rattle.dn_greeting.specs.Text.{answer_rest, body_bytes, call_rest, greeting_bytes, hinted_bytes, refused_rest, IsAnswer, IsCall, IsHinted, IsRefused};
+ghost use Rattle.dn_greeting.specs.declared.greeting.Retry.{Retry};
+ghost use Rattle.dn_greeting.specs.Lobby.{Lobby, has_cookie, retried, HearsCall};
+ghost use Rattle.dn_greeting.specs.Reading.{IsAnswerIn, IsCallIn, IsHintedIn, IsRefusedIn, IsRetryIn};
+ghost use Rattle.dn_greeting.specs.Text.{answer_rest, body_bytes, call_rest, greeting_bytes, hinted_bytes, refused_rest, retry_rest, IsAnswer, IsCall, IsHinted, IsRefused, IsRetry};
 
 /// Bytes are read as one greeting of each kind, or for one fault.
 pub fn one_greeting()
@@ -19,6 +22,8 @@ pub fn one_greeting()
         → IsAnswerIn seal bytes a → IsAnswerIn seal bytes b → a ≡ b }
     ensures refusals { (seal : Seal) (bytes : List ℕ) (a b : Result Refused GreetingFault)
         → IsRefusedIn seal bytes a → IsRefusedIn seal bytes b → a ≡ b }
+    ensures retries { (seal : Seal) (bytes : List ℕ) (a b : Result Retry GreetingFault)
+        → IsRetryIn seal bytes a → IsRetryIn seal bytes b → a ≡ b }
     ensures hints { (bytes : List ℕ) (a b : Result Hinted GreetingFault)
         → IsHintedIn bytes a → IsHintedIn bytes b → a ≡ b }
 {}
@@ -31,6 +36,8 @@ pub fn greetings_are_read_back()
         → IsAnswerIn seal (greeting_bytes seal 2 (answer_rest answer)) (Ok answer) }
     ensures refusals { (seal : Seal) (refused : Refused) → IsRefused refused
         → IsRefusedIn seal (greeting_bytes seal 3 (refused_rest refused)) (Ok refused) }
+    ensures retries { (seal : Seal) (retry : Retry) → IsRetry retry
+        → IsRetryIn seal (greeting_bytes seal 5 (retry_rest retry)) (Ok retry) }
     ensures hints { (hinted : Hinted) → IsHinted hinted → IsHintedIn (hinted_bytes hinted) (Ok hinted) }
 {}
 
@@ -38,4 +45,11 @@ pub fn greetings_are_read_back()
 pub fn greetings_are_no_envelopes()
     ensures { (seal : Seal) (what : ℕ) (rest : List ℕ) (letter : Letter)
         → body_bytes seal what rest ≢ letter_bytes letter }
+{}
+
+/// A call without the cookie of the address from which it came changes nothing, and is asked for again.
+pub fn calls_without_the_cookie_change_nothing()
+    ensures { (from : Address) (bytes : List ℕ) (call : Call) (now : ℕ) (old new : Lobby) (reply : Option (List ℕ))
+        → IsCallIn old.seal bytes (Ok call) → has_cookie from call old ≡ false
+        → HearsCall from bytes now old new reply → (new ≡ old) × (reply ≡ Some (retried from call old)) }
 {}

@@ -4,6 +4,7 @@
 mod append;
 mod calls;
 mod choosing;
+mod cookies;
 mod greeting;
 mod hinting;
 mod joiner;
@@ -11,6 +12,8 @@ mod laws;
 mod news;
 mod places;
 mod reading;
+mod replies;
+mod retrying;
 mod sealing;
 mod seats;
 mod table;
@@ -19,12 +22,17 @@ mod telling;
 mod tests;
 mod writing;
 
-pub use greeting::{Address, Answer, Call, GreetingFault, Hint, Hinted, Refusal, Refused, Terms};
+pub use greeting::{
+    Address, Answer, Call, GreetingFault, Hint, Hinted, Refusal, Refused, Retry, Terms,
+};
 pub use joiner::Joiner;
-pub use laws::{greetings_are_no_envelopes, greetings_are_read_back, one_greeting};
+pub use laws::{
+    calls_without_the_cookie_change_nothing, greetings_are_no_envelopes, greetings_are_read_back,
+    one_greeting,
+};
 pub use news::News;
-pub use reading::{open_answer, open_call, open_refused, read_hinted};
+pub use reading::{open_answer, open_call, open_refused, open_retry, read_hinted};
 pub use sealing::greeter;
 pub use seats::{Holder, Place, QUIET, SILENCE};
 pub use table::Table;
-pub use writing::{hinted_bytes, seal_answer, seal_call, seal_refused};
+pub use writing::{hinted_bytes, seal_answer, seal_call, seal_refused, seal_retry};

@@ -24,6 +24,8 @@ pub enum News {
     Refused(Refusal),
     /// The host could not read its call.
     Hinted(Hint),
+    /// The host asks for its last call again: the next has the cookie of where it is.
+    Retry,
 }
 
 /// Whether an answer to the call of this number is newer than the last.

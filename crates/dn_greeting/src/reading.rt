@@ -8,12 +8,13 @@ ghost use Rattle.dn_greeting.specs.declared.greeting.Call.{Call};
 ghost use Rattle.dn_greeting.specs.declared.greeting.GreetingFault.{GreetingFault};
 ghost use Rattle.dn_greeting.specs.declared.greeting.Hinted.{Hinted};
 ghost use Rattle.dn_greeting.specs.declared.greeting.Refused.{Refused};
+ghost use Rattle.dn_greeting.specs.declared.greeting.Retry.{Retry};
 ghost use Rattle.dn_greeting.specs.Text.{kind_bytes};
-ghost use Rattle.dn_greeting.specs.Reading.{first_fault, hint_fault, IsAnswerIn, IsCallIn, IsHintedIn, IsRefusedIn};
+ghost use Rattle.dn_greeting.specs.Reading.{first_fault, hint_fault, IsAnswerIn, IsCallIn, IsHintedIn, IsRefusedIn, IsRetryIn};
 
-use crate::greeting::{Answer, Call, GreetingFault, Hinted, Refused};
-use crate::telling::{answer_in, call_in, hinted_in, refused_in};
-use crate::writing::{ANSWER, CALL, HINTED, KIND, NAME, REFUSED, VERSION};
+use crate::greeting::{Answer, Call, GreetingFault, Hinted, Refused, Retry};
+use crate::telling::{answer_in, call_in, hinted_in, refused_in, retry_in};
+use crate::writing::{ANSWER, CALL, HINTED, KIND, NAME, REFUSED, RETRY, VERSION};
 use dn_seal::Sealer;
 
 /// Whether these bytes have the kind and the name of greetings.
@@ -95,6 +96,21 @@ pub fn open_refused(sealer: &Sealer, bytes: &[u8]) -> Result<Refused, GreetingFa
         Some(fault) => Err(fault),
         None => match refused_in(&bytes[12..30]) {
             Some(refused) => Ok(refused),
+            None => Err(GreetingFault::Form),
+        },
+    }
+}
+
+/// Reads bytes as a retry, or returns the first fault that they have.
+pub fn open_retry(sealer: &Sealer, bytes: &[u8]) -> Result<Retry, GreetingFault>
+    ensures opens { IsRetryIn (sealing sealer.now).seal bytes.now result }
+    ensures only { (read : Result Retry GreetingFault)
+        → IsRetryIn (sealing sealer.now).seal bytes.now read → result ≡ read }
+{
+    match fault_in(sealer, RETRY, 64, bytes) {
+        Some(fault) => Err(fault),
+        None => match retry_in(&bytes[12..48]) {
+            Some(retry) => Ok(retry),
             None => Err(GreetingFault::Form),
         },
     }

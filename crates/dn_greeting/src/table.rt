@@ -12,6 +12,7 @@ use dn_seal::Sealer;
 #[derive(Drop)]
 pub struct Table {
     pub(crate) sealer: Sealer,
+    pub(crate) cookies: [u8; 32],
     pub(crate) terms: Terms,
     pub(crate) game: [u8; 16],
     pub(crate) places: [Place; 3],
@@ -22,12 +23,14 @@ impl Table {
     ghost use Rattle.dn_greeting.specs.Greeter.{greeting_seal};
     ghost use Rattle.dn_greeting.specs.Lobby.{lobby, new_lobby, swept};
 
-    /// The table of a game with these terms and this number, under a secret or without one, with no joiner.
-    pub fn new(secret: Option<[u8; 32]>, terms: Terms, game: [u8; 16]) -> Table
-        ensures { lobby result ≡ new_lobby (greeting_seal secret) terms game }
+    /// The table of a game with these terms and this number, under a secret or without one, with no joiner. The
+    /// secret of its cookies is the host's own, drawn when it is started.
+    pub fn new(secret: Option<[u8; 32]>, cookies: [u8; 32], terms: Terms, game: [u8; 16]) -> Table
+        ensures { lobby result ≡ new_lobby (greeting_seal secret) cookies terms game }
     {
         Table {
             sealer: greeter(secret),
+            cookies,
             terms,
             game,
             places: [

@@ -5,11 +5,12 @@ ghost use Rattle.dn_greeting.specs.declared.greeting.Answer.{Answer};
 ghost use Rattle.dn_greeting.specs.declared.greeting.Call.{Call};
 ghost use Rattle.dn_greeting.specs.declared.greeting.Hinted.{Hinted};
 ghost use Rattle.dn_greeting.specs.declared.greeting.Refused.{Refused};
-ghost use Rattle.dn_greeting.specs.Text.{answer_rest, call_rest, hinted_bytes, refused_rest, is_count_or_none, is_count, is_guest, is_rate, is_terms, is_wish, IsAddress, IsAnswer, IsCall, IsHinted, IsRefused};
-ghost use Rattle.dn_greeting.specs.Told.{told_address, told_answer, told_call, told_hint, told_hinted, told_name, told_reason, told_refused, told_sixteen, told_terms};
+ghost use Rattle.dn_greeting.specs.declared.greeting.Retry.{Retry};
+ghost use Rattle.dn_greeting.specs.Text.{answer_rest, call_rest, hinted_bytes, refused_rest, retry_rest, is_count_or_none, is_count, is_guest, is_rate, is_terms, is_wish, IsAddress, IsAnswer, IsCall, IsHinted, IsRefused, IsRetry};
+ghost use Rattle.dn_greeting.specs.Told.{told_address, told_answer, told_call, told_hint, told_hinted, told_name, told_reason, told_refused, told_retry, told_sixteen, told_terms};
 
-use crate::greeting::{Address, Answer, Call, Hint, Hinted, Refusal, Refused, Terms};
-use crate::writing::{answer_rest, call_rest, hinted_bytes, refused_rest};
+use crate::greeting::{Address, Answer, Call, Hint, Hinted, Refusal, Refused, Retry, Terms};
+use crate::writing::{answer_rest, call_rest, hinted_bytes, refused_rest, retry_rest};
 use dn_seal::tic_at;
 
 /// The sixteen bytes from a place on.
@@ -39,6 +40,7 @@ fn told_call(rest: &[u8]) -> Call
         number: tic_at(rest, 16),
         seat: name_in(rest[20]),
         players: name_in(rest[21]),
+        cookie: sixteen_at(rest, 22),
     }
 }
 
@@ -159,6 +161,18 @@ fn told_refused(rest: &[u8]) -> Refused
     }
 }
 
+/// The retry that may stand behind the head.
+fn told_retry(rest: &[u8]) -> Retry
+    requires { 36 ≤ length rest.now }
+    ensures { result ≡ told_retry rest.now }
+{
+    Retry {
+        mark: sixteen_at(rest, 0),
+        number: tic_at(rest, 16),
+        cookie: sixteen_at(rest, 20),
+    }
+}
+
 /// The hint that two bytes tell.
 fn hint_in(byte: u8, version: u8) -> Hint
     ensures { result ≡ told_hint byte version }
@@ -216,6 +230,19 @@ pub(crate) fn refused_in(rest: &[u8]) -> Option<Refused>
     let refused = told_refused(rest);
     if *rest == *refused_rest(&refused).as_slice() {
         return Some(refused);
+    }
+    None
+}
+
+/// What stands behind the head, if it is a retry.
+pub(crate) fn retry_in(rest: &[u8]) -> Option<Retry>
+    requires { 36 ≤ length rest.now }
+    ensures { MatchOption result ((retry : Retry) → IsRetry retry → rest.now ≢ retry_rest retry)
+        (λ retry. IsRetry retry × (rest.now ≡ retry_rest retry)) }
+{
+    let retry = told_retry(rest);
+    if *rest == *retry_rest(&retry).as_slice() {
+        return Some(retry);
     }
     None
 }

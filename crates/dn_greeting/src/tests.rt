@@ -1,6 +1,7 @@
 //! Greetings whose bytes were worked out apart, and lobbies.
 
 mod bytes;
+mod cookies;
 mod joiners;
 mod seats;
 
@@ -15,6 +16,9 @@ const GAME: [u8; 16] = [
 ];
 
 const SECRET: [u8; 32] = [7; 32];
+
+/// The secret of a host's cookies.
+const COOKIES: [u8; 32] = [9; 32];
 
 /// An IPv4 address and a port.
 fn mapped([a, b, c, d]: [u8; 4], port: u16) -> Address {

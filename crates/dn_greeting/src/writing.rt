@@ -3,10 +3,10 @@
 ghost use Rattle.std.specs.Prelude.{◌≡◌, ◌≤◌, length};
 ghost use Rattle.std.specs.List.{flat_map};
 ghost use Rattle.dn_seal.specs.Sealing.{sealing};
-ghost use Rattle.dn_greeting.specs.Text.{address_bytes, answer_rest, bit, call_rest, greeting_bytes, hint_byte, hinted_bytes, named, padding, reason_bytes, refused_rest, terms_bytes, version_of};
+ghost use Rattle.dn_greeting.specs.Text.{address_bytes, answer_rest, bit, call_rest, greeting_bytes, hint_byte, hinted_bytes, named, padding, reason_bytes, refused_rest, retry_rest, terms_bytes, version_of};
 
 use crate::append::append;
-use crate::greeting::{Address, Answer, Call, Hint, Hinted, Refusal, Refused, Terms};
+use crate::greeting::{Address, Answer, Call, Hint, Hinted, Refusal, Refused, Retry, Terms};
 use arrayvec::ArrayVec;
 use dn_seal::Sealer;
 
@@ -27,6 +27,9 @@ pub(crate) const REFUSED: u8 = 3;
 
 /// A hint.
 pub(crate) const HINTED: u8 = 4;
+
+/// A retry.
+pub(crate) const RETRY: u8 = 5;
 
 /// What stands behind the first byte of every greeting.
 pub(crate) const NAME: [u8; 9] = [KIND, 122, 105, 114, 109, 101, 103, 97, 116];
@@ -60,10 +63,10 @@ fn named(number: Option<u8>) -> u8
 
 /// What makes a call as long as its answer.
 #[tactic(auto, unfolding(crate::specs::Text::padding))]
-fn padding() -> [u8; 80]
+fn padding() -> [u8; 64]
     ensures { result ≡ padding }
 {
-    [0; 80]
+    [0; 64]
 }
 
 /// What stands behind the head of a call.
@@ -74,6 +77,7 @@ pub(crate) fn call_rest(call: &Call) -> ArrayVec<u8, 102>
     append(&mut bytes, &call.mark);
     append(&mut bytes, &call.number.to_le_bytes());
     append(&mut bytes, &[named(call.seat), named(call.players)]);
+    append(&mut bytes, &call.cookie);
     append(&mut bytes, &padding());
     bytes
 }
@@ -166,6 +170,17 @@ pub(crate) fn refused_rest(refused: &Refused) -> ArrayVec<u8, 102>
     bytes
 }
 
+/// What stands behind the head of a retry.
+pub(crate) fn retry_rest(retry: &Retry) -> ArrayVec<u8, 102>
+    ensures { result.items ≡ retry_rest retry.now }
+{
+    let mut bytes = ArrayVec::new();
+    append(&mut bytes, &retry.mark);
+    append(&mut bytes, &retry.number.to_le_bytes());
+    append(&mut bytes, &retry.cookie);
+    bytes
+}
+
 /// The bytes of a call.
 pub fn seal_call(sealer: &Sealer, call: &Call) -> ArrayVec<u8, 130>
     ensures value { result.items ≡ greeting_bytes (sealing sealer.now).seal 1 (call_rest call.now) }
@@ -188,6 +203,14 @@ pub fn seal_refused(sealer: &Sealer, refused: &Refused) -> ArrayVec<u8, 130>
     ensures short { length result.items ≤ 130 }
 {
     sealed(sealer, REFUSED, refused_rest(refused).as_slice())
+}
+
+/// The bytes of a retry.
+pub fn seal_retry(sealer: &Sealer, retry: &Retry) -> ArrayVec<u8, 130>
+    ensures value { result.items ≡ greeting_bytes (sealing sealer.now).seal 5 (retry_rest retry.now) }
+    ensures short { length result.items ≤ 130 }
+{
+    sealed(sealer, RETRY, retry_rest(retry).as_slice())
 }
 
 /// The host's version.

@@ -2,8 +2,8 @@
 
 use super::{GAME, MARK, SECRET, mapped};
 use crate::{
-    Address, Answer, Hint, Hinted, Joiner, News, Refusal, Refused, Terms, greeter, hinted_bytes,
-    open_call, seal_answer, seal_refused,
+    Address, Answer, Hint, Hinted, Joiner, News, Refusal, Refused, Retry, Terms, greeter,
+    hinted_bytes, open_call, seal_answer, seal_refused, seal_retry,
 };
 
 /// Where the host is.
@@ -13,6 +13,15 @@ fn host() -> Address {
 
 fn joiner() -> Joiner {
     Joiner::new(Some(SECRET), host(), MARK, Some(1), Some(3))
+}
+
+/// A joiner that has called nine times.
+fn called() -> Joiner {
+    let mut joiner = joiner();
+    for _ in 0..9 {
+        let _ = joiner.call();
+    }
+    joiner
 }
 
 /// The answer to a call of this number, in this game, where seat 2 is held here.
@@ -48,7 +57,7 @@ fn calls_are_numbered(rt: HostRuntime) {
                     (call.number, call.seat, call.players),
                     (number, Some(1), Some(3))
                 );
-                assert!(rt; call.mark == MARK);
+                assert!(rt; call.mark == MARK && call.cookie == [0; 16]);
             }
             Err(_) => assert!(rt; false),
         }
@@ -70,7 +79,7 @@ fn answers_are_taken_in_order(rt: HostRuntime) {
         (host(), answer(5, [9; 16], Some(moved)), News::Anew),
         (host(), answer(6, [9; 16], Some(moved)), News::Same),
     ];
-    let mut joiner = joiner();
+    let mut joiner = called();
     for (from, answer, news) in rows {
         let before = joiner.answer();
         assert_eq!(rt; hears(&mut joiner, from, &answer), news);
@@ -84,8 +93,64 @@ fn answers_are_taken_in_order(rt: HostRuntime) {
 }
 
 #[test]
-fn another_seat_or_other_terms_are_anew(rt: HostRuntime) {
+fn an_answer_is_to_a_call_that_was_made(rt: HostRuntime) {
     let mut joiner = joiner();
+    let last = answer(u32::MAX, GAME, None);
+    assert_eq!(rt;
+        hears(&mut joiner, host(), &answer(1, GAME, None)),
+        News::Nothing
+    );
+    let _ = joiner.call();
+    assert_eq!(rt; hears(&mut joiner, host(), &last), News::Nothing);
+    assert_eq!(rt;
+        hears(&mut joiner, host(), &answer(2, GAME, None)),
+        News::Nothing
+    );
+    assert_eq!(rt;
+        hears(&mut joiner, host(), &answer(1, GAME, None)),
+        News::Seated
+    );
+    let _ = joiner.call();
+    assert_eq!(rt;
+        hears(&mut joiner, host(), &answer(3, GAME, None)),
+        News::Nothing
+    );
+    assert_eq!(rt;
+        hears(&mut joiner, host(), &answer(2, GAME, None)),
+        News::Same
+    );
+}
+
+#[test]
+fn who_has_a_seat_heeds_no_want_of_one(rt: HostRuntime) {
+    // A refusal, what it says to who has no seat, and to who has one.
+    let rows = [
+        (Refusal::Full, true, false),
+        (Refusal::Taken, true, false),
+        (Refusal::Players(4), true, true),
+        (Refusal::Begun, true, true),
+    ];
+    for (refusal, before, after) in rows {
+        let mut joiner = called();
+        let refused = Refused {
+            mark: MARK,
+            refusal,
+        };
+        let bytes = seal_refused(&greeter(Some(SECRET)), &refused);
+        let is_heard = joiner.hear(host(), bytes.as_slice()) == News::Refused(refusal);
+        assert_eq!(rt; is_heard, before);
+        assert_eq!(rt;
+            hears(&mut joiner, host(), &answer(1, GAME, None)),
+            News::Seated
+        );
+        let is_heard = joiner.hear(host(), bytes.as_slice()) == News::Refused(refusal);
+        assert_eq!(rt; is_heard, after);
+    }
+}
+
+#[test]
+fn another_seat_or_other_terms_are_anew(rt: HostRuntime) {
+    let mut joiner = called();
     let mut next = answer(1, GAME, None);
     assert_eq!(rt; hears(&mut joiner, host(), &next), News::Seated);
     next.number = 2;
@@ -104,7 +169,7 @@ fn another_seat_or_other_terms_are_anew(rt: HostRuntime) {
 
 #[test]
 fn refusals_are_for_the_mark(rt: HostRuntime) {
-    let mut joiner = joiner();
+    let mut joiner = called();
     let sealer = greeter(Some(SECRET));
     for (mark, news) in [
         (MARK, News::Refused(Refusal::Taken)),
@@ -123,7 +188,7 @@ fn refusals_are_for_the_mark(rt: HostRuntime) {
 
 #[test]
 fn hints_are_heeded_before_an_answer(rt: HostRuntime) {
-    let mut joiner = joiner();
+    let mut joiner = called();
     let bytes = hinted_bytes(&Hinted {
         mark: MARK,
         hint: Hint::Key,
@@ -150,7 +215,7 @@ fn in_its_game_it_heeds_where_others_are(rt: HostRuntime) {
         (host(), answer(5, [9; 16], None), News::Nothing),
         (host(), answer(4, GAME, None), News::Moved),
     ];
-    let mut joiner = joiner();
+    let mut joiner = called();
     assert_eq!(rt;
         hears(&mut joiner, host(), &answer(1, GAME, None)),
         News::Seated
@@ -169,7 +234,7 @@ fn in_its_game_it_heeds_where_others_are(rt: HostRuntime) {
 
 #[test]
 fn a_game_without_a_seat_heeds_nothing(rt: HostRuntime) {
-    let mut joiner = joiner();
+    let mut joiner = called();
     joiner.begin();
     assert_eq!(rt;
         hears(&mut joiner, host(), &answer(1, GAME, None)),
@@ -180,4 +245,49 @@ fn a_game_without_a_seat_heeds_nothing(rt: HostRuntime) {
         hint: Hint::Key,
     });
     assert_eq!(rt; joiner.hear(host(), bytes.as_slice()), News::Nothing);
+}
+
+/// The cookie of the next call.
+fn next_cookie(joiner: &mut Joiner) -> Option<[u8; 16]> {
+    match open_call(&greeter(Some(SECRET)), joiner.call().as_slice()) {
+        Ok(call) => Some(call.cookie),
+        Err(_) => None,
+    }
+}
+
+#[test]
+fn who_is_asked_again_calls_with_the_cookie(rt: HostRuntime) {
+    let there = mapped([10, 0, 0, 3], 5029);
+    // From where, with which mark, of which number, which cookie, and whether it is taken. It has called nine times,
+    // and calls after each.
+    let rows = [
+        (host(), [0; 16], 9, 1, false),
+        (there, MARK, 10, 2, false),
+        (host(), MARK, 10, 3, false),
+        (host(), MARK, 12, 4, true),
+        (host(), MARK, 12, 5, false),
+        (host(), MARK, 15, 6, false),
+        (host(), MARK, 15, 7, true),
+    ];
+    let mut joiner = called();
+    let mut last = 0;
+    for (from, mark, number, byte, is_taken) in rows {
+        if byte == 7 {
+            joiner.begin();
+        }
+        let retry = Retry {
+            mark,
+            number,
+            cookie: [byte; 16],
+        };
+        let bytes = seal_retry(&greeter(Some(SECRET)), &retry);
+        let news = joiner.hear(from, bytes.as_slice());
+        assert!(rt; (news == News::Retry) == is_taken && (news == News::Nothing) != is_taken);
+        if is_taken {
+            last = byte;
+        }
+        assert!(rt; next_cookie(&mut joiner) == Some([last; 16]));
+        let forged = seal_retry(&greeter(None), &retry);
+        assert_eq!(rt; joiner.hear(host(), forged.as_slice()), News::Nothing);
+    }
 }

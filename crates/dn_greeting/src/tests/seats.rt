@@ -1,9 +1,9 @@
 //! Who gets which seat.
 
-use super::{GAME, SECRET, mapped};
+use super::{COOKIES, GAME, SECRET, mapped};
 use crate::{
     Address, Call, Hint, Hinted, Place, Refusal, Refused, Table, Terms, greeter, open_answer,
-    open_refused, read_hinted, seal_call,
+    open_refused, open_retry, read_hinted, seal_call,
 };
 use arrayvec::ArrayVec;
 
@@ -16,6 +16,8 @@ enum Brought {
     Refused(Refusal),
     /// A hint.
     Hinted(Hint),
+    /// A retry.
+    Retry,
     /// Nothing.
     Nothing,
 }
@@ -35,20 +37,35 @@ fn at(host: u8) -> Address {
     mapped([10, 0, 0, host], 5029)
 }
 
-/// The bytes of a call of this number by who has this mark.
-fn numbered(number: u32, mark: u8, seat: Option<u8>, players: Option<u8>) -> ArrayVec<u8, 130> {
-    let call = Call {
+/// A call of this number by who has this mark, as yet without a cookie.
+fn numbered(number: u32, mark: u8, seat: Option<u8>, players: Option<u8>) -> Call {
+    Call {
         mark: [mark; 16],
         number,
         seat,
         players,
-    };
-    seal_call(&greeter(Some(SECRET)), &call)
+        cookie: [0; 16],
+    }
 }
 
-/// The bytes of a first call.
-fn call(mark: u8, seat: Option<u8>, players: Option<u8>) -> ArrayVec<u8, 130> {
+/// A first call.
+fn call(mark: u8, seat: Option<u8>, players: Option<u8>) -> Call {
     numbered(1, mark, seat, players)
+}
+
+/// Its bytes.
+fn sealed(call: &Call) -> ArrayVec<u8, 130> {
+    seal_call(&greeter(Some(SECRET)), call)
+}
+
+/// What a call brings that is made again with the cookie of its address.
+fn heard(table: &mut Table, from: Address, mut call: Call, now: u32) -> Option<ArrayVec<u8, 130>> {
+    let reply = table.hear(from, sealed(&call).as_slice(), now)?;
+    if let Ok(retry) = open_retry(&greeter(Some(SECRET)), reply.as_slice()) {
+        let cookie = retry.cookie;
+        call.cookie = cookie;
+    }
+    table.hear(from, sealed(&call).as_slice(), now)
 }
 
 /// The first bytes of a call, as one of another version has them.
@@ -75,6 +92,9 @@ fn read(reply: Option<ArrayVec<u8, 130>>) -> Brought {
     }
     if let Ok(Refused { refusal, .. }) = open_refused(&sealer, bytes.as_slice()) {
         return Brought::Refused(refusal);
+    }
+    if open_retry(&sealer, bytes.as_slice()).is_ok() {
+        return Brought::Retry;
     }
     match read_hinted(bytes.as_slice()) {
         Ok(Hinted { hint, .. }) => Brought::Hinted(hint),
@@ -125,13 +145,13 @@ fn seats_of_a_game_of_four(rt: HostRuntime) {
         (19, 6, 9, None, None, Brought::Seat(1, 3)),
         (20, 6, 9, None, None, Brought::Seat(1, 2)),
     ];
-    let mut table = Table::new(Some(SECRET), terms(4), GAME);
+    let mut table = Table::new(Some(SECRET), COOKIES, terms(4), GAME);
     let mut number: u32 = 0;
     for (now, from, mark, seat, players, brought) in rows {
         number = number.saturating_add(1);
         table.sweep(now);
-        let bytes = numbered(number, mark, seat, players);
-        let reply = table.hear(at(from), bytes.as_slice(), now);
+        let call = numbered(number, mark, seat, players);
+        let reply = heard(&mut table, at(from), call, now);
         assert_eq!(rt; read(reply), brought, "row {number}");
     }
 }
@@ -161,13 +181,13 @@ fn a_holder_is_followed_by_its_newer_calls(rt: HostRuntime) {
         (5, 1, 9, Brought::Seat(1, 2), 5),
         (6, 3, 9, Brought::Refused(Refusal::Begun), 5),
     ];
-    let mut table = Table::new(Some(SECRET), terms(3), GAME);
+    let mut table = Table::new(Some(SECRET), COOKIES, terms(3), GAME);
     for (from, mark, number, brought, place) in rows {
         if number == 9 {
             table.begin();
         }
-        let bytes = numbered(number, mark, None, None);
-        let reply = table.hear(at(from), bytes.as_slice(), 0);
+        let call = numbered(number, mark, None, None);
+        let reply = heard(&mut table, at(from), call, 0);
         assert_eq!(rt; read(reply), brought);
         assert!(rt; first_of(&table) == Some(at(place)));
     }
@@ -175,16 +195,13 @@ fn a_holder_is_followed_by_its_newer_calls(rt: HostRuntime) {
 
 #[test]
 fn a_repeated_call_keeps_no_seat(rt: HostRuntime) {
-    let mut table = Table::new(Some(SECRET), terms(2), GAME);
-    let bytes = call(1, None, None);
+    let mut table = Table::new(Some(SECRET), COOKIES, terms(2), GAME);
+    let call = call(1, None, None);
     assert_eq!(rt;
-        read(table.hear(at(1), bytes.as_slice(), 0)),
+        read(heard(&mut table, at(1), call, 0)),
         Brought::Seat(1, 1)
     );
-    assert_eq!(rt;
-        read(table.hear(at(1), bytes.as_slice(), 10)),
-        Brought::Nothing
-    );
+    assert_eq!(rt; read(heard(&mut table, at(1), call, 10)), Brought::Nothing);
     table.sweep(11);
     assert!(rt; first_of(&table).is_none());
 }
@@ -208,9 +225,9 @@ fn an_own_address_of_a_machine_is_told_on_it_alone(rt: HostRuntime) {
         (at(1), own, true),
     ];
     for (first, second, is_told) in rows {
-        let mut table = Table::new(Some(SECRET), terms(3), GAME);
-        let _ = table.hear(first, call(1, None, None).as_slice(), 0);
-        let reply = table.hear(second, call(2, None, None).as_slice(), 0);
+        let mut table = Table::new(Some(SECRET), COOKIES, terms(3), GAME);
+        let _ = heard(&mut table, first, call(1, None, None), 0);
+        let reply = heard(&mut table, second, call(2, None, None), 0);
         match open_answer(
             &greeter(Some(SECRET)),
             reply.unwrap_or(ArrayVec::new()).as_slice(),
@@ -226,89 +243,87 @@ fn an_own_address_of_a_machine_is_told_on_it_alone(rt: HostRuntime) {
 
 #[test]
 fn the_lowest_free_seat_is_given(rt: HostRuntime) {
-    let mut table = Table::new(Some(SECRET), terms(3), GAME);
+    let mut table = Table::new(Some(SECRET), COOKIES, terms(3), GAME);
     let three = |seat| call(9, Some(seat), None);
     assert_eq!(rt;
-        read(table.hear(at(9), three(3).as_slice(), 0)),
+        read(heard(&mut table, at(9), three(3), 0)),
         Brought::Refused(Refusal::Players(3))
     );
     assert_eq!(rt;
-        read(table.hear(at(9), three(2).as_slice(), 0)),
+        read(heard(&mut table, at(9), three(2), 0)),
         Brought::Seat(2, 1)
     );
     // Started anew for another seat it leaves the first.
     assert_eq!(rt;
-        read(table.hear(at(9), call(8, Some(1), None).as_slice(), 0)),
+        read(heard(&mut table, at(9), call(8, Some(1), None), 0)),
         Brought::Seat(1, 1)
     );
     assert_eq!(rt;
-        read(table.hear(at(7), call(7, None, None).as_slice(), 0)),
+        read(heard(&mut table, at(7), call(7, None, None), 0)),
         Brought::Seat(2, 2)
     );
 }
 
 #[test]
 fn a_game_that_has_begun_takes_nobody(rt: HostRuntime) {
-    let mut table = Table::new(Some(SECRET), terms(3), GAME);
+    let mut table = Table::new(Some(SECRET), COOKIES, terms(3), GAME);
     let one = call(1, None, None);
     let two = call(2, None, None);
-    assert_eq!(rt;
-        read(table.hear(at(1), one.as_slice(), 0)),
-        Brought::Seat(1, 1)
-    );
+    assert_eq!(rt; read(heard(&mut table, at(1), one, 0)), Brought::Seat(1, 1));
     table.begin();
     table.sweep(100);
     assert_eq!(rt;
-        read(table.hear(at(1), numbered(2, 1, None, None).as_slice(), 100)),
+        read(heard(&mut table, at(1), numbered(2, 1, None, None), 100)),
         Brought::Seat(1, 1)
     );
     assert_eq!(rt;
-        read(table.hear(at(1), two.as_slice(), 100)),
+        read(heard(&mut table, at(1), two, 100)),
         Brought::Refused(Refusal::Begun)
     );
     assert_eq!(rt;
-        read(table.hear(at(2), two.as_slice(), 200)),
+        read(heard(&mut table, at(2), two, 200)),
         Brought::Refused(Refusal::Begun)
     );
 }
 
 #[test]
 fn what_is_no_call_gets_a_hint_or_nothing(rt: HostRuntime) {
-    let mut table = Table::new(Some([8; 32]), terms(2), GAME);
-    let bytes = call(1, None, None);
+    let mut table = Table::new(Some([8; 32]), COOKIES, terms(2), GAME);
+    let bytes = sealed(&call(1, None, None));
     assert_eq!(rt;
         read(table.hear(at(1), bytes.as_slice(), 0)),
         Brought::Hinted(Hint::Key)
     );
     assert_eq!(rt; read(table.hear(at(1), &[], 0)), Brought::Nothing);
-    assert_eq!(rt; table.places(), Table::new(None, terms(2), GAME).places());
+    assert_eq!(rt;
+        table.places(),
+        Table::new(None, COOKIES, terms(2), GAME).places()
+    );
 }
 
 #[test]
 fn another_version_is_told_ours(rt: HostRuntime) {
-    let mut table = Table::new(Some(SECRET), terms(2), GAME);
+    let mut table = Table::new(Some(SECRET), COOKIES, terms(2), GAME);
     let rows = [
         (40, 2, Brought::Hinted(Hint::Version(1))),
         (28, 2, Brought::Nothing),
         (129, 1, Brought::Nothing),
-        (130, 1, Brought::Seat(1, 1)),
+        (130, 1, Brought::Retry),
     ];
     for (size, version, brought) in rows {
-        let bytes = front_of(call(1, None, None).as_slice(), size, version);
+        let bytes = front_of(sealed(&call(1, None, None)).as_slice(), size, version);
         assert_eq!(rt; read(table.hear(at(1), bytes.as_slice(), 0)), brought);
     }
 }
 
 #[test]
 fn the_answer_has_the_number_of_the_game(rt: HostRuntime) {
-    let mut table = Table::new(Some(SECRET), terms(2), GAME);
+    let mut table = Table::new(Some(SECRET), COOKIES, terms(2), GAME);
     for (number, game) in [(1, GAME), (2, [9; 16])] {
         table.renew(game);
         assert!(rt; table.game() == game);
-        let bytes = numbered(number, 1, None, None);
-        let reply = table
-            .hear(at(1), bytes.as_slice(), 0)
-            .unwrap_or(ArrayVec::new());
+        let call = numbered(number, 1, None, None);
+        let reply = heard(&mut table, at(1), call, 0).unwrap_or(ArrayVec::new());
         match open_answer(&greeter(Some(SECRET)), reply.as_slice()) {
             Ok(answer) => {
                 assert!(rt; answer.game == game && answer.terms == table.terms());

@@ -29,7 +29,7 @@ returns-in-Ok-clause-no_longer c =
     let text : length c.args.bytes.now ≡ length (call_rest call) + 28 =
     ap (length {A = ℕ}) read.1 ∙ length-text seal 1 (call_rest call) in
     let whole : 130 ≤ length c.args.bytes.now = omega (arith, text, length-call call read.0) in
-    IfSome_then c.take.result c.take.ensures.short (λ reply short. omega (arith, short, whole))
+    IfSome_then c.take_opened.result c.take_opened.ensures.short (λ reply short. omega (arith, short, whole))
 
 pub returns-in-Some-clause-no_longer : goal.returns-in-Some-clause-no_longer
 returns-in-Some-clause-no_longer c =

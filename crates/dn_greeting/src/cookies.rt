@@ -1,0 +1,20 @@
+//! Cookies, which show that a caller is reached where it calls from.
+
+ghost use Rattle.std.specs.Prelude.{◌≡◌};
+ghost use Rattle.dn_greeting.specs.Greeter.{cookie_of};
+
+use crate::append::append;
+use crate::greeting::Address;
+use crate::telling::sixteen_at;
+use arrayvec::ArrayVec;
+use dn_seal::hmac;
+
+/// The cookie of an address under a host's own secret.
+pub(crate) fn cookie_of(secret: &[u8; 32], address: &Address) -> [u8; 16]
+    ensures { result ≡ cookie_of secret.now address.now }
+{
+    let mut text = ArrayVec::<u8, 18>::new();
+    append(&mut text, &address.ip);
+    append(&mut text, &address.port.to_le_bytes());
+    sixteen_at(&hmac(secret, text.as_slice()), 0)
+}
