@@ -7,3 +7,7 @@ pub mod Stages
 pub mod Outcomes
 pub mod Begun
 pub mod Replays
+pub mod Offers
+pub mod Peers
+pub mod Calling
+pub mod Arrived

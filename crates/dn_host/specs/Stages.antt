@@ -1,31 +1,17 @@
 -- How a session may end.
 use Rattle.std.specs.Prelude.{◌≡◌, ◌⊎◌, ⊤, Bool, true, false}
-use Rattle.std.proofs.Props.{props}
 use Rattle.dn_host.specs.declared.ends.Ending.{Ending}
-use Rattle.dn_host.specs.declared.ends.Ending.TheVariants.{Refused, Hinted}
+use Rattle.dn_host.specs.declared.ends.Ending.TheVariants.{Ended, Refused, Hinted}
 use Rattle.dn_host.specs.declared.hearing.Heard.{Heard}
 use Rattle.dn_host.specs.declared.hearing.Heard.TheVariants.{Ending as Heard_ending}
-use Rattle.dn_host.specs.declared.leave.Stage.{Stage}
-use Rattle.dn_host.specs.declared.leave.Stage.TheVariants.{Going, Leaving, Ended}
 use Rattle.dn_host.specs.declared.session.Turned.{Turned}
 use Rattle.dn_host.specs.declared.session.Turned.TheVariants.{Ended as Turned_ended}
 
 -- the host gave no seat, or could not read the calls
 abbrev pub is_refusal : Ending → Bool
+is_refusal (Ended end) = false
 is_refusal (Refused refusal) = true
 is_refusal (Hinted hint) = true
-is_refusal ending = false
-
--- a game that leaves or has ended did not do so by a refusal
-abbrev pub IsPlayed : Stage → Type 0
-IsPlayed Going = ⊤
-IsPlayed (Leaving ending since free) = is_refusal ending ≡ false
-IsPlayed (Ended ending) = is_refusal ending ≡ false
-
-pub IsPlayed-prop : (stage : Stage) → IsProp (IsPlayed stage)
-IsPlayed-prop Going = Prim.hlevel props
-IsPlayed-prop (Leaving ending since free) = Prim.hlevel props
-IsPlayed-prop (Ended ending) = Prim.hlevel props
 
 -- so it is with the ending that a greeting brought, if one did
 abbrev pub IfEnding : Heard → (Ending → Type 0) → Type 0

@@ -1,5 +1,8 @@
 //! The clock of a session, in microseconds.
 
+ghost use Rattle.std.specs.Prelude.{◌≡◌, IfErr};
+ghost use Rattle.dn_host.specs.declared.ends.HostFault.TheVariants as fault;
+
 use crate::ends::HostFault;
 use std::thread;
 use std::time::{Clock, Duration};
@@ -8,7 +11,9 @@ use std::time::{Clock, Duration};
 const NAP: u64 = 500;
 
 /// What the clock shows.
-pub(crate) fn now(clock: &impl Clock) -> Result<u64, HostFault> {
+pub(crate) fn now(clock: &impl Clock) -> Result<u64, HostFault>
+    ensures { IfErr result (λ f. f ≡ fault.Clock) }
+{
     match clock.monotonic() {
         Ok(time) => Ok(u64::try_from(time.as_micros()).unwrap_or(u64::MAX)),
         Err(_) => Err(HostFault::Clock),

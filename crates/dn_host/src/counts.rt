@@ -1,6 +1,11 @@
 //! What is counted of a game from its beginning on.
 
 ghost use Rattle.std.specs.Prelude.{◌≡◌, ◌≤◌, ℕ, List};
+ghost use Rattle.dn_link.specs.Linking.{linked};
+ghost use Rattle.dn_link.specs.Pacing.{pace_of};
+ghost use Rattle.dn_measure.specs.Measure.{IsMeasureOf, IsSummaryOf};
+ghost use Rattle.dn_measure.specs.declared.told.Told.{Told};
+ghost use Rattle.dn_host.specs.Arrived.{arrivals_by, came_by, came_from, since_then};
 ghost use Rattle.dn_host.specs.Measured.{IsMeasured, IsSomeMeasure};
 
 use crate::done::Done;
@@ -30,7 +35,9 @@ pub(crate) struct Counts {
 }
 
 /// What came from a player so far, so much of it late.
-fn came_from(link: &Link, player: u8, late: u32) -> Option<Arrivals> {
+fn came_from(link: &Link, player: u8, late: u32) -> Option<Arrivals>
+    ensures { result ≡ came_from (linked link.now) (pace_of link.now) player late }
+{
     let figures = link.figures(player)?;
     Some(Arrivals {
         came: figures.came,
@@ -42,7 +49,10 @@ fn came_from(link: &Link, player: u8, late: u32) -> Option<Arrivals> {
 }
 
 /// What came from each player so far, so much of it late.
-fn came(link: &Link, [a, b, c, d]: [u32; 4]) -> Came {
+fn came(link: &Link, late: [u32; 4]) -> Came
+    ensures { result ≡ came_by (linked link.now) (pace_of link.now) late }
+{
+    let [a, b, c, d] = late;
     [
         came_from(link, 0, a),
         came_from(link, 1, b),
@@ -61,7 +71,9 @@ fn tell(measure: &mut Measure, told: Told, times: u32)
 }
 
 /// What came from a player since there was that much.
-fn since(after: Option<Arrivals>, before: Option<Arrivals>) -> Option<Arrivals> {
+fn since(after: Option<Arrivals>, before: Option<Arrivals>) -> Option<Arrivals>
+    ensures { result ≡ since_then after before }
+{
     match (after, before) {
         (Some(after), Some(before)) => Some(after.since(&before)),
         (after, _) => after,
@@ -115,7 +127,9 @@ impl Counts {
     }
 
     /// What came from each player since the game began.
-    fn arrivals(&self, link: &Link) -> Came {
+    fn arrivals(&self, link: &Link) -> Came
+        ensures { result ≡ arrivals_by (linked link.now) (pace_of link.now) self.now.late self.now.before }
+    {
         let [a, b, c, d] = came(link, self.late);
         let [e, f, g, h] = self.before;
         [since(a, e), since(b, f), since(c, g), since(d, h)]
@@ -148,7 +162,10 @@ impl Counts {
 
     /// What was measured up to now.
     pub(crate) fn summary(&self, link: &Link, now: u64, rate: u8) -> Summary
-        ensures { IsMeasured result }
+        ensures own { (start : ℕ) (told : List Told) → IsMeasureOf self.now.measure start told
+            → IsSummaryOf start told now rate
+            (arrivals_by (linked link.now) (pace_of link.now) self.now.late self.now.before) result }
+        ensures measured { IsMeasured result }
     {
         self.measure.summary(now, rate, self.arrivals(link))
     }

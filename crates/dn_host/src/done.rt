@@ -8,18 +8,3 @@ pub(crate) struct Done {
     /// How many tics were run.
     pub(crate) ran: u32,
 }
-
-impl Done {
-    /// Nothing.
-    pub(crate) fn nothing() -> Done {
-        Done { built: 0, ran: 0 }
-    }
-
-    /// Both.
-    pub(crate) fn and(self, other: Done) -> Done {
-        Done {
-            built: self.built.saturating_add(other.built),
-            ran: self.ran.saturating_add(other.ran),
-        }
-    }
-}

@@ -1,10 +1,9 @@
 //! How a game ends that all others left.
 
-ghost use Rattle.std.specs.Prelude.{◌≡◌, ◌<◌, IfSome, false};
+ghost use Rattle.std.specs.Prelude.{◌≡◌, ◌<◌, IfSome};
 ghost use Rattle.dn_host.specs.Endings.{is_told, left_for, others_end};
-ghost use Rattle.dn_host.specs.Stages.{is_refusal};
 
-use crate::ends::Ending;
+use dn_measure::End;
 
 /// The byte of the cause of a player whose demo was full.
 const FULL: u8 = 2;
@@ -31,15 +30,14 @@ fn left_for(cause: u8, causes: &[Option<u8>; 4]) -> Option<usize>
 }
 
 /// How it ends, by the causes for which each player left.
-pub(crate) fn others_end(causes: &[Option<u8>; 4]) -> Ending
-    ensures ending { result ≡ others_end causes.now }
-    ensures played { is_refusal result ≡ false }
+pub(crate) fn others_end(causes: &[Option<u8>; 4]) -> End
+    ensures { result ≡ others_end causes.now }
 {
     match left_for(INCONSISTENT, causes) {
-        Some(player) => Ending::InconsistentAt(player as u8),
+        Some(player) => End::InconsistentAt(player as u8),
         None => match left_for(FULL, causes) {
-            Some(player) => Ending::FullAt(player as u8),
-            None => Ending::OthersLeft,
+            Some(player) => End::FullAt(player as u8),
+            None => End::OthersLeft,
         },
     }
 }

@@ -1,28 +1,19 @@
 //! How a session ends.
 
+ghost use Rattle.std.specs.Prelude.{◌≡◌};
+ghost use Rattle.dn_host.specs.Offers.{fault_of};
+
 use dn_greeting::{Hint, Refusal};
 use dn_link::Link;
 use dn_lockstep::NodeFault;
-use dn_measure::Summary;
+use dn_measure::{End, Summary};
 use thiserror::Error;
 
 /// How a session ended.
 #[derive(Clone, Copy, Debug, PartialEq, Eq)]
 pub enum Ending {
-    /// This player left: its time was over.
-    Left,
-    /// All others left.
-    OthersLeft,
-    /// The demo was full.
-    Full,
-    /// All others left, this player since its demo was full.
-    FullAt(u8),
-    /// Nothing came from this player for too long.
-    Lost(u8),
-    /// This player's world is another.
-    Inconsistent(u8),
-    /// All others left, this player since it found the world of one to be another.
-    InconsistentAt(u8),
+    /// It had a seat, and this was its end.
+    Ended(End),
     /// The host gave no seat.
     Refused(Refusal),
     /// The host could not read the calls.
@@ -41,12 +32,16 @@ pub enum HostFault {
     /// The system gave no random bytes.
     #[error("no random bytes")]
     Random,
-    /// The host's terms are those of no game.
+    /// The terms that the host offers are those of no game: its number of players, the window or the demo's limit
+    /// is out of range. A host knows that before it waits for anybody, and a joiner by an answer with a limit that no
+    /// demo has, since it takes no answer in which another of these is out of range.
     #[error("the terms are those of no game")]
     Terms,
 }
 
 impl From<NodeFault> for HostFault {
+    ghost from_gives = { λ fault e. e ≡ fault_of fault };
+
     fn from(fault: NodeFault) -> HostFault {
         match fault {
             NodeFault::Memory => HostFault::Memory,

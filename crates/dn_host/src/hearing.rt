@@ -1,6 +1,6 @@
 //! Taking the datagrams that are there.
 
-ghost use Rattle.std.specs.Prelude.{◌≡◌, ◌≤◌, length, false, IfOk, IfSome};
+ghost use Rattle.std.specs.Prelude.{◌≡◌, ◌≤◌, length, false, IfOk, IfErr, IfSome};
 ghost use Rattle.dn_host.specs.Stages.{IfEnding};
 
 use crate::ends::{Ending, HostFault};
@@ -14,9 +14,20 @@ const POLLS: u32 = 64;
 /// The most greetings that are opened between two looks at the clock: each may cost the time of a tag.
 const GREETINGS: u32 = 2;
 
+/// What stands behind the kind of every greeting.
+const NAME: [u8; 8] = *b"zirmegat";
+
+/// The fewest bytes of a greeting.
+const SHORTEST: usize = 29;
+
 /// Whether bytes may be a greeting: nothing else has this kind.
 fn is_greeting(bytes: &[u8]) -> bool {
     bytes.len() >= 2 && bytes[1] == 4
+}
+
+/// Whether they have the name of greetings too, and may be as long as one: others are none, and cost nothing.
+fn is_named(bytes: &[u8]) -> bool {
+    bytes.len() >= SHORTEST && bytes[2..10] == NAME[..]
 }
 
 /// Whether bytes may be a hint: no other greeting says that it is one.
@@ -43,7 +54,7 @@ pub(crate) enum Heard {
     Ending(Ending),
 }
 
-/// Takes a greeting, if so many may still be opened and it is no hint in a game that has begun.
+/// Takes a greeting, if so many may still be opened, and it may be one and is no hint in a game that has begun.
 fn greet_one<W: Wire, L: Lobby>(
     lobby: &mut L,
     wire: &mut W,
@@ -52,10 +63,11 @@ fn greet_one<W: Wire, L: Lobby>(
     left: &mut u32,
     now: u64,
 ) -> Result<Option<Ending>, HostFault>
-    ensures { IfOk result (λ found. IfSome found (λ ending.
+    ensures ends { IfOk result (λ found. IfSome found (λ ending.
         L.Refuses ending × (L.begun lobby.new ≡ false))) }
+    ensures faults { IfErr result L.Faults }
 {
-    if *left == 0 || is_hint(bytes) && has_begun(lobby) {
+    if *left == 0 || !is_named(bytes) || is_hint(bytes) && has_begun(lobby) {
         return Ok(None);
     }
     *left -= 1;
@@ -71,8 +83,9 @@ fn hear_one<W: Wire, L: Lobby>(
     left: &mut u32,
     now: u64,
 ) -> Result<Option<Ending>, HostFault>
-    ensures { IfOk result (λ found. IfSome found (λ ending.
+    ensures ends { IfOk result (λ found. IfSome found (λ ending.
         L.Refuses ending × (L.begun lobby.new ≡ false))) }
+    ensures faults { IfErr result L.Faults }
 {
     if is_greeting(bytes) {
         return greet_one(lobby, wire, from, bytes, left, now);
@@ -89,7 +102,8 @@ pub(crate) fn hear_all<W: Wire, L: Lobby>(
     wire: &mut W,
     now: u64,
 ) -> Result<Heard, HostFault>
-    ensures { IfOk result (λ heard. IfEnding heard (λ ending. L.Refuses ending × (L.begun lobby.new ≡ false))) }
+    ensures ends { IfOk result (λ heard. IfEnding heard (λ ending. L.Refuses ending × (L.begun lobby.new ≡ false))) }
+    ensures faults { IfErr result L.Faults }
 {
     let mut room = [0; MOST];
     let mut left = GREETINGS;

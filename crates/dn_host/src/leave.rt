@@ -1,14 +1,10 @@
 //! When a session ends, and how it leaves.
 
-ghost use Rattle.std.specs.Prelude.{◌≡◌, false};
-ghost use Rattle.dn_host.specs.Endings.{others_end};
-ghost use Rattle.dn_host.specs.Stages.{IsPlayed, is_refusal};
-
 use crate::endings::others_end;
-use crate::ends::Ending;
 use crate::game::Game;
 use dn_link::Presence;
 use dn_machine::{Cause, Phase};
+use dn_measure::End;
 
 /// For how long it goes on once nobody needs it.
 const FAREWELL: u64 = 2_000_000;
@@ -23,31 +19,27 @@ pub(crate) enum Stage {
     Going,
     /// It leaves since this moment, and nobody needs it since that one.
     Leaving {
-        ending: Ending,
+        end: End,
         since: u64,
         free: Option<u64>,
     },
     /// It has ended.
-    Ended(Ending),
+    Ended(End),
 }
 
 /// Begins to leave.
-fn leaving(ending: Ending, now: u64) -> Stage
-    ensures { is_refusal ending ≡ false → IsPlayed result }
-{
+fn leaving(end: End, now: u64) -> Stage {
     Stage::Leaving {
-        ending,
+        end,
         since: now,
         free: None,
     }
 }
 
 /// Quits, and begins to leave.
-fn quitting(game: &mut Game, ending: Ending, now: u64) -> Stage
-    ensures { is_refusal ending ≡ false → IsPlayed result }
-{
+fn quitting(game: &mut Game, end: End, now: u64) -> Stage {
     let _ = game.play.link.quit();
-    leaving(ending, now)
+    leaving(end, now)
 }
 
 /// Whether the seconds of play are over; 0 are never.
@@ -64,9 +56,7 @@ fn cause_of(game: &Game, player: u8) -> Option<u8> {
 }
 
 /// How it ends where all others left.
-fn ending_of(game: &Game) -> Ending
-    ensures { is_refusal result ≡ false }
-{
+fn end_of(game: &Game) -> End {
     others_end(&[
         cause_of(game, 0),
         cause_of(game, 1),
@@ -76,34 +66,30 @@ fn ending_of(game: &Game) -> Ending
 }
 
 /// How a game goes on that has begun.
-fn after_play(game: &mut Game, now: u64, seconds: u32) -> Stage
-    ensures { IsPlayed result }
-{
+fn after_play(game: &mut Game, now: u64, seconds: u32) -> Stage {
     match game.phase() {
-        Phase::Ended(Cause::Full) => return leaving(Ending::Full, now),
+        Phase::Ended(Cause::Full) => return leaving(End::Full, now),
         Phase::Ended(Cause::Inconsistent { player, .. }) => {
-            return leaving(Ending::Inconsistent(player), now);
+            return leaving(End::Inconsistent(player), now);
         }
         _ => {}
     }
     if is_over(game.began(), now, seconds) {
-        return quitting(game, Ending::Left, now);
+        return quitting(game, End::Left, now);
     }
     if game.is_alone() {
-        let ending = ending_of(game);
-        return quitting(game, ending, now);
+        let end = end_of(game);
+        return quitting(game, end, now);
     }
     if let Some(player) = game.lost(now) {
         game.play.link.forget(player);
-        return quitting(game, Ending::Lost(player), now);
+        return quitting(game, End::Lost(player), now);
     }
     Stage::Going
 }
 
 /// How it goes on leaving.
-fn after_wait(game: &Game, ending: Ending, since: u64, free: Option<u64>, now: u64) -> Stage
-    ensures { is_refusal ending ≡ false → IsPlayed result }
-{
+fn after_wait(game: &Game, end: End, since: u64, free: Option<u64>, now: u64) -> Stage {
     let free = match free {
         Some(free) => Some(free),
         None if game.play.link.may_leave() => Some(now),
@@ -114,30 +100,20 @@ fn after_wait(game: &Game, ending: Ending, since: u64, free: Option<u64>, now: u
         None => false,
     };
     if waited || now.saturating_sub(since) >= LIMIT {
-        Stage::Ended(ending)
+        Stage::Ended(end)
     } else {
-        Stage::Leaving {
-            ending,
-            since,
-            free,
-        }
+        Stage::Leaving { end, since, free }
     }
 }
 
 impl Stage {
     /// How far it is now.
-    pub(crate) fn after(self, game: &mut Game, now: u64, seconds: u32) -> Stage
-        ensures { IsPlayed self → IsPlayed result }
-    {
+    pub(crate) fn after(self, game: &mut Game, now: u64, seconds: u32) -> Stage {
         match self {
             Stage::Going if game.has_begun() => after_play(game, now, seconds),
             Stage::Going => Stage::Going,
-            Stage::Leaving {
-                ending,
-                since,
-                free,
-            } => after_wait(game, ending, since, free, now),
-            Stage::Ended(ending) => Stage::Ended(ending),
+            Stage::Leaving { end, since, free } => after_wait(game, end, since, free, now),
+            Stage::Ended(end) => Stage::Ended(end),
         }
     }
 }

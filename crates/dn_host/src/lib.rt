@@ -1,6 +1,8 @@
 //! A session over a network: one player's link with its walk, its lobby, its clock and its socket.
 #![tactic(auto)]
 
+mod absence;
+mod caller;
 mod clock;
 mod coming;
 mod counts;
@@ -12,16 +14,22 @@ mod guest;
 mod heard;
 mod hearing;
 mod host;
+mod keeper;
 mod laws;
 mod leave;
 mod lobby;
+mod parts;
 mod peers;
 mod play;
+mod random;
 mod screen;
+mod sending;
 mod session;
 #[cfg(test)]
 mod tests;
+mod ticking;
 mod udp;
+mod walking;
 mod wire;
 
 pub use ends::{Ending, HostFault, Outcome};

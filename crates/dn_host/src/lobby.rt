@@ -1,7 +1,8 @@
-//! What goes on beside the game until it has begun.
+//! The greetings of a session: the host's, or those of one who joins.
 
-ghost use Rattle.std.specs.Prelude.{◌≡◌, Bool, true, false, None, IfOk, IfSome, is_some};
+ghost use Rattle.std.specs.Prelude.{◌≡◌, Bool, true, false, None, IfOk, IfErr, IfSome, is_some};
 ghost use Rattle.dn_host.specs.declared.ends.Ending.{Ending};
+ghost use Rattle.dn_host.specs.declared.ends.HostFault.{HostFault};
 
 use crate::ends::{Ending, HostFault};
 use crate::game::Game;
@@ -9,10 +10,13 @@ use crate::screen::Screen;
 use crate::wire::Wire;
 use dn_greeting::Address;
 
-/// What goes on beside the game until it has begun.
+/// The greetings of a session, and its part in the game.
 pub(crate) trait Lobby {
     // how its greetings may end the session
     ghost Refuses: { Ending → Type 0 };
+
+    // for which faults they may break it off
+    ghost Faults: { HostFault → Type 0 };
 
     // its game has begun
     ghost begun: { Self → Bool };
@@ -31,7 +35,8 @@ pub(crate) trait Lobby {
         bytes: &[u8],
         now: u64,
     ) -> Result<Option<Ending>, HostFault>
-        ensures { IfOk result (λ found. IfSome found (λ ending. Refuses ending × (begun self.new ≡ false))) };
+        ensures ends { IfOk result (λ found. IfSome found (λ ending. Refuses ending × (begun self.new ≡ false))) }
+        ensures faults { IfErr result Faults };
 
     /// A second is over.
     fn second<W: Wire, S: Screen>(
@@ -39,7 +44,8 @@ pub(crate) trait Lobby {
         wire: &mut W,
         screen: &mut S,
         now: u64,
-    ) -> Result<(), HostFault>;
+    ) -> Result<(), HostFault>
+        ensures { IfErr result Faults };
 
     /// Its part in the game, in the end.
     fn into_game(self) -> Option<Game>

@@ -1,20 +1,19 @@
 //! One player's link, with its walk and its keys.
 
-ghost use Rattle.std.specs.Prelude.{◌≡◌, ◌≤◌, true, false};
+ghost use Rattle.std.specs.Prelude.{◌≡◌, ◌≤◌, true, false, IfErr, IfOk};
 ghost use Rattle.dn_link.specs.Linked.{IsWhole};
 ghost use Rattle.dn_link.specs.Linking.{linked};
-ghost use Rattle.dn_host.specs.Walks.{is_started, marks_of, moved_by};
+ghost use Rattle.dn_host.specs.Walks.{waited_for};
 
 use crate::coming::{Coming, came_by, lines_of};
 use crate::done::Done;
 use crate::ends::HostFault;
-use crate::peers::Peers;
-use crate::wire::Wire;
+use crate::walking::{go_on, is_started, marks_of};
 use dn_link::{Link, Received};
 use dn_lockstep::Config;
 use dn_machine::{Made, Ran};
 use dn_seal::Seal;
-use dn_tic::{Keys, Move};
+use dn_tic::Keys;
 use dn_world::{Walk, World};
 use rand_core::utils::NextWord;
 use rand_pcg::Lcg64Xsh32;
@@ -44,39 +43,14 @@ pub(crate) struct Play {
     ghost whole: { IsWhole (linked link) },
 }
 
-/// The marks of all players, as a walk stands.
-fn marks_of(walk: &Walk) -> [i16; 4]
-    ensures { result ≡ marks_of walk.now }
-{
-    [walk.mark(0), walk.mark(1), walk.mark(2), walk.mark(3)]
-}
-
 /// For whom a run waits.
-fn waits_for(ran: Ran) -> Option<u8> {
+fn waits_for(ran: Ran) -> Option<u8>
+    ensures { result ≡ waited_for ran }
+{
     match ran {
         Ran::Waiting(player) => Some(player),
         _ => None,
     }
-}
-
-/// A walk goes on by a row, if there is one. Whether there was.
-fn go_on(walk: &mut Walk, row: Option<[Option<Move>; 4]>) -> bool
-    ensures { walk.new ≡ moved_by row walk.old }
-{
-    match row {
-        Some(row) => {
-            walk.step(&row);
-            true
-        }
-        None => false,
-    }
-}
-
-/// Whether the game started with what came in.
-fn is_started(received: &Received) -> bool
-    ensures { result ≡ is_started received.now }
-{
-    matches!(received, Received::Heard { started: true, .. })
 }
 
 impl Play {
@@ -84,9 +58,11 @@ impl Play {
     ghost use Rattle.dn_link.specs.Linked.{Receives};
     ghost use Rattle.dn_link.specs.Notices.{HearsNotice, is_notice};
     ghost use Rattle.dn_link.specs.Linking.{identity_of, seal_of};
+    ghost use Rattle.dn_link.specs.Pace.{Paces};
     ghost use Rattle.dn_link.specs.Pacing.{pace_of};
     ghost use Rattle.dn_host.specs.Coming.{came_by, figures_by};
-    ghost use Rattle.dn_host.specs.Walks.{RunsWalk, begun_by};
+    ghost use Rattle.dn_host.specs.Offers.{IsFaultOf, IsPossible};
+    ghost use Rattle.dn_host.specs.Walks.{RunsWalk, begun_by, is_started};
 
     /// A player who has not begun, in a window of this width, with keys that are drawn from a seed.
     pub(crate) fn new(
@@ -95,7 +71,10 @@ impl Play {
         ahead: u8,
         seal: Seal,
         seed: u64,
-    ) -> Result<Play, HostFault> {
+    ) -> Result<Play, HostFault>
+        ensures made { IfOk result (λ play. IsPossible config ahead) }
+        ensures fault { IfErr result (IsFaultOf config ahead) }
+    {
         let keys = Lcg64Xsh32::new(seed, u64::from(config.me));
         let link = Link::new(alloc, config, ahead, PROGRAM, seal)?;
         Ok(Play {
@@ -116,9 +95,14 @@ impl Play {
         self.waiting
     }
 
+    /// Builds the command that is owed, if there is one. Whether there was.
+    pub(crate) fn catch_up(&mut self) -> bool {
+        matches!(self.link.catch_up(), Some(Made::Made(_)))
+    }
+
     /// Builds the command that is owed, if there is one, and that of the next keys.
     pub(crate) fn build(&mut self) -> Done {
-        let owed = matches!(self.link.catch_up(), Some(Made::Made(_)));
+        let owed = self.catch_up();
         let keys = Keys::from_bits(self.keys.next_word());
         let made = matches!(self.link.build(keys), Made::Made(_));
         Done {
@@ -133,9 +117,10 @@ impl Play {
     }
 
     /// Runs the next tic, if it can be run, with the marks of the walk, which goes on by the row of that tic and by
-    /// nothing else.
+    /// nothing else. Whether it was run, and for whom it waits, is noted.
     fn run_one(&mut self) -> bool
-        ensures { RunsWalk (linked self.old.link).node self.old.world (linked self.new.link).node self.new.world }
+        ensures { RunsWalk (linked self.old.link).node self.old.world (linked self.new.link).node self.new.world
+            result self.new.waiting }
     {
         let marks = marks_of(&self.world);
         let (ran, row) = self.link.run(&marks);
@@ -144,7 +129,7 @@ impl Play {
     }
 
     /// Runs all tics that can be run.
-    fn run_all(&mut self) -> u32
+    pub(crate) fn run_all(&mut self) -> u32
         ensures { result ≤ 32 }
     {
         for count in 0..MOST_RUNS {
@@ -155,48 +140,6 @@ impl Play {
         MOST_RUNS
     }
 
-    /// Runs all tics that can be run, and once more after the command that is owed is built.
-    pub(crate) fn run<W: Wire>(&mut self, peers: &Peers, wire: &mut W) -> Done {
-        let first = self.run_all();
-        if !matches!(self.link.catch_up(), Some(Made::Made(_))) {
-            return Done {
-                built: 0,
-                ran: first,
-            };
-        }
-        self.send_all(peers, wire);
-        Done {
-            built: 1,
-            ran: first + self.run_all(),
-        }
-    }
-
-    /// Sends a player its datagram, if it is known where it is.
-    fn send<W: Wire>(&mut self, player: u8, peers: &Peers, wire: &mut W) {
-        let Some(address) = peers.at(player) else {
-            return;
-        };
-        if let Some(bytes) = self.link.datagram(player) {
-            wire.send(&address, bytes.as_slice());
-        }
-    }
-
-    /// Sends each other player its datagram.
-    pub(crate) fn send_all<W: Wire>(&mut self, peers: &Peers, wire: &mut W) {
-        for player in 0..4 {
-            self.send(player, peers, wire);
-        }
-    }
-
-    /// Half a tick later: a second datagram to those who miss some.
-    pub(crate) fn send_again<W: Wire>(&mut self, peers: &Peers, wire: &mut W) {
-        for player in 0..4 {
-            if self.link.wants_second(player) {
-                self.send(player, peers, wire);
-            }
-        }
-    }
-
     /// Takes in any bytes, and returns too how the datagram came that they are. The world begins where the game
     /// starts with them.
     pub(crate) fn hear(&mut self, bytes: &[u8]) -> (Received, Option<Coming>)
@@ -204,6 +147,8 @@ impl Play {
             (pace_of self.old.link) bytes.now (linked self.old.link) (linked self.new.link) result.0 }
         ensures told { is_notice bytes.now ≡ true → HearsNotice (seal_of self.old.link) bytes.now
             (linked self.old.link) (pace_of self.old.link) (linked self.new.link) (pace_of self.new.link) result.0 }
+        ensures pace { is_notice bytes.now ≡ false → Paces (seal_of self.old.link) bytes.now (linked self.old.link)
+            (pace_of self.old.link) (pace_of self.new.link) }
         ensures begins { is_started result.0 ≡ true → self.new.world
             ≡ begun_by (linked self.new.link).node.settings (linked self.new.link).node.players self.old.world }
         ensures stays { is_started result.0 ≡ false → self.new.world ≡ self.old.world }

@@ -1,9 +1,10 @@
 //! The loop of a session.
 
-ghost use Rattle.std.specs.Prelude.{◌≡◌, ◌⊎◌, false, true, None, IfOk, IfSome, is_some};
+ghost use Rattle.std.specs.Prelude.{◌≡◌, ◌⊎◌, false, true, None, IfOk, IfErr, IfSome, is_some};
 ghost use Rattle.dn_host.specs.Measured.{IsMeasured};
 ghost use Rattle.dn_host.specs.Outcomes.{IsOutcome};
-ghost use Rattle.dn_host.specs.Stages.{EndsBy, IfEnded, IsPlayed, IsPlayed-prop, is_refusal};
+ghost use Rattle.dn_host.specs.Stages.{EndsBy, IfEnded, is_refusal};
+ghost use Rattle.dn_host.specs.declared.ends.HostFault.TheVariants as fault;
 
 use crate::clock::{nap, now};
 use crate::ends::{Ending, HostFault, Outcome};
@@ -48,7 +49,6 @@ pub(crate) struct Session<L> {
     seconds: u32,
     /// When it began to leave.
     left: Option<u64>,
-    ghost played: { IsPlayed stage } by { IsPlayed-prop stage },
 }
 
 /// Tells how the game stands.
@@ -90,7 +90,9 @@ impl<L: Lobby + Drop> Session<L> {
         wire: &mut W,
         screen: &mut S,
         now: u64,
-    ) -> Result<(), HostFault> {
+    ) -> Result<(), HostFault>
+        ensures { IfErr result L.Faults }
+    {
         if self.second <= now {
             self.lobby.second(wire, screen, now)?;
             show(&mut self.lobby, screen, now);
@@ -115,7 +117,8 @@ impl<L: Lobby + Drop> Session<L> {
         screen: &mut S,
         now: u64,
     ) -> Result<Turned, HostFault>
-        ensures { IfOk result (λ turned. IfEnded turned (EndsBy L.Refuses (L.begun self.new.lobby))) }
+        ensures ends { IfOk result (λ turned. IfEnded turned (EndsBy L.Refuses (L.begun self.new.lobby))) }
+        ensures faults { IfErr result L.Faults }
     {
         let heard = hear_all(&mut self.lobby, wire, now)?;
         if let Heard::Ending(ending) = heard {
@@ -123,8 +126,8 @@ impl<L: Lobby + Drop> Session<L> {
         }
         self.tell(wire, screen, now)?;
         self.play(wire, now);
-        if let Stage::Ended(ending) = self.stage {
-            return Ok(Turned::Ended(ending));
+        if let Stage::Ended(end) = self.stage {
+            return Ok(Turned::Ended(Ending::Ended(end)));
         }
         Ok(match heard {
             Heard::Busy => Turned::Busy,
@@ -166,6 +169,7 @@ pub(crate) fn run<C: Clock, W: Wire, S: Screen, L: Lobby + Drop>(
     ensures outcome { IfOk result IsOutcome }
     ensures ends { IfOk result (λ o. (L.Refuses o.ending) ⊎ (is_refusal o.ending ≡ false)) }
     ensures hosts { L.hosts ≡ true → IfOk result (λ o. is_some o.link ≡ true) }
+    ensures faults { IfErr result (λ f. (L.Faults f) ⊎ (f ≡ fault.Clock)) }
 {
     for _ in 0..u64::MAX {
         let time = now(clock)?;

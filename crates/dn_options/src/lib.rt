@@ -1,6 +1,7 @@
 //! The options of the command line, read: what a parsed command line says of the game, the storm, the rounds.
-//! A function returns None only if an option is missing, is not a number, or is out of range. The program never
-//! meets that: its parser has a default for each option and refuses the rest.
+//! A function returns None only if an option is missing, is not a number, or is out of range. The program meets that
+//! only of what may be left out, `me`, `players`, `port` and `key` of a session: of all else its parser has a default,
+//! and it refuses the rest.
 #![tactic(auto)]
 
 mod session;

@@ -9,7 +9,7 @@ ghost use Rattle.dn_options.specs.Session.{IsPaceOf, IsPortOf};
 use crate::{byte, value};
 use clap::ArgMatches;
 
-/// How one player's session goes.
+/// What a session is told beside its game.
 #[derive(Clone, Copy, Debug, PartialEq, Eq)]
 pub struct Pace {
     /// What its keys are drawn from.

@@ -1,10 +1,10 @@
 //! How a session over a network ended: what is printed of it, and the exit status.
 
-use crate::runs::{BROKEN_OFF, REFUSED};
 use crate::say::{say, say_line};
+use crate::status::{BROKEN_OFF, REFUSED};
 use dn_greeting::{Hint, Refusal};
 use dn_host::{Ending, HostFault, Outcome};
-use dn_measure::{End, text_of_session};
+use dn_measure::text_of_session;
 use dn_netgame::RunFault;
 use std::alloc::{AllocError, Global};
 
@@ -32,22 +32,10 @@ fn text_of_hint(alloc: Global, hint: Hint) -> Result<String, AllocError> {
     }
 }
 
-/// The lines of how a session ended that had a seat, and the exit status.
-fn ended(alloc: Global, end: End, outcome: &Outcome) -> Result<(String, u8), AllocError> {
-    let text = text_of_session(alloc, end, &outcome.summary)?;
-    Ok((text, end.status()))
-}
-
 /// What is printed of a session, and the exit status.
 fn told(alloc: Global, outcome: &Outcome) -> Result<(String, u8), AllocError> {
     match outcome.ending {
-        Ending::Left => ended(alloc, End::Left, outcome),
-        Ending::OthersLeft => ended(alloc, End::OthersLeft, outcome),
-        Ending::Full => ended(alloc, End::Full, outcome),
-        Ending::FullAt(player) => ended(alloc, End::FullAt(player), outcome),
-        Ending::Lost(player) => ended(alloc, End::Lost(player), outcome),
-        Ending::Inconsistent(player) => ended(alloc, End::Inconsistent(player), outcome),
-        Ending::InconsistentAt(player) => ended(alloc, End::InconsistentAt(player), outcome),
+        Ending::Ended(end) => Ok((text_of_session(alloc, end, &outcome.summary)?, end.status())),
         Ending::Refused(refusal) => Ok((text_of_refusal(alloc, "refused", refusal)?, REFUSED)),
         Ending::Hinted(hint) => Ok((text_of_hint(alloc, hint)?, REFUSED)),
     }

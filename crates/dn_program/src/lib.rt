@@ -1,13 +1,17 @@
 //! The program `netgame` but for `main`: its subcommands, the call that each makes, and the exit status.
 #![tactic(auto)]
 
+mod arguments;
+mod command_line;
 mod ends;
+mod game_options;
+mod net_options;
 mod network;
-mod options;
 mod runs;
 mod say;
 mod screen;
+mod status;
 mod words;
 
-pub use runs::finish;
+pub use command_line::finish;
 pub use words::matches_of;

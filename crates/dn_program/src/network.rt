@@ -1,9 +1,9 @@
 //! What `host`, `join` and `key` run.
 
 use crate::ends::print_session;
-use crate::runs::{BROKEN_OFF, MISUSED, REFUSED};
 use crate::say::say_line;
 use crate::screen::ErrorScreen;
+use crate::status::{BROKEN_OFF, MISUSED, REFUSED};
 use clap::ArgMatches;
 use dn_game::GameConfig;
 use dn_greeting::{Address, Terms};

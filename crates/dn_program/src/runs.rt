@@ -1,40 +1,23 @@
 //! What each subcommand runs, and the exit status.
 
 use crate::network::{run_host, run_join, run_key};
-use crate::words::matches_of;
-use clap::error::ErrorKind;
-use clap::{ArgMatches, Error};
+use crate::status::MISUSED;
+use clap::ArgMatches;
 use dn_netgame::{
     RunFault, run_calm, run_demo, run_loop, run_play, run_rows, run_show, run_sim, run_upgrade,
     storm_script, trace_sim, trace_storm,
 };
 use dn_node::Config;
+use std::io;
 use std::io::BufReader;
 use std::net::Net;
 use std::random::RandomSource;
-use std::rt::{Env, Files};
+use std::rt::Files;
 use std::time::Clock;
-use std::{env, io};
 
-/// The exit status of a command line that cannot be read.
-pub(crate) const MISUSED: u8 = 2;
-
-/// The exit status where what was given was refused.
-pub(crate) const REFUSED: u8 = 1;
-
-/// The exit status of a run that ended early.
-pub(crate) const BROKEN_OFF: u8 = 3;
-
-/// Prints a fault of the command line on standard error, and help on standard output.
-fn explain(rt: &(impl Print + Eprint), error: &Error) -> Result<u8, RunFault> {
-    if error.kind() == ErrorKind::OutOfMemory {
-        return Err(RunFault::Memory);
-    }
-    let printed = error.print(rt);
-    if printed.is_err() && !error.use_stderr() {
-        return Err(RunFault::Write);
-    }
-    Ok(error.exit_code() as u8)
+/// Runs `show`, and answers the exit status.
+fn run_show_of(rt: &(impl Input + Print + AllocGlobal)) -> Result<u8, RunFault> {
+    run_show(rt.alloc(), &mut rt.reader(), &mut io::writer(rt))
 }
 
 /// How many bytes one read of the system asks for where a demo is played as it comes.
@@ -153,13 +136,11 @@ fn run_one(
 }
 
 /// Runs the subcommand, and answers the exit status.
-fn run<R: Input + Print + Eprint + AllocGlobal + Net + Files + RandomSource + Clock + Drop>(
-    rt: &R,
-    each_second: bool,
-    matches: &ArgMatches<'_>,
-) -> Result<u8, RunFault> {
+pub(crate) fn run<
+    R: Input + Print + Eprint + AllocGlobal + Net + Files + RandomSource + Clock + Drop,
+>(rt: &R, each_second: bool, matches: &ArgMatches<'_>) -> Result<u8, RunFault> {
     match matches.subcommand() {
-        Some(("show", _)) => run_show(rt.alloc(), &mut rt.reader(), &mut io::writer(rt)),
+        Some(("show", _)) => run_show_of(rt),
         Some(("demo", _)) => run_demo_of(rt),
         Some(("rows", _)) => run_rows_of(rt),
         Some(("upgrade", given)) => run_upgrading(rt, given),
@@ -171,38 +152,5 @@ fn run<R: Input + Print + Eprint + AllocGlobal + Net + Files + RandomSource + Cl
         Some(("join", given)) => run_join(rt, each_second, given),
         Some(("key", given)) => run_key(rt, given),
         _ => Ok(MISUSED),
-    }
-}
-
-/// Reads the command line and runs it, and answers the exit status.
-fn answer<
-    R: Env + Input + Print + Eprint + AllocGlobal + Net + Files + RandomSource + Clock + Drop,
->(rt: &R, each_second: bool) -> Result<u8, RunFault> {
-    let alloc = rt.alloc();
-    let words: Vec<String> = match env::args(rt) {
-        Ok(words) => words.collect(alloc)?,
-        Err(error) if error.kind() == io::ErrorKind::OutOfMemory => return Err(RunFault::Memory),
-        Err(_) => {
-            let _ = rt.eprintln("error: invalid UTF-8 was detected in one or more arguments");
-            return Ok(MISUSED);
-        }
-    };
-    match matches_of(alloc, words.as_slice()) {
-        Ok(matches) => run(rt, each_second, &matches),
-        Err(error) => explain(rt, &error),
-    }
-}
-
-/// Reads the command line and runs it, prints the line of a run that ended early, and answers the exit
-/// status. With `each_second` a session over a network tells on standard error each second how it goes.
-pub fn finish<
-    R: Env + Input + Print + Eprint + AllocGlobal + Net + Files + RandomSource + Clock + Drop,
->(rt: &R, each_second: bool) -> u8 {
-    match answer(rt, each_second) {
-        Ok(status) => status,
-        Err(fault) => {
-            let _ = rt.println(fault);
-            BROKEN_OFF
-        }
     }
 }

@@ -1,6 +1,13 @@
 //! The words of the command line: the subcommands, and how a line of words is read by them.
 
-use crate::options;
+ghost use Rattle.std.specs.Prelude.{◌≡◌, [], true, map, codes, IfOk, IfErr, string_bytes};
+ghost use Rattle.clap.specs.Simple.{app_of, with_subcommand};
+ghost use Rattle.clap.specs.Takes.{takes};
+ghost use Rattle.clap.specs.Values.{kind_of};
+ghost use Rattle.clap.specs.declared.error.kind.ErrorKind.TheVariants.{OutOfMemory};
+ghost use Rattle.dn_program.specs.Commands.{IsReadAs, bare, games, host_rules, join_rules, key_rules, loop_rules, netgame, play_rules, readers, sessions, sim_rules, storm_rules, subcommand, upgrade_rules, with_subcommands};
+
+use crate::{game_options, net_options};
 use clap::{ArgMatches, Command, Error};
 use std::alloc::{AllocError, Global};
 
@@ -13,86 +20,145 @@ fn add_plain<'a>(
     command: Command<'a>,
     name: &'a str,
     about: &'a str,
-) -> Result<Command<'a>, AllocError> {
+) -> Result<Command<'a>, AllocError>
+    ensures { IfOk result (λ c. app_of c ≡ with_subcommand (app_of command.entry) (subcommand name.entry.now [])) }
+{
     command.subcommand(Command::new(alloc, name).about(about))
 }
 
 /// Adds `upgrade`.
-fn add_upgrade<'a>(alloc: Global, command: Command<'a>) -> Result<Command<'a>, AllocError> {
+fn add_upgrade<'a>(alloc: Global, command: Command<'a>) -> Result<Command<'a>, AllocError>
+    ensures { IfOk result (λ c. app_of c ≡ with_subcommand (app_of command.entry)
+        (subcommand (codes "upgrade") upgrade_rules)) }
+{
     let upgrade = Command::new(alloc, "upgrade").about("Writes a demo anew, in version 111");
-    command.subcommand(options::with_upgrade(alloc, upgrade)?)
+    command.subcommand(game_options::with_upgrade(alloc, upgrade)?)
 }
 
 /// Adds `sim`.
-fn add_sim<'a>(alloc: Global, command: Command<'a>) -> Result<Command<'a>, AllocError> {
+fn add_sim<'a>(alloc: Global, command: Command<'a>) -> Result<Command<'a>, AllocError>
+    ensures { IfOk result (λ c. app_of c ≡ with_subcommand (app_of command.entry)
+        (subcommand (codes "sim") sim_rules)) }
+{
     let about = "Plays a script of events and prints where its nodes end";
     let sim = Command::new(alloc, "sim").about(about);
-    command.subcommand(options::with_sim(alloc, sim)?)
+    command.subcommand(game_options::with_sim(alloc, sim)?)
 }
 
 /// Adds `storm`.
-fn add_storm<'a>(alloc: Global, command: Command<'a>) -> Result<Command<'a>, AllocError> {
+fn add_storm<'a>(alloc: Global, command: Command<'a>) -> Result<Command<'a>, AllocError>
+    ensures { IfOk result (λ c. app_of c ≡ with_subcommand (app_of command.entry)
+        (subcommand (codes "storm") storm_rules)) }
+{
     let about = "Plays events drawn from a seed and prints where its nodes end";
     let storm = Command::new(alloc, "storm").about(about);
-    command.subcommand(options::with_storm(alloc, storm)?)
+    command.subcommand(game_options::with_storm(alloc, storm)?)
 }
 
 /// Adds `loop`.
-fn add_loop<'a>(alloc: Global, command: Command<'a>) -> Result<Command<'a>, AllocError> {
+fn add_loop<'a>(alloc: Global, command: Command<'a>) -> Result<Command<'a>, AllocError>
+    ensures { IfOk result (λ c. app_of c ≡ with_subcommand (app_of command.entry)
+        (subcommand (codes "loop") loop_rules)) }
+{
     let about = "Plays all nodes of a game over UDP on this machine";
     let all = Command::new(alloc, "loop").about(about);
-    command.subcommand(options::with_rounds(alloc, all)?)
+    command.subcommand(net_options::with_rounds(alloc, all)?)
 }
 
 /// Adds `play`.
-fn add_play<'a>(alloc: Global, command: Command<'a>) -> Result<Command<'a>, AllocError> {
+fn add_play<'a>(alloc: Global, command: Command<'a>) -> Result<Command<'a>, AllocError>
+    ensures { IfOk result (λ c. app_of c ≡ with_subcommand (app_of command.entry)
+        (subcommand (codes "play") play_rules)) }
+{
     let about = "Plays one player's node over UDP on this machine";
     let play = Command::new(alloc, "play").about(about);
-    command.subcommand(options::with_player(alloc, play)?)
+    command.subcommand(net_options::with_player(alloc, play)?)
 }
 
 /// Adds `host`.
-fn add_host<'a>(alloc: Global, command: Command<'a>) -> Result<Command<'a>, AllocError> {
+fn add_host<'a>(alloc: Global, command: Command<'a>) -> Result<Command<'a>, AllocError>
+    ensures { IfOk result (λ c. app_of c ≡ with_subcommand (app_of command.entry)
+        (subcommand (codes "host") host_rules)) }
+{
     let about = "Waits for others over a network, and plays with them as player 0";
     let host = Command::new(alloc, "host").about(about);
-    command.subcommand(options::with_host(alloc, host)?)
+    command.subcommand(net_options::with_host(alloc, host)?)
 }
 
 /// Adds `join`.
-fn add_join<'a>(alloc: Global, command: Command<'a>) -> Result<Command<'a>, AllocError> {
+fn add_join<'a>(alloc: Global, command: Command<'a>) -> Result<Command<'a>, AllocError>
+    ensures { IfOk result (λ c. app_of c ≡ with_subcommand (app_of command.entry)
+        (subcommand (codes "join") join_rules)) }
+{
     let join = Command::new(alloc, "join").about("Joins a host over a network, and plays");
-    command.subcommand(options::with_join(alloc, join)?)
+    command.subcommand(net_options::with_join(alloc, join)?)
 }
 
 /// Adds `key`.
-fn add_key<'a>(alloc: Global, command: Command<'a>) -> Result<Command<'a>, AllocError> {
+fn add_key<'a>(alloc: Global, command: Command<'a>) -> Result<Command<'a>, AllocError>
+    ensures { IfOk result (λ c. app_of c ≡ with_subcommand (app_of command.entry)
+        (subcommand (codes "key") key_rules)) }
+{
     let key = Command::new(alloc, "key").about("Makes a key for the players of a game");
-    command.subcommand(options::with_key(alloc, key)?)
+    command.subcommand(net_options::with_key(alloc, key)?)
+}
+
+/// The program's name, with no subcommand.
+fn program<'a>(alloc: Global) -> Command<'a>
+    ensures { app_of result ≡ bare }
+{
+    Command::new(alloc, "netgame")
+        .about("Doom's netgame")
+        .version(PROGRAM_VERSION)
+        .subcommand_required(true)
+}
+
+/// Adds what reads a datagram or a demo.
+fn with_readers<'a>(alloc: Global, command: Command<'a>) -> Result<Command<'a>, AllocError>
+    ensures { IfOk result (λ c. app_of c ≡ with_subcommands (app_of command.entry) readers) }
+{
+    let show = add_plain(alloc, command, "show", "Prints the fields of a datagram")?;
+    let about = "Plays a demo and prints where its players end";
+    let demo = add_plain(alloc, show, "demo", about)?;
+    let about = "Prints each player's move in each tic of a demo, and where its players end";
+    let rows = add_plain(alloc, demo, "rows", about)?;
+    add_upgrade(alloc, rows)
+}
+
+/// Adds what plays games.
+fn with_games<'a>(alloc: Global, command: Command<'a>) -> Result<Command<'a>, AllocError>
+    ensures { IfOk result (λ c. app_of c ≡ with_subcommands (app_of command.entry) games) }
+{
+    let sim = add_sim(alloc, command)?;
+    let storm = add_storm(alloc, sim)?;
+    let all = add_loop(alloc, storm)?;
+    add_play(alloc, all)
+}
+
+/// Adds what plays over a network.
+fn with_sessions<'a>(alloc: Global, command: Command<'a>) -> Result<Command<'a>, AllocError>
+    ensures { IfOk result (λ c. app_of c ≡ with_subcommands (app_of command.entry) sessions) }
+{
+    let host = add_host(alloc, command)?;
+    let join = add_join(alloc, host)?;
+    add_key(alloc, join)
 }
 
 /// The program's name, with each subcommand.
-fn netgame<'a>(alloc: Global) -> Result<Command<'a>, AllocError> {
-    let command = Command::new(alloc, "netgame")
-        .about("Doom's netgame")
-        .version(PROGRAM_VERSION)
-        .subcommand_required(true);
-    let command = add_plain(alloc, command, "show", "Prints the fields of a datagram")?;
-    let demo = "Plays a demo and prints where its players end";
-    let command = add_plain(alloc, command, "demo", demo)?;
-    let rows = "Prints each player's move in each tic of a demo, and where its players end";
-    let command = add_plain(alloc, command, "rows", rows)?;
-    let command = add_upgrade(alloc, command)?;
-    let command = add_sim(alloc, command)?;
-    let command = add_storm(alloc, command)?;
-    let command = add_loop(alloc, command)?;
-    let command = add_play(alloc, command)?;
-    let command = add_host(alloc, command)?;
-    let command = add_join(alloc, command)?;
-    add_key(alloc, command)
+fn netgame<'a>(alloc: Global) -> Result<Command<'a>, AllocError>
+    ensures { IfOk result (λ c. app_of c ≡ netgame) }
+{
+    let readers = with_readers(alloc, program(alloc))?;
+    let games = with_games(alloc, readers)?;
+    with_sessions(alloc, games)
 }
 
 /// Reads the words of a command line, the program's name first: the subcommand and its options, each number
 /// in its range, or clap's `Error`, which also stands for help and for the version.
-pub fn matches_of<'a>(alloc: Global, words: &'a [String]) -> Result<ArgMatches<'a>, Error> {
+pub fn matches_of<'a>(alloc: Global, words: &'a [String]) -> Result<ArgMatches<'a>, Error>
+    ensures read { IfOk result (IsReadAs (map string_bytes words.entry.now)) }
+    ensures passes { IfErr result (λ e. takes netgame (map string_bytes words.entry.now) ≡ true
+        → kind_of e ≡ OutOfMemory) }
+{
     netgame(alloc)?.try_get_matches_from(words)
 }

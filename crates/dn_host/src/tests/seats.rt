@@ -1,10 +1,8 @@
 //! Joiners that have no seat yet, and joiners that move.
 
-use super::{Air, Dark, Dice, Port, STEP, at, lose, new_guest, new_host, turn};
-use crate::ends::Ending;
+use super::air::{Air, Port, at, lose};
+use super::players::{Dark, Dice, LEFT, STEP, new_guest, new_host, turn};
 use crate::session::Turned;
-use crate::wire::{MOST, Wire};
-use arrayvec::ArrayVec;
 use std::cell::Cell;
 
 #[test]
@@ -39,9 +37,9 @@ fn who_is_started_anew_elsewhere_gets_a_seat(rt: HostRuntime) {
     }
     assert_eq!(rt; (dark.waited, dark.missed), (1, 0));
     for outcome in [
-        host.outcome(Ending::Left, 7_000_000),
-        one.outcome(Ending::Left, 7_000_000),
-        again.outcome(Ending::Left, 7_000_000),
+        host.outcome(LEFT, 7_000_000),
+        one.outcome(LEFT, 7_000_000),
+        again.outcome(LEFT, 7_000_000),
     ] {
         match outcome.summary {
             Some(summary) => assert!(rt; 30 <= summary.tics),
@@ -74,9 +72,9 @@ fn who_moves_is_followed(rt: HostRuntime) {
         }
     }
     for outcome in [
-        host.outcome(Ending::Left, 10_000_000),
-        one.outcome(Ending::Left, 10_000_000),
-        two.outcome(Ending::Left, 10_000_000),
+        host.outcome(LEFT, 10_000_000),
+        one.outcome(LEFT, 10_000_000),
+        two.outcome(LEFT, 10_000_000),
     ] {
         match outcome.summary {
             Some(summary) => assert!(rt; 240 <= summary.tics),
@@ -85,46 +83,33 @@ fn who_moves_is_followed(rt: HostRuntime) {
     }
 }
 
-/// The first datagram to the host that is on its way.
-fn first_to_host(air: &Air) -> Option<ArrayVec<u8, MOST>> {
-    let flight = air.flights.iter().find(|flight| flight.to == at(0))?;
-    let mut bytes = ArrayVec::new();
-    match bytes.try_extend_from_slice(flight.bytes.as_slice()) {
-        Ok(()) => Some(bytes),
-        Err(_) => None,
-    }
-}
-
 #[test]
-fn what_is_repeated_from_elsewhere_moves_nobody(rt: HostRuntime) {
+fn who_plays_takes_no_seat_of_a_host_that_is_started_anew(rt: HostRuntime) {
     let dice = Dice(Cell::new(0));
     let mut air = Air::open();
     let mut host = new_host(&rt, rt.alloc(), &dice, 2, 0, 0);
-    let mut joiner = new_guest(&rt, rt.alloc(), &dice, 1, None, 0);
-    let mut kept = None;
-    // A stranger at another address sends what the joiner sent last, over and over.
-    for step in 0..1000 {
+    let mut old = new_guest(&rt, rt.alloc(), &dice, 1, None, 0);
+    let mut new = new_guest(&rt, rt.alloc(), &dice, 1, None, 5_500_000);
+    // The host is gone from 2 s on and there again at 5 s, when the first joiner plays the old game still: another has
+    // the one seat at once.
+    for step in 0..1600 {
         let now = step * STEP;
-        if let Some(bytes) = first_to_host(&air) {
-            kept = Some(bytes);
+        if now == 5_000_000 {
+            host = new_host(&rt, rt.alloc(), &dice, 2, 0, now);
         }
-        assert!(rt; turn(&rt, &mut host, &mut air, 0, now).is_none());
-        assert!(rt; turn(&rt, &mut joiner, &mut air, 1, now).is_none());
-        lose(&mut air, 3);
-        if let Some(bytes) = &kept {
-            let mut port = Port {
-                air: &mut air,
-                own: at(3),
-            };
-            port.send(&at(0), bytes.as_slice());
+        if 2_000_000 <= now && now < 5_000_000 {
+            lose(&mut air, 0);
+        } else {
+            assert!(rt; turn(&rt, &mut host, &mut air, 0, now).is_none());
+        }
+        assert!(rt; turn(&rt, &mut old, &mut air, 1, now).is_none());
+        if now >= 5_500_000 {
+            assert!(rt; turn(&rt, &mut new, &mut air, 2, now).is_none());
         }
     }
-    for outcome in [
-        host.outcome(Ending::Left, 5_000_000),
-        joiner.outcome(Ending::Left, 5_000_000),
-    ] {
+    for outcome in [host.outcome(LEFT, 8_000_000), new.outcome(LEFT, 8_000_000)] {
         match outcome.summary {
-            Some(summary) => assert!(rt; 140 <= summary.tics),
+            Some(summary) => assert!(rt; 60 <= summary.tics),
             None => panic!(rt; "no game"),
         }
     }

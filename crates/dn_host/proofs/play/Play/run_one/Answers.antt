@@ -10,5 +10,11 @@ returns c =
     let answer = run.result.0 in
     let row = run.result.1 in
     let P : List ℤ → Type 0 = λ marks. RunsBy marks (linked c.args.self.now.link).node (linked run.new.self).node
-    (λ limits m given. on_run limits m given) (λ ran told. (answer ≡ ran) × (row ≡ told)) in
-    (answer, row, subst P c.marks_of-marks.ensures (run.ensures.step c.args.self.now.whole), c.go_on.ensures)
+    (λ limits m given. on_run limits m given) (λ ran told. (answer ≡ ran) × (row ≡ told)) in (
+      answer,
+      row,
+      subst P c.marks_of-marks.ensures (run.ensures.step c.args.self.now.whole),
+      c.go_on.ensures.goes,
+      c.go_on.ensures.ran,
+      c.waits_for-self.ensures,
+    )

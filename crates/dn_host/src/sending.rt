@@ -1,0 +1,33 @@
+//! What a player's link sends.
+
+use crate::peers::Peers;
+use crate::play::Play;
+use crate::wire::Wire;
+
+impl Play {
+    /// Sends a player its datagram, if it is known where it is.
+    fn send<W: Wire>(&mut self, player: u8, peers: &Peers, wire: &mut W) {
+        let Some(address) = peers.at(player) else {
+            return;
+        };
+        if let Some(bytes) = self.link.datagram(player) {
+            wire.send(&address, bytes.as_slice());
+        }
+    }
+
+    /// Sends each other player its datagram.
+    pub(crate) fn send_all<W: Wire>(&mut self, peers: &Peers, wire: &mut W) {
+        for player in 0..4 {
+            self.send(player, peers, wire);
+        }
+    }
+
+    /// Half a tick later: a second datagram to those who miss some.
+    pub(crate) fn send_again<W: Wire>(&mut self, peers: &Peers, wire: &mut W) {
+        for player in 0..4 {
+            if self.link.wants_second(player) {
+                self.send(player, peers, wire);
+            }
+        }
+    }
+}

@@ -1,0 +1,15 @@
+use Rattle.std.proofs.Common.{◌++◌, ◌∙◌, ap}
+use Rattle.std.proofs.lemmas.Result.{IfOk-weaker}
+use Rattle.clap.specs.Simple.{App}
+use Rattle.dn_program.specs.Commands.{games, netgame, readers, sessions, with_subcommands}
+use Rattle.dn_program.proofs.Subcommands.{many_more}
+use Rattle.dn_program.proofs.words.netgame.Goals as goal
+
+pub returns : goal.returns
+unfolding netgame
+returns c =
+    IfOk-weaker c.with_sessions.result _ _
+    (λ new end. many_more _ _ new (readers ++ games) sessions
+    (many_more _ _ _ readers games c.in_ok-readers.ensures c.in_ok-games.ensures) end
+    ∙ ap (λ (app : App). with_subcommands app ((readers ++ games) ++ sessions)) c.program.ensures)
+    c.with_sessions.ensures

@@ -1,0 +1,65 @@
+//! The command line, read and run.
+
+use crate::runs::run;
+use crate::status::{BROKEN_OFF, MISUSED};
+use crate::words::matches_of;
+use clap::Error;
+use clap::error::ErrorKind;
+use dn_netgame::RunFault;
+use std::net::Net;
+use std::random::RandomSource;
+use std::rt::{Env, Files};
+use std::time::Clock;
+use std::{env, io};
+
+/// Prints a fault of the command line on standard error, and help on standard output.
+fn explain(rt: &(impl Print + Eprint), error: &Error) -> Result<u8, RunFault> {
+    if error.kind() == ErrorKind::OutOfMemory {
+        return Err(RunFault::Memory);
+    }
+    let printed = error.print(rt);
+    if printed.is_err() && !error.use_stderr() {
+        return Err(RunFault::Write);
+    }
+    if error.use_stderr() {
+        Ok(MISUSED)
+    } else {
+        Ok(0)
+    }
+}
+
+/// Reads the command line and runs it, and answers the exit status.
+fn answer<
+    R: Env + Input + Print + Eprint + AllocGlobal + Net + Files + RandomSource + Clock + Drop,
+>(rt: &R, each_second: bool) -> Result<u8, RunFault> {
+    let alloc = rt.alloc();
+    let words: Vec<String> = match env::args(rt) {
+        Ok(words) => words.collect(alloc)?,
+        Err(error) if error.kind() == io::ErrorKind::OutOfMemory => return Err(RunFault::Memory),
+        Err(_) => {
+            let _ = rt.eprintln("error: invalid UTF-8 was detected in one or more arguments");
+            return Ok(MISUSED);
+        }
+    };
+    match matches_of(alloc, words.as_slice()) {
+        Ok(matches) => run(rt, each_second, &matches),
+        Err(error) => explain(rt, &error),
+    }
+}
+
+/// Reads the command line and runs it, prints the line of a run that ended early, and answers the exit
+/// status: 0 where all went well, 1 where what was given was refused, 2 where the command line was wrong, 3 where
+/// the run broke off. With `each_second` a session over a network tells on standard error each second how it goes.
+/// No clause says so: the contracts of the system's handles do not tell what is read and printed. What each
+/// subcommand prints and its status are clauses of `dn_netgame` and `dn_measure`; that this hands them on is tested.
+pub fn finish<
+    R: Env + Input + Print + Eprint + AllocGlobal + Net + Files + RandomSource + Clock + Drop,
+>(rt: &R, each_second: bool) -> u8 {
+    match answer(rt, each_second) {
+        Ok(status) => status,
+        Err(fault) => {
+            let _ = rt.println(fault);
+            BROKEN_OFF
+        }
+    }
+}

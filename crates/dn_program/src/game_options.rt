@@ -1,0 +1,131 @@
+//! The options of a game, and of what is played from a script or a seed.
+
+ghost use Rattle.std.specs.Prelude.{IfOk, [], ◌∷◌};
+ghost use Rattle.dn_program.specs.Arguments.{HasMore};
+ghost use Rattle.dn_program.specs.Commands.{choice_rules, flag_rules, game_rules, limit_rule, script_rule, seed_rule, short_limit, sim_rules, storm_rules, trace_rule, upgrade_rules};
+
+use crate::arguments::{switch, with, with_flag, with_number};
+use clap::Command;
+use std::alloc::{AllocError, Global};
+
+/// Adds the option that seeds a generator.
+pub(crate) fn with_seed<'a>(
+    alloc: Global,
+    command: Command<'a>,
+    about: &'a str,
+) -> Result<Command<'a>, AllocError>
+    ensures { IfOk result (HasMore command.entry (seed_rule ∷ [])) }
+{
+    with_number(alloc, command, "seed", 0, 4_294_967_295, "1", about)
+}
+
+/// Adds the option that limits a demo.
+fn with_limit<'a>(
+    alloc: Global,
+    command: Command<'a>,
+    default: &'a str,
+) -> Result<Command<'a>, AllocError>
+    ensures { IfOk result (HasMore command.entry (limit_rule default.entry.now ∷ [])) }
+{
+    let about = "Most bytes of a demo";
+    with_number(alloc, command, "limit", 1024, 16_777_216, default, about)
+}
+
+/// Adds the options of an upgrade.
+pub(crate) fn with_upgrade<'a>(
+    alloc: Global,
+    command: Command<'a>,
+) -> Result<Command<'a>, AllocError>
+    ensures { IfOk result (HasMore command.entry upgrade_rules) }
+{
+    with_limit(alloc, command, "16777216")
+}
+
+/// Adds the options of a game that are numbers, but for the limit.
+fn with_choice<'a>(alloc: Global, command: Command<'a>) -> Result<Command<'a>, AllocError>
+    ensures { IfOk result (HasMore command.entry choice_rules) }
+{
+    let about = "How many players there are";
+    let players = with_number(alloc, command, "players", 2, 4, "2", about)?;
+    let about = "How hard it is, from 0 for the easiest";
+    let skill = with_number(alloc, players, "skill", 0, 4, "2", about)?;
+    let about = "Which episode is played";
+    let episode = with_number(alloc, skill, "episode", 1, 3, "1", about)?;
+    let map = with_number(alloc, episode, "map", 1, 32, "1", "Which map is played")?;
+    let about = "Which deathmatch, or 0 for none";
+    with_number(alloc, map, "deathmatch", 0, 2, "0", about)
+}
+
+/// Adds the options of a game that are flags.
+fn with_flags<'a>(alloc: Global, command: Command<'a>) -> Result<Command<'a>, AllocError>
+    ensures { IfOk result (HasMore command.entry flag_rules) }
+{
+    let respawn = with_flag(alloc, command, "respawn", "Monsters come back")?;
+    let about = "There are no monsters";
+    let no_monsters = with_flag(alloc, respawn, "nomonsters", about)?;
+    let about = "Each packet repeats the last command";
+    with_flag(alloc, no_monsters, "extra", about)
+}
+
+/// Adds the options of a game whose demo has at most so many bytes by default.
+pub(crate) fn with_long_game<'a>(
+    alloc: Global,
+    command: Command<'a>,
+    limit: &'a str,
+) -> Result<Command<'a>, AllocError>
+    ensures { IfOk result (HasMore command.entry (game_rules limit.entry.now)) }
+{
+    let choice = with_choice(alloc, command)?;
+    let limited = with_limit(alloc, choice, limit)?;
+    with_flags(alloc, limited)
+}
+
+/// Adds the options of a game.
+pub(crate) fn with_game<'a>(alloc: Global, command: Command<'a>) -> Result<Command<'a>, AllocError>
+    ensures { IfOk result (HasMore command.entry (game_rules short_limit)) }
+{
+    with_long_game(alloc, command, "131072")
+}
+
+/// Adds the flag that tells each event.
+fn with_trace<'a>(alloc: Global, command: Command<'a>) -> Result<Command<'a>, AllocError>
+    ensures { IfOk result (HasMore command.entry (trace_rule ∷ [])) }
+{
+    let about = "Prints a line for each event first";
+    with_flag(alloc, command, "trace", about)
+}
+
+/// Adds the flag that asks for the script of a storm. It excludes `--trace` and `--calm`: a script has no place
+/// for the lines of a trace, and rounds are no events.
+fn with_script<'a>(alloc: Global, command: Command<'a>) -> Result<Command<'a>, AllocError>
+    ensures { IfOk result (HasMore command.entry (script_rule ∷ [])) }
+{
+    let about = "Prints the events as a script and nothing else";
+    let script = switch(alloc, "script", about);
+    with(
+        command,
+        script.conflicts_with("trace")?.conflicts_with("calm")?,
+    )
+}
+
+/// Adds the options of a script's game.
+pub(crate) fn with_sim<'a>(alloc: Global, command: Command<'a>) -> Result<Command<'a>, AllocError>
+    ensures { IfOk result (HasMore command.entry sim_rules) }
+{
+    let game = with_game(alloc, command)?;
+    with_trace(alloc, game)
+}
+
+/// Adds the options of a storm, a game's among them.
+pub(crate) fn with_storm<'a>(alloc: Global, command: Command<'a>) -> Result<Command<'a>, AllocError>
+    ensures { IfOk result (HasMore command.entry storm_rules) }
+{
+    let game = with_game(alloc, command)?;
+    let seed = with_seed(alloc, game, "What the events are drawn from")?;
+    let about = "How many events there are";
+    let count = with_number(alloc, seed, "count", 1, 1_000_000, "1000", about)?;
+    let about = "How many rounds without losses come after the events";
+    let calm = with_number(alloc, count, "calm", 0, 1_000, "0", about)?;
+    let trace = with_trace(alloc, calm)?;
+    with_script(alloc, trace)
+}
