@@ -19,6 +19,7 @@ mod told;
 
 use dn_game::{Done, Event, Game, GameConfig, Refusal};
 use dn_setup::{Settings, SettingsFault};
+use dn_shared_tests::same;
 use dn_tic::{Command, Keys};
 use dn_world::Walk;
 use std::alloc::{AllocError, Global};

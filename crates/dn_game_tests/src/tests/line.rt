@@ -4,6 +4,7 @@ mod hubs;
 mod ports;
 
 use dn_line::Datagram;
+use dn_shared_tests::same;
 use std::process::Abort;
 
 /// The bytes 0, 1, 2 and so on.

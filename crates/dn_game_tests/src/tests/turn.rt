@@ -6,6 +6,7 @@ mod rounds;
 
 use dn_node::{Config, Node};
 use dn_setup::Settings;
+use dn_shared_tests::{holds, same};
 use dn_world::Walk;
 use std::alloc::Global;
 use std::process::Abort;

@@ -22,3 +22,25 @@ const RECORDED: [u8; 34] = [
 
 /// Where players 0 and 1 stand before any tic.
 const BEGUN: [Place; 2] = [(0, 0, 0, 0), (4_194_304, 0, 0, 0)];
+
+/// With three bytes behind the marker.
+fn with_more() -> [u8; 33] {
+    let mut bytes = [7; 33];
+    bytes[..30].copy_from_slice(&PLAYED);
+    bytes
+}
+
+/// With one command of a third tic.
+fn with_cut() -> [u8; 34] {
+    let mut bytes = [0; 34];
+    bytes[..29].copy_from_slice(&PLAYED[..29]);
+    bytes[29..].copy_from_slice(&[0x32, 0, 0, 0, 0x80]);
+    bytes
+}
+
+/// The header and the marker alone.
+fn without_tics() -> [u8; 14] {
+    let mut bytes = [0x80; 14];
+    bytes[..13].copy_from_slice(&PLAYED[..13]);
+    bytes
+}

@@ -8,6 +8,7 @@ mod ending;
 mod leavers;
 mod marks;
 mod opening;
+mod playing;
 mod remaining;
 mod repeats;
 mod requests;
@@ -17,9 +18,12 @@ mod starting;
 mod taking;
 mod windows;
 
-use super::{FORWARD, IDLE, LEFT, LIMIT, NO_KEYS, RIGHT, SPEED, STILL, choice, datagram};
+use super::{
+    FORWARD, IDLE, LEFT, LIMIT, NO_KEYS, RIGHT, SPEED, STILL, choice, config_of, datagram,
+};
 use arrayvec::ArrayVec;
-use dn_lockstep::{Config, Heard, Lockstep, Made, Ran};
+use dn_lockstep::{Heard, Lockstep, Made, Ran};
+use dn_shared_tests::same;
 use dn_tic::{Keys, TicCmd};
 use std::alloc::Global;
 use std::process::Abort;
@@ -50,12 +54,36 @@ fn given(node: &mut Lockstep, to: u8) -> Result<ArrayVec<u8, 104>, Fail> {
     Ok(node.packet(to).ok_or("no packet")?)
 }
 
+/// A packet as a test writes it: the flags, the ask, start and player bytes, and the commands.
+type Written<'a> = (u8, (u8, u8, u8), &'a [TicCmd]);
+
+/// A packet, and what a node answers to it.
+#[derive(Drop)]
+struct Exchange<'a> {
+    flags: u8,
+    ask: u8,
+    start: u8,
+    player: u8,
+    commands: &'a [TicCmd],
+    answer: Heard,
+}
+
+impl<'a> Exchange<'a> {
+    fn packet(&self) -> Written<'a> {
+        (
+            self.flags,
+            (self.ask, self.start, self.player),
+            self.commands,
+        )
+    }
+}
+
 /// Hands a node a packet, and compares its answer.
 fn hears(
     rt: &impl Abort,
     node: &mut Lockstep,
     from: u8,
-    (flags, numbers, commands): (u8, (u8, u8, u8), &[TicCmd]),
+    (flags, numbers, commands): Written,
     answer: Heard,
 ) {
     assert!(rt; flags < 16);
@@ -64,21 +92,8 @@ fn hears(
 }
 
 /// A node of a game with these rules, which has the settings where it is player 0.
-fn opened(
-    alloc: Global,
-    (players, me): (u8, u8),
-    extra: bool,
-    limit: u32,
-) -> Result<Lockstep, Fail> {
-    let settings = if me == 0 { Some(choice()?) } else { None };
-    let config = Config {
-        players,
-        me,
-        extra,
-        limit,
-        settings,
-    };
-    Ok(Lockstep::new(alloc, config)?)
+fn opened(alloc: Global, seats: (u8, u8), extra: bool, limit: u32) -> Result<Lockstep, Fail> {
+    Ok(Lockstep::new(alloc, config_of(seats, extra, limit)?)?)
 }
 
 /// Hands the next packet of a node to another. None where there is no packet.

@@ -7,9 +7,12 @@ mod marks;
 mod opening;
 mod worlds;
 
-use super::{FORWARD, IDLE, LEFT, LIMIT, NO_KEYS, RIGHT, SPEED, STILL, choice, datagram};
+use super::{
+    FORWARD, IDLE, LEFT, LIMIT, NO_KEYS, RIGHT, SPEED, STILL, choice, config_of, datagram,
+};
 use arrayvec::ArrayVec;
-use dn_node::{Config, Heard, Made, Node, Ran};
+use dn_node::{Heard, Made, Node, Ran};
+use dn_shared_tests::same;
 use dn_tic::{Keys, TicCmd};
 use dn_world::{Walk, World};
 use std::alloc::Global;
@@ -55,20 +58,12 @@ fn hears<W: World>(
 /// A node of a game with these rules, which has the settings where it is player 0.
 fn opened<W: World>(
     alloc: Global,
-    (players, me): (u8, u8),
+    seats: (u8, u8),
     extra: bool,
     limit: u32,
     world: W,
 ) -> Result<Node<W>, Fail> {
-    let settings = if me == 0 { Some(choice()?) } else { None };
-    let config = Config {
-        players,
-        me,
-        extra,
-        limit,
-        settings,
-    };
-    Ok(Node::new(alloc, config, world)?)
+    Ok(Node::new(alloc, config_of(seats, extra, limit)?, world)?)
 }
 
 /// Hands the next packet of a node to another. None where there is no packet.

@@ -8,6 +8,7 @@ use dn_packet::{
     EXIT, Head, KILL, Packet, PacketFault, RETRANSMIT, SETUP, decode, decode_into, encode,
     encode_into, encode_parts, encode_to,
 };
+use dn_shared_tests::{holds, same};
 use dn_tic::TicCmd;
 use std::process::Abort;
 

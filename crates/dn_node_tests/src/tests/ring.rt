@@ -2,11 +2,21 @@
 
 use super::STILL;
 use dn_ring::{Ring, RingBuffer, WideRing};
+use dn_shared_tests::same;
 use dn_tic::TicCmd;
+use std::process::Abort;
 
 /// The command that is told from others by its chat byte.
 fn chat(chat: u8) -> TicCmd {
     TicCmd { chat, ..STILL }
+}
+
+/// Puts the commands of so many letters into a ring that has none.
+fn put_all<const PLACES: usize>(rt: &impl Abort, ring: &mut RingBuffer<PLACES>, count: u8) {
+    for letter in 0..count {
+        assert_eq!(rt; ring.count(), u32::from(letter));
+        ring.put(chat(letter));
+    }
 }
 
 #[test]
@@ -46,10 +56,7 @@ fn commands_from_a_tic_on_are_two_pieces(rt: HostRuntime) {
     assert_eq!(rt; ring.count(), 0);
     let (first, second) = ring.since(0);
     same!(rt; (first.len(), second.len()), (0, 0));
-    for letter in 0..14_u8 {
-        assert_eq!(rt; ring.count(), u32::from(letter));
-        ring.put(chat(letter));
-    }
+    put_all(rt, &mut ring, 14);
     // tic 11 stands in the last slot, and tic 12 in the first
     assert_eq!(rt; ring.count(), 14);
     let (first, second) = ring.since(11);
@@ -71,10 +78,7 @@ fn slots_go_round(rt: HostRuntime) {
     let rt = &rt;
     let mut ring = Ring::new();
     same!(rt; *ring.slots(), [STILL; 12]);
-    for letter in 0..13_u8 {
-        assert_eq!(rt; ring.count(), u32::from(letter));
-        ring.put(chat(letter));
-    }
+    put_all(rt, &mut ring, 13);
     let rows = [(0, 12), (1, 1), (2, 2), (10, 10), (11, 11)];
     for (place, letter) in rows {
         same!(rt; ring.slots()[place], chat(letter), place);
@@ -98,10 +102,7 @@ fn a_slot_that_was_never_taken_is_zero(rt: HostRuntime) {
 fn a_wide_ring_keeps_the_last_thirty_two(rt: HostRuntime) {
     let rt = &rt;
     let mut ring = WideRing::new();
-    for letter in 0..40_u8 {
-        assert_eq!(rt; ring.count(), u32::from(letter));
-        ring.put(chat(letter));
-    }
+    put_all(rt, &mut ring, 40);
     assert_eq!(rt; ring.count(), 40);
     let rows = [
         (7, None),
@@ -120,10 +121,7 @@ fn a_wide_ring_keeps_the_last_thirty_two(rt: HostRuntime) {
 fn a_range_is_told_in_two_pieces(rt: HostRuntime) {
     let rt = &rt;
     let mut ring = WideRing::new();
-    for letter in 0..40_u8 {
-        assert_eq!(rt; ring.count(), u32::from(letter));
-        ring.put(chat(letter));
-    }
+    put_all(rt, &mut ring, 40);
     // tic 31 stands in the last slot, and tic 32 in the first
     assert_eq!(rt; ring.count(), 40);
     let (first, second) = ring.range(30, 3);
@@ -140,9 +138,6 @@ fn a_range_is_told_in_two_pieces(rt: HostRuntime) {
 fn a_ring_of_one_place_keeps_the_last(rt: HostRuntime) {
     let rt = &rt;
     let mut ring = RingBuffer::<1>::new();
-    for letter in 0..3_u8 {
-        assert_eq!(rt; ring.count(), u32::from(letter));
-        ring.put(chat(letter));
-    }
+    put_all(rt, &mut ring, 3);
     same!(rt; (ring.get(1), ring.get(2), ring.get(3)), (None, Some(chat(2)), None));
 }

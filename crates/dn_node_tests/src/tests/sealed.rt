@@ -5,6 +5,7 @@ use arrayvec::ArrayVec;
 use dn_lockstep::{Config, Heard, Made, Ran};
 use dn_open::{Arrived, SealedLockstep};
 use dn_seal::{Seal, SealFault, Sealer};
+use dn_shared_tests::{must, same};
 use dn_tic::{Command, Keys, TicCmd};
 use std::alloc::Global;
 use std::process::Abort;

@@ -3,6 +3,7 @@
 use super::{START, STILL, packet_of};
 use dn_packet::encode;
 use dn_setup::{Gather, Settings, SettingsFault, SetupFault, from_packet, to_packet};
+use dn_shared_tests::{holds, must, same};
 
 #[test]
 fn fields_are_checked_in_their_order(rt: HostRuntime) {

@@ -2,6 +2,7 @@
 //! low bytes stand for.
 
 use super::{FORWARD, LEFT, RIGHT, SPEED, STILL, STRAFE, WEAPONS, built};
+use dn_shared_tests::{holds, same};
 use dn_tic::{Builder, Command, Input, Key, Keys, Move, TicCmd, expand, input_of, round};
 use std::process::Abort;
 

@@ -2,8 +2,9 @@
 
 mod playing;
 
-use super::{PLACES, finds_no_memory, moved, place, stand, two_tics};
+use super::{PLACES, moved, place, stand, two_tics};
 use dn_setup::Start;
+use dn_shared_tests::{finds_no_memory, must, same};
 use dn_world::{Belt, Walk, World};
 use playing::play;
 

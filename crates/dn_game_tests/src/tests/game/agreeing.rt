@@ -5,6 +5,7 @@ use super::told::places;
 use super::{build, config, send, walks};
 use dn_game::{Event, Game, Played, play};
 use dn_node::Node;
+use dn_shared_tests::{holds, must, same};
 use dn_world::{Walk, World};
 use std::alloc::Global;
 use std::process::Abort;

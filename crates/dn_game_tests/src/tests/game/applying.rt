@@ -4,6 +4,7 @@ use super::told::all_told;
 use super::{applies, build, give, opened, send};
 use dn_game::{Done, Event, Refusal};
 use dn_node::{Heard, Made, Ran};
+use dn_shared_tests::{must, same};
 
 const NO_NODE: Result<Done, Refusal> = Err(Refusal::NoNode);
 

@@ -3,6 +3,7 @@
 use super::{applies, build, opened, send};
 use dn_game::{Done, Event, Game, Refusal};
 use dn_node::{Heard, Made, Ran};
+use dn_shared_tests::{must, same};
 use dn_world::Walk;
 use std::alloc::Global;
 use std::test::Fail;

@@ -5,6 +5,7 @@ use super::{config, opened, send, walks};
 use dn_demo::Demo;
 use dn_game::{Event, Game, play, play_on_with};
 use dn_node::Node;
+use dn_shared_tests::{holds, must, same};
 use dn_tic::{Command, Input, Keys, Move, TicCmd};
 use dn_world::Walk;
 use std::alloc::Global;

@@ -6,6 +6,7 @@ use super::{config, opened, walks};
 use dn_game::{Event, Game, Refusal, Schedule, play};
 use dn_machine::{Cause, Phase};
 use dn_node::Node;
+use dn_shared_tests::{holds, must, same};
 use dn_world::Walk;
 use std::alloc::Global;
 use std::process::Abort;

@@ -3,9 +3,9 @@
 use super::playing::events;
 use super::told::all_told;
 use super::{applies, config, opened, send, walks};
-use crate::tests::finds_no_memory;
 use dn_game::{Done, Event, Game, GameFault, OpenEvent, Refusal, play, play_open, storm};
 use dn_seal::Seal;
+use dn_shared_tests::{finds_no_memory, holds, must, same};
 use dn_world::Walk;
 use std::process::Abort;
 

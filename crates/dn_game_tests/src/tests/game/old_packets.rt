@@ -6,6 +6,7 @@ use super::{applies, build, opened, send};
 use dn_game::{Event, Game, Refusal};
 use dn_node::{Config, Heard, Made, Node, Ran};
 use dn_setup::Settings;
+use dn_shared_tests::{must, same};
 use dn_tic::Keys;
 use dn_world::Walk;
 use std::alloc::Global;

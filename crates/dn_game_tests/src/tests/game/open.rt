@@ -6,6 +6,7 @@ use super::{build, config, opened, walks};
 use dn_game::{Arrived, Event, Game, OpenDone, OpenEvent, Refusal, play_open};
 use dn_node::{Heard, Phase};
 use dn_seal::{Seal, SealFault, Sealer};
+use dn_shared_tests::{must, same};
 use dn_world::Walk;
 use std::process::Abort;
 

@@ -3,6 +3,7 @@
 use super::{config, opened, walks};
 use dn_game::{Game, GameFault};
 use dn_node::{Node, Phase};
+use dn_shared_tests::{holds, must, same};
 use dn_world::Walk;
 use std::process::Abort;
 

@@ -3,6 +3,7 @@
 use super::{applies, build, config, opened, send, walks};
 use dn_game::{Done, Event, Game, Played, Refusal, play, read_script};
 use dn_node::{Aim, Heard, Made, Node, Phase, Ran};
+use dn_shared_tests::{holds, must, rows, same};
 use dn_world::Walk;
 use std::alloc::Global;
 use std::process::Abort;
@@ -11,57 +12,26 @@ use std::test::Fail;
 const SCRIPT: &str = "send 0 1\ndeliver 0\nbuild 1 -\nsend 1 0\ndeliver 1\nbuild 1 -\nsend 1 0\n\
     deliver 2\nbuild 0 -\nsend 0 1\ndeliver 3\nsend 1 0\ndeliver 4\nrun 0\nrun 1\n";
 
-/// A packet of the script: from, to, flags, request, start, how many commands, and the first bytes.
-type FlightRow = (u8, u8, u8, Option<u32>, u32, u8, [u8; 8]);
+/// A packet of the script, and its first bytes.
+struct Sent {
+    from: u8,
+    to: u8,
+    flags: u8,
+    ask: Option<u32>,
+    start: u32,
+    count: u8,
+    front: [u8; 8],
+}
 
 /// The packets of the script.
-const FLIGHTS: [FlightRow; 5] = [
-    (
-        0,
-        1,
-        2,
-        None,
-        0,
-        0,
-        [0x69, 0x86, 0x92, 0x21, 0x02, 0x41, 0x6F, 0x00],
-    ),
-    (
-        1,
-        0,
-        0,
-        None,
-        0,
-        1,
-        [0x67, 0x45, 0x24, 0x02, 0x00, 0x00, 0x01, 0x01],
-    ),
-    (
-        1,
-        0,
-        0,
-        None,
-        1,
-        1,
-        [0x67, 0x46, 0x24, 0x02, 0x00, 0x01, 0x01, 0x01],
-    ),
-    (
-        0,
-        1,
-        4,
-        Some(0),
-        0,
-        1,
-        [0x67, 0x45, 0x23, 0x42, 0x00, 0x00, 0x00, 0x01],
-    ),
-    (
-        1,
-        0,
-        0,
-        None,
-        0,
-        2,
-        [0x67, 0x45, 0x24, 0x03, 0x00, 0x00, 0x01, 0x02],
-    ),
-];
+const FLIGHTS: [Sent; 5] = rows! {
+    Sent { from, to, flags, ask,     start, count, front }
+         [ 0,    1,  2,     None,    0,     0,     [0x69, 0x86, 0x92, 0x21, 0x02, 0x41, 0x6F, 0x00] ]
+         [ 1,    0,  0,     None,    0,     1,     [0x67, 0x45, 0x24, 0x02, 0x00, 0x00, 0x01, 0x01] ]
+         [ 1,    0,  0,     None,    1,     1,     [0x67, 0x46, 0x24, 0x02, 0x00, 0x01, 0x01, 0x01] ]
+         [ 0,    1,  4,     Some(0), 0,     1,     [0x67, 0x45, 0x23, 0x42, 0x00, 0x00, 0x00, 0x01] ]
+         [ 1,    0,  0,     None,    0,     2,     [0x67, 0x45, 0x24, 0x03, 0x00, 0x00, 0x01, 0x02] ]
+};
 
 /// The script's events.
 pub(crate) fn events() -> [Event; 15] {
@@ -109,23 +79,23 @@ fn flew<'a>(
     rt: &impl Abort,
     game: &Game<Walk>,
     place: usize,
-    (from, to, flags, ask, start, count, front): FlightRow,
+    sent: &Sent,
     rest: &'a [u8],
 ) -> &'a [u8] {
     let Some(flight) = game.flight(place) else {
         panic!(rt; "no packet {place}");
     };
     let aim = Aim {
-        flags,
-        ask,
-        start,
-        count,
+        flags: sent.flags,
+        ask: sent.ask,
+        start: sent.start,
+        count: sent.count,
     };
-    same!(rt; (flight.from, flight.to, flight.aim), (from, to, aim), place);
+    same!(rt; (flight.from, flight.to, flight.aim), (sent.from, sent.to, aim), place);
     // Behind the front stand commands without a key.
     let mut bytes = [0; 24];
-    bytes[..8].copy_from_slice(&front);
-    let len = 8 + 8 * usize::from(count);
+    bytes[..8].copy_from_slice(&sent.front);
+    let len = 8 + 8 * usize::from(sent.count);
     same!(rt; Some(flight.bytes.as_slice()), bytes.get(..len), place);
     same!(rt; rest.get(..len), bytes.get(..len), place);
     rest.get(len..).unwrap_or(&[])
@@ -145,8 +115,8 @@ fn stands(rt: &impl Abort, node: &Node<Walk>, number: u8, made: u32) {
 fn look(rt: &impl Abort, game: &Game<Walk>) {
     same!(rt; (game.flights(), game.pool().len()), (5, 80));
     let mut rest = game.pool();
-    for (place, row) in FLIGHTS.into_iter().enumerate() {
-        rest = flew(rt, game, place, row, rest);
+    for (place, sent) in FLIGHTS.iter().enumerate() {
+        rest = flew(rt, game, place, sent, rest);
     }
     holds!(rt; game.flight(5).is_none());
     let (Some(zero), Some(one)) = (game.node(0), game.node(1)) else {

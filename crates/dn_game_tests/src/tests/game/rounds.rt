@@ -2,9 +2,9 @@
 
 use super::told::all_told;
 use super::{build, config, opened, send, walks};
-use crate::tests::finds_no_memory;
 use dn_game::{Event, Game, GameFault, PlayOnFault, Played, RoundFault, play, play_on, storm};
 use dn_machine::{Cause, Phase};
+use dn_shared_tests::{finds_no_memory, holds, must, rows, same};
 use dn_tic::Keys;
 use dn_world::Walk;
 use std::alloc::Global;
@@ -55,28 +55,39 @@ fn after(rt: &impl Abort, alloc: Global, events: &[Event], rounds: u32) -> Game<
     game
 }
 
+/// So many rounds after some events, and how many tics nodes 0 and 1 have then run.
+#[derive(Drop)]
+struct Rounds<'a> {
+    events: &'a [Event],
+    rounds: u32,
+    zero: u32,
+    one: u32,
+}
+
 #[test]
 fn rounds_run_tics(rt: HostRuntime) {
     let rt = &rt;
     let left = lost();
     let missed = &left[..12];
     let nothing = &left[..0];
-    let rows = [
-        (nothing, 0, 0, 0),
-        (nothing, 1, 0, 0),
-        (nothing, 2, 0, 1),
-        (nothing, 3, 0, 2),
-        (nothing, 4, 1, 3),
-        (missed, 11, 5, 0),
-        (missed, 12, 5, 1),
-        (left.as_slice(), 11, 0, 0),
-        (left.as_slice(), 12, 0, 1),
-        (left.as_slice(), 13, 0, 2),
-        (left.as_slice(), 14, 0, 3),
-    ];
-    for (events, rounds, zero, one) in rows {
-        let game = after(rt, rt.alloc(), events, rounds);
-        same!(rt; rans(&game), [Some(zero), Some(one), None, None], rounds);
+    let rows = rows! {
+        Rounds { events,  rounds, zero, one }
+               [ nothing, 0,      0,    0 ]
+               [ nothing, 1,      0,    0 ]
+               [ nothing, 2,      0,    1 ]
+               [ nothing, 3,      0,    2 ]
+               [ nothing, 4,      1,    3 ]
+               [ missed,  11,     5,    0 ]
+               [ missed,  12,     5,    1 ]
+               [ &left,   11,     0,    0 ]
+               [ &left,   12,     0,    1 ]
+               [ &left,   13,     0,    2 ]
+               [ &left,   14,     0,    3 ]
+    };
+    for row in rows {
+        let game = after(rt, rt.alloc(), row.events, row.rounds);
+        let wanted = [Some(row.zero), Some(row.one), None, None];
+        same!(rt; rans(&game), wanted, row.rounds);
     }
 }
 

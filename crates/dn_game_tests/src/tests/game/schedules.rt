@@ -2,6 +2,7 @@
 
 use super::{build, opened, send};
 use dn_game::{Event, Game, Schedule};
+use dn_shared_tests::{holds, must, rows, same};
 use dn_world::Walk;
 use std::process::Abort;
 
@@ -21,125 +22,100 @@ pub(super) fn draw(rt: &impl Abort, game: &Game<Walk>, seed: u64, events: &[Even
     }
 }
 
-#[test]
-fn without_packets_deliveries_are_runs(rt: HostRuntime) {
-    let rt = &rt;
-    let game = must!(rt; opened(rt.alloc(), 2));
-    draw(
-        rt,
-        &game,
-        42,
-        &[
-            send(1, 0),
-            build(1, 90_222),
-            Event::Run(1),
-            build(0, 13_817),
-            send(1, 0),
-            Event::Run(0),
-        ],
-    );
+/// A game of so many players, in which node 0 has sent so many packets and some nodes have stopped; and the first
+/// events that the schedule of a seed has for it.
+#[derive(Drop)]
+struct Drawn<'a> {
+    players: u32,
+    sent: u32,
+    stopped: &'a [u32],
+    seed: u64,
+    events: &'a [Event],
 }
 
+/// Without packets deliveries are runs. Of forty packets one of the last thirty-two is delivered, and of few any.
+/// Nodes that have stopped are left out.
 #[test]
-fn the_last_packets_are_delivered(rt: HostRuntime) {
+fn schedules_are_those_of_their_seeds(rt: HostRuntime) {
     let rt = &rt;
-    let mut game = must!(rt; opened(rt.alloc(), 2));
-    send_round(&mut game, 2, 40);
-    draw(
-        rt,
-        &game,
-        42,
-        &[
-            send(1, 0),
-            build(1, 90_222),
-            Event::Deliver(13),
-            build(0, 13_817),
-            send(1, 0),
-            Event::Deliver(36),
-            build(0, 94_512),
-            send(1, 0),
-            Event::Deliver(17),
-            build(0, 132_397),
-            send(1, 0),
-            Event::Deliver(20),
-        ],
-    );
-}
-
-#[test]
-fn stopped_nodes_are_left_out(rt: HostRuntime) {
-    let rt = &rt;
-    let mut game = must!(rt; opened(rt.alloc(), 4));
-    send_round(&mut game, 4, 40);
-    let _ = game.apply(Event::Stop(2));
-    draw(
-        rt,
-        &game,
-        7,
-        &[
-            build(0, 247_037),
-            build(0, 171_759),
-            Event::Run(1),
-            Event::Deliver(33),
-            Event::Run(3),
-            build(1, 61_850),
-            send(1, 3),
-            send(3, 1),
-            send(1, 2),
-            Event::Run(1),
-            Event::Run(3),
-            send(0, 2),
-        ],
-    );
-}
-
-#[test]
-fn few_packets_are_all_recent(rt: HostRuntime) {
-    let rt = &rt;
-    let mut game = must!(rt; opened(rt.alloc(), 3));
-    send_round(&mut game, 3, 5);
-    let _ = game.apply(Event::Stop(0));
-    let _ = game.apply(Event::Stop(1));
-    draw(
-        rt,
-        &game,
-        u64::MAX,
-        &[
-            send(2, 0),
-            build(2, 235_360),
-            build(2, 204_307),
-            build(2, 66_395),
-            Event::Run(2),
-            build(2, 223_571),
-            build(2, 129_347),
-            send(2, 1),
-            send(2, 1),
-            send(2, 1),
-            build(2, 120_856),
-            Event::Run(2),
-        ],
-    );
-    let mut other = must!(rt; opened(rt.alloc(), 4));
-    send_round(&mut other, 4, 31);
-    let _ = other.apply(Event::Stop(0));
-    let _ = other.apply(Event::Stop(3));
-    draw(
-        rt,
-        &other,
-        1,
-        &[
-            Event::Deliver(6),
-            build(2, 122_339),
-            build(1, 108_468),
-            Event::Run(1),
-            Event::Run(1),
-            Event::Deliver(28),
-            build(1, 60_471),
-            Event::Deliver(3),
-            send(1, 2),
-            build(1, 196_009),
-        ],
-    );
+    let none = [
+        send(1, 0),
+        build(1, 90_222),
+        Event::Run(1),
+        build(0, 13_817),
+        send(1, 0),
+        Event::Run(0),
+    ];
+    let last = [
+        send(1, 0),
+        build(1, 90_222),
+        Event::Deliver(13),
+        build(0, 13_817),
+        send(1, 0),
+        Event::Deliver(36),
+        build(0, 94_512),
+        send(1, 0),
+        Event::Deliver(17),
+        build(0, 132_397),
+        send(1, 0),
+        Event::Deliver(20),
+    ];
+    let stopped = [
+        build(0, 247_037),
+        build(0, 171_759),
+        Event::Run(1),
+        Event::Deliver(33),
+        Event::Run(3),
+        build(1, 61_850),
+        send(1, 3),
+        send(3, 1),
+        send(1, 2),
+        Event::Run(1),
+        Event::Run(3),
+        send(0, 2),
+    ];
+    let lone = [
+        send(2, 0),
+        build(2, 235_360),
+        build(2, 204_307),
+        build(2, 66_395),
+        Event::Run(2),
+        build(2, 223_571),
+        build(2, 129_347),
+        send(2, 1),
+        send(2, 1),
+        send(2, 1),
+        build(2, 120_856),
+        Event::Run(2),
+    ];
+    let few = [
+        Event::Deliver(6),
+        build(2, 122_339),
+        build(1, 108_468),
+        Event::Run(1),
+        Event::Run(1),
+        Event::Deliver(28),
+        build(1, 60_471),
+        Event::Deliver(3),
+        send(1, 2),
+        build(1, 196_009),
+    ];
+    let rows = rows! {
+        Drawn { players, sent, stopped, seed,     events }
+              [ 2,       0,    &[],     42,       &none ]
+              [ 2,       40,   &[],     42,       &last ]
+              [ 4,       40,   &[2],    7,        &stopped ]
+              [ 3,       5,    &[0, 1], u64::MAX, &lone ]
+              [ 4,       31,   &[0, 3], 1,        &few ]
+    };
+    for row in rows {
+        let mut game = must!(rt; opened(rt.alloc(), row.players as usize));
+        send_round(&mut game, row.players, row.sent);
+        for node in row.stopped {
+            let _ = game.apply(Event::Stop(*node));
+        }
+        draw(rt, &game, row.seed, row.events);
+    }
 }
 
 #[test]

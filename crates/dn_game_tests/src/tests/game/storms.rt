@@ -4,6 +4,7 @@ use super::belts::belts;
 use super::told::all_told;
 use super::{config, walks};
 use dn_game::{Game, Played, storm};
+use dn_shared_tests::{holds, must, same};
 use dn_world::{Walk, World};
 use std::alloc::Global;
 use std::process::Abort;

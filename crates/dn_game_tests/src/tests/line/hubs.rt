@@ -1,8 +1,8 @@
 //! Tests of queues in memory.
 
 use super::{came, rising};
-use crate::tests::finds_no_memory;
 use dn_line::{HubFault, Line, LineFault, MemoryHub};
+use dn_shared_tests::{finds_no_memory, must, same};
 
 #[test]
 fn two_to_four_players_have_a_hub(rt: HostRuntime) {

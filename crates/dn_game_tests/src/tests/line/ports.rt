@@ -1,8 +1,9 @@
 //! Tests of ports of this machine. Each looks for ports that are free, in an area of its own.
 
 use super::{came, rising};
-use crate::tests::{finds_no_memory, free_line};
+use crate::tests::free_line;
 use dn_line::{Datagram, Line, LineFault, UdpLine, is_base};
+use dn_shared_tests::{finds_no_memory, holds, must, same};
 
 /// How many polls are made for a datagram that is on its way.
 const POLLS: u32 = 100_000;

@@ -5,6 +5,7 @@ ghost use Rattle.std.specs.Prelude.{◌≡◌};
 use super::{one_game, pair};
 use dn_line::{Datagram, Line, LineFault, MemoryHub};
 use dn_node::Node;
+use dn_shared_tests::{holds, must, same};
 use dn_tic::Keys;
 use dn_turn::turn;
 use dn_world::Walk;

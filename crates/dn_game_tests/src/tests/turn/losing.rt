@@ -2,6 +2,7 @@
 
 use super::{one_game, pair};
 use dn_line::{Datagram, Line, LineFault, MemoryHub};
+use dn_shared_tests::{holds, must, same};
 use dn_turn::rounds;
 
 /// A line in memory that loses one of every `lost_of` datagrams, and answers that it was sent.

@@ -5,6 +5,7 @@ use crate::tests::free_line;
 use dn_line::MemoryHub;
 use dn_machine::Made;
 use dn_node::Node;
+use dn_shared_tests::{holds, must, rows, same};
 use dn_tic::{Command, Input, Keys};
 use dn_turn::{Turned, round_with, rounds, turn, turn_with};
 use dn_world::Walk;
@@ -45,26 +46,19 @@ fn turns_are_told(rt: HostRuntime) {
     let rt = &rt;
     let mut nodes = must!(rt; pair(rt.alloc()));
     let mut hub = must!(rt; MemoryHub::new(rt.alloc(), 2));
-    let rows = [
-        // place, build, packets sent, datagrams received, tics run
-        (0, Made::NotPlaying, 1, 0, 0),
-        (1, Made::NotPlaying, 0, 1, 0),
-        (0, Made::NotPlaying, 1, 0, 0),
-        (1, Made::Made(0), 1, 1, 0),
-        (0, Made::NotPlaying, 1, 1, 0),
-    ];
-    for (place, made, sent, heard, ran) in rows {
+    let turns = rows! {
+        Turned { made,             sent, failed, heard, ran }
+               [ Made::NotPlaying, 1,    0,      0,     0 ]
+               [ Made::NotPlaying, 0,    0,      1,     0 ]
+               [ Made::NotPlaying, 1,    0,      0,     0 ]
+               [ Made::Made(0),    1,    0,      1,     0 ]
+               [ Made::NotPlaying, 1,    0,      1,     0 ]
+    };
+    for (place, told) in [0, 1, 0, 1, 0].into_iter().zip(turns) {
         let turned = if place == 0 {
             turn(&mut nodes[0], &mut hub, Keys::from_bits(0))
         } else {
             turn(&mut nodes[1], &mut hub, Keys::from_bits(0))
-        };
-        let told = Turned {
-            made,
-            sent,
-            failed: 0,
-            heard,
-            ran,
         };
         same!(rt; turned, told, place);
     }

@@ -2,8 +2,11 @@
 
 ghost use Rattle.std.specs.Prelude.{◌<◌};
 
-use super::{BEGUN, PLACES, PLAYED, Place, RECORDED, START, place, stand};
+use super::{
+    BEGUN, PLACES, PLAYED, Place, RECORDED, START, place, stand, with_cut, with_more, without_tics,
+};
 use dn_demo::{Demo, DemoFault, Fed, Feed, FeedFault, play};
+use dn_shared_tests::{must, same};
 use dn_world::Walk;
 use std::process::Abort;
 use std::test::Fail;
@@ -64,13 +67,7 @@ fn ends_everywhere_as(
 
 #[test]
 fn pieces_end_as_their_join(rt: HostRuntime) {
-    let mut more = [7; 33];
-    more[..30].copy_from_slice(&PLAYED);
-    let mut cut = [0; 34];
-    cut[..29].copy_from_slice(&PLAYED[..29]);
-    cut[29..].copy_from_slice(&[0x32, 0, 0, 0, 0x80]);
-    let mut none = [0x80; 14];
-    none[..13].copy_from_slice(&PLAYED[..13]);
+    let (more, cut, none) = (with_more(), with_cut(), without_tics());
     let mut other = PLAYED;
     other[0] = 110;
     let mut nobody = PLAYED;

@@ -1,8 +1,12 @@
 //! Tests of read demos and their playing.
 
-use super::{BEGUN, PLACES, PLAYED, Place, RECORDED, START, moved, stand, two_tics};
+use super::{
+    BEGUN, PLACES, PLAYED, Place, RECORDED, START, moved, stand, two_tics, with_cut, with_more,
+    without_tics,
+};
 use dn_demo::{Demo, DemoFault, play};
 use dn_setup::Start;
+use dn_shared_tests::{must, same};
 use dn_world::Walk;
 use std::alloc::Global;
 use std::process::Abort;
@@ -32,13 +36,7 @@ fn reads_as(
 #[test]
 fn demos_are_read_and_played(rt: HostRuntime) {
     let rt = &rt;
-    let mut more = [7; 33];
-    more[..30].copy_from_slice(&PLAYED);
-    let mut cut = [0; 34];
-    cut[..29].copy_from_slice(&PLAYED[..29]);
-    cut[29..].copy_from_slice(&[0x32, 0, 0, 0, 0x80]);
-    let mut none = [0x80; 14];
-    none[..13].copy_from_slice(&PLAYED[..13]);
+    let (more, cut, none) = (with_more(), with_cut(), without_tics());
     for (bytes, counts, places) in [
         (PLAYED.as_slice(), (2, 0, 0), PLACES),
         (RECORDED.as_slice(), (2, 0, 0), PLACES),

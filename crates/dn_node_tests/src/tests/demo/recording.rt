@@ -4,10 +4,10 @@ ghost use Rattle.std.specs.Prelude.{◌≡◌};
 ghost use Rattle.dn_demo.specs.declared.recorder.Stage.TheVariants.{Blank, Open};
 
 use super::{RECORDED, START, moved};
-use crate::tests::finds_no_memory;
 use dn_demo::{
     Demo, DemoFault, Recorder, RecorderFault, UpgradeFault, capacity, is_limit, upgrade,
 };
+use dn_shared_tests::{finds_no_memory, holds, must, same};
 
 #[test]
 fn limits_are_checked(rt: HostRuntime) {

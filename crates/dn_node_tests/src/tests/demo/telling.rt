@@ -4,6 +4,7 @@ ghost use Rattle.std.specs.Prelude.{◌<◌};
 
 use super::{PLAYED, RECORDED, two_tics};
 use dn_demo::Feed;
+use dn_shared_tests::same;
 use dn_world::Walk;
 use std::process::Abort;
 

@@ -2,6 +2,7 @@
 
 use super::{PLAYED, RECORDED, place};
 use dn_demo::{Demo, UpgradeFault, play, upgrade};
+use dn_shared_tests::{must, same};
 use dn_world::Walk;
 use std::process::Abort;
 

@@ -4,6 +4,7 @@ use super::stages::{Stage, at};
 use super::{FORWARD, NO_KEYS, build, datagram, hears, pair, pass, quit, received, tics};
 use dn_lockstep::{Aim, Heard, Lockstep};
 use dn_packet::{EXIT, RETRANSMIT, SETUP};
+use dn_shared_tests::{holds, must, same};
 use std::process::Abort;
 
 /// Compares the numbers, asked for twice, with the packet's bytes.

@@ -1,10 +1,10 @@
 //! Tests of what a node answers to datagrams: each test that a datagram meets, and which comes first.
 
 use super::stages::{STOP, Stage, at};
-use super::{STILL, hears, received};
+use super::{Written, hears, received};
 use dn_lockstep::{Heard, Lockstep};
 use dn_packet::{EXIT, KILL, RETRANSMIT, SETUP};
-use dn_tic::TicCmd;
+use dn_shared_tests::{must, rows, same};
 use std::alloc::Global;
 use std::process::Abort;
 use std::test::Fail;
@@ -18,11 +18,8 @@ const PEERS: [Stage; 5] = [
     Stage::Leaver,
 ];
 
-/// A packet as a test writes it: the flags, the ask, start and player bytes, and the commands.
-type Written<'a> = (u8, (u8, u8, u8), &'a [TicCmd]);
-
 /// Hands a packet to a node that stands so, and compares its answer.
-fn answers(
+pub(super) fn answers(
     rt: &impl Abort,
     alloc: Global,
     (stage, from): (Stage, u8),
@@ -96,28 +93,52 @@ fn bytes_that_are_no_packet_are_told_apart(rt: HostRuntime) {
     }
 }
 
+/// Settings that come to a node, and what it answers.
+#[derive(Drop)]
+struct Choice {
+    stage: Stage,
+    from: u8,
+    ask: u8,
+    start: u8,
+    version: u8,
+    answer: Heard,
+}
+
+/// A packet with a command that comes to a node before its game, and what the node answers.
+#[derive(Drop)]
+struct Early {
+    stage: Stage,
+    from: u8,
+    flags: u8,
+    ask: u8,
+    start: u8,
+    player: u8,
+    answer: Heard,
+}
+
 #[test]
 fn set_up_is_for_listeners(rt: HostRuntime) {
     let rt = &rt;
-    let rows: [(Stage, u8, (u8, u8, u8), Heard); 13] = [
-        (Stage::Listener, 0, (2, 65, 111), Heard::Started),
-        (Stage::Listener, 0, (2, 65, 110), Heard::Dropped(7)),
-        (Stage::Listener, 0, (5, 65, 110), Heard::Dropped(7)),
-        (Stage::Listener, 0, (5, 65, 111), Heard::Dropped(8)),
-        (Stage::Listener, 0, (2, 0, 111), Heard::Dropped(8)),
-        (Stage::Listener, 2, (2, 65, 111), Heard::Dropped(6)),
-        (Stage::Listener, 2, (5, 65, 110), Heard::Dropped(6)),
-        (Stage::Key, 1, (2, 65, 111), Heard::Dropped(6)),
-        (Stage::Key, 2, (5, 65, 1), Heard::Dropped(6)),
-        (Stage::First, 1, (2, 65, 111), Heard::Dropped(6)),
-        (Stage::First, 1, (0, 0, 1), Heard::Dropped(6)),
-        (Stage::Second, 0, (2, 65, 111), Heard::Dropped(6)),
-        (Stage::Second, 2, (5, 65, 110), Heard::Dropped(6)),
-    ];
-    for (stage, from, numbers, answer) in rows {
+    let rows = rows! {
+        Choice { stage,           from, ask, start, version, answer }
+               [ Stage::Listener, 0,    2,   65,    111,     Heard::Started ]
+               [ Stage::Listener, 0,    2,   65,    110,     Heard::Dropped(7) ]
+               [ Stage::Listener, 0,    5,   65,    110,     Heard::Dropped(7) ]
+               [ Stage::Listener, 0,    5,   65,    111,     Heard::Dropped(8) ]
+               [ Stage::Listener, 0,    2,   0,     111,     Heard::Dropped(8) ]
+               [ Stage::Listener, 2,    2,   65,    111,     Heard::Dropped(6) ]
+               [ Stage::Listener, 2,    5,   65,    110,     Heard::Dropped(6) ]
+               [ Stage::Key,      1,    2,   65,    111,     Heard::Dropped(6) ]
+               [ Stage::Key,      2,    5,   65,    1,       Heard::Dropped(6) ]
+               [ Stage::First,    1,    2,   65,    111,     Heard::Dropped(6) ]
+               [ Stage::First,    1,    0,   0,     1,       Heard::Dropped(6) ]
+               [ Stage::Second,   0,    2,   65,    111,     Heard::Dropped(6) ]
+               [ Stage::Second,   2,    5,   65,    110,     Heard::Dropped(6) ]
+    };
+    for row in rows {
         for flags in [SETUP, SETUP + KILL, SETUP + EXIT] {
-            let packet = (flags, numbers, [].as_slice());
-            answers(rt, rt.alloc(), (stage, from), packet, answer);
+            let packet = (flags, (row.ask, row.start, row.version), [].as_slice());
+            answers(rt, rt.alloc(), (row.stage, row.from), packet, row.answer);
         }
     }
 }
@@ -125,91 +146,30 @@ fn set_up_is_for_listeners(rt: HostRuntime) {
 #[test]
 fn before_the_game_nothing_is_taken(rt: HostRuntime) {
     let rt = &rt;
-    let rows: [(Stage, u8, u8, (u8, u8, u8), Heard); 15] = [
-        (Stage::Listener, 0, 0, (0, 0, 0), Heard::Dropped(13)),
-        (Stage::Listener, 0, 0, (0, 0, 2), Heard::Dropped(13)),
-        (Stage::Listener, 2, KILL, (0, 0, 2), Heard::Dropped(13)),
-        (Stage::Listener, 2, EXIT, (0, 0, 2), Heard::Dropped(13)),
-        (Stage::Key, 2, 0, (0, 0, 1), Heard::Dropped(5)),
-        (Stage::Key, 2, KILL, (0, 0, 0x82), Heard::Dropped(5)),
-        (Stage::Key, 2, EXIT, (0, 0, 0), Heard::Dropped(5)),
-        (Stage::Key, 2, KILL, (0, 0, 2), Heard::Dropped(9)),
-        (Stage::Key, 1, KILL + EXIT, (0, 0, 1), Heard::Dropped(9)),
-        (Stage::Key, 1, 0, (0, 0, 1), Heard::Noted),
-        (Stage::Key, 2, 0, (0, 0, 2), Heard::Noted),
-        (Stage::Key, 2, EXIT, (0, 0, 2), Heard::Noted),
-        (Stage::Key, 2, EXIT + RETRANSMIT, (9, 255, 2), Heard::Noted),
-        (Stage::Key, 2, 0, (0, 255, 2), Heard::Noted),
-        (Stage::Key, 1, RETRANSMIT, (200, 100, 1), Heard::Noted),
-    ];
-    for (stage, from, flags, numbers, answer) in rows {
-        let packet = (flags, numbers, [STOP].as_slice());
-        answers(rt, rt.alloc(), (stage, from), packet, answer);
-    }
-}
-
-/// A packet of player 2, as two nodes that play and have heard nothing answer it.
-fn both_answer(
-    rt: &impl Abort,
-    alloc: Global,
-    packet: (u8, (u8, u8, u8), &[TicCmd]),
-    answer: Heard,
-) {
-    answers(rt, alloc, (Stage::First, 2), packet, answer);
-    answers(rt, alloc, (Stage::Second, 2), packet, answer);
-}
-
-#[test]
-fn a_playing_node_hears_who_leaves(rt: HostRuntime) {
-    let rt = &rt;
-    let (stop, one_stop) = ([STOP; 12], [STOP]);
-    let (still, one, three) = ([STILL; 12], [STILL], [STILL; 3]);
-    let rows: [(u8, (u8, u8, u8), &[TicCmd], Heard); 11] = [
-        (EXIT, (0, 0, 1), &[], Heard::Dropped(5)),
-        (EXIT, (0, 0, 2), &[], Heard::Left),
-        (EXIT, (0, 0, 2), &three, Heard::Left),
-        (EXIT + RETRANSMIT, (77, 0, 2), &still, Heard::Left),
-        (EXIT, (0, 12, 2), &[], Heard::Gap),
-        (EXIT, (0, 1, 2), &one, Heard::Gap),
-        (EXIT + KILL, (0, 0, 2), &[], Heard::Dropped(9)),
-        (EXIT + RETRANSMIT, (9, 255, 2), &stop, Heard::Dropped(10)),
-        (EXIT, (0, 0, 2), &one_stop, Heard::Dropped(11)),
-        (EXIT, (0, 13, 2), &[], Heard::Dropped(12)),
-        (KILL, (0, 0, 2), &[], Heard::Dropped(9)),
-    ];
-    for (flags, numbers, commands, answer) in rows {
-        both_answer(rt, rt.alloc(), (flags, numbers, commands), answer);
-    }
-}
-
-#[test]
-fn a_playing_node_takes_what_comes_next(rt: HostRuntime) {
-    let rt = &rt;
-    let (stop, one_stop) = ([STOP; 12], [STOP]);
-    let (still, one, three, eleven) = ([STILL; 12], [STILL], [STILL; 3], [STILL; 11]);
-    let rows: [(u8, (u8, u8, u8), &[TicCmd], Heard); 20] = [
-        (0, (0, 0, 0), &[], Heard::Dropped(5)),
-        (0, (0, 0, 1), &[], Heard::Dropped(5)),
-        (0, (0, 0, 0x82), &[], Heard::Dropped(5)),
-        (KILL, (0, 0, 1), &[], Heard::Dropped(5)),
-        (KILL + RETRANSMIT, (0, 255, 2), &stop, Heard::Dropped(9)),
-        (0, (0, 255, 2), &[], Heard::Dropped(10)),
-        (RETRANSMIT, (0, 65, 2), &stop, Heard::Dropped(10)),
-        (0, (0, 0, 2), &one_stop, Heard::Dropped(11)),
-        (0, (0, 64, 2), &stop, Heard::Dropped(11)),
-        (0, (0, 1, 2), &still, Heard::Dropped(12)),
-        (0, (0, 13, 2), &[], Heard::Dropped(12)),
-        (0, (0, 64, 2), &[], Heard::Dropped(12)),
-        (0, (0, 0, 2), &[], Heard::Stale),
-        (RETRANSMIT, (0, 0, 2), &[], Heard::Stale),
-        (0, (0, 1, 2), &[], Heard::Gap),
-        (0, (0, 12, 2), &[], Heard::Gap),
-        (0, (0, 1, 2), &eleven, Heard::Gap),
-        (0, (0, 0, 2), &one, Heard::Taken(1)),
-        (0, (0, 0, 2), &still, Heard::Taken(12)),
-        (RETRANSMIT, (77, 0, 2), &three, Heard::Taken(3)),
-    ];
-    for (flags, numbers, commands, answer) in rows {
-        both_answer(rt, rt.alloc(), (flags, numbers, commands), answer);
+    let rows = rows! {
+        Early { stage,           from, flags,             ask, start, player, answer }
+              [ Stage::Listener, 0,    0,                 0,   0,     0,      Heard::Dropped(13) ]
+              [ Stage::Listener, 0,    0,                 0,   0,     2,      Heard::Dropped(13) ]
+              [ Stage::Listener, 2,    KILL,              0,   0,     2,      Heard::Dropped(13) ]
+              [ Stage::Listener, 2,    EXIT,              0,   0,     2,      Heard::Dropped(13) ]
+              [ Stage::Key,      2,    0,                 0,   0,     1,      Heard::Dropped(5) ]
+              [ Stage::Key,      2,    KILL,              0,   0,     0x82,   Heard::Dropped(5) ]
+              [ Stage::Key,      2,    EXIT,              0,   0,     0,      Heard::Dropped(5) ]
+              [ Stage::Key,      2,    KILL,              0,   0,     2,      Heard::Dropped(9) ]
+              [ Stage::Key,      1,    KILL + EXIT,       0,   0,     1,      Heard::Dropped(9) ]
+              [ Stage::Key,      1,    0,                 0,   0,     1,      Heard::Noted ]
+              [ Stage::Key,      2,    0,                 0,   0,     2,      Heard::Noted ]
+              [ Stage::Key,      2,    EXIT,              0,   0,     2,      Heard::Noted ]
+              [ Stage::Key,      2,    EXIT + RETRANSMIT, 9,   255,   2,      Heard::Noted ]
+              [ Stage::Key,      2,    0,                 0,   255,   2,      Heard::Noted ]
+              [ Stage::Key,      1,    RETRANSMIT,        200, 100,   1,      Heard::Noted ]
+    };
+    for row in rows {
+        let packet = (
+            row.flags,
+            (row.ask, row.start, row.player),
+            [STOP].as_slice(),
+        );
+        answers(rt, rt.alloc(), (row.stage, row.from), packet, row.answer);
     }
 }

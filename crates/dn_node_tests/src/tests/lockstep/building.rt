@@ -6,6 +6,7 @@ use super::{
 };
 use crate::tests::{STRAFE, built};
 use dn_lockstep::{Heard, Lockstep, MOST_AHEAD, Made, Ran};
+use dn_shared_tests::{holds, must, same};
 use dn_tic::{Command, Move, TicCmd};
 use std::alloc::Global;
 use std::process::Abort;

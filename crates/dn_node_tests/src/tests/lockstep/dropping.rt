@@ -6,6 +6,7 @@ use arrayvec::ArrayVec;
 use dn_lockstep::{Aim, Heard, Lockstep, Phase};
 use dn_packet::{EXIT, KILL, RETRANSMIT, SETUP};
 use dn_setup::Settings;
+use dn_shared_tests::{must, rows, same};
 use dn_tic::TicCmd;
 use std::alloc::Global;
 use std::process::Abort;
@@ -60,31 +61,58 @@ fn refuses(
     );
 }
 
+/// A packet with no commands that a node which does not play drops, and the drop's number.
+#[derive(Drop)]
+struct Early {
+    stage: Stage,
+    from: u8,
+    flags: u8,
+    ask: u8,
+    start: u8,
+    player: u8,
+    number: u8,
+}
+
+/// A packet that a node which plays drops, and the drop's number.
+#[derive(Drop)]
+struct Playing<'a> {
+    from: u8,
+    flags: u8,
+    ask: u8,
+    start: u8,
+    player: u8,
+    commands: &'a [TicCmd],
+    number: u8,
+}
+
 #[test]
 fn before_the_game_nothing_is_changed(rt: HostRuntime) {
     let rt = &rt;
-    let rows: [(Stage, u8, u8, (u8, u8, u8), u8); 16] = [
-        (Stage::Listener, 1, SETUP, (2, 65, 111), 5),
-        (Stage::Listener, 0, SETUP, (2, 65, 110), 7),
-        (Stage::Listener, 0, SETUP, (5, 65, 111), 8),
-        (Stage::Listener, 2, SETUP, (2, 65, 111), 6),
-        (Stage::Listener, 0, 0, (0, 0, 0), 13),
-        (Stage::Key, 1, SETUP, (2, 65, 111), 6),
-        (Stage::Key, 1, KILL, (0, 0, 1), 9),
-        (Stage::Key, 1, 0, (0, 0, 2), 5),
-        (Stage::Quitter, 0, SETUP, (2, 65, 111), 13),
-        (Stage::Leaver, 0, EXIT, (0, 0, 0), 13),
-        (Stage::Leaver, 0, EXIT + RETRANSMIT, (0, 255, 0), 13),
-        (Stage::Leaver, 0, SETUP, (2, 65, 111), 6),
-        (Stage::Leaver, 0, KILL + EXIT, (0, 0, 0), 9),
-        (Stage::Leaver, 0, RETRANSMIT, (0, 0, 2), 5),
-        (Stage::Leaver, 0, RETRANSMIT, (0, 255, 0), 10),
-        (Stage::Leaver, 3, 0, (0, 0, 3), 5),
-    ];
-    for (stage, from, flags, numbers, number) in rows {
-        let mut node = must!(rt; at(rt.alloc(), stage));
-        refuses(rt, &mut node, from, (flags, numbers, &[]), number);
-        refuses(rt, &mut node, from, (flags, numbers, &[]), number);
+    let rows = rows! {
+        Early { stage,           from, flags,             ask, start, player, number }
+              [ Stage::Listener, 1,    SETUP,             2,   65,    111,    5 ]
+              [ Stage::Listener, 0,    SETUP,             2,   65,    110,    7 ]
+              [ Stage::Listener, 0,    SETUP,             5,   65,    111,    8 ]
+              [ Stage::Listener, 2,    SETUP,             2,   65,    111,    6 ]
+              [ Stage::Listener, 0,    0,                 0,   0,     0,      13 ]
+              [ Stage::Key,      1,    SETUP,             2,   65,    111,    6 ]
+              [ Stage::Key,      1,    KILL,              0,   0,     1,      9 ]
+              [ Stage::Key,      1,    0,                 0,   0,     2,      5 ]
+              [ Stage::Quitter,  0,    SETUP,             2,   65,    111,    13 ]
+              [ Stage::Leaver,   0,    EXIT,              0,   0,     0,      13 ]
+              [ Stage::Leaver,   0,    EXIT + RETRANSMIT, 0,   255,   0,      13 ]
+              [ Stage::Leaver,   0,    SETUP,             2,   65,    111,    6 ]
+              [ Stage::Leaver,   0,    KILL + EXIT,       0,   0,     0,      9 ]
+              [ Stage::Leaver,   0,    RETRANSMIT,        0,   0,     2,      5 ]
+              [ Stage::Leaver,   0,    RETRANSMIT,        0,   255,   0,      10 ]
+              [ Stage::Leaver,   3,    0,                 0,   0,     3,      5 ]
+    };
+    for row in rows {
+        let mut node = must!(rt; at(rt.alloc(), row.stage));
+        let packet = (row.flags, (row.ask, row.start, row.player), [].as_slice());
+        for _ in 0..2 {
+            refuses(rt, &mut node, row.from, packet, row.number);
+        }
     }
 }
 
@@ -107,27 +135,29 @@ fn in_the_game_nothing_is_changed(rt: HostRuntime) {
     let rt = &rt;
     let stop = [STOP; 1];
     let still = [STILL; 12];
-    let rows: [(u8, u8, (u8, u8, u8), &[TicCmd], u8); 14] = [
-        (0, 0, (0, 4, 0), &[], 5),
-        (2, 0, (0, 4, 2), &[], 5),
-        (1, 0, (0, 4, 0), &[], 5),
-        (1, EXIT, (0, 4, 0x81), &[], 5),
-        (1, SETUP, (2, 65, 111), &[], 6),
-        (1, KILL, (0, 4, 1), &[], 9),
-        (1, RETRANSMIT, (0, 200, 1), &[], 10),
-        (1, RETRANSMIT, (0, 4, 1), &stop, 11),
-        (1, RETRANSMIT, (0, 5, 1), &still, 12),
+    let rows = rows! {
+        Playing { from, flags,             ask, start, player, commands, number }
+                [ 0,    0,                 0,   4,     0,      &[],      5 ]
+                [ 2,    0,                 0,   4,     2,      &[],      5 ]
+                [ 1,    0,                 0,   4,     0,      &[],      5 ]
+                [ 1,    EXIT,              0,   4,     0x81,   &[],      5 ]
+                [ 1,    SETUP,             2,   65,    111,    &[],      6 ]
+                [ 1,    KILL,              0,   4,     1,      &[],      9 ]
+                [ 1,    RETRANSMIT,        0,   200,   1,      &[],      10 ]
+                [ 1,    RETRANSMIT,        0,   4,     1,      &stop,    11 ]
+                [ 1,    RETRANSMIT,        0,   5,     1,      &still,   12 ]
         // packets that would tell an end
-        (1, EXIT + KILL, (0, 4, 1), &[], 9),
-        (1, EXIT, (0, 200, 1), &[], 10),
-        (1, EXIT, (0, 4, 1), &stop, 11),
-        (1, EXIT, (0, 17, 1), &[], 12),
-        (1, EXIT + RETRANSMIT, (0, 3, 1), &[], 14),
-    ];
+                [ 1,    EXIT + KILL,       0,   4,     1,      &[],      9 ]
+                [ 1,    EXIT,              0,   200,   1,      &[],      10 ]
+                [ 1,    EXIT,              0,   4,     1,      &stop,    11 ]
+                [ 1,    EXIT,              0,   17,    1,      &[],      12 ]
+                [ 1,    EXIT + RETRANSMIT, 0,   3,     1,      &[],      14 ]
+    };
     let (mut key, mut other) = must!(rt; pair(rt.alloc(), false));
     tics(&mut key, &mut other, 4, IDLE);
-    for (from, flags, numbers, commands, number) in rows {
-        refuses(rt, &mut key, from, (flags, numbers, commands), number);
+    for row in rows {
+        let packet = (row.flags, (row.ask, row.start, row.player), row.commands);
+        refuses(rt, &mut key, row.from, packet, row.number);
     }
     // a request that was dropped is not met: nothing goes out again
     let packet = must!(rt; given(&mut key, 1));

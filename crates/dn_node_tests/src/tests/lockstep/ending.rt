@@ -4,6 +4,7 @@ use super::stages::{Stage, at};
 use super::{IDLE, NO_KEYS, STILL, build, datagram, hears, pair, quit, received, run, tics};
 use dn_lockstep::{Cause, Heard, Lockstep, Made, Phase, Ran};
 use dn_packet::{EXIT, SETUP};
+use dn_shared_tests::{holds, must, same};
 use std::process::Abort;
 
 /// A node that ended before the game says nothing.

@@ -1,11 +1,22 @@
 //! Tests of nodes that have left: what they hear, and what they give.
 
 use super::stages::{STOP, Stage, at};
-use super::{IDLE, NO_KEYS, STILL, build, hears, pair, pass, quit, received, tics};
+use super::{Exchange, IDLE, NO_KEYS, STILL, build, hears, pair, pass, quit, received, tics};
 use dn_lockstep::{Aim, Heard, Lockstep, Phase};
 use dn_packet::{EXIT, KILL, RETRANSMIT, SETUP};
+use dn_shared_tests::{holds, must, rows, same};
 use dn_tic::TicCmd;
 use std::process::Abort;
+
+/// A packet of player 1 with so many commands, what a node answers, and which end of player 1 it then knows.
+#[derive(Drop)]
+struct Ending {
+    flags: u8,
+    start: u8,
+    count: usize,
+    answer: Heard,
+    end: Option<u32>,
+}
 
 /// What a node that has left makes of packets of player 2: of one who plays on it hears the request alone.
 #[test]
@@ -13,28 +24,29 @@ fn a_leaver_hears_who_plays_on(rt: HostRuntime) {
     let rt = &rt;
     let stop = [STOP; 12];
     let still = [STILL; 12];
-    let rows: [(u8, (u8, u8, u8), &[TicCmd], Heard); 16] = [
-        (SETUP, (2, 65, 111), &[], Heard::Dropped(6)),
-        (SETUP, (5, 65, 110), &[], Heard::Dropped(6)),
-        (0, (0, 0, 0), &[], Heard::Dropped(5)),
-        (KILL + EXIT, (0, 0, 1), &[], Heard::Dropped(5)),
-        (KILL, (0, 0, 2), &[], Heard::Dropped(9)),
-        (KILL + EXIT, (0, 255, 2), &stop, Heard::Dropped(9)),
-        (EXIT, (0, 0, 2), &[], Heard::Dropped(13)),
-        (EXIT + RETRANSMIT, (0, 255, 2), &stop, Heard::Dropped(13)),
-        (0, (0, 255, 2), &[], Heard::Dropped(10)),
-        (RETRANSMIT, (0, 65, 2), &stop, Heard::Dropped(10)),
-        (RETRANSMIT, (0, 64, 2), &stop, Heard::Dropped(11)),
-        (0, (0, 0, 2), &[], Heard::Noted),
-        (0, (0, 0, 2), &still, Heard::Noted),
-        (0, (0, 64, 2), &still, Heard::Noted),
-        (RETRANSMIT, (0, 0, 2), &[], Heard::Noted),
-        (RETRANSMIT, (77, 3, 2), &still, Heard::Noted),
-    ];
-    for (flags, numbers, commands, answer) in rows {
+    let rows = rows! {
+        Exchange { flags,             ask, start, player, commands, answer }
+                 [ SETUP,             2,   65,    111,    &[],      Heard::Dropped(6) ]
+                 [ SETUP,             5,   65,    110,    &[],      Heard::Dropped(6) ]
+                 [ 0,                 0,   0,     0,      &[],      Heard::Dropped(5) ]
+                 [ KILL + EXIT,       0,   0,     1,      &[],      Heard::Dropped(5) ]
+                 [ KILL,              0,   0,     2,      &[],      Heard::Dropped(9) ]
+                 [ KILL + EXIT,       0,   255,   2,      &stop,    Heard::Dropped(9) ]
+                 [ EXIT,              0,   0,     2,      &[],      Heard::Dropped(13) ]
+                 [ EXIT + RETRANSMIT, 0,   255,   2,      &stop,    Heard::Dropped(13) ]
+                 [ 0,                 0,   255,   2,      &[],      Heard::Dropped(10) ]
+                 [ RETRANSMIT,        0,   65,    2,      &stop,    Heard::Dropped(10) ]
+                 [ RETRANSMIT,        0,   64,    2,      &stop,    Heard::Dropped(11) ]
+                 [ 0,                 0,   0,     2,      &[],      Heard::Noted ]
+                 [ 0,                 0,   0,     2,      &still,   Heard::Noted ]
+                 [ 0,                 0,   64,    2,      &still,   Heard::Noted ]
+                 [ RETRANSMIT,        0,   0,     2,      &[],      Heard::Noted ]
+                 [ RETRANSMIT,        77,  3,     2,      &still,   Heard::Noted ]
+    };
+    for row in rows {
         let mut node = must!(rt; at(rt.alloc(), Stage::Leaver));
-        hears(rt, &mut node, 2, (flags, numbers, commands), answer);
-        same!(rt; (node.got(2), node.end(2)), (Some(0), None), (flags, numbers));
+        hears(rt, &mut node, 2, row.packet(), row.answer);
+        same!(rt; (node.got(2), node.end(2)), (Some(0), None), (row.flags, row.start));
     }
 }
 
@@ -129,30 +141,37 @@ fn an_end_stays(rt: HostRuntime) {
         (0, (0, 0, 1), &[STILL; 5]),
         Heard::Taken(5),
     );
-    let rows: [(u8, u8, usize, Heard, Option<u32>); 15] = [
+    let rows = rows! {
+        Ending { flags,       start, count, answer,             end }
         // before what is there
-        (EXIT, 4, 0, Heard::Dropped(14), None),
-        (EXIT, 2, 2, Heard::Dropped(14), None),
-        (0, 4, 0, Heard::Stale, None),
-        (EXIT + KILL, 5, 0, Heard::Dropped(9), None),
+               [ EXIT,        4,     0,     Heard::Dropped(14), None ]
+               [ EXIT,        2,     2,     Heard::Dropped(14), None ]
+               [ 0,           4,     0,     Heard::Stale,       None ]
+               [ EXIT + KILL, 5,     0,     Heard::Dropped(9),  None ]
         // the end 7, of which two commands are missing
-        (EXIT, 7, 0, Heard::Gap, Some(7)),
-        (EXIT, 6, 0, Heard::Dropped(14), Some(7)),
-        (EXIT, 8, 0, Heard::Dropped(14), Some(7)),
-        (0, 8, 0, Heard::Dropped(14), Some(7)),
-        (0, 5, 3, Heard::Dropped(14), Some(7)),
-        (0, 6, 1, Heard::Gap, Some(7)),
-        (0, 5, 1, Heard::Taken(1), Some(7)),
-        (EXIT, 5, 2, Heard::Left, Some(7)),
-        (EXIT, 7, 0, Heard::Left, Some(7)),
-        (0, 5, 2, Heard::Stale, Some(7)),
-        (EXIT, 6, 0, Heard::Dropped(14), Some(7)),
-    ];
-    for (flags, start, count, answer, end) in rows {
+               [ EXIT,        7,     0,     Heard::Gap,         Some(7) ]
+               [ EXIT,        6,     0,     Heard::Dropped(14), Some(7) ]
+               [ EXIT,        8,     0,     Heard::Dropped(14), Some(7) ]
+               [ 0,           8,     0,     Heard::Dropped(14), Some(7) ]
+               [ 0,           5,     3,     Heard::Dropped(14), Some(7) ]
+               [ 0,           6,     1,     Heard::Gap,         Some(7) ]
+               [ 0,           5,     1,     Heard::Taken(1),    Some(7) ]
+               [ EXIT,        5,     2,     Heard::Left,        Some(7) ]
+               [ EXIT,        7,     0,     Heard::Left,        Some(7) ]
+               [ 0,           5,     2,     Heard::Stale,       Some(7) ]
+               [ EXIT,        6,     0,     Heard::Dropped(14), Some(7) ]
+    };
+    for row in rows {
         let still = [STILL; 3];
-        let commands = must!(rt; still.get(..count).ok_or("too many"));
-        hears(rt, &mut key, 1, (flags, (0, start, 1), commands), answer);
-        same!(rt; key.end(1), end, (flags, start, count));
+        let commands = must!(rt; still.get(..row.count).ok_or("too many"));
+        hears(
+            rt,
+            &mut key,
+            1,
+            (row.flags, (0, row.start, 1), commands),
+            row.answer,
+        );
+        same!(rt; key.end(1), row.end, (row.flags, row.start, row.count));
     }
     same!(rt; (key.got(1), key.phase()), (Some(7), Phase::Playing));
 }

@@ -3,6 +3,7 @@
 use super::{FORWARD, IDLE, NO_KEYS, SPEED, build, given, pair, pass, quit, received, tics};
 use dn_lockstep::{Cause, Heard, Lockstep, Phase, Ran};
 use dn_packet::decode;
+use dn_shared_tests::{holds, must, same};
 use std::alloc::Global;
 use std::process::Abort;
 use std::test::Fail;

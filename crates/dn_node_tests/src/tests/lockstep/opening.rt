@@ -1,9 +1,9 @@
 //! Tests of how a node is made, and of why there is none.
 
 use super::{LIMIT, build, choice, run};
-use crate::tests::finds_no_memory;
 use dn_lockstep::{Config, Lockstep, Made, NodeFault, Phase, Ran, is_game};
 use dn_setup::Settings;
+use dn_shared_tests::{finds_no_memory, holds, must, same};
 use std::test::Fail;
 
 fn config(players: u8, me: u8, limit: u32, settings: Option<Settings>) -> Config {

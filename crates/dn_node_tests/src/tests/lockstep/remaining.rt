@@ -5,6 +5,7 @@ use super::stages::{Stage, at};
 use super::{LIMIT, NO_KEYS, STILL, build, choice, datagram, hears, pair, pass, received, run};
 use dn_lockstep::{Aim, Config, Heard, Lockstep, Phase, Ran, Settled};
 use dn_packet::RETRANSMIT;
+use dn_shared_tests::{holds, must, same};
 use std::alloc::Global;
 use std::process::Abort;
 use std::test::Fail;

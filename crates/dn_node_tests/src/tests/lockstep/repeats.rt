@@ -3,6 +3,7 @@
 use super::requests::sends;
 use super::{LIMIT, NO_KEYS, STILL, build, hears, opened, pair, run};
 use dn_lockstep::{Heard, Made};
+use dn_shared_tests::{must, same};
 
 #[test]
 fn a_packet_may_repeat_the_last_command(rt: HostRuntime) {

@@ -3,6 +3,7 @@
 use super::{IDLE, NO_KEYS, STILL, build, datagram, given, hears, pair, pass, received, tics};
 use dn_lockstep::{Aim, Heard, Lockstep};
 use dn_packet::{EXIT, RETRANSMIT};
+use dn_shared_tests::{must, same};
 use dn_tic::TicCmd;
 use std::alloc::Global;
 use std::process::Abort;

@@ -4,6 +4,7 @@ use super::stages::{STOP, Stage, at};
 use super::{STILL, datagram, pair};
 use dn_lockstep::{Lockstep, Settled};
 use dn_packet::EXIT;
+use dn_shared_tests::{must, rows, same};
 use dn_tic::TicCmd;
 use std::alloc::Global;
 use std::process::Abort;
@@ -34,44 +35,59 @@ pub(super) fn with_five(alloc: Global, known: Option<u8>) -> Result<Lockstep, Fa
     Ok(key)
 }
 
+/// An end of a player that a node is told, with commands from a tic on; the end that it knew; and its answer.
+#[derive(Drop)]
+struct Ending<'a> {
+    player: u8,
+    known: Option<u8>,
+    end: u32,
+    first: u32,
+    commands: &'a [TicCmd],
+    answer: Settled,
+}
+
 /// Of several reasons the first is told, and what is refused changes nothing.
 #[test]
 fn each_refusal_has_its_reason(rt: HostRuntime) {
     let rt = &rt;
     let stops = [STILL, STILL, STOP];
     let still = [STILL; 12];
-    let rows: [(u8, Option<u8>, (u32, u32), &[TicCmd], Settled); 20] = [
+    let rows = rows! {
+        Ending { player, known,   end,      first, commands,    answer }
         // itself, and numbers of nobody
-        (0, None, (5, 5), &[], Settled::NotAPlayer),
-        (2, None, (0, 9), &stops, Settled::NotAPlayer),
-        (255, None, (20, 0), &[], Settled::NotAPlayer),
+               [ 0,      None,    5,        5,     &[],         Settled::NotAPlayer ]
+               [ 2,      None,    0,        9,     &stops,      Settled::NotAPlayer ]
+               [ 255,    None,    20,       0,     &[],         Settled::NotAPlayer ]
         // the first that is missing is not there, or the last
-        (1, None, (6, 6), &still, Settled::Gap),
-        (1, None, (6, 5), &[], Settled::Gap),
-        (1, None, (9, 5), &stops, Settled::Gap),
-        (1, None, (9, 0), &still[..8], Settled::Gap),
-        (1, None, (13, 6), &still, Settled::Gap),
-        (1, Some(7), (8, 6), &still, Settled::Gap),
-        (1, None, (u32::MAX, 0), &still, Settled::Gap),
+               [ 1,      None,    6,        6,     &still,      Settled::Gap ]
+               [ 1,      None,    6,        5,     &[],         Settled::Gap ]
+               [ 1,      None,    9,        5,     &stops,      Settled::Gap ]
+               [ 1,      None,    9,        0,     &still[..8], Settled::Gap ]
+               [ 1,      None,    13,       6,     &still,      Settled::Gap ]
+               [ 1,      Some(7), 8,        6,     &still,      Settled::Gap ]
+               [ 1,      None,    u32::MAX, 0,     &still,      Settled::Gap ]
         // an end before what is there
-        (1, None, (4, 0), &still, Settled::Behind),
-        (1, None, (4, 9), &stops, Settled::Behind),
-        (1, Some(7), (0, 0), &[], Settled::Behind),
+               [ 1,      None,    4,        0,     &still,      Settled::Behind ]
+               [ 1,      None,    4,        9,     &stops,      Settled::Behind ]
+               [ 1,      Some(7), 0,        0,     &[],         Settled::Behind ]
         // more than are kept
-        (1, None, (13, 1), &still, Settled::Overrun),
-        (1, Some(7), (13, 5), &[STOP; 8], Settled::Overrun),
+               [ 1,      None,    13,       1,     &still,      Settled::Overrun ]
+               [ 1,      Some(7), 13,       5,     &[STOP; 8],  Settled::Overrun ]
         // a missing command that would end a demo
-        (1, None, (8, 5), &stops, Settled::Stopper),
-        (1, Some(7), (6, 3), &stops, Settled::Stopper),
+               [ 1,      None,    8,        5,     &stops,      Settled::Stopper ]
+               [ 1,      Some(7), 6,        3,     &stops,      Settled::Stopper ]
         // an earlier end is known
-        (1, Some(7), (8, 0), &still, Settled::OtherEnd),
-        (1, Some(7), (12, 0), &still, Settled::OtherEnd),
-        (1, Some(5), (6, 5), &still, Settled::OtherEnd),
-    ];
-    for (player, known, tics, commands, answer) in rows {
-        let mut key = must!(rt; with_five(rt.alloc(), known));
-        same!(rt; settle(&mut key, player, tics, commands), answer, (player, known, tics));
-        same!(rt; (key.got(1), key.end(1)), (Some(5), known.map(u32::from)), (player, known, tics));
+               [ 1,      Some(7), 8,        0,     &still,      Settled::OtherEnd ]
+               [ 1,      Some(7), 12,       0,     &still,      Settled::OtherEnd ]
+               [ 1,      Some(5), 6,        5,     &still,      Settled::OtherEnd ]
+    };
+    for row in rows {
+        let told = (row.player, row.known, row.end, row.first);
+        let known = row.known.map(u32::from);
+        let mut key = must!(rt; with_five(rt.alloc(), row.known));
+        let answer = settle(&mut key, row.player, (row.end, row.first), row.commands);
+        same!(rt; answer, row.answer, told);
+        same!(rt; (key.got(1), key.end(1)), (Some(5), known), told);
     }
 }
 

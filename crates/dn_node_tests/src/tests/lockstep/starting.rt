@@ -4,6 +4,7 @@ use super::{LIMIT, NO_KEYS, STILL, build, choice, given, hears, opened, pass, re
 use dn_lockstep::{Heard, Lockstep, Made, Phase, Ran};
 use dn_packet::{EXIT, KILL, RETRANSMIT, SETUP};
 use dn_setup::Settings;
+use dn_shared_tests::{must, same};
 use std::alloc::Global;
 use std::process::Abort;
 use std::test::Fail;

@@ -3,6 +3,7 @@
 use super::stages::{Stage, at};
 use super::{IDLE, NO_KEYS, STILL, build, datagram, hears, pair, pass, received, run, tics};
 use dn_lockstep::{Heard, Lockstep, Made, Phase, Ran};
+use dn_shared_tests::{must, same};
 use dn_tic::TicCmd;
 use std::process::Abort;
 

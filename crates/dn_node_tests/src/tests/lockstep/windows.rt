@@ -1,31 +1,21 @@
 //! Tests of locksteps in other windows than that of 1997.
 
-use super::{LIMIT, NO_KEYS, build, choice, given, pass, quit, received, run};
-use crate::tests::finds_no_memory;
+use super::{LIMIT, NO_KEYS, build, config_of, given, pass, quit, received, run};
 use arrayvec::ArrayVec;
-use dn_lockstep::{Config, Heard, Lockstep, Made, NodeFault, Phase, Ran};
+use dn_lockstep::{Heard, Lockstep, Made, NodeFault, Phase, Ran};
+use dn_shared_tests::{finds_no_memory, must, same};
 use std::alloc::Global;
 use std::process::Abort;
 use std::test::Fail;
 
 /// A lockstep in this window. Without a contract, as `build` is.
 fn within(alloc: Global, me: u8, ahead: u8) -> Result<Lockstep, Fail> {
-    Ok(Lockstep::within(alloc, config(me, LIMIT)?, ahead)?)
-}
-
-fn config(me: u8, limit: u32) -> Result<Config, Fail> {
-    Ok(Config {
-        players: 2,
-        me,
-        extra: false,
-        limit,
-        settings: if me == 0 { Some(choice()?) } else { None },
-    })
+    Ok(Lockstep::within(alloc, config_of((2, me), false, LIMIT)?, ahead)?)
 }
 
 /// Why there is no lockstep of player 0 with this limit in this window.
 fn fault(alloc: Global, limit: u32, ahead: u8) -> Result<Option<NodeFault>, Fail> {
-    Ok(Lockstep::within(alloc, config(0, limit)?, ahead).err())
+    Ok(Lockstep::within(alloc, config_of((2, 0), false, limit)?, ahead).err())
 }
 
 /// A window that no lockstep has is named before all else, and any other changes no fault.
@@ -225,7 +215,7 @@ fn a_window_hides_delay(rt: HostRuntime) {
 #[test]
 fn refused_memory_is_told_in_a_window(rt: HostRuntime) {
     let rt = &rt;
-    match Lockstep::within(rt.alloc(), must!(rt; config(0, LIMIT)), 12) {
+    match Lockstep::within(rt.alloc(), must!(rt; config_of((2, 0), false, LIMIT)), 12) {
         Ok(node) => same!(rt; node.phase(), Phase::Gathering),
         Err(fault) => {
             same!(rt; fault, NodeFault::Memory);

@@ -1,9 +1,10 @@
 //! A lockstep with a Walk beside it plays as a node with a Walk inside.
 
-use super::{LIMIT, choice, opened};
+use super::{LIMIT, config_of, opened};
 use arrayvec::ArrayVec;
 use dn_lockstep::Lockstep;
-use dn_node::{Config, Heard, Node, Ran};
+use dn_node::{Heard, Node, Ran};
+use dn_shared_tests::{holds, must, same};
 use dn_tic::Keys;
 use dn_world::{Walk, World};
 use std::alloc::Global;
@@ -19,16 +20,8 @@ struct Beside {
 
 impl Beside {
     fn new(alloc: Global, me: u8) -> Result<Beside, Fail> {
-        let settings = if me == 0 { Some(choice()?) } else { None };
-        let config = Config {
-            players: 2,
-            me,
-            extra: false,
-            limit: LIMIT,
-            settings,
-        };
         Ok(Beside {
-            lockstep: Lockstep::new(alloc, config)?,
+            lockstep: Lockstep::new(alloc, config_of((2, me), false, LIMIT)?)?,
             walk: Walk::new(),
         })
     }

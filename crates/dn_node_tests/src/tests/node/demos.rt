@@ -4,6 +4,7 @@ use super::{FORWARD, IDLE, LEFT, RIGHT, SPEED, build, pair, pair_of, pass, quit,
 use dn_demo::{Demo, play};
 use dn_node::{Cause, Heard, Made, Node, Phase, Ran};
 use dn_packet::EXIT;
+use dn_shared_tests::{holds, must, same};
 use dn_world::Walk;
 use std::alloc::Global;
 use std::process::Abort;

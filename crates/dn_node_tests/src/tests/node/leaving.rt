@@ -3,6 +3,7 @@
 use super::{LIMIT, NO_KEYS, STILL, build, given, hears, opened, pass, quit, received, run};
 use dn_node::{Aim, Cause, Heard, Made, Node, Phase, Ran};
 use dn_packet::{EXIT, RETRANSMIT};
+use dn_shared_tests::{holds, must, same};
 use dn_world::Walk;
 use std::alloc::Global;
 use std::process::Abort;

@@ -6,6 +6,7 @@ use super::{
 };
 use dn_node::{Cause, Heard, Node, Phase, Ran};
 use dn_packet::{EXIT, decode};
+use dn_shared_tests::{holds, must, same};
 use dn_tic::TicCmd;
 use dn_world::Walk;
 use std::alloc::Global;

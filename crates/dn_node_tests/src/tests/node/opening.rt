@@ -1,9 +1,9 @@
 //! Tests of how a node is made, and of how its world begins.
 
 use super::{LIMIT, build, choice, datagram, opened, received, run};
-use crate::tests::finds_no_memory;
 use dn_node::{Config, Heard, Made, Node, NodeFault, Phase, Ran};
 use dn_packet::SETUP;
+use dn_shared_tests::{finds_no_memory, must, same};
 use dn_world::Walk;
 use std::test::Fail;
 

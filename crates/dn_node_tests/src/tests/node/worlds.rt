@@ -7,6 +7,7 @@ use super::{
 use dn_node::{Aim, Heard, Made, Node, Phase, Ran};
 use dn_packet::{KILL, RETRANSMIT};
 use dn_setup::Settings;
+use dn_shared_tests::{holds, must, same};
 use dn_world::{Belt, Walk, World};
 use std::process::Abort;
 

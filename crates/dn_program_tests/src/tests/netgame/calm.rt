@@ -2,6 +2,7 @@
 
 use super::games::{DEFAULT_LIMIT, rules};
 use super::printed::{calm, prints, storm};
+use dn_shared_tests::{must, same};
 
 /// What a storm of one event prints that four rounds follow: the first starts both nodes, in the second
 /// node 0 misses the command that came with its start, in the third it asks for it, and in the fourth

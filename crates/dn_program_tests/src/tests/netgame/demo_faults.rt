@@ -4,6 +4,7 @@ use super::demos::{TWO, TWO_LONG};
 use super::printed::{demo, prints, upgrade};
 use super::streams::Zeros;
 use super::upgrades::LEAST;
+use dn_shared_tests::same;
 
 #[test]
 fn bytes_that_are_no_demo_are_refused(rt: HostRuntime) {

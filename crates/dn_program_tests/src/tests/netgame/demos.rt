@@ -1,6 +1,7 @@
 //! Demos shown.
 
 use super::printed::{demo, prints};
+use dn_shared_tests::must;
 use std::alloc::Global;
 use std::test::Fail;
 

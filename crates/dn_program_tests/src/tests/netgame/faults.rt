@@ -15,6 +15,7 @@ use dn_netgame::{
     RunFault, run_calm, run_demo, run_rows, run_show, run_sim, run_storm, run_upgrade,
     storm_script, trace_sim, trace_storm,
 };
+use dn_shared_tests::{holds, must, same};
 use std::alloc::Global;
 use std::io::{Read, Write};
 use std::process::Abort;

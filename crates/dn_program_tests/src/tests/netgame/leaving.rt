@@ -3,6 +3,7 @@
 use super::games::DEFAULT_LIMIT;
 use super::printed::{prints, sim};
 use super::scripts::{STARTED, joined};
+use dn_shared_tests::must;
 
 /// What is played once player 1 has made two commands and both players have run a tic, and what is
 /// shown then. Each time player 1 quits first.

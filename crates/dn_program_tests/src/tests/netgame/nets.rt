@@ -5,11 +5,11 @@ ghost use Rattle.dn_line.specs.Udp.{IsBase};
 
 use super::games::{DEFAULT_LIMIT, rules};
 use super::streams::{NEVER, Sink};
-use crate::tests::finds_no_memory;
 use dn_line::{LineFault, UdpLine};
 use dn_netgame::{RunFault, run_loop, run_play};
 use dn_node::Config;
 use dn_setup::{Settings, SettingsFault};
+use dn_shared_tests::{finds_no_memory, holds, must, same};
 use std::alloc::Global;
 use std::io::Write;
 use std::net::Net;

@@ -7,6 +7,7 @@ use super::games::rules;
 use dn_game::GameConfig;
 use dn_netgame::{RunFault, run_calm, run_demo, run_rows, run_sim, run_storm, run_upgrade};
 use dn_setup::SettingsFault;
+use dn_shared_tests::same;
 use std::alloc::Global;
 use std::fmt::Debug;
 use std::io::Read;

@@ -4,6 +4,7 @@ use super::demos::{TWO, TWO_LONG, lines};
 use super::printed::{prints, rows};
 use super::streams::{NEVER, Sink, Source, WHOLE};
 use dn_netgame::{RunFault, run_rows};
+use dn_shared_tests::{holds, must, same};
 use std::alloc::Global;
 use std::test::Fail;
 

@@ -3,8 +3,8 @@
 use super::games::{DEFAULT_LIMIT, rules};
 use super::printed::{prints, sim};
 use super::streams::Zeros;
-use crate::tests::finds_no_memory;
 use dn_netgame::{RunFault, run_sim};
+use dn_shared_tests::{finds_no_memory, holds, must, same};
 
 #[test]
 fn texts_that_are_no_script_are_refused(rt: HostRuntime) {

@@ -2,6 +2,7 @@
 
 use super::games::DEFAULT_LIMIT;
 use super::printed::{prints, sim};
+use dn_shared_tests::must;
 use std::alloc::Global;
 use std::test::Fail;
 

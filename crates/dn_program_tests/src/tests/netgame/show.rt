@@ -1,6 +1,7 @@
 //! Datagrams shown.
 
 use dn_netgame::run_show;
+use dn_shared_tests::{must, same};
 
 /// One command of player 0: forward 50 and attack.
 pub(crate) const ONE: [u8; 16] = [

@@ -6,6 +6,7 @@ use super::scripts::{QUIT, QUIT_SHOWN, STARTED, joined};
 use dn_game::{Done, Event, Refusal};
 use dn_netgame::{storm_script, trace_sim, trace_storm};
 use dn_node::{Heard, Made, Ran};
+use dn_shared_tests::{holds, must, same};
 use dn_text::{push_answer, push_trace_line};
 use dn_tic::Command;
 use std::alloc::Global;
@@ -107,6 +108,7 @@ fn answers_are_told_in_words(rt: HostRuntime) {
             "dropped 13 not playing",
         ),
         (Ok(Done::Heard(Heard::Dropped(14))), "dropped 14 end"),
+        (Ok(Done::Heard(Heard::Dropped(15))), "dropped 15 given up"),
         (Ok(Done::Heard(Heard::Dropped(255))), "dropped 255"),
         (Ok(Done::Ran(Ran::Waiting(1))), "waiting 1"),
         (Ok(Done::Ran(Ran::DemoFull)), "demo full"),

@@ -1,8 +1,15 @@
 //! Runs that end early: the line of the fault, and the exit status.
 
 use super::ONE;
-use super::host::Host;
+use super::host::{Called, Host};
+use dn_shared_tests::{holds, same};
 use std::process::Abort;
+
+/// A call breaks off, and prints this.
+fn breaks_off(rt: &impl Abort, called: &Called, line: &str, text: &[u8]) {
+    same!(rt; called.status, 3, line);
+    same!(rt; called.printed.as_slice(), text, line);
+}
 
 #[test]
 fn read_faults_are_told(rt: HostRuntime) {
@@ -16,9 +23,7 @@ fn read_faults_are_told(rt: HostRuntime) {
     ] {
         let mut host = Host::new(rt, line.as_bytes(), &ONE);
         host.mute = true;
-        let called = host.call();
-        same!(rt; called.status, 3, line);
-        same!(rt; called.printed.as_slice(), b"read fault\n".as_slice(), line);
+        breaks_off(rt, &host.call(), line, b"read fault\n");
     }
 }
 
@@ -41,9 +46,7 @@ fn write_faults_are_told(rt: HostRuntime) {
         let mut host = Host::new(rt, line.as_bytes(), &ONE);
         host.jams.set(1);
         host.sockets = 2;
-        let called = host.call();
-        same!(rt; called.status, 3, line);
-        same!(rt; called.printed.as_slice(), b"write fault\n".as_slice(), line);
+        breaks_off(rt, &host.call(), line, b"write fault\n");
     }
 }
 

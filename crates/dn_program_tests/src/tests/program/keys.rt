@@ -2,6 +2,7 @@
 //! address or no socket.
 
 use super::host::{Called, Host};
+use dn_shared_tests::{holds, must, same};
 use std::net::Net;
 use std::process::Abort;
 use std::random::RandomSource;

@@ -1,6 +1,7 @@
 //! Command lines that cannot be read: clap's words on standard error, and the exit status 2.
 
 use super::host::Host;
+use dn_shared_tests::{holds, must, same};
 use std::net::Net;
 use std::process::Abort;
 use std::random::RandomSource;

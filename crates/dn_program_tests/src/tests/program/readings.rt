@@ -3,6 +3,7 @@
 use dn_game::GameConfig;
 use dn_options::Pace;
 use dn_program::matches_of;
+use dn_shared_tests::{holds, must, same};
 use std::alloc::Global;
 use std::process::Abort;
 use std::test::Fail;

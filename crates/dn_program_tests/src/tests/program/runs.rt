@@ -2,6 +2,7 @@
 
 use super::host::Host;
 use super::{ONE, TWO};
+use dn_shared_tests::{holds, must, same};
 use std::net::Net;
 use std::process::Abort;
 use std::random::RandomSource;

@@ -1,7 +1,7 @@
 //! Tests of bad lines, long texts and refused memory.
 
-use crate::tests::finds_no_memory;
 use dn_game::{ScriptFault, read_script};
+use dn_shared_tests::{finds_no_memory, must, same};
 use std::alloc::Global;
 
 /// Bad lines, with a bar between each two.

@@ -2,6 +2,7 @@
 
 use dn_game::read_script;
 use dn_machine::Event;
+use dn_shared_tests::{must, same};
 use dn_tic::Keys;
 use std::alloc::Global;
 use std::process::Abort;

@@ -1,0 +1,60 @@
+//! What the crates of tests share: comparing two values, confirming a fact, and taking what a call has to give,
+//! each told of by name where it fails. What they call stands in the module `checks` of each such crate.
+//!
+//! A test with these is proved at less cost than one with `assert_eq!`, `assert!` and `?` of its own. The
+//! first two are proved anew at each place, which takes several times as long as a call. At each `?` a test gives
+//! up all that it holds, and that is proved anew each time.
+#![tactic(auto)]
+
+/// Compares two values, of which the first was found and the second is wanted; with a row of a table, that row is
+/// told too.
+#[macro_export]
+macro_rules! same {
+    ($rt:expr; $found:expr, $wanted:expr) => {
+        crate::checks::compare($rt, stringify!($found), $found, $wanted)
+    };
+    ($rt:expr; $found:expr, $wanted:expr, $row:expr) => {
+        crate::checks::compare_in_row($rt, stringify!($found), &$row, $found, $wanted)
+    };
+}
+
+/// The same for a fact, in place of `assert!`.
+#[macro_export]
+macro_rules! holds {
+    ($rt:expr; $fact:expr) => {
+        crate::checks::confirm($rt, stringify!($fact), $fact)
+    };
+    ($rt:expr; $fact:expr, $row:expr) => {
+        crate::checks::confirm_in_row($rt, stringify!($fact), &$row, $fact)
+    };
+}
+
+/// What a call gives that has to succeed, in place of `?`.
+#[macro_export]
+macro_rules! must {
+    ($rt:expr; $call:expr) => {
+        crate::checks::succeed($rt, stringify!($call), $call)
+    };
+}
+
+/// A table: the type of its rows, the names of their fields in braces, and the rows in brackets.
+#[macro_export]
+macro_rules! rows {
+    ($Row:ident $names:tt $($row:tt)*) => {
+        [$($crate::row!($Row $names $row)),*]
+    };
+}
+
+/// A row of a table.
+#[macro_export]
+macro_rules! row {
+    ($Row:ident { $($name:ident),* } [ $($value:expr),* ]) => {
+        $Row { $($name: $value),* }
+    };
+}
+
+/// Tells that this call was refused memory and answered so. `checks/memory/run` refuses each request in turn,
+/// and wants each of these lines.
+pub fn finds_no_memory(rt: &impl Print, call: &str) {
+    let _ = println!(rt; "no memory: {call}");
+}
