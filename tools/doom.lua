@@ -1,5 +1,6 @@
 -- A dissector for Wireshark and tshark of a netgame's datagrams: those of 1997, which plain nodes send, the
--- envelopes of sealed nodes, and the datagrams of links. docs/PROTOCOL.md has their layouts.
+-- envelopes of sealed nodes, the datagrams of links, reports, and the greetings of hosts and those who join.
+-- docs/PROTOCOL.md has their layouts.
 --
 --     wireshark -X lua_script:tools/doom.lua
 --
@@ -10,15 +11,26 @@
 local doom = Proto("doom", "Doom netgame, datagram of 1997")
 local seal = Proto("doom_seal", "Doom netgame, seal")
 local link = Proto("doom_link", "Doom netgame, datagram of a link")
+local report = Proto("doom_report", "Doom netgame, report")
+local greeting = Proto("doom_greeting", "Doom netgame, greeting")
 
-local MAX_COMMANDS, MAX_DATAGRAM, MAX_PARTS, MAX_RUN = 12, 104, 24, 24
+local MAX_COMMANDS, MAX_DATAGRAM, MAX_PARTS, MAX_RUN, MAX_TOLD, MAX_TAIL = 12, 104, 24, 24, 2, 24
 local EXIT, RETRANSMIT, SETUP, KILL = 8, 4, 2, 1
 local SUM = 0x10000000 -- the checksum word has the flags in units of this
-local HEAD, TAG = 12, 16 -- bytes of the head that both kinds of seal have, and of the tag
-local PACKET, LINK = 1, 2 -- the kinds
-local SIZES = { [PACKET] = { 37, 141 }, [LINK] = { 60, 1200 } }
+local HEAD, TAG = 12, 16 -- bytes of the head that all but greetings have, and of the tag
+local PACKET, LINK, REPORT, GREETING = 1, 2, 3, 4 -- the kinds
+local KINDS = { "one datagram", "a link's datagram", "a report", "a greeting" }
+local SUITES = { [0] = "none: a hint", "shared secret", "open game" }
+local PROTOCOLS = { seal, link, report }
+local SIZES = { [PACKET] = { 37, 141 }, [LINK] = { 60, 1200 }, [REPORT] = { 29, 425 } }
 local MESSAGES = { [0] = "hello", "game", "goodbye" }
 local MESSAGE_SIZES = { [0] = 24, 1, 2 }
+local NAME, VERSION = "zirmegat", 1 -- of greetings
+local CALL, ANSWER, REFUSAL, HINT, RETRY = 1, 2, 3, 4, 5 -- their sorts
+local SORTS = { "call", "answer", "refusal", "hint", "retry" }
+local LENGTHS = { [CALL] = 130, [ANSWER] = 130, [REFUSAL] = 46, [HINT] = 29, [RETRY] = 64 }
+local REASONS = { "no seat is free", "the seat is taken", "another number of players", "it has begun" }
+local HINTS = { "another suite or key", "another version" }
 
 local P = ProtoField
 local function bit_of(name, label, width, mask) return P.bool(name, label, width, nil, mask) end
@@ -64,8 +76,8 @@ local f = {
 doom.fields = f
 
 local s = {
-    suite = named("doom_seal.suite", "Suite", { "shared secret", "open game" }),
-    kind = named("doom_seal.kind", "Kind", { "one datagram", "a link's datagram" }),
+    suite = named("doom_seal.suite", "Suite", SUITES),
+    kind = named("doom_seal.kind", "Kind", KINDS),
     game = P.bytes("doom_seal.game", "Game, the first bytes of its number"),
     from = P.uint8("doom_seal.from", "From player"),
     to = P.uint8("doom_seal.to", "To player"),
@@ -94,6 +106,47 @@ local l = {
 }
 link.fields = l
 
+local t = {
+    gone = P.uint8("doom_report.gone", "Given up, a bit for each player", base.HEX, nil, 0x0f),
+    gone0 = bit_of("doom_report.gone.player0", "Player 0", 8, 0x01),
+    gone1 = bit_of("doom_report.gone.player1", "Player 1", 8, 0x02),
+    gone2 = bit_of("doom_report.gone.player2", "Player 2", 8, 0x04),
+    gone3 = bit_of("doom_report.gone.player3", "Player 3", 8, 0x08),
+    left = bit_of("doom_report.left", "The sender has left", 8, 0x80),
+    told = P.none("doom_report.told", "Told"),
+    player = P.uint8("doom_report.player", "Player"),
+    count = P.uint32("doom_report.count", "Commands that the sender has"),
+    last = P.uint8("doom_report.last", "How many of them follow, the last"),
+}
+report.fields = t
+
+local g = {
+    suite = named("doom_greeting.suite", "Suite", SUITES),
+    kind = named("doom_greeting.kind", "Kind", KINDS),
+    name = P.string("doom_greeting.name", "Name"),
+    version = P.uint8("doom_greeting.version", "Version"),
+    sort = named("doom_greeting.what", "What", SORTS),
+    mark = P.bytes("doom_greeting.mark", "Mark of who joins"),
+    number = P.uint32("doom_greeting.number", "Number of the call"),
+    seat = P.uint8("doom_greeting.seat", "Seat"),
+    players = P.uint8("doom_greeting.players", "Players"),
+    cookie = P.bytes("doom_greeting.cookie", "Cookie of the address"),
+    zeros = P.bytes("doom_greeting.zeros", "Zeros"),
+    extra = P.uint8("doom_greeting.extra", "Packets repeat commands"),
+    ahead = P.uint8("doom_greeting.ahead", "Window"),
+    rate = P.uint8("doom_greeting.rate", "Tics a second"),
+    limit = P.uint32("doom_greeting.limit", "Most bytes of the demo"),
+    game = P.bytes("doom_greeting.game", "Game, its number"),
+    place = P.none("doom_greeting.place", "Place"),
+    told = P.uint8("doom_greeting.place.told", "Told who holds it"),
+    ip = P.ipv6("doom_greeting.place.ip", "Address"),
+    port = P.uint16("doom_greeting.place.port", "Port"),
+    reason = named("doom_greeting.reason", "Reason", REASONS),
+    hint = named("doom_greeting.hint", "Hint", HINTS),
+    tag = P.bytes("doom_greeting.tag", "Tag, not checked"),
+}
+greeting.fields = g
+
 local group, severity = expert.group, expert.severity
 local function wrong(name, text) return ProtoExpert.new(name, text, group.PROTOCOL, severity.ERROR) end
 local faults = {
@@ -107,6 +160,8 @@ doom.experts = { faults.short, faults.many, faults.length, faults.sum, asks }
 local unlike = wrong("doom_seal.unlike", "The packet differs from what stands in front of it")
 local refused = wrong("doom_seal.refused", "Refused")
 seal.experts = { unlike, refused }
+local unread = wrong("doom_greeting.refused", "Refused")
+greeting.experts = { unread }
 
 -- The bytes of a range from a place on; an empty range cannot begin at the end of another.
 local function from(r, place) return place < r:len() and r(place) or r(0, 0) end
@@ -296,7 +351,65 @@ local function add_link(tree, r, sender)
     return words
 end
 
+-- The first fault of a report's bytes behind those of some players, where the next may have a number from
+-- `least` on; or none where a player's bytes stand in front.
+local function told_fault(r, players, least)
+    if players == MAX_TOLD then return "third" end
+    if r:len() < 6 then return "short" end
+    local player, count, last = r(0, 1):uint(), r(1, 4):le_uint(), r(5, 1):uint()
+    if player > 3 then return "player" end
+    if player < least then return "order" end
+    if last > MAX_TAIL then return "many" end
+    if last > count then return "surplus" end
+    if r:len() < 6 + 8 * last then return "cut" end
+end
+
+-- What a report tells of each player, as far as it has the form; and the first fault of the form.
+local function told_in(r)
+    local told, place, least = {}, 1, 0
+    if math.floor(r(0, 1):uint() / 16) % 8 > 0 then return told, "bits" end
+    while place < r:len() do
+        local fault = told_fault(r(place), #told, least)
+        if fault then return told, fault end
+        local size = 6 + 8 * r(place + 5, 1):uint()
+        told[#told + 1] = r(place, size)
+        place, least = place + size, r(place, 1):uint() + 1
+    end
+    return told
+end
+
+local function add_told(tree, r)
+    local item, player, count, last = tree:add(t.told, r), r(0, 1):uint(), r(1, 4):le_uint(), r(5, 1):uint()
+    item:append_text((" of player %d"):format(player))
+    item:add(t.player, r(0, 1))
+    item:add_le(t.count, r(1, 4))
+    item:add(t.last, r(5, 1))
+    for k = 0, last - 1 do add_command(item, r(6 + 8 * k, 8), count - last + k) end
+    return ("has %d of player %d"):format(count, player)
+end
+
+-- What stands between the head of a report and its tag; and what it says, in few words.
+local function add_report(tree, r)
+    local root, first, words = tree:add(report, r), r(0, 1):uint(), "given up"
+    add_all(root:add(t.gone, r(0, 1)), { t.gone0, t.gone1, t.gone2, t.gone3 }, r(0, 1))
+    root:add(t.left, r(0, 1))
+    for player = 0, 3 do
+        if math.floor(first / 2 ^ player) % 2 == 1 then words = ("%s %d"):format(words, player) end
+    end
+    if first % 16 == 0 then words = words .. " nobody" end
+    if first > 127 then words = words .. ", left" end
+    for _, told in ipairs((told_in(r))) do words = words .. "; " .. add_told(root, told) end
+    return words
+end
+
 local function body_of(r) return r(HEAD, r:len() - HEAD - TAG) end
+
+-- For what receivers refuse a report of a right length.
+local function report_fault(r)
+    local sender, form = r(10, 1):uint(), select(2, told_in(body_of(r)))
+    if sender > 3 or sender == r(11, 1):uint() then return "sender" end
+    return form and "form, " .. form
+end
 
 -- For what receivers of any game refuse sealed bytes, as far as it is seen without the key.
 local function seal_fault(r)
@@ -304,25 +417,28 @@ local function seal_fault(r)
     local sizes = SIZES[kind]
     if not sizes or r(0, 1):uint() < 1 or r(0, 1):uint() > 2 then return "suite or kind" end
     if r:len() < sizes[1] or r:len() > sizes[2] then return "length" end
+    if kind == REPORT then return report_fault(r) end
     local is_formed = exact_in(body_of(r)(0, 9))
     if kind == LINK then is_formed = select(2, parts_in(from(body_of(r), 30))) end
     if not is_formed then return "form" end
 end
 
--- An envelope or a link's datagram; and what it says, in few words.
+-- An envelope, a link's datagram or a report; and what it says, in few words.
 local function add_sealed(tree, r)
     local fault, root = seal_fault(r), tree:add(seal, r)
     if fault then root:add_proto_expert_info(refused, "Refused for its " .. fault) end
     root:add(s.suite, r(0, 1))
     root:add(s.kind, r(1, 1))
-    if fault and fault ~= "form" then return "refused, " .. fault end
+    if fault == "suite or kind" or fault == "length" then return "refused, " .. fault end
     root:add(s.game, r(2, 8))
     root:add(s.from, r(10, 1))
     root:add(s.to, r(11, 1))
     root:add(s.tag, r(r:len() - TAG, TAG))
-    local sender, body, words = r(10, 1):uint(), body_of(r), nil
-    if r(1, 1):uint() == LINK then
+    local kind, sender, body, words = r(1, 1):uint(), r(10, 1):uint(), body_of(r), nil
+    if kind == LINK then
         words = add_link(tree, body, sender)
+    elseif kind == REPORT then
+        words = add_report(tree, body)
     else
         local exact, packet = exact_in(body(0, 9)), from(body, 9)
         add_exact(root, body(0, 9))
@@ -330,14 +446,131 @@ local function add_sealed(tree, r)
         add_datagram(tree, packet, exact)
         words = words_of(packet, exact)
     end
-    return ("%d > %d: %s%s"):format(sender, r(11, 1):uint(), words, fault and ", refused, form" or "")
+    return ("%d > %d: %s%s"):format(sender, r(11, 1):uint(), words, fault and ", refused, " .. fault or "")
 end
 
--- Whether nothing is wrong with bytes: as a datagram of 1997, or sealed, from a player to one.
+local function is_in(r, place, least, most)
+    local number = r(place, 1):uint()
+    return least <= number and number <= most
+end
+
+local function is_zero(r) return r:raw() == ("\0"):rep(r:len()) end
+
+local function is_place(r) return is_in(r, 0, 1, 1) or is_zero(r) end
+
+-- Whether a greeting of each sort, which has its length, has its form.
+local FORMS = {
+    [CALL] = function(r)
+        return is_in(r, 32, 0, 3) and is_in(r, 33, 0, 4) and not is_in(r, 33, 1, 1) and is_zero(r(50, 64))
+    end,
+    [ANSWER] = function(r)
+        return is_in(r, 33, 2, 4) and is_in(r, 32, 1, r(33, 1):uint() - 1) and is_in(r, 34, 0, 1)
+            and is_in(r, 35, 1, 12) and is_in(r, 36, 1, 35)
+            and is_place(r(57, 19)) and is_place(r(76, 19)) and is_place(r(95, 19))
+    end,
+    [REFUSAL] = function(r)
+        return is_in(r, 28, 1, 4) and (is_in(r, 28, 3, 3) or is_in(r, 29, 0, 0))
+    end,
+    [HINT] = function(r)
+        return is_in(r, 0, 0, 0) and is_in(r, 28, 1, 2) and (is_in(r, 28, 2, 2) or is_in(r, 10, 1, 1))
+    end,
+    [RETRY] = function() return true end,
+}
+
+-- Whether bytes are taken for a greeting: by their kind and name, or, if the name is bad, their kind and suite.
+local function is_greeting(r)
+    return r:len() > 9 and is_in(r, 1, GREETING, GREETING) and (r(2, 8):raw() == NAME or is_in(r, 0, 0, 2))
+end
+
+-- The first fault of bytes as a greeting of the sort that they name, as far as it is seen without the key.
+local function greeting_fault(r)
+    if r:len() < 29 then return "short" end
+    if r(2, 8):raw() ~= NAME then return "kind" end
+    local sort = r(11, 1):uint()
+    if not SORTS[sort] then return "what" end
+    if sort ~= HINT and not is_in(r, 10, VERSION, VERSION) then return "version" end
+    if r:len() ~= LENGTHS[sort] then return "length" end
+    if sort ~= HINT and not is_in(r, 0, 1, 2) then return "suite" end
+    if not FORMS[sort](r) then return "form" end
+end
+
+-- What calls and answers have behind the mark; and what it says, in few words.
+local function add_seat(root, r, words)
+    root:add_le(g.number, r(28, 4))
+    words = ("%s %d"):format(words, r(28, 4):le_uint())
+    for place, name in ipairs({ "seat", "players" }) do
+        local item, number = root:add(g[name], r(31 + place, 1)), r(31 + place, 1):uint()
+        if number == 0 then item:append_text(": any") else words = ("%s, %s %d"):format(words, name, number) end
+    end
+    return words
+end
+
+local function add_place(root, r, seat)
+    local item = root:add(g.place, r):append_text((" of seat %d"):format(seat))
+    item:add(g.told, r(0, 1))
+    if is_in(r, 0, 0, 0) then return end
+    item:add(g.ip, r(1, 16))
+    item:add_le(g.port, r(17, 2))
+end
+
+-- The fields of a greeting of each sort between the mark and the tag; and what they say, in few words.
+local ADDERS = {
+    [CALL] = function(root, r)
+        local words = add_seat(root, r, "call")
+        root:add(g.cookie, r(34, 16))
+        root:add(g.zeros, r(50, 64))
+        return words
+    end,
+    [ANSWER] = function(root, r)
+        local words = add_seat(root, r, "answer")
+        for place, field in ipairs({ g.extra, g.ahead, g.rate }) do root:add(field, r(33 + place, 1)) end
+        root:add_le(g.limit, r(37, 4))
+        root:add(g.game, r(41, 16))
+        for seat = 1, 3 do add_place(root, r(38 + 19 * seat, 19), seat) end
+        return words
+    end,
+    [REFUSAL] = function(root, r)
+        local reason, players = r(28, 1):uint(), r(29, 1):uint()
+        root:add(g.reason, r(28, 1))
+        root:add(g.players, r(29, 1))
+        return "refusal, " .. (REASONS[reason] or "?") .. (reason == 3 and (": %d"):format(players) or "")
+    end,
+    [HINT] = function(root, r)
+        local hint, version = r(28, 1):uint(), r(10, 1):uint()
+        root:add(g.hint, r(28, 1))
+        return "hint, " .. (HINTS[hint] or "?") .. (hint == 2 and (": %d"):format(version) or "")
+    end,
+    [RETRY] = function(root, r)
+        root:add_le(g.number, r(28, 4))
+        root:add(g.cookie, r(32, 16))
+        return ("retry %d"):format(r(28, 4):le_uint())
+    end,
+}
+
+-- A greeting; and what it says, in few words.
+local function add_greeting(tree, r)
+    local fault, root = greeting_fault(r), tree:add(greeting, r)
+    if fault then root:add_proto_expert_info(unread, "Refused: " .. fault) end
+    root:add(g.suite, r(0, 1))
+    root:add(g.kind, r(1, 1))
+    if fault == "short" or fault == "kind" then return "refused, " .. fault end
+    root:add(g.name, r(2, 8))
+    root:add(g.version, r(10, 1))
+    root:add(g.sort, r(11, 1))
+    root:add(g.mark, r(12, 16))
+    if fault and fault ~= "suite" and fault ~= "form" then return "refused, " .. fault end
+    local sort = r(11, 1):uint()
+    local words = ADDERS[sort](root, r)
+    if sort ~= HINT then root:add(g.tag, r(r:len() - TAG, TAG)) end
+    return words .. (fault and ", refused, " .. fault or "")
+end
+
+-- Whether nothing is wrong with bytes: as a datagram of 1997, as a greeting, or sealed, from a player to one.
 local function is_right(r)
     if not fault_of(r) then return true end
+    if is_greeting(r) then return not greeting_fault(r) end
     if seal_fault(r) or r(10, 1):uint() > 3 or r(11, 1):uint() > 3 then return false end
-    if r(1, 1):uint() == LINK then return true end
+    if r(1, 1):uint() ~= PACKET then return true end
     local packet = from(body_of(r), 9)
     return not fault_of(packet) and not is_unlike(packet, exact_in(body_of(r)(0, 9)), r(10, 1):uint())
 end
@@ -345,15 +578,24 @@ end
 -- Whether all bytes are there: what the capture cut is not judged.
 local function is_whole(tvb) return tvb:len() > 0 and tvb:len() == tvb:reported_len() end
 
+function greeting.dissector(tvb, pinfo, tree)
+    if not is_whole(tvb) or tvb:len() < 2 then return 0 end
+    pinfo.cols.protocol = greeting.name
+    pinfo.cols.info = add_greeting(tree, tvb())
+    return tvb:len()
+end
+
 function seal.dissector(tvb, pinfo, tree)
     if not is_whole(tvb) or tvb:len() < 2 then return 0 end
-    pinfo.cols.protocol = tvb(1, 1):uint() == LINK and link.name or seal.name
+    if is_greeting(tvb()) then return greeting.dissector(tvb, pinfo, tree) end
+    pinfo.cols.protocol = (PROTOCOLS[tvb(1, 1):uint()] or seal).name
     pinfo.cols.info = add_sealed(tree, tvb())
     return tvb:len()
 end
 
 function doom.dissector(tvb, pinfo, tree)
     if not is_whole(tvb) then return 0 end
+    if fault_of(tvb()) and is_greeting(tvb()) then return greeting.dissector(tvb, pinfo, tree) end
     if fault_of(tvb()) and seal_fault(tvb()) ~= "suite or kind" then return seal.dissector(tvb, pinfo, tree) end
     pinfo.cols.protocol = doom.name
     pinfo.cols.info = words_of(tvb())

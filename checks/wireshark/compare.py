@@ -10,7 +10,9 @@ ends with status 1 at the first that differs.
 """
 import argparse
 import collections
+import dataclasses
 import functools
+import ipaddress
 import subprocess
 import sys
 
@@ -26,23 +28,36 @@ SEAL = ["doom_seal." + name for name in ("suite", "kind", "from", "to")]
 LINK = ["doom_link." + name for name in
         ("number", "lead", "holes", "made", "ran", "got", "message", "players", "extra", "ahead", "limit",
          "host", "cause", "parts", "part.run", "part.length")]
-SEAL_FAULTS = ["doom_seal.unlike", "doom_seal.refused"]
-FIELDS = (FAULTS + PACKET + COMMAND + FLAGS + BUTTONS + SETUP + EXACT + SEAL + LINK + SEAL_FAULTS
-          + ["doom.checksum", "doom.checksum.calculated", "doom.retransmit", "doom_seal.tag", "doom_seal.game"])
+REPORT = ["doom_report." + name for name in
+          ("gone", "gone.player0", "gone.player1", "gone.player2", "gone.player3", "left", "player", "count",
+           "last")]
+GREETING = ["doom_greeting." + name for name in
+            ("suite", "kind", "name", "version", "what", "mark", "number", "seat", "players", "cookie", "zeros",
+             "extra", "ahead", "rate", "limit", "game", "place.told", "place.ip", "place.port", "reason",
+             "hint", "tag")]
+BYTES = ["doom_link.host", "doom_seal.tag", "doom_seal.game"]
+BYTES += ["doom_greeting." + name for name in ("name", "mark", "cookie", "zeros", "game", "tag")]
+ADDRESS = "doom_greeting.place.ip"
+SEAL_FAULTS = ["doom_seal.unlike", "doom_seal.refused", "doom_greeting.refused"]
+FIELDS = (FAULTS + PACKET + COMMAND + FLAGS + BUTTONS + SETUP + EXACT + SEAL + LINK + REPORT + GREETING
+          + SEAL_FAULTS + ["doom.checksum", "doom.checksum.calculated", "doom.retransmit"]
+          + ["doom_seal.tag", "doom_seal.game"])
 NAMES = ["doom." + name for name in ("flags", "ask", "start", "player", "count")]
+PROTOCOLS = {"packet": "DOOM_SEAL", "link": "DOOM_LINK", "report": "DOOM_REPORT",
+             "greeting": "DOOM_GREETING"}
+REASONS = ["no seat is free", "the seat is taken", "another number of players", "it has begun"]
 SHOWN = {"dropped 1 short": "doom.short", "dropped 2 many": "doom.many", "dropped 3 length": "doom.length",
          "dropped 4 sum": "doom.sum"}
 LOADED = "tools/doom.lua"
 
 
-def value(word):
+def value(field, word):
     """A field's value as a number, or as its bytes."""
-    if word in ("True", "False"):
-        return int(word == "True")
-    try:
-        return int(word, 0)
-    except ValueError:
+    if field == ADDRESS:
+        return ipaddress.IPv6Address(word).packed.hex()
+    if field in BYTES:
         return word
+    return int(word == "True") if word in ("True", "False") else int(word, 0)
 
 
 def shown(capture, ports):
@@ -64,7 +79,7 @@ def shown(capture, ports):
             if word and field in FAULTS + SEAL_FAULTS + ["doom.retransmit"]:
                 found[field] = True
             elif word:
-                found[field] = [value(one) for one in word.split(" ")]
+                found[field] = [value(field, one) for one in word.split(" ")]
         check_sums(payload, found)
         yield bytes.fromhex(payload), protocol, info, found
 
@@ -170,60 +185,141 @@ def compare_shown(args):
     return counts
 
 
+@dataclasses.dataclass
+class Told:
+    """A line of main.rt.in: the bytes, their kind, why they are refused, if they are, whether the bytes of a
+    packet in them are none, and the fields that it says."""
+    payload: bytes
+    kind: str
+    refused: str
+    is_inner: bool
+    wanted: dict
+
+
+def bytes_in(word):
+    """The bytes of a list of numbers."""
+    return bytes(int(one) for one in word.split(",") if one)
+
+
 def told(line):
-    """The bytes of a line of main.rt.in, and the fields that it says, and the marks."""
-    number, words = line.split("|")
-    wanted, marks = collections.defaultdict(list), set()
-    for word in words.split():
+    """What a line of main.rt.in says."""
+    numbers, words = line.split("|")
+    kind, *words = words.split()
+    wanted, refused, is_inner = collections.defaultdict(list), "", False
+    for word in words:
         field, sign, word = word.partition("=")
-        if not sign:
-            marks.add(field)
-        elif field == "doom_link.host":
-            wanted[field].append(bytes(int(one) for one in word.split(",") if one).hex())
+        if field == "refused":
+            refused = word.replace(",", ", ")
+        elif not sign:
+            assert field == "inner", line
+            is_inner = True
+        elif field in BYTES + [ADDRESS]:
+            wanted[field].append(bytes_in(word).hex())
         elif field in FAULTS + SEAL_FAULTS:
             wanted[field] = True
         else:
             wanted[field].append(int(word))
-    return bytes(int(one) for one in number.split(",") if one), with_bits(dict(wanted)), marks
+    return Told(bytes_in(numbers), kind, refused, is_inner, with_bits(dict(wanted)))
+
+
+def with_frame(line):
+    """The fields that a line says, and those that it leaves to the bytes."""
+    wanted, payload = dict(line.wanted), line.payload
+    if line.kind != "greeting":
+        return wanted | {"doom_seal.tag": [payload[-16:].hex()], "doom_seal.game": [payload[2:10].hex()]}
+    wanted |= {"doom_greeting.kind": [4], "doom_greeting.name": ["zirmegat"]}
+    if wanted["doom_greeting.what"] == [1]:
+        wanted["doom_greeting.zeros"] = ["00" * 64]
+    if wanted["doom_greeting.what"] != [4]:
+        wanted["doom_greeting.tag"] = [payload[-16:].hex()]
+    return wanted
+
+
+def report_info(wanted):
+    """The words of a report in the Info column."""
+    gone = [f" {player}" for player in range(4) if wanted[f"doom_report.gone.player{player}"] == [1]]
+    words = "given up" + ("".join(gone) or " nobody") + (", left" if wanted["doom_report.left"] == [1] else "")
+    for player, count in zip(wanted.get("doom_report.player", []), wanted.get("doom_report.count", [])):
+        words += f"; has {count} of player {player}"
+    return words
+
+
+def greeting_info(wanted):
+    """The words of a greeting in the Info column."""
+    said = {field.split(".", 1)[1]: values[0] for field, values in wanted.items() if field in GREETING}
+    if said["what"] == 3:
+        players = f": {said['players']}" if said["reason"] == 3 else ""
+        return f"refusal, {REASONS[said['reason'] - 1]}{players}"
+    if said["what"] == 4:
+        return ["hint, another suite or key", f"hint, another version: {said['version']}"][said["hint"] - 1]
+    sort = {1: "call", 2: "answer", 5: "retry"}[said["what"]]
+    words = f"{sort} {said['number']}"
+    return words + "".join(f", {name} {said[name]}" for name in ("seat", "players") if said.get(name))
+
+
+def is_wrong(line):
+    """Whether something is wrong with bytes, so that they are not taken for a netgame's on ports of others."""
+    if line.refused or line.kind == "greeting":
+        return line.refused != ""
+    is_dropped = line.kind == "packet" and (line.is_inner or "doom_seal.unlike" in line.wanted)
+    return is_dropped or line.payload[10] > 3 or line.payload[11] > 3
+
+
+def is_taken(payload):
+    """Whether bytes are taken for a greeting, right or not."""
+    return len(payload) > 9 and payload[1] == 4 and (payload[2:10] == b"zirmegat" or payload[0] < 3)
+
+
+def check_refused(line, protocol, info, found):
+    """Bytes that the crates refuse: what their fields are, no crate says."""
+    if line.kind == "greeting" and not is_taken(line.payload):
+        if protocol == PROTOCOLS["greeting"] or "refused" not in info:
+            fail(line.payload, {"info": info}, {"info": "refused"})
+        return
+    field = "doom_greeting.refused" if line.kind == "greeting" else "doom_seal.refused"
+    if field not in found or not info.endswith(f"refused, {line.refused}") or protocol != PROTOCOLS[line.kind]:
+        fail(line.payload, {"info": info, "protocol": protocol}, {"info": f"refused, {line.refused}"})
+
+
+def check_opened(line, protocol, info, found):
+    """Bytes that the crates open."""
+    payload, wanted = line.payload, with_frame(line)
+    if line.is_inner:
+        # the fields of a packet that is none are no crate's
+        drop = set(PACKET + COMMAND + FLAGS + BUTTONS + SETUP + ["doom.retransmit"])
+        found = {field: values for field, values in found.items() if field not in drop}
+        wanted = {field: values for field, values in wanted.items() if field not in drop}
+    if found != wanted:
+        fail(payload, found, wanted)
+    if protocol != PROTOCOLS[line.kind]:
+        fail(payload, {"protocol": protocol}, {"protocol": PROTOCOLS[line.kind]})
+    words = f"{payload[10]} > {payload[11]}: " if line.kind != "greeting" else greeting_info(wanted)
+    words += report_info(wanted) if line.kind == "report" else ""
+    is_whole = line.kind in ("packet", "link") or info == words
+    if not info.startswith(words) or not is_whole or ("refused" in info) != line.is_inner:
+        fail(payload, {"info": info}, {"info": words})
 
 
 def compare_told(args):
-    """Envelopes and datagrams of links against what the crates opened."""
+    """Envelopes, datagrams of links, reports and greetings against what the crates read."""
     counts = collections.Counter()
     with open(args.lines) as file:
         lines = [told(line) for line in file]
-    rows = list(shown(args.capture, args.ports))
-    for (payload, protocol, info, found), (wished, wanted, marks) in zip(rows, lines, strict=True):
-        assert payload == wished and "unopened" not in marks
-        is_wrong = "refused" in marks or "inner" in marks and wanted.get("doom_seal.kind") == [1]
-        is_wrong = is_wrong or "doom_seal.unlike" in wanted and wanted["doom_seal.kind"] == [1]
-        is_wrong = is_wrong or payload[10] > 3 or payload[11] > 3
-        for mark in sorted(marks) or ["opened"]:
-            counts[mark] += 1
-        counts["unlike"] += "doom_seal.unlike" in wanted
+    for (payload, protocol, info, found), line in zip(shown(args.capture, args.ports), lines, strict=True):
+        assert payload == line.payload
+        counts[line.kind] += 1
         counts["datagrams"] += 1
-        if is_wrong and not args.ports:
+        counts["unlike"] += "doom_seal.unlike" in line.wanted
+        counts["refused" if line.refused else "inner" if line.is_inner else "opened"] += 1
+        if line.refused:
+            counts[f"{line.kind} refused for {line.refused.replace(', ', ' ')}:"] += 1
+        if is_wrong(line) and not args.ports:
             if found or protocol.startswith("DOOM"):
                 fail(payload, found, {})
-            continue
-        if "refused" in marks:
-            word = "length" if "length" in marks else "form"
-            if "doom_seal.refused" not in found or not info.endswith(f"refused, {word}"):
-                fail(payload, {"info": info}, {"info": f"refused, {word}"})
-            continue
-        wanted["doom_seal.tag"], wanted["doom_seal.game"] = [payload[-16:].hex()], [payload[2:10].hex()]
-        if "inner" in marks:
-            # the fields of a packet that is none are no crate's
-            drop = set(PACKET + COMMAND + FLAGS + BUTTONS + SETUP + ["doom.retransmit"])
-            found = {field: values for field, values in found.items() if field not in drop}
-            wanted = {field: values for field, values in wanted.items() if field not in drop}
-        if found != wanted:
-            fail(payload, found, wanted)
-        if protocol != ("DOOM_LINK" if wanted["doom_seal.kind"] == [2] else "DOOM_SEAL"):
-            fail(payload, {"protocol": protocol}, {})
-        begin = f"{payload[10]} > {payload[11]}: "
-        if not info.startswith(begin) or ("refused" in info) != ("inner" in marks):
-            fail(payload, {"info": info}, {"info": begin})
+        elif line.refused:
+            check_refused(line, protocol, info, found)
+        else:
+            check_opened(line, protocol, info, found)
     return counts
 
 
