@@ -242,7 +242,7 @@ typedef struct zmg_heard {
     uint32_t code, number;
 } zmg_heard;
 
-/* Why a datagram was dropped. It changed nothing. */
+/* Why a datagram or a report was dropped. It changed nothing. */
 #define ZMG_DROP_SHORT 1u        /* fewer than 8 bytes */
 #define ZMG_DROP_MANY 2u         /* it announces more than twelve commands */
 #define ZMG_DROP_LENGTH 3u       /* its length does not match the commands that it announces */
@@ -258,6 +258,7 @@ typedef struct zmg_heard {
 #define ZMG_DROP_OVERRUN 12u     /* more tics ahead than the node keeps commands */
 #define ZMG_DROP_NOT_PLAYING 13u /* the game has not started here, or this node has ended */
 #define ZMG_DROP_END 14u         /* it contradicts the sender's end */
+#define ZMG_DROP_GIVEN_UP 15u    /* of a report: its sender is given up */
 
 /* Takes in a datagram from player `from`. It is up to the transport to know who sent it. A packet carries
  * only the low bytes of tics, so the transport passes in none whose start or ask lies more than 64 tics from
@@ -590,9 +591,9 @@ size_t zmg_link_datagram(zmg_link *link, uint8_t to, uint8_t *out, size_t room);
 #define ZMG_BUNDLE_FORM 8u     /* its content has a form that no link writes */
 #define ZMG_BUNDLE_SENDER 9u   /* of a report: its sender is no player, or this one */
 
-/* What became of a report. One that is dropped has the number of its ZMG_DROP_, which is 5, 13 or 15: its sender
- * is not another player, the link listens or has ended, its sender is given up. Nothing changed but with the
- * first two and from ZMG_REPORT_UNTAKEN on. */
+/* What became of a report. One that is dropped has its ZMG_DROP_: _STRANGER where its sender is not another
+ * player, _NOT_PLAYING where the link listens or has ended, _GIVEN_UP. Nothing changed but with the first two and
+ * from ZMG_REPORT_UNTAKEN on. */
 #define ZMG_REPORT_KEPT 0u     /* it is kept; reports are missing, if somebody is given up */
 #define ZMG_REPORT_DECIDED 1u  /* it is kept, and where the commands of all who are given up end is known */
 #define ZMG_REPORT_EXCLUDED 2u /* its sender has given up this player */

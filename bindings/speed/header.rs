@@ -13,6 +13,29 @@ pub struct Config {
     pub settings: Settings,
 }
 
+impl Config {
+    /// The settings, or why there is no node. The settings of other players than 0 are not read.
+    pub fn check(&self) -> Result<Settings, NewFault> {
+        let mut settings = Settings::default();
+        if self.me == 0 {
+            settings = self.settings;
+            settings.no_monsters = u8::from(settings.no_monsters != 0);
+            settings.respawn = u8::from(settings.respawn != 0);
+            settings.check()?;
+        }
+        if !(2..=4).contains(&self.players) {
+            return Err(NewFault::Players);
+        }
+        if self.me >= self.players {
+            return Err(NewFault::Me);
+        }
+        if !(1024..=16_777_216).contains(&self.limit) {
+            return Err(NewFault::Limit);
+        }
+        Ok(settings)
+    }
+}
+
 /// Why there is no node.
 #[repr(u32)]
 #[derive(Clone, Copy)]

@@ -67,24 +67,7 @@ pub struct Node {
 
 impl Node {
     fn new(config: &Config) -> Result<Node, NewFault> {
-        let settings = if config.me == 0 {
-            let mut settings = config.settings;
-            settings.no_monsters = u8::from(settings.no_monsters != 0);
-            settings.respawn = u8::from(settings.respawn != 0);
-            settings.check()?;
-            Some(settings)
-        } else {
-            None
-        };
-        if !(2..=4).contains(&config.players) {
-            return Err(NewFault::Players);
-        }
-        if config.me >= config.players {
-            return Err(NewFault::Me);
-        }
-        if !(1024..=16_777_216).contains(&config.limit) {
-            return Err(NewFault::Limit);
-        }
+        let settings = config.check()?;
         Ok(Node {
             phase: if config.me == 0 { Phase::Gathering } else { Phase::Listening },
             cause: None,
@@ -94,7 +77,7 @@ impl Node {
             hold: 0,
             ran: 0,
             seats: [Seat::default(); MAX_PLAYERS],
-            settings,
+            settings: (config.me == 0).then_some(settings),
             demo: Demo::new(config.limit, config.players).map_err(|_| NewFault::Memory)?,
         })
     }

@@ -146,6 +146,26 @@ fn command(keys: u32, hold: u8, mark: i16) -> Command {
     )
 }
 
+/// A datagram whose length and sum are right.
+struct Opened<'a> {
+    flags: u8,
+    /// Its first eight bytes.
+    head: u64,
+    /// Whether a command would end a demo.
+    stop: bool,
+    body: &'a [[u8; 8]],
+}
+
+#[inline(always)]
+fn open(bytes: &[u8]) -> Result<Opened<'_>, NoPacket> {
+    let (head, body) = split(bytes)?;
+    let (sum, stop) = tally(head, body);
+    if (sum ^ head as u32) & SUM_MASK != 0 {
+        return Err(NoPacket::Sum);
+    }
+    Ok(Opened { flags: (head as u32 >> FLAGS_SHIFT) as u8, head, stop, body })
+}
+
 /// The first eight bytes of a datagram and its commands, or why it is none.
 #[inline(always)]
 fn split(bytes: &[u8]) -> Result<(u64, &[[u8; 8]]), NoPacket> {
@@ -242,22 +262,7 @@ fn dropped(fault: impl Into<DropFault>) -> Heard {
 
 impl Node {
     fn new(config: &Config) -> Result<Node, NewFault> {
-        let mut settings = Settings::default();
-        if config.me == 0 {
-            settings = config.settings;
-            settings.no_monsters = (settings.no_monsters != 0) as u8;
-            settings.respawn = (settings.respawn != 0) as u8;
-            settings.check()?;
-        }
-        if !(2..=4).contains(&config.players) {
-            return Err(NewFault::Players);
-        }
-        if config.me >= config.players {
-            return Err(NewFault::Me);
-        }
-        if !(1024..=16_777_216).contains(&config.limit) {
-            return Err(NewFault::Limit);
-        }
+        let settings = config.check()?;
         let demo = Demo::new(config.limit, config.players).map_err(|_| NewFault::Memory)?;
         Ok(Node {
             phase: if config.me == 0 { Phase::Gathering } else { Phase::Listening },
@@ -441,15 +446,10 @@ impl Node {
         if from >= self.players || from == self.me {
             return dropped(DropFault::Stranger);
         }
-        let (head, body) = match split(bytes) {
-            Ok(split) => split,
+        let Opened { flags, head, stop, body } = match open(bytes) {
+            Ok(opened) => opened,
             Err(fault) => return dropped(fault),
         };
-        let (sum, stop) = tally(head, body);
-        if (sum ^ head as u32) & SUM_MASK != 0 {
-            return dropped(DropFault::Sum);
-        }
-        let flags = (head as u32 >> FLAGS_SHIFT) as u8;
         if flags & SETUP != 0 {
             return dropped(DropFault::OutOfPlace);
         }
@@ -471,15 +471,10 @@ impl Node {
         if from >= self.players || from == self.me {
             return dropped(DropFault::Stranger);
         }
-        let (head, body) = match split(bytes) {
-            Ok(split) => split,
+        let Opened { flags, head, stop, .. } = match open(bytes) {
+            Ok(opened) => opened,
             Err(fault) => return dropped(fault),
         };
-        let (sum, stop) = tally(head, body);
-        if (sum ^ head as u32) & SUM_MASK != 0 {
-            return dropped(DropFault::Sum);
-        }
-        let flags = (head as u32 >> FLAGS_SHIFT) as u8;
         if flags & SETUP != 0 {
             return self.hear_set_up(from, head);
         }

@@ -1,8 +1,8 @@
-/* What all players of a game must tell alike: the rows that they run, where players end, and their demos. MUST
- * is that of the file that includes this one. */
+/* What all players of a game must tell alike: the rows that they run, where players end, and their demos. */
 #ifndef AGREED_H
 #define AGREED_H
 
+#include "must.h"
 #include "zirmegat.h"
 #include <string.h>
 

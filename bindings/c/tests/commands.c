@@ -2,6 +2,9 @@
  * or of AHEAD commands. Over a line that loses packets each node must tell the commands of both players as
  * they were given, chat included, and run the moves that they ask for; and both demos must have them, five
  * bytes for each. C99 and C++. Ends with status 0, or names the line that failed. */
+#include "chance.h"
+#include "engine.h"
+#include "must.h"
 #include "zirmegat.h"
 #include <stdio.h>
 #include <stdlib.h>
@@ -9,7 +12,7 @@
 
 enum { PLAYERS = 2, MOST = 10000, HEADER = 13, BYTES = 5, KEPT = 12 };
 
-static uint32_t seed = 1, tics = MOST, ahead = ZMG_MOST_AHEAD;
+static uint32_t tics = MOST, ahead = ZMG_MOST_AHEAD;
 static zmg_lockstep nodes[PLAYERS];
 /* what each player gave for each tic */
 static zmg_command given[PLAYERS][MOST];
@@ -20,16 +23,7 @@ static uint16_t worlds[PLAYERS][4];
 static uint8_t demos[PLAYERS][HEADER + MOST * PLAYERS * BYTES + 1];
 static unsigned long full, lost, letters, backs;
 
-#define MUST(holds) must(holds, #holds, __LINE__)
-
-static void must(int holds, const char *what, int line) {
-    if (holds) return;
-    fprintf(stderr, "commands.c:%d: not so: %s\n", line, what);
-    exit(1);
-}
-
-static uint32_t draw(void) { return (seed = seed * 1664525u + 1013904223u) >> 8; }
-static uint32_t below(uint32_t n) { return draw() % n; }
+static void tell_where(FILE *out) { fprintf(out, "within %u tics, %u ahead", (unsigned)tics, (unsigned)ahead); }
 
 /* A hand on a mouse: mostly a little, at times as far as a number goes; a letter now and then, and pause. */
 static zmg_command hand(void) {
@@ -51,15 +45,8 @@ static int is_same(const zmg_command *a, const zmg_command *b) {
 }
 
 static void make(uint8_t me) {
-    zmg_config c;
+    zmg_config c = config_of(sizeof demos[0], PLAYERS, me);
     zmg_lockstep none = ZMG_LOCKSTEP_NONE;
-    memset(&c, 0, sizeof c);
-    c.limit = sizeof demos[0];
-    if (c.limit < 1024) c.limit = 1024;
-    c.players = PLAYERS;
-    c.me = me;
-    c.settings.skill = 2;
-    c.settings.episode = c.settings.map = 1;
     nodes[me] = none;
     if (ahead == ZMG_MOST_AHEAD) MUST(zmg_lockstep_new(&nodes[me], &c) == ZMG_NEW_OK);
     else MUST(zmg_lockstep_new_within(&nodes[me], &c, (uint8_t)ahead) == ZMG_NEW_OK);
@@ -215,7 +202,7 @@ static void turns(void) {
 }
 
 int main(int argc, char **argv) {
-    if (argc > 1) seed = (uint32_t)strtoul(argv[1], NULL, 10);
+    if (argc > 1) begin_chance(argv[1]);
     if (argc > 2) tics = (uint32_t)strtoul(argv[2], NULL, 10);
     if (argc > 3) ahead = (uint32_t)strtoul(argv[3], NULL, 10);
     if (tics > MOST) tics = MOST;

@@ -9,7 +9,11 @@
  * else of it. Now and then a player quits, or a link gives another player up. All links of a game run the same
  * rows, tell the same ends and record the same demos. Each datagram has every command that its receiver has not
  * acknowledged. C99 and C++. Ends with status 0, or names the line that failed. */
+#include "agreed.h"
+#include "chance.h"
+#include "engine.h"
 #include "failing.h"
+#include "must.h"
 #include "zirmegat.h"
 #include <stdio.h>
 #include <stdlib.h>
@@ -23,15 +27,7 @@ enum { FROM = 10, GOT = 26, MESSAGE = 42, TAG = 16 };
 
 static unsigned long received;
 
-#define MUST(holds) must(holds, #holds, __FILE__, __LINE__)
-
-static void must(int holds, const char *what, const char *file, int line) {
-    if (holds) return;
-    fprintf(stderr, "%s:%d: not so after %lu datagrams: %s\n", file, line, received, what);
-    exit(1);
-}
-
-#include "agreed.h"
+static void tell_where(FILE *out) { fprintf(out, "after %lu datagrams", received); }
 
 typedef struct datagram {
     size_t length;
@@ -68,22 +64,9 @@ typedef struct told {
     size_t demo_length;
 } told;
 
-static uint32_t seed = 1;
 static game games[GAMES];
 static uint8_t out[MOST], again[MOST];
 static unsigned long answers[16], reasons[16], starts, ran, without, caught_up, quits, full, forgotten;
-
-static uint32_t draw(void) {
-    seed ^= seed << 13;
-    seed ^= seed >> 17;
-    return seed ^= seed << 5;
-}
-
-static uint32_t below(uint32_t n) { return draw() % n; }
-
-static void fill(uint8_t *bytes, size_t length) {
-    while (length--) *bytes++ = (uint8_t)draw();
-}
 
 /* ---- Links and their twins ---- */
 
@@ -176,14 +159,8 @@ static void leave(game *g, seat *s) {
 
 static void sit(game *g, uint8_t me) {
     seat *s = &g->seats[me];
-    zmg_config c;
+    zmg_config c = config_of(g->limit, g->players, me);
     uint32_t codes[3];
-    memset(&c, 0, sizeof c);
-    c.limit = g->limit;
-    c.players = (uint8_t)g->players;
-    c.me = me;
-    c.settings.skill = 2;
-    c.settings.episode = c.settings.map = 1;
     memset(s->acknowledged, 0, sizeof s->acknowledged);
     memset(s->noted, 0, sizeof s->noted);
     s->owes = 0;
@@ -625,8 +602,7 @@ static void turn(unsigned which) {
 
 int main(int argc, char **argv) {
     unsigned long wanted = argc > 1 ? strtoul(argv[1], NULL, 10) : 1000000;
-    /* never 0 */
-    if (argc > 2) seed = 2 * (uint32_t)strtoul(argv[2], NULL, 10) + 1;
+    if (argc > 2) begin_chance(argv[2]);
     if (argc > 3) fail_every(strtoul(argv[3], NULL, 10));
     for (unsigned k = 0; k < GAMES; k++) begin(&games[k]);
     while (received < wanted) turn(below(GAMES));

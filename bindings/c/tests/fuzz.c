@@ -5,7 +5,9 @@
  * Each node has a twin, which is given the same calls and must answer the same. After each call the counts
  * of a node must not have fallen, and now and then its demo is read and must have the rows that the node
  * told. The twin of a sealed node is not sealed: it is given the datagrams of the envelopes that were heard. */
+#include "chance.h"
 #include "failing.h"
+#include "must.h"
 #include "zirmegat.h"
 #include <stdio.h>
 #include <stdlib.h>
@@ -20,7 +22,6 @@ typedef struct seen {
     uint64_t world;
 } seen;
 
-static uint32_t seed = 1;
 static zmg_lockstep nodes[NODES], twins[NODES];
 static seen seens[NODES];
 /* two players of a game with a secret, whose twins are nodes that are not sealed */
@@ -34,22 +35,9 @@ static unsigned long calls, answers[32][16];
 static const uint32_t highest[32] = { 10, 0, 2, 2, 6, 4, 4, 104, 5, 9, 7, 9, 1, 1, 4, 1, 1, 1, 1, 0, 0, 1, 1,
     8, 8, 141 };
 
-#define MUST(holds) must(holds, #holds, __LINE__)
-
-static void must(int holds, const char *what, int line) {
-    if (holds) return;
-    fprintf(stderr, "fuzz.c:%d: not so after %lu calls: %s\n", line, calls, what);
-    exit(1);
-}
-
-static uint32_t draw(void) {
-    seed ^= seed << 13;
-    seed ^= seed >> 17;
-    return seed ^= seed << 5;
-}
+static void tell_where(FILE *out) { fprintf(out, "after %lu calls", calls); }
 
 static uint8_t byte(void) { return (uint8_t)draw(); }
-static uint32_t below(uint32_t n) { return draw() % n; }
 static unsigned any_node(void) { return below(NODES); }
 static zmg_demo *any_demo(void) { return &demos[below(DEMOS)]; }
 
@@ -57,10 +45,6 @@ static uint32_t count(unsigned call, uint32_t answer) {
     MUST(!highest[call] || answer <= highest[call]);
     answers[call][answer < 15 ? answer : 15]++;
     return answer;
-}
-
-static void fill(size_t length) {
-    for (size_t k = 0; k < length; k++) bytes[k] = byte();
 }
 
 static uint64_t stepped(uint64_t world, const zmg_move row[4]) {
@@ -308,7 +292,7 @@ static void tic(void) {
 static void packets(void) {
     zmg_packet packet, back;
     size_t length = below(120);
-    fill(length);
+    fill(bytes, length);
     memset(&packet, (int)byte(), sizeof packet);
     count(6, zmg_packet_decode(bytes, length, &packet));
     if (below(2)) packet.flags &= 15;
@@ -329,7 +313,7 @@ static size_t some_demo(void) {
     size_t length = zmg_lockstep_demo(&nodes[any_node()], below(2) ? 0 : below(3000), bytes, below(BYTES));
     if (below(4) == 0) {
         length = below(200);
-        fill(length);
+        fill(bytes, length);
         if (length && below(4)) bytes[0] = below(2) ? 109 : 111;
     }
     if (length && below(4) == 0) bytes[below((uint32_t)length)] = byte();
@@ -451,7 +435,7 @@ static void sealed_call(unsigned k) {
         unseal(1 - k, out, n);
     }
     n = below(160);
-    fill(n);
+    fill(bytes, n);
     if (zmg_sealed_lockstep_phase(&sealed[k]).code != ZMG_PHASE_NONE)
         MUST(unseal(k, bytes, n) == ZMG_RECEIVE_UNOPENED);
     if (below(500) == 0) marks[k] = (int16_t)draw();
@@ -476,7 +460,7 @@ static void any_call(void) {
     case 1: if (below(40) == 0) give_up(k); break;
     case 2: if (below(40) == 0) quit(k); break;
     case 3: build(k, draw() ^ draw() << 12); break;
-    case 4: fill(n); receive(k, (uint8_t)below(6), bytes, n); break;
+    case 4: fill(bytes, n); receive(k, (uint8_t)below(6), bytes, n); break;
     case 5: n = packet(k, (uint8_t)below(6), n);
             if (n) receive(any_node(), (uint8_t)below(5), out, n);
             break;
@@ -495,8 +479,7 @@ static void any_call(void) {
 
 int main(int argc, char **argv) {
     unsigned long wanted = argc > 1 ? strtoul(argv[1], NULL, 10) : 100000;
-    /* never 0 */
-    if (argc > 2) seed = 2 * (uint32_t)strtoul(argv[2], NULL, 10) + 1;
+    if (argc > 2) begin_chance(argv[2]);
     if (argc > 3) fail_every(strtoul(argv[3], NULL, 10));
     pair();
     seal();

@@ -1001,51 +1001,38 @@ static void demos(void) {
     IS(zmg_demo_tell(&demo).known, 0);
 }
 
+/* The call makes so many requests for memory. If one of them is refused, whichever it is, the call answers with
+ * the code `refused`, and `is_empty` holds. */
+#define ASKS(requests, call, refused, is_empty) \
+    do { \
+        for (unsigned long n = 1; n <= (requests); n++) { \
+            fail_once(n); \
+            IS(call, refused); \
+            IS(is_empty, 1); \
+        } \
+        fail_once((requests) + 1); \
+        IS(call, 0); \
+    } while (0)
+
 /* Each request for memory is refused in turn, until a call asks for no more. */
 static void no_memory(void) {
     zmg_config c = config_of(0);
     zmg_demo demo = ZMG_DEMO_NONE;
     static uint8_t out[1024], text[1024];
-    unsigned long n;
-    uint32_t code;
     memset(text, 0, sizeof text);
     text[0] = 109; text[9] = 1; text[1023] = 0x80; text[13] = 0x80;
     zmg_lockstep_free(&key);
     zmg_lockstep_free(&other);
     IS(blocks_held(), 0);
-    for (n = 1, code = 1; code; n++) {
-        fail_once(n);
-        code = zmg_lockstep_new(&key, &c);
-        if (!code) continue;
-        IS(code, ZMG_NEW_NO_MEMORY);
-        IS(zmg_lockstep_phase(&key).code, ZMG_PHASE_NONE);
-        IS(blocks_held(), 0);
-    }
-    IS(n, 4);
-    for (n = 1, code = 1; code; n++) {
-        fail_once(n);
-        code = zmg_sealed_lockstep_new(&sealed_key, &c, ZMG_MOST_AHEAD, secret, number);
-        if (!code) continue;
-        IS(code, ZMG_NEW_NO_MEMORY);
-        IS(zmg_sealed_lockstep_phase(&sealed_key).code, ZMG_PHASE_NONE);
-    }
-    IS(n, 4);
+    ASKS(2, zmg_lockstep_new(&key, &c), ZMG_NEW_NO_MEMORY,
+        zmg_lockstep_phase(&key).code == ZMG_PHASE_NONE && blocks_held() == 0);
+    ASKS(2, zmg_sealed_lockstep_new(&sealed_key, &c, ZMG_MOST_AHEAD, secret, number), ZMG_NEW_NO_MEMORY,
+        zmg_sealed_lockstep_phase(&sealed_key).code == ZMG_PHASE_NONE);
     zmg_sealed_lockstep_free(&sealed_key);
-    for (n = 1, code = 1; code; n++) {
-        fail_once(n);
-        code = zmg_link_new(&key_link, &c, ZMG_MOST_AHEAD, secret, number, host);
-        if (!code) continue;
-        IS(code, ZMG_NEW_NO_MEMORY);
-        IS(zmg_link_phase(&key_link).code, ZMG_PHASE_NONE);
-    }
-    IS(n, 4);
+    ASKS(2, zmg_link_new(&key_link, &c, ZMG_MOST_AHEAD, secret, number, host), ZMG_NEW_NO_MEMORY,
+        zmg_link_phase(&key_link).code == ZMG_PHASE_NONE);
     zmg_link_free(&key_link);
-    for (n = 1, code = 1; code; n++) {
-        fail_once(n);
-        code = zmg_demo_new(&demo);
-        if (code) IS(code, ZMG_DEMO_NO_MEMORY);
-    }
-    IS(n, 3);
+    ASKS(1, zmg_demo_new(&demo), ZMG_DEMO_NO_MEMORY, zmg_demo_tell(&demo).known == 0);
     fail_once(1);
     IS(zmg_demo_push(&demo, text, 10), ZMG_DEMO_NO_MEMORY);
     IS(zmg_demo_push(&demo, text, 13), ZMG_DEMO_DONE);
@@ -1053,12 +1040,7 @@ static void no_memory(void) {
     IS(zmg_demo_push(&demo, text + 13, 1011), ZMG_DEMO_NO_MEMORY);
     IS(zmg_demo_push(&demo, text + 13, 1), ZMG_DEMO_DONE);
     IS(zmg_demo_read(&demo), ZMG_DEMO_DONE);
-    for (n = 1, code = 1; code; n++) {
-        fail_once(n);
-        code = zmg_demo_upgrade(text, sizeof text, out, sizeof out).code;
-        if (code) IS(code, ZMG_DEMO_NO_MEMORY);
-    }
-    IS(n, 4);
+    ASKS(2, zmg_demo_upgrade(text, sizeof text, out, sizeof out).code, ZMG_DEMO_NO_MEMORY, 1);
     fail_once(0);
     zmg_demo_free(&demo);
     zmg_lockstep_free(&key);

@@ -5,6 +5,8 @@
  * and comes back; one vanishes, and is given up for good, of two players and of three. At last two on a line that
  * is longer than the window, who lose nothing of the motion of their mice. C99 and C++. Ends with status 0, or
  * names the line that failed. */
+#include "chance.h"
+#include "must.h"
 #include "zirmegat.h"
 #include <stdio.h>
 #include <stdlib.h>
@@ -17,22 +19,13 @@ typedef struct flight {
     uint8_t to, bytes[ZMG_LINK_SIZE];
 } flight;
 
-static uint32_t seed = 1, lost;
+static uint32_t lost;
 static zmg_link links[LINKS];
 static int16_t worlds[LINKS][4];
 static flight flights[FLIGHTS];
 static uint8_t demos[2][DEMO + 64];
 
-#define MUST(holds) must(holds, #holds, __LINE__)
-
-static void must(int holds, const char *what, int line) {
-    if (holds) return;
-    fprintf(stderr, "link.c:%d: not so: %s\n", line, what);
-    exit(1);
-}
-
-static uint32_t draw(void) { return (seed = seed * 1664525u + 1013904223u) >> 8; }
-static uint32_t below(uint32_t n) { return draw() % n; }
+static void tell_where(FILE *out) { fprintf(out, "after %u lost datagrams", (unsigned)lost); }
 
 static void open_link(uint8_t me, uint8_t players, uint8_t host) {
     const uint8_t secret[ZMG_SECRET_SIZE] = { 1, 2, 3 }, game[ZMG_NUMBER_SIZE] = { 4, 5, 6 };
@@ -442,7 +435,7 @@ static void long_line(void) {
 
 int main(int argc, char **argv) {
     uint32_t now;
-    if (argc > 1) seed = (uint32_t)strtoul(argv[1], NULL, 10);
+    if (argc > 1) begin_chance(argv[1]);
     MUST(zmg_link_receive(&links[0], demos[0], 0).code == ZMG_LINK_RECEIVE_UNOPENED);
     MUST(zmg_link_may_leave(&links[0]) == 0);
     now = bad_line();

@@ -6,12 +6,17 @@
  * player ends must tell the same, all demos must be the same as far as they go, nobody may wait for ever, and who
  * has quit must be told that it may leave, and not before the others have all of its commands. C99 and C++. Ends
  * with status 0, or names the line that failed. */
+#include "agreed.h"
+#include "chance.h"
+#include "due.h"
+#include "engine.h"
+#include "must.h"
 #include "zirmegat.h"
 #include <stdio.h>
 #include <stdlib.h>
 #include <string.h>
 
-enum { NODES = 4, FLIGHTS = 16384, SPAN = 1024, HELD = 500 };
+enum { NODES = 4, HELD = 500 };
 
 /* In turns, of which each player takes one: how late a player comes or quits at most, how long it stops, how
  * long it gives datagrams after it may leave; how long it waits at most for a tic, and for leave; and how long
@@ -24,12 +29,6 @@ enum { FORGER = NODES, OTHER_GAME, OUTSIDER, LINKS };
 
 typedef enum stage { ABSENT, HERE, LEAVING, GONE } stage;
 
-typedef struct flight {
-    uint32_t next;
-    size_t length;
-    uint8_t from, to, changed, bytes[ZMG_LINK_SIZE + 1];
-} flight;
-
 /* A player's part of a game: when it comes, quits, runs again after a stop, last ran a tic, has quit and may
  * leave; how many turns it took; and a sum of its rows, which is its world. */
 typedef struct player {
@@ -39,50 +38,22 @@ typedef struct player {
     uint8_t may_leave, is_replaced, gives_up;
 } player;
 
-static uint32_t seed = 1, now, players, lost, slowest, spare;
+static uint32_t players, lost, slowest;
 static zmg_link links[LINKS];
 static player all[NODES];
-static flight flights[FLIGHTS];
-static uint32_t due[SPAN];
 static uint8_t secret[ZMG_SECRET_SIZE], number[ZMG_NUMBER_SIZE], host[ZMG_HOST_SIZE], ahead;
 static uint32_t limit;
 static unsigned long games, heard, unopened[16], strangers, full, caught_up, seconds, alone, replaced,
     given_up, early;
 
-#define MUST(holds) must(holds, #holds, __FILE__, __LINE__)
-
-static void must(int holds, const char *what, const char *file, int line) {
-    if (holds) return;
-    fprintf(stderr, "%s:%d: not so in game %lu at turn %u: %s\n", file, line, games, now, what);
-    exit(1);
-}
-
-#include "agreed.h"
+static void tell_where(FILE *out) { fprintf(out, "in game %lu at turn %u", games, (unsigned)now); }
 
 static agreement common;
-
-static uint32_t draw(void) {
-    seed ^= seed << 13;
-    seed ^= seed >> 17;
-    return seed ^= seed << 5;
-}
-
-static uint32_t below(uint32_t n) { return draw() % n; }
-
-static void fill(uint8_t *bytes, size_t length) {
-    while (length--) *bytes++ = (uint8_t)draw();
-}
 
 /* ---- Links ---- */
 
 static void make(unsigned k, uint8_t me, uint32_t of, const uint8_t *with, const uint8_t *in) {
-    zmg_config c;
-    memset(&c, 0, sizeof c);
-    c.limit = limit;
-    c.players = (uint8_t)of;
-    c.me = me;
-    c.settings.skill = 2;
-    c.settings.episode = c.settings.map = 1;
+    zmg_config c = config_of(limit, of, me);
     MUST(zmg_link_new(&links[k], &c, ahead, with, in, host) == ZMG_NEW_OK);
 }
 
@@ -111,10 +82,8 @@ static void open_game(void) {
     fill(secret, sizeof secret);
     fill(number, sizeof number);
     fill(host, sizeof host);
-    memset(due, 0, sizeof due);
     memset(all, 0, sizeof all);
-    for (uint32_t k = 1; k < FLIGHTS; k++) flights[k].next = k + 1 < FLIGHTS ? k + 1 : 0;
-    spare = 1;
+    clear_line();
     for (uint32_t p = 0; p < players; p++) {
         all[p].comes = below(3) ? 0 : below(LATEST);
         all[p].quits = late + below(LAST);
@@ -126,15 +95,6 @@ static void open_game(void) {
 }
 
 /* ---- The network ---- */
-
-static void post(const flight *f, uint32_t after) {
-    uint32_t k = spare, at = (now + after) % SPAN;
-    MUST(k != 0 && after < SPAN);
-    spare = flights[k].next;
-    flights[k] = *f;
-    flights[k].next = due[at];
-    due[at] = k;
-}
 
 /* Turns a bit, cuts, puts a byte behind, makes all anew, or names another of the players as the sender. */
 static void change(flight *f) {
@@ -194,17 +154,12 @@ static void run_all(uint8_t me) {
     player *p = &all[me];
     for (uint8_t k = 0; k < players; k++) tells_end(&common, k, zmg_link_end(&links[me], k));
     for (;;) {
-        int16_t marks[4];
         zmg_move row[4];
-        zmg_ran ran;
-        for (unsigned k = 0; k < 4; k++) marks[k] = (int16_t)p->world;
-        ran = zmg_link_run(&links[me], marks, row);
+        zmg_ran ran = run_link(&links[me], p->world, row);
         MUST(ran.code != ZMG_RUN_INCONSISTENT);
         if (ran.code != ZMG_RUN_RAN) return;
         runs_row(&common, players, ran.tic, row);
-        for (unsigned k = 0; k < 4; k++)
-            p->world = (uint16_t)(p->world * 31u + (uint16_t)row[k].turn + (uint8_t)row[k].forward
-                + row[k].present);
+        p->world = stepped(p->world, row);
         p->last_run = now;
     }
 }
@@ -311,19 +266,15 @@ static void hear(const flight *f) {
 
 /* What is due now is heard, but by who is stopped after the stop. */
 static void arrive(void) {
-    uint32_t k = due[now % SPAN];
-    due[now % SPAN] = 0;
+    uint32_t k = first_due();
     while (k) {
-        uint32_t next = flights[k].next;
-        const player *p = &all[flights[k].to];
-        flight f = flights[k];
-        flights[k].next = spare;
-        spare = k;
-        if (p->is == HERE || p->is == LEAVING) {
-            if (p->stopped > now) post(&f, p->stopped - now);
-            else hear(&f);
-        }
-        k = next;
+        flight f;
+        const player *p;
+        k = take_due(k, &f);
+        p = &all[f.to];
+        if (p->is != HERE && p->is != LEAVING) continue;
+        if (p->stopped > now) post(&f, p->stopped - now);
+        else hear(&f);
     }
 }
 
@@ -448,8 +399,7 @@ static void game(void) {
 
 int main(int argc, char **argv) {
     unsigned long count = argc > 1 ? strtoul(argv[1], NULL, 10) : 300;
-    /* never 0 */
-    if (argc > 2) seed = 2 * (uint32_t)strtoul(argv[2], NULL, 10) + 1;
+    if (argc > 2) begin_chance(argv[2]);
     while (games < count) game();
     printf("%lu games: heard %lu, strangers %lu, full %lu, caught up %lu, second %lu, alone %lu, replaced %lu,"
         " given up %lu, without a command %lu\nunopened",

@@ -6,6 +6,8 @@
  * and record the same demos, and nothing may open that no node of the game made. Each node has a twin that is not
  * sealed: it is given the datagrams of the envelopes that were heard, and must answer the same. C99 and C++. Ends
  * with status 0, or names the line that failed. */
+#include "agreed.h"
+#include "must.h"
 #include "untrusted.h"
 #include <stdio.h>
 #include <stdlib.h>
@@ -17,15 +19,8 @@ static uint32_t players, quits[NODES];
 static uint8_t has_quit[NODES];
 static unsigned long arrived[10], unopened[9], games, left, alone;
 
-#define MUST(holds) must(holds, #holds, __FILE__, __LINE__)
+static void tell_where(FILE *out) { fprintf(out, "in game %lu", games); }
 
-static void must(int holds, const char *what, const char *file, int line) {
-    if (holds) return;
-    fprintf(stderr, "%s:%d: not so in game %lu: %s\n", file, line, games, what);
-    exit(1);
-}
-
-#include "agreed.h"
 #include "sealed_nodes.h"
 
 static agreement common;
@@ -186,8 +181,7 @@ static void game(int is_open) {
 
 int main(int argc, char **argv) {
     unsigned long count = argc > 1 ? strtoul(argv[1], NULL, 10) : 200;
-    /* never 0 */
-    if (argc > 2) seed = 2 * (uint32_t)strtoul(argv[2], NULL, 10) + 1;
+    if (argc > 2) begin_chance(argv[2]);
     while (games < count) game(games % 4 == 3);
     printf("%lu games: taken %lu, late %lu, carried over %lu, quit %lu, alone %lu, unopened", games,
         arrived[ZMG_RECEIVE_TAKEN], arrived[ZMG_RECEIVE_LATE], carried, left, alone);

@@ -1,25 +1,18 @@
-/* The nodes of a game, their twins, and a stranger's node. For sealed.c, whose MUST it uses. */
+/* The nodes of a game, their twins, and a stranger's node. For sealed.c, which counts the games. */
 #ifndef SEALED_NODES_H
 #define SEALED_NODES_H
 
+#include "engine.h"
+#include "must.h"
 #include "untrusted.h"
 #include "zirmegat.h"
 #include <string.h>
 
+enum { LIMIT = 16384 };
+
 static zmg_sealed_lockstep nodes[4], stranger;
 static zmg_lockstep twins[4];
 static uint8_t secret[ZMG_SECRET_SIZE], number[ZMG_NUMBER_SIZE];
-
-static zmg_config config_of(uint8_t players, uint8_t me) {
-    zmg_config c;
-    memset(&c, 0, sizeof c);
-    c.limit = 16384;
-    c.players = players;
-    c.me = me;
-    c.settings.skill = 2;
-    c.settings.episode = c.settings.map = 1;
-    return c;
-}
 
 /* Each game has a new number, and perhaps the same secret as the one before. */
 static void make_nodes(uint8_t players, int is_open) {
@@ -27,14 +20,14 @@ static void make_nodes(uint8_t players, int is_open) {
     if (games == 0 || below(2)) fill(secret, sizeof secret);
     fill(number, sizeof number);
     for (uint8_t me = 0; me < players; me++) {
-        zmg_config c = config_of(players, me);
+        zmg_config c = config_of(LIMIT, players, me);
         MUST((is_open ? zmg_sealed_lockstep_new_open(&nodes[me], &c, ahead, number)
             : zmg_sealed_lockstep_new(&nodes[me], &c, ahead, secret, number)) == ZMG_NEW_OK);
         MUST(zmg_lockstep_new_within(&twins[me], &c, ahead) == ZMG_NEW_OK);
     }
     /* the same but for the last byte of the secret, or of the number where there is no secret */
     {
-        zmg_config c = config_of(players, 0);
+        zmg_config c = config_of(LIMIT, players, 0);
         uint8_t *byte = is_open ? &number[ZMG_NUMBER_SIZE - 1] : &secret[ZMG_SECRET_SIZE - 1];
         last = *byte;
         *byte ^= 1;

@@ -1,7 +1,8 @@
-/* An untrusted network: numbers of a seed, what is on the way, and what becomes of it there. For sealed.c. */
+/* An untrusted network: what is on the way, and what becomes of it there. For sealed.c. */
 #ifndef UNTRUSTED_H
 #define UNTRUSTED_H
 
+#include "chance.h"
 #include "zirmegat.h"
 #include <stdint.h>
 #include <string.h>
@@ -18,21 +19,8 @@ typedef struct flight {
     uint8_t to, changed, bytes[ZMG_MAX_ENVELOPE + 8];
 } flight;
 
-static uint32_t seed = 1;
 static flight flights[FLIGHTS];
 static unsigned long named, carried;
-
-static uint32_t draw(void) {
-    seed ^= seed << 13;
-    seed ^= seed >> 17;
-    return seed ^= seed << 5;
-}
-
-static uint32_t below(uint32_t n) { return draw() % n; }
-
-static void fill(uint8_t *bytes, size_t length) {
-    while (length--) *bytes++ = (uint8_t)draw();
-}
 
 static void post(const flight *f) {
     flight *place = &flights[below(FLIGHTS)];

@@ -5,6 +5,10 @@
  * up that it goes on with. Players neither of whom has given up the other must run the same rows, and of their
  * demos one must be the beginning of the other; of any two at all the moves of a player must be the same wherever
  * both have them; and who remains must play on. C99 and C++. Ends with status 0, or names the line that failed. */
+#include "chance.h"
+#include "due.h"
+#include "engine.h"
+#include "must.h"
 #include "zirmegat.h"
 #include <stdio.h>
 #include <stdlib.h>
@@ -12,7 +16,7 @@
 
 /* In turns, of which each player takes one, 35 in a second: how long a player may be silent, how long a game
  * takes, and within how many turns before its end who remains must have run a tic. */
-enum { NODES = 4, FLIGHTS = 16384, SPAN = 64, PATIENCE = 175, LENGTH = 1400, LATELY = 60 };
+enum { NODES = 4, PATIENCE = 175, LENGTH = 1400, LATELY = 60 };
 /* The number of the drop of a report of one who is given up. */
 enum { FROM_GIVEN_UP = 15 };
 enum { MOST_ROWS = 2 * LENGTH, MOST_DEMO = 13 + MOST_ROWS * 4 * 5 + 1 };
@@ -21,12 +25,6 @@ enum { MOST_ROWS = 2 * LENGTH, MOST_DEMO = 13 + MOST_ROWS * 4 * 5 + 1 };
 enum { HEAD = 13, VIEW = 9 };
 
 typedef enum plot { CRASH, TWO_CRASH, CRASH_WHILE_DECIDING, LOST_FAREWELL, SLOW, TOO_SLOW, PARTED, EARLY, PLOTS } plot;
-
-typedef struct flight {
-    uint32_t next;
-    size_t length;
-    uint8_t from, to, bytes[ZMG_LINK_SIZE];
-} flight;
 
 /* A player: when it crashes, leaves, stands still and wakes, when it last heard each other, how much came from
  * each by then, how many tics it ran and when the last, and its rows. */
@@ -37,41 +35,18 @@ typedef struct player {
     zmg_move rows[MOST_ROWS][4];
 } player;
 
-static uint32_t seed = 1, now, players, lost, slowest, spare, cut;
+static uint32_t players, lost, slowest, cut;
 static plot what;
 static zmg_link links[NODES];
 static player all[NODES];
-static flight flights[FLIGHTS];
-static uint32_t due[SPAN];
 static unsigned long games, plots[PLOTS], given[8], reports, decided, apart;
 
-#define MUST(holds) must(holds, #holds, __FILE__, __LINE__)
-
-static void must(int holds, const char *why, const char *file, int line) {
-    if (holds) return;
-    fprintf(stderr, "%s:%d: not so in game %lu (plot %u, %u players) at turn %u: %s\n", file, line, games,
-        (unsigned)what, players, now, why);
-    exit(1);
+static void tell_where(FILE *out) {
+    fprintf(out, "in game %lu (plot %u, %u players) at turn %u", games, (unsigned)what, (unsigned)players,
+        (unsigned)now);
 }
-
-static uint32_t draw(void) {
-    seed ^= seed << 13;
-    seed ^= seed >> 17;
-    return seed ^= seed << 5;
-}
-
-static uint32_t below(uint32_t n) { return draw() % n; }
 
 /* ---- The line ---- */
-
-static void post(const flight *f, uint32_t after) {
-    uint32_t k = spare, at = (now + after) % SPAN;
-    MUST(k != 0 && after < SPAN);
-    spare = flights[k].next;
-    flights[k] = *f;
-    flights[k].next = due[at];
-    due[at] = k;
-}
 
 /* The line may be cut between the first two players and the others. */
 static int is_cut(uint8_t from, uint8_t to) { return now >= cut && (from < 2) != (to < 2); }
@@ -101,19 +76,14 @@ static void give(uint8_t from, uint8_t to) {
 static void run(uint8_t me) {
     player *p = &all[me];
     for (;;) {
-        int16_t marks[4];
         zmg_move row[4];
-        zmg_ran ran;
-        for (unsigned k = 0; k < 4; k++) marks[k] = (int16_t)p->world;
-        ran = zmg_link_run(&links[me], marks, row);
+        zmg_ran ran = run_link(&links[me], p->world, row);
         MUST(ran.code != ZMG_RUN_INCONSISTENT && ran.code != ZMG_RUN_DEMO_FULL);
         if (ran.code != ZMG_RUN_RAN) return;
         MUST(ran.tic == p->ran && ran.tic < MOST_ROWS);
         memcpy(p->rows[p->ran++], row, sizeof row);
         p->last_run = now;
-        for (unsigned k = 0; k < 4; k++)
-            p->world = (uint16_t)(p->world * 31u + (uint16_t)row[k].turn + (uint8_t)row[k].forward
-                + row[k].present);
+        p->world = stepped(p->world, row);
     }
 }
 
@@ -183,16 +153,12 @@ static int is_up(uint8_t p) {
 
 /* What comes to one that stands still waits for it in its socket. */
 static void arrive(void) {
-    uint32_t k = due[now % SPAN];
-    due[now % SPAN] = 0;
+    uint32_t k = first_due();
     while (k) {
-        uint32_t next = flights[k].next;
-        flight f = flights[k];
-        flights[k].next = spare;
-        spare = k;
+        flight f;
+        k = take_due(k, &f);
         if (is_up(f.to)) hear(&f);
         else if (now < all[f.to].crashes && below(40)) post(&f, 1);
-        k = next;
     }
 }
 
@@ -201,14 +167,8 @@ static void arrive(void) {
 static void make(uint8_t me) {
     static const uint8_t secret[ZMG_SECRET_SIZE] = { 1 }, host[ZMG_HOST_SIZE] = { 3 };
     uint8_t number[ZMG_NUMBER_SIZE] = { 2 };
-    zmg_config c;
-    memset(&c, 0, sizeof c);
+    zmg_config c = config_of(1 << 20, players, me);
     memcpy(number + 1, &games, sizeof games);
-    c.limit = 1 << 20;
-    c.players = (uint8_t)players;
-    c.me = me;
-    c.settings.skill = 2;
-    c.settings.episode = c.settings.map = 1;
     MUST(zmg_link_new(&links[me], &c, (uint8_t)(5 + games % 8), secret, number, host) == ZMG_NEW_OK);
 }
 
@@ -245,14 +205,12 @@ static void draw_plot(void) {
 
 static void open_game(void) {
     memset(all, 0, sizeof all);
-    memset(due, 0, sizeof due);
     now = 0;
     cut = UINT32_MAX;
     players = 2 + below(3);
     lost = below(26);
     slowest = 1 + below(8);
-    for (uint32_t k = 1; k < FLIGHTS; k++) flights[k].next = k + 1 < FLIGHTS ? k + 1 : 0;
-    spare = 1;
+    clear_line();
     for (uint8_t p = 0; p < NODES; p++) {
         all[p].crashes = all[p].sleeps = all[p].leaves = UINT32_MAX;
         all[p].wakes = 0;
@@ -319,8 +277,7 @@ static void game(void) {
 
 int main(int argc, char **argv) {
     unsigned long count = argc > 1 ? strtoul(argv[1], NULL, 10) : 500;
-    /* never 0 */
-    if (argc > 2) seed = 2 * (uint32_t)strtoul(argv[2], NULL, 10) + 1;
+    if (argc > 2) begin_chance(argv[2]);
     while (games < count) game();
     printf("%lu games: reports %lu, decided by one %lu, pairs that parted %lu; give-ups:", games, reports, decided,
         apart);

@@ -3,6 +3,9 @@
  * window and the delay allow. Then, over a line that loses, repeats, delays and reorders, PACKETS packets are
  * given in each window, and a node that plays may drop none but set-up that comes again: no window is
  * overrun. At all times the nodes run the same moves. C99. Ends with status 0, or names the line that failed. */
+#include "chance.h"
+#include "engine.h"
+#include "must.h"
 #include "zirmegat.h"
 #include <stdio.h>
 #include <stdlib.h>
@@ -22,7 +25,6 @@ typedef struct line {
     uint32_t delay, more, lost, twice;
 } line;
 
-static uint32_t seed = 1;
 static zmg_lockstep nodes[NODES];
 static flight flights[FLIGHTS];
 static uint64_t turns[NODES];
@@ -31,16 +33,7 @@ static uint32_t worlds[NODES], sums[TICS];
 static uint32_t furthest;
 static unsigned long given, dropped[16];
 
-#define MUST(holds) must(holds, #holds, __LINE__)
-
-static void must(int holds, const char *what, int at) {
-    if (holds) return;
-    fprintf(stderr, "windows.c:%d: not so: %s\n", at, what);
-    exit(1);
-}
-
-static uint32_t draw(void) { return (seed = seed * 1664525u + 1013904223u) >> 8; }
-static uint32_t below(uint32_t n) { return n ? draw() % n : 0; }
+static void tell_where(FILE *out) { fprintf(out, "after %lu packets", given); }
 
 static void post(const flight *packet) {
     for (unsigned k = 0; k < FLIGHTS; k++)
@@ -95,12 +88,7 @@ static void run(uint8_t me) {
 }
 
 static void open_game(uint8_t players, uint8_t ahead) {
-    zmg_config c;
-    memset(&c, 0, sizeof c);
-    c.limit = 16777216;
-    c.players = players;
-    c.settings.skill = 2;
-    c.settings.episode = c.settings.map = 1;
+    zmg_config c = config_of(16777216, players, 0);
     memset(flights, 0, sizeof flights);
     memset(worlds, 0, sizeof worlds);
     furthest = 0;

@@ -144,7 +144,7 @@ impl Demo {
 
     /// Returns how the game started, as the demo's header has it.
     pub fn start(&self) -> Start {
-        Start::of(self.told().start)
+        self.told().start
     }
 
     /// Returns the player whose view it shows.

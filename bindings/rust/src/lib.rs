@@ -93,6 +93,7 @@
 
 mod calls;
 mod demo;
+mod given;
 mod link;
 mod lockstep;
 mod node;

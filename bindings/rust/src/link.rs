@@ -1,6 +1,7 @@
 //! A link, a sealed node that also takes care of delivery, pace and the lobby; and a node with one.
 
 use crate::calls::{lockstep_calls, node_calls};
+use crate::given::given_bytes;
 use crate::lockstep::{opened, NodeError};
 use crate::node::World;
 use crate::packet::Command;
@@ -99,15 +100,10 @@ impl Link {
     /// also before the game has started. Returns None, and leaves the link as it was, if `to` is not another
     /// player's number, or if that player is given up by [`give_up`](Link::give_up).
     pub fn datagram(&mut self, to: u8) -> Option<LinkDatagram> {
-        let mut datagram = LinkDatagram {
-            bytes: [0; 1200],
-            length: 0,
-        };
-        let out = &mut datagram.bytes;
-        // SAFETY: the call has exclusive use of the handle (`Held`), and the array is valid for its length.
-        datagram.length =
-            unsafe { raw::zmg_link_datagram(self.0.at(), to, out.as_mut_ptr(), out.len()) };
-        (datagram.length > 0).then_some(datagram)
+        LinkDatagram::written(|out, room| {
+            // SAFETY: the call has exclusive use of the handle (`Held`), and the array is valid for its length.
+            unsafe { raw::zmg_link_datagram(self.0.at(), to, out, room) }
+        })
     }
 
     /// Takes in any bytes, whoever sent them and whenever they come. If it returns [`Received::Heard`] with
@@ -179,15 +175,10 @@ impl Link {
     /// left; [`receive`](Link::receive) takes it. Returns None if `to` is not another player's number or is given
     /// up, and while this link has given up nobody and has not left.
     pub fn report(&self, to: u8) -> Option<LinkReport> {
-        let mut report = LinkReport {
-            bytes: [0; 425],
-            length: 0,
-        };
-        let out = &mut report.bytes;
-        // SAFETY: the call has exclusive use of the handle (`Held`), and the array is valid for its length.
-        report.length =
-            unsafe { raw::zmg_link_report(self.0.at(), to, out.as_mut_ptr(), out.len()) };
-        (report.length > 0).then_some(report)
+        LinkReport::written(|out, room| {
+            // SAFETY: the call has exclusive use of the handle (`Held`), and the array is valid for its length.
+            unsafe { raw::zmg_link_report(self.0.at(), to, out, room) }
+        })
     }
 
     /// Returns true if no other player needs anything more from this one: each has played and left, is
@@ -241,46 +232,14 @@ impl fmt::Debug for Link {
     }
 }
 
-/// The bytes of a link's datagram, at most 1,200.
-#[derive(Clone, Copy)]
-pub struct LinkDatagram {
-    bytes: [u8; 1200],
-    length: usize,
+given_bytes! {
+    /// The bytes of a link's datagram, at most 1,200.
+    LinkDatagram 1200
 }
 
-impl fmt::Debug for LinkDatagram {
-    fn fmt(&self, f: &mut fmt::Formatter<'_>) -> fmt::Result {
-        f.debug_tuple("LinkDatagram").field(&&**self).finish()
-    }
-}
-
-impl std::ops::Deref for LinkDatagram {
-    type Target = [u8];
-
-    fn deref(&self) -> &[u8] {
-        &self.bytes[..self.length]
-    }
-}
-
-/// The bytes of a link's report, at most 425.
-#[derive(Clone, Copy)]
-pub struct LinkReport {
-    bytes: [u8; 425],
-    length: usize,
-}
-
-impl fmt::Debug for LinkReport {
-    fn fmt(&self, f: &mut fmt::Formatter<'_>) -> fmt::Result {
-        f.debug_tuple("LinkReport").field(&&**self).finish()
-    }
-}
-
-impl std::ops::Deref for LinkReport {
-    type Target = [u8];
-
-    fn deref(&self) -> &[u8] {
-        &self.bytes[..self.length]
-    }
+given_bytes! {
+    /// The bytes of a link's report, at most 425.
+    LinkReport 425
 }
 
 /// Why bytes are not a datagram to this player in this game: the first of these that holds.

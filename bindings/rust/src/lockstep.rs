@@ -1,6 +1,7 @@
 //! A lockstep: a node whose world is the caller's.
 
 use crate::calls::lockstep_calls;
+use crate::given::given_bytes;
 use crate::packet::Command;
 use crate::raw;
 use crate::values::{self, Aim, Config, Heard, Keys, Made, Move, Phase, Ran, Settings};
@@ -116,15 +117,10 @@ impl Lockstep {
     /// as it was, if there is no packet: to the node's own player, to a number that belongs to no player, at
     /// [`Phase::Listening`], and at [`Phase::Ended`] if no game had started.
     pub fn packet(&mut self, to: u8) -> Option<Datagram> {
-        let mut datagram = Datagram {
-            bytes: [0; 104],
-            length: 0,
-        };
-        let out = &mut datagram.bytes;
-        // SAFETY: the call has exclusive use of the handle (`Held`), and the array is valid for its length.
-        datagram.length =
-            unsafe { raw::zmg_lockstep_packet(self.0.at(), to, out.as_mut_ptr(), out.len()) };
-        (datagram.length > 0).then_some(datagram)
+        Datagram::written(|out, room| {
+            // SAFETY: the call has exclusive use of the handle (`Held`), and the array is valid for its length.
+            unsafe { raw::zmg_lockstep_packet(self.0.at(), to, out, room) }
+        })
     }
 
     /// Returns the full tic numbers of the packet that [`packet`](Lockstep::packet) would return for player
@@ -171,17 +167,7 @@ impl fmt::Debug for Lockstep {
     }
 }
 
-/// The bytes of a packet, at most 104.
-#[derive(Clone, Copy, Debug)]
-pub struct Datagram {
-    bytes: [u8; 104],
-    length: usize,
-}
-
-impl std::ops::Deref for Datagram {
-    type Target = [u8];
-
-    fn deref(&self) -> &[u8] {
-        &self.bytes[..self.length]
-    }
+given_bytes! {
+    /// The bytes of a packet, at most 104.
+    Datagram 104
 }

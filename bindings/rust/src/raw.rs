@@ -3,6 +3,8 @@
 use core::cell::UnsafeCell;
 use core::ffi::c_void;
 
+pub use crate::values::Start;
+
 #[repr(C)]
 pub struct Handle {
     pub live: u8,
@@ -174,18 +176,6 @@ pub struct Packet {
     pub player: u8,
     pub count: u8,
     pub commands: [Command; 12],
-}
-
-#[repr(C)]
-#[derive(Clone, Copy)]
-pub struct Start {
-    pub skill: u8,
-    pub episode: u8,
-    pub map: u8,
-    pub deathmatch: u8,
-    pub respawn: u8,
-    pub fast: u8,
-    pub no_monsters: u8,
 }
 
 #[repr(C)]

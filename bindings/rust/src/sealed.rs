@@ -1,6 +1,7 @@
 //! Sealed nodes, whose world is the caller's or kept in step, for an untrusted network.
 
 use crate::calls::{lockstep_calls, node_calls};
+use crate::given::given_bytes;
 use crate::lockstep::{opened, NodeError};
 use crate::node::World;
 use crate::packet::Command;
@@ -99,16 +100,10 @@ impl SealedLockstep {
     /// and leaves the node as it was, if there is no packet, as for
     /// [`Lockstep::packet`](crate::Lockstep::packet).
     pub fn packet(&mut self, to: u8) -> Option<Envelope> {
-        let mut envelope = Envelope {
-            bytes: [0; 141],
-            length: 0,
-        };
-        let out = &mut envelope.bytes;
-        // SAFETY: the call has exclusive use of the handle (`Held`), and the array is valid for its length.
-        envelope.length = unsafe {
-            raw::zmg_sealed_lockstep_packet(self.0.at(), to, out.as_mut_ptr(), out.len())
-        };
-        (envelope.length > 0).then_some(envelope)
+        Envelope::written(|out, room| {
+            // SAFETY: the call has exclusive use of the handle (`Held`), and the array is valid for its length.
+            unsafe { raw::zmg_sealed_lockstep_packet(self.0.at(), to, out, room) }
+        })
     }
 
     /// Takes in any bytes, whoever sent them. If it returns [`Heard::Started`] in [`Arrived::Heard`], the
@@ -136,19 +131,9 @@ impl fmt::Debug for SealedLockstep {
     }
 }
 
-/// The bytes of an envelope, at most 141.
-#[derive(Clone, Copy, Debug)]
-pub struct Envelope {
-    bytes: [u8; 141],
-    length: usize,
-}
-
-impl std::ops::Deref for Envelope {
-    type Target = [u8];
-
-    fn deref(&self) -> &[u8] {
-        &self.bytes[..self.length]
-    }
+given_bytes! {
+    /// The bytes of an envelope, at most 141.
+    Envelope 141
 }
 
 /// A [`SealedLockstep`] and a world, kept in step. The caller owes what it owes for a [`SealedLockstep`].

@@ -107,35 +107,21 @@ fn bad_configurations_are_refused() {
         }),
         Some(NodeError::Limit)
     );
-    let with = |settings| refused(Config { settings, ..good });
-    assert_eq!(
-        with(Settings {
-            skill: 5,
+    let with = |(skill, deathmatch, episode, map)| {
+        let settings = Settings {
+            skill,
+            deathmatch,
+            episode,
+            map,
             ..settings()
-        }),
-        Some(NodeError::Skill)
-    );
-    assert_eq!(
-        with(Settings {
-            deathmatch: 3,
-            ..settings()
-        }),
-        Some(NodeError::Deathmatch)
-    );
-    assert_eq!(
-        with(Settings {
-            episode: 0,
-            ..settings()
-        }),
-        Some(NodeError::Episode)
-    );
-    assert_eq!(
-        with(Settings {
-            map: 33,
-            ..settings()
-        }),
-        Some(NodeError::Map)
-    );
+        };
+        refused(Config { settings, ..good })
+    };
+    assert_eq!(with((4, 2, 3, 32)), None);
+    assert_eq!(with((5, 2, 3, 32)), Some(NodeError::Skill));
+    assert_eq!(with((4, 3, 3, 32)), Some(NodeError::Deathmatch));
+    assert_eq!(with((4, 2, 0, 32)), Some(NodeError::Episode));
+    assert_eq!(with((4, 2, 3, 33)), Some(NodeError::Map));
 }
 
 #[test]

@@ -53,6 +53,7 @@ impl Settings {
 }
 
 /// What a game starts from: seven bytes, as a demo's header has them.
+#[repr(C)]
 #[derive(Clone, Copy, Debug, Default, PartialEq, Eq)]
 #[allow(missing_docs)]
 pub struct Start {
@@ -63,20 +64,6 @@ pub struct Start {
     pub respawn: u8,
     pub fast: u8,
     pub no_monsters: u8,
-}
-
-impl Start {
-    pub(crate) fn of(raw: raw::Start) -> Start {
-        Start {
-            skill: raw.skill,
-            episode: raw.episode,
-            map: raw.map,
-            deathmatch: raw.deathmatch,
-            respawn: raw.respawn,
-            fast: raw.fast,
-            no_monsters: raw.no_monsters,
-        }
-    }
 }
 
 /// The player of a node, and its game.

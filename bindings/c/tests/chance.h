@@ -1,0 +1,28 @@
+/* The numbers of a seed: the same on every machine. */
+#ifndef CHANCE_H
+#define CHANCE_H
+
+#include <stddef.h>
+#include <stdint.h>
+#include <stdlib.h>
+
+/* never 0 */
+static uint32_t seed = 1;
+
+/* Begins with the seed that an argument of a test names. */
+static inline void begin_chance(const char *number) { seed = 2 * (uint32_t)strtoul(number, NULL, 10) + 1; }
+
+static inline uint32_t draw(void) {
+    seed ^= seed << 13;
+    seed ^= seed >> 17;
+    return seed ^= seed << 5;
+}
+
+/* One of the first n numbers. */
+static inline uint32_t below(uint32_t n) { return draw() % n; }
+
+static inline void fill(uint8_t *bytes, size_t length) {
+    while (length--) *bytes++ = (uint8_t)draw();
+}
+
+#endif
