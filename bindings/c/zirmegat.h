@@ -601,7 +601,7 @@ size_t zmg_link_datagram(zmg_link *link, uint8_t to, uint8_t *out, size_t room);
 #define ZMG_REPORT_STALE 4u    /* it is older than the newest of its sender */
 #define ZMG_REPORT_UNTAKEN 16u /* it is kept, but an end cannot be taken: this plus a ZMG_SETTLE_ */
 
-/* reason: see ZMG_BUNDLE_ and ZMG_REPORT_; 0 except with ZMG_LINK_RECEIVE_UNOPENED, _REPORT and _NO_REPORT, and
+/* reason: see ZMG_BUNDLE_ and ZMG_REPORT_; 0 except with ZMG_LINK_RECEIVE_UNOPENED, _REPORTED and _UNREPORTED, and
  * with the first of them too if the handle holds no link. player: the sender; 0 with ZMG_LINK_RECEIVE_UNOPENED
  * and ZMG_LINK_RECEIVE_UNREPORTED. started: 1 if the game started with these bytes,
  * and then the caller begins its world with zmg_link_settings; else 0. */
@@ -619,15 +619,15 @@ zmg_received zmg_link_receive(zmg_link *link, const uint8_t *bytes, size_t lengt
 #define ZMG_PRESENCE_PLAYING 2u   /* its game has started */
 #define ZMG_PRESENCE_DIFFERENT 3u /* it said hello with another identity, which the other fields have; its
                                    * goodbye before its game changes nothing */
-#define ZMG_PRESENCE_AWAY 4u      /* it left before its game started, or was given up before the game of this
+#define ZMG_PRESENCE_AWAY 4u      /* it left before its game started, or was forgotten before the game of this
                                    * link did; another may take its place, with a link of its own, and is
                                    * heard once 64 of its datagrams have come, or before; but if cause is 0,
-                                   * only if the link that was given up is gone */
+                                   * only if the link that was forgotten is gone */
 #define ZMG_PRESENCE_LEFT 5u      /* it has played, and left */
-#define ZMG_PRESENCE_FORGOTTEN 6u /* it was given up when this link played or had ended, or had given it the
+#define ZMG_PRESENCE_FORGOTTEN 6u /* it was forgotten when this link played or had ended, or had given it the
                                    * settings, or had heard that it plays: nobody takes its place */
 /* cause: with ZMG_PRESENCE_AWAY and ZMG_PRESENCE_LEFT why it left, as at ZMG_PHASE_ENDED (ZMG_CAUSE_QUIT,
- * _FULL, _INCONSISTENT); 0 if it was given up, and in other states. The other fields: with
+ * _FULL, _INCONSISTENT); 0 if it was forgotten, and in other states. The other fields: with
  * ZMG_PRESENCE_DIFFERENT those of its zmg_config, its window and its host, else 0. */
 typedef struct zmg_presence {
     uint32_t state, limit;
@@ -641,7 +641,7 @@ typedef struct zmg_presence {
  * that: player 0's link may give another the settings too, unless the first is ZMG_PRESENCE_FORGOTTEN there. */
 zmg_presence zmg_link_presence(zmg_link *link, uint8_t player);
 
-/* Gives up a player who has not been heard for too long (`came` of zmg_link_line rises with each new one of
+/* Forgets a player who has not been heard for too long (`came` of zmg_link_line rises with each new one of
  * its datagrams). While this link listens or gathers, the player is then ZMG_PRESENCE_AWAY, with cause 0,
  * until a new hello or goodbye comes, or a datagram of its game or a goodbye after its game, of any age; and
  * another may take its place. But if this link plays or has ended, or has given the player the settings, or has
@@ -681,10 +681,11 @@ typedef struct zmg_given_up {
 
 /* Gives up a player who vanished, for good, so that the others play on. Unlike zmg_link_forget it cannot be
  * undone: from here on no datagram goes to the player, nothing of it is taken, zmg_link_run compares no mark of
- * it, and nothing waits for it. Its presence becomes what zmg_link_forget makes of it. All who play on must give
- * it up, and hear each other's reports: then its commands end at the same tic at all of them, and the game goes
- * on from there without it. If the link gathered before the call, and plays after it, the game has started: the
- * caller begins its world with zmg_link_settings. */
+ * it, and zmg_link_may_leave does not wait for it. Its presence becomes what zmg_link_forget makes of it. All who
+ * play on must give it up, and hear each other's reports, and zmg_link_run waits for the player until then: then
+ * its commands end at the same tic at all of them, and the game goes on from there without it. If the link
+ * gathered before the call, and plays after it, the game has started: the caller begins its world with
+ * zmg_link_settings. */
 zmg_given_up zmg_link_give_up(zmg_link *link, uint8_t player);
 
 /* Returns 1 if the player is given up by zmg_link_give_up, else 0. */

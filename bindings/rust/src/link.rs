@@ -123,7 +123,7 @@ impl Link {
         presence(unsafe { raw::zmg_link_presence(self.0.at(), player) })
     }
 
-    /// Gives up a player who has not been heard for too long ([`came`](Line::came) rises with each new one of
+    /// Forgets a player who has not been heard for too long ([`came`](Line::came) rises with each new one of
     /// its datagrams). While this link listens or gathers, the player is then [`Presence::Away`], with
     /// [`Parting::Forgotten`], until a new hello or goodbye comes, or a datagram of its game or a goodbye after
     /// its game, of any age; and another may take its place. But if this link plays or has ended, or has given
@@ -140,9 +140,10 @@ impl Link {
 
     /// Gives up a player who vanished, for good, so that the others play on. Unlike [`forget`](Link::forget) it
     /// cannot be undone: from here on no datagram goes to the player, nothing of it is taken,
-    /// [`run`](Link::run) compares no mark of it, and nothing waits for it. Its presence becomes what `forget`
-    /// makes of it. All who play on must give it up, and hear each other's reports: then its commands end at the
-    /// same tic at all of them, and the game goes on from there without it. If the link gathered before the
+    /// [`run`](Link::run) compares no mark of it, and [`may_leave`](Link::may_leave) does not wait for it. Its
+    /// presence becomes what `forget` makes of it. All who play on must give it up, and hear each other's
+    /// reports, and [`run`](Link::run) waits for the player until then: then its commands end at the same tic at
+    /// all of them, and the game goes on from there without it. If the link gathered before the
     /// call, and plays after it, the game has started: the caller begins its world with the start of
     /// [`settings`](Link::settings).
     pub fn give_up(&mut self, player: u8) -> GivenUp {
@@ -315,7 +316,7 @@ pub struct Identity {
 #[derive(Clone, Copy, Debug, PartialEq, Eq)]
 #[non_exhaustive]
 pub enum Parting {
-    /// It was given up by [`Link::forget`], before the game of this link had started. It may be heard again.
+    /// It was forgotten by [`Link::forget`], before the game of this link had started. It may be heard again.
     Forgotten,
     /// It quit.
     Quit,
@@ -339,13 +340,13 @@ pub enum Presence {
     Playing,
     /// It said hello with this other identity, and takes no part. Its goodbye before its game changes nothing.
     Different(Identity),
-    /// It left before its game started, or was given up before the game of this link did. Another may take its
+    /// It left before its game started, or was forgotten before the game of this link did. Another may take its
     /// place, with a link of its own, and is heard once 64 of its datagrams have come, or before; but if it was
-    /// given up ([`Parting::Forgotten`]), only if the link that was given up is gone.
+    /// forgotten ([`Parting::Forgotten`]), only if the link that was forgotten is gone.
     Away(Parting),
     /// It has played and left.
     Left(Parting),
-    /// It was given up when this link played or had ended, or had given it the settings, or had heard that it
+    /// It was forgotten when this link played or had ended, or had given it the settings, or had heard that it
     /// plays: nobody takes its place.
     Forgotten,
     /// A code that this crate has no name for.
@@ -594,7 +595,7 @@ impl<W: World> LinkNode<W> {
         self.node.presence(player)
     }
 
-    /// Gives up a player who has not been heard for too long, as [`Link::forget`] does.
+    /// Forgets a player who has not been heard for too long, as [`Link::forget`] does.
     pub fn forget(&mut self, player: u8) {
         self.node.forget(player)
     }

@@ -35,7 +35,7 @@ use Rattle.dn_link.specs.Kept.{IsKeptRising, Reaches, Unacknowledged, commands_i
 use Rattle.dn_link.specs.Linked.{Gives, Linked, PeerState, forgotten, holds_back, is_gathering, is_peer}
 use Rattle.dn_link.specs.Onward.{GoesOn, IsGone, IsInTime, StillGoesOn, next_to}
 use Rattle.dn_link.specs.Paced.{PaceState}
-use Rattle.dn_link.specs.Presence.{given_up}
+use Rattle.dn_link.specs.Presence.{when_forgotten}
 use Rattle.dn_link.proofs.Covered.{reached}
 use Rattle.dn_link.proofs.Outgoing.{taken_given}
 use Rattle.dn_link.proofs.Rising.{few, news_rises}
@@ -310,7 +310,7 @@ module _ (limits : Limits) (me to : ℕ) (old new : Linked) (goes : GoesOn limit
 -- a peer is given up
 abbrev new_of : Linked → ℕ → PeerState
 new_of old peer =
-    record (old.peers peer) { presence = given_up (old.peers peer).gave old.node.phase (old.peers peer).presence }
+    record (old.peers peer) { presence = when_forgotten (old.peers peer).gave old.node.phase (old.peers peer).presence }
 
 pub forgets : (limits : Limits) (me to peer : ℕ) (old : Linked) → GoesOn limits me to old
     → StillGoesOn limits me to old (forgotten peer old)
@@ -327,7 +327,7 @@ forgets limits me to peer old goes = go (is_peer old.node peer)
           (λ gone. (
             gone.0,
             ap (λ (t : PeerState). t.presence) now
-                ∙ ap (given_up (old.peers peer).gave old.node.phase) (ap (λ (k : ℕ). (old.peers k).presence) (sym at) ∙ gone.1),
+                ∙ ap (when_forgotten (old.peers peer).gave old.node.phase) (ap (λ (k : ℕ). (old.peers k).presence) (sym at) ∙ gone.1),
           ))
       | inr off ↦
           let now = put_off old.peers peer to (new_of old peer) off in

@@ -7,7 +7,7 @@ use Rattle.dn_machine.proofs.Put.{put_at, put_off}
 use Rattle.dn_link.specs.declared.presence.Presence.{Presence}
 use Rattle.dn_link.specs.declared.presence.Presence.TheVariants.{Left}
 use Rattle.dn_link.specs.Linked.{Linked, PeerState, forgotten, is_peer}
-use Rattle.dn_link.specs.Presence.{given_up}
+use Rattle.dn_link.specs.Presence.{when_forgotten}
 use Rattle.dn_link.proofs.Lefts.{given_up_left}
 
 module _ (old : Linked) where
@@ -21,20 +21,20 @@ module _ (old : Linked) where
     where
       go : (test : Bool)
           → (((if test then record old {
-            peers = put old.peers peer (record (old.peers peer) { presence = given_up (old.peers peer).gave old.node.phase (old.peers peer).presence });
+            peers = put old.peers peer (record (old.peers peer) { presence = when_forgotten (old.peers peer).gave old.node.phase (old.peers peer).presence });
           } else old).peers other).kept ≡ (old.peers other).kept)
           × (((if test then record old {
-            peers = put old.peers peer (record (old.peers peer) { presence = given_up (old.peers peer).gave old.node.phase (old.peers peer).presence });
+            peers = put old.peers peer (record (old.peers peer) { presence = when_forgotten (old.peers peer).gave old.node.phase (old.peers peer).presence });
           } else old).peers other).reported ≡ (old.peers other).reported)
       go false = (refl, refl)
       go true = elim (cases_eq other peer) [
         | inl at ↦
-            let now = put_at old.peers peer other (record (old.peers peer) { presence = given_up (old.peers peer).gave old.node.phase (old.peers peer).presence }) at in (
+            let now = put_at old.peers peer other (record (old.peers peer) { presence = when_forgotten (old.peers peer).gave old.node.phase (old.peers peer).presence }) at in (
               ap (λ (t : PeerState). t.kept) now ∙ ap (λ (k : ℕ). (old.peers k).kept) (sym at),
               ap (λ (t : PeerState). t.reported) now ∙ ap (λ (k : ℕ). (old.peers k).reported) (sym at),
             )
         | inr off ↦
-            let now = put_off old.peers peer other (record (old.peers peer) { presence = given_up (old.peers peer).gave old.node.phase (old.peers peer).presence }) off in
+            let now = put_off old.peers peer other (record (old.peers peer) { presence = when_forgotten (old.peers peer).gave old.node.phase (old.peers peer).presence }) off in
             (ap (λ (t : PeerState). t.kept) now, ap (λ (t : PeerState). t.reported) now)
       ]
 
@@ -43,7 +43,7 @@ module _ (old : Linked) where
   forgets_left peer other cause = go (is_peer old.node peer)
     where
       gone : Presence
-      gone = given_up (old.peers peer).gave old.node.phase (old.peers peer).presence
+      gone = when_forgotten (old.peers peer).gave old.node.phase (old.peers peer).presence
 
       go : (test : Bool)
           → ((if test then record old {
@@ -65,7 +65,7 @@ module _ (old : Linked) where
   forgets_node peer = go (is_peer old.node peer)
     where
       go : (test : Bool) → (if test then record old {
-        peers = put old.peers peer (record (old.peers peer) { presence = given_up (old.peers peer).gave old.node.phase (old.peers peer).presence });
+        peers = put old.peers peer (record (old.peers peer) { presence = when_forgotten (old.peers peer).gave old.node.phase (old.peers peer).presence });
       } else old).node ≡ old.node
       go true = refl
       go false = refl
@@ -74,7 +74,7 @@ module _ (old : Linked) where
   forgets_others peer = go (is_peer old.node peer)
     where
       go : (test : Bool) → (if test then record old {
-        peers = put old.peers peer (record (old.peers peer) { presence = given_up (old.peers peer).gave old.node.phase (old.peers peer).presence });
+        peers = put old.peers peer (record (old.peers peer) { presence = when_forgotten (old.peers peer).gave old.node.phase (old.peers peer).presence });
       } else old).others ≡ old.others
       go true = refl
       go false = refl

@@ -16,7 +16,7 @@ use Rattle.dn_link.specs.declared.presence.Presence.TheVariants.{Unknown, There,
 use Rattle.dn_link.specs.Counting.{counts_of, has_ended, has_of, with_end}
 use Rattle.dn_link.specs.Ends.{tells_end}
 use Rattle.dn_link.specs.Hearing.{ByTest}
-use Rattle.dn_link.specs.Presence.{Becomes, Greets, given_up, goes, has_played, may_come, place_of, plays_on, takes_part}
+use Rattle.dn_link.specs.Presence.{Becomes, Greets, when_forgotten, goes, has_played, may_come, place_of, plays_on, takes_part}
 
 -- how far a lockstep says that it is, it is
 pub counts_reach : (n : Contents) (which : ℕ) → slice_index (counts_of n).got which ≤ has_of n which
@@ -60,7 +60,7 @@ not_left cause false (phase.Ended why) e = absurd (cc)
 
 -- one that is given up has left if it had
 pub given_up_left : (gave : Bool) (at : Phase) (presence : Presence) (cause : ℕ)
-    → given_up gave at presence ≡ Left cause → presence ≡ Left cause
+    → when_forgotten gave at presence ≡ Left cause → presence ≡ Left cause
 given_up_left gave at (Left why) cause e = e
 given_up_left gave at Playing cause e = absurd (cc)
 given_up_left gave at Unknown cause e = not_left cause gave at e

@@ -27,7 +27,7 @@ use Rattle.dn_link.specs.Line.{missing}
 use Rattle.dn_link.specs.Paced.{PaceState}
 use Rattle.dn_link.specs.Packets.{packets_in}
 use Rattle.dn_link.specs.Packing.{ArePacked}
-use Rattle.dn_link.specs.Presence.{Becomes, Differs, given_up, has_gone, has_left, is_fresh, is_there, message_of, still_given}
+use Rattle.dn_link.specs.Presence.{Becomes, Differs, when_forgotten, has_gone, has_left, is_fresh, is_there, message_of, still_given}
 use Rattle.dn_link.specs.Text.{IsBundle, sealed_bytes}
 
 -- what it keeps of a peer: the packets that the peer has not acknowledged, the most that the peer's datagrams
@@ -224,13 +224,13 @@ none_needs link =
 abbrev pub may_leave : Linked → Bool
 may_leave link = never_played link.node || none_needs link
 
--- a peer is given up
+-- a peer is forgotten
 abbrev pub forgotten : ℕ → Linked → Linked
 forgotten player link =
     if is_peer link.node player
     then record link {
       peers = put link.peers player (record (link.peers player) {
-        presence = given_up (link.peers player).gave link.node.phase (link.peers player).presence;
+        presence = when_forgotten (link.peers player).gave link.node.phase (link.peers player).presence;
       });
     }
     else link

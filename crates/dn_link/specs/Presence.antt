@@ -85,22 +85,22 @@ has_left (Left cause) = true
 has_left Forgotten = true
 has_left presence = false
 
--- it said goodbye before its game; one that was given up then (0) may come back
+-- it said goodbye before its game; one that was forgotten then (0) may come back
 abbrev pub has_gone : Presence → Bool
 has_gone (Away cause) = nat_lt 0 cause
 has_gone presence = false
 
--- it is given up: before the game another may take its place, if it was not given the settings
+-- it is forgotten: before the game another may take its place, if it was not given the settings
 abbrev pub place_of : Bool → Phase → Presence
 place_of false phase.Listening = Away 0
 place_of false phase.Gathering = Away 0
 place_of gave at = Forgotten
 
 -- and is not known to play; who has left stays so
-abbrev pub given_up : Bool → Phase → Presence → Presence
-given_up gave at (Left cause) = Left cause
-given_up gave at Playing = Forgotten
-given_up gave at presence = place_of gave at
+abbrev pub when_forgotten : Bool → Phase → Presence → Presence
+when_forgotten gave at (Left cause) = Left cause
+when_forgotten gave at Playing = Forgotten
+when_forgotten gave at presence = place_of gave at
 
 -- causes as bytes
 abbrev pub cause_byte : Cause → ℕ

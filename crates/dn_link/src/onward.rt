@@ -30,10 +30,11 @@ use dn_setup::every_packet_is_told;
 
 /// The tic from which a peer is to be sent commands is not past those that are covered for it: at the start;
 /// after every call on the link but `receive`, `hear_report`, `give_up` and a datagram to this peer; after any
-/// bytes came in, unless the peer asks for a later command than are covered when not all are; and after a
-/// datagram to this peer, unless it comes too late. If it does not, the packet that it gives is then covered. It
-/// comes too late if more commands were made from that tic on than the node keeps, or more than twenty-four that
-/// the peer has not acknowledged. A run counts where nobody is given up.
+/// bytes came in but a report, unless the peer asks for a later command than are covered when not all are; and
+/// after a datagram to this peer, unless it comes too late. If it does not, the packet that it gives is then
+/// covered. It comes too late if more commands were made from that tic on than the node keeps, or more than
+/// twenty-four that the peer has not acknowledged. A run counts where nobody is given up; of a report, and of
+/// giving a player up for good, nothing is said here.
 pub fn given_is_covered()
     ensures opened { (limits : Limits) (settings : Settings) (me to : ℕ) (link : Linked)
         → me < limits.players → to < limits.players → Represents limits me link.node (fresh settings me)

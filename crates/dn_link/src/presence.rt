@@ -2,7 +2,7 @@
 
 ghost use Rattle.std.specs.Prelude.{◌≡◌, Option};
 ghost use Rattle.dn_link.specs.Ends.{tells_end};
-ghost use Rattle.dn_link.specs.Presence.{Becomes, Differs, Greets, cause_byte, given_up, goes, has_gone, has_left, has_played, is_fresh, is_playing, is_there, may_come, message_of, plays_on, still_given, takes_part};
+ghost use Rattle.dn_link.specs.Presence.{Becomes, Differs, Greets, cause_byte, when_forgotten, goes, has_gone, has_left, has_played, is_fresh, is_playing, is_there, may_come, message_of, plays_on, still_given, takes_part};
 ghost use Rattle.dn_machine.specs.declared.answers.Cause.{Cause as AnyCause};
 ghost use Rattle.dn_machine.specs.declared.answers.Phase.{Phase as AnyPhase};
 
@@ -25,11 +25,11 @@ pub enum Presence {
     Playing,
     /// It said hello with another identity, and takes no part.
     Different(Identity),
-    /// It left before its game started, for this cause, or was given up then (0). Another may take its place.
+    /// It left before its game started, for this cause, or was forgotten then (0). Another may take its place.
     Away(u8),
     /// It has played and left, for this cause.
     Left(u8),
-    /// It was given up when this link played or had ended, or after it was given the settings or was heard to
+    /// It was forgotten when this link played or had ended, or after it was given the settings or was heard to
     /// play: nobody takes its place.
     Forgotten,
 }
@@ -213,9 +213,9 @@ impl Presence {
         }
     }
 
-    /// It is given up, by a player in this phase, who gave it the settings or not.
-    pub(crate) fn given_up(self, gave: bool, phase: Phase) -> Presence
-        ensures { result ≡ given_up gave phase self }
+    /// It is forgotten, by a player in this phase, who gave it the settings or not.
+    pub(crate) fn when_forgotten(self, gave: bool, phase: Phase) -> Presence
+        ensures { result ≡ when_forgotten gave phase self }
     {
         match self {
             Presence::Left(cause) => Presence::Left(cause),

@@ -23,8 +23,8 @@ ask_bytes None = 0 ∷ 0 ∷ 0 ∷ 0 ∷ 0 ∷ []
 ask_bytes (Some tic) = 1 ∷ to_le_bytes w32 tic
 
 -- the 21 bytes in front of the datagram: the suite, the kind of what follows, of which game, from whom to whom,
--- and the tics, low byte first. Kind 1 is one datagram of 1997. Kinds 2 and 3 are kept: for several datagrams
--- in one envelope, and for reports on a player who was given up
+-- and the tics, low byte first. Kind 1 is one datagram of 1997. The other kinds are those of the crates that
+-- seal them: 2 a link's datagram, 3 a report, 4 a greeting
 abbrev pub head_bytes : Letter → List ℕ
 head_bytes letter =
     (suite_byte letter.suite ∷ 1 ∷ []) ++ take 8 letter.game ++ (letter.from ∷ letter.to ∷ [])

@@ -1,7 +1,7 @@
 //! Players who vanish: how those who remain agree where such a player's commands end. No code runs here.
 //! `dn_remain` puts the game of `dn_machine` under these definitions; of a node's tests, and of the end that it
-//! decides, `dn_others` is the code, which no game runs yet. The definitions stand in `specs/`, to be read in
-//! the order of `specs/Lib.antt`.
+//! decides, `dn_others` is the code. The definitions stand in `specs/`, to be read in the order of
+//! `specs/Lib.antt`.
 //!
 //! A node gives a player up when it is told to; no clock decides that. From then on it takes nothing of that
 //! player, and tells the others, in reports, whom it has given up and the commands that it has of them. As soon

@@ -112,9 +112,9 @@ pub(crate) fn owed_answer(made: Option<Made>) -> MadeAnswer
 }
 
 /// Who is there. `state` is 0 for a player of whom nothing is known, 1 for one that is there, 2 for one that
-/// plays, 3 for one with another identity, 4 for one that left before its game or was given up then, 5 for one
+/// plays, 3 for one with another identity, 4 for one that left before its game or was forgotten then, 5 for one
 /// that has played and left, and 6 for one that is forgotten. `cause` is why it left, where it has:
-/// 1 where it quit, 2 where its demo was full, 3 where its world differed, 0 where it was given up. The other
+/// 1 where it quit, 2 where its demo was full, 3 where its world differed, 0 where it was forgotten. The other
 /// fields are the identity of one that differs, and else 0.
 #[repr(C)]
 #[derive(Clone, Copy, Debug, PartialEq, Eq)]

@@ -83,7 +83,7 @@ pub extern "C" fn zmg_link_lean(link: &mut LinkHandle) -> i32
     }
 }
 
-/// Gives up a peer who was not heard for too long. Before the game it may come again; in the game
+/// Forgets a peer who was not heard for too long. Before the game it may come again; in the game
 /// `zmg_link_may_leave` waits for it no more, until a datagram of its game comes.
 #[unsafe(no_mangle)]
 pub extern "C" fn zmg_link_forget(link: &mut LinkHandle, player: u8)

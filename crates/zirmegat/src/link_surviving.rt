@@ -21,8 +21,8 @@ use dn_survivor::GivenUp;
 /// The room that a sealed report needs at most.
 const MAX_REPORT: usize = 425;
 
-/// Gives up a player who vanished, for good: no datagram goes to it, nothing of it is taken, and nothing waits
-/// for it. The others play on once all of them have given it up and have told each other what they have of it.
+/// Gives up a player who vanished, for good: no datagram goes to it, and nothing of it is taken. The others play
+/// on once all of them have given it up and have told each other what they have of it; until then a run waits.
 #[unsafe(no_mangle)]
 pub extern "C" fn zmg_link_give_up(link: &mut LinkHandle, player: u8) -> GiveUpAnswer
     ensures { Calls (link_of link.old) (link_of link.new)

@@ -70,7 +70,7 @@ impl Link {
         }
     }
 
-    /// Gives up a peer who was not heard for too long. Before the game it is no longer there, and another may
+    /// Forgets a peer who was not heard for too long. Before the game it is no longer there, and another may
     /// take its place; but not once this player has given it the settings, or has heard that it plays: then the
     /// place stays its own, and another takes a new game with a new number. In the game `may_leave` waits for
     /// it no more, until a new datagram of its game comes.
@@ -82,8 +82,10 @@ impl Link {
     {
         if self.is_peer(player) {
             let peer = self.peer(player);
-            let given_up = peer.presence.given_up(peer.gave, self.lockstep().phase());
-            self.peers[player as usize].presence = given_up;
+            let when_forgotten = peer
+                .presence
+                .when_forgotten(peer.gave, self.lockstep().phase());
+            self.peers[player as usize].presence = when_forgotten;
         }
     }
 }

@@ -80,9 +80,10 @@ impl Link {
     }
 
     /// Gives up a player who vanished, for good, so that the others play on: as `Survivor::give_up`, and the
-    /// player is forgotten, too. From here on no datagram goes to it, nothing of it is taken, and nothing waits
-    /// for it. All who play on must give it up, and hear each other's reports: then the game goes on without it
-    /// from the same tic on at all of them. Where this link gathered, and plays after it, the game has started:
+    /// player is forgotten, too. From here on no datagram goes to it, nothing of it is taken, and neither the
+    /// start nor `may_leave` waits for it. A run waits for it until its end is decided: all who play on must give
+    /// it up, and hear each other's reports. Then the game goes on without it from the same tic on at all of
+    /// them. Where this link gathered, and plays after it, the game has started:
     /// the caller begins its world.
     pub fn give_up(&mut self, player: u8) -> GivenUp
         ensures given { GivesUpPeer player (linked self.old) (linked self.new) result }

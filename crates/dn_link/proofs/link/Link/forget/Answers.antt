@@ -1,7 +1,7 @@
 use Rattle.std.proofs.Common.{rules, ◌≡◌, ◌<◌, ℕ, length, true, refl, ap, sym, ◌∙◌, arith}
 use Rattle.dn_machine.specs.Node.{put}
 use Rattle.dn_lockstep.specs.Contents.{Contents}
-use Rattle.dn_link.specs.Presence.{given_up}
+use Rattle.dn_link.specs.Presence.{when_forgotten}
 use Rattle.dn_link.specs.Linked.{PeerState, is_peer}
 use Rattle.dn_link.specs.Linking.{linked, peers_of}
 use Rattle.dn_link.proofs.Linked.{peer_at, peers_put}
@@ -17,8 +17,8 @@ returns-then-is_peer-clause-link c =
     let peer : is_peer (linked c.args.self.now).node player ≡ true = sym c.is_peer.ensures.value ∙ c.if-is_peer.true in
     let phase : c.phase.result ≡ (linked c.args.self.now).node.phase =
     c.phase.ensures ∙ ap (λ (n : Contents). n.phase) c.lockstep.ensures in
-    let gone = c.given_up-given_up.ensures
-    ∙ (λ i. given_up (c.peer-peer.ensures i).gave (phase i) (c.peer-peer.ensures i).presence) in
+    let gone = c.when_forgotten-when_forgotten.ensures
+    ∙ (λ i. when_forgotten (c.peer-peer.ensures i).gave (phase i) (c.peer-peer.ensures i).presence) in
     rw peer (ap (λ (f : ℕ → PeerState). record (linked c.args.self.now) { peers = f })
     (peers_put peers player _ below
     ∙ (λ i. put (peers_of peers) player (record (peer_at peers player c.index-self-player.result below i) { presence = gone i }))))
