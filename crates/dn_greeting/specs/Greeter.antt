@@ -1,6 +1,6 @@
 -- By what greetings are sealed, which addresses are the same, and the cookie of an address.
 use Rattle.std.specs.Prelude.{ℕ, ◌==◌, ◌&&◌, ◌++◌, Bool, List, codes, Option, Some, None}
-use Rattle.std.specs.Int.{w16, to_le_bytes}
+use Rattle.std.specs.Int.{w16, w32, to_le_bytes}
 use Rattle.std.specs.Str.{bytes_eq}
 use Rattle.dn_seal.specs.declared.seal.Seal.{Seal}
 use Rattle.dn_seal.specs.declared.suite.Suite.TheVariants.{Secret, Open}
@@ -21,7 +21,8 @@ greeting_seal (Some secret) = sealed_with Secret secret greeting_number
 abbrev pub same_address : Address → Address → Bool
 same_address one other = bytes_eq one.ip other.ip && one.port == other.port
 
--- what a host makes of an address under a secret of its own, so that only who is reached there can learn it: the
--- first 16 bytes of the code of the IP address and the port
-abbrev pub cookie_of : List ℕ → Address → List ℕ
-cookie_of secret address = tag_of secret (address.ip ++ to_le_bytes w16 address.port)
+-- what a host makes of an address, and of how often seats changed their holders, under a secret of its own, so that
+-- only who is reached there can learn it: the first 16 bytes of the code of the IP address, the port and the count
+abbrev pub cookie_of : List ℕ → Address → ℕ → List ℕ
+cookie_of secret address changes =
+    tag_of secret (address.ip ++ (to_le_bytes w16 address.port ++ to_le_bytes w32 changes))

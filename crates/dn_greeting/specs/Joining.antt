@@ -1,5 +1,5 @@
 -- A joiner: what it asks, and what it makes of replies.
-use Rattle.std.specs.Prelude.{◌≡◌, ℕ, ◌+◌, min, ◌==◌, ◌&&◌, ◌||◌, Bool, not, true, false, nat_le, nat_lt, if◌then◌else◌, List, Option, Some, None, is_none, Result, Ok, Err}
+use Rattle.std.specs.Prelude.{◌≡◌, ℕ, ◌+◌, min, ◌==◌, ◌&&◌, ◌||◌, Bool, not, true, false, nat_le, nat_lt, if◌then◌else◌, List, Option, Some, None, is_none, Result, Ok, Err, replicate}
 use Rattle.std.specs.Cmp.Lexicographic.{pointwise}
 use Rattle.std.specs.Str.{bytes_eq}
 use Rattle.dn_seal.specs.declared.seal.Seal.{Seal}
@@ -124,10 +124,16 @@ on_refused refused joiner =
     if bytes_eq refused.mark joiner.mark && (is_of_now refused.refusal joiner && not joiner.begun)
     then news.Refused refused.refusal else news.Nothing
 
--- a hint, for which nobody vouches, says nothing to who has a seat
+-- nothing of the host's was heard yet that shows that it has the joiner's key: no retry, with which each host
+-- begins, and no answer
+abbrev pub is_unheard : Joining → Bool
+is_unheard joiner =
+    bytes_eq joiner.cookie (replicate 16 0) && (is_none joiner.answer && not joiner.begun)
+
+-- a hint, for which nobody vouches, says nothing to who has heard the host
 abbrev pub on_hinted : Hinted → Joining → News
 on_hinted hinted joiner =
-    if bytes_eq hinted.mark joiner.mark && (is_none joiner.answer && not joiner.begun)
+    if bytes_eq hinted.mark joiner.mark && is_unheard joiner
     then news.Hinted hinted.hint else news.Nothing
 
 -- its last call is asked for again, also in its game: it takes the cookie, and calls with it from then on

@@ -1,5 +1,6 @@
 -- The host's table: who gets which seat.
-use Rattle.std.specs.Prelude.{◌≡◌, ℕ, ◌+◌, ◌-◌, ◌==◌, ◌||◌, Bool, not, false, nat_lt, if◌then◌else◌, List, [], ◌∷◌, map, position, slice_index_or, slice_set, Option, Some, None, option_map, Result, Ok, Err}
+use Rattle.std.specs.Prelude.{◌≡◌, ℕ, min, ◌+◌, ◌-◌, ◌==◌, ◌||◌, Bool, not, false, nat_lt, if◌then◌else◌, List, [], ◌∷◌, map, position, slice_index_or, slice_set, Option, Some, None, option_map, Result, Ok, Err}
+use Rattle.std.specs.List.{list_any}
 use Rattle.std.specs.Str.{bytes_eq}
 use Rattle.dn_seal.specs.declared.seal.Seal.{Seal}
 use Rattle.dn_greeting.specs.declared.greeting.Address.{Address}
@@ -18,14 +19,15 @@ use Rattle.dn_greeting.specs.declared.seats.Place.TheVariants.{Closed, Free, Hel
 use Rattle.dn_greeting.specs.declared.table.Table.{Table}
 use Rattle.dn_greeting.specs.Greeter.{cookie_of}
 use Rattle.dn_greeting.specs.Reading.{IsCallIn}
-use Rattle.dn_greeting.specs.Seats.{gives_way, holding, is_at, is_free, is_of, is_quiet, kept_at, left_by, number_in, place_for, shown_to}
+use Rattle.dn_greeting.specs.Seats.{gives_way, holding, is_at, is_free, is_lost, is_of, is_quiet, kept_at, left_by, number_in, place_for, shown_to}
 use Rattle.dn_greeting.specs.Text.{answer_rest, greeting_bytes, hinted_bytes, refused_rest, retry_rest, told_mark}
 
--- the host's table: the secret of its cookies, its terms, the game's number, the seats 1 to 3, and whether the game
--- has begun
+-- the host's table: the secret of its cookies, how often seats changed their holders, its terms, the game's number,
+-- the seats 1 to 3, and whether the game has begun
 pub record Lobby : Type 0 where
   pub seal : Seal
   pub cookies : List ℕ
+  pub changes : ℕ
   pub terms : Terms
   pub game : List ℕ
   pub places : List Place
@@ -36,6 +38,7 @@ lobby table =
     record {
       seal = table.sealer.seal;
       cookies = table.cookies;
+      changes = table.changes;
       terms = table.terms;
       game = table.game;
       places = table.places;
@@ -47,6 +50,7 @@ new_lobby seal cookies terms game =
     record {
       seal = seal;
       cookies = cookies;
+      changes = 0;
       terms = terms;
       game = game;
       places = map (place_for terms.players) (1 ∷ 2 ∷ 3 ∷ []);
@@ -88,10 +92,17 @@ seat_for from call now table =
     if asks_for_other call.players table.terms.players then Err (Players table.terms.players) else (
     if table.begun then Err Begun else some_seat from call.seat now table)
 
+-- seats changed their holders once more; the count stops at the largest number of 32 bits
+abbrev pub one_more : ℕ → ℕ
+one_more changes = min (changes + 1) 4294967295
+
 -- the place is the newcomer's, and nobody who was at its address before holds any
 abbrev pub seated : Address → Call → ℕ → ℕ → Lobby → Lobby
 seated from call now n table =
-    record table { places = slice_set (map (left_by from) table.places) n (holding from call now) }
+    record table {
+      changes = one_more table.changes;
+      places = slice_set (map (left_by from) table.places) n (holding from call now);
+    }
 
 -- the holder of the place is where it calls from
 abbrev pub moved : Address → Call → ℕ → ℕ → Lobby → Lobby
@@ -132,17 +143,21 @@ on_read from call now table (Some n) = on_holder from call now n table
 on_read from call now table None =
     let after = on_newcomer from call now table (seat_for from call now table) in (after.0, Some after.1)
 
+-- the cookie of an address. It is another after each change, so a call that somebody repeats seats nobody once a
+-- newcomer was given a seat, or a holder lost one
+abbrev pub cookie_for : Address → Lobby → List ℕ
+cookie_for from table = cookie_of table.cookies from table.changes
+
 -- the call has the cookie of the address from which it came: whoever made it is reached there
 abbrev pub has_cookie : Address → Call → Lobby → Bool
-has_cookie from call table = bytes_eq call.cookie (cookie_of table.cookies from)
+has_cookie from call table = bytes_eq call.cookie (cookie_for from table)
 
 -- what asks for the call again, with this cookie
-abbrev pub retry_to : Address → Call → Lobby → Retry
-retry_to from call table =
-    record { mark = call.mark; number = call.number; cookie = cookie_of table.cookies from }
+abbrev pub retry_to : List ℕ → Call → Retry
+retry_to cookie call = record { mark = call.mark; number = call.number; cookie = cookie }
 
-abbrev pub retried : Address → Call → Lobby → List ℕ
-retried from call table = greeting_bytes table.seal 5 (retry_rest (retry_to from call table))
+abbrev pub retried : List ℕ → Call → Lobby → List ℕ
+retried cookie call table = greeting_bytes table.seal 5 (retry_rest (retry_to cookie call))
 
 -- a call is the holder's whose mark it has, or else a newcomer's. Without the cookie it is neither's: it changes
 -- nothing, and is asked for again
@@ -150,7 +165,7 @@ abbrev pub on_opened : Address → Call → ℕ → Lobby → Lobby × Option (L
 on_opened from call now table =
     if has_cookie from call table
     then on_read from call now table (position (is_of call.mark) table.places)
-    else (table, Some (retried from call table))
+    else (table, Some (retried (cookie_for from table) call table))
 
 abbrev pub hint_to : List ℕ → Hint → List ℕ
 hint_to bytes hint = hinted_bytes (record { mark = told_mark bytes; hint = hint })
@@ -174,5 +189,12 @@ HearsCall from bytes now old new reply =
     × (new ≡ (on_call from bytes now old read).0) × (reply ≡ (on_call from bytes now old read).1)
 
 -- before the game silent holders lose their seats
+abbrev pub changes_at : ℕ → Lobby → ℕ
+changes_at now table =
+    if list_any (is_lost now) table.places then one_more table.changes else table.changes
+
 abbrev pub swept : ℕ → Lobby → Lobby
-swept now table = if table.begun then table else record table { places = map (kept_at now) table.places }
+swept now table =
+    if table.begun
+    then table
+    else record table { changes = changes_at now table; places = map (kept_at now) table.places }

@@ -71,6 +71,8 @@ shown_to from (Held holder) =
 shown_to from place = None
 
 -- before the game its holder loses it by being silent for more than ten seconds
+abbrev pub is_lost : ℕ → Place → Bool
+is_lost now place = nat_lt 10 (silence_of now place)
+
 abbrev pub kept_at : ℕ → Place → Place
-kept_at now (Held holder) = if nat_lt 10 (now - holder.heard) then Free else Held holder
-kept_at now place = place
+kept_at now place = if is_lost now place then Free else place

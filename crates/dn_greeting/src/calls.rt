@@ -4,6 +4,7 @@ ghost use Rattle.std.specs.Prelude.{◌≡◌, ◌<◌, ◌≤◌, ◌+◌, ◌-
 ghost use Rattle.dn_greeting.specs.declared.seats.Place.TheVariants.{Closed};
 
 use crate::choosing::{any_seat, asks_for_other, held_by, wanted};
+use crate::cookies::cookie_of;
 use crate::greeting::{Address, Answer, Call, Refusal, Refused};
 use crate::hinting::{hint_for, hint_to};
 use crate::places::{holding, left_by, number_in, shown_to};
@@ -46,7 +47,7 @@ impl Table {
         self.some_seat(from, call.seat, now)
     }
 
-    /// Gives a place to a newcomer, in whose place at its address nobody is any more.
+    /// Gives a place to a newcomer, in whose place at its address nobody is any more, and counts it.
     fn seat(&mut self, from: Address, call: &Call, now: u32, n: usize)
         requires { n < 3 }
         ensures { lobby self.new ≡ seated from call.now now n (lobby self.old) }
@@ -59,6 +60,7 @@ impl Table {
         ];
         places[n] = holding(from, call, now);
         self.places = places;
+        self.changes = self.changes.saturating_add(1);
     }
 
     /// The holder of a place is where it calls from.
@@ -168,10 +170,11 @@ impl Table {
             ≡ (on_opened from call.now now (lobby self.old)).1 }
         ensures short { IfSome result (λ reply. length reply.items ≤ 130) }
     {
-        if self.has_cookie(&from, call) {
+        let cookie = cookie_of(&self.cookies, &from, self.changes);
+        if call.cookie == cookie {
             self.take(from, call, now)
         } else {
-            Some(self.retried(&from, call))
+            Some(self.retried(cookie, call))
         }
     }
 

@@ -9,12 +9,13 @@ use crate::telling::sixteen_at;
 use arrayvec::ArrayVec;
 use dn_seal::hmac;
 
-/// The cookie of an address under a host's own secret.
-pub(crate) fn cookie_of(secret: &[u8; 32], address: &Address) -> [u8; 16]
-    ensures { result ≡ cookie_of secret.now address.now }
+/// The cookie of an address after so many changes, under a host's own secret.
+pub(crate) fn cookie_of(secret: &[u8; 32], address: &Address, changes: u32) -> [u8; 16]
+    ensures { result ≡ cookie_of secret.now address.now changes }
 {
-    let mut text = ArrayVec::<u8, 18>::new();
+    let mut text = ArrayVec::<u8, 22>::new();
     append(&mut text, &address.ip);
     append(&mut text, &address.port.to_le_bytes());
+    append(&mut text, &changes.to_le_bytes());
     sixteen_at(&hmac(secret, text.as_slice()), 0)
 }

@@ -72,7 +72,7 @@ impl Joiner {
         self.answer
     }
 
-    /// Its game has begun: of replies it heeds but retries, and answers with the same seat of the same game.
+    /// Its game has begun: it heeds nothing but retries, and answers with the same seat of the same game.
     pub fn begin(&mut self)
         ensures { joining self.new ≡ record (joining self.old) { begun = true } }
     {

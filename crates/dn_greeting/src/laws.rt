@@ -1,6 +1,7 @@
 //! Laws of greetings.
 
-ghost use Rattle.std.specs.Prelude.{◌≡◌, ◌≢◌, ℕ, List, Option, Some, Result, Ok, false};
+ghost use Rattle.std.specs.Prelude.{◌≡◌, ◌≢◌, ℕ, List, Option, Some, Result, Ok, false, true};
+ghost use Rattle.std.specs.List.{list_any};
 ghost use Rattle.dn_seal.specs.declared.seal.Seal.{Seal};
 ghost use Rattle.dn_seal.specs.Envelope.{Letter, body_bytes as letter_bytes};
 ghost use Rattle.dn_greeting.specs.declared.greeting.Address.{Address};
@@ -10,7 +11,9 @@ ghost use Rattle.dn_greeting.specs.declared.greeting.GreetingFault.{GreetingFaul
 ghost use Rattle.dn_greeting.specs.declared.greeting.Hinted.{Hinted};
 ghost use Rattle.dn_greeting.specs.declared.greeting.Refused.{Refused};
 ghost use Rattle.dn_greeting.specs.declared.greeting.Retry.{Retry};
-ghost use Rattle.dn_greeting.specs.Lobby.{Lobby, has_cookie, retried, HearsCall};
+ghost use Rattle.dn_greeting.specs.Greeter.{cookie_of};
+ghost use Rattle.dn_greeting.specs.Lobby.{Lobby, cookie_for, has_cookie, one_more, retried, seated, swept, HearsCall};
+ghost use Rattle.dn_greeting.specs.Seats.{is_lost};
 ghost use Rattle.dn_greeting.specs.Reading.{IsAnswerIn, IsCallIn, IsHintedIn, IsRefusedIn, IsRetryIn};
 ghost use Rattle.dn_greeting.specs.Text.{answer_rest, body_bytes, call_rest, greeting_bytes, hinted_bytes, refused_rest, retry_rest, IsAnswer, IsCall, IsHinted, IsRefused, IsRetry};
 
@@ -51,5 +54,18 @@ pub fn greetings_are_no_envelopes()
 pub fn calls_without_the_cookie_change_nothing()
     ensures { (from : Address) (bytes : List ℕ) (call : Call) (now : ℕ) (old new : Lobby) (reply : Option (List ℕ))
         → IsCallIn old.seal bytes (Ok call) → has_cookie from call old ≡ false
-        → HearsCall from bytes now old new reply → (new ≡ old) × (reply ≡ Some (retried from call old)) }
+        → HearsCall from bytes now old new reply → (new ≡ old)
+        × (reply ≡ Some (retried (cookie_for from old) call old)) }
+{}
+
+/// The cookie of an address is another after each change of who holds the seats: a call that has it before and after
+/// has one code for two counts of changes. So but for such a code, what was recorded seats nobody again.
+pub fn changes_make_other_cookies()
+    ensures seatings { (from at : Address) (call other : Call) (now n : ℕ) (table : Lobby)
+        → has_cookie from call table ≡ true → has_cookie from call (seated at other now n table) ≡ true
+        → cookie_of table.cookies from table.changes ≡ cookie_of table.cookies from (one_more table.changes) }
+    ensures losses { (from : Address) (call : Call) (now : ℕ) (table : Lobby)
+        → table.begun ≡ false → list_any (is_lost now) table.places ≡ true
+        → has_cookie from call table ≡ true → has_cookie from call (swept now table) ≡ true
+        → cookie_of table.cookies from table.changes ≡ cookie_of table.cookies from (one_more table.changes) }
 {}

@@ -18,8 +18,6 @@ mod sealing;
 mod seats;
 mod table;
 mod telling;
-#[cfg(test)]
-mod tests;
 mod writing;
 
 pub use greeting::{
@@ -27,8 +25,8 @@ pub use greeting::{
 };
 pub use joiner::Joiner;
 pub use laws::{
-    calls_without_the_cookie_change_nothing, greetings_are_no_envelopes, greetings_are_read_back,
-    one_greeting,
+    calls_without_the_cookie_change_nothing, changes_make_other_cookies,
+    greetings_are_no_envelopes, greetings_are_read_back, one_greeting,
 };
 pub use news::News;
 pub use reading::{open_answer, open_call, open_refused, open_retry, read_hinted};

@@ -1,7 +1,8 @@
 //! What a seat is to a caller.
 
 ghost use Rattle.std.specs.Prelude.{◌≡◌};
-ghost use Rattle.dn_greeting.specs.Seats.{gives_way, holding, is_at, is_free, is_loopback, is_of, is_quiet, is_quietest, kept_at, left_by, number_in, place_for, shown_to, silence_of};
+ghost use Rattle.std.specs.List.{list_any};
+ghost use Rattle.dn_greeting.specs.Seats.{gives_way, holding, is_at, is_free, is_loopback, is_lost, is_of, is_quiet, is_quietest, kept_at, left_by, number_in, place_for, shown_to, silence_of};
 
 use crate::greeting::{Address, Call};
 use crate::sealing::same_address;
@@ -133,12 +134,28 @@ pub(crate) fn shown_to(from: &Address, place: Place) -> Option<Address>
     }
 }
 
+/// Whether its holder loses it by being silent.
+fn is_lost(now: u32, place: &Place) -> bool
+    ensures { result ≡ is_lost now place.now }
+{
+    silence_of(now, place) > SILENCE
+}
+
+/// Whether any holder does.
+pub(crate) fn is_any_lost(now: u32, places: &[Place; 3]) -> bool
+    ensures { result ≡ list_any (is_lost now) places.now }
+{
+    let [one, two, three] = places;
+    is_lost(now, one) || is_lost(now, two) || is_lost(now, three)
+}
+
 /// The seat at this second, if its holder loses it by being silent.
 pub(crate) fn kept_at(now: u32, place: Place) -> Place
     ensures { result ≡ kept_at now place }
 {
-    match place {
-        Place::Held(holder) if now.saturating_sub(holder.heard) > SILENCE => Place::Free,
-        _ => place,
+    if is_lost(now, &place) {
+        Place::Free
+    } else {
+        place
     }
 }

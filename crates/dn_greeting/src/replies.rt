@@ -7,7 +7,7 @@ use crate::joiner::Joiner;
 use crate::news::{News, is_later, news_in, same_game};
 
 impl Joiner {
-    ghost use Rattle.dn_greeting.specs.Joining.{goes_on, is_asked, is_due, is_of_now, joining, on_answer, on_hinted, on_refused, on_reply, on_retry};
+    ghost use Rattle.dn_greeting.specs.Joining.{goes_on, is_asked, is_due, is_of_now, is_unheard, joining, on_answer, on_hinted, on_refused, on_reply, on_retry};
     ghost use Rattle.dn_greeting.specs.declared.greeting.Answer.{Answer};
     ghost use Rattle.dn_greeting.specs.declared.greeting.GreetingFault.{GreetingFault};
 
@@ -64,11 +64,18 @@ impl Joiner {
         }
     }
 
+    /// Whether it has heard nothing of the host's yet that shows that it has the same key.
+    fn is_unheard(&self) -> bool
+        ensures { result ≡ is_unheard (joining self.now) }
+    {
+        self.cookie == [0; 16] && self.answer.is_none() && !self.begun
+    }
+
     /// What it makes of a hint.
     fn hinted(&self, hinted: &Hinted) -> News
         ensures { result ≡ on_hinted hinted.now (joining self.now) }
     {
-        if hinted.mark == self.mark && self.answer.is_none() && !self.begun {
+        if hinted.mark == self.mark && self.is_unheard() {
             News::Hinted(hinted.hint)
         } else {
             News::Nothing

@@ -3,7 +3,7 @@
 ghost use Rattle.std.specs.Prelude.{◌≡◌, true};
 
 use crate::greeting::Terms;
-use crate::places::{kept_at, place_for};
+use crate::places::{is_any_lost, kept_at, place_for};
 use crate::sealing::greeter;
 use crate::seats::Place;
 use dn_seal::Sealer;
@@ -13,6 +13,7 @@ use dn_seal::Sealer;
 pub struct Table {
     pub(crate) sealer: Sealer,
     pub(crate) cookies: [u8; 32],
+    pub(crate) changes: u32,
     pub(crate) terms: Terms,
     pub(crate) game: [u8; 16],
     pub(crate) places: [Place; 3],
@@ -31,6 +32,7 @@ impl Table {
         Table {
             sealer: greeter(secret),
             cookies,
+            changes: 0,
             terms,
             game,
             places: [
@@ -82,6 +84,9 @@ impl Table {
         ensures { lobby self.new ≡ swept now (lobby self.old) }
     {
         if !self.begun {
+            if is_any_lost(now, &self.places) {
+                self.changes = self.changes.saturating_add(1);
+            }
             let [one, two, three] = self.places;
             self.places = [kept_at(now, one), kept_at(now, two), kept_at(now, three)];
         }

@@ -1,13 +1,13 @@
 use Rattle.std.proofs.Common.{◌≡◌, ℕ, List, refl, ap, ◌∙◌, Option, Some, Ok, false}
 use Rattle.dn_greeting.specs.declared.greeting.Address.{Address}
 use Rattle.dn_greeting.specs.declared.greeting.Call.{Call}
-use Rattle.dn_greeting.specs.Lobby.{Lobby, has_cookie, on_call, on_opened, retried}
+use Rattle.dn_greeting.specs.Lobby.{Lobby, cookie_for, has_cookie, on_call, on_opened, retried}
 use Rattle.dn_greeting.proofs.Once.{one_call}
 use Rattle.dn_greeting.proofs.laws.calls_without_the_cookie_change_nothing.Goals as goal
 
 -- what is made of such a call
 asked_again : (from : Address) (call : Call) (now : ℕ) (old : Lobby) → has_cookie from call old ≡ false
-    → on_opened from call now old ≡ (old, Some (retried from call old))
+    → on_opened from call now old ≡ (old, Some (retried (cookie_for from old) call old))
 asked_again from call now old without = rw without refl
 
 pub returns : goal.returns

@@ -1,12 +1,15 @@
 //! Bytes of greetings, with tags that were worked out by another HMAC-SHA-256.
 
-use super::{GAME, MARK, SECRET, mapped};
-use crate::{
-    Address, Answer, Call, GreetingFault, Hint, Hinted, Refusal, Refused, Retry, Terms, greeter,
-    hinted_bytes, open_answer, open_call, open_refused, open_retry, read_hinted, seal_answer,
-    seal_call, seal_refused, seal_retry,
+use super::calls::{
+    greeter, hinted_bytes, open_answer, open_call, open_refused, open_retry, read_hinted,
+    seal_answer, seal_call, seal_refused, seal_retry,
 };
+use super::{GAME, MARK, SECRET, mapped};
 use arrayvec::ArrayVec;
+use dn_greeting::{
+    Address, Answer, Call, GreetingFault, Hint, Hinted, Refusal, Refused, Retry, Terms,
+};
+use dn_shared_tests::holds;
 
 /// A call for seat 2 of four, with a cookie, under the secret.
 const CALL: [u8; 130] = [
@@ -125,6 +128,7 @@ fn altered(bytes: &[u8], place: usize, byte: u8) -> ArrayVec<u8, 131> {
 
 #[test]
 fn calls_have_these_bytes(rt: HostRuntime) {
+    let rt = &rt;
     let sealed = greeter(Some(SECRET));
     let unsealed = greeter(None);
     let open = Call {
@@ -134,16 +138,17 @@ fn calls_have_these_bytes(rt: HostRuntime) {
         players: None,
         cookie: [0; 16],
     };
-    assert!(rt; seal_call(&sealed, &call()).as_slice() == CALL.as_slice());
-    assert!(rt; seal_call(&unsealed, &open).as_slice() == OPEN_CALL.as_slice());
-    assert!(rt; open_call(&sealed, &CALL) == Ok(call()));
-    assert!(rt; open_call(&unsealed, &OPEN_CALL) == Ok(open));
-    assert!(rt; open_call(&sealed, &OPEN_CALL) == Err(GreetingFault::Suite));
-    assert!(rt; open_call(&greeter(Some([8; 32])), &CALL) == Err(GreetingFault::Tag));
+    holds!(rt; seal_call(&sealed, &call()).as_slice() == CALL.as_slice());
+    holds!(rt; seal_call(&unsealed, &open).as_slice() == OPEN_CALL.as_slice());
+    holds!(rt; open_call(&sealed, &CALL) == Ok(call()));
+    holds!(rt; open_call(&unsealed, &OPEN_CALL) == Ok(open));
+    holds!(rt; open_call(&sealed, &OPEN_CALL) == Err(GreetingFault::Suite));
+    holds!(rt; open_call(&greeter(Some([8; 32])), &CALL) == Err(GreetingFault::Tag));
 }
 
 #[test]
 fn replies_have_these_bytes(rt: HostRuntime) {
+    let rt = &rt;
     let sealed = greeter(Some(SECRET));
     let four = Refused {
         mark: MARK,
@@ -153,16 +158,17 @@ fn replies_have_these_bytes(rt: HostRuntime) {
         mark: MARK,
         refusal: Refusal::Full,
     };
-    assert!(rt; seal_answer(&sealed, &answer()).as_slice() == ANSWER.as_slice());
-    assert!(rt; open_answer(&sealed, &ANSWER) == Ok(answer()));
-    assert!(rt; seal_refused(&sealed, &four).as_slice() == REFUSED.as_slice());
-    assert!(rt; open_refused(&sealed, &REFUSED) == Ok(four));
-    assert!(rt; seal_refused(&greeter(None), &full).as_slice() == OPEN_REFUSED.as_slice());
-    assert!(rt; open_refused(&greeter(None), &OPEN_REFUSED) == Ok(full));
+    holds!(rt; seal_answer(&sealed, &answer()).as_slice() == ANSWER.as_slice());
+    holds!(rt; open_answer(&sealed, &ANSWER) == Ok(answer()));
+    holds!(rt; seal_refused(&sealed, &four).as_slice() == REFUSED.as_slice());
+    holds!(rt; open_refused(&sealed, &REFUSED) == Ok(four));
+    holds!(rt; seal_refused(&greeter(None), &full).as_slice() == OPEN_REFUSED.as_slice());
+    holds!(rt; open_refused(&greeter(None), &OPEN_REFUSED) == Ok(full));
 }
 
 #[test]
 fn retries_have_these_bytes(rt: HostRuntime) {
+    let rt = &rt;
     let sealed = greeter(Some(SECRET));
     let unsealed = greeter(None);
     let retry = |number| Retry {
@@ -170,19 +176,20 @@ fn retries_have_these_bytes(rt: HostRuntime) {
         number,
         cookie: COOKIE,
     };
-    assert!(rt; seal_retry(&sealed, &retry(70_000)).as_slice() == RETRY.as_slice());
-    assert!(rt; open_retry(&sealed, &RETRY) == Ok(retry(70_000)));
-    assert!(rt; seal_retry(&unsealed, &retry(1)).as_slice() == OPEN_RETRY.as_slice());
-    assert!(rt; open_retry(&unsealed, &OPEN_RETRY) == Ok(retry(1)));
-    assert!(rt; open_retry(&unsealed, &RETRY) == Err(GreetingFault::Suite));
-    assert!(rt; open_retry(&sealed, altered(&RETRY, 47, 0).as_slice()) == Err(GreetingFault::Tag));
-    assert!(rt; open_retry(&sealed, altered(&RETRY, 11, 3).as_slice()) == Err(GreetingFault::What));
-    assert!(rt; open_retry(&sealed, &RETRY[..63]) == Err(GreetingFault::Length));
-    assert!(rt; open_call(&sealed, &RETRY) == Err(GreetingFault::What));
+    holds!(rt; seal_retry(&sealed, &retry(70_000)).as_slice() == RETRY.as_slice());
+    holds!(rt; open_retry(&sealed, &RETRY) == Ok(retry(70_000)));
+    holds!(rt; seal_retry(&unsealed, &retry(1)).as_slice() == OPEN_RETRY.as_slice());
+    holds!(rt; open_retry(&unsealed, &OPEN_RETRY) == Ok(retry(1)));
+    holds!(rt; open_retry(&unsealed, &RETRY) == Err(GreetingFault::Suite));
+    holds!(rt; open_retry(&sealed, altered(&RETRY, 47, 0).as_slice()) == Err(GreetingFault::Tag));
+    holds!(rt; open_retry(&sealed, altered(&RETRY, 11, 3).as_slice()) == Err(GreetingFault::What));
+    holds!(rt; open_retry(&sealed, &RETRY[..63]) == Err(GreetingFault::Length));
+    holds!(rt; open_call(&sealed, &RETRY) == Err(GreetingFault::What));
 }
 
 #[test]
 fn hints_have_these_bytes(rt: HostRuntime) {
+    let rt = &rt;
     let version = Hinted {
         mark: MARK,
         hint: Hint::Version(9),
@@ -191,18 +198,19 @@ fn hints_have_these_bytes(rt: HostRuntime) {
         mark: MARK,
         hint: Hint::Key,
     };
-    assert!(rt; hinted_bytes(&version).as_slice() == HINTED.as_slice());
-    assert!(rt; hinted_bytes(&key).as_slice() == OTHER_KEY.as_slice());
-    assert!(rt; read_hinted(&HINTED) == Ok(version));
-    assert!(rt; read_hinted(&OTHER_KEY) == Ok(key));
-    assert!(rt; read_hinted(&HINTED[..28]) == Err(GreetingFault::Short));
-    assert!(rt; read_hinted(altered(&HINTED, 0, 1).as_slice()) == Err(GreetingFault::Form));
-    assert!(rt; read_hinted(altered(&HINTED, 28, 3).as_slice()) == Err(GreetingFault::Form));
-    assert!(rt; read_hinted(&CALL) == Err(GreetingFault::What));
+    holds!(rt; hinted_bytes(&version).as_slice() == HINTED.as_slice());
+    holds!(rt; hinted_bytes(&key).as_slice() == OTHER_KEY.as_slice());
+    holds!(rt; read_hinted(&HINTED) == Ok(version));
+    holds!(rt; read_hinted(&OTHER_KEY) == Ok(key));
+    holds!(rt; read_hinted(&HINTED[..28]) == Err(GreetingFault::Short));
+    holds!(rt; read_hinted(altered(&HINTED, 0, 1).as_slice()) == Err(GreetingFault::Form));
+    holds!(rt; read_hinted(altered(&HINTED, 28, 3).as_slice()) == Err(GreetingFault::Form));
+    holds!(rt; read_hinted(&CALL) == Err(GreetingFault::What));
 }
 
 #[test]
 fn altered_calls_have_these_faults(rt: HostRuntime) {
+    let rt = &rt;
     let table = [
         (0, 2, GreetingFault::Suite),
         (1, 2, GreetingFault::Kind),
@@ -216,14 +224,14 @@ fn altered_calls_have_these_faults(rt: HostRuntime) {
     ];
     let sealed = greeter(Some(SECRET));
     for (place, byte, fault) in table {
-        assert!(rt; open_call(&sealed, altered(&CALL, place, byte).as_slice()) == Err(fault));
+        holds!(rt; open_call(&sealed, altered(&CALL, place, byte).as_slice()) == Err(fault));
     }
-    assert!(rt; open_call(&sealed, &[]) == Err(GreetingFault::Short));
-    assert!(rt; open_call(&sealed, &CALL[..28]) == Err(GreetingFault::Short));
-    assert!(rt; open_call(&sealed, &CALL[..29]) == Err(GreetingFault::Length));
-    assert!(rt; open_call(&sealed, &CALL[..129]) == Err(GreetingFault::Length));
-    assert!(rt; open_call(&sealed, &ANSWER) == Err(GreetingFault::What));
-    assert!(rt; open_answer(&sealed, &CALL) == Err(GreetingFault::What));
+    holds!(rt; open_call(&sealed, &[]) == Err(GreetingFault::Short));
+    holds!(rt; open_call(&sealed, &CALL[..28]) == Err(GreetingFault::Short));
+    holds!(rt; open_call(&sealed, &CALL[..29]) == Err(GreetingFault::Length));
+    holds!(rt; open_call(&sealed, &CALL[..129]) == Err(GreetingFault::Length));
+    holds!(rt; open_call(&sealed, &ANSWER) == Err(GreetingFault::What));
+    holds!(rt; open_answer(&sealed, &CALL) == Err(GreetingFault::What));
 }
 
 /// Bytes of a greeting that differ from a right one, by their places, and the tag of it all.
@@ -286,9 +294,10 @@ const MALFORMED: [Malformed; 5] = [
 
 #[test]
 fn malformed_calls_are_none(rt: HostRuntime) {
+    let rt = &rt;
     for row in &MALFORMED {
         let bytes = malformed(&RIGHT_CALL, row);
-        assert!(rt; open_call(&greeter(Some(SECRET)), &bytes) == Err(GreetingFault::Form));
+        holds!(rt; open_call(&greeter(Some(SECRET)), &bytes) == Err(GreetingFault::Form));
     }
 }
 
@@ -389,8 +398,9 @@ const NO_ANSWERS: [Malformed; 10] = [
 
 #[test]
 fn malformed_answers_are_none(rt: HostRuntime) {
+    let rt = &rt;
     for row in &NO_ANSWERS {
         let bytes = malformed(&RIGHT_ANSWER, row);
-        assert!(rt; open_answer(&greeter(Some(SECRET)), &bytes) == Err(GreetingFault::Form));
+        holds!(rt; open_answer(&greeter(Some(SECRET)), &bytes) == Err(GreetingFault::Form));
     }
 }

@@ -1,11 +1,12 @@
 //! Greetings whose bytes were worked out apart, and lobbies.
 
 mod bytes;
+mod calls;
 mod cookies;
 mod joiners;
 mod seats;
 
-use crate::Address;
+use dn_greeting::Address;
 
 /// The mark of a joiner.
 const MARK: [u8; 16] = [1, 2, 3, 4, 5, 6, 7, 8, 9, 10, 11, 12, 13, 14, 15, 16];

@@ -1,10 +1,12 @@
 //! What a joiner makes of replies.
 
-use super::{GAME, MARK, SECRET, mapped};
-use crate::{
-    Address, Answer, Hint, Hinted, Joiner, News, Refusal, Refused, Retry, Terms, greeter,
-    hinted_bytes, open_call, seal_answer, seal_refused, seal_retry,
+use super::calls::{
+    answer_of, begin, greeter, hinted_bytes, next_call, open_call, seal_answer, seal_refused,
+    seal_retry, told,
 };
+use super::{GAME, MARK, SECRET, mapped};
+use dn_greeting::{Address, Answer, Hint, Hinted, Joiner, News, Refusal, Refused, Retry, Terms};
+use dn_shared_tests::{holds, same};
 
 /// Where the host is.
 fn host() -> Address {
@@ -19,7 +21,7 @@ fn joiner() -> Joiner {
 fn called() -> Joiner {
     let mut joiner = joiner();
     for _ in 0..9 {
-        let _ = joiner.call();
+        let _ = next_call(&mut joiner);
     }
     joiner
 }
@@ -44,28 +46,34 @@ fn answer(number: u32, game: [u8; 16], other: Option<Address>) -> Answer {
 
 /// What the joiner makes of an answer from an address.
 fn hears(joiner: &mut Joiner, from: Address, answer: &Answer) -> News {
-    joiner.hear(from, seal_answer(&greeter(Some(SECRET)), answer).as_slice())
+    told(
+        joiner,
+        from,
+        seal_answer(&greeter(Some(SECRET)), answer).as_slice(),
+    )
 }
 
 #[test]
 fn calls_are_numbered(rt: HostRuntime) {
+    let rt = &rt;
     let mut joiner = joiner();
     for number in 1..4 {
-        match open_call(&greeter(Some(SECRET)), joiner.call().as_slice()) {
+        match open_call(&greeter(Some(SECRET)), next_call(&mut joiner).as_slice()) {
             Ok(call) => {
-                assert_eq!(rt;
+                same!(rt;
                     (call.number, call.seat, call.players),
                     (number, Some(1), Some(3))
                 );
-                assert!(rt; call.mark == MARK && call.cookie == [0; 16]);
+                holds!(rt; call.mark == MARK && call.cookie == [0; 16]);
             }
-            Err(_) => assert!(rt; false),
+            Err(_) => holds!(rt; false),
         }
     }
 }
 
 #[test]
 fn answers_are_taken_in_order(rt: HostRuntime) {
+    let rt = &rt;
     let there = mapped([10, 0, 0, 3], 5029);
     let moved = mapped([10, 0, 0, 4], 5029);
     let rows = [
@@ -81,41 +89,42 @@ fn answers_are_taken_in_order(rt: HostRuntime) {
     ];
     let mut joiner = called();
     for (from, answer, news) in rows {
-        let before = joiner.answer();
-        assert_eq!(rt; hears(&mut joiner, from, &answer), news);
+        let before = answer_of(&joiner);
+        same!(rt; hears(&mut joiner, from, &answer), news);
         let after = if news == News::Nothing {
             before
         } else {
             Some(answer)
         };
-        assert!(rt; joiner.answer() == after);
+        holds!(rt; answer_of(&joiner) == after);
     }
 }
 
 #[test]
 fn an_answer_is_to_a_call_that_was_made(rt: HostRuntime) {
+    let rt = &rt;
     let mut joiner = joiner();
     let last = answer(u32::MAX, GAME, None);
-    assert_eq!(rt;
+    same!(rt;
         hears(&mut joiner, host(), &answer(1, GAME, None)),
         News::Nothing
     );
-    let _ = joiner.call();
-    assert_eq!(rt; hears(&mut joiner, host(), &last), News::Nothing);
-    assert_eq!(rt;
+    let _ = next_call(&mut joiner);
+    same!(rt; hears(&mut joiner, host(), &last), News::Nothing);
+    same!(rt;
         hears(&mut joiner, host(), &answer(2, GAME, None)),
         News::Nothing
     );
-    assert_eq!(rt;
+    same!(rt;
         hears(&mut joiner, host(), &answer(1, GAME, None)),
         News::Seated
     );
-    let _ = joiner.call();
-    assert_eq!(rt;
+    let _ = next_call(&mut joiner);
+    same!(rt;
         hears(&mut joiner, host(), &answer(3, GAME, None)),
         News::Nothing
     );
-    assert_eq!(rt;
+    same!(rt;
         hears(&mut joiner, host(), &answer(2, GAME, None)),
         News::Same
     );
@@ -123,6 +132,7 @@ fn an_answer_is_to_a_call_that_was_made(rt: HostRuntime) {
 
 #[test]
 fn who_has_a_seat_heeds_no_want_of_one(rt: HostRuntime) {
+    let rt = &rt;
     // A refusal, what it says to who has no seat, and to who has one.
     let rows = [
         (Refusal::Full, true, false),
@@ -137,38 +147,40 @@ fn who_has_a_seat_heeds_no_want_of_one(rt: HostRuntime) {
             refusal,
         };
         let bytes = seal_refused(&greeter(Some(SECRET)), &refused);
-        let is_heard = joiner.hear(host(), bytes.as_slice()) == News::Refused(refusal);
-        assert_eq!(rt; is_heard, before);
-        assert_eq!(rt;
+        let is_heard = told(&mut joiner, host(), bytes.as_slice()) == News::Refused(refusal);
+        same!(rt; is_heard, before);
+        same!(rt;
             hears(&mut joiner, host(), &answer(1, GAME, None)),
             News::Seated
         );
-        let is_heard = joiner.hear(host(), bytes.as_slice()) == News::Refused(refusal);
-        assert_eq!(rt; is_heard, after);
+        let is_heard = told(&mut joiner, host(), bytes.as_slice()) == News::Refused(refusal);
+        same!(rt; is_heard, after);
     }
 }
 
 #[test]
 fn another_seat_or_other_terms_are_anew(rt: HostRuntime) {
+    let rt = &rt;
     let mut joiner = called();
     let mut next = answer(1, GAME, None);
-    assert_eq!(rt; hears(&mut joiner, host(), &next), News::Seated);
+    same!(rt; hears(&mut joiner, host(), &next), News::Seated);
     next.number = 2;
     next.seat = 2;
-    assert_eq!(rt; hears(&mut joiner, host(), &next), News::Anew);
+    same!(rt; hears(&mut joiner, host(), &next), News::Anew);
     next.number = 3;
     next.terms.extra = true;
-    assert_eq!(rt; hears(&mut joiner, host(), &next), News::Anew);
+    same!(rt; hears(&mut joiner, host(), &next), News::Anew);
     next.number = 4;
     next.terms.rate = 30;
-    assert_eq!(rt; hears(&mut joiner, host(), &next), News::Anew);
+    same!(rt; hears(&mut joiner, host(), &next), News::Anew);
     next.number = 5;
     next.mark = [0; 16];
-    assert_eq!(rt; hears(&mut joiner, host(), &next), News::Nothing);
+    same!(rt; hears(&mut joiner, host(), &next), News::Nothing);
 }
 
 #[test]
 fn refusals_are_for_the_mark(rt: HostRuntime) {
+    let rt = &rt;
     let mut joiner = called();
     let sealer = greeter(Some(SECRET));
     for (mark, news) in [
@@ -180,32 +192,62 @@ fn refusals_are_for_the_mark(rt: HostRuntime) {
             refusal: Refusal::Taken,
         };
         let bytes = seal_refused(&sealer, &refused);
-        assert_eq!(rt; joiner.hear(host(), bytes.as_slice()), news);
+        same!(rt; told(&mut joiner, host(), bytes.as_slice()), news);
         let forged = seal_refused(&greeter(None), &refused);
-        assert_eq!(rt; joiner.hear(host(), forged.as_slice()), News::Nothing);
+        same!(rt; told(&mut joiner, host(), forged.as_slice()), News::Nothing);
     }
 }
 
 #[test]
 fn hints_are_heeded_before_an_answer(rt: HostRuntime) {
+    let rt = &rt;
     let mut joiner = called();
     let bytes = hinted_bytes(&Hinted {
         mark: MARK,
         hint: Hint::Key,
     });
-    assert_eq!(rt;
-        joiner.hear(host(), bytes.as_slice()),
+    same!(rt;
+        told(&mut joiner, host(), bytes.as_slice()),
         News::Hinted(Hint::Key)
     );
-    assert_eq!(rt;
+    same!(rt;
         hears(&mut joiner, host(), &answer(1, GAME, None)),
         News::Seated
     );
-    assert_eq!(rt; joiner.hear(host(), bytes.as_slice()), News::Nothing);
+    same!(rt; told(&mut joiner, host(), bytes.as_slice()), News::Nothing);
+}
+
+#[test]
+fn hints_are_heeded_before_a_retry(rt: HostRuntime) {
+    let rt = &rt;
+    let mut joiner = called();
+    let sealer = greeter(Some(SECRET));
+    for (hint, byte) in [(Hint::Key, 1), (Hint::Version(2), 128)] {
+        let bytes = hinted_bytes(&Hinted { mark: MARK, hint });
+        same!(rt; told(&mut joiner, host(), bytes.as_slice()), News::Hinted(hint));
+        // A retry that does not count shows nothing, one that does shows that the host has the key.
+        for (number, news, after) in [
+            (8, News::Nothing, News::Hinted(hint)),
+            (9, News::Retry, News::Nothing),
+        ] {
+            let mut cookie = [0; 16];
+            cookie[15] = byte;
+            let retry = Retry {
+                mark: MARK,
+                number,
+                cookie,
+            };
+            let asked = seal_retry(&sealer, &retry);
+            same!(rt; told(&mut joiner, host(), asked.as_slice()), news);
+            same!(rt; told(&mut joiner, host(), bytes.as_slice()), after);
+        }
+        joiner = called();
+    }
 }
 
 #[test]
 fn in_its_game_it_heeds_where_others_are(rt: HostRuntime) {
+    let rt = &rt;
     let there = mapped([10, 0, 0, 3], 5029);
     let rows = [
         (host(), answer(2, GAME, None), News::Same),
@@ -216,27 +258,28 @@ fn in_its_game_it_heeds_where_others_are(rt: HostRuntime) {
         (host(), answer(4, GAME, None), News::Moved),
     ];
     let mut joiner = called();
-    assert_eq!(rt;
+    same!(rt;
         hears(&mut joiner, host(), &answer(1, GAME, None)),
         News::Seated
     );
-    joiner.begin();
+    begin(&mut joiner);
     for (from, answer, news) in rows {
-        assert_eq!(rt; hears(&mut joiner, from, &answer), news);
+        same!(rt; hears(&mut joiner, from, &answer), news);
     }
     let refused = Refused {
         mark: MARK,
         refusal: Refusal::Begun,
     };
     let bytes = seal_refused(&greeter(Some(SECRET)), &refused);
-    assert_eq!(rt; joiner.hear(host(), bytes.as_slice()), News::Nothing);
+    same!(rt; told(&mut joiner, host(), bytes.as_slice()), News::Nothing);
 }
 
 #[test]
 fn a_game_without_a_seat_heeds_nothing(rt: HostRuntime) {
+    let rt = &rt;
     let mut joiner = called();
-    joiner.begin();
-    assert_eq!(rt;
+    begin(&mut joiner);
+    same!(rt;
         hears(&mut joiner, host(), &answer(1, GAME, None)),
         News::Nothing
     );
@@ -244,12 +287,12 @@ fn a_game_without_a_seat_heeds_nothing(rt: HostRuntime) {
         mark: MARK,
         hint: Hint::Key,
     });
-    assert_eq!(rt; joiner.hear(host(), bytes.as_slice()), News::Nothing);
+    same!(rt; told(&mut joiner, host(), bytes.as_slice()), News::Nothing);
 }
 
 /// The cookie of the next call.
 fn next_cookie(joiner: &mut Joiner) -> Option<[u8; 16]> {
-    match open_call(&greeter(Some(SECRET)), joiner.call().as_slice()) {
+    match open_call(&greeter(Some(SECRET)), next_call(joiner).as_slice()) {
         Ok(call) => Some(call.cookie),
         Err(_) => None,
     }
@@ -257,6 +300,7 @@ fn next_cookie(joiner: &mut Joiner) -> Option<[u8; 16]> {
 
 #[test]
 fn who_is_asked_again_calls_with_the_cookie(rt: HostRuntime) {
+    let rt = &rt;
     let there = mapped([10, 0, 0, 3], 5029);
     // From where, with which mark, of which number, which cookie, and whether it is taken. It has called nine times,
     // and calls after each.
@@ -273,7 +317,7 @@ fn who_is_asked_again_calls_with_the_cookie(rt: HostRuntime) {
     let mut last = 0;
     for (from, mark, number, byte, is_taken) in rows {
         if byte == 7 {
-            joiner.begin();
+            begin(&mut joiner);
         }
         let retry = Retry {
             mark,
@@ -281,13 +325,13 @@ fn who_is_asked_again_calls_with_the_cookie(rt: HostRuntime) {
             cookie: [byte; 16],
         };
         let bytes = seal_retry(&greeter(Some(SECRET)), &retry);
-        let news = joiner.hear(from, bytes.as_slice());
-        assert!(rt; (news == News::Retry) == is_taken && (news == News::Nothing) != is_taken);
+        let news = told(&mut joiner, from, bytes.as_slice());
+        holds!(rt; (news == News::Retry) == is_taken && (news == News::Nothing) != is_taken);
         if is_taken {
             last = byte;
         }
-        assert!(rt; next_cookie(&mut joiner) == Some([last; 16]));
+        holds!(rt; next_cookie(&mut joiner) == Some([last; 16]));
         let forged = seal_retry(&greeter(None), &retry);
-        assert_eq!(rt; joiner.hear(host(), forged.as_slice()), News::Nothing);
+        same!(rt; told(&mut joiner, host(), forged.as_slice()), News::Nothing);
     }
 }

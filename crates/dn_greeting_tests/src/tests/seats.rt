@@ -1,11 +1,10 @@
 //! Who gets which seat.
 
+use super::calls::{greeter, hear, open_answer, open_refused, open_retry, read_hinted, seal_call};
 use super::{COOKIES, GAME, SECRET, mapped};
-use crate::{
-    Address, Call, Hint, Hinted, Place, Refusal, Refused, Table, Terms, greeter, open_answer,
-    open_refused, open_retry, read_hinted, seal_call,
-};
 use arrayvec::ArrayVec;
+use dn_greeting::{Address, Call, Hint, Hinted, Place, Refusal, Refused, Table, Terms};
+use dn_shared_tests::{holds, same};
 
 /// What a call brings.
 #[derive(Clone, Copy, Debug, PartialEq, Eq)]
@@ -60,12 +59,12 @@ fn sealed(call: &Call) -> ArrayVec<u8, 130> {
 
 /// What a call brings that is made again with the cookie of its address.
 fn heard(table: &mut Table, from: Address, mut call: Call, now: u32) -> Option<ArrayVec<u8, 130>> {
-    let reply = table.hear(from, sealed(&call).as_slice(), now)?;
+    let reply = hear(table, from, sealed(&call).as_slice(), now)?;
     if let Ok(retry) = open_retry(&greeter(Some(SECRET)), reply.as_slice()) {
         let cookie = retry.cookie;
         call.cookie = cookie;
     }
-    table.hear(from, sealed(&call).as_slice(), now)
+    hear(table, from, sealed(&call).as_slice(), now)
 }
 
 /// The first bytes of a call, as one of another version has them.
@@ -107,6 +106,7 @@ type Row = (u32, u8, u8, Option<u8>, Option<u8>, Brought);
 
 #[test]
 fn seats_of_a_game_of_four(rt: HostRuntime) {
+    let rt = &rt;
     let rows: [Row; 24] = [
         (0, 1, 1, None, None, Brought::Seat(1, 1)),
         (1, 2, 2, Some(3), Some(4), Brought::Seat(3, 2)),
@@ -152,7 +152,7 @@ fn seats_of_a_game_of_four(rt: HostRuntime) {
         table.sweep(now);
         let call = numbered(number, mark, seat, players);
         let reply = heard(&mut table, at(from), call, now);
-        assert_eq!(rt; read(reply), brought, "row {number}");
+        same!(rt; read(reply), brought, number);
     }
 }
 
@@ -167,6 +167,7 @@ fn first_of(table: &Table) -> Option<Address> {
 
 #[test]
 fn a_holder_is_followed_by_its_newer_calls(rt: HostRuntime) {
+    let rt = &rt;
     // From where, by whom, of which number, what it brings, and where the holder of seat 1 is then.
     let rows = [
         (1, 1, 5, Brought::Seat(1, 1), 1),
@@ -188,26 +189,28 @@ fn a_holder_is_followed_by_its_newer_calls(rt: HostRuntime) {
         }
         let call = numbered(number, mark, None, None);
         let reply = heard(&mut table, at(from), call, 0);
-        assert_eq!(rt; read(reply), brought);
-        assert!(rt; first_of(&table) == Some(at(place)));
+        same!(rt; read(reply), brought);
+        holds!(rt; first_of(&table) == Some(at(place)));
     }
 }
 
 #[test]
 fn a_repeated_call_keeps_no_seat(rt: HostRuntime) {
+    let rt = &rt;
     let mut table = Table::new(Some(SECRET), COOKIES, terms(2), GAME);
     let call = call(1, None, None);
-    assert_eq!(rt;
+    same!(rt;
         read(heard(&mut table, at(1), call, 0)),
         Brought::Seat(1, 1)
     );
-    assert_eq!(rt; read(heard(&mut table, at(1), call, 10)), Brought::Nothing);
+    same!(rt; read(heard(&mut table, at(1), call, 10)), Brought::Nothing);
     table.sweep(11);
-    assert!(rt; first_of(&table).is_none());
+    holds!(rt; first_of(&table).is_none());
 }
 
 #[test]
 fn an_own_address_of_a_machine_is_told_on_it_alone(rt: HostRuntime) {
+    let rt = &rt;
     let mut own = [0; 16];
     own[15] = 1;
     let own = Address {
@@ -234,31 +237,32 @@ fn an_own_address_of_a_machine_is_told_on_it_alone(rt: HostRuntime) {
         ) {
             Ok(answer) => {
                 let told = if is_told { Some(first) } else { None };
-                assert!(rt; answer.seats == [told, Some(second), None]);
+                holds!(rt; answer.seats == [told, Some(second), None]);
             }
-            Err(_) => assert!(rt; false),
+            Err(_) => holds!(rt; false),
         }
     }
 }
 
 #[test]
 fn the_lowest_free_seat_is_given(rt: HostRuntime) {
+    let rt = &rt;
     let mut table = Table::new(Some(SECRET), COOKIES, terms(3), GAME);
     let three = |seat| call(9, Some(seat), None);
-    assert_eq!(rt;
+    same!(rt;
         read(heard(&mut table, at(9), three(3), 0)),
         Brought::Refused(Refusal::Players(3))
     );
-    assert_eq!(rt;
+    same!(rt;
         read(heard(&mut table, at(9), three(2), 0)),
         Brought::Seat(2, 1)
     );
     // Started anew for another seat it leaves the first.
-    assert_eq!(rt;
+    same!(rt;
         read(heard(&mut table, at(9), call(8, Some(1), None), 0)),
         Brought::Seat(1, 1)
     );
-    assert_eq!(rt;
+    same!(rt;
         read(heard(&mut table, at(7), call(7, None, None), 0)),
         Brought::Seat(2, 2)
     );
@@ -266,21 +270,22 @@ fn the_lowest_free_seat_is_given(rt: HostRuntime) {
 
 #[test]
 fn a_game_that_has_begun_takes_nobody(rt: HostRuntime) {
+    let rt = &rt;
     let mut table = Table::new(Some(SECRET), COOKIES, terms(3), GAME);
     let one = call(1, None, None);
     let two = call(2, None, None);
-    assert_eq!(rt; read(heard(&mut table, at(1), one, 0)), Brought::Seat(1, 1));
+    same!(rt; read(heard(&mut table, at(1), one, 0)), Brought::Seat(1, 1));
     table.begin();
     table.sweep(100);
-    assert_eq!(rt;
+    same!(rt;
         read(heard(&mut table, at(1), numbered(2, 1, None, None), 100)),
         Brought::Seat(1, 1)
     );
-    assert_eq!(rt;
+    same!(rt;
         read(heard(&mut table, at(1), two, 100)),
         Brought::Refused(Refusal::Begun)
     );
-    assert_eq!(rt;
+    same!(rt;
         read(heard(&mut table, at(2), two, 200)),
         Brought::Refused(Refusal::Begun)
     );
@@ -288,14 +293,15 @@ fn a_game_that_has_begun_takes_nobody(rt: HostRuntime) {
 
 #[test]
 fn what_is_no_call_gets_a_hint_or_nothing(rt: HostRuntime) {
+    let rt = &rt;
     let mut table = Table::new(Some([8; 32]), COOKIES, terms(2), GAME);
     let bytes = sealed(&call(1, None, None));
-    assert_eq!(rt;
-        read(table.hear(at(1), bytes.as_slice(), 0)),
+    same!(rt;
+        read(hear(&mut table, at(1), bytes.as_slice(), 0)),
         Brought::Hinted(Hint::Key)
     );
-    assert_eq!(rt; read(table.hear(at(1), &[], 0)), Brought::Nothing);
-    assert_eq!(rt;
+    same!(rt; read(hear(&mut table, at(1), &[], 0)), Brought::Nothing);
+    same!(rt;
         table.places(),
         Table::new(None, COOKIES, terms(2), GAME).places()
     );
@@ -303,6 +309,7 @@ fn what_is_no_call_gets_a_hint_or_nothing(rt: HostRuntime) {
 
 #[test]
 fn another_version_is_told_ours(rt: HostRuntime) {
+    let rt = &rt;
     let mut table = Table::new(Some(SECRET), COOKIES, terms(2), GAME);
     let rows = [
         (40, 2, Brought::Hinted(Hint::Version(1))),
@@ -312,24 +319,25 @@ fn another_version_is_told_ours(rt: HostRuntime) {
     ];
     for (size, version, brought) in rows {
         let bytes = front_of(sealed(&call(1, None, None)).as_slice(), size, version);
-        assert_eq!(rt; read(table.hear(at(1), bytes.as_slice(), 0)), brought);
+        same!(rt; read(hear(&mut table, at(1), bytes.as_slice(), 0)), brought);
     }
 }
 
 #[test]
 fn the_answer_has_the_number_of_the_game(rt: HostRuntime) {
+    let rt = &rt;
     let mut table = Table::new(Some(SECRET), COOKIES, terms(2), GAME);
     for (number, game) in [(1, GAME), (2, [9; 16])] {
         table.renew(game);
-        assert!(rt; table.game() == game);
+        holds!(rt; table.game() == game);
         let call = numbered(number, 1, None, None);
         let reply = heard(&mut table, at(1), call, 0).unwrap_or(ArrayVec::new());
         match open_answer(&greeter(Some(SECRET)), reply.as_slice()) {
             Ok(answer) => {
-                assert!(rt; answer.game == game && answer.terms == table.terms());
-                assert!(rt; answer.seats == [Some(at(1)), None, None]);
+                holds!(rt; answer.game == game && answer.terms == table.terms());
+                holds!(rt; answer.seats == [Some(at(1)), None, None]);
             }
-            Err(_) => assert!(rt; false),
+            Err(_) => holds!(rt; false),
         }
     }
 }
