@@ -27,9 +27,15 @@ ending Pause = codes " ms, at most 1000\n"
 ending Speed = codes " ms, at most 250\n"
 ending (Datagrams player loss) = codes " %, at most 15\n"
 
--- how many tics were run a second, of how many: 69 of 70 of those that the clock gave
+-- how many tenths of a tic have to be run in each second: those of 69 of 70 tics that the clock gives, where a
+-- part of a tenth counts as a whole one
+abbrev pub wanted_tenths : (rate : ℕ) → ℕ
+wanted_tenths rate = (rate * 69 + 6) / 7
+
+-- how many tics were run a second, of how many
 unfoldable pub rate_text : Summary → List ℕ
-rate_text s = with_tenth [] (tenths_a_second s.tics s.micros) ++ with_tenth (codes " of ") (s.rate * 69 / 7)
+rate_text s =
+    with_tenth [] (tenths_a_second s.tics s.micros) ++ with_tenth (codes " of ") (wanted_tenths s.rate)
 
 unfoldable pub loss_text : (player loss : ℕ) → List ℕ
 loss_text player loss = labelled ((codes "player ", pos player) ∷ []) ++ with_tenth (codes " lost ") loss

@@ -36,13 +36,25 @@ abbrev pub last_of : List ℕ → Option ℕ
 last_of [] = None
 last_of (first ∷ ends) = Some (last_after first ends)
 
+-- what is kept of tics: how many were run, when the last was, how many of the times between were gaps, and the
+-- longest of these
+pub record Running : Type 0 where
+  pub count : ℕ
+  pub last : Option ℕ
+  pub gaps : ℕ
+  pub longest : ℕ
+
+abbrev pub running : Runs → Running
+running runs =
+    record { count = runs.count; last = runs.last; gaps = runs.gaps; longest = runs.longest }
+
 -- what is kept of the times from each of these to the next
-pub record AreWaitsOf (ends : List ℕ) (r : Runs) : Type 0 where
+pub record AreWaitsOf (ends : List ℕ) (r : Running) : Type 0 where
   pub last : r.last ≡ last_of ends
   pub gaps : r.gaps ≡ as_count (gaps_in (times_in ends))
   pub longest : r.longest ≡ longest_of (times_in ends)
 
 -- what is kept of tics that were run at these times
-pub record AreRunsOf (runs : List ℕ) (r : Runs) : Type 0 where
+pub record AreRunsOf (runs : List ℕ) (r : Running) : Type 0 where
   pub count : r.count ≡ as_count (length runs)
   pub waits : AreWaitsOf runs r

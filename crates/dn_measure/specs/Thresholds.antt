@@ -16,7 +16,7 @@ run_of_given = 69
 abbrev pub given : ℕ
 given = 70
 
--- there is one gap at most in so much time, of which a begun time counts whole
+-- there are no more gaps in all than such times, of which a begun one counts whole
 abbrev pub time_of_a_gap : ℕ
 time_of_a_gap = 60000000
 

@@ -40,13 +40,14 @@ fn ending(lack: Lack) -> &'static str
     }
 }
 
-/// How many tics were run a second, of how many.
+/// How many tics were run a second, of how many: what was run is cut off and what has to be run is rounded up, so
+/// that the first number is below the second.
 #[tactic(auto, unfolding(crate::specs::Lacking::rate_text))]
 fn push_rate(text: &mut String, summary: &Summary) -> Result<(), AllocError>
     ensures { OnOk result (string_bytes text.new ≡ string_bytes text.old ++ rate_text summary.now) }
 {
     push_tenths(text, "", tenths_a_second(summary.tics, summary.micros))?;
-    push_tenths(text, " of ", u128::from(summary.rate) * 69 / 7)
+    push_tenths(text, " of ", (u128::from(summary.rate) * 69 + 6) / 7)
 }
 
 /// How many datagrams of a player were lost.

@@ -14,8 +14,6 @@ mod measure;
 mod runs;
 mod status;
 mod summary;
-#[cfg(test)]
-mod tests;
 mod text;
 mod thresholds;
 mod told;

@@ -15,11 +15,11 @@ pub(crate) struct Runs {
 
 impl Runs {
     ghost use Rattle.std.specs.Prelude.{◌≡◌, ℕ, List, [], ◌∷◌, ◌++◌};
-    ghost use Rattle.dn_measure.specs.Runs.{AreRunsOf, AreWaitsOf, as_count, gaps_in, last_after, longest_of, times_between};
+    ghost use Rattle.dn_measure.specs.Runs.{AreRunsOf, AreWaitsOf, as_count, gaps_in, last_after, longest_of, running, times_between};
 
     /// None.
     pub(crate) fn new() -> Runs
-        ensures { AreRunsOf [] result }
+        ensures { AreRunsOf [] (running result) }
     {
         Runs {
             count: 0,
@@ -49,7 +49,8 @@ impl Runs {
 
     /// The time up to now passes: from the last on, if there was one.
     pub(crate) fn wait_until(&mut self, now: u64)
-        ensures waits { (ends : List ℕ) → AreWaitsOf ends self.old → AreWaitsOf (ends ++ now ∷ []) self.new }
+        ensures waits { (ends : List ℕ) → AreWaitsOf ends (running self.old)
+            → AreWaitsOf (ends ++ now ∷ []) (running self.new) }
         ensures count { self.new.count ≡ self.old.count }
     {
         let last = self.last;
@@ -61,7 +62,8 @@ impl Runs {
 
     /// One more tic is run now.
     pub(crate) fn add(&mut self, now: u64)
-        ensures { (runs : List ℕ) → AreRunsOf runs self.old → AreRunsOf (runs ++ now ∷ []) self.new }
+        ensures { (runs : List ℕ) → AreRunsOf runs (running self.old)
+            → AreRunsOf (runs ++ now ∷ []) (running self.new) }
     {
         self.wait_until(now);
         self.count = self.count.saturating_add(1);

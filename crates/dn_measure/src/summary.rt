@@ -15,8 +15,8 @@ pub struct Summary {
     pub tics: u64,
     /// How long the game was played.
     pub micros: u64,
-    /// How many times between two tics were longer than 100 ms, the time before the first and that after the
-    /// last among them.
+    /// How many times between two tics were longer than 100 ms. The time from the last tic on is one of them,
+    /// the time before the first is none.
     pub gaps: u64,
     /// The longest of these times.
     pub longest: u64,

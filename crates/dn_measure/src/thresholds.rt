@@ -12,7 +12,7 @@ pub(crate) const RUN: u128 = 69;
 /// of so many: 34.5 of 35.
 pub(crate) const GIVEN: u128 = 70;
 
-/// There may be one gap in so many microseconds, of which a begun time counts whole.
+/// There may be as many gaps as such times in microseconds, of which a begun one counts whole.
 pub(crate) const TIME_OF_A_GAP: u128 = 60_000_000;
 
 /// The longest time between two tics may be so many microseconds.

@@ -19,7 +19,7 @@ pub enum Lack {
     Tics,
     /// 69 of 70 tics that the clock gave.
     Rate,
-    /// No more than one gap a minute, of which a begun one counts whole.
+    /// No more gaps than minutes, of which a begun one counts whole.
     Calm,
     /// No longer time between two tics than a second.
     Pause,
@@ -40,8 +40,10 @@ impl Default for Lack {
     }
 }
 
-/// The most that can be lacking at once.
+/// The most that can be lacking at once: four of the game, and the datagrams of four numbers of players.
 pub const MOST_LACKS: usize = 8;
+
+const _: () = prove!(MOST_LACKS == 8);
 
 /// Whether fewer tics were run than have to be.
 fn is_slow(summary: &Summary) -> bool

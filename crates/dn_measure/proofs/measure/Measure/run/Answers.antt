@@ -6,7 +6,7 @@ use Rattle.dn_measure.specs.Told.{Keys, keys_of}
 use Rattle.dn_measure.specs.Felt.{bin_of}
 use Rattle.dn_measure.specs.Histogram.{AreCountsOf}
 use Rattle.dn_measure.specs.Measure.{samples_of}
-use Rattle.dn_measure.specs.Runs.{AreRunsOf}
+use Rattle.dn_measure.specs.Runs.{AreRunsOf, running}
 use Rattle.dn_measure.proofs.Telling.{runs_ran, ran_one, ran_none, sample_more, first_of}
 use Rattle.dn_measure.proofs.Bins.{bin_kept}
 use Rattle.dn_measure.proofs.measure.Measure.run.Goals as goal
@@ -28,7 +28,7 @@ returns-then-not-is_empty c = λ start told h.
     (ap (λ (k : Keys). k.times) keys)) in
     record {
       start_at = h.start_at;
-      runs = subst (λ (rs : List ℕ). AreRunsOf rs c.add.new.self) (sym (runs_ran told c.args.now))
+      runs = subst (λ (rs : List ℕ). AreRunsOf rs (running c.add.new.self)) (sym (runs_ran told c.args.now))
           (c.add.ensures _ h.runs);
       waiting = c.remove-built.ensures.items ∙ sym (ap (λ (k : Keys). k.waiting) keys);
       keys = subst (λ (xs : List ℕ). AreCountsOf 1002 xs c.add-then-not-is_empty.new.self) samples
@@ -41,7 +41,7 @@ returns-else-not-is_empty c = λ start told h.
     let keys = ran_none told c.args.now (sym h.waiting ∙ none) in
     record {
       start_at = h.start_at;
-      runs = subst (λ (rs : List ℕ). AreRunsOf rs c.add.new.self) (sym (runs_ran told c.args.now))
+      runs = subst (λ (rs : List ℕ). AreRunsOf rs (running c.add.new.self)) (sym (runs_ran told c.args.now))
           (c.add.ensures _ h.runs);
       waiting = none ∙ sym (ap (λ (k : Keys). k.waiting) keys);
       keys = subst (λ (k : Keys). AreCountsOf 1002 (map bin_of k.times) c.args.self.now.keys) (sym keys) h.keys;
