@@ -21,8 +21,8 @@ abbrev pub came_from : Linked → PaceState → (player late : ℕ) → Option A
 came_from link pace player late = option_map (arrivals_in late) (figures_by_link link pace player)
 
 -- of four players
-abbrev pub came_by : Linked → PaceState → List ℕ → List (Option Arrivals)
-came_by link pace late =
+abbrev pub came_from_each : Linked → PaceState → List ℕ → List (Option Arrivals)
+came_from_each link pace late =
     came_from link pace 0 (slice_index late 0) ∷ came_from link pace 1 (slice_index late 1)
     ∷ came_from link pace 2 (slice_index late 2) ∷ came_from link pace 3 (slice_index late 3) ∷ []
 

@@ -6,6 +6,12 @@ pub mod Addresses
 pub mod Stages
 pub mod Outcomes
 pub mod Begun
+pub mod Seals
+pub mod Parts
+pub mod Made
+pub mod Summed
+pub mod Summaries
+pub mod Leaving
 pub mod Replays
 pub mod Offers
 pub mod Peers

@@ -1,11 +1,13 @@
 -- What is left of a session.
 use Rattle.std.specs.Prelude.{◌≡◌, true, None, IfSome}
+use Rattle.dn_link.specs.Linking.{linked}
+use Rattle.dn_link.specs.Pacing.{pace_of}
 use Rattle.dn_host.specs.declared.ends.Outcome.{Outcome}
-use Rattle.dn_host.specs.Measured.{IsMeasured}
 use Rattle.dn_host.specs.Stages.{is_refusal}
+use Rattle.dn_host.specs.Summaries.{IsSummaryBy}
 
--- what is measured was measured of some game; nothing is where there is no link, or no seat was given
+-- what is measured was measured of the link; nothing is where there is no link, or no seat was given
 pub record IsOutcome (o : Outcome) : Type 0 where
-  pub measured : IfSome o.summary IsMeasured
+  pub measured : IfSome o.link (λ link. IfSome o.summary (IsSummaryBy (linked link) (pace_of link)))
   pub linked : o.link ≡ None → o.summary ≡ None
   pub refused : is_refusal o.ending ≡ true → o.summary ≡ None

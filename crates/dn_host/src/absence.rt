@@ -15,6 +15,9 @@ const ABSENCE: u64 = 2_000_000;
 const ABSENT_TICKS: u64 = 64;
 
 impl Game {
+    ghost use Rattle.std.specs.Prelude.{◌≡◌};
+    ghost use Rattle.dn_link.specs.Linking.{seal_of};
+
     /// Whether a number is another player's.
     fn is_other(&self, player: u8) -> bool {
         let lockstep = self.play.link.lockstep();
@@ -36,12 +39,16 @@ impl Game {
     }
 
     /// Forgets a player.
-    pub(crate) fn forget(&mut self, player: u8) {
+    pub(crate) fn forget(&mut self, player: u8)
+        ensures { seal_of self.new.play.link ≡ seal_of self.old.play.link }
+    {
         self.play.link.forget(player);
     }
 
     /// Forgets who is no longer there, before the game.
-    pub(crate) fn forget_absent(&mut self, now: u64) {
+    pub(crate) fn forget_absent(&mut self, now: u64)
+        ensures { seal_of self.new.play.link ≡ seal_of self.old.play.link }
+    {
         for player in 0..4 {
             if !self.has_begun() && self.is_absent(player, now) {
                 self.play.link.forget(player);

@@ -1,16 +1,20 @@
 //! A joiner in the lobby and in its game.
 
-ghost use Rattle.std.specs.Prelude.{◌≡◌, ⊤, true, false};
+ghost use Rattle.std.specs.Prelude.{◌≡◌, ℕ, List, Option, Bool, ⊤, true, false, IfOk};
+ghost use Rattle.dn_host.specs.Begun.{has_run, silence};
 ghost use Rattle.dn_host.specs.Calling.{is_calling};
+ghost use Rattle.dn_host.specs.Parts.{IsPart};
 
+use crate::begun::{has_begun, has_run, silence};
+use crate::calling::{is_calling, may_pass};
 use crate::ends::{Ending, HostFault};
 use crate::game::Game;
 use crate::guest::Guest;
 use crate::lobby::Lobby;
 use crate::parts::part_of;
+use crate::plan::Plan;
 use crate::random::draw;
 use crate::screen::Screen;
-use crate::session::Plan;
 use crate::wire::Wire;
 use dn_greeting::{Address, Answer, Joiner, News, Refusal};
 use std::alloc::Global;
@@ -29,7 +33,6 @@ pub(crate) struct Caller {
     plan: Plan,
     host: Address,
     joiner: Joiner,
-    game: Option<Game>,
     quiet: u64,
     /// The call of this second may still be made again.
     may_repeat: bool,
@@ -39,76 +42,49 @@ pub(crate) struct Caller {
     told: Option<Refusal>,
 }
 
-/// For how long the host of a game that goes on may be silent, and is called.
-const UNHEARD: u64 = 2_000_000;
-
-/// Whether a seat may become free where there was none.
-fn may_pass(refusal: Refusal) -> bool {
-    match refusal {
-        Refusal::Full | Refusal::Taken => true,
-        Refusal::Players(_) | Refusal::Begun => false,
-    }
-}
-
-/// Whether it calls, by whether its game goes on, and for how long the host was not heard.
-fn is_calling(has_run: bool, silence: u64) -> bool
-    ensures { result ≡ is_calling has_run silence }
-{
-    !has_run || silence < UNHEARD
-}
-
 impl Caller {
-    ghost use Rattle.dn_host.specs.Begun.{has_begun};
-
-    /// Whether its link has started.
-    fn has_begun(&self) -> bool
-        ensures { result ≡ has_begun self.now.game }
-    {
-        match &self.game {
-            Some(game) => game.has_begun(),
-            None => false,
-        }
-    }
-
-    /// Whether it has run a tic: then everyone was heard, and the host has begun.
-    fn has_run(&self) -> bool {
-        match &self.game {
-            Some(game) => game.has_run(),
-            None => false,
-        }
-    }
-
-    /// For how long nothing new came of the host.
-    fn silence(&self, now: u64) -> u64 {
-        match &self.game {
-            Some(game) => game.heard.silence(HOST, now),
-            None => 0,
-        }
-    }
-
     /// Once it has run a tic it keeps to its game.
-    fn close(&mut self) {
-        if self.has_run() {
+    fn close(&mut self, game: &Option<Game>)
+        ensures { self.new.plan ≡ self.old.plan }
+    {
+        if has_run(game) {
             self.joiner.begin();
         }
     }
 
     /// Calls the host.
-    fn call<W: Wire>(&mut self, wire: &mut W) {
+    fn call<W: Wire>(&mut self, wire: &mut W)
+        ensures { self.new.plan ≡ self.old.plan }
+    {
         let call = self.joiner.call();
         wire.send(&self.host, call.as_slice());
     }
 
     /// Calls again at once, as the host asks, but once a second: a host that always asks is not called more often.
-    fn repeat<W: Wire>(&mut self, wire: &mut W) {
+    fn repeat<W: Wire>(&mut self, wire: &mut W)
+        ensures { self.new.plan ≡ self.old.plan }
+    {
         if self.may_repeat {
             self.may_repeat = false;
             self.call(wire);
         }
     }
 
+    /// Calls once more, while its game does not go on without the host, and may then repeat that call.
+    fn call_again<W: Wire>(&mut self, game: &Option<Game>, wire: &mut W, now: u64)
+        ensures plan { self.new.plan ≡ self.old.plan }
+        ensures still { is_calling (has_run game.now) (silence game.now 0 now) ≡ false → wire.new ≡ wire.old }
+    {
+        if is_calling(has_run(game), silence(game, HOST, now)) {
+            self.call(wire);
+            self.may_repeat = true;
+        }
+    }
+
     /// Tells why it has no seat, if that is new, and that the host is silent.
-    fn tell<S: Screen>(&mut self, screen: &mut S, now: u64) {
+    fn tell<S: Screen>(&mut self, screen: &mut S, now: u64)
+        ensures { self.new.plan ≡ self.old.plan }
+    {
         if self.waits != self.told {
             self.told = self.waits;
             if let Some(refusal) = self.waits {
@@ -122,54 +98,56 @@ impl Caller {
     }
 
     /// Begins anew, by the newest answer.
-    fn start(&mut self, now: u64) -> Result<(), HostFault> {
+    fn start(&self, game: &mut Option<Game>, now: u64) -> Result<(), HostFault>
+        ensures { IsPart false self.now.plan.secret game.old → IsPart false self.now.plan.secret game.new }
+    {
         if let Some(answer) = self.joiner.answer() {
-            self.game = Some(part_of(self.alloc, &self.plan, self.host, &answer, now)?);
+            *game = Some(part_of(self.alloc, &self.plan, self.host, &answer, now)?);
         }
         Ok(())
     }
 
     /// Another player is elsewhere than the answer before said.
-    fn follow(&mut self, before: Option<Answer>) {
-        let (Some(before), Some(after), Some(game)) = (before, self.joiner.answer(), &mut self.game)
-        else {
-            return;
-        };
-        let (old, new) = (before.seats, after.seats);
-        let [a, b, c] = old;
-        let [d, e, f] = new;
-        game.peers.follow(1, a, d);
-        game.peers.follow(2, b, e);
-        game.peers.follow(3, c, f);
+    fn follow(&self, game: &mut Option<Game>, before: Option<Answer>)
+        ensures { IsPart false self.now.plan.secret game.old → IsPart false self.now.plan.secret game.new }
+    {
+        if let (Some(before), Some(after)) = (before, self.joiner.answer()) {
+            follow_in(game, before.seats, after.seats);
+        }
+    }
+}
+
+/// The host says in an answer that who has a seat is elsewhere than it said before.
+fn follow_in(game: &mut Option<Game>, before: [Option<Address>; 3], after: [Option<Address>; 3])
+    ensures { (hosts : Bool) (secret : Option (List ℕ)) → IsPart hosts secret game.old → IsPart hosts secret game.new }
+{
+    if let Some(game) = game {
+        game.follow(before, after);
     }
 }
 
 impl Lobby for Caller {
-    ghost use Rattle.dn_host.specs.Begun.{has_begun};
     ghost use Rattle.dn_host.specs.Stages.{is_refusal};
 
     ghost Refuses = { λ ending. is_refusal ending ≡ true };
 
     ghost Faults = { λ f. ⊤ };
 
-    ghost begun = { λ caller. has_begun caller.game };
-
     ghost hosts = { false };
 
-    fn game(&mut self) -> Option<&mut Game> {
-        self.game.as_mut()
-    }
+    ghost secret = { λ caller. caller.plan.secret };
 
     fn greet<W: Wire>(
         &mut self,
+        game: &mut Option<Game>,
         wire: &mut W,
         from: Address,
         bytes: &[u8],
         now: u64,
     ) -> Result<Option<Ending>, HostFault> {
-        self.close();
+        self.close(game);
         let before = self.joiner.answer();
-        let begun = self.has_begun();
+        let begun = has_begun(game);
         match self.joiner.hear(from, bytes) {
             News::Nothing => return Ok(None),
             News::Retry => {
@@ -186,8 +164,8 @@ impl Lobby for Caller {
             News::Refused(refusal) => return Ok(Some(Ending::Refused(refusal))),
             News::Hinted(hint) => return Ok(Some(Ending::Hinted(hint))),
             News::Same => {}
-            News::Moved => self.follow(before),
-            News::Seated | News::Anew => self.start(now)?,
+            News::Moved => self.follow(game, before),
+            News::Seated | News::Anew => self.start(game, now)?,
         }
         self.waits = None;
         self.quiet = now;
@@ -196,23 +174,17 @@ impl Lobby for Caller {
 
     fn second<W: Wire, S: Screen>(
         &mut self,
+        game: &mut Option<Game>,
         wire: &mut W,
         screen: &mut S,
         now: u64,
     ) -> Result<(), HostFault> {
-        self.close();
-        if is_calling(self.has_run(), self.silence(now)) {
-            self.call(wire);
-            self.may_repeat = true;
-        }
-        if !self.has_run() {
+        self.close(game);
+        self.call_again(game, wire, now);
+        if !has_run(game) {
             self.tell(screen, now);
         }
         Ok(())
-    }
-
-    fn into_game(self) -> Option<Game> {
-        self.game
     }
 }
 
@@ -223,14 +195,15 @@ pub(crate) fn new_caller(
     plan: &Plan,
     guest: &Guest,
     now: u64,
-) -> Result<Caller, HostFault> {
+) -> Result<Caller, HostFault>
+    ensures { IfOk result (λ caller. caller.plan ≡ plan.now) }
+{
     let mark = draw(random)?;
     Ok(Caller {
         alloc,
         plan: *plan,
         host: guest.host,
         joiner: Joiner::new(plan.secret, guest.host, mark, guest.seat, guest.players),
-        game: None,
         quiet: now,
         may_repeat: false,
         waits: None,

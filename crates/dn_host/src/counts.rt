@@ -1,12 +1,14 @@
 //! What is counted of a game from its beginning on.
 
-ghost use Rattle.std.specs.Prelude.{◌≡◌, ◌≤◌, ℕ, List};
+ghost use Rattle.std.specs.Prelude.{◌≡◌, ◌≤◌, ◌++◌, [], ℕ, List, replicate};
 ghost use Rattle.dn_link.specs.Linking.{linked};
 ghost use Rattle.dn_link.specs.Pacing.{pace_of};
 ghost use Rattle.dn_measure.specs.Measure.{IsMeasureOf, IsSummaryOf};
 ghost use Rattle.dn_measure.specs.declared.told.Told.{Told};
-ghost use Rattle.dn_host.specs.Arrived.{arrivals_by, came_by, came_from, since_then};
-ghost use Rattle.dn_host.specs.Measured.{IsMeasured, IsSomeMeasure};
+ghost use Rattle.dn_measure.specs.declared.told.Told.TheVariants.{Built, Ran};
+ghost use Rattle.dn_host.specs.Arrived.{arrivals_by, came_from_each, came_from, since_then};
+ghost use Rattle.dn_host.specs.Measured.{IsSomeMeasure};
+ghost use Rattle.dn_host.specs.Summaries.{IsSummaryBy};
 
 use crate::done::Done;
 use dn_link::Link;
@@ -50,7 +52,7 @@ fn came_from(link: &Link, player: u8, late: u32) -> Option<Arrivals>
 
 /// What came from each player so far, so much of it late.
 fn came(link: &Link, late: [u32; 4]) -> Came
-    ensures { result ≡ came_by (linked link.now) (pace_of link.now) late }
+    ensures { result ≡ came_from_each (linked link.now) (pace_of link.now) late }
 {
     let [a, b, c, d] = late;
     [
@@ -63,7 +65,8 @@ fn came(link: &Link, late: [u32; 4]) -> Came
 
 /// Tells so often the same.
 fn tell(measure: &mut Measure, told: Told, times: u32)
-    ensures { IsSomeMeasure measure.old → IsSomeMeasure measure.new }
+    ensures { (start : ℕ) (before : List Told) → IsMeasureOf measure.old start before
+        → IsMeasureOf measure.new start (before ++ replicate times told) }
 {
     for _ in 0..times {
         measure.tell(told);
@@ -91,7 +94,11 @@ fn standing(link: &Link, player: u8, arrivals: Option<Arrivals>) -> Option<PeerS
 
 impl Counts {
     /// Nothing, of a game that begins now.
-    pub(crate) fn new(link: &Link, now: u64) -> Counts {
+    pub(crate) fn new(link: &Link, now: u64) -> Counts
+        ensures measure { IsMeasureOf result.measure now [] }
+        ensures before { result.before ≡ came_from_each (linked link.now) (pace_of link.now) (replicate 4 0) }
+        ensures late { result.late ≡ replicate 4 0 }
+    {
         Counts {
             measure: Measure::new(now),
             before: came(link, [0; 4]),
@@ -104,7 +111,13 @@ impl Counts {
     }
 
     /// Counts what was done.
-    pub(crate) fn add(&mut self, done: Done, now: u64) {
+    pub(crate) fn add(&mut self, done: Done, now: u64)
+        ensures told { (start : ℕ) (before : List Told) → IsMeasureOf self.old.measure start before
+            → IsMeasureOf self.new.measure start
+            (before ++ (replicate done.built (Built now) ++ replicate done.ran (Ran now))) }
+        ensures before { self.new.before ≡ self.old.before }
+        ensures late { self.new.late ≡ self.old.late }
+    {
         tell(&mut self.measure, Told::Built(now), done.built);
         tell(&mut self.measure, Told::Ran(now), done.ran);
         self.tics = self.tics.saturating_add(u64::from(done.ran));
@@ -122,7 +135,9 @@ impl Counts {
     }
 
     /// How many tics were run.
-    pub(crate) fn tics(&self) -> u64 {
+    pub(crate) fn tics(&self) -> u64
+        ensures { result ≡ self.now.tics }
+    {
         self.tics
     }
 
@@ -165,7 +180,7 @@ impl Counts {
         ensures own { (start : ℕ) (told : List Told) → IsMeasureOf self.now.measure start told
             → IsSummaryOf start told now rate
             (arrivals_by (linked link.now) (pace_of link.now) self.now.late self.now.before) result }
-        ensures measured { IsMeasured result }
+        ensures by { IsSummaryBy (linked link.now) (pace_of link.now) result }
     {
         self.measure.summary(now, rate, self.arrivals(link))
     }

@@ -32,9 +32,9 @@ pub enum HostFault {
     /// The system gave no random bytes.
     #[error("no random bytes")]
     Random,
-    /// The terms that the host offers are those of no game: its number of players, the window or the demo's limit
-    /// is out of range. A host knows that before it waits for anybody, and a joiner by an answer with a limit that no
-    /// demo has, since it takes no answer in which another of these is out of range.
+    /// The terms that the host offers are those of no game: its number of players, the window, the rate or the
+    /// demo's limit is out of range. A host knows that before it waits for anybody, and a joiner by an answer with a
+    /// limit that no demo has, since it takes no answer in which another of these is out of range.
     #[error("the terms are those of no game")]
     Terms,
 }

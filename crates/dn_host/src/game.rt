@@ -8,9 +8,7 @@ use crate::peers::Peers;
 use crate::play::Play;
 use crate::wire::Wire;
 use dn_greeting::Address;
-use dn_link::{Link, Received};
-use dn_machine::Phase;
-use dn_measure::{Status, Summary};
+use dn_link::Received;
 
 /// One player's part in a game.
 #[derive(Drop)]
@@ -18,7 +16,7 @@ pub(crate) struct Game {
     pub(crate) play: Play,
     pub(crate) peers: Peers,
     pub(crate) counts: Option<Counts>,
-    began: u64,
+    pub(crate) began: u64,
     pub(crate) heard: LastHeard,
     pub(crate) rate: u8,
     /// When the next tick is due,
@@ -30,17 +28,22 @@ pub(crate) struct Game {
 }
 
 impl Game {
-    ghost use Rattle.std.specs.Prelude.{◌≡◌, false, IfSome, None, Some, is_some};
+    ghost use Rattle.std.specs.Prelude.{◌≡◌, false, true, None, Some};
     ghost use Rattle.dn_link.specs.Linked.{Receives};
     ghost use Rattle.dn_link.specs.Linking.{identity_of, linked, seal_of};
-    ghost use Rattle.dn_link.specs.Notices.{is_notice};
+    ghost use Rattle.dn_link.specs.Notices.{HearsNotice, is_notice};
     ghost use Rattle.dn_link.specs.Pace.{Paces};
     ghost use Rattle.dn_link.specs.Pacing.{pace_of};
     ghost use Rattle.dn_host.specs.Coming.{came_by, figures_by, news_of, noted};
-    ghost use Rattle.dn_host.specs.Measured.{IsMeasured};
+    ghost use Rattle.dn_host.specs.Peers.{AreFollowed};
 
     /// A part in a game that has not begun; its first tick is due now.
-    pub(crate) fn new(play: Play, peers: Peers, rate: u8, now: u64) -> Game {
+    pub(crate) fn new(play: Play, peers: Peers, rate: u8, now: u64) -> Game
+        ensures play { result.play ≡ play }
+        ensures peers { result.peers ≡ peers }
+        ensures rate { result.rate ≡ rate }
+        ensures counts { result.counts ≡ None }
+    {
         Game {
             play,
             peers,
@@ -54,40 +57,15 @@ impl Game {
         }
     }
 
-    /// Whether it has begun.
-    pub(crate) fn has_begun(&self) -> bool
-        ensures { result ≡ is_some self.now.counts }
-    {
-        self.counts.is_some()
-    }
-
-    /// Whether it has run a tic.
-    pub(crate) fn has_run(&self) -> bool {
-        match &self.counts {
-            Some(counts) => counts.tics() > 0,
-            None => false,
-        }
-    }
-
-    /// When it began.
-    pub(crate) fn began(&self) -> u64 {
-        self.began
-    }
-
-    /// When it has something to do next.
-    pub(crate) fn next(&self) -> u64 {
-        match self.half {
-            Some(half) => half.min(self.due),
-            None => self.due,
-        }
-    }
-
     /// Takes in any bytes, as the link and its walk do. Where they are a new datagram of a player, it is there that
     /// they came from, and it was heard now: neither is said of who sent an old one again.
     fn take(&mut self, from: Address, bytes: &[u8], now: u64) -> (Received, Option<Coming>)
         ensures link { is_notice bytes.now ≡ false → Receives (seal_of self.old.play.link)
             (identity_of self.old.play.link) (pace_of self.old.play.link) bytes.now (linked self.old.play.link)
             (linked self.new.play.link) result.0 }
+        ensures told { is_notice bytes.now ≡ true → HearsNotice (seal_of self.old.play.link) bytes.now
+            (linked self.old.play.link) (pace_of self.old.play.link) (linked self.new.play.link)
+            (pace_of self.new.play.link) result.0 }
         ensures pace { is_notice bytes.now ≡ false → Paces (seal_of self.old.play.link) bytes.now
             (linked self.old.play.link) (pace_of self.old.play.link) (pace_of self.new.play.link) }
         ensures came { result.1 ≡ came_by result.0
@@ -96,6 +74,7 @@ impl Game {
         ensures places { self.new.peers.places
             ≡ noted (news_of result.0 result.1) (Some from) self.old.peers.places }
         ensures heard { self.new.heard.at ≡ noted (news_of result.0 result.1) now self.old.heard.at }
+        ensures seal { seal_of self.new.play.link ≡ seal_of self.old.play.link }
     {
         let (received, coming) = self.play.hear(bytes);
         if let (Received::Heard { from: player, .. }, Some(Coming::New)) = (received, coming) {
@@ -105,15 +84,27 @@ impl Game {
         (received, coming)
     }
 
+    /// Notes what the host says of the seats 1 to 3, as `Peers::follow` does.
+    pub(crate) fn follow(&mut self, before: [Option<Address>; 3], after: [Option<Address>; 3])
+        ensures places { AreFollowed before after self.old.peers.places self.new.peers.places }
+        ensures seal { seal_of self.new.play.link ≡ seal_of self.old.play.link }
+    {
+        self.peers.follow(before, after);
+    }
+
     /// The game begins.
-    fn begin(&mut self, now: u64) {
+    fn begin(&mut self, now: u64)
+        ensures { self.new.play.link ≡ self.old.play.link }
+    {
         self.began = now;
         self.heard = LastHeard::new(now);
         self.counts = Some(Counts::new(&self.play.link, now));
     }
 
     /// Counts what was done now, if the game has begun.
-    pub(crate) fn count(&mut self, done: Done, now: u64) {
+    pub(crate) fn count(&mut self, done: Done, now: u64)
+        ensures { self.new.play.link ≡ self.old.play.link }
+    {
         if let Some(counts) = &mut self.counts {
             counts.add(done, now);
         }
@@ -121,7 +112,9 @@ impl Game {
 
     /// Runs what can be run, builds the command that is owed then, sends it and goes on running; all of that is
     /// counted in this order.
-    pub(crate) fn run<W: Wire>(&mut self, wire: &mut W, now: u64) {
+    pub(crate) fn run<W: Wire>(&mut self, wire: &mut W, now: u64)
+        ensures { seal_of self.new.play.link ≡ seal_of self.old.play.link }
+    {
         let ran = self.play.run_all();
         self.count(Done { built: 0, ran }, now);
         if self.play.catch_up() {
@@ -132,7 +125,9 @@ impl Game {
     }
 
     /// Takes in any bytes that are no greeting. What came before does not say where a player is.
-    pub(crate) fn hear<W: Wire>(&mut self, wire: &mut W, from: Address, bytes: &[u8], now: u64) {
+    pub(crate) fn hear<W: Wire>(&mut self, wire: &mut W, from: Address, bytes: &[u8], now: u64)
+        ensures { seal_of self.new.play.link ≡ seal_of self.old.play.link }
+    {
         let (received, coming) = self.take(from, bytes, now);
         if let Received::Heard {
             from: player,
@@ -146,36 +141,6 @@ impl Game {
                 counts.come_late(player);
             }
             self.run(wire, now);
-        }
-    }
-
-    /// Where its link stands.
-    pub(crate) fn phase(&self) -> Phase {
-        self.play.link.lockstep().phase()
-    }
-
-    /// Its link.
-    pub(crate) fn into_link(self) -> Link {
-        self.play.into_link()
-    }
-
-    /// How the game stands, since the last time, if it has begun.
-    pub(crate) fn status(&mut self, now: u64) -> Option<Status> {
-        let waiting = self.play.waiting();
-        match &mut self.counts {
-            Some(counts) => Some(counts.status(&self.play.link, waiting, now)),
-            None => None,
-        }
-    }
-
-    /// What was measured up to now, if it has begun.
-    pub(crate) fn summary(&self, now: u64) -> Option<Summary>
-        ensures measured { IfSome result IsMeasured }
-        ensures begun { self.now.counts ≡ None → result ≡ None }
-    {
-        match &self.counts {
-            Some(counts) => Some(counts.summary(&self.play.link, now, self.rate)),
-            None => None,
         }
     }
 }

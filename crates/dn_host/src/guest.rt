@@ -1,13 +1,15 @@
 //! Joining a game.
 
-ghost use Rattle.std.specs.Prelude.{IfOk};
+ghost use Rattle.std.specs.Prelude.{IfOk, IfSome};
 ghost use Rattle.dn_host.specs.Outcomes.{IsOutcome};
+ghost use Rattle.dn_host.specs.Seals.{IsSealedUnder};
 
 use crate::caller::new_caller;
 use crate::clock::now;
 use crate::ends::{HostFault, Outcome};
+use crate::plan::Plan;
 use crate::screen::Screen;
-use crate::session::{Plan, Session, run};
+use crate::session::{Session, run};
 use crate::wire::Wire;
 use dn_greeting::Address;
 use std::alloc::Global;
@@ -35,8 +37,10 @@ pub fn join_game<R: Clock + RandomSource, W: Wire, S: Screen>(
     guest: &Guest,
 ) -> Result<Outcome, HostFault>
     ensures outcome { IfOk result IsOutcome }
+    ensures sealed { IfOk result (λ o. IfSome o.link (IsSealedUnder plan.now.secret)) }
 {
     let start = now(rt)?;
     let lobby = new_caller(rt, alloc, plan, guest, start)?;
-    run(rt, wire, screen, Session::new(lobby, plan.seconds, start))
+    let session = Session::new(lobby, None, plan.seconds, start);
+    run(rt, wire, screen, session)
 }

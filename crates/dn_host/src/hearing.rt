@@ -1,9 +1,13 @@
 //! Taking the datagrams that are there.
 
-ghost use Rattle.std.specs.Prelude.{◌≡◌, ◌≤◌, length, false, IfOk, IfErr, IfSome};
+ghost use Rattle.std.specs.Prelude.{◌≡◌, ◌≤◌, ℕ, List, Option, Bool, length, false, IfOk, IfErr, IfSome};
+ghost use Rattle.dn_host.specs.Begun.{has_begun};
+ghost use Rattle.dn_host.specs.Parts.{IsPart};
 ghost use Rattle.dn_host.specs.Stages.{IfEnding};
 
+use crate::begun::has_begun;
 use crate::ends::{Ending, HostFault};
+use crate::game::Game;
 use crate::lobby::Lobby;
 use crate::wire::{MOST, Wire};
 use dn_greeting::Address;
@@ -11,7 +15,7 @@ use dn_greeting::Address;
 /// The most datagrams that are read between two looks at the clock.
 const POLLS: u32 = 64;
 
-/// The most greetings that are opened between two looks at the clock: each may cost the time of a tag.
+/// The most greetings that are opened between two looks at the clock: each may cost the time of three tags.
 const GREETINGS: u32 = 2;
 
 /// What stands behind the kind of every greeting.
@@ -35,14 +39,6 @@ fn is_hint(bytes: &[u8]) -> bool {
     bytes.len() >= 12 && bytes[11] == 4
 }
 
-/// Whether the game has begun.
-fn has_begun<L: Lobby>(lobby: &mut L) -> bool {
-    match lobby.game() {
-        Some(game) => game.has_begun(),
-        None => false,
-    }
-}
-
 /// What came of the datagrams that were read.
 #[derive(Clone, Copy, Debug, PartialEq, Eq)]
 pub(crate) enum Heard {
@@ -57,6 +53,7 @@ pub(crate) enum Heard {
 /// Takes a greeting, if so many may still be opened, and it may be one and is no hint in a game that has begun.
 fn greet_one<W: Wire, L: Lobby>(
     lobby: &mut L,
+    game: &mut Option<Game>,
     wire: &mut W,
     from: Address,
     bytes: &[u8],
@@ -64,19 +61,37 @@ fn greet_one<W: Wire, L: Lobby>(
     now: u64,
 ) -> Result<Option<Ending>, HostFault>
     ensures ends { IfOk result (λ found. IfSome found (λ ending.
-        L.Refuses ending × (L.begun lobby.new ≡ false))) }
+        L.Refuses ending × (has_begun game.new ≡ false))) }
     ensures faults { IfErr result L.Faults }
+    ensures secret { L.secret lobby.new ≡ L.secret lobby.old }
+    ensures part { IsPart L.hosts (L.secret lobby.old) game.old → IsPart L.hosts (L.secret lobby.old) game.new }
 {
-    if *left == 0 || !is_named(bytes) || is_hint(bytes) && has_begun(lobby) {
+    if *left == 0 || !is_named(bytes) || is_hint(bytes) && has_begun(game) {
         return Ok(None);
     }
     *left -= 1;
-    lobby.greet(wire, from, bytes, now)
+    lobby.greet(game, wire, from, bytes, now)
+}
+
+/// Takes bytes that are no greeting, if there is a game.
+fn hear_datagram<W: Wire>(
+    game: &mut Option<Game>,
+    wire: &mut W,
+    from: Address,
+    bytes: &[u8],
+    now: u64,
+)
+    ensures { (hosts : Bool) (secret : Option (List ℕ)) → IsPart hosts secret game.old → IsPart hosts secret game.new }
+{
+    if let Some(game) = game {
+        game.hear(wire, from, bytes, now);
+    }
 }
 
 /// Takes any bytes. So many greetings may still be opened.
 fn hear_one<W: Wire, L: Lobby>(
     lobby: &mut L,
+    game: &mut Option<Game>,
     wire: &mut W,
     from: Address,
     bytes: &[u8],
@@ -84,26 +99,30 @@ fn hear_one<W: Wire, L: Lobby>(
     now: u64,
 ) -> Result<Option<Ending>, HostFault>
     ensures ends { IfOk result (λ found. IfSome found (λ ending.
-        L.Refuses ending × (L.begun lobby.new ≡ false))) }
+        L.Refuses ending × (has_begun game.new ≡ false))) }
     ensures faults { IfErr result L.Faults }
+    ensures secret { L.secret lobby.new ≡ L.secret lobby.old }
+    ensures part { IsPart L.hosts (L.secret lobby.old) game.old → IsPart L.hosts (L.secret lobby.old) game.new }
 {
     if is_greeting(bytes) {
-        return greet_one(lobby, wire, from, bytes, left, now);
+        return greet_one(lobby, game, wire, from, bytes, left, now);
     }
-    if let Some(game) = lobby.game() {
-        game.hear(wire, from, bytes, now);
-    }
+    hear_datagram(game, wire, from, bytes, now);
     Ok(None)
 }
 
 /// Takes the datagrams that are there, up to some number. Of more than two greetings the rest is dropped.
 pub(crate) fn hear_all<W: Wire, L: Lobby>(
     lobby: &mut L,
+    game: &mut Option<Game>,
     wire: &mut W,
     now: u64,
 ) -> Result<Heard, HostFault>
-    ensures ends { IfOk result (λ heard. IfEnding heard (λ ending. L.Refuses ending × (L.begun lobby.new ≡ false))) }
+    ensures ends { IfOk result (λ heard. IfEnding heard (λ ending.
+        L.Refuses ending × (has_begun game.new ≡ false))) }
     ensures faults { IfErr result L.Faults }
+    ensures secret { L.secret lobby.new ≡ L.secret lobby.old }
+    ensures part { IsPart L.hosts (L.secret lobby.old) game.old → IsPart L.hosts (L.secret lobby.old) game.new }
 {
     let mut room = [0; MOST];
     let mut left = GREETINGS;
@@ -111,7 +130,8 @@ pub(crate) fn hear_all<W: Wire, L: Lobby>(
         let Some((from, count)) = wire.poll(&mut room) else {
             return Ok(Heard::Calm);
         };
-        if let Some(ending) = hear_one(lobby, wire, from, &room[..count], &mut left, now)? {
+        let bytes = &room[..count];
+        if let Some(ending) = hear_one(lobby, game, wire, from, bytes, &mut left, now)? {
             return Ok(Heard::Ending(ending));
         }
     }

@@ -1,8 +1,9 @@
 //! Hosting a game.
 
-ghost use Rattle.std.specs.Prelude.{◌≡◌, false, true, Err, IfErr, IfOk, is_some};
+ghost use Rattle.std.specs.Prelude.{◌≡◌, false, true, Err, IfErr, IfOk, IfSome, is_some};
 ghost use Rattle.dn_host.specs.Offers.{IsTerms};
 ghost use Rattle.dn_host.specs.Outcomes.{IsOutcome};
+ghost use Rattle.dn_host.specs.Seals.{IsSealedUnder};
 ghost use Rattle.dn_host.specs.Stages.{is_refusal};
 ghost use Rattle.dn_host.specs.declared.ends.HostFault.TheVariants as fault;
 
@@ -10,8 +11,9 @@ use crate::clock::now;
 use crate::ends::{HostFault, Outcome};
 use crate::keeper::new_keeper;
 use crate::parts::Offer;
+use crate::plan::Plan;
 use crate::screen::Screen;
-use crate::session::{Plan, Session, run};
+use crate::session::{Session, run};
 use crate::wire::Wire;
 use dn_greeting::Terms;
 use dn_setup::Settings;
@@ -41,12 +43,14 @@ pub fn host_game<R: Clock + RandomSource + Drop, W: Wire, S: Screen>(
     ensures outcome { IfOk result IsOutcome }
     ensures played { IfOk result (λ o. is_refusal o.ending ≡ false) }
     ensures linked { IfOk result (λ o. is_some o.link ≡ true) }
+    ensures sealed { IfOk result (λ o. IfSome o.link (IsSealedUnder plan.now.secret)) }
     ensures terms { IfErr result (λ f. f ≡ fault.Terms → ¬ IsTerms hosting.now.terms) }
     ensures no_game { ¬ IsTerms hosting.now.terms → (result ≡ Err fault.Terms)
         × (wire.new ≡ wire.old) × (screen.new ≡ screen.old) }
 {
     let offer = Offer::of(hosting)?;
     let start = now(rt)?;
-    let lobby = new_keeper(rt, alloc, plan, offer, start)?;
-    run(rt, wire, screen, Session::new(lobby, plan.seconds, start))
+    let (lobby, game) = new_keeper(rt, alloc, plan, offer, start)?;
+    let session = Session::new(lobby, Some(game), plan.seconds, start);
+    run(rt, wire, screen, session)
 }

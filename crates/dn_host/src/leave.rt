@@ -1,5 +1,10 @@
 //! When a session ends, and how it leaves.
 
+ghost use Rattle.std.specs.Prelude.{◌≡◌};
+ghost use Rattle.dn_link.specs.Linked.{may_leave};
+ghost use Rattle.dn_link.specs.Linking.{linked, seal_of};
+ghost use Rattle.dn_host.specs.Leaving.{after_wait, free_since, has_waited};
+
 use crate::endings::others_end;
 use crate::game::Game;
 use dn_link::Presence;
@@ -37,7 +42,9 @@ fn leaving(end: End, now: u64) -> Stage {
 }
 
 /// Quits, and begins to leave.
-fn quitting(game: &mut Game, end: End, now: u64) -> Stage {
+fn quitting(game: &mut Game, end: End, now: u64) -> Stage
+    ensures { seal_of game.new.play.link ≡ seal_of game.old.play.link }
+{
     let _ = game.play.link.quit();
     leaving(end, now)
 }
@@ -66,7 +73,9 @@ fn end_of(game: &Game) -> End {
 }
 
 /// How a game goes on that has begun.
-fn after_play(game: &mut Game, now: u64, seconds: u32) -> Stage {
+fn after_play(game: &mut Game, now: u64, seconds: u32) -> Stage
+    ensures { seal_of game.new.play.link ≡ seal_of game.old.play.link }
+{
     match game.phase() {
         Phase::Ended(Cause::Full) => return leaving(End::Full, now),
         Phase::Ended(Cause::Inconsistent { player, .. }) => {
@@ -88,18 +97,33 @@ fn after_play(game: &mut Game, now: u64, seconds: u32) -> Stage {
     Stage::Going
 }
 
-/// How it goes on leaving.
-fn after_wait(game: &Game, end: End, since: u64, free: Option<u64>, now: u64) -> Stage {
-    let free = match free {
+/// Since when nobody needs it, if nobody does.
+fn free_since(may_leave: bool, free: Option<u64>, now: u64) -> Option<u64>
+    ensures { result ≡ free_since may_leave free now }
+{
+    match free {
         Some(free) => Some(free),
-        None if game.play.link.may_leave() => Some(now),
+        None if may_leave => Some(now),
         None => None,
-    };
-    let waited = match free {
+    }
+}
+
+/// Whether nobody needs it any more, for long enough.
+fn has_waited(free: Option<u64>, now: u64) -> bool
+    ensures { result ≡ has_waited free now }
+{
+    match free {
         Some(free) => now.saturating_sub(free) >= FAREWELL,
         None => false,
-    };
-    if waited || now.saturating_sub(since) >= LIMIT {
+    }
+}
+
+/// How it goes on leaving.
+fn after_wait(game: &Game, end: End, since: u64, free: Option<u64>, now: u64) -> Stage
+    ensures { result ≡ after_wait (may_leave (linked game.now.play.link)) end since free now }
+{
+    let free = free_since(game.play.link.may_leave(), free, now);
+    if has_waited(free, now) || now.saturating_sub(since) >= LIMIT {
         Stage::Ended(end)
     } else {
         Stage::Leaving { end, since, free }
@@ -108,7 +132,9 @@ fn after_wait(game: &Game, end: End, since: u64, free: Option<u64>, now: u64) ->
 
 impl Stage {
     /// How far it is now.
-    pub(crate) fn after(self, game: &mut Game, now: u64, seconds: u32) -> Stage {
+    pub(crate) fn after(self, game: &mut Game, now: u64, seconds: u32) -> Stage
+        ensures { seal_of game.new.play.link ≡ seal_of game.old.play.link }
+    {
         match self {
             Stage::Going if game.has_begun() => after_play(game, now, seconds),
             Stage::Going => Stage::Going,

@@ -2,7 +2,9 @@
 #![tactic(auto)]
 
 mod absence;
+mod begun;
 mod caller;
+mod calling;
 mod clock;
 mod coming;
 mod counts;
@@ -20,11 +22,14 @@ mod leave;
 mod lobby;
 mod parts;
 mod peers;
+mod plan;
 mod play;
 mod random;
 mod screen;
+mod seals;
 mod sending;
 mod session;
+mod showing;
 #[cfg(test)]
 mod tests;
 mod ticking;
@@ -36,7 +41,7 @@ pub use ends::{Ending, HostFault, Outcome};
 pub use guest::{Guest, join_game};
 pub use host::{Hosting, host_game};
 pub use laws::replays_are_not_new;
+pub use plan::Plan;
 pub use screen::Screen;
-pub use session::Plan;
 pub use udp::{Udp, address_of};
 pub use wire::{MOST, Wire};

@@ -1,19 +1,33 @@
 //! A player's part in a game, by the terms that the host offers.
 
-ghost use Rattle.std.specs.Prelude.{◌≡◌, true, IfErr, IfOk};
-ghost use Rattle.dn_host.specs.Offers.{IsPartAs, IsTerms};
+ghost use Rattle.std.specs.Prelude.{◌≡◌, ◌∷◌, map, None, Some, true, IfErr, IfOk};
+ghost use Rattle.dn_greeting.specs.Lobby.{lobby};
+ghost use Rattle.dn_greeting.specs.Text.{is_rate};
+ghost use Rattle.dn_host.specs.Made.{IsPartAs, IsPartOf, config_under};
+ghost use Rattle.dn_host.specs.Offers.{IsTerms};
+ghost use Rattle.dn_host.specs.Peers.{holder_address};
+ghost use Rattle.dn_host.specs.Seals.{IsSealedUnder, game_seal};
 ghost use Rattle.dn_host.specs.declared.ends.HostFault.TheVariants as fault;
 
 use crate::ends::HostFault;
 use crate::game::Game;
 use crate::host::Hosting;
 use crate::peers::Peers;
-use crate::play::{Play, seal_of};
-use crate::session::Plan;
+use crate::plan::Plan;
+use crate::play::Play;
+use crate::seals::game_seal;
 use dn_demo::is_limit;
 use dn_greeting::{Address, Answer, Table, Terms};
 use dn_lockstep::{Config, is_game};
+use dn_setup::Settings;
 use std::alloc::Global;
+
+/// Whether so many tics can be played a second.
+fn is_rate(rate: u8) -> bool
+    ensures { result ≡ is_rate rate }
+{
+    1 <= rate && rate <= 35
+}
 
 /// Whether terms are those of a game.
 fn is_terms(terms: &Terms) -> bool
@@ -23,7 +37,21 @@ fn is_terms(terms: &Terms) -> bool
     is_game(usize::from(terms.players))
         && 1 <= terms.ahead
         && terms.ahead <= 12
+        && is_rate(terms.rate)
         && is_limit(terms.limit)
+}
+
+/// A player of a game with these terms.
+fn config_under(terms: Terms, me: u8, settings: Option<Settings>) -> Config
+    ensures { result ≡ config_under terms me settings }
+{
+    Config {
+        players: terms.players,
+        me,
+        extra: terms.extra,
+        limit: terms.limit,
+        settings,
+    }
 }
 
 /// What a host offers, by terms that are those of a game.
@@ -53,19 +81,18 @@ impl Offer {
         table: &Table,
         now: u64,
     ) -> Result<Game, HostFault>
-        ensures { IfErr result (λ f. f ≡ fault.Memory) }
+        ensures part { IfOk result (IsPartOf self.now.hosting.terms
+            (game_seal plan.now.secret (lobby table.now).game) 0 (Some self.now.hosting.settings)
+            (None ∷ map holder_address (lobby table.now).places)) }
+        ensures fault { IfErr result (λ f. f ≡ fault.Memory) }
+        ensures sealed { IfOk result (λ game. IsSealedUnder plan.now.secret game.play.link) }
     {
         let terms = self.hosting.terms;
-        let config = Config {
-            players: terms.players,
-            me: 0,
-            extra: terms.extra,
-            limit: terms.limit,
-            settings: Some(self.hosting.settings),
-        };
-        let seal = seal_of(plan.secret, table.game());
+        let config = config_under(terms, 0, Some(self.hosting.settings));
+        let seal = game_seal(plan.secret, table.game());
         let play = Play::new(alloc, config, terms.ahead, seal, plan.seed)?;
-        Ok(Game::new(play, Peers::of_table(table.places()), terms.rate, now))
+        let peers = Peers::of_table(table.places());
+        Ok(Game::new(play, peers, terms.rate, now))
     }
 }
 
@@ -77,17 +104,16 @@ pub(crate) fn part_of(
     answer: &Answer,
     now: u64,
 ) -> Result<Game, HostFault>
-    ensures { IsPartAs answer.now.terms answer.now.seat result }
+    ensures part { IsPartAs plan.now.secret host answer.now result }
+    ensures sealed { IfOk result (λ game. IsSealedUnder plan.now.secret game.play.link) }
 {
-    let config = Config {
-        players: answer.terms.players,
-        me: answer.seat,
-        extra: answer.terms.extra,
-        limit: answer.terms.limit,
-        settings: None,
-    };
-    let seal = seal_of(plan.secret, answer.game);
-    let play = Play::new(alloc, config, answer.terms.ahead, seal, plan.seed)?;
+    let terms = answer.terms;
+    if !is_rate(terms.rate) {
+        return Err(HostFault::Terms);
+    }
+    let config = config_under(terms, answer.seat, None);
+    let seal = game_seal(plan.secret, answer.game);
+    let play = Play::new(alloc, config, terms.ahead, seal, plan.seed)?;
     let peers = Peers::of_answer(host, answer);
-    Ok(Game::new(play, peers, answer.terms.rate, now))
+    Ok(Game::new(play, peers, terms.rate, now))
 }

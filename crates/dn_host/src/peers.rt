@@ -1,8 +1,8 @@
 //! Where the players are.
 
-ghost use Rattle.std.specs.Prelude.{◌≡◌, ◌≢◌, ◌∷◌, map, slice_index_or, None, Some};
+ghost use Rattle.std.specs.Prelude.{◌≡◌, ◌∷◌, map, slice_index_or, None, Some};
 ghost use Rattle.dn_host.specs.Coming.{noted};
-ghost use Rattle.dn_host.specs.Peers.{holder_address};
+ghost use Rattle.dn_host.specs.Peers.{AreFollowed, IsFollowed, holder_address};
 
 use dn_greeting::{Address, Answer, Place};
 
@@ -20,6 +20,17 @@ pub(crate) fn address_of(place: Place) -> Option<Address>
         Place::Held(holder) => Some(holder.address),
         _ => None,
     }
+}
+
+/// Where a player is, of whom the host says this and said that before.
+fn followed(
+    before: Option<Address>,
+    after: Option<Address>,
+    known: Option<Address>,
+) -> Option<Address>
+    ensures { IsFollowed before after known result }
+{
+    if before == after { known } else { after }
 }
 
 impl Peers {
@@ -53,17 +64,19 @@ impl Peers {
         }
     }
 
-    /// Notes what the host says of a player, if that is new.
-    pub(crate) fn follow(&mut self, player: u8, before: Option<Address>, after: Option<Address>)
-        ensures same { before ≡ after → self.new.places ≡ self.old.places }
-        ensures new { before ≢ after → self.new.places ≡ noted (Some player) after self.old.places }
+    /// Notes what the host says of the seats 1 to 3, of each whose holder is elsewhere than it said before.
+    pub(crate) fn follow(&mut self, before: [Option<Address>; 3], after: [Option<Address>; 3])
+        ensures { AreFollowed before after self.old.places self.new.places }
     {
-        if before == after {
-            return;
-        }
-        if player < 4 {
-            self.places[usize::from(player)] = after;
-        }
+        let [host, one, two, three] = self.places;
+        let [a, b, c] = before;
+        let [d, e, f] = after;
+        self.places = [
+            host,
+            followed(a, d, one),
+            followed(b, e, two),
+            followed(c, f, three),
+        ];
     }
 
     /// Notes where a player is.

@@ -25,14 +25,6 @@ const MOST_RUNS: u32 = 32;
 /// What every program of this kind adds to its identity.
 const PROGRAM: [u8; 16] = *b"zirmegat netgame";
 
-/// By what a game of this number is sealed, under a secret or without one.
-pub(crate) fn seal_of(secret: Option<[u8; 32]>, game: [u8; 16]) -> Seal {
-    match secret {
-        Some(secret) => Seal::new(secret, game),
-        None => Seal::without_secret(game),
-    }
-}
-
 /// One player's link, with its walk and its keys. It gives up nobody for good.
 #[derive(Drop)]
 pub(crate) struct Play {
@@ -61,6 +53,7 @@ impl Play {
     ghost use Rattle.dn_link.specs.Pace.{Paces};
     ghost use Rattle.dn_link.specs.Pacing.{pace_of};
     ghost use Rattle.dn_host.specs.Coming.{came_by, figures_by};
+    ghost use Rattle.dn_host.specs.Made.{IsLinkOf};
     ghost use Rattle.dn_host.specs.Offers.{IsFaultOf, IsPossible};
     ghost use Rattle.dn_host.specs.Walks.{RunsWalk, begun_by, is_started};
 
@@ -73,6 +66,7 @@ impl Play {
         seed: u64,
     ) -> Result<Play, HostFault>
         ensures made { IfOk result (λ play. IsPossible config ahead) }
+        ensures link { IfOk result (λ play. IsLinkOf config ahead seal play.link) }
         ensures fault { IfErr result (IsFaultOf config ahead) }
     {
         let keys = Lcg64Xsh32::new(seed, u64::from(config.me));
@@ -86,7 +80,9 @@ impl Play {
     }
 
     /// Its link.
-    pub(crate) fn into_link(self) -> Link {
+    pub(crate) fn into_link(self) -> Link
+        ensures { result ≡ self.link }
+    {
         self.link
     }
 
@@ -96,12 +92,16 @@ impl Play {
     }
 
     /// Builds the command that is owed, if there is one. Whether there was.
-    pub(crate) fn catch_up(&mut self) -> bool {
+    pub(crate) fn catch_up(&mut self) -> bool
+        ensures seal { seal_of self.new.link ≡ seal_of self.old.link }
+    {
         matches!(self.link.catch_up(), Some(Made::Made(_)))
     }
 
     /// Builds the command that is owed, if there is one, and that of the next keys.
-    pub(crate) fn build(&mut self) -> Done {
+    pub(crate) fn build(&mut self) -> Done
+        ensures seal { seal_of self.new.link ≡ seal_of self.old.link }
+    {
         let owed = self.catch_up();
         let keys = Keys::from_bits(self.keys.next_word());
         let made = matches!(self.link.build(keys), Made::Made(_));
@@ -112,15 +112,21 @@ impl Play {
     }
 
     /// A tick goes by: by how many 32nds of a tick the next one comes later, as `Link::lean` says.
-    pub(crate) fn lean(&mut self) -> i8 {
+    pub(crate) fn lean(&mut self) -> i8
+        ensures seal { seal_of self.new.link ≡ seal_of self.old.link }
+    {
         self.link.lean()
     }
 
     /// Runs the next tic, if it can be run, with the marks of the walk, which goes on by the row of that tic and by
     /// nothing else. Whether it was run, and for whom it waits, is noted.
     fn run_one(&mut self) -> bool
-        ensures { RunsWalk (linked self.old.link).node self.old.world (linked self.new.link).node self.new.world
+        ensures runs { RunsWalk (linked self.old.link).node self.old.world (linked self.new.link).node self.new.world
             result self.new.waiting }
+        ensures others { (linked self.new.link).others ≡ (linked self.old.link).others }
+        ensures peers { (linked self.new.link).peers ≡ (linked self.old.link).peers }
+        ensures pace { pace_of self.new.link ≡ pace_of self.old.link }
+        ensures seal { seal_of self.new.link ≡ seal_of self.old.link }
     {
         let marks = marks_of(&self.world);
         let (ran, row) = self.link.run(&marks);
@@ -130,7 +136,11 @@ impl Play {
 
     /// Runs all tics that can be run.
     pub(crate) fn run_all(&mut self) -> u32
-        ensures { result ≤ 32 }
+        ensures few { result ≤ 32 }
+        ensures others { (linked self.new.link).others ≡ (linked self.old.link).others }
+        ensures peers { (linked self.new.link).peers ≡ (linked self.old.link).peers }
+        ensures pace { pace_of self.new.link ≡ pace_of self.old.link }
+        ensures seal { seal_of self.new.link ≡ seal_of self.old.link }
     {
         for count in 0..MOST_RUNS {
             if !self.run_one() {
@@ -154,6 +164,7 @@ impl Play {
         ensures stays { is_started result.0 ≡ false → self.new.world ≡ self.old.world }
         ensures came { result.1 ≡ came_by result.0 (figures_by (linked self.old.link) (pace_of self.old.link))
             (figures_by (linked self.new.link) (pace_of self.new.link)) }
+        ensures seal { seal_of self.new.link ≡ seal_of self.old.link }
     {
         let before = lines_of(&self.link);
         let received = self.link.receive(bytes);

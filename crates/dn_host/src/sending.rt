@@ -5,8 +5,13 @@ use crate::play::Play;
 use crate::wire::Wire;
 
 impl Play {
+    ghost use Rattle.std.specs.Prelude.{◌≡◌};
+    ghost use Rattle.dn_link.specs.Linking.{seal_of};
+
     /// Sends a player its datagram, if it is known where it is.
-    fn send<W: Wire>(&mut self, player: u8, peers: &Peers, wire: &mut W) {
+    fn send<W: Wire>(&mut self, player: u8, peers: &Peers, wire: &mut W)
+        ensures { seal_of self.new.link ≡ seal_of self.old.link }
+    {
         let Some(address) = peers.at(player) else {
             return;
         };
@@ -16,14 +21,18 @@ impl Play {
     }
 
     /// Sends each other player its datagram.
-    pub(crate) fn send_all<W: Wire>(&mut self, peers: &Peers, wire: &mut W) {
+    pub(crate) fn send_all<W: Wire>(&mut self, peers: &Peers, wire: &mut W)
+        ensures { seal_of self.new.link ≡ seal_of self.old.link }
+    {
         for player in 0..4 {
             self.send(player, peers, wire);
         }
     }
 
     /// Half a tick later: a second datagram to those who miss some.
-    pub(crate) fn send_again<W: Wire>(&mut self, peers: &Peers, wire: &mut W) {
+    pub(crate) fn send_again<W: Wire>(&mut self, peers: &Peers, wire: &mut W)
+        ensures { seal_of self.new.link ≡ seal_of self.old.link }
+    {
         for player in 0..4 {
             if self.link.wants_second(player) {
                 self.send(player, peers, wire);

@@ -1,13 +1,20 @@
 //! The loop of a session.
 
-ghost use Rattle.std.specs.Prelude.{◌≡◌, ◌⊎◌, false, true, None, IfOk, IfErr, IfSome, is_some};
-ghost use Rattle.dn_host.specs.Measured.{IsMeasured};
+ghost use Rattle.std.specs.Prelude.{◌≡◌, ◌⊎◌, ℕ, List, Option, Bool, false, true, None, IfOk, IfErr, IfSome, is_some, unwrap_or};
+ghost use Rattle.dn_host.specs.Begun.{has_begun};
+ghost use Rattle.dn_link.specs.Linking.{linked};
+ghost use Rattle.dn_link.specs.Pacing.{pace_of};
 ghost use Rattle.dn_host.specs.Outcomes.{IsOutcome};
+ghost use Rattle.dn_host.specs.Parts.{IsPart, link_of};
+ghost use Rattle.dn_host.specs.Seals.{IsSealedUnder};
+ghost use Rattle.dn_host.specs.Summaries.{IsSummaryBy};
+ghost use Rattle.dn_host.specs.Summed.{Measures};
 ghost use Rattle.dn_host.specs.Stages.{EndsBy, IfEnded, is_refusal};
 ghost use Rattle.dn_host.specs.declared.ends.HostFault.TheVariants as fault;
 
 use crate::clock::{nap, now};
 use crate::ends::{Ending, HostFault, Outcome};
+use crate::game::Game;
 use crate::hearing::{Heard, hear_all};
 use crate::leave::Stage;
 use crate::lobby::Lobby;
@@ -17,17 +24,6 @@ use std::time::Clock;
 
 /// A second, in microseconds.
 const SECOND: u64 = 1_000_000;
-
-/// What all sessions are told.
-#[derive(Clone, Copy, Debug, PartialEq, Eq)]
-pub struct Plan {
-    /// The key that the players share, if they do.
-    pub secret: Option<[u8; 32]>,
-    /// What the keys are drawn from.
-    pub seed: u64,
-    /// For how many seconds is played, from the beginning of the game on; 0 is for ever.
-    pub seconds: u32,
-}
 
 /// What a turn of a session came to.
 #[derive(Clone, Copy, Debug, PartialEq, Eq)]
@@ -40,10 +36,11 @@ pub(crate) enum Turned {
     Calm(u64),
 }
 
-/// A session: its lobby with its part in the game, and how far it is.
+/// A session: its lobby, its part in the game once it has one, and how far it is.
 #[derive(Drop)]
 pub(crate) struct Session<L> {
     lobby: L,
+    game: Option<Game>,
     stage: Stage,
     second: u64,
     seconds: u32,
@@ -52,8 +49,10 @@ pub(crate) struct Session<L> {
 }
 
 /// Tells how the game stands.
-fn show<S: Screen, L: Lobby>(lobby: &mut L, screen: &mut S, now: u64) {
-    if let Some(game) = lobby.game() {
+fn show<S: Screen>(game: &mut Option<Game>, screen: &mut S, now: u64)
+    ensures part { (hosts : Bool) (secret : Option (List ℕ)) → IsPart hosts secret game.old → IsPart hosts secret game.new }
+{
+    if let Some(game) = game {
         if let Some(status) = game.status(now) {
             screen.show(&status);
         }
@@ -61,10 +60,15 @@ fn show<S: Screen, L: Lobby>(lobby: &mut L, screen: &mut S, now: u64) {
 }
 
 impl<L: Lobby + Drop> Session<L> {
-    /// A session that begins now, of so many seconds of play from the beginning of the game on.
-    pub(crate) fn new(lobby: L, seconds: u32, now: u64) -> Session<L> {
+    /// A session that begins now, with this part in the game, of so many seconds of play from the beginning of the
+    /// game on.
+    pub(crate) fn new(lobby: L, game: Option<Game>, seconds: u32, now: u64) -> Session<L>
+        ensures lobby { result.lobby ≡ lobby }
+        ensures game { result.game ≡ game }
+    {
         Session {
             lobby,
+            game,
             stage: Stage::Going,
             second: now,
             seconds,
@@ -73,9 +77,13 @@ impl<L: Lobby + Drop> Session<L> {
     }
 
     /// Does what is due in the game.
-    fn play<W: Wire>(&mut self, wire: &mut W, now: u64) {
+    fn play<W: Wire>(&mut self, wire: &mut W, now: u64)
+        ensures lobby { self.new.lobby ≡ self.old.lobby }
+        ensures part { IsPart L.hosts (L.secret self.old.lobby) self.old.game
+            → IsPart L.hosts (L.secret self.old.lobby) self.new.game }
+    {
         let (before, seconds) = (self.stage, self.seconds);
-        if let Some(game) = self.lobby.game() {
+        if let Some(game) = &mut self.game {
             game.go(wire, now);
             self.stage = before.after(game, now, seconds);
         }
@@ -91,22 +99,24 @@ impl<L: Lobby + Drop> Session<L> {
         screen: &mut S,
         now: u64,
     ) -> Result<(), HostFault>
-        ensures { IfErr result L.Faults }
+        ensures faults { IfErr result L.Faults }
+        ensures secret { L.secret self.new.lobby ≡ L.secret self.old.lobby }
+        ensures part { IsPart L.hosts (L.secret self.old.lobby) self.old.game
+            → IsPart L.hosts (L.secret self.old.lobby) self.new.game }
     {
         if self.second <= now {
-            self.lobby.second(wire, screen, now)?;
-            show(&mut self.lobby, screen, now);
+            self.lobby.second(&mut self.game, wire, screen, now)?;
+            show(&mut self.game, screen, now);
             self.second = now.saturating_add(SECOND);
         }
         Ok(())
     }
 
     /// When there is something to do next.
-    fn next(&mut self) -> u64 {
-        let second = self.second;
-        match self.lobby.game() {
-            Some(game) => game.next().min(second),
-            None => second,
+    fn next(&self) -> u64 {
+        match &self.game {
+            Some(game) => game.next().min(self.second),
+            None => self.second,
         }
     }
 
@@ -117,10 +127,13 @@ impl<L: Lobby + Drop> Session<L> {
         screen: &mut S,
         now: u64,
     ) -> Result<Turned, HostFault>
-        ensures ends { IfOk result (λ turned. IfEnded turned (EndsBy L.Refuses (L.begun self.new.lobby))) }
+        ensures ends { IfOk result (λ turned. IfEnded turned (EndsBy L.Refuses (has_begun self.new.game))) }
         ensures faults { IfErr result L.Faults }
+        ensures secret { L.secret self.new.lobby ≡ L.secret self.old.lobby }
+        ensures part { IsPart L.hosts (L.secret self.old.lobby) self.old.game
+            → IsPart L.hosts (L.secret self.old.lobby) self.new.game }
     {
-        let heard = hear_all(&mut self.lobby, wire, now)?;
+        let heard = hear_all(&mut self.lobby, &mut self.game, wire, now)?;
         if let Heard::Ending(ending) = heard {
             return Ok(Turned::Ended(ending));
         }
@@ -135,16 +148,19 @@ impl<L: Lobby + Drop> Session<L> {
         })
     }
 
-    /// What is left of it once it has ended so. The time in which it was leaving is no part of what was measured.
+    /// What is left of it once it has ended so. The tics of the time in which it was leaving, and that time, are no
+    /// part of what was measured; what came from each player then is.
     pub(crate) fn outcome(self, ending: Ending, now: u64) -> Outcome
         ensures ending { result.ending ≡ ending }
-        ensures measured { IfSome result.summary IsMeasured }
+        ensures by { IfSome result.link (λ link. IfSome result.summary (IsSummaryBy (linked link) (pace_of link))) }
+        ensures link { result.link ≡ link_of self.game }
         ensures linked { result.link ≡ None → result.summary ≡ None }
-        ensures begun { L.begun self.lobby ≡ false → result.summary ≡ None }
-        ensures hosts { L.hosts ≡ true → is_some result.link ≡ true }
+        ensures begun { has_begun self.game ≡ false → result.summary ≡ None }
+        ensures sum { Measures self.game (unwrap_or self.left now) result.summary }
     {
-        let end = self.left.unwrap_or(now);
-        match self.lobby.into_game() {
+        let Session { game, left, .. } = self;
+        let end = left.unwrap_or(now);
+        match game {
             Some(game) => Outcome {
                 ending,
                 summary: game.summary(end),
@@ -168,7 +184,10 @@ pub(crate) fn run<C: Clock, W: Wire, S: Screen, L: Lobby + Drop>(
 ) -> Result<Outcome, HostFault>
     ensures outcome { IfOk result IsOutcome }
     ensures ends { IfOk result (λ o. (L.Refuses o.ending) ⊎ (is_refusal o.ending ≡ false)) }
-    ensures hosts { L.hosts ≡ true → IfOk result (λ o. is_some o.link ≡ true) }
+    ensures hosts { IsPart L.hosts (L.secret session.lobby) session.game → L.hosts ≡ true
+        → IfOk result (λ o. is_some o.link ≡ true) }
+    ensures sealed { IsPart L.hosts (L.secret session.lobby) session.game
+        → IfOk result (λ o. IfSome o.link (IsSealedUnder (L.secret session.lobby))) }
     ensures faults { IfErr result (λ f. (L.Faults f) ⊎ (f ≡ fault.Clock)) }
 {
     for _ in 0..u64::MAX {

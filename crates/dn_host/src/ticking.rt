@@ -8,8 +8,13 @@ use crate::wire::Wire;
 const MISSED: u64 = 8;
 
 impl Game {
+    ghost use Rattle.std.specs.Prelude.{◌≡◌};
+    ghost use Rattle.dn_link.specs.Linking.{seal_of};
+
     /// A tick: a command is built and sent, and what can be run is run.
-    fn tick<W: Wire>(&mut self, wire: &mut W, now: u64) {
+    fn tick<W: Wire>(&mut self, wire: &mut W, now: u64)
+        ensures { seal_of self.new.play.link ≡ seal_of self.old.play.link }
+    {
         let done = self.play.build();
         self.count(done, now);
         let lean = self.play.lean();
@@ -22,7 +27,9 @@ impl Game {
     }
 
     /// Does what is due: the ticks up to now, and the datagrams half a tick later.
-    pub(crate) fn go<W: Wire>(&mut self, wire: &mut W, now: u64) {
+    pub(crate) fn go<W: Wire>(&mut self, wire: &mut W, now: u64)
+        ensures { seal_of self.new.play.link ≡ seal_of self.old.play.link }
+    {
         let missed = length(self.rate).saturating_mul(MISSED);
         if now > self.due.saturating_add(missed) {
             self.due = now;

@@ -1,8 +1,8 @@
 //! A wire over UDP.
 
-ghost use Rattle.std.specs.Prelude.{◌≡◌, ◌≤◌, length, IfSome};
-ghost use Rattle.std.specs.Net.Addr.{ipv4_octets};
-ghost use Rattle.dn_host.specs.Addresses.{address_of, mapped};
+ghost use Rattle.std.specs.Prelude.{◌≡◌, ◌≤◌, length, map, true, is_some, IfSome};
+ghost use Rattle.std.specs.Net.Addr.{ipv4_octets, ipv6_octets};
+ghost use Rattle.dn_host.specs.Addresses.{address_of, mapped, own_places};
 
 use crate::wire::Wire;
 use dn_greeting::Address;
@@ -39,28 +39,50 @@ pub fn address_of(socket: SocketAddr) -> Address
 }
 
 /// The IPv4 address that is mapped into an IPv6 address, if one is.
-fn unmapped(ip: &[u8; 16]) -> Option<Ipv4Addr> {
-    if ip[..12] == [0, 0, 0, 0, 0, 0, 0, 0, 0, 0, 255, 255] {
-        Some(Ipv4Addr::new(ip[12], ip[13], ip[14], ip[15]))
+fn unmapped(ip: &[u8; 16]) -> Option<Ipv4Addr>
+    ensures { IfSome result (λ found. mapped (ipv4_octets found) ≡ ip.now) }
+{
+    let found = Ipv4Addr::new(ip[12], ip[13], ip[14], ip[15]);
+    if mapped(found) == *ip {
+        Some(found)
     } else {
         None
     }
 }
 
-/// A socket at a port, or at any if the port is 0, which does not wait.
-fn bound(rt: &impl Net, ip: IpAddr, port: u16) -> io::Result<UdpSocket> {
-    let socket = UdpSocket::bind(rt, SocketAddr::new(ip, port))?;
+/// The IPv6 address of these bytes.
+fn of_bytes(ip: &[u8; 16]) -> Ipv6Addr
+    ensures { ipv6_octets result ≡ ip.now }
+{
+    Ipv6Addr::from_octets(*ip)
+}
+
+/// Where a socket of all addresses of the machine is bound at a port: of IPv6, and of IPv4 where there is none.
+fn places(port: u16) -> [SocketAddr; 2]
+    ensures { map address_of result ≡ own_places port }
+{
+    [
+        SocketAddr::new(IpAddr::V6(Ipv6Addr::UNSPECIFIED), port),
+        SocketAddr::new(IpAddr::V4(Ipv4Addr::UNSPECIFIED), port),
+    ]
+}
+
+/// A socket at a place, which does not wait.
+fn bound(rt: &impl Net, place: SocketAddr) -> io::Result<UdpSocket> {
+    let socket = UdpSocket::bind(rt, place)?;
     socket.set_nonblocking(true)?;
     Ok(socket)
 }
 
 impl Udp {
-    /// Binds a port, or any that is free if the port is 0.
+    /// Binds a port, or any that is free if the port is 0. No clause says so: std promises nothing of what a socket
+    /// is bound to. `places` has the two places that are tried, in this order.
     pub fn bind(rt: &impl Net, port: u16) -> io::Result<Udp> {
-        if let Ok(socket) = bound(rt, IpAddr::V6(Ipv6Addr::UNSPECIFIED), port) {
+        let [wide, narrow] = places(port);
+        if let Ok(socket) = bound(rt, wide) {
             return Ok(Udp { socket, wide: true });
         }
-        let socket = bound(rt, IpAddr::V4(Ipv4Addr::UNSPECIFIED), port)?;
+        let socket = bound(rt, narrow)?;
         Ok(Udp {
             socket,
             wide: false,
@@ -68,9 +90,12 @@ impl Udp {
     }
 
     /// Where an address is, for this socket.
-    fn target(&self, to: &Address) -> Option<SocketAddr> {
+    fn target(&self, to: &Address) -> Option<SocketAddr>
+        ensures there { IfSome result (λ socket. address_of socket ≡ to.now) }
+        ensures wide { self.now.wide ≡ true → is_some result ≡ true }
+    {
         if self.wide {
-            let ip = Ipv6Addr::from_octets(to.ip);
+            let ip = of_bytes(&to.ip);
             return Some(SocketAddr::new(IpAddr::V6(ip), to.port));
         }
         let ip = unmapped(&to.ip)?;

@@ -1,7 +1,7 @@
 //! Games that are played to their end.
 
 use super::air::{Air, at};
-use super::players::{Dice, LEFT, STEP, new_guest, new_host, turn};
+use super::players::{Dice, STEP, has_run, new_guest, new_host, tics_of, turn};
 use crate::endings::others_end;
 use crate::ends::Ending;
 use dn_measure::End;
@@ -31,9 +31,8 @@ fn two_play_and_one_leaves(rt: HostRuntime) {
             Some(Ending::Ended(End::OthersLeft))
         )
     );
-    let outcome = host.outcome(LEFT, 8_000_000);
-    match outcome.summary {
-        Some(summary) => assert!(rt; 100 <= summary.tics && summary.tics <= 106),
+    match tics_of(host, 8_000_000) {
+        Some(tics) => assert!(rt; 100 <= tics && tics <= 106),
         None => panic!(rt; "no summary"),
     }
 }
@@ -60,16 +59,9 @@ fn three_wait_for_the_last(rt: HostRuntime) {
             assert!(rt; turn(&rt, &mut last, &mut air, 2, now).is_none());
         }
     }
-    for outcome in [
-        host.outcome(LEFT, 16_000_000),
-        joiner.outcome(LEFT, 16_000_000),
-        last.outcome(LEFT, 16_000_000),
-    ] {
-        match outcome.summary {
-            Some(summary) => assert!(rt; 60 <= summary.tics),
-            None => panic!(rt; "no game"),
-        }
-    }
+    assert!(rt; has_run(host, 16_000_000, 60));
+    assert!(rt; has_run(joiner, 16_000_000, 60));
+    assert!(rt; has_run(last, 16_000_000, 60));
 }
 
 #[test]
@@ -87,16 +79,9 @@ fn three_meet_behind_walls(rt: HostRuntime) {
             assert!(rt; turn(&rt, &mut last, &mut air, 2, now).is_none());
         }
     }
-    for outcome in [
-        host.outcome(LEFT, 6_000_000),
-        joiner.outcome(LEFT, 6_000_000),
-        last.outcome(LEFT, 6_000_000),
-    ] {
-        match outcome.summary {
-            Some(summary) => assert!(rt; 60 <= summary.tics),
-            None => panic!(rt; "no game"),
-        }
-    }
+    assert!(rt; has_run(host, 6_000_000, 60));
+    assert!(rt; has_run(joiner, 6_000_000, 60));
+    assert!(rt; has_run(last, 6_000_000, 60));
 }
 
 #[test]

@@ -1,7 +1,7 @@
 //! Lobbies in which no game begins.
 
 use super::air::{Air, Port, at, lose};
-use super::players::{Dice, LEFT, STEP, new_guest, new_host, turn};
+use super::players::{Dice, STEP, new_guest, new_host, tics_of, turn};
 use crate::ends::{Ending, HostFault};
 use crate::game::Game;
 use crate::hearing::{Heard, hear_all};
@@ -32,8 +32,8 @@ fn who_vanishes_in_the_lobby_is_not_there(rt: HostRuntime) {
             assert!(rt; turn(&rt, &mut last, &mut air, 2, now).is_none());
         }
     }
-    assert!(rt; last.outcome(LEFT, 7_800_000).summary.is_none());
-    assert!(rt; host.outcome(LEFT, 7_800_000).summary.is_none());
+    assert!(rt; tics_of(last, 7_800_000).is_none());
+    assert!(rt; tics_of(host, 7_800_000).is_none());
 }
 
 #[test]
@@ -65,22 +65,19 @@ struct Counter {
 }
 
 impl Lobby for Counter {
-    ghost use Rattle.std.specs.Prelude.{◌≡◌, ⊤, false};
+    ghost use Rattle.std.specs.Prelude.{⊤, None, false};
 
     ghost Refuses = { λ ending. ⊤ };
 
     ghost Faults = { λ fault. ⊤ };
 
-    ghost begun = { λ counter. false };
-
     ghost hosts = { false };
 
-    fn game(&mut self) -> Option<&mut Game> {
-        None
-    }
+    ghost secret = { λ counter. None };
 
     fn greet<W: Wire>(
         &mut self,
+        _game: &mut Option<Game>,
         _wire: &mut W,
         _from: Address,
         _bytes: &[u8],
@@ -92,15 +89,25 @@ impl Lobby for Counter {
 
     fn second<W: Wire, S: Screen>(
         &mut self,
+        _game: &mut Option<Game>,
         _wire: &mut W,
         _screen: &mut S,
         _now: u64,
     ) -> Result<(), HostFault> {
         Ok(())
     }
+}
 
-    fn into_game(self) -> Option<Game> {
-        None
+/// How many greetings a lobby is given in a turn of the player at an address, if nothing is left to read.
+fn greeted(air: &mut Air, player: u8) -> Option<u32> {
+    let mut lobby = Counter { greeted: 0 };
+    let mut port = Port {
+        air,
+        own: at(player),
+    };
+    match hear_all(&mut lobby, &mut None, &mut port, 0) {
+        Ok(Heard::Calm) => Some(lobby.greeted),
+        _ => None,
     }
 }
 
@@ -124,13 +131,7 @@ fn two_greetings_are_opened_in_a_turn(rt: HostRuntime) {
         for _ in 0..sent {
             stranger.send(&at(0), &named);
         }
-        let mut port = Port {
-            air: &mut air,
-            own: at(0),
-        };
-        let mut lobby = Counter { greeted: 0 };
-        assert!(rt; hear_all(&mut lobby, &mut port, 0) == Ok(Heard::Calm));
-        assert_eq!(rt; lobby.greeted, opened, "of {sent}");
+        assert_eq!(rt; greeted(&mut air, 0), Some(opened), "of {sent}");
         assert!(rt; air.flights.is_empty());
     }
 }

@@ -8,8 +8,9 @@ use crate::host::Hosting;
 use crate::keeper::{Keeper, new_keeper};
 use crate::lobby::Lobby;
 use crate::parts::Offer;
+use crate::plan::Plan;
 use crate::screen::Screen;
-use crate::session::{Plan, Session, Turned};
+use crate::session::{Session, Turned};
 use dn_greeting::{Refusal, Terms};
 use dn_measure::{End, Status};
 use dn_setup::Settings;
@@ -20,7 +21,7 @@ use std::process::Abort;
 use std::random::RandomSource;
 
 /// How a session ends that plays on when a test ends.
-pub(super) const LEFT: Ending = Ending::Ended(End::Left);
+const LEFT: Ending = Ending::Ended(End::Left);
 
 /// How many microseconds pass between two turns.
 pub(super) const STEP: u64 = 5_000;
@@ -119,7 +120,7 @@ pub(super) fn new_host<'a>(
         panic!(rt; "no terms");
     };
     match new_keeper(dice, alloc, &plan(1, seconds), offer, now) {
-        Ok(lobby) => Session::new(lobby, seconds, now),
+        Ok((lobby, game)) => Session::new(lobby, Some(game), seconds, now),
         Err(_) => panic!(rt; "no host"),
     }
 }
@@ -134,8 +135,28 @@ pub(super) fn new_guest(
     now: u64,
 ) -> Session<Caller> {
     match new_caller(dice, alloc, &plan(secret, 0), &guest(players), now) {
-        Ok(lobby) => Session::new(lobby, 0, now),
+        Ok(lobby) => Session::new(lobby, None, 0, now),
         Err(_) => panic!(rt; "no joiner"),
+    }
+}
+
+/// One turn of a player before a screen, and how its session ended if it did.
+pub(super) fn turn_before<L: Lobby + Drop>(
+    rt: &impl Abort,
+    session: &mut Session<L>,
+    air: &mut Air,
+    player: u8,
+    screen: &mut Dark,
+    now: u64,
+) -> Option<Ending> {
+    let mut port = Port {
+        air,
+        own: at(player),
+    };
+    match session.turn(&mut port, screen, now) {
+        Ok(Turned::Ended(ending)) => Some(ending),
+        Ok(_) => None,
+        Err(_) => panic!(rt; "a fault"),
     }
 }
 
@@ -147,13 +168,21 @@ pub(super) fn turn<L: Lobby + Drop>(
     player: u8,
     now: u64,
 ) -> Option<Ending> {
-    let mut port = Port {
-        air,
-        own: at(player),
-    };
-    match session.turn(&mut port, &mut Dark::new(), now) {
-        Ok(Turned::Ended(ending)) => Some(ending),
-        Ok(_) => None,
-        Err(_) => panic!(rt; "a fault"),
+    turn_before(rt, session, air, player, &mut Dark::new(), now)
+}
+
+/// How many tics a session has run that ends now, if its game began.
+pub(super) fn tics_of<L: Lobby + Drop>(session: Session<L>, now: u64) -> Option<u64> {
+    match session.outcome(LEFT, now).summary {
+        Some(summary) => Some(summary.tics),
+        None => None,
+    }
+}
+
+/// Whether a session that ends now has run so many tics.
+pub(super) fn has_run<L: Lobby + Drop>(session: Session<L>, now: u64, least: u64) -> bool {
+    match tics_of(session, now) {
+        Some(tics) => least <= tics,
+        None => false,
     }
 }

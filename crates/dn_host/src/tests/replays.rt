@@ -1,7 +1,7 @@
 //! Who sends again what others sent.
 
 use super::air::{Air, Port, at, lose};
-use super::players::{Dice, LEFT, STEP, new_guest, new_host, turn};
+use super::players::{Dice, STEP, has_run, new_guest, new_host, turn};
 use crate::ends::Ending;
 use crate::wire::{MOST, Wire};
 use arrayvec::ArrayVec;
@@ -104,13 +104,6 @@ fn what_is_repeated_from_elsewhere_moves_nobody(rt: HostRuntime) {
             port.send(&at(0), bytes.as_slice());
         }
     }
-    for outcome in [
-        host.outcome(LEFT, 5_000_000),
-        joiner.outcome(LEFT, 5_000_000),
-    ] {
-        match outcome.summary {
-            Some(summary) => assert!(rt; 140 <= summary.tics),
-            None => panic!(rt; "no game"),
-        }
-    }
+    assert!(rt; has_run(host, 5_000_000, 140));
+    assert!(rt; has_run(joiner, 5_000_000, 140));
 }

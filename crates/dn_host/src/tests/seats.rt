@@ -1,8 +1,7 @@
 //! Joiners that have no seat yet, and joiners that move.
 
-use super::air::{Air, Port, at, lose};
-use super::players::{Dark, Dice, LEFT, STEP, new_guest, new_host, turn};
-use crate::session::Turned;
+use super::air::{Air, lose};
+use super::players::{Dark, Dice, STEP, has_run, new_guest, new_host, turn, turn_before};
 use std::cell::Cell;
 
 #[test]
@@ -25,27 +24,13 @@ fn who_is_started_anew_elsewhere_gets_a_seat(rt: HostRuntime) {
         }
         lose(&mut air, 2);
         if now >= 1_000_000 {
-            let mut port = Port {
-                air: &mut air,
-                own: at(3),
-            };
-            match again.turn(&mut port, &mut dark, now) {
-                Ok(Turned::Ended(_)) | Err(_) => panic!(rt; "it ended"),
-                Ok(_) => {}
-            }
+            assert!(rt; turn_before(&rt, &mut again, &mut air, 3, &mut dark, now).is_none());
         }
     }
     assert_eq!(rt; (dark.waited, dark.missed), (1, 0));
-    for outcome in [
-        host.outcome(LEFT, 7_000_000),
-        one.outcome(LEFT, 7_000_000),
-        again.outcome(LEFT, 7_000_000),
-    ] {
-        match outcome.summary {
-            Some(summary) => assert!(rt; 30 <= summary.tics),
-            None => panic!(rt; "no game"),
-        }
-    }
+    assert!(rt; has_run(host, 7_000_000, 30));
+    assert!(rt; has_run(one, 7_000_000, 30));
+    assert!(rt; has_run(again, 7_000_000, 30));
 }
 
 #[test]
@@ -71,16 +56,9 @@ fn who_moves_is_followed(rt: HostRuntime) {
             assert!(rt; turn(&rt, &mut two, &mut air, 2, now).is_none());
         }
     }
-    for outcome in [
-        host.outcome(LEFT, 10_000_000),
-        one.outcome(LEFT, 10_000_000),
-        two.outcome(LEFT, 10_000_000),
-    ] {
-        match outcome.summary {
-            Some(summary) => assert!(rt; 240 <= summary.tics),
-            None => panic!(rt; "no game"),
-        }
-    }
+    assert!(rt; has_run(host, 10_000_000, 240));
+    assert!(rt; has_run(one, 10_000_000, 240));
+    assert!(rt; has_run(two, 10_000_000, 240));
 }
 
 #[test]
@@ -107,10 +85,6 @@ fn who_plays_takes_no_seat_of_a_host_that_is_started_anew(rt: HostRuntime) {
             assert!(rt; turn(&rt, &mut new, &mut air, 2, now).is_none());
         }
     }
-    for outcome in [host.outcome(LEFT, 8_000_000), new.outcome(LEFT, 8_000_000)] {
-        match outcome.summary {
-            Some(summary) => assert!(rt; 60 <= summary.tics),
-            None => panic!(rt; "no game"),
-        }
-    }
+    assert!(rt; has_run(host, 8_000_000, 60));
+    assert!(rt; has_run(new, 8_000_000, 60));
 }

@@ -1,5 +1,8 @@
-use Rattle.dn_host.specs.Measured.{IsSomeMeasure}
+use Rattle.std.specs.Prelude.{ℕ, List, ◌++◌, replicate}
+use Rattle.dn_measure.specs.declared.told.Told.{Told}
+use Rattle.dn_measure.specs.Measure.{IsMeasureOf}
 use Rattle.dn_host.proofs.counts.tell.Given as goal
 
 abbrev pub invariant-loop : goal.invariant-loop
-invariant-loop l = IsSomeMeasure l.fn.measure → IsSomeMeasure l.measure
+invariant-loop l = (start : ℕ) (before : List Told) → IsMeasureOf l.fn.measure start before
+    → IsMeasureOf l.measure start (before ++ replicate l.counter l.fn.told)

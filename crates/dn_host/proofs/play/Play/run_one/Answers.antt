@@ -4,8 +4,8 @@ use Rattle.dn_lockstep.specs.Runs.{RunsBy}
 use Rattle.dn_link.specs.Linking.{linked}
 use Rattle.dn_host.proofs.play.Play.run_one.Goals as goal
 
-pub returns : goal.returns
-returns c =
+pub returns-clause-runs : goal.returns-clause-runs
+returns-clause-runs c =
     let run = c.run-ran in
     let answer = run.result.0 in
     let row = run.result.1 in

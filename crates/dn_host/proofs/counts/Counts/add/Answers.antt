@@ -1,0 +1,36 @@
+use Rattle.std.proofs.Common.{List, ◌++◌, replicate, subst, append_assoc}
+use Rattle.std.proofs.Math.Logic.{∥∥₁_map}
+use Rattle.dn_measure.specs.declared.told.Told.{Told}
+use Rattle.dn_measure.specs.declared.told.Told.TheVariants.{Built, Ran}
+use Rattle.dn_measure.specs.Measure.{IsMeasureOf}
+use Rattle.dn_host.proofs.counts.Counts.add.Goals as goal
+
+pub invariant_of-self : goal.invariant_of-self
+invariant_of-self c = record {
+  measured = ∥∥₁_map c.args.self.now.measured (λ m. (
+    m.0,
+    (m.1 ++ replicate c.args.done.built (Built c.args.now)) ++ replicate c.args.done.ran (Ran c.args.now),
+    c.tell-2.ensures m.0 (m.1 ++ replicate c.args.done.built (Built c.args.now)) (c.tell.ensures m.0 m.1 m.2),
+  ));
+}
+
+pub invariant_of-self-else-done-gt0 : goal.invariant_of-self-else-done-gt0
+invariant_of-self-else-done-gt0 c = record {
+  measured = ∥∥₁_map c.args.self.now.measured (λ m. (
+    m.0,
+    (m.1 ++ replicate c.args.done.built (Built c.args.now)) ++ replicate c.args.done.ran (Ran c.args.now),
+    c.tell-2.ensures m.0 (m.1 ++ replicate c.args.done.built (Built c.args.now)) (c.tell.ensures m.0 m.1 m.2),
+  ));
+}
+
+pub returns-then-done-gt0-clause-told : goal.returns-then-done-gt0-clause-told
+returns-then-done-gt0-clause-told c = λ start before h.
+    subst (λ (told : List Told). IsMeasureOf c.tell-2.new.measure start told)
+    (append_assoc before (replicate c.args.done.built (Built c.args.now)) (replicate c.args.done.ran (Ran c.args.now)))
+    (c.tell-2.ensures start (before ++ replicate c.args.done.built (Built c.args.now)) (c.tell.ensures start before h))
+
+pub returns-else-done-gt0-clause-told : goal.returns-else-done-gt0-clause-told
+returns-else-done-gt0-clause-told c = λ start before h.
+    subst (λ (told : List Told). IsMeasureOf c.tell-2.new.measure start told)
+    (append_assoc before (replicate c.args.done.built (Built c.args.now)) (replicate c.args.done.ran (Ran c.args.now)))
+    (c.tell-2.ensures start (before ++ replicate c.args.done.built (Built c.args.now)) (c.tell.ensures start before h))

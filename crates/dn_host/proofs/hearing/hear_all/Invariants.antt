@@ -1,0 +1,8 @@
+use Rattle.std.specs.Prelude.{◌≡◌}
+use Rattle.dn_host.specs.Parts.{IsPart}
+use Rattle.dn_host.proofs.hearing.hear_all.Given as goal
+
+abbrev pub invariant-loop : goal.invariant-loop
+invariant-loop g l = (g.L.Lobby.secret l.lobby ≡ g.L.Lobby.secret l.fn.lobby)
+    × (IsPart g.L.Lobby.hosts (g.L.Lobby.secret l.fn.lobby) l.fn.game
+    → IsPart g.L.Lobby.hosts (g.L.Lobby.secret l.fn.lobby) l.game)

@@ -1,0 +1,8 @@
+use Rattle.std.specs.Prelude.{◌≡◌}
+use Rattle.dn_host.specs.Parts.{IsPart}
+use Rattle.dn_host.proofs.session.run.Given as goal
+
+abbrev pub invariant-loop : goal.invariant-loop
+invariant-loop g l = (g.L.Lobby.secret l.session.lobby ≡ g.L.Lobby.secret l.fn.session.lobby)
+    × (IsPart g.L.Lobby.hosts (g.L.Lobby.secret l.fn.session.lobby) l.fn.session.game
+    → IsPart g.L.Lobby.hosts (g.L.Lobby.secret l.fn.session.lobby) l.session.game)

@@ -1,0 +1,80 @@
+//! What a game shows of itself.
+
+use crate::game::Game;
+use dn_link::Link;
+use dn_machine::Phase;
+use dn_measure::{Status, Summary};
+
+impl Game {
+    ghost use Rattle.std.specs.Prelude.{◌≡◌, IfSome, is_some};
+    ghost use Rattle.dn_link.specs.Linking.{linked};
+    ghost use Rattle.dn_link.specs.Pacing.{pace_of};
+    ghost use Rattle.dn_host.specs.Begun.{has_counted};
+    ghost use Rattle.dn_host.specs.Summaries.{IsSummaryBy};
+    ghost use Rattle.dn_host.specs.Summed.{MeasuresBy};
+
+    /// Whether it has begun.
+    pub(crate) fn has_begun(&self) -> bool
+        ensures { result ≡ is_some self.now.counts }
+    {
+        self.counts.is_some()
+    }
+
+    /// Whether it has run a tic.
+    pub(crate) fn has_run(&self) -> bool
+        ensures { result ≡ has_counted self.now.counts }
+    {
+        match &self.counts {
+            Some(counts) => counts.tics() > 0,
+            None => false,
+        }
+    }
+
+    /// When it began.
+    pub(crate) fn began(&self) -> u64 {
+        self.began
+    }
+
+    /// When it has something to do next.
+    pub(crate) fn next(&self) -> u64 {
+        match self.half {
+            Some(half) => half.min(self.due),
+            None => self.due,
+        }
+    }
+
+    /// Where its link stands.
+    pub(crate) fn phase(&self) -> Phase {
+        self.play.link.lockstep().phase()
+    }
+
+    /// Its link.
+    pub(crate) fn into_link(self) -> Link
+        ensures { result ≡ self.play.link }
+    {
+        self.play.into_link()
+    }
+
+    /// How the game stands, since the last time, if it has begun.
+    pub(crate) fn status(&mut self, now: u64) -> Option<Status>
+        ensures { self.new.play.link ≡ self.old.play.link }
+    {
+        let waiting = self.play.waiting();
+        match &mut self.counts {
+            Some(counts) => Some(counts.status(&self.play.link, waiting, now)),
+            None => None,
+        }
+    }
+
+    /// What was measured up to now, if it has begun.
+    pub(crate) fn summary(&self, now: u64) -> Option<Summary>
+        ensures by { IfSome result (IsSummaryBy (linked self.now.play.link) (pace_of self.now.play.link)) }
+        ensures sum { MeasuresBy self.now.counts (linked self.now.play.link) (pace_of self.now.play.link) now
+            self.now.rate result }
+    {
+        match &self.counts {
+            Some(counts) => Some(counts.summary(&self.play.link, now, self.rate)),
+            None => None,
+        }
+    }
+}
