@@ -14,7 +14,9 @@ use Rattle.dn_remain_game.specs.declared.happened.Happened.{Happened}
 use Rattle.dn_remain_game.specs.Applied.{IsAfter, IsApplied, IsAppliedOwn}
 use Rattle.dn_remain_game.specs.Contents.{Contents}
 use Rattle.dn_remain_game.specs.Events.{applied_remain, applied_remain_if, asks_room, in_game, on_own, on_remain, own_unless, refused_remain}
+use Rattle.dn_remain_game.specs.Frame.{KeepWorlds}
 use Rattle.dn_remain_game.specs.Represents.{Represents}
+use Rattle.dn_remain_game.proofs.Keeping.{keep_all}
 
 applied_so : {S : Type 0} (rules : Rules S) (all : Remaining) (event : RemainEvent) (refusal : Option Refusal)
     → refusal ≡ refused_remain rules.players all event
@@ -23,76 +25,77 @@ applied_so : {S : Type 0} (rules : Rules S) (all : Remaining) (event : RemainEve
 unfolding applied_remain
 applied_so rules all event refusal is = ap (applied_remain_if rules all event) (sym is)
 
-module _ {W S : Type 0} (state : W → S) (rules : Rules S) (g : Contents W) (all : Remaining) where
+-- a refused event changes nothing
+pub after_refused : {W S : Type 0} (state : W → S) (rules : Rules S) (g : Contents W) (all : Remaining)
+    (event : RemainEvent) (refusal : Refusal)
+    → Some refusal ≡ refused_remain rules.players all event → Represents state rules g all
+    → IsAfter state rules g g (applied_remain rules all event) (Err refusal)
+after_refused state rules g all event refusal is r =
+    subst (λ (x : Remaining × Result Happened Refusal). IsAfter state rules g g x (Err refusal))
+    (sym (applied_so rules all event (Some refusal) is)) (record { game = r; answered = refl; kept = keep_all g.nodes })
+
+module _ {W S : Type 0} (state : W → S) (rules : Rules S) (old g : Contents W) (all : Remaining) where
   -- an event of the machine that is not barred
   pub own_applied : (event named : Event) (done : Done) → event ≡ named → is_barred all named ≡ false
-      → IsAfter state rules g (in_game all (on_own rules all named)) done
-      → IsAppliedOwn state rules g all event (Ok done)
+      → IsAfter state rules old g (in_game all (on_own rules all named)) done
+      → IsAppliedOwn state rules old g all event (Ok done)
   own_applied event named done same free after =
       inl (
         done,
         refl,
-        subst (λ (e : Event). IsAfter state rules g (own_unless rules all e (is_barred all e)) done) (sym same)
-            (subst (λ (b : Bool). IsAfter state rules g (own_unless rules all named b) done) (sym free) after),
+        subst (λ (e : Event). IsAfter state rules old g (own_unless rules all e (is_barred all e)) done) (sym same)
+            (subst (λ (b : Bool). IsAfter state rules old g (own_unless rules all named b) done) (sym free) after),
       )
 
   -- one that may be
   pub own_barred : (event named : Event) (done : Done) → event ≡ named
-      → IsAfter state rules g (own_unless rules all named (is_barred all named)) done
-      → IsAppliedOwn state rules g all event (Ok done)
+      → IsAfter state rules old g (own_unless rules all named (is_barred all named)) done
+      → IsAppliedOwn state rules old g all event (Ok done)
   own_barred event named done same after =
       inl (
         done,
         refl,
-        subst (λ (e : Event). IsAfter state rules g (own_unless rules all e (is_barred all e)) done) (sym same) after,
+        subst (λ (e : Event). IsAfter state rules old g (own_unless rules all e (is_barred all e)) done) (sym same) after,
       )
 
   -- and a send
   pub own_sent : (event : Event) (node to : ℕ) (answer : Result Done Refusal) → event ≡ Send node to
       → ((done : Done) × (answer ≡ Ok done)
-      × IsAfter state rules g (own_unless rules all (Send node to) (is_barred all (Send node to))) done)
+      × IsAfter state rules old g (own_unless rules all (Send node to) (is_barred all (Send node to))) done)
       ⊎ (answer ≡ Err Refusal.Memory)
-      → IsAppliedOwn state rules g all event answer
+      → IsAppliedOwn state rules old g all event answer
   own_sent event node to answer same (inl (done, answered, after)) =
       inl (
         done,
         answered,
-        subst (λ (e : Event). IsAfter state rules g (own_unless rules all e (is_barred all e)) done) (sym same) after,
+        subst (λ (e : Event). IsAfter state rules old g (own_unless rules all e (is_barred all e)) done) (sym same) after,
       )
   own_sent event node to answer same (inr memory) = inr (ap is_send same, memory)
-
-  -- a refused event changes nothing
-  pub after_refused : (event : RemainEvent) (refusal : Refusal)
-      → Some refusal ≡ refused_remain rules.players all event → Represents state rules g all
-      → IsAfter state rules g (applied_remain rules all event) (Err refusal)
-  after_refused event refusal is r =
-      subst (λ (x : Remaining × Result Happened Refusal). IsAfter state rules g x (Err refusal))
-      (sym (applied_so rules all event (Some refusal) is)) (record { game = r; answered = refl })
 
   -- any other does what it does
   pub after_event : (event named : RemainEvent) (done : Happened) → event ≡ named
       → None ≡ refused_remain rules.players all event
-      → IsAfter state rules g (on_remain rules all named) done
-      → IsAfter state rules g (applied_remain rules all event) (Ok done)
+      → IsAfter state rules old g (on_remain rules all named) done
+      → IsAfter state rules old g (applied_remain rules all event) (Ok done)
   after_event event named done same is after =
-      let then : IsAfter state rules g (on_remain rules all event) done =
-      subst (λ (e : RemainEvent). IsAfter state rules g (on_remain rules all e) done) (sym same) after in
-      subst (λ (x : Remaining × Result Happened Refusal). IsAfter state rules g x (Ok done))
-      (sym (applied_so rules all event None is)) (record { game = then.game; answered = ap Ok then.answered })
+      let then : IsAfter state rules old g (on_remain rules all event) done =
+      subst (λ (e : RemainEvent). IsAfter state rules old g (on_remain rules all e) done) (sym same) after in
+      subst (λ (x : Remaining × Result Happened Refusal). IsAfter state rules old g x (Ok done))
+      (sym (applied_so rules all event None is)) (record { game = then.game; answered = ap Ok then.answered; kept = then.kept })
 
 -- an event of the machine, by what it did
 module _ {W S : Type 0} (state : W → S) (rules : Rules S) (old new : Contents W) (all : Remaining)
     (event : RemainEvent) (own : Event) (same : event ≡ Own own)
     (free : None ≡ refused_remain rules.players all event) where
-  pub own_done : (done : Done) → IsAppliedOwn state rules new all own (Ok done)
+  pub own_done : (done : Done) → IsAppliedOwn state rules old new all own (Ok done)
       → IsApplied state rules old new all event (Ok (Happened.Own done))
   own_done done (inl (did, answered, after)) =
       let is : done ≡ did = cc in
-      inl (after_event state rules new all event (Own own) (Happened.Own done) same free
-      (record { game = after.game; answered = ap Happened.Own (is ∙ after.answered) }))
+      inl (after_event state rules old new all event (Own own) (Happened.Own done) same free
+      (record { game = after.game; answered = ap Happened.Own (is ∙ after.answered); kept = after.kept }))
   own_done done (inr (send, wrong)) = absurd (cc)
 
-  left : (refusal : Refusal) → IsAppliedOwn state rules new all own (Err refusal) → new ≡ old
+  left : (refusal : Refusal) → IsAppliedOwn state rules old new all own (Err refusal) → new ≡ old
       → IsApplied state rules old new all event (Err refusal)
   left refusal (inl (did, wrong, after)) kept = absurd (cc)
   left refusal (inr (send, is)) kept =
@@ -103,7 +106,7 @@ module _ {W S : Type 0} (state : W → S) (rules : Rules S) (old new : Contents 
       as_same refusal e = cc
 
   pub own_left : (refusal : Refusal) (answer : Result Happened Refusal) → answer ≡ Err refusal
-      → IsAppliedOwn state rules new all own (Err refusal) → new ≡ old
+      → IsAppliedOwn state rules old new all own (Err refusal) → new ≡ old
       → IsApplied state rules old new all event answer
   own_left refusal answer told is kept =
       subst (λ (a : Result Happened Refusal). IsApplied state rules old new all event a) (sym told)
@@ -121,13 +124,21 @@ also Q (Err refusal) p on = (p, on)
 pub told_so : {W S : Type 0} (state : W → S) (rules : Rules S) (old new : Contents W) (all : Remaining)
     (event named : RemainEvent) (answer : Result Happened Refusal) → event ≡ named
     → asks_room named ≡ true → None ≡ refused_remain rules.players all event
-    → ((done : Happened) × (answer ≡ Ok done) × IsAfter state rules new (on_remain rules all named) done)
+    → ((done : Happened) × (answer ≡ Ok done) × IsAfter state rules old new (on_remain rules all named) done)
     ⊎ (answer ≡ Err Refusal.Memory)
     → OnErr answer (new ≡ old)
     → IsApplied state rules old new all event answer
 told_so {W} {S} state rules old new all event named answer same asks free (inl (done, answered, after)) kept =
-    inl (subst (λ (a : Result Happened Refusal). IsAfter state rules new (applied_remain rules all event) a)
-    (sym answered) (after_event state rules new all event named done same free after))
+    inl (subst (λ (a : Result Happened Refusal). IsAfter state rules old new (applied_remain rules all event) a)
+    (sym answered) (after_event state rules old new all event named done same free after))
 told_so {W} {S} state rules old new all event named answer same asks free (inr memory) kept =
     let unchanged : new ≡ old = subst (λ (a : Result Happened Refusal). OnErr a (new ≡ old)) memory kept in
     inr (sym free, record { asks = ap asks_room same ∙ asks; same = unchanged; answered = memory })
+
+-- and each node moves its world only where it starts or runs
+pub applied_keeps : {W S : Type 0} (state : W → S) (rules : Rules S) (old new : Contents W) (all : Remaining)
+    (event : RemainEvent) (answer : Result Happened Refusal) → IsApplied state rules old new all event answer
+    → KeepWorlds old.nodes new.nodes
+applied_keeps state rules old new all event answer (inl after) = after.kept
+applied_keeps {W} state rules old new all event answer (inr (free, left)) =
+    subst (λ (g : Contents W). KeepWorlds old.nodes g.nodes) (sym left.same) (keep_all old.nodes)

@@ -36,7 +36,8 @@ is_start (Heard.Dropped number) = false
 -- whoever hears a datagram goes on beside the same world, or starts, having run nothing
 pub data Hears (m : Node) (after : Node × Heard) : Type 0 where
   GoesOn : IsBeside m after.0 → is_start after.1 ≡ false → Hears m after
-  Starts : after.0.rows ≡ m.rows → is_waiting m.phase ≡ true → after.1 ≡ Heard.Started → Hears m after
+  Starts : after.0.rows ≡ m.rows → is_waiting m.phase ≡ true → after.0.played ≡ true → after.1 ≡ Heard.Started
+      → Hears m after
 
 left_starts : (exit : Bool) (heard : Heard) → is_start heard ≡ false → is_start (left_or exit heard) ≡ false
 left_starts true heard other = refl
@@ -63,8 +64,8 @@ module _ (limits : Limits) (me : ℕ) (m : Node) where
   hear_beside flight =
       packet_cases limits me m flight (Hears m) (record {
         dropped = λ number why. GoesOn (stays m) refl;
-        starts = λ s e k. Starts refl (ap is_waiting e) refl;
-        completes = λ word e all. Starts refl (ap is_waiting e) refl;
+        starts = λ s e k. Starts refl (ap is_waiting e) refl refl;
+        completes = λ word e all. Starts refl (ap is_waiting e) refl refl;
         notes = λ word e some. GoesOn (record { played = refl; settings = refl; rows = refl }) refl;
         commands = λ plays. record {
           dropped = λ number why. GoesOn (stays m) refl;

@@ -9,8 +9,10 @@ use Rattle.dn_remain.specs.Remaining.{opening_remaining}
 use Rattle.dn_remain.specs.declared.events.RemainEvent.{RemainEvent}
 use Rattle.dn_remain_game.specs.declared.playing.Played.{Played}
 use Rattle.dn_remain_game.specs.Contents.{contents}
+use Rattle.dn_remain_game.specs.Frame.{KeepGiven}
 use Rattle.dn_remain_game.specs.Promised.{AppliesOne, HasPlayed, IsPlayed}
 use Rattle.dn_remain_game.proofs.Answering.{counts_more, plays_leads}
+use Rattle.dn_remain_game.proofs.Given.{given_stays}
 use Rattle.dn_remain_game.proofs.Promising.{promised}
 
 -- one answer
@@ -38,6 +40,17 @@ module _ {W S : Type 0} (state : W → S) (physics : Physics S) (limits : Limits
     done = counts_more is_ok before.answers one.answer _ _ before.done one.done;
     refused = counts_more is_err before.answers one.answer _ _ before.refused one.refused;
   }
+
+  -- a node that has not started has the world that was given for it
+  pub given_more : (worlds : List W) (event : RemainEvent) (played next : Played W)
+      → IsPlayed state (rules_within physics limits) settings events played
+      → AppliesOne state physics played next event → KeepGiven worlds (contents played.game)
+      → KeepGiven worlds (contents next.game)
+  given_more worlds event played next before one had =
+      let after = one.carried limits settings events before.answers before.reached in
+      given_stays state (rules_within physics limits) worlds (contents played.game) (contents next.game)
+      before.reached.last after.last before.reached.game after.game
+      (one.worlds limits settings events before.answers before.reached) had
 
   pub has_played : (played : Played W) → IsPlayed state (rules_within physics limits) settings events played
       → HasPlayed state (rules_within physics limits) settings events played

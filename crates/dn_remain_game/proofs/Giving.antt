@@ -1,5 +1,5 @@
 -- A node that gives up a player or hears a report starts and begins its world, or leaves its world as it is.
-use Rattle.std.proofs.Common.{◌≡◌, ◌≢◌, ℕ, Bool, true, Some, None, refl, ap, sym, ◌∙◌}
+use Rattle.std.proofs.Common.{◌≡◌, ◌≢◌, ℕ, Bool, true, false, Some, None, refl, ap, sym, ◌∙◌}
 use Rattle.std.proofs.lemmas.Bool.{cond_both}
 use Rattle.dn_report.specs.declared.report.Report.{Report as Told}
 use Rattle.dn_setup.specs.Gathered.{all_noted}
@@ -23,14 +23,15 @@ use Rattle.dn_survivor.specs.Calls as survivor
 use Rattle.dn_survivor.specs.declared.answers.GivenUp.{GivenUp}
 use Rattle.dn_survivor.specs.declared.answers.Reported.{Reported}
 use Rattle.dn_survivor.proofs.Waries.{gave_up, heard}
-use Rattle.dn_remain_game.specs.Living.{GivesUp, HasWorld, Hears, Living, Represents}
+use Rattle.dn_remain_game.specs.Living.{GivesUp, HasWorld, Hears, KeepsWorld, Living, Represents}
 use Rattle.dn_remain_game.proofs.Beside.{IsBeside, stays}
+use Rattle.dn_remain_game.proofs.Keeping.{keeps, keeps_till_start}
 use Rattle.dn_remain_game.proofs.Worlds.{begins, beside}
 
 -- a node that gathered starts, or goes on beside its world
 data Gives (m after : Node) : Type 0 where
   Goes : IsBeside m after → (m.phase ≡ Gathering → after.phase ≢ Playing) → Gives m after
-  Starts : after.rows ≡ m.rows → m.phase ≡ Gathering → after.phase ≡ Playing → Gives m after
+  Starts : after.rows ≡ m.rows → m.phase ≡ Gathering → after.phase ≡ Playing → after.played ≡ true → Gives m after
 
 goes_on : (m : Node) → Gives m m
 goes_on m = Goes (stays m) (λ gathers plays. absurd (let same = sym gathers ∙ plays in cc))
@@ -42,7 +43,7 @@ gives_noted limits m player Playing is = goes_on m
 gives_noted limits m player (Ended cause) is = goes_on m
 gives_noted limits m player Gathering is =
     cond_both (all_noted limits.players (put m.noted player true)) _ _ (λ (r : Node × Heard). Gives m r.0)
-    (λ all. Starts refl is refl)
+    (λ all. Starts refl is refl refl)
     (λ some. Goes (record { played = refl; settings = refl; rows = refl })
     (λ gathers plays. absurd (let same = sym gathers ∙ plays in cc)))
 
@@ -50,7 +51,7 @@ gives_settled : (m after : Node) (gone : ℕ → Bool) (decided : Report) → Gi
     → Gives m (settled after gone decided)
 gives_settled m after gone decided (Goes is apart) =
     Goes (record { played = is.played; settings = is.settings; rows = is.rows }) apart
-gives_settled m after gone decided (Starts rows from to) = Starts rows from to
+gives_settled m after gone decided (Starts rows from to on) = Starts rows from to on
 
 gives_news : (limits : Limits) (me : ℕ) (m : Node) (wary : Wary) → Gives m wary.node
     → Gives m (after_news limits me wary).node
@@ -79,6 +80,7 @@ beside_report limits me wary from report =
 -- its world has begun where it has started
 module _ {W S : Type 0} (state : W → S) (physics : Physics S) (old new : Living W)
     (unrun : is_waiting old.survivor.lockstep.phase ≡ true → old.survivor.lockstep.ran ≡ 0)
+    (waits : is_waiting old.survivor.lockstep.phase ≡ true → old.survivor.lockstep.played ≡ false)
     (known : new.survivor.lockstep.played ≡ true → new.survivor.lockstep.settings ≢ None)
     (plays : new.survivor.lockstep.phase ≡ Playing → new.survivor.lockstep.played ≡ true)
     (kept : (old.survivor.lockstep.phase ≡ Gathering → new.survivor.lockstep.phase ≢ Playing)
@@ -94,7 +96,7 @@ module _ {W S : Type 0} (state : W → S) (physics : Physics S) (old new : Livin
         beside state (rules_within physics limits) old.world new.world wary.node after
         (kept (λ gathers plays. apart (sym r.survivor.node.stands.phase ∙ gathers)
         (sym shows.stands.phase ∙ plays))) is r.world
-    go after shows (Starts rows gathers starts) = λ played.
+    go after shows (Starts rows gathers starts on) = λ played.
         let from = r.survivor.node.stands.phase ∙ gathers in
         let to = shows.stands.phase ∙ starts in
         let none : ran wary.node ≡ 0 = sym r.survivor.node.table.ran ∙ unrun (ap is_waiting from) in
@@ -104,10 +106,21 @@ module _ {W S : Type 0} (state : W → S) (physics : Physics S) (old new : Livin
         (begun from to s.0 s.1
         ∙ ap (λ (k : ℕ). physics.begin (start_of s.0) (seats_of k)) shows.whose.players) played
 
+    keeps_so : (after : Node) → lockstep_to.Represents limits me new.survivor.lockstep after → Gives wary.node after
+        → KeepsWorld old new
+    keeps_so after shows (Goes is apart) =
+        keeps old new limits me wary.node after r.survivor.node shows known (λ played. is.played ∙ played)
+        (kept (λ gathers plays. apart (sym r.survivor.node.stands.phase ∙ gathers)
+        (sym shows.stands.phase ∙ plays)))
+    keeps_so after shows (Starts rows gathers starts on) =
+        keeps_till_start old new limits me wary.node after r.survivor.node shows known
+        (sym r.survivor.node.stands.played ∙ waits (ap is_waiting (r.survivor.node.stands.phase ∙ gathers))) on
+
 module _ {W S : Type 0} (state : W → S) (physics : Physics S) (old new : Living W) where
   -- what has become of the world of a node that gave up a player: it has begun where it has started
   pub given_up : (player : ℕ) (answer : GivenUp)
       → (is_waiting old.survivor.lockstep.phase ≡ true → old.survivor.lockstep.ran ≡ 0)
+      → (is_waiting old.survivor.lockstep.phase ≡ true → old.survivor.lockstep.played ≡ false)
       → (new.survivor.lockstep.played ≡ true → new.survivor.lockstep.settings ≢ None)
       → (new.survivor.lockstep.phase ≡ Playing → new.survivor.lockstep.played ≡ true)
       → ((old.survivor.lockstep.phase ≡ Gathering → new.survivor.lockstep.phase ≢ Playing)
@@ -117,21 +130,24 @@ module _ {W S : Type 0} (state : W → S) (physics : Physics S) (old new : Livin
       → state new.world ≡ physics.begin (start_of settings) (seats_of new.survivor.lockstep.players))
       → survivor.GivesUp player old.survivor new.survivor answer
       → GivesUp state physics player old new answer
-  given_up player answer unrun known plays kept begun is limits me wary r can =
+  given_up player answer unrun waits known plays kept begun is limits me wary r can =
       let done = gave_up limits me old.survivor new.survivor wary r.survivor player answer can is in
       record {
         node = record {
           survivor = done.0;
-          world = go state physics old new unrun known plays kept begun limits me wary r
+          world = go state physics old new unrun waits known plays kept begun limits me wary r
               (on_give_up limits me wary player).0.node done.0.node (gives limits me wary player);
         };
         answer = done.1;
+        kept = keeps_so state physics old new unrun waits known plays kept begun limits me wary r
+            (on_give_up limits me wary player).0.node done.0.node (gives limits me wary player);
       }
 
-  pub heard_report : (from : ℕ) (report : Told) (answer : Reported) → new.world ≡ old.world
+  pub heard_report : (from : ℕ) (report : Told) (answer : Reported)
+      → (new.survivor.lockstep.played ≡ true → new.survivor.lockstep.settings ≢ None) → new.world ≡ old.world
       → survivor.HearsReport from report old.survivor new.survivor answer
       → Hears state physics from report old new answer
-  heard_report from report answer same is limits me wary told r below apart tells can =
+  heard_report from report answer known same is limits me wary told r below apart tells can =
       let done = heard limits me old.survivor new.survivor wary r.survivor from report told answer below apart
       tells can is in
       record {
@@ -141,4 +157,6 @@ module _ {W S : Type 0} (state : W → S) (physics : Physics S) (old new : Livin
               (on_report limits me wary from told).0.node same (beside_report limits me wary from told) r.world;
         };
         answer = done.1;
+        kept = keeps old new limits me wary.node (on_report limits me wary from told).0.node r.survivor.node done.0.node
+            known (λ played. (beside_report limits me wary from told).played ∙ played) same;
       }

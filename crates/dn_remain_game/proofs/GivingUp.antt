@@ -24,6 +24,7 @@ use Rattle.dn_remain_game.specs.Living as node_to
 use Rattle.dn_remain_game.specs.Living.{GivesUp, living}
 use Rattle.dn_remain_game.proofs.Answering.{plays_leads}
 use Rattle.dn_remain_game.proofs.Narrowing.{narrowed}
+use Rattle.dn_remain_game.proofs.Keeping.{keep_others}
 use Rattle.dn_remain_game.proofs.Standing.{node_at, places_wary}
 
 -- another player of the game is one of its players, and another
@@ -40,7 +41,7 @@ pub gives_up : {W S : Type 0} (state : W → S) (physics : Physics S) (g : Conte
     → node < length g.nodes → old ≡ slice_index_or g.nodes node old
     → (player < 256 → small ≡ player) → (256 ≤ player → small ≡ 255)
     → GivesUp state physics small (living old) (living new) answer
-    → IsAfter state (rules_within physics limits) (record g { nodes = set g.nodes node new })
+    → IsAfter state (rules_within physics limits) g (record g { nodes = set g.nodes node new })
     (gave_up limits reached.last node player) (Happened.GivenUp answer)
 gives_up {W} {S} state physics g limits settings events answers reached node player small old new answer below read
     low high by =
@@ -51,11 +52,12 @@ gives_up {W} {S} state physics g limits settings events answers reached node pla
     let after = by limits node (wary_of all node) shown (λ phase peer can.
     gone_can rules settings (window_of limits reached.game.vanilla) events all run node small
     shown.survivor.player (its_player limits.players node small peer) (another limits.players node small peer) phase can) in
-    let so = subst (λ (x : Wary × remain_given.GivenUp). node_to.IsAfter state rules node (living new) x
+    let so = subst (λ (x : Wary × remain_given.GivenUp). node_to.IsAfter state rules node (living old) (living new) x
     (λ given. answer ≡ given_up_is given))
     (narrowed limits node (wary_of all node) player small shown.survivor.few low high) after in
     record {
       game = places_wary state rules g all reached.game node new below
           (on_give_up limits node (wary_of all node) player).0 so.node;
       answered = ap Happened.GivenUp so.answer;
+      kept = keep_others g.nodes node old new below read so.kept;
     }

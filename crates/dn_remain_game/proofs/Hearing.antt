@@ -19,6 +19,7 @@ use Rattle.dn_remain.specs.Wary.{Wary}
 use Rattle.dn_survivor.proofs.Steps.{stepped}
 use Rattle.dn_remain_game.specs.Living.{HearsAny, HearsNear, IsAfter, Living, Represents, on_node}
 use Rattle.dn_remain_game.proofs.Beside.{Hears, GoesOn, Starts, heard_beside, is_start}
+use Rattle.dn_remain_game.proofs.Keeping.{keeps, keeps_till_start}
 use Rattle.dn_remain_game.proofs.Worlds.{begins, beside}
 
 -- what has become of the world of a node that has heard something
@@ -26,6 +27,7 @@ pub record HasHeard {W S : Type 0} (state : W → S) (physics : Physics S) (old 
     Type 0 where
   pub others : new.survivor.others ≡ old.survivor.others
   pub unrun : is_waiting old.survivor.lockstep.phase ≡ true → old.survivor.lockstep.ran ≡ 0
+  pub waits : is_waiting old.survivor.lockstep.phase ≡ true → old.survivor.lockstep.played ≡ false
   pub known : new.survivor.lockstep.played ≡ true → new.survivor.lockstep.settings ≢ None
   pub kept : answer ≢ Heard.Started → new.world ≡ old.world
   pub begun : answer ≡ Heard.Started → (settings : Settings) → new.survivor.lockstep.settings ≡ Some settings
@@ -37,7 +39,7 @@ module _ {W S : Type 0} (state : W → S) (physics : Physics S) (old new : Livin
       (r : Represents state (rules_within physics limits) me old wary) where
     go : (next : Node × Heard) → Hears wary.node next
         → lockstep_to.Represents limits me new.survivor.lockstep next.0 → answer ≡ next.1
-        → IsAfter state (rules_within physics limits) me new (on_node wary next) (λ a. answer ≡ a)
+        → IsAfter state (rules_within physics limits) me old new (on_node wary next) (λ a. answer ≡ a)
     go next (GoesOn is quiet) shows told =
         let other : answer ≢ Heard.Started =
         λ e. absurd (let not : is_start Heard.Started ≡ false = ap is_start (sym e ∙ told) ∙ quiet in cc) in
@@ -48,10 +50,12 @@ module _ {W S : Type 0} (state : W → S) (physics : Physics S) (old new : Livin
                 (has.kept other) is r.world;
           };
           answer = told;
+          kept = keeps old new limits me wary.node next.0 r.survivor.node shows has.known
+              (λ played. is.played ∙ played) (has.kept other);
         }
-    go next (Starts rows waits starts) shows told =
-        let none : ran wary.node ≡ 0 =
-        sym r.survivor.node.table.ran ∙ has.unrun (ap is_waiting r.survivor.node.stands.phase ∙ waits) in
+    go next (Starts rows waits plays starts) shows told =
+        let here = ap is_waiting r.survivor.node.stands.phase ∙ waits in
+        let none : ran wary.node ≡ 0 = sym r.survivor.node.table.ran ∙ has.unrun here in
         record {
           node = record {
             survivor = stepped limits me old.survivor new.survivor wary next.0 r.survivor shows has.others;
@@ -63,6 +67,8 @@ module _ {W S : Type 0} (state : W → S) (physics : Physics S) (old new : Livin
                 ∙ ap (λ (k : ℕ). physics.begin (start_of s.0) (seats_of k)) shows.whose.players) played;
           };
           answer = told;
+          kept = keeps_till_start old new limits me wary.node next.0 r.survivor.node shows has.known
+              (sym r.survivor.node.stands.played ∙ has.waits here) plays;
         }
 
   pub hears : (from : ℕ) (bytes : List ℕ)

@@ -1,5 +1,6 @@
 pub mod Beside
 pub mod Worlds
+pub mod Keeping
 pub mod Stepping
 pub mod Hearing
 pub mod Running
@@ -14,11 +15,16 @@ pub mod Answering
 pub mod Sending
 pub mod GivingUp
 pub mod Reporting
+pub mod ReportsTold
 pub mod Applying
 pub mod Freshening
 pub mod Unstopped
 pub mod InputsMade
 pub mod Nobody
+pub mod GoneInside
+pub mod SurvivorAnswers
 pub mod SteadyAnswers
+pub mod Barred
+pub mod Given
 pub mod Promising
 pub mod Counting

@@ -22,7 +22,7 @@ use Rattle.dn_remain_game.specs.Events.{applied_remain, applied_remain_if, heard
 use Rattle.dn_remain_game.specs.Promised.{GivesUpNobody}
 
 -- who hears a report gives up nobody
-heard_gone : (limits : Limits) (me : ℕ) (wary : Wary) (from : ℕ) (report : Report)
+pub heard_gone : (limits : Limits) (me : ℕ) (wary : Wary) (from : ℕ) (report : Report)
     → (on_report limits me wary from report).0.gone ≡ wary.gone
 heard_gone limits me wary from report = report_cases limits me wary (λ (w : Wary). w.gone ≡ wary.gone) from report refl
     (λ phase here there newer. news_gone limits me (with_report wary from report))

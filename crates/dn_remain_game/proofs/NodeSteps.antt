@@ -16,6 +16,7 @@ use Rattle.dn_remain_game.specs.Contents.{Contents}
 use Rattle.dn_remain_game.specs.Events.{in_game}
 use Rattle.dn_remain_game.specs.Living.{Steps, living, on_node}
 use Rattle.dn_remain_game.specs.Represents.{Represents}
+use Rattle.dn_remain_game.proofs.Keeping.{keep_all, keep_others}
 use Rattle.dn_remain_game.proofs.Standing.{node_at, places}
 
 pub goes_on : {W S A : Type 0} (state : W → S) (physics : Physics S) (g : Contents W) (limits : Limits)
@@ -24,7 +25,7 @@ pub goes_on : {W S A : Type 0} (state : W → S) (physics : Physics S) (g : Cont
     → place < length g.nodes → old ≡ slice_index_or g.nodes place old
     → Steps state physics (living old) (living new) (λ rules me wary. on_node wary (step rules me wary))
     (λ x. answer ≡ x)
-    → IsAfter state (rules_within physics limits) (record g { nodes = set g.nodes place new })
+    → IsAfter state (rules_within physics limits) g (record g { nodes = set g.nodes place new })
     (in_game all (
       with_node all.game place (step (rules_within physics limits) place (wary_of all place)).0,
       done (step (rules_within physics limits) place (wary_of all place)).1,
@@ -35,11 +36,12 @@ goes_on {W} {S} state physics g limits all r place old new step answer done belo
     record {
       game = places state rules g all r place new below (step rules place (wary_of all place)).0 after.node;
       answered = ap done after.answer;
+      kept = keep_others g.nodes place old new below read after.kept;
     }
 
 pub stops : {W S : Type 0} (state : W → S) (rules : Rules S) (g : Contents W) (all : Remaining) (place : ℕ)
     → Represents state rules g all → place < length g.stopped
-    → IsAfter state rules (record g { stopped = set g.stopped place true })
+    → IsAfter state rules g (record g { stopped = set g.stopped place true })
     (in_game all (record all.game { stopped = put all.game.stopped place true }, Done.Stopped)) Done.Stopped
 stops state rules g all place r below =
     record {
@@ -53,4 +55,5 @@ stops state rules g all place r below =
         reports = r.reports;
       };
       answered = refl;
+      kept = keep_all g.nodes;
     }

@@ -1,8 +1,8 @@
 -- A node gives a packet, or none to one who is given up.
-use Rattle.std.proofs.Common.{◌≡◌, ◌<◌, ℕ, Bool, List, Option, Some, None, refl, ap, sym, ◌∙◌, subst, inl, inr, arith}
-use Rattle.std.specs.Prelude.{if◌then◌else◌}
+use Rattle.std.proofs.Common.{◌≡◌, ◌≢◌, ℕ, true, Bool, List, Option, Some, None, refl, ap, sym, ◌∙◌, subst, inl, inr}
+use Rattle.std.specs.Prelude.{false, if◌then◌else◌, nat_lt}
 use Rattle.std.specs.Option.{option_map}
-use Rattle.std.proofs.lemmas.Bool.{cases_Bool, cond_both}
+use Rattle.std.proofs.lemmas.Bool.{cases_Bool, cond_both, cond-false, ltb-true}
 use Rattle.std.proofs.lemmas.Option.{none-some}
 use Rattle.arrayvec.specs.ArrayVec.{ArrayVec}
 use Rattle.dn_world.specs.Physics.{Physics}
@@ -14,42 +14,61 @@ use Rattle.dn_lockstep.specs.declared.lockstep.aiming.Aim.{Aim}
 use Rattle.dn_lockstep.specs.Sent.{sent_to, aim_of, bytes_of}
 use Rattle.dn_lockstep.specs.Steps as lockstep
 use Rattle.dn_lockstep.proofs.Giving.{no_flight, some_flight}
+use Rattle.dn_others.specs.Keeping.{has}
 use Rattle.dn_remain.specs.Wary.{Wary}
 use Rattle.dn_survivor.specs.Calls.{sent_unless}
 use Rattle.dn_survivor.proofs.Steps.{stepped}
 use Rattle.dn_remain_game.specs.Living.{IsAfter, IsGiven, Living, Represents, on_node}
 use Rattle.dn_remain_game.proofs.Beside.{IsBeside, send_beside, stays}
+use Rattle.dn_remain_game.proofs.Keeping.{keeps}
 use Rattle.dn_remain_game.proofs.Worlds.{beside}
 
 module _ {W S : Type 0} (state : W → S) (physics : Physics S) (old new : Living W) (to : ℕ) (aim : Option Aim)
-    (bytes : Option (ArrayVec ℕ)) (below : to < old.survivor.lockstep.players)
+    (bytes : Option (ArrayVec ℕ))
     (steps : lockstep.Steps old.survivor.lockstep new.survivor.lockstep
     (λ limits me m. sent_unless old.survivor.others to limits me m)
     (λ flight. option_map (λ (b : ArrayVec ℕ). b.items) bytes ≡ option_map bytes_of flight))
     (aimed : lockstep.Tells old.survivor.lockstep
     (λ limits me m. aim ≡ option_map aim_of (sent_to to limits me m).1))
-    (others : new.survivor.others ≡ old.survivor.others) (same : new.world ≡ old.world) (limits : Limits)
-    (me : ℕ) (wary : Wary) (r : Represents state (rules_within physics limits) me old wary) where
+    (others : new.survivor.others ≡ old.survivor.others)
+    (known : new.survivor.lockstep.played ≡ true → new.survivor.lockstep.settings ≢ None)
+    (same : new.world ≡ old.world) (limits : Limits) (me : ℕ) (wary : Wary) (r : Represents state (rules_within physics limits) me old wary) where
   abbrev sent : Node × Option Flight
   sent = sent_to to limits me wary.node
 
   abbrev unless_gone : Node × Option Flight
   unless_gone = if wary.gone to then (wary.node, None) else sent
 
+  -- to a number that is no player's none is sent, given up or not
+  asked_for : sent_unless old.survivor.others to limits me wary.node ≡ unless_gone
+  asked_for = elim (cases_Bool (nat_lt to limits.players)) [
+    | inl below ↦
+        ap (λ (b : Bool). if b then (wary.node, None) else sent)
+        (r.survivor.others.given_up to (ltb-true to limits.players below))
+    | inr past ↦
+        let nothing : sent ≡ (wary.node, None) = cond-false (nat_lt to limits.players) _ _ past in
+        none_anyway (has old.survivor.others.gone to) sent nothing
+        ∙ sym (none_anyway (wary.gone to) sent nothing)
+  ]
+    where
+      none_anyway : (gone : Bool) (x : Node × Option Flight)
+          → x ≡ (wary.node, None) → ◌≡◌ {A = Node × Option Flight} (if gone then (wary.node, None) else x)
+          (wary.node, None)
+      none_anyway true x is = refl
+      none_anyway false x is = is
+
   done : lockstep.IsAfter limits me new.survivor.lockstep unless_gone
       (λ flight. option_map (λ (b : ArrayVec ℕ). b.items) bytes ≡ option_map bytes_of flight)
-  done = subst (λ (b : Bool). lockstep.IsAfter {A = Option Flight} limits me new.survivor.lockstep
-      (if b then (wary.node, None) else sent)
+  done = subst (λ (x : Node × Option Flight). lockstep.IsAfter {A = Option Flight} limits me new.survivor.lockstep x
       (λ flight. option_map (λ (b : ArrayVec ℕ). b.items) bytes ≡ option_map bytes_of flight))
-      (r.survivor.others.given_up to (let many = r.survivor.node.whose.players in omega (arith, below, many)))
-      (steps.step limits me wary.node r.survivor.node)
+      asked_for (steps.step limits me wary.node r.survivor.node)
 
   leaves : IsBeside wary.node unless_gone.0
   leaves = cond_both (wary.gone to) _ _ (λ (x : Node × Option Flight). IsBeside wary.node x.0)
       (λ barred. stays wary.node) (λ free. send_beside limits me wary.node to)
 
   after : (given : Option (Aim × ArrayVec ℕ)) → IsGiven given unless_gone.1
-      → IsAfter state (rules_within physics limits) me new (on_node wary unless_gone) (λ flight. IsGiven given flight)
+      → IsAfter state (rules_within physics limits) me old new (on_node wary unless_gone) (λ flight. IsGiven given flight)
   after given is = record {
     node = record {
       survivor = stepped limits me old.survivor new.survivor wary unless_gone.0 r.survivor done.node others;
@@ -57,6 +76,8 @@ module _ {W S : Type 0} (state : W → S) (physics : Physics S) (old new : Livin
           leaves r.world;
     };
     answer = is;
+    kept = keeps old new limits me wary.node unless_gone.0 r.survivor.node done.node known
+        (λ played. leaves.played ∙ played) same;
   }
 
   -- a packet that is given is that of the machine, with the numbers that were aimed at
@@ -70,7 +91,7 @@ module _ {W S : Type 0} (state : W → S) (physics : Physics S) (old new : Livin
   ]
 
   pub gives_none : bytes ≡ None → (given : Option (Aim × ArrayVec ℕ)) → given ≡ None
-      → IsAfter state (rules_within physics limits) me new (on_node wary unless_gone) (λ flight. IsGiven given flight)
+      → IsAfter state (rules_within physics limits) me old new (on_node wary unless_gone) (λ flight. IsGiven given flight)
   gives_none none given is =
       let nothing = no_flight bytes_of unless_gone.1
       (ap (option_map (λ (b : ArrayVec ℕ). b.items)) (sym none) ∙ done.answer) in
@@ -88,7 +109,7 @@ module _ {W S : Type 0} (state : W → S) (physics : Physics S) (old new : Livin
       (some.0, some.1, some.2, aims some.0 some.1)
 
   pub gives_some : (given : ArrayVec ℕ) (numbers : Aim) → bytes ≡ Some given → aim ≡ Some numbers
-      → IsAfter state (rules_within physics limits) me new (on_node wary unless_gone)
+      → IsAfter state (rules_within physics limits) me old new (on_node wary unless_gone)
       (λ flight. IsGiven (Some (numbers, given)) flight)
   gives_some given numbers is aims_at =
       let both = gives_both given is in

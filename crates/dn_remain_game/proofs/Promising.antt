@@ -44,6 +44,7 @@ use Rattle.dn_remain.specs.RunsRemain.{NobodyGivenUp, RunsRemain}
 use Rattle.dn_remain_game.specs.declared.happened.Happened.{Happened}
 use Rattle.dn_remain_game.specs.Applied.{Plays}
 use Rattle.dn_remain_game.proofs.InputsMade.{inputs_played}
+use Rattle.dn_remain_game.proofs.GoneInside.{nobody_inside}
 use Rattle.dn_remain_game.proofs.Nobody.{nobody_gone}
 
 module _ {W S : Type 0} (state : W → S) (physics : Physics S) (limits : Limits) (settings : Settings)
@@ -126,9 +127,12 @@ module _ {W S : Type 0} (state : W → S) (physics : Physics S) (limits : Limits
       agreed = survivors.agreed (marking_of physics) limits settings (session_of (inputs_of all.game) all g survivors_at) game;
       fit = survivors.fitted (marking_of physics) limits settings (session_of (inputs_of all.game) all g survivors_at) game;
       demos = survivors.demos (marking_of physics) limits settings (session_of (inputs_of all.game) all g survivors_at) game;
+      own_worlds = λ i n at begun. world_is i n at begun
+          ∙ ap (world_after rules settings (all.game.nodes i).rows) (sym (r.nodes i n at).survivor.node.table.ran);
       worlds = worlds;
-      quiet = λ nobody.
-          let kept = kept_quiet nobody in
+      quiet = λ off.
+          let kept = kept_quiet (nobody_inside rules settings events all run (λ i j one other.
+          sym ((here i one).others.given_up j other) ∙ off i j one other)) in
           record {
             agree = Promises.agree rules settings all.game kept;
             fits = Promises.fits rules settings all.game kept;
@@ -154,7 +158,8 @@ module _ {W S : Type 0} (state : W → S) (physics : Physics S) (limits : Limits
         fits = pairs_fit rules settings all had.0 had.1;
         steady = pairs_steady rules settings all had.0 had.1 (window_of limits r.vanilla);
         answered = steady_answers rules settings (window_of limits r.vanilla) events answers all plays;
-        nobody = λ nobody. nobody_gone rules settings events answers all nobody plays;
+        nobody = λ nobody i player n at low. (r.nodes i n at).survivor.others.given_up player low
+            ∙ nobody_gone rules settings events answers all nobody plays i player;
         told = λ survivors_at are.
             subst (λ (inputs : Inputs). AreAgreedInGame state rules settings inputs all g survivors_at)
             (inputs_played rules settings events answers all plays) (told survivors_at are);

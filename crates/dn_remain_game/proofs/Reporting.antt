@@ -32,10 +32,11 @@ use Rattle.dn_remain_game.specs.Living as node_to
 use Rattle.dn_remain_game.specs.Living.{Hears, living}
 use Rattle.dn_remain_game.specs.Represents.{Represents, given_of}
 use Rattle.dn_remain_game.proofs.Answering.{plays_leads}
+use Rattle.dn_remain_game.proofs.Keeping.{keep_all, keep_others}
 use Rattle.dn_remain_game.proofs.Standing.{node_at, places_wary}
 
 -- a report that was given is one that was told
-telling_at : (limits : Limits) (reports : List Given) (tellings : List Exact) → AreTelling limits reports tellings
+pub telling_at : (limits : Limits) (reports : List Given) (tellings : List Exact) → AreTelling limits reports tellings
     → (which : ℕ) (given : Given) → slice_get reports which ≡ Some given
     → (t : Exact) × (slice_get tellings which ≡ Some t) × IsTelling limits given t
 telling_at limits [] [] h which given at = absurd (none-some given at)
@@ -73,7 +74,7 @@ module _ {W S : Type 0} (state : W → S) (rules : Rules S) (g : Contents W) (al
     (r : Represents state rules g all) (node to : ℕ) (n : Lived W) (below : node < length g.nodes)
     (there : to < length g.nodes) (read : n ≡ slice_index_or g.nodes node n) (reports : List Telling) where
   abbrev Tells_to : Option Report → Happened → Type 0
-  Tells_to told answer = IsAfter state rules (record g { reports = reports }) (told_report all node to told) answer
+  Tells_to told answer = IsAfter state rules g (record g { reports = reports }) (told_report all node to told) answer
 
   shown : node_to.Represents state rules node (living n) (wary_of all node)
   shown = node_at state rules g all r node n below read
@@ -100,6 +101,7 @@ module _ {W S : Type 0} (state : W → S) (rules : Rules S) (g : Contents W) (al
       reports = subst (λ (ts : List Telling). AreTelling rules.limits (map given_of ts) all.reports) (sym same) r.reports;
     };
     answered = refl;
+    kept = keep_all g.nodes;
   }
 
   pub tells_none : None ≡ report_for (living n).survivor to → reports ≡ g.reports
@@ -135,6 +137,7 @@ module _ {W S : Type 0} (state : W → S) (rules : Rules S) (g : Contents W) (al
     };
     answered = ap Happened.Told (last ∙ sym (length-map g.reports given_of)
         ∙ as_many rules.limits (map given_of g.reports) all.reports r.reports);
+    kept = keep_all g.nodes;
   }
 
   pub tells_some : (given : Told) → Some given ≡ report_for (living n).survivor to
@@ -153,7 +156,7 @@ pub hears_report : {W S : Type 0} (state : W → S) (physics : Physics S) (g : C
     → which < length g.reports → entry ≡ slice_index_or g.reports which entry → to ≡ entry.to
     → report ≡ entry.report → to < length g.nodes → old ≡ slice_index_or g.nodes to old
     → Hears state physics entry.from report (living old) (living new) answer
-    → IsAfter state (rules_within physics limits) (record g { nodes = set g.nodes to new })
+    → IsAfter state (rules_within physics limits) g (record g { nodes = set g.nodes to new })
     (heard_at limits reached.last (slice_get reached.last.reports which)) (Happened.Reported answer)
 hears_report {W} {S} state physics g limits settings events answers reached which to entry report old new answer below
     is_entry is_to is_report inside read by =
@@ -180,12 +183,13 @@ hears_report {W} {S} state physics g limits settings events answers reached whic
     (λ e. found.2.apart (e ∙ is_to)) tells
     (λ phase can. told_can rules settings (window_of limits reached.game.vanilla) events all run which t there phase
     can) in
-    subst (λ (o : Option Exact). IsAfter state rules (record g { nodes = set g.nodes to new })
+    subst (λ (o : Option Exact). IsAfter state rules g (record g { nodes = set g.nodes to new })
     (heard_at limits all o) (Happened.Reported answer)) (sym there)
     (record {
       game = places_wary state rules g all reached.game to new inside
           (on_report limits to (wary_of all to) entry.from found.0.report).0 after.node;
       answered = ap Happened.Reported after.answer;
+      kept = keep_others g.nodes to old new inside read after.kept;
     })
 
 -- why the hearing of a report is refused

@@ -1,9 +1,10 @@
 -- A run is by the marks of the node's own world, and moves the world on by the row that it tells.
-use Rattle.std.proofs.Common.{◌≡◌, ◌<◌, ℕ, ℤ, pos, Bool, true, List, [], ◌∷◌, ◌++◌, length, fold, Option, Some, None, refl, ap, sym, ◌∙◌, subst, arith}
+use Rattle.std.proofs.Common.{◌≡◌, ◌≢◌, ◌<◌, ℕ, ℤ, pos, Bool, true, List, [], ◌∷◌, ◌++◌, length, fold, Option, Some, None, refl, ap, sym, ◌∙◌, subst, arith}
 use Rattle.std.specs.Prelude.{get_or, ◌==◌, if◌then◌else◌}
 use Rattle.std.specs.Option.{option_map}
 use Rattle.std.proofs.lemmas.Bool.{cond_both}
 use Rattle.std.proofs.lemmas.Option.{none-some}
+use Rattle.std.proofs.lemmas.List.{length_push}
 use Rattle.std.proofs.lemmas.List.Sums.{fold-append}
 use Rattle.std.proofs.Math.Seq.{take-length}
 use Rattle.dn_tic.specs.declared.command.Move.{Move}
@@ -27,6 +28,7 @@ use Rattle.dn_survivor.specs.Surviving.{has_given_up}
 use Rattle.dn_survivor.proofs.Steps as survivor
 use Rattle.dn_remain_game.specs.Living.{IsAfter, Living, Represents, Steps, on_node}
 use Rattle.dn_remain_game.proofs.Beside.{IsBeside, stays}
+use Rattle.dn_remain_game.proofs.Keeping.{keeps, keeps_till_run}
 use Rattle.dn_remain_game.proofs.Worlds.{beside}
 
 -- a run tells no row and leaves the world, or moves on by the row that it tells
@@ -109,6 +111,7 @@ module _ {W S : Type 0} (state : W → S) (physics : Physics S) (old new : Livin
     (answer : Ran) (row : Option (List (Option Move)))
     (by_own : (p : ℕ) → p < 4 → get_or marks p (pos 0) ≡ physics.mark (state old.world) p)
     (plays : old.survivor.lockstep.phase ≡ Playing → old.survivor.lockstep.played ≡ true)
+    (known : new.survivor.lockstep.played ≡ true → new.survivor.lockstep.settings ≢ None)
     (moves : (told : List (Option Move)) → row ≡ Some told
     → state new.world ≡ physics.step (state old.world) told) (stays_so : row ≡ None → new.world ≡ old.world)
     (others : new.survivor.others ≡ old.survivor.others)
@@ -142,13 +145,15 @@ module _ {W S : Type 0} (state : W → S) (physics : Physics S) (old new : Livin
         × (answer ≡ next.1) × (row ≡ row_told limits m next.1)
 
     go : (next : Node × Ran) → Runs limits m (marks_in marks) next → Went next
-        → IsAfter state rules me new (on_node wary next) (λ ran. answer ≡ ran)
+        → IsAfter state rules me old new (on_node wary next) (λ ran. answer ≡ ran)
     go next (Stays is none) step = record {
       node = record {
         survivor = step.0;
         world = beside state rules old.world new.world m next.0 (stays_so (step.2 ∙ none)) is r.world;
       };
       answer = step.1;
+      kept = keeps old new limits me m next.0 r.survivor.node step.0.node known (λ played. is.played ∙ played)
+          (stays_so (step.2 ∙ none));
     }
     go next (Moves on is some) step =
         let held : List (Option Move) = row_held limits m in
@@ -162,12 +167,15 @@ module _ {W S : Type 0} (state : W → S) (physics : Physics S) (old new : Livin
                 ∙ ap (λ (x : Node). own_world rules x (ran x)) (sym is);
           };
           answer = step.1;
+          kept = keeps_till_run old new limits me m next.0 r.survivor.node step.0.node known
+              (λ played. ap (λ (x : Node). x.played) is ∙ played)
+              (λ still. let further = ap ran is ∙ length_push m.rows held in absurd (omega (arith, still, further)));
         }
 
   pub runs : Steps state physics old new (λ rules me wary. on_node wary
       (on_run_but rules.limits wary.gone wary.node (own_marks rules wary.node))) (λ ran. answer ≡ ran)
   runs limits me wary r =
-      subst (λ (x : Node × Ran). IsAfter state (rules_within physics limits) me new (on_node wary x) (λ ran. answer ≡ ran))
+      subst (λ (x : Node × Ran). IsAfter state (rules_within physics limits) me old new (on_node wary x) (λ ran. answer ≡ ran))
       (same limits me wary r)
       (go limits me wary r _ (run_beside limits wary.gone wary.node (marks_in marks))
       (survivor.runs limits me old.survivor new.survivor wary r.survivor marks answer row locks others))

@@ -9,6 +9,7 @@ use Rattle.arrayvec.specs.ArrayVec.{ArrayVec}
 use Rattle.dn_machine.specs.declared.answers.Heard.{Heard}
 use Rattle.dn_machine.specs.declared.events.Done.{Done}
 use Rattle.dn_machine.specs.declared.events.Event.TheVariants.{Send, Deliver}
+use Rattle.dn_machine.specs.Drops as drops
 use Rattle.dn_machine.specs.Flight as exact
 use Rattle.dn_machine.specs.Flight.{is_near, packet_of}
 use Rattle.dn_machine.specs.Game.{delivered, posted, refused_flight, with_node}
@@ -31,9 +32,11 @@ use Rattle.dn_remain_game.specs.declared.under_way.Flight.{Flight}
 use Rattle.dn_remain_game.specs.Applied.{IsAfter}
 use Rattle.dn_remain_game.specs.Contents.{Contents}
 use Rattle.dn_remain_game.specs.Events.{in_game, own_unless}
+use Rattle.dn_remain_game.specs.Frame.{KeepWorlds}
 use Rattle.dn_remain_game.specs.Living as node_to
 use Rattle.dn_remain_game.specs.Living.{HearsNear, IsGiven, Living, Steps, Tells, living, on_node}
 use Rattle.dn_remain_game.specs.Represents.{Represents, IsCarried, flight_of}
+use Rattle.dn_remain_game.proofs.Keeping.{keep_others, keeps_same}
 use Rattle.dn_remain_game.proofs.Refusing.{near_unless}
 use Rattle.dn_remain_game.proofs.Standing.{flight_at, made_at, node_at, places, places_same}
 
@@ -56,7 +59,7 @@ module _ {W S : Type 0} (state : W → S) (rules : Rules S) (g : Contents W) (al
     (r : Represents state rules g all) (me to : ℕ) (new : Lived W) (below : me < length g.nodes)
     (inside : to < length g.nodes) (flights : List Flight) where
   abbrev Sends : Bool → Done → Type 0
-  Sends barred done = IsAfter state rules (record g { nodes = set g.nodes me new; flights = flights })
+  Sends barred done = IsAfter state rules g (record g { nodes = set g.nodes me new; flights = flights })
       (own_unless rules all (Send me to) barred) done
 
   asked : sent_to to rules.limits me (all.game.nodes me) ≡ on_send rules.limits me (all.game.nodes me) to
@@ -93,21 +96,22 @@ module _ {W S : Type 0} (state : W → S) (rules : Rules S) (g : Contents W) (al
   }
 
   -- a packet, by what the machine's node sends
-  posts : (o : Option exact.Flight) (m : machine.Node) (done : Done)
+  posts : (keep : KeepWorlds g.nodes (set g.nodes me new)) (o : Option exact.Flight) (m : machine.Node) (done : Done)
       → Represents state rules (record g { nodes = set g.nodes me new })
       (record all { game = with_node all.game me m })
       → ((o ≡ None) × (flights ≡ g.flights) × (done ≡ Done.Silent))
       ⊎ ((flight : exact.Flight) × (o ≡ Some flight) × IsCarried rules.players flight
       × (flights ≡ g.flights ++ flight_of flight ∷ []) × (done ≡ Done.Sent (length g.flights)))
-      → IsAfter state rules (record g { nodes = set g.nodes me new; flights = flights })
+      → IsAfter state rules g (record g { nodes = set g.nodes me new; flights = flights })
       (in_game all (posted (with_node all.game me m) o)) done
-  posts None m done shows (inl (none, same, is)) = record {
+  posts keep None m done shows (inl (none, same, is)) = record {
     game = kept same (record all { game = with_node all.game me m }) shows;
     answered = is;
+    kept = keep;
   }
-  posts None m done shows (inr (flight, some, carried, more, is)) = absurd (none-some flight some)
-  posts (Some sent) m done shows (inl (none, same, is)) = absurd (none-some sent (sym none))
-  posts (Some sent) m done shows (inr (flight, some, carried, more, is)) =
+  posts keep None m done shows (inr (flight, some, carried, more, is)) = absurd (none-some flight some)
+  posts keep (Some sent) m done shows (inl (none, same, is)) = absurd (none-some sent (sym none))
+  posts keep (Some sent) m done shows (inr (flight, some, carried, more, is)) =
       let one : sent ≡ flight = same_Some sent flight some in
       record {
         game = joined m (all.game.flights ++ sent ∷ []) shows
@@ -117,6 +121,7 @@ module _ {W S : Type 0} (state : W → S) (rules : Rules S) (g : Contents W) (al
             (All-push (IsCarried rules.players) all.game.flights sent r.carried
             (subst (IsCarried rules.players) (sym one) carried));
         answered = is ∙ ap Done.Sent (ap length r.flights ∙ length-map all.game.flights flight_of);
+        kept = keep;
       }
 
   abbrev asked_if : Bool → machine.Node × Option exact.Flight
@@ -124,38 +129,39 @@ module _ {W S : Type 0} (state : W → S) (rules : Rules S) (g : Contents W) (al
       if barred then (all.game.nodes me, None) else sent_to to rules.limits me (all.game.nodes me)
 
   unasked : (next : machine.Node × Option exact.Flight) → next ≡ on_send rules.limits me (all.game.nodes me) to
-      → (done : Done) → IsAfter state rules (record g { nodes = set g.nodes me new; flights = flights })
+      → (done : Done) → IsAfter state rules g (record g { nodes = set g.nodes me new; flights = flights })
       (in_game all (posted (with_node all.game me next.0) next.1)) done
       → Sends false done
   unasked next is done after =
       subst (λ (x : machine.Node × Option exact.Flight).
-      IsAfter state rules (record g { nodes = set g.nodes me new; flights = flights })
+      IsAfter state rules g (record g { nodes = set g.nodes me new; flights = flights })
       (in_game all (posted (with_node all.game me x.0) x.1)) done) is after
 
-  none_sent : (barred : Bool)
-      → node_to.IsAfter state rules me (living new) (on_node (wary_of all me) (asked_if barred))
+  none_sent : (keep : KeepWorlds g.nodes (set g.nodes me new)) (old : Living W) (barred : Bool)
+      → node_to.IsAfter state rules me old (living new) (on_node (wary_of all me) (asked_if barred))
       (λ flight. IsGiven None flight)
       → flights ≡ g.flights → Sends barred Done.Silent
-  none_sent true after same = record {
+  none_sent keep old true after same = record {
     game = kept same all (places_same state rules g all r me new below after.node);
     answered = refl;
+    kept = keep;
   }
-  none_sent false after same =
+  none_sent keep old false after same =
       let sent = sent_to to rules.limits me (all.game.nodes me) in
       unasked sent asked Done.Silent
-      (posts sent.1 sent.0 Done.Silent (places state rules g all r me new below sent.0 after.node)
+      (posts keep sent.1 sent.0 Done.Silent (places state rules g all r me new below sent.0 after.node)
       (inl (nothing_given sent.1 after.answer, same, refl)))
 
-  some_sent : (barred : Bool) (aim : Aim) (bytes : ArrayVec ℕ) (which : ℕ)
-      → node_to.IsAfter state rules me (living new) (on_node (wary_of all me) (asked_if barred))
+  some_sent : (keep : KeepWorlds g.nodes (set g.nodes me new)) (old : Living W) (barred : Bool) (aim : Aim) (bytes : ArrayVec ℕ) (which : ℕ)
+      → node_to.IsAfter state rules me old (living new) (on_node (wary_of all me) (asked_if barred))
       (λ flight. IsGiven (Some (aim, bytes)) flight)
       → me ≢ to
       → (barred ≡ false → IfSome (sent_to to rules.limits me (all.game.nodes me)).1 IsFair)
       → flights ≡ g.flights ++ packet_with me to aim bytes ∷ [] → which ≡ length g.flights
       → Sends barred (Done.Sent which)
-  some_sent true aim bytes which after apart fair more last =
+  some_sent keep old true aim bytes which after apart fair more last =
       absurd (none-some aim (sym after.answer.0))
-  some_sent false aim bytes which after apart fair more last =
+  some_sent keep old false aim bytes which after apart fair more last =
       let sent = sent_to to rules.limits me (all.game.nodes me) in
       let some = given_flight aim bytes sent.1 after.answer in
       let flight : exact.Flight = some.0 in
@@ -170,7 +176,7 @@ module _ {W S : Type 0} (state : W → S) (rules : Rules S) (g : Contents W) (al
         bytes = record { items = some.3 k };
       } in
       unasked sent asked (Done.Sent which)
-      (posts sent.1 sent.0 (Done.Sent which) (places state rules g all r me new below sent.0 after.node)
+      (posts keep sent.1 sent.0 (Done.Sent which) (places state rules g all r me new below sent.0 after.node)
       (inr (
         flight,
         some.1,
@@ -186,20 +192,22 @@ module _ {W S : Type 0} (state : W → S) (rules : Rules S) (g : Contents W) (al
 
   -- by what the node gave
   module _ (old : Lived W) (read : old ≡ slice_index_or g.nodes me old) (given : Option (Aim × ArrayVec ℕ))
-      (step : to < (living old).survivor.lockstep.players → Steps state rules.physics (living old) (living new)
+      (step : Steps state rules.physics (living old) (living new)
       (λ rules me wary. on_node wary (if wary.gone to then (wary.node, None)
       else sent_to to rules.limits me wary.node)) (λ flight. IsGiven given flight)) where
     shown : node_to.Represents state rules me (living old) (wary_of all me)
     shown = node_at state rules g all r me old below read
 
-    after : node_to.IsAfter state rules me (living new) (on_node (wary_of all me) (asked_if (all.gone me to)))
+    after : node_to.IsAfter state rules me (living old) (living new) (on_node (wary_of all me) (asked_if (all.gone me to)))
         (λ flight. IsGiven given flight)
-    after = step (omega (arith, inside, r.players, shown.survivor.node.whose.players)) rules.limits me (wary_of all me)
-        shown
+    after = step rules.limits me (wary_of all me) shown
+
+    keeps : KeepWorlds g.nodes (set g.nodes me new)
+    keeps = keep_others g.nodes me old new below read after.kept
 
     pub sends_none : given ≡ None → flights ≡ g.flights → Sends (all.gone me to) Done.Silent
     sends_none is same =
-        none_sent (all.gone me to) (subst (λ (x : Option (Aim × ArrayVec ℕ)). node_to.IsAfter state rules me (living new)
+        none_sent keeps (living old) (all.gone me to) (subst (λ (x : Option (Aim × ArrayVec ℕ)). node_to.IsAfter state rules me (living old) (living new)
         (on_node (wary_of all me) (asked_if (all.gone me to))) (λ flight. IsGiven x flight)) is after) same
 
     pub sends_some : (aim : Aim) (bytes : ArrayVec ℕ) (which : ℕ) → given ≡ Some (aim, bytes)
@@ -211,8 +219,8 @@ module _ {W S : Type 0} (state : W → S) (rules : Rules S) (g : Contents W) (al
     sends_some aim bytes which is peer fair more last =
         let gives : Gives (living old).survivor.lockstep to =
         subst (λ (x : Option (Aim × ArrayVec ℕ)). IfSome x (λ given. Gives (living old).survivor.lockstep to)) is peer in
-        some_sent (all.gone me to) aim bytes which (subst (λ (x : Option (Aim × ArrayVec ℕ)).
-        node_to.IsAfter state rules me (living new) (on_node (wary_of all me) (asked_if (all.gone me to)))
+        some_sent keeps (living old) (all.gone me to) aim bytes which (subst (λ (x : Option (Aim × ArrayVec ℕ)).
+        node_to.IsAfter state rules me (living old) (living new) (on_node (wary_of all me) (asked_if (all.gone me to)))
         (λ flight. IsGiven x flight)) is after)
         (λ e. gives.other (sym e ∙ sym shown.survivor.node.whose.number))
         (fair rules.limits me (wary_of all me) shown) more last
@@ -225,27 +233,30 @@ module _ {W S : Type 0} (state : W → S) (physics : Physics S) (g : Contents W)
   rules = rules_within physics limits
 
   comes_to : (flight : exact.Flight) → slice_get all.game.flights which ≡ Some flight → to ≡ flight.to
-      → to < length g.nodes → (barred : Bool) → all.gone to flight.from ≡ barred
-      → (barred ≡ true → (heard ≡ Heard.Dropped 15) × node_to.Represents state rules to (living new) (wary_of all to))
-      → (barred ≡ false → node_to.IsAfter state rules to (living new)
+      → to < length g.nodes → old ≡ slice_index_or g.nodes to old → (barred : Bool) → all.gone to flight.from ≡ barred
+      → (barred ≡ true → (heard ≡ Heard.Dropped drops.given_up)
+      × node_to.Represents state rules to (living new) (wary_of all to) × (living new ≡ living old))
+      → (barred ≡ false → node_to.IsAfter state rules to (living old) (living new)
       (on_node (wary_of all to) (on_packet limits to (all.game.nodes to) flight)) (λ x. heard ≡ x))
-      → IsAfter state rules (record g { nodes = set g.nodes to new })
+      → IsAfter state rules g (record g { nodes = set g.nodes to new })
       (own_unless rules all (Deliver which) barred) (Done.Heard heard)
-  comes_to flight there goes inside true gone dropped hears = record {
+  comes_to flight there goes inside read true gone dropped hears = record {
     game = places_same state rules g all r to new inside (dropped refl).1;
     answered = ap Done.Heard (dropped refl).0;
+    kept = keep_others g.nodes to old new inside read (keeps_same (living old) (living new) (sym (dropped refl).2));
   }
-  comes_to flight there goes inside false gone dropped hears =
+  comes_to flight there goes inside read false gone dropped hears =
       let after = hears refl in
-      let P : ℕ → Type 0 = λ k. IsAfter state rules (record g { nodes = set g.nodes to new }) (in_game all (
+      let P : ℕ → Type 0 = λ k. IsAfter state rules g (record g { nodes = set g.nodes to new }) (in_game all (
         with_node all.game k (on_packet limits k (all.game.nodes k) flight).0,
         Done.Heard (on_packet limits k (all.game.nodes k) flight).1,
       )) (Done.Heard heard) in
-      subst (λ (o : Option exact.Flight). IsAfter state rules (record g { nodes = set g.nodes to new })
+      subst (λ (o : Option exact.Flight). IsAfter state rules g (record g { nodes = set g.nodes to new })
       (in_game all (delivered rules all.game o)) (Done.Heard heard)) (sym there)
       (subst P goes (record {
         game = places state rules g all r to new inside (on_packet limits to (all.game.nodes to) flight).0 after.node;
         answered = ap Done.Heard after.answer;
+        kept = keep_others g.nodes to old new inside read after.kept;
       }))
 
   pub delivers : refused_flight all.game (slice_get all.game.flights which) ≡ None
@@ -254,8 +265,8 @@ module _ {W S : Type 0} (state : W → S) (physics : Physics S) (g : Contents W)
       → (has_given_up (living old).survivor entry.from ≡ false
       → HearsNear state physics entry.from bytes (living old) (living new) heard)
       → (has_given_up (living old).survivor entry.from ≡ true
-      → (heard ≡ Heard.Dropped 15) × (living new ≡ living old))
-      → IsAfter state rules (record g { nodes = set g.nodes to new })
+      → (heard ≡ Heard.Dropped drops.given_up) × (living new ≡ living old))
+      → IsAfter state rules g (record g { nodes = set g.nodes to new })
       (own_unless rules all (Deliver which) (is_barred all (Deliver which))) (Done.Heard heard)
   delivers free is_entry bytes is_bytes is_to read hears barred =
       let at = flight_at state rules g all r which below in
@@ -273,10 +284,11 @@ module _ {W S : Type 0} (state : W → S) (physics : Physics S) (g : Contents W)
       shown.survivor.others.given_up entry.from sender ∙ ap (all.gone to) comes in
       let same : all.gone to flight.from ≡ is_barred all (Deliver which) =
       ap (λ (k : ℕ). all.gone k flight.from) goes ∙ sym (ap (is_barred_flight all) at.1.there) in
-      comes_to flight at.1.there goes inside (is_barred all (Deliver which)) same
+      comes_to flight at.1.there goes inside read (is_barred all (Deliver which)) same
       (λ gone. let b = barred (known ∙ same ∙ gone) in (
         b.0,
         subst (λ (n : Living W). node_to.Represents state rules to n (wary_of all to)) (sym b.1) shown,
+        b.1,
       ))
       (λ open_to. hears (known ∙ same ∙ open_to) flight at.1.carried.fair
       (is_bytes ∙ ap (λ (f : Flight). f.bytes.items) of) (sym comes)

@@ -1,5 +1,5 @@
 -- No answer to an event tells of a failed check, or of an end that was not taken.
-use Rattle.std.proofs.Common.{◌≡◌, ◌≢◌, ◌++◌, ℕ, ℤ, Bool, true, false, true≢false, List, [], ◌∷◌, Option, Some, None, Result, Ok, Err, refl, ap, sym, ◌∙◌, subst, inl, inr, arith}
+use Rattle.std.proofs.Common.{◌≡◌, ◌++◌, ℕ, ℤ, Bool, true, false, true≢false, List, [], ◌∷◌, Option, Some, None, Result, Ok, Err, refl, ap, sym, ◌∙◌, subst, inl, inr, arith}
 use Rattle.std.specs.Prelude.{◌⊎◌, All, nat_lt, slice_get}
 use Rattle.std.proofs.lemmas.Bool.{cond-false, ltb-true}
 use Rattle.std.proofs.lemmas.List.Elements.{All-cons, All-nil}
@@ -23,7 +23,6 @@ use Rattle.dn_machine.specs.Sending.{on_send}
 use Rattle.dn_machine.specs.Worlds.{Rules}
 use Rattle.dn_machine.proofs.Put.{put_at}
 use Rattle.dn_remain.specs.declared.events.GivenUp as remain_given
-use Rattle.dn_remain.specs.declared.events.Reported as remain_reported
 use Rattle.dn_remain.specs.declared.events.RemainEvent.{RemainEvent}
 use Rattle.dn_remain.specs.declared.events.RemainEvent.TheVariants.{Own, GiveUp, Tell, Hear}
 use Rattle.dn_remain.specs.Promise.{SteadyInPairs}
@@ -32,15 +31,13 @@ use Rattle.dn_remain.specs.RunsRemain.{LeadsRemain, NextRemain, RunsRemain}
 use Rattle.dn_remain.specs.Wary.{Report, on_give_up, on_report, report_to}
 use Rattle.dn_remain.proofs.Reached.{reached_by}
 use Rattle.dn_remain.proofs.Steady.{pairs_steady}
-use Rattle.dn_lockstep.specs.declared.lockstep.settling.Settled.{Settled}
-use Rattle.dn_survivor.specs.declared.answers.GivenUp.{GivenUp}
-use Rattle.dn_survivor.specs.declared.answers.Reported.{Reported}
-use Rattle.dn_survivor.specs.Represents.{given_up_is, reported_is}
+use Rattle.dn_survivor.specs.Represents.{given_up_is}
 use Rattle.dn_remain_game.specs.declared.happened.Happened.{Happened}
 use Rattle.dn_remain_game.specs.Applied.{Answers, Plays}
 use Rattle.dn_remain_game.specs.Events.{applied_remain, applied_remain_if, heard_at, on_own, own_unless, refused_remain, told_report}
 use Rattle.dn_remain_game.specs.Promised.{IsSteady}
 use Rattle.dn_remain_game.proofs.Answering.{answers_next, applied_next}
+use Rattle.dn_remain_game.proofs.SurvivorAnswers.{is_dropped, is_excluded, never_improper, not_out, taken_given, taken_reported}
 
 -- a run that is answered by a mark that is off ends the node for it
 off_ends : (limits : Limits) (gone : ℕ → Bool) (node : Node) (marks : ℕ → ℤ) (player : ℕ) (was should : ℤ)
@@ -48,23 +45,6 @@ off_ends : (limits : Limits) (gone : ℕ → Bool) (node : Node) (marks : ℕ �
     → (on_run_but limits gone node marks).0.phase ≡ Ended (Cause.Inconsistent player was should)
 unfolding on_run_but
 off_ends limits gone node marks player was should e = grind arith
-
--- each end that the node decides is taken
-taken_given : (answer : remain_given.GivenUp) (player : ℕ) (reason : Settled)
-    → given_up_is answer ≢ GivenUp.Untaken player reason
-taken_given remain_given.GivenUp.Waiting player reason e = cc
-taken_given remain_given.GivenUp.Decided player reason e = cc
-taken_given remain_given.GivenUp.Already player reason e = cc
-taken_given remain_given.GivenUp.NotAPlayer player reason e = cc
-taken_given remain_given.GivenUp.NotPlaying player reason e = cc
-
-taken_reported : (answer : remain_reported.Reported) (player : ℕ) (reason : Settled)
-    → reported_is answer ≢ Reported.Untaken player reason
-taken_reported remain_reported.Reported.Kept player reason e = cc
-taken_reported remain_reported.Reported.Decided player reason e = cc
-taken_reported remain_reported.Reported.Excluded player reason e = cc
-taken_reported remain_reported.Reported.Stale player reason e = cc
-taken_reported (remain_reported.Reported.Dropped number) player reason e = cc
 
 -- an answer of another kind
 abbrev is_other : Result Happened Refusal → Bool
@@ -80,10 +60,13 @@ other_steady answer other = record {
   kept = λ number e. absurd (true≢false (sym other ∙ ap is_other e));
   given = λ player reason e. absurd (true≢false (sym other ∙ ap is_other e));
   reported = λ player reason e. absurd (true≢false (sym other ∙ ap is_other e));
+  heard = λ number e. absurd (true≢false (sym other ∙ ap is_other e));
+  included = λ e. absurd (true≢false (sym other ∙ ap is_other e));
+  proper = λ e. absurd (true≢false (sym other ∙ ap is_other e));
 }
 
 module _ {S : Type 0} (rules : Rules S) (settings : Settings) (window : IsWindow rules.limits) where
-  steady_at : (events : List RemainEvent) (all : Remaining) → RunsRemain rules settings events all
+  pub steady_at : (events : List RemainEvent) (all : Remaining) → RunsRemain rules settings events all
       → SteadyInPairs rules.limits all
   steady_at events all run =
       let known = reached_by rules settings events all run in
@@ -106,13 +89,16 @@ module _ {S : Type 0} (rules : Rules S) (settings : Settings) (window : IsWindow
 
     heard_so : (heard : Heard)
         → ((number : ℕ) → heard ≡ Heard.Dropped number
-        → (number ≡ drops.out_of_place) ⊎ ((number ≡ drops.not_playing) ⊎ (number ≡ 15)))
+        → (number ≡ drops.out_of_place) ⊎ ((number ≡ drops.not_playing) ⊎ (number ≡ drops.given_up)))
         → IsSteady (Ok (Happened.Own (Done.Heard heard)))
     heard_so heard why = record {
       consistent = λ player was should e. absurd (cc);
       kept = λ number e. why number (cc);
       given = λ player reason e. absurd (cc);
       reported = λ player reason e. absurd (cc);
+      heard = λ number e. absurd (cc);
+      included = λ e. absurd (cc);
+      proper = λ e. absurd (cc);
     }
 
     delivers : (which : ℕ) (o : Option Flight) → slice_get all.game.flights which ≡ o
@@ -122,7 +108,7 @@ module _ {S : Type 0} (rules : Rules S) (settings : Settings) (window : IsWindow
     delivers which (Some flight) there free =
         heard_so (on_packet rules.limits flight.to (all.game.nodes flight.to) flight).1 (λ number e.
         elim ((steady_at events all run).kept which flight number there (cond-false (all.gone flight.to flight.from)
-        (Heard.Dropped 15) (on_packet rules.limits flight.to (all.game.nodes flight.to) flight).1 free ∙ e)) [
+        (Heard.Dropped drops.given_up) (on_packet rules.limits flight.to (all.game.nodes flight.to) flight).1 free ∙ e)) [
           | inl one ↦ inl one
           | inr (inl two) ↦ inr (inl two)
           | inr (inr three) ↦ inr (inr three.0)
@@ -146,6 +132,9 @@ module _ {S : Type 0} (rules : Rules S) (settings : Settings) (window : IsWindow
           kept = λ number e. absurd (cc);
           given = λ player reason e. absurd (cc);
           reported = λ player reason e. absurd (cc);
+          heard = λ number e. absurd (cc);
+          included = λ e. absurd (cc);
+          proper = λ e. absurd (cc);
         }
       where
         inside : (node : ℕ) → refused_at rules.players all.game node ≡ None → nat_lt node rules.players ≡ true
@@ -158,7 +147,7 @@ module _ {S : Type 0} (rules : Rules S) (settings : Settings) (window : IsWindow
     own_by (Build node keys) true bar free next = other_steady _ refl
     own_by (Give node command) true bar free next = other_steady _ refl
     own_by (Send node to) true bar free next = other_steady _ refl
-    own_by (Deliver which) true bar free next = heard_so (Heard.Dropped 15) (λ number e. inr (inr (cc)))
+    own_by (Deliver which) true bar free next = heard_so (Heard.Dropped drops.given_up) (λ number e. inr (inr (cc)))
     own_by (Run node) true bar free next = other_steady _ refl
     own_by (Quit node) true bar free next = other_steady _ refl
     own_by (Stop node) true bar free next = other_steady _ refl
@@ -181,17 +170,29 @@ module _ {S : Type 0} (rules : Rules S) (settings : Settings) (window : IsWindow
       kept = λ number e. absurd (cc);
       given = λ player reason e. taken_given given player reason (cc);
       reported = λ player reason e. absurd (cc);
+      heard = λ number e. absurd (cc);
+      included = λ e. absurd (cc);
+      proper = λ e. absurd (cc);
     }
 
-    hears : (o : Option Telling) → IsSteady (Ok (heard_at rules.limits all o).1)
-    hears None = other_steady (Ok Happened.Untold) refl
-    hears (Some t) =
+    hears : (which : ℕ) (o : Option Telling) → slice_get all.reports which ≡ o
+        → IsSteady (Ok (heard_at rules.limits all o).1)
+    hears which None there = other_steady (Ok Happened.Untold) refl
+    hears which (Some t) there =
         let answer = (on_report rules.limits t.to (wary_of all t.to) t.from t.report).1 in
         record {
           consistent = λ player was should e. absurd (cc);
           kept = λ number e. absurd (cc);
           given = λ player reason e. absurd (cc);
           reported = λ player reason e. taken_reported answer player reason (cc);
+          heard = λ number e. elim ((steady_at events all run).reports which t number there
+              (is_dropped answer number (cc))) [
+                | inl out ↦ inl out
+                | inr gone ↦ inr gone.0
+              ];
+          included = λ e. not_out rules.limits t.to (wary_of all t.to) t.from t.report
+              ((reached_by rules settings events all run).1.told which t there).1 (is_excluded answer (cc));
+          proper = λ e. never_improper answer (cc);
         }
 
     by_refusal : (event : RemainEvent) (o : Option Refusal) → refused_remain rules.players all event ≡ o
@@ -202,7 +203,7 @@ module _ {S : Type 0} (rules : Rules S) (settings : Settings) (window : IsWindow
     by_refusal (GiveUp node player) None is next =
         gives_up (on_give_up rules.limits node (wary_of all node) player).1
     by_refusal (Tell node to) None is next = tells node to (report_to rules.limits node (wary_of all node) to)
-    by_refusal (Hear which) None is next = hears (slice_get all.reports which)
+    by_refusal (Hear which) None is next = hears which (slice_get all.reports which) refl
 
     applied_steady : (event : RemainEvent) → NextRemain rules all event (applied_remain rules all event).0
         → IsSteady (applied_remain rules all event).1

@@ -1,5 +1,5 @@
 -- A step of the lockstep alone is one of the node.
-use Rattle.std.proofs.Common.{◌≡◌, ℕ}
+use Rattle.std.proofs.Common.{◌≡◌, ◌≢◌, ℕ, true, None, ◌∙◌}
 use Rattle.dn_world.specs.Physics.{Physics}
 use Rattle.dn_machine.specs.Limits.{Limits}
 use Rattle.dn_machine.specs.Node.{Node}
@@ -8,23 +8,28 @@ use Rattle.dn_lockstep.specs.Steps as lockstep
 use Rattle.dn_survivor.proofs.Steps.{stepped}
 use Rattle.dn_remain_game.specs.Living.{Living, Steps, on_node}
 use Rattle.dn_remain_game.proofs.Beside.{IsBeside}
+use Rattle.dn_remain_game.proofs.Keeping.{keeps}
 use Rattle.dn_remain_game.proofs.Worlds.{beside}
 
 pub steps_alone : {W S A : Type 0} (state : W → S) (physics : Physics S) (old new : Living W)
     (step : Limits → ℕ → Node → Node × A) (IsAnswer : A → Type 0)
     → lockstep.Steps old.survivor.lockstep new.survivor.lockstep step IsAnswer
-    → new.survivor.others ≡ old.survivor.others → new.world ≡ old.world
+    → new.survivor.others ≡ old.survivor.others
+    → (new.survivor.lockstep.played ≡ true → new.survivor.lockstep.settings ≢ None) → new.world ≡ old.world
     → ((limits : Limits) (me : ℕ) (m : Node) → IsBeside m (step limits me m).0)
     → Steps state physics old new (λ rules me wary. on_node wary (step rules.limits me wary.node)) IsAnswer
-steps_alone state physics old new step IsAnswer locks others same leaves limits me wary r =
+steps_alone state physics old new step IsAnswer locks others known same leaves limits me wary r =
     let rules = rules_within physics limits in
     let after = locks.step limits me wary.node r.survivor.node in
+    let is = leaves limits me wary.node in
     record {
       node = record {
         survivor = stepped limits me old.survivor new.survivor wary (step limits me wary.node).0 r.survivor
             after.node others;
         world = beside state rules old.world new.world wary.node (step limits me wary.node).0 same
-            (leaves limits me wary.node) r.world;
+            is r.world;
       };
       answer = after.answer;
+      kept = keeps old new limits me wary.node (step limits me wary.node).0 r.survivor.node after.node known
+          (λ played. is.played ∙ played) same;
     }

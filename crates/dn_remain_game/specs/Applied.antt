@@ -15,6 +15,7 @@ use Rattle.dn_remain.specs.declared.events.RemainEvent.TheVariants.{Own, GiveUp,
 use Rattle.dn_remain_game.specs.declared.happened.Happened.{Happened}
 use Rattle.dn_remain_game.specs.Contents.{Contents}
 use Rattle.dn_remain_game.specs.Events.{applied_remain, asks_room, own_unless, refused_remain}
+use Rattle.dn_remain_game.specs.Frame.{KeepWorlds}
 use Rattle.dn_remain_game.specs.Represents.{Represents}
 
 -- whatever game it represents, this holds of that one
@@ -57,11 +58,12 @@ TellsReached state physics g Fact =
     → (reached : IsReached state (rules_within physics limits) settings events answers g)
     → Fact (rules_within physics limits) reached.last
 
--- the game represents this one, and this is the answer
-pub record IsAfter {W S A : Type 0} (state : W → S) (rules : Rules S) (new : Contents W)
+-- the game represents this one, this is the answer, and each node moves its world only where it starts or runs
+pub record IsAfter {W S A : Type 0} (state : W → S) (rules : Rules S) (old new : Contents W)
     (after : Remaining × A) (answer : A) : Type 0 where
   pub game : Represents state rules new after.0
   pub answered : answer ≡ after.1
+  pub kept : KeepWorlds old.nodes new.nodes
 
 -- an event is left out since memory was refused, and nothing changes
 pub record IsLeftOut {W : Type 0} (old new : Contents W) (event : RemainEvent)
@@ -74,15 +76,15 @@ pub record IsLeftOut {W : Type 0} (old new : Contents W) (event : RemainEvent)
 abbrev pub IsApplied : {W S : Type 0} → (W → S) → Rules S → Contents W → Contents W → Remaining → RemainEvent
     → Result Happened Refusal → Type 0
 IsApplied state rules old new all event answer =
-    IsAfter state rules new (applied_remain rules all event) answer
+    IsAfter state rules old new (applied_remain rules all event) answer
     ⊎ ((refused_remain rules.players all event ≡ None) × IsLeftOut old new event answer)
 
 -- the same of an event of the machine that is not refused
-abbrev pub IsAppliedOwn : {W S : Type 0} → (W → S) → Rules S → Contents W → Remaining → Event
+abbrev pub IsAppliedOwn : {W S : Type 0} → (W → S) → Rules S → Contents W → Contents W → Remaining → Event
     → Result Done Refusal → Type 0
-IsAppliedOwn state rules new all event answer =
+IsAppliedOwn state rules old new all event answer =
     ((done : Done) × (answer ≡ Ok done)
-    × IsAfter state rules new (own_unless rules all event (is_barred all event)) done)
+    × IsAfter state rules old new (own_unless rules all event (is_barred all event)) done)
     ⊎ (IsTrue (is_send event) × (answer ≡ Err Refusal.Memory))
 
 -- the nodes and the packet that an event names are there

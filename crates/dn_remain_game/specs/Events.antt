@@ -5,6 +5,7 @@ use Rattle.dn_machine.specs.declared.events.Done.{Done}
 use Rattle.dn_machine.specs.declared.events.Event.{Event}
 use Rattle.dn_machine.specs.declared.events.Event.TheVariants.{Send, Deliver, Run}
 use Rattle.dn_machine.specs.declared.events.Refusal.{Refusal}
+use Rattle.dn_machine.specs.Drops as drops
 use Rattle.dn_machine.specs.Game.{Game, on_event, own_marks, refused, refused_at, with_node}
 use Rattle.dn_machine.specs.Limits.{Limits}
 use Rattle.dn_machine.specs.Running.{on_run_but}
@@ -31,7 +32,7 @@ in_game all after = (record all { game = after.0 }, after.1)
 -- what is answered that is barred: a node has no packet for one whom it has given up, and drops what comes
 -- from one
 abbrev pub barred_done : Event → Done
-barred_done (Deliver which) = Done.Heard (Heard.Dropped 15)
+barred_done (Deliver which) = Done.Heard (Heard.Dropped drops.given_up)
 barred_done event = Done.Silent
 
 -- what is barred changes nothing

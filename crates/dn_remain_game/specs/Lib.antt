@@ -1,9 +1,11 @@
 pub mod Living
 pub mod Contents
+pub mod Frame
 pub mod Represents
 pub mod Events
 pub mod Applied
 pub mod Room
+pub mod Told
 pub mod Opening
 pub mod Fresh
 pub mod InputsMade

@@ -22,7 +22,7 @@ use Rattle.dn_lockstep.specs.Near.{IsFair}
 use Rattle.dn_lockstep.specs.Received.{received, IsTold}
 use Rattle.dn_lockstep.specs.Sent.{aim_of, bytes_of}
 use Rattle.dn_lockstep.specs.Settling.{is_no_peer}
-use Rattle.dn_lockstep.specs.Told.{made}
+use Rattle.dn_lockstep.specs.Told.{HasStarted, made}
 use Rattle.dn_others.specs.Represents as others
 use Rattle.dn_remain.specs.Wary.{Report as Held, Wary, can_settle, is_in_game, on_give_up, on_report, with_gone, with_report}
 use Rattle.dn_survivor.specs.declared.answers.GivenUp.{GivenUp}
@@ -49,18 +49,25 @@ pub record Represents {W S : Type 0} (state : W → S) (rules : Rules S) (me : �
   pub survivor : survivor_to.Represents rules.limits me n.survivor wary
   pub world : HasWorld state rules n.world wary.node
 
--- it represents the node after a step, and answers as the step does
-pub record IsAfter {W S A : Type 0} (state : W → S) (rules : Rules S) (me : ℕ) (n : Living W) (after : Wary × A)
-    (IsAnswer : A → Type 0) : Type 0 where
-  pub node : Represents state rules me n after.0
+-- whoever has started stays so; and a node that neither starts nor runs a tic has the very world that it had
+pub record KeepsWorld {W : Type 0} (old new : Living W) : Type 0 where
+  pub begun : HasStarted old.survivor.lockstep → HasStarted new.survivor.lockstep
+  pub world : (HasStarted new.survivor.lockstep → HasStarted old.survivor.lockstep)
+      → new.survivor.lockstep.ran ≡ old.survivor.lockstep.ran → new.world ≡ old.world
+
+-- it represents the node after a step, answers as the step does, and moves its world only where it starts or runs
+pub record IsAfter {W S A : Type 0} (state : W → S) (rules : Rules S) (me : ℕ) (old new : Living W)
+    (after : Wary × A) (IsAnswer : A → Type 0) : Type 0 where
+  pub node : Represents state rules me new after.0
   pub answer : IsAnswer after.1
+  pub kept : KeepsWorld old new
 
 -- whatever node it represented, it represents afterwards what the step makes of that one
 abbrev pub Steps : {W S A : Type 0} → (W → S) → Physics S → Living W → Living W
     → (Rules S → ℕ → Wary → Wary × A) → (A → Type 0) → Type 0
 Steps state physics old new by IsAnswer =
     (limits : Limits) (me : ℕ) (wary : Wary) → Represents state (rules_within physics limits) me old wary
-    → IsAfter state (rules_within physics limits) me new (by (rules_within physics limits) me wary) IsAnswer
+    → IsAfter state (rules_within physics limits) me old new (by (rules_within physics limits) me wary) IsAnswer
 
 -- whatever node it represents, this holds of that one
 abbrev pub Tells : {W S : Type 0} → (W → S) → Physics S → Living W → (Rules S → ℕ → Wary → Type 0) → Type 0
@@ -102,7 +109,7 @@ GivesUp state physics player old new answer =
     → (is_in_game wary.node.phase ≡ true → is_no_peer limits.players me player ≡ false
     → can_settle limits me (with_gone limits wary player) ≡ true
     → CanTakeAll limits me (with_gone limits wary player))
-    → IsAfter state (rules_within physics limits) me new (on_give_up limits me wary player)
+    → IsAfter state (rules_within physics limits) me old new (on_give_up limits me wary player)
     (λ given. answer ≡ given_up_is given)
 
 -- a true report is heard, where what is then decided can be taken
@@ -113,5 +120,5 @@ Hears state physics from report old new answer =
     → others.Tells limits.players limits.places me from told report
     → (is_in_game wary.node.phase ≡ true → can_settle limits me (with_report wary from told) ≡ true
     → CanTakeAll limits me (with_report wary from told))
-    → IsAfter state (rules_within physics limits) me new (on_report limits me wary from told)
+    → IsAfter state (rules_within physics limits) me old new (on_report limits me wary from told)
     (λ reported. answer ≡ reported_is reported)

@@ -15,6 +15,6 @@ pub enum Happened {
     Told(usize),
     /// The node had no report to give.
     Untold,
-    /// The receiver's answer to a report. It is never `Untaken` or `Improper`.
+    /// The receiver's answer to a report. It is never `Untaken`, `Excluded` or `Improper`.
     Reported(Reported),
 }

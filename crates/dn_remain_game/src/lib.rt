@@ -11,6 +11,7 @@ mod game;
 #[cfg(test)]
 mod game_tests;
 mod happened;
+mod laws;
 mod lived;
 mod playing;
 #[cfg(test)]
@@ -24,6 +25,7 @@ pub use dn_remain::RemainEvent;
 pub use dn_survivor::{GivenUp, Reported, Survivor};
 pub use game::Game;
 pub use happened::Happened;
+pub use laws::reached_remaining_games_agree;
 pub use lived::Lived;
 pub use playing::{Played, play_remaining};
 pub use under_way::{Flight, Telling};

@@ -28,7 +28,7 @@ impl<W: World> Lived<W> {
 
     /// A node with no history, that has given up nobody: player 0 gathers, the others listen. All memory that
     /// it needs is taken here; the world is given up where there is no node.
-    pub fn new(alloc: Global, config: Config, world: W) -> Result<Lived<W>, NodeFault>
+    pub(crate) fn new(alloc: Global, config: Config, world: W) -> Result<Lived<W>, NodeFault>
         ensures admitted { IsAdmitted config result }
         ensures opened { IfOk result (λ node. (settings : Choice)
             → (config.me ≡ 0 → config.settings ≡ Some settings)

@@ -1,8 +1,11 @@
 //! Playing a list of events in which players may be given up.
 
 ghost use Rattle.std.specs.Prelude.{◌≡◌, ◌+◌, ◌<◌, ◌^◌, length, IfOk};
+ghost use Rattle.dn_remain_game.specs.Contents.{contents};
+ghost use Rattle.dn_remain_game.specs.Frame.{KeepGiven};
 ghost use Rattle.dn_remain_game.specs.Opening.{IsAdmitted, rules_in};
 ghost use Rattle.dn_remain_game.specs.Promised.{HasPlayed};
+ghost use Rattle.dn_remain_game.specs.Room.{IsWithinTwice};
 
 use crate::config::{GameConfig, GameFault};
 use crate::game::Game;
@@ -53,6 +56,10 @@ pub fn play_remaining<W: World>(
     // refused, and each is counted by its answer. The game that is left is promised.
     ensures promised { IfOk result (λ played. HasPlayed W.state
         (rules_in W.physics config (length worlds.items)) config.settings events.now played) }
+    // A node that has not started has the world that was given for it.
+    ensures given { IfOk result (λ played. KeepGiven worlds.items (contents played.game)) }
+    // There is memory for no more than twice the packets and the reports that there are, and one.
+    ensures room { IfOk result (λ played. IsWithinTwice played.game) }
 {
     let game = Game::new(alloc, config, worlds)?;
     let mut played = Played {

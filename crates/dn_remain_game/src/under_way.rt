@@ -1,11 +1,13 @@
 //! Packets and reports under way.
 
-ghost use Rattle.std.specs.Prelude.{◌≡◌};
+ghost use Rattle.std.specs.Prelude.{◌≡◌, ◌<◌, ◌≤◌, ◌+◌, ◌*◌, OnOk, OnErr, vec_len};
+ghost use Rattle.std.specs.Vec.{vec_capacity};
 
 use arrayvec::ArrayVec;
 use dn_lockstep::Aim;
 use dn_packet::MAX_DATAGRAM;
 use dn_report::{Report, Tail};
+use std::alloc::AllocError;
 
 /// A packet that was sent. It stays where it is, however often it is delivered.
 #[derive(Debug, Drop, PartialEq, Eq)]
@@ -29,6 +31,22 @@ pub struct Telling {
     pub to: u8,
     /// What is told.
     pub report: Report,
+}
+
+/// Makes room for one more: where there is none, for twice as many as there are, or for the first.
+pub(crate) fn grow<T>(list: &mut Vec<T>) -> Result<(), AllocError>
+    ensures items { list.new.items ≡ list.old.items }
+    ensures len { vec_len list.new ≡ vec_len list.old }
+    ensures ok { OnOk result (vec_len list.new + 1 ≤ vec_capacity list.new) }
+    ensures full { OnErr result (vec_capacity list.new < vec_len list.new + 1) }
+    ensures within { vec_capacity list.old ≤ 2 * vec_len list.old + 1
+        → vec_capacity list.new ≤ 2 * vec_len list.new + 1 }
+{
+    let count = list.len();
+    if count < list.capacity() {
+        return Ok(());
+    }
+    list.reserve_exact(count.max(1))
 }
 
 /// The same of a player once more.

@@ -16,16 +16,19 @@ impl<W: World> Game<W> {
     ghost use Rattle.dn_remain_game.specs.Applied.{IsAddressedOwn, IsApplied, IsAppliedOwn, Tells, TellsReached};
     ghost use Rattle.dn_remain_game.specs.Events.{asks_room};
     ghost use Rattle.dn_remain_game.specs.Promised.{IsCarriedOn};
-    ghost use Rattle.dn_remain_game.specs.Room.{IsFull, LacksRoom};
+    ghost use Rattle.dn_remain_game.specs.Told.{HasTold};
+    ghost use Rattle.dn_remain_game.specs.Room.{IsFull, LacksRoom, StaysWithin};
 
     /// Applies an event of the game of `dn_machine` that is not refused but for want of memory.
     fn apply_own(&mut self, event: Event) -> Result<Done, Refusal>
         requires { IsAddressedOwn (contents self.old) event }
         ensures applied { Tells W.state W.physics (contents self.old) (λ rules all.
             refused rules.players all.game event ≡ None
-            → IsAppliedOwn W.state rules (contents self.new) all event result) }
+            → IsAppliedOwn W.state rules (contents self.old) (contents self.new) all event result) }
         ensures unchanged { OnErr result (contents self.new ≡ contents self.old) }
         ensures memory { OnErr result ((is_send event ≡ true) × IsFull self.new) }
+        ensures reports { self.new.reports ≡ self.old.reports }
+        ensures room { StaysWithin self.old self.new }
     {
         Ok(match event {
             Event::Build { node, keys } => Done::Built(self.build(node, keys)),
@@ -52,6 +55,10 @@ impl<W: World> Game<W> {
         ensures unchanged { OnErr result (contents self.new ≡ contents self.old) }
         // `Memory` is answered only where there is no room for one more packet, or one more report.
         ensures memory { result ≡ Err Refusal.Memory → (asks_room event ≡ true) × LacksRoom self.new event }
+        // A telling adds the very report that the node's survivor gives. Nothing else is told.
+        ensures reports { HasTold (contents self.old) (contents self.new) event result }
+        // If there was memory for no more than twice the packets and the reports, and one, so there is now.
+        ensures room { StaysWithin self.old self.new }
     {
         if let Some(refusal) = self.refused(event) {
             return Err(refusal);

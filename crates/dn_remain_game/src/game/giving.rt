@@ -9,7 +9,7 @@ ghost use Rattle.dn_remain_game.specs.declared.happened.Happened.{Happened};
 
 use super::Game;
 use crate::happened::Happened;
-use crate::under_way::{Telling, copied};
+use crate::under_way::{Telling, copied, grow};
 use dn_machine::Refusal;
 use dn_survivor::{GivenUp, Reported};
 use dn_world::World;
@@ -25,14 +25,16 @@ fn narrow(player: u32) -> u8
 impl<W: World> Game<W> {
     ghost use Rattle.dn_remain_game.specs.Contents.{contents};
     ghost use Rattle.dn_remain_game.specs.Applied.{Tells, TellsReached, IsAfter};
-    ghost use Rattle.dn_remain_game.specs.Room.{IsFullOfReports};
+    ghost use Rattle.dn_remain_game.specs.Told.{TellsReport};
+    ghost use Rattle.dn_remain_game.specs.Room.{IsFullOfReports, KeepsPosts, StaysWithin};
 
     /// A node gives up a player.
     pub(super) fn give_up(&mut self, node: u32, player: u32) -> GivenUp
         requires { node < length (contents self.old).nodes }
-        ensures { TellsReached W.state W.physics (contents self.old) (λ rules all.
-            IsAfter W.state rules (contents self.new) (gave_up rules.limits all node player)
+        ensures steps { TellsReached W.state W.physics (contents self.old) (λ rules all.
+            IsAfter W.state rules (contents self.old) (contents self.new) (gave_up rules.limits all node player)
             (Happened.GivenUp result)) }
+        ensures posts { KeepsPosts self.old self.new }
     {
         self.nodes[node as usize].give_up(narrow(player))
     }
@@ -42,14 +44,17 @@ impl<W: World> Game<W> {
         requires node { node < length (contents self.old).nodes }
         requires to { to < length (contents self.old).nodes }
         ensures told { Tells W.state W.physics (contents self.old) (λ rules all.
-            ((done : Happened) × (result ≡ Ok done) × IsAfter W.state rules (contents self.new)
+            ((done : Happened) × (result ≡ Ok done) × IsAfter W.state rules (contents self.old) (contents self.new)
             (told_report all node to (report_to rules.limits node (wary_of all node) to)) done)
             ⊎ (result ≡ Err Refusal.Memory)) }
         ensures unchanged { OnErr result (contents self.new ≡ contents self.old) }
         ensures alone { OnErr result (result ≡ Err Refusal.Memory) }
         ensures memory { OnErr result (IsFullOfReports self.new) }
+        ensures reports { TellsReport (contents self.old) (contents self.new) node to result }
+        ensures flights { self.new.flights ≡ self.old.flights }
+        ensures room { StaysWithin self.old self.new }
     {
-        let Ok(()) = self.reports.reserve(1) else {
+        let Ok(()) = grow(&mut self.reports) else {
             return Err(Refusal::Memory);
         };
         let to = to as u8;
@@ -68,9 +73,10 @@ impl<W: World> Game<W> {
     /// Hands a report to its receiver.
     pub(super) fn hear(&mut self, which: u32) -> Reported
         requires { which < length (contents self.old).reports }
-        ensures { TellsReached W.state W.physics (contents self.old) (λ rules all.
-            IsAfter W.state rules (contents self.new)
+        ensures steps { TellsReached W.state W.physics (contents self.old) (λ rules all.
+            IsAfter W.state rules (contents self.old) (contents self.new)
             (heard_at rules.limits all (slice_get all.reports which)) (Happened.Reported result)) }
+        ensures posts { KeepsPosts self.old self.new }
     {
         let telling = &self.reports[which as usize];
         let report = copied(&telling.report);

@@ -18,6 +18,7 @@ impl<W: World> Game<W> {
     ghost use Rattle.dn_remain.specs.Remaining.{opening_remaining};
     ghost use Rattle.dn_remain_game.specs.Contents.{contents};
     ghost use Rattle.dn_remain_game.specs.Represents.{Represents};
+    ghost use Rattle.dn_remain_game.specs.Room.{IsWithinTwice};
 
     /// A game with a node for each world, in the players' order. The worlds are given up where there is
     /// no game.
@@ -27,6 +28,7 @@ impl<W: World> Game<W> {
             (rules_in W.physics config (length worlds.items)) (contents game)
             (opening_remaining config.settings)) }
         ensures given { IfOk result (λ game. worlds_of (contents game).nodes ≡ worlds.items) }
+        ensures room { IfOk result IsWithinTwice }
     {
         if !is_game(worlds.len()) {
             return Err(GameFault::Players);

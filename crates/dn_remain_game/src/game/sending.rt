@@ -9,28 +9,30 @@ ghost use Rattle.dn_remain_game.specs.Events.{own_unless};
 ghost use Rattle.dn_remain.specs.Remaining.{is_barred};
 
 use super::Game;
-use crate::under_way::Flight;
+use crate::under_way::{Flight, grow};
 use dn_machine::{Done, Heard, Refusal};
 use dn_world::World;
 
 impl<W: World> Game<W> {
     ghost use Rattle.dn_remain_game.specs.Contents.{contents};
     ghost use Rattle.dn_remain_game.specs.Applied.{Tells, IsAfter};
-    ghost use Rattle.dn_remain_game.specs.Room.{IsFull};
+    ghost use Rattle.dn_remain_game.specs.Room.{IsFull, KeepsPosts, StaysWithin};
 
     /// Asks a node for a packet, which joins those that were sent. Room for it is made first.
     pub(super) fn send(&mut self, node: u32, to: u32) -> Result<Done, Refusal>
         requires node { node < length (contents self.old).nodes }
         requires to { to < length (contents self.old).nodes }
         ensures sent { Tells W.state W.physics (contents self.old) (λ rules all.
-            ((done : Done) × (result ≡ Ok done) × IsAfter W.state rules (contents self.new)
+            ((done : Done) × (result ≡ Ok done) × IsAfter W.state rules (contents self.old) (contents self.new)
             (own_unless rules all (Send node to) (is_barred all (Send node to))) done)
             ⊎ (result ≡ Err Refusal.Memory)) }
         ensures unchanged { OnErr result (contents self.new ≡ contents self.old) }
         ensures alone { OnErr result (result ≡ Err Refusal.Memory) }
         ensures memory { OnErr result (IsFull self.new) }
+        ensures reports { self.new.reports ≡ self.old.reports }
+        ensures room { StaysWithin self.old self.new }
     {
-        let Ok(()) = self.flights.reserve(1) else {
+        let Ok(()) = grow(&mut self.flights) else {
             return Err(Refusal::Memory);
         };
         let to = to as u8;
@@ -50,10 +52,11 @@ impl<W: World> Game<W> {
     /// Hands a packet to its receiver.
     pub(super) fn deliver(&mut self, which: u32) -> Heard
         requires { which < length (contents self.old).flights }
-        ensures { Tells W.state W.physics (contents self.old) (λ rules all.
+        ensures steps { Tells W.state W.physics (contents self.old) (λ rules all.
             refused_flight all.game (slice_get all.game.flights which) ≡ None
-            → IsAfter W.state rules (contents self.new)
+            → IsAfter W.state rules (contents self.old) (contents self.new)
             (own_unless rules all (Deliver which) (is_barred all (Deliver which))) (Done.Heard result)) }
+        ensures posts { KeepsPosts self.old self.new }
     {
         let flight = &self.flights[which as usize];
         self.nodes[usize::from(flight.to)].receive(flight.from, flight.bytes.as_slice())

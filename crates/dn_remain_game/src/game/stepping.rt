@@ -12,14 +12,16 @@ use dn_world::World;
 impl<W: World> Game<W> {
     ghost use Rattle.dn_remain_game.specs.Contents.{contents};
     ghost use Rattle.dn_remain_game.specs.Applied.{Tells, IsAfter};
+    ghost use Rattle.dn_remain_game.specs.Room.{KeepsPosts};
     ghost use Rattle.dn_machine.specs.declared.events.Done.TheVariants as done;
 
     /// A node builds the command of these keys.
     pub(super) fn build(&mut self, node: u32, keys: Keys) -> Made
         requires { node < length (contents self.old).nodes }
-        ensures { Tells W.state W.physics (contents self.old) (λ rules all.
-            IsAfter W.state rules (contents self.new) (in_game all (on_own rules all (Build node keys)))
+        ensures steps { Tells W.state W.physics (contents self.old) (λ rules all.
+            IsAfter W.state rules (contents self.old) (contents self.new) (in_game all (on_own rules all (Build node keys)))
             (done.Built result)) }
+        ensures posts { KeepsPosts self.old self.new }
     {
         self.nodes[node as usize].build(keys)
     }
@@ -27,9 +29,10 @@ impl<W: World> Game<W> {
     /// A node takes the command that is given.
     pub(super) fn give(&mut self, node: u32, command: Command) -> Made
         requires { node < length (contents self.old).nodes }
-        ensures { Tells W.state W.physics (contents self.old) (λ rules all.
-            IsAfter W.state rules (contents self.new) (in_game all (on_own rules all (Give node command)))
+        ensures steps { Tells W.state W.physics (contents self.old) (λ rules all.
+            IsAfter W.state rules (contents self.old) (contents self.new) (in_game all (on_own rules all (Give node command)))
             (done.Built result)) }
+        ensures posts { KeepsPosts self.old self.new }
     {
         self.nodes[node as usize].give(command)
     }
@@ -37,8 +40,9 @@ impl<W: World> Game<W> {
     /// A node is asked to run a tic.
     pub(super) fn run(&mut self, node: u32) -> Ran
         requires { node < length (contents self.old).nodes }
-        ensures { Tells W.state W.physics (contents self.old) (λ rules all.
-            IsAfter W.state rules (contents self.new) (in_game all (on_own rules all (Run node))) (done.Ran result)) }
+        ensures steps { Tells W.state W.physics (contents self.old) (λ rules all.
+            IsAfter W.state rules (contents self.old) (contents self.new) (in_game all (on_own rules all (Run node))) (done.Ran result)) }
+        ensures posts { KeepsPosts self.old self.new }
     {
         self.nodes[node as usize].run()
     }
@@ -46,8 +50,9 @@ impl<W: World> Game<W> {
     /// A node quits.
     pub(super) fn quit(&mut self, node: u32) -> bool
         requires { node < length (contents self.old).nodes }
-        ensures { Tells W.state W.physics (contents self.old) (λ rules all.
-            IsAfter W.state rules (contents self.new) (in_game all (on_own rules all (Quit node))) (done.Quit result)) }
+        ensures steps { Tells W.state W.physics (contents self.old) (λ rules all.
+            IsAfter W.state rules (contents self.old) (contents self.new) (in_game all (on_own rules all (Quit node))) (done.Quit result)) }
+        ensures posts { KeepsPosts self.old self.new }
     {
         self.nodes[node as usize].quit()
     }
@@ -55,8 +60,9 @@ impl<W: World> Game<W> {
     /// A node stops, and takes no further part.
     pub(super) fn stop(&mut self, node: u32)
         requires { node < length (contents self.old).nodes }
-        ensures { Tells W.state W.physics (contents self.old) (λ rules all.
-            IsAfter W.state rules (contents self.new) (in_game all (on_own rules all (Stop node))) done.Stopped) }
+        ensures steps { Tells W.state W.physics (contents self.old) (λ rules all.
+            IsAfter W.state rules (contents self.old) (contents self.new) (in_game all (on_own rules all (Stop node))) done.Stopped) }
+        ensures posts { KeepsPosts self.old self.new }
     {
         self.stopped[node as usize] = true;
     }

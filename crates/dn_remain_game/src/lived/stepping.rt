@@ -26,12 +26,13 @@ impl<W: World> Lived<W> {
     ghost use Rattle.dn_machine.specs.Building.{on_build};
     ghost use Rattle.dn_machine.specs.Game.{own_marks};
     ghost use Rattle.dn_machine.specs.Running.{on_quit, on_run_but};
+    ghost use Rattle.dn_survivor.specs.Calls.{HearsReport};
     ghost use Rattle.dn_survivor.specs.Surviving.{has_given_up};
     ghost use Rattle.dn_survivor.specs.Telling.{report_for};
     ghost use Rattle.dn_remain_game.specs.Living.{GivesUp, Hears, HearsAny, HearsNear, IsGiven, Steps, Tells, living, on_node};
 
     /// Builds the command of these keys for the next tic. A node that builds none stays as it is.
-    pub fn build(&mut self, keys: Keys) -> Made
+    pub(crate) fn build(&mut self, keys: Keys) -> Made
         ensures { Steps W.state W.physics (living self.old) (living self.new)
             (λ rules me wary. on_node wary (on_build rules.limits me wary.node (Pressed keys)))
             (λ made. result ≡ made) }
@@ -40,7 +41,7 @@ impl<W: World> Lived<W> {
     }
 
     /// Takes the given command for the next tic, where [`Lived::build`] would build one.
-    pub fn give(&mut self, command: Command) -> Made
+    pub(crate) fn give(&mut self, command: Command) -> Made
         ensures { Steps W.state W.physics (living self.old) (living self.new)
             (λ rules me wary. on_node wary (on_build rules.limits me wary.node (Given command)))
             (λ made. result ≡ made) }
@@ -49,7 +50,7 @@ impl<W: World> Lived<W> {
     }
 
     /// Ends the node, and answers whether it had not ended.
-    pub fn quit(&mut self) -> bool
+    pub(crate) fn quit(&mut self) -> bool
         ensures { Steps W.state W.physics (living self.old) (living self.new)
             (λ rules me wary. on_node wary (on_quit wary.node)) (λ quit. result ≡ quit) }
     {
@@ -57,9 +58,8 @@ impl<W: World> Lived<W> {
     }
 
     /// The next packet to a peer, with its exact numbers; none to one who is given up.
-    pub fn packet(&mut self, to: u8) -> Option<(Aim, ArrayVec<u8, MAX_DATAGRAM>)>
-        ensures step { to < (living self.old).survivor.lockstep.players → Steps W.state W.physics
-            (living self.old) (living self.new)
+    pub(crate) fn packet(&mut self, to: u8) -> Option<(Aim, ArrayVec<u8, MAX_DATAGRAM>)>
+        ensures step { Steps W.state W.physics (living self.old) (living self.new)
             (λ rules me wary. on_node wary (if wary.gone to then (wary.node, None)
             else sent_to to rules.limits me wary.node)) (λ flight. IsGiven result flight) }
         ensures peer { IfSome result (λ given. Gives (living self.old).survivor.lockstep to) }
@@ -72,7 +72,7 @@ impl<W: World> Lived<W> {
     }
 
     /// Hears a datagram that came from player `from`. Of one who is given up nothing is heard.
-    pub fn receive(&mut self, from: u8, bytes: &[u8]) -> Heard
+    pub(crate) fn receive(&mut self, from: u8, bytes: &[u8]) -> Heard
         ensures any { has_given_up (living self.old).survivor from ≡ false → HearsAny W.state W.physics from
             bytes.now (living self.old) (living self.new) result }
         ensures near { has_given_up (living self.old).survivor from ≡ false → HearsNear W.state W.physics from
@@ -93,6 +93,7 @@ impl<W: World> Lived<W> {
         ensures begun { (settings : Settings) → (living self.old).survivor.lockstep.settings ≡ Some settings
             → W.state (living self.new).world
             ≡ W.physics.begin (start_of settings) (seats_of (living self.old).survivor.lockstep.players) }
+        ensures stays { (living self.old).survivor.lockstep.settings ≡ None → living self.new ≡ living self.old }
     {
         let lockstep = self.survivor.lockstep();
         // who has started has settings
@@ -103,7 +104,7 @@ impl<W: World> Lived<W> {
 
     /// Runs the next tic, where no mark is off of a player who is not given up, and the command of every player
     /// who takes part is there.
-    pub fn run(&mut self) -> Ran
+    pub(crate) fn run(&mut self) -> Ran
         ensures { Steps W.state W.physics (living self.old) (living self.new)
             (λ rules me wary. on_node wary (on_run_but rules.limits wary.gone wary.node
             (own_marks rules wary.node))) (λ ran. result ≡ ran) }
@@ -131,7 +132,7 @@ impl<W: World> Lived<W> {
     }
 
     /// Gives up a player, for good. A node that waited only for that one starts.
-    pub fn give_up(&mut self, player: u8) -> GivenUp
+    pub(crate) fn give_up(&mut self, player: u8) -> GivenUp
         ensures { GivesUp W.state W.physics player (living self.old) (living self.new) result }
     {
         let gathered = self.is_gathering();
@@ -165,15 +166,16 @@ impl<W: World> Lived<W> {
     }
 
     /// The next report to a player.
-    pub fn report(&self, to: u8) -> Option<Report>
+    pub(crate) fn report(&self, to: u8) -> Option<Report>
         ensures { result ≡ report_for (living self.now).survivor to }
     {
         self.survivor.report(to)
     }
 
     /// Hears a report that came from player `from`, and keeps it as the newest of that player.
-    pub fn hear(&mut self, from: u8, report: Report) -> Reported
-        ensures { Hears W.state W.physics from report (living self.old) (living self.new) result }
+    pub(crate) fn hear(&mut self, from: u8, report: Report) -> Reported
+        ensures step { Hears W.state W.physics from report (living self.old) (living self.new) result }
+        ensures survivor { HearsReport from report (living self.old).survivor (living self.new).survivor result }
     {
         self.survivor.hear(from, report)
     }

@@ -1,7 +1,9 @@
 use Rattle.std.proofs.Common.{[], ◌∷◌, ◌++◌, take, ap, refl, sym, ◌∙◌, arith}
 use Rattle.std.proofs.lemmas.List.{take_all, take_more}
 use Rattle.dn_remain.specs.declared.events.RemainEvent.{RemainEvent}
-use Rattle.dn_remain_game.proofs.Counting.{has_played, played_more}
+use Rattle.dn_remain_game.specs.Contents.{contents}
+use Rattle.dn_remain_game.proofs.Counting.{given_more, has_played, played_more}
+use Rattle.dn_remain_game.proofs.Given.{given_opens}
 use Rattle.dn_remain_game.proofs.playing.play_remaining.Goals as goal
 
 pub loop-event-init : goal.loop-event-init
@@ -13,6 +15,8 @@ loop-event-init g c = (
     done = refl;
     refused = refl;
   },
+  given_opens c.args.worlds.items (contents c.in_ok-game.game) c.in_ok-game.ensures.given,
+  c.in_ok-game.ensures.room,
 )
 
 pub loop-event-preserved : goal.loop-event-preserved
@@ -25,6 +29,9 @@ loop-event-preserved g c =
       omega (arith, c.apply.ensures.counted, before.0),
       rw longer (played_more _ _ _ c.args.config.settings (take at events) _ c.loop-event.played c.apply.new.self before.1
           c.apply.ensures.applied),
+      given_more _ _ _ c.args.config.settings (take at events) c.args.worlds.items _ c.loop-event.played
+          c.apply.new.self before.1 c.apply.ensures.applied before.2,
+      c.apply.ensures.applied.room before.3,
     )
 
 pub returns-clause-promised : goal.returns-clause-promised

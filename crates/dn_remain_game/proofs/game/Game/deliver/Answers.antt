@@ -12,8 +12,8 @@ index_mut-requires g c =
     c.requires c.index-flight.ensures in
     omega (arith, small, c.from.ensures)
 
-pub returns : goal.returns
-returns g c limits all r free =
+pub returns-clause-steps : goal.returns-clause-steps
+returns-clause-steps g c limits all r free =
     delivers g.W.World.state g.W.World.physics (contents c.args.self.now) limits all r c.args.which c.from.result _ _
     c.receive.new.self c.receive.result c.requires free c.index-flight.ensures c.as_slice.result.now
     c.as_slice.ensures.value c.from.ensures c.index_mut.ensures.value c.receive.ensures.near c.receive.ensures.barred

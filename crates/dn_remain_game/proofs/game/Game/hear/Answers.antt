@@ -12,12 +12,12 @@ index_mut-requires g c =
     c.requires c.index-telling.ensures in
     omega (arith, small, c.from.ensures)
 
-pub returns : goal.returns
-returns g c limits settings events answers reached =
+pub returns-clause-steps : goal.returns-clause-steps
+returns-clause-steps g c limits settings events answers reached =
     let n = c.args.self.now in
     let small = all_read (λ (t : Telling). t.to < length n.nodes.items) n.reports.items c.args.which _ n.hearers
     c.requires c.index-telling.ensures in
     hears_report g.W.World.state g.W.World.physics (contents n) limits settings events answers reached c.args.which
     c.from.result _ c.copied-report.result _ c.hear.new.self c.hear.result c.requires c.index-telling.ensures
     c.from.ensures c.copied-report.ensures (omega (arith, small, c.from.ensures)) c.index_mut.ensures.value
-    c.hear.ensures
+    c.hear.ensures.step

@@ -4,7 +4,7 @@ use Rattle.dn_remain_game.specs.Contents.{contents}
 use Rattle.dn_remain_game.proofs.NodeSteps.{goes_on}
 use Rattle.dn_remain_game.proofs.game.Game.quit.Goals as goal
 
-pub returns : goal.returns
-returns g c limits all r =
+pub returns-clause-steps : goal.returns-clause-steps
+returns-clause-steps g c limits all r =
     goes_on g.W.World.state g.W.World.physics (contents c.args.self.now) limits all r c.args.node _ c.quit.new.self
     (λ rules me wary. on_quit wary.node) c.quit.result Done.Quit c.requires c.index_mut.ensures.value c.quit.ensures

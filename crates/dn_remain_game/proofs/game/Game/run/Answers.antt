@@ -5,7 +5,7 @@ use Rattle.dn_remain_game.specs.Contents.{contents}
 use Rattle.dn_remain_game.proofs.NodeSteps.{goes_on}
 use Rattle.dn_remain_game.proofs.game.Game.run.Goals as goal
 
-pub returns : goal.returns
-returns g c limits all r =
+pub returns-clause-steps : goal.returns-clause-steps
+returns-clause-steps g c limits all r =
     goes_on g.W.World.state g.W.World.physics (contents c.args.self.now) limits all r c.args.node _ c.run.new.self
     (λ rules me wary. on_run_but rules.limits wary.gone wary.node (own_marks rules wary.node)) c.run.result Done.Ran c.requires c.index_mut.ensures.value c.run.ensures

@@ -4,8 +4,8 @@ use Rattle.dn_remain_game.specs.Contents.{contents}
 use Rattle.dn_remain_game.proofs.NodeSteps.{stops}
 use Rattle.dn_remain_game.proofs.game.Game.stop.Goals as goal
 
-pub returns : goal.returns
-returns g c limits all r =
+pub returns-clause-steps : goal.returns-clause-steps
+returns-clause-steps g c limits all r =
     let n = c.args.self.now in
     let inside : c.args.node < length n.stopped = omega (arith, n.few, c.requires) in
     stops g.W.World.state (rules_within g.W.World.physics limits) (contents n) all c.args.node r inside

@@ -11,5 +11,6 @@ pub returns : goal.returns
 returns g c = steps_alone g.W.World.state g.W.World.physics (living c.args.self.now)
     (record { survivor = surviving c.build.new.self; world = c.args.self.now.world })
     (λ limits me m. on_build limits me m (Pressed c.args.keys)) (λ made. c.build.result ≡ made)
-    c.build.ensures.step c.build.ensures.others refl
+    c.build.ensures.step c.build.ensures.others
+    c.build.new.self.lockstep.known refl
     (λ limits me m. build_beside limits me m (Pressed c.args.keys))

@@ -11,5 +11,6 @@ pub returns : goal.returns
 returns g c = steps_alone g.W.World.state g.W.World.physics (living c.args.self.now)
     (record { survivor = surviving c.give.new.self; world = c.args.self.now.world })
     (λ limits me m. on_build limits me m (Given c.args.command)) (λ made. c.give.result ≡ made)
-    c.give.ensures.step c.give.ensures.others refl
+    c.give.ensures.step c.give.ensures.others
+    c.give.new.self.lockstep.known refl
     (λ limits me m. build_beside limits me m (Given c.args.command))

@@ -14,7 +14,7 @@ returns-then-is_playing g c =
     let n = c.args.self.now.survivor.lockstep in
     let rest = c.begin.ensures.rest in
     given_up g.W.World.state g.W.World.physics (living c.args.self.now) (living c.begin.new.self) c.args.player
-    c.give_up-given_up.result (λ waits. n.unrun (n.waits waits)) c.begin.new.self.survivor.lockstep.known
+    c.give_up-given_up.result (λ waits. n.unrun (n.waits waits)) n.waits c.begin.new.self.survivor.lockstep.known
     c.begin.new.self.survivor.lockstep.plays
     (λ apart. absurd (apart (c.is_gathering-gathered.ensures.yes c.if-gathered.true)
     (ap (λ (s : Surviving). s.lockstep.phase) rest ∙ c.is_playing.ensures.yes c.if-is_playing.true)))
@@ -31,7 +31,7 @@ returns-else-gathered g c =
     let n = c.args.self.now.survivor.lockstep in
     given_up g.W.World.state g.W.World.physics (living c.args.self.now)
     (record { survivor = surviving c.give_up-given_up.new.self; world = c.args.self.now.world }) c.args.player
-    c.give_up-given_up.result (λ waits. n.unrun (n.waits waits)) c.give_up-given_up.new.self.lockstep.known
+    c.give_up-given_up.result (λ waits. n.unrun (n.waits waits)) n.waits c.give_up-given_up.new.self.lockstep.known
     c.give_up-given_up.new.self.lockstep.plays (λ apart. refl)
     (λ gathers starts. absurd (elim c.else-gathered.branch [
       | else-gathered-via-then-gathered+else-is_playing w ↦ w.is_playing.ensures.no w.if-is_playing.false starts

@@ -20,6 +20,7 @@ started g c =
     record {
       others = ap (λ (s : Surviving). s.others) rest ∙ c.receive-heard.ensures.others;
       unrun = λ waits. n.unrun (n.waits waits);
+      waits = n.waits;
       known = c.begin.new.self.survivor.lockstep.known;
       kept = λ other. absurd (other c.in-Started.is);
       begun = λ starts settings is.
@@ -55,6 +56,7 @@ went_on g c other =
     record {
       others = c.receive-heard.ensures.others;
       unrun = λ waits. n.unrun (n.waits waits);
+      waits = n.waits;
       known = c.receive-heard.new.self.lockstep.known;
       kept = λ other. refl;
       begun = λ starts. absurd (other starts);

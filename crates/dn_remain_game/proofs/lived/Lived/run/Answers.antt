@@ -15,7 +15,7 @@ returns-in-Ran g c =
     runs g.W.World.state g.W.World.physics (living c.args.self.now)
     (record { survivor = surviving c.run_into-ran.new.self; world = c.step.new.self }) c.marks-marks.result
     c.run_into-ran.result (told_by c.run_into-ran.result row) c.marks-marks.ensures
-    c.args.self.now.survivor.lockstep.plays
+    c.args.self.now.survivor.lockstep.plays c.run_into-ran.new.self.lockstep.known
     (λ told is. c.step.ensures ∙ ap (g.W.World.physics.step (g.W.World.state c.args.self.now.world))
     (same_Some row told (sym filled ∙ is)))
     (λ none. absurd (none-some row (sym none ∙ filled))) c.run_into-ran.ensures.others c.run_into-ran.ensures.step
@@ -26,6 +26,6 @@ returns-in_default g c =
     runs g.W.World.state g.W.World.physics (living c.args.self.now)
     (record { survivor = surviving c.run_into-ran.new.self; world = c.args.self.now.world }) c.marks-marks.result
     c.run_into-ran.result (told_by c.run_into-ran.result row) c.marks-marks.ensures
-    c.args.self.now.survivor.lockstep.plays
+    c.args.self.now.survivor.lockstep.plays c.run_into-ran.new.self.lockstep.known
     (λ told is. let ran = told_ran c.run_into-ran.result row told is in absurd (c.in_default.not-Ran ran.0 ran.1))
     (λ none. refl) c.run_into-ran.ensures.others c.run_into-ran.ensures.step

@@ -1,4 +1,6 @@
 use Rattle.std.proofs.Common.{arith}
+use Rattle.dn_machine.specs.Worlds.{rules_within}
+use Rattle.dn_remain_game.proofs.Applying.{applied_keeps}
 use Rattle.dn_remain_game.proofs.Counting.{one_done, one_refused}
 use Rattle.dn_remain_game.proofs.playing.Played.apply.Goals as goal
 
@@ -8,6 +10,10 @@ returns-in-Ok-clause-applied g c =
     record {
       answer = c.apply.result;
       carried = c.apply.ensures.carried;
+      worlds = λ limits settings events answers reached.
+          applied_keeps _ (rules_within g.W.World.physics limits) _ _ reached.last c.args.event c.apply.result
+          (c.apply.ensures.applied limits settings events answers reached);
+      room = c.apply.ensures.room;
       done = omega (arith, one.0);
       refused = omega (arith, one.1);
     }
@@ -18,6 +24,10 @@ returns-in-Err-clause-applied g c =
     record {
       answer = c.apply.result;
       carried = c.apply.ensures.carried;
+      worlds = λ limits settings events answers reached.
+          applied_keeps _ (rules_within g.W.World.physics limits) _ _ reached.last c.args.event c.apply.result
+          (c.apply.ensures.applied limits settings events answers reached);
+      room = c.apply.ensures.room;
       done = omega (arith, one.0);
       refused = omega (arith, one.1);
     }
