@@ -17,18 +17,69 @@ mod scripts;
 mod storms;
 mod told;
 
-use dn_game::{Done, Event, Game, GameConfig, Refusal};
+use dn_game::{
+    Done, Event, Game, GameConfig, GameFault, PlayOnFault, Played, Refusal, RoundFault, play,
+    play_on, storm,
+};
 use dn_setup::{Settings, SettingsFault};
 use dn_shared_tests::same;
 use dn_tic::{Command, Keys};
-use dn_world::Walk;
+use dn_world::{Walk, World};
 use std::alloc::{AllocError, Global};
 use std::process::Abort;
 use std::test::Fail;
 
+/// Applies an event. This call has no contract, nor have those down to `play_further`: a test that calls a game
+/// itself has all that the game promises in its own proof, which takes seconds.
+fn applied<W: World>(game: &mut Game<W>, event: Event) -> Result<Done, Refusal> {
+    game.apply(event)
+}
+
+fn round_is_good<W: World>(game: &mut Game<W>, keys: [Keys; 4]) -> Result<(), RoundFault> {
+    game.good_round(keys)
+}
+
+fn rounds_are_good<W: World>(
+    game: &mut Game<W>,
+    keys: [Keys; 4],
+    count: u32,
+) -> Result<(), RoundFault> {
+    game.good_rounds(keys, count)
+}
+
+fn play_list<W: World>(
+    alloc: Global,
+    config: GameConfig,
+    worlds: Vec<W>,
+    events: &[Event],
+) -> Result<Played<W>, GameFault> {
+    play(alloc, config, worlds, events)
+}
+
+fn play_storm<W: World>(
+    alloc: Global,
+    config: GameConfig,
+    worlds: Vec<W>,
+    seed: u64,
+    count: u32,
+) -> Result<Played<W>, GameFault> {
+    storm(alloc, config, worlds, seed, count)
+}
+
+fn play_further<W: World>(
+    alloc: Global,
+    config: GameConfig,
+    worlds: Vec<W>,
+    events: &[Event],
+    keys: [Keys; 4],
+    rounds: u32,
+) -> Result<Played<W>, PlayOnFault> {
+    play_on(alloc, config, worlds, events, keys, rounds)
+}
+
 /// Applies an event, and compares the answer.
 fn applies(rt: &impl Abort, game: &mut Game<Walk>, event: Event, answer: Result<Done, Refusal>) {
-    let answered = game.apply(event);
+    let answered = applied(game, event);
     same!(rt; answered, answer, event);
 }
 

@@ -24,13 +24,13 @@ use super::{
 use arrayvec::ArrayVec;
 use dn_lockstep::{Heard, Lockstep, Made, Ran};
 use dn_shared_tests::same;
-use dn_tic::{Keys, TicCmd};
+use dn_tic::{Keys, Move, TicCmd};
 use std::alloc::Global;
 use std::process::Abort;
 use std::test::Fail;
 
-/// Builds with these keys. This call has no contract, nor have `run`, `received`, `quit` and `given`: a test
-/// that calls a node itself has all that the node promises in its own proof, which takes seconds.
+/// Builds with these keys. This call has no contract, nor have `run`, `run_by`, `received`, `quit`, `packet` and
+/// `given`: a test that calls a node itself has all that the node promises in its own proof, which takes seconds.
 fn build(node: &mut Lockstep, keys: u32) -> Made {
     node.build(Keys::from_bits(keys))
 }
@@ -41,6 +41,11 @@ fn run(node: &mut Lockstep) -> Ran {
     ran
 }
 
+/// Runs by these marks.
+fn run_by(node: &mut Lockstep, marks: [i16; 4]) -> (Ran, Option<[Option<Move>; 4]>) {
+    node.run(&marks)
+}
+
 fn received(node: &mut Lockstep, from: u8, bytes: &[u8]) -> Heard {
     node.receive(from, bytes)
 }
@@ -49,9 +54,14 @@ fn quit(node: &mut Lockstep) -> bool {
     node.quit()
 }
 
-/// The bytes of the next packet, which has to be there.
+/// The bytes of the next packet.
+fn packet(node: &mut Lockstep, to: u8) -> Option<ArrayVec<u8, 104>> {
+    node.packet(to)
+}
+
+/// The same, which have to be there.
 fn given(node: &mut Lockstep, to: u8) -> Result<ArrayVec<u8, 104>, Fail> {
-    Ok(node.packet(to).ok_or("no packet")?)
+    Ok(packet(node, to).ok_or("no packet")?)
 }
 
 /// A packet as a test writes it: the flags, the ask, start and player bytes, and the commands.
@@ -98,8 +108,8 @@ fn opened(alloc: Global, seats: (u8, u8), extra: bool, limit: u32) -> Result<Loc
 
 /// Hands the next packet of a node to another. None where there is no packet.
 fn pass(from: &mut Lockstep, to: &mut Lockstep) -> Option<Heard> {
-    let bytes = from.packet(to.me())?;
-    Some(to.receive(from.me(), bytes.as_slice()))
+    let bytes = packet(from, to.me())?;
+    Some(received(to, from.me(), bytes.as_slice()))
 }
 
 /// Two nodes that play, and have built nothing.

@@ -19,8 +19,8 @@ use std::alloc::Global;
 use std::process::Abort;
 use std::test::Fail;
 
-/// Builds with these keys. This call has no contract, nor have `run`, `received`, `quit` and `given`: a test
-/// that calls a node itself has all that the node promises in its own proof, which takes seconds.
+/// Builds with these keys. This call has no contract, nor have `run`, `received`, `quit`, `packet` and `given`: a
+/// test that calls a node itself has all that the node promises in its own proof, which takes seconds.
 fn build<W: World>(node: &mut Node<W>, keys: u32) -> Made {
     node.build(Keys::from_bits(keys))
 }
@@ -37,9 +37,14 @@ fn quit<W: World>(node: &mut Node<W>) -> bool {
     node.quit()
 }
 
-/// The bytes of the next packet, which has to be there.
+/// The bytes of the next packet.
+fn packet<W: World>(node: &mut Node<W>, to: u8) -> Option<ArrayVec<u8, 104>> {
+    node.packet(to)
+}
+
+/// The same, which have to be there.
 fn given<W: World>(node: &mut Node<W>, to: u8) -> Result<ArrayVec<u8, 104>, Fail> {
-    Ok(node.packet(to).ok_or("no packet")?)
+    Ok(packet(node, to).ok_or("no packet")?)
 }
 
 /// Hands a node a packet, and compares its answer.
@@ -68,8 +73,8 @@ fn opened<W: World>(
 
 /// Hands the next packet of a node to another. None where there is no packet.
 fn pass<W: World>(from: &mut Node<W>, to: &mut Node<W>) -> Option<Heard> {
-    let bytes = from.packet(to.me())?;
-    Some(to.receive(from.me(), bytes.as_slice()))
+    let bytes = packet(from, to.me())?;
+    Some(received(to, from.me(), bytes.as_slice()))
 }
 
 /// Two nodes that play, and have built nothing.

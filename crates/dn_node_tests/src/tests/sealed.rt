@@ -32,6 +32,17 @@ fn arrives(at: &mut SealedLockstep, envelope: &Envelope) -> Arrived {
     at.receive(envelope.as_slice())
 }
 
+/// Builds with these keys.
+fn build(at: &mut SealedLockstep, bits: u32) -> Made {
+    at.build(Keys::from_bits(bits))
+}
+
+/// Runs with every mark 0.
+fn run(at: &mut SealedLockstep) -> Ran {
+    let (ran, _) = at.run(&[0; 4]);
+    ran
+}
+
 /// The same bytes, but for one.
 fn altered(envelope: &Envelope) -> Envelope {
     let mut bytes = ArrayVec::new();
@@ -107,7 +118,7 @@ fn playing(
 ) -> (SealedLockstep, SealedLockstep, Envelope) {
     let (mut key, mut other, first) = opened(rt, alloc, seal);
     let _ = arrives(&mut other, &first);
-    let _ = other.build(Keys::from_bits(FORWARD));
+    let _ = build(&mut other, FORWARD);
     let one = sealed(rt, &mut other, 0);
     same!(rt; arrives(&mut key, &one), Arrived::Heard(Heard::Started));
     same!(rt; arrives(&mut key, &one), Arrived::Heard(Heard::Taken(1)));
@@ -183,21 +194,21 @@ fn given_commands_go_in_envelopes(rt: HostRuntime) {
         buttons: 129,
     };
     same!(rt; key.command(1, 0), Some(wanted));
-    let _ = key.build(Keys::from_bits(FORWARD));
-    let (ran, _) = key.run(&[0; 4]);
+    let _ = build(&mut key, FORWARD);
+    let ran = run(&mut key);
     same!(rt; ran, Ran::Ran(0));
 }
 
 /// A command of each, their packets, and a tic of each.
 fn round(rt: &impl Abort, one: &mut SealedLockstep, other: &mut SealedLockstep) {
-    let _ = one.build(Keys::from_bits(FORWARD));
-    let _ = other.build(Keys::from_bits(FORWARD));
+    let _ = build(one, FORWARD);
+    let _ = build(other, FORWARD);
     let there = sealed(rt, one, 1);
     let _ = arrives(other, &there);
     let back = sealed(rt, other, 0);
     let _ = arrives(one, &back);
-    let _ = one.run(&[0; 4]);
-    let _ = other.run(&[0; 4]);
+    let _ = run(one);
+    let _ = run(other);
 }
 
 /// An envelope whose packet starts 64 tics before what its receiver has made is heard, and a tic later it is

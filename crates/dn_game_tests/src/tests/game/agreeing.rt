@@ -2,8 +2,8 @@
 
 use super::belts::belts;
 use super::told::places;
-use super::{build, config, send, walks};
-use dn_game::{Event, Game, Played, play};
+use super::{build, config, play_list, send, walks};
+use dn_game::{Event, Game, Played};
 use dn_node::Node;
 use dn_shared_tests::{holds, must, same};
 use dn_world::{Walk, World};
@@ -99,7 +99,7 @@ pub(super) fn events(alloc: Global) -> Result<Vec<Event>, Fail> {
 
 fn played(alloc: Global, events: &[Event]) -> Result<Played<Walk>, Fail> {
     let worlds = walks(alloc, 3)?;
-    Ok(play(alloc, config(131_072)?, worlds, events)?)
+    Ok(play_list(alloc, config(131_072)?, worlds, events)?)
 }
 
 /// A demo's bytes but for the view, of which each node has its own: the front and the commands.
@@ -193,7 +193,8 @@ fn worlds_with_vectors_agree(rt: HostRuntime) {
     let rt = &rt;
     let events = must!(rt; events(rt.alloc()));
     let worlds = must!(rt; belts(rt.alloc(), 3));
-    let played = must!(rt; play(rt.alloc(), must!(rt; config(131_072)), worlds, events.as_slice()));
+    let played =
+        must!(rt; play_list(rt.alloc(), must!(rt; config(131_072)), worlds, events.as_slice()));
     same!(rt; played.refused, 0);
     match (
         played.game.node(0),

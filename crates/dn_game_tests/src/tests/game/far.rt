@@ -1,6 +1,6 @@
 //! Tests of packets that lie far from what their receiver has made.
 
-use super::{applies, build, opened, send};
+use super::{applied, applies, build, opened, send};
 use dn_game::{Done, Event, Game, Refusal};
 use dn_node::{Heard, Made, Ran};
 use dn_shared_tests::{must, same};
@@ -14,10 +14,10 @@ const FAR: Result<Done, Refusal> = Err(Refusal::Far);
 
 /// Applies an event, and delivers the packet that it may have sent.
 pub(super) fn hand_over(game: &mut Game<Walk>, event: Event) -> Option<Heard> {
-    let Ok(Done::Sent(which)) = game.apply(event) else {
+    let Ok(Done::Sent(which)) = applied(game, event) else {
         return None;
     };
-    match game.apply(Event::Deliver(u32::try_from(which).ok()?)) {
+    match applied(game, Event::Deliver(u32::try_from(which).ok()?)) {
         Ok(Done::Heard(heard)) => Some(heard),
         _ => None,
     }
@@ -27,12 +27,12 @@ pub(super) fn hand_over(game: &mut Game<Walk>, event: Event) -> Option<Heard> {
 pub(super) fn play_rounds(game: &mut Game<Walk>, rounds: u32) {
     for _ in 0..rounds {
         for event in [build(0, 0), build(1, 0)] {
-            let _ = game.apply(event);
+            let _ = applied(game, event);
         }
         hand_over(game, send(0, 1));
         hand_over(game, send(1, 0));
         for event in [Event::Run(0), Event::Run(1)] {
-            let _ = game.apply(event);
+            let _ = applied(game, event);
         }
     }
 }
@@ -75,12 +75,12 @@ fn a_request_alone_may_be_far(rt: HostRuntime) {
     let rt = &rt;
     let mut game = must!(rt; opened(rt.alloc(), 2));
     hand_over(&mut game, send(0, 1));
-    let _ = game.apply(build(1, 0));
+    let _ = applied(&mut game, build(1, 0));
     same!(rt; hand_over(&mut game, send(1, 0)), Some(Heard::Started));
-    let _ = game.apply(build(1, 0));
+    let _ = applied(&mut game, build(1, 0));
     same!(rt; hand_over(&mut game, send(1, 0)), Some(Heard::Gap));
     for _ in 0..3 {
-        let _ = game.apply(build(0, 0));
+        let _ = applied(&mut game, build(0, 0));
     }
     // Node 0 asks for tic 0, once with its commands from tic 0 on, once from tic 3 on.
     same!(rt; hand_over(&mut game, send(0, 1)), Some(Heard::Taken(3)));
@@ -103,14 +103,14 @@ fn a_start_alone_may_be_far(rt: HostRuntime) {
     let rt = &rt;
     let mut game = must!(rt; started(rt.alloc()));
     for _ in 0..3 {
-        let _ = game.apply(build(1, 0));
+        let _ = applied(&mut game, build(1, 0));
     }
     same!(rt; hand_over(&mut game, send(1, 0)), Some(Heard::Taken(3)));
-    let _ = game.apply(build(1, 0));
+    let _ = applied(&mut game, build(1, 0));
     applies(rt, &mut game, send(1, 0), Ok(Done::Sent(3)));
-    let _ = game.apply(build(1, 0));
+    let _ = applied(&mut game, build(1, 0));
     same!(rt; hand_over(&mut game, send(1, 0)), Some(Heard::Gap));
-    let _ = game.apply(build(0, 0));
+    let _ = applied(&mut game, build(0, 0));
     // Node 0 sends from tic 0 on, and asks for tic 3.
     same!(rt; hand_over(&mut game, send(0, 1)), Some(Heard::Taken(1)));
     let flight = must!(rt; game.flight(5).ok_or("no packet"));

@@ -1,9 +1,9 @@
 //! Tests of games in which commands are given: each is taken whole, recorded, and told by every node.
 
 use super::told::all_told;
-use super::{config, opened, send, walks};
+use super::{applied, config, opened, play_list, rounds_are_good, send, walks};
 use dn_demo::Demo;
-use dn_game::{Event, Game, play, play_on_with};
+use dn_game::{Event, Game, play_on_with};
 use dn_node::Node;
 use dn_shared_tests::{holds, must, same};
 use dn_tic::{Command, Input, Keys, Move, TicCmd};
@@ -116,8 +116,8 @@ fn reads_back(rt: &impl Abort, alloc: Global, node: &Node<Walk>, tics: usize) {
 
 /// Both nodes of a game quit, and their demos are read back.
 fn read_back(rt: &impl Abort, alloc: Global, game: &mut Game<Walk>, tics: [usize; 2]) {
-    holds!(rt; game.apply(Event::Quit(0)).is_ok());
-    holds!(rt; game.apply(Event::Quit(1)).is_ok());
+    holds!(rt; applied(game, Event::Quit(0)).is_ok());
+    holds!(rt; applied(game, Event::Quit(1)).is_ok());
     for (number, count) in [(0, tics[0]), (1, tics[1])] {
         if let Some(node) = game.node(number) {
             reads_back(rt, alloc, node, count);
@@ -130,7 +130,7 @@ fn a_list_with_given_commands_is_played(rt: HostRuntime) {
     let rt = &rt;
     let worlds = must!(rt; walks(rt.alloc(), 2));
     let config = must!(rt; config(131_072));
-    let played = must!(rt; play(rt.alloc(), config, worlds, &list()));
+    let played = must!(rt; play_list(rt.alloc(), config, worlds, &list()));
     same!(rt; (played.done, played.refused), (15, 0));
     let mut game = played.game;
     for number in 0..2 {
@@ -217,7 +217,7 @@ fn keys_are_inputs(rt: HostRuntime) {
         must!(rt; opened(rt.alloc(), 4)),
     );
     let pressed = bits.map(|bits| Input::Pressed(Keys::from_bits(bits)));
-    same!(rt; keys.good_rounds(bits.map(Keys::from_bits), 20), Ok(()));
+    same!(rt; rounds_are_good(&mut keys, bits.map(Keys::from_bits), 20), Ok(()));
     same!(rt; inputs.good_rounds_with(&pressed, 20), Ok(()));
     same!(rt; all_told(&inputs), all_told(&keys));
 }

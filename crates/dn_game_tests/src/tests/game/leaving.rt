@@ -2,8 +2,8 @@
 
 use super::agreeing::events;
 use super::told::{all_told, places};
-use super::{config, opened, walks};
-use dn_game::{Event, Game, Refusal, Schedule, play};
+use super::{applied, config, opened, play_list, walks};
+use dn_game::{Event, Game, Refusal, Schedule};
 use dn_machine::{Cause, Phase};
 use dn_node::Node;
 use dn_shared_tests::{holds, must, same};
@@ -62,7 +62,7 @@ fn compare_all(rt: &impl Abort, game: &Game<Walk>, players: u32) -> u64 {
 /// Applies an event, after which node 2 quits where it has run twenty tics. The list gets what was applied.
 fn apply_and_leave(rt: &impl Abort, game: &mut Game<Walk>, event: Event, list: &mut Vec<Event>) {
     // The tics of who plays on go far beyond what the third has made.
-    let answered = game.apply(event);
+    let answered = applied(game, event);
     holds!(rt; answered.is_ok() || answered == Err(Refusal::Far), event);
     must!(rt; list.push(event));
     let quits = match game.node(2) {
@@ -70,7 +70,7 @@ fn apply_and_leave(rt: &impl Abort, game: &mut Game<Walk>, event: Event, list: &
         None => false,
     };
     if quits {
-        holds!(rt; game.apply(Event::Quit(2)).is_ok());
+        holds!(rt; applied(game, Event::Quit(2)).is_ok());
         must!(rt; list.push(Event::Quit(2)));
     }
 }
@@ -117,7 +117,8 @@ fn two_play_on_when_the_third_leaves(rt: HostRuntime) {
     holds!(rt; beyond >= 70, beyond);
     played_on(rt, &game);
     let worlds = must!(rt; walks(rt.alloc(), 3));
-    let again = must!(rt; play(rt.alloc(), must!(rt; config(131_072)), worlds, list.as_slice()));
+    let again =
+        must!(rt; play_list(rt.alloc(), must!(rt; config(131_072)), worlds, list.as_slice()));
     same!(rt; all_told(&again.game), all_told(&game));
 }
 
@@ -135,7 +136,7 @@ fn stormed(alloc: Global, players: u32, seed: u32) -> Result<Game<Walk>, Fail> {
             _ => given,
         };
         if let Some(event) = event {
-            let _ = game.apply(event);
+            let _ = applied(&mut game, event);
         }
     }
     Ok(game)

@@ -2,8 +2,8 @@
 
 use super::playing::events;
 use super::told::all_told;
-use super::{applies, config, opened, send, walks};
-use dn_game::{Done, Event, Game, GameFault, OpenEvent, Refusal, play, play_open, storm};
+use super::{applied, applies, config, opened, play_list, play_storm, send, walks};
+use dn_game::{Done, Event, Game, GameFault, OpenEvent, Refusal, play_open};
 use dn_seal::Seal;
 use dn_shared_tests::{finds_no_memory, holds, must, same};
 use dn_world::Walk;
@@ -14,7 +14,7 @@ use std::process::Abort;
 fn send_one(rt: &(impl Abort + Print), game: &mut Game<Walk>) {
     let before = all_told(game);
     let count = game.flights();
-    match game.apply(send(0, 1)) {
+    match applied(game, send(0, 1)) {
         Ok(done) => same!(rt; done, Done::Sent(count)),
         Err(refusal) => {
             same!(rt; refusal, Refusal::Memory);
@@ -51,7 +51,7 @@ fn refused_memory_is_told(rt: HostRuntime) {
         }
     }
     if let Ok(worlds) = walks(rt.alloc(), 2) {
-        match storm(rt.alloc(), must!(rt; config(1_024)), worlds, 1, 500) {
+        match play_storm(rt.alloc(), must!(rt; config(1_024)), worlds, 1, 500) {
             Ok(played) => {
                 holds!(rt; played.refused <= 1);
                 all_counted(rt, "a send of storm", (played.done, played.refused), 500);
@@ -71,7 +71,7 @@ fn play_goes_on_without_a_packet(rt: HostRuntime) {
     let Ok(worlds) = walks(rt.alloc(), 2) else {
         return;
     };
-    match play(rt.alloc(), must!(rt; config(1_024)), worlds, &events()) {
+    match play_list(rt.alloc(), must!(rt; config(1_024)), worlds, &events()) {
         Ok(played) => {
             all_counted(rt, "a send of play", (played.done, played.refused), 15);
             holds!(rt; played.refused > 0 || played.game.flights() == 5);
@@ -123,7 +123,7 @@ fn only_sends_are_left_out(rt: HostRuntime) {
     let mut left_out = false;
     for event in events() {
         let before = all_told(&game);
-        match (event, game.apply(event)) {
+        match (event, applied(&mut game, event)) {
             (_, Ok(_)) => {}
             (Event::Send { .. }, Err(Refusal::Memory)) => {
                 left_out = true;
@@ -159,7 +159,7 @@ fn the_first_send_needs_room_in_both_lists(rt: HostRuntime) {
         return;
     };
     let before = all_told(&game);
-    if game.apply(send(0, 1)) == Err(Refusal::Memory) {
+    if applied(&mut game, send(0, 1)) == Err(Refusal::Memory) {
         same!(rt; all_told(&game), before);
         applies(rt, &mut game, send(0, 1), Ok(Done::Sent(0)));
     }

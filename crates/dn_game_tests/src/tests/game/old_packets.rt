@@ -2,7 +2,7 @@
 
 use super::far::{hand_over, play_rounds, started};
 use super::schedules::draw;
-use super::{applies, build, opened, send};
+use super::{applied, applies, build, opened, send};
 use dn_game::{Event, Game, Refusal};
 use dn_node::{Config, Heard, Made, Node, Ran};
 use dn_setup::Settings;
@@ -72,17 +72,17 @@ fn a_game_refuses_what_a_node_takes(rt: HostRuntime) {
     let rt = &rt;
     let mut game = must!(rt; started(rt.alloc()));
     for node in [0, 1] {
-        let _ = game.apply(build(node, 0));
-        let _ = game.apply(build(node, 0));
+        let _ = applied(&mut game, build(node, 0));
+        let _ = applied(&mut game, build(node, 0));
     }
     same!(rt; hand_over(&mut game, send(0, 1)), Some(Heard::Taken(2)));
     same!(rt; hand_over(&mut game, send(1, 0)), Some(Heard::Taken(2)));
     for event in [Event::Run(0), Event::Run(1), Event::Run(0), Event::Run(1)] {
-        let _ = game.apply(event);
+        let _ = applied(&mut game, event);
     }
     play_rounds(&mut game, 253);
-    let _ = game.apply(build(0, 0));
-    let _ = game.apply(build(1, 0));
+    let _ = applied(&mut game, build(0, 0));
+    let _ = applied(&mut game, build(1, 0));
     hand_over(&mut game, send(0, 1));
     hand_over(&mut game, send(1, 0));
     let zero = must!(rt; game.node(0).ok_or("no node"));
@@ -94,14 +94,14 @@ fn a_game_refuses_what_a_node_takes(rt: HostRuntime) {
 fn play_five(game: &mut Game<Walk>) {
     for _ in 0..5 {
         for event in [build(0, 0), build(1, 0)] {
-            let _ = game.apply(event);
+            let _ = applied(game, event);
         }
     }
     hand_over(game, send(0, 1));
     hand_over(game, send(1, 0));
     for _ in 0..5 {
         for event in [Event::Run(0), Event::Run(1)] {
-            let _ = game.apply(event);
+            let _ = applied(game, event);
         }
     }
 }
@@ -111,7 +111,7 @@ fn far_packets_are_left_out(rt: HostRuntime) {
     let rt = &rt;
     let mut game = must!(rt; opened(rt.alloc(), 2));
     for event in [send(0, 1), Event::Deliver(0), send(1, 0), Event::Deliver(1)] {
-        let _ = game.apply(event);
+        let _ = applied(&mut game, event);
     }
     for _ in 0..13 {
         play_five(&mut game);

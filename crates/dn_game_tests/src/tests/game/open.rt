@@ -2,7 +2,7 @@
 
 use super::far::{play_rounds, started};
 use super::playing::events;
-use super::{build, config, opened, walks};
+use super::{applied, build, config, opened, walks};
 use dn_game::{Arrived, Event, Game, OpenDone, OpenEvent, Refusal, play_open};
 use dn_node::{Heard, Phase};
 use dn_seal::{Seal, SealFault, Sealer};
@@ -17,9 +17,9 @@ fn seal() -> Seal {
 
 /// Applies an event; a delivery as the arrival of the packet's envelope, which is heard as the packet is.
 fn carries(rt: &impl Abort, game: &mut Game<Walk>, plain: &mut Game<Walk>, event: &Event) {
-    let answer = plain.apply(*event);
+    let answer = applied(plain, *event);
     let Event::Deliver(which) = event else {
-        let found = game.apply(*event);
+        let found = applied(game, *event);
         same!(rt; found, answer, *event);
         return;
     };
@@ -61,7 +61,7 @@ fn envelopes_are_heard_as_packets(rt: HostRuntime) {
 fn forged_envelopes_change_nothing(rt: HostRuntime) {
     let rt = &rt;
     let mut game = must!(rt; opened(rt.alloc(), 2));
-    let _ = game.apply(Event::Send { node: 0, to: 1 });
+    let _ = applied(&mut game, Event::Send { node: 0, to: 1 });
     let Some(bytes) = game.sealed(seal(), 0) else {
         panic!(rt; "no envelope");
     };
@@ -104,7 +104,7 @@ fn late_and_unlike_envelopes_are_not_heard(rt: HostRuntime) {
         same!(rt; comes(&mut game, other.as_slice()), Ok(Arrived::Unlike), (from, start, ask));
     }
     same!(rt; comes(&mut game, envelope.as_slice()), Ok(Arrived::Heard(Heard::Stale)));
-    let _ = game.apply(build(1, 0));
+    let _ = applied(&mut game, build(1, 0));
     same!(rt; comes(&mut game, envelope.as_slice()), Ok(Arrived::Late));
     same!(rt; game.node(1).map(|node| node.made()), Some(65));
 }

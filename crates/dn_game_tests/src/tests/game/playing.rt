@@ -1,7 +1,7 @@
 //! Tests of lists of events that start two nodes and run a tic.
 
-use super::{applies, build, config, opened, send, walks};
-use dn_game::{Done, Event, Game, Played, Refusal, play, read_script};
+use super::{applied, applies, build, config, opened, play_list, send, walks};
+use dn_game::{Done, Event, Game, Played, Refusal, read_script};
 use dn_node::{Aim, Heard, Made, Node, Phase, Ran};
 use dn_shared_tests::{holds, must, rows, same};
 use dn_world::Walk;
@@ -130,7 +130,7 @@ fn look(rt: &impl Abort, game: &Game<Walk>) {
 fn played(alloc: Global, script: &str) -> Result<Played<Walk>, Fail> {
     let events = read_script(alloc, script.as_bytes())?;
     let worlds = walks(alloc, 2)?;
-    Ok(play(alloc, config(131_072)?, worlds, events.as_slice())?)
+    Ok(play_list(alloc, config(131_072)?, worlds, events.as_slice())?)
 }
 
 #[test]
@@ -157,7 +157,7 @@ fn a_packet_may_come_again(rt: HostRuntime) {
     let played = must!(rt; played(rt.alloc(), SCRIPT));
     let mut game = played.game;
     for _ in 0..3 {
-        let again = game.apply(Event::Deliver(4));
+        let again = applied(&mut game, Event::Deliver(4));
         same!(rt; again, Ok(Done::Heard(Heard::Stale)));
     }
     applies(rt, &mut game, Event::Deliver(9), Err(Refusal::NoPacket));
@@ -187,7 +187,8 @@ fn a_refused_event_leaves_the_game(rt: HostRuntime) {
     must!(rt; list.extend_from_slice(&events()));
     must!(rt; list.push(Event::Deliver(9)));
     let worlds = must!(rt; walks(rt.alloc(), 2));
-    let played = must!(rt; play(rt.alloc(), must!(rt; config(131_072)), worlds, list.as_slice()));
+    let played =
+        must!(rt; play_list(rt.alloc(), must!(rt; config(131_072)), worlds, list.as_slice()));
     same!(rt; (played.done, played.refused), (15, 1));
     look(rt, &played.game);
 }

@@ -1,8 +1,11 @@
 //! Tests of rounds in which every packet arrives.
 
 use super::told::all_told;
-use super::{build, config, opened, send, walks};
-use dn_game::{Event, Game, GameFault, PlayOnFault, Played, RoundFault, play, play_on, storm};
+use super::{
+    applied, build, config, opened, play_further, play_list, play_storm, round_is_good,
+    rounds_are_good, send, walks,
+};
+use dn_game::{Event, Game, GameFault, PlayOnFault, Played, RoundFault};
 use dn_machine::{Cause, Phase};
 use dn_shared_tests::{finds_no_memory, holds, must, rows, same};
 use dn_tic::Keys;
@@ -49,9 +52,9 @@ fn lost() -> [Event; 13] {
 fn after(rt: &impl Abort, alloc: Global, events: &[Event], rounds: u32) -> Game<Walk> {
     let mut game = must!(rt; opened(alloc, 2));
     for event in events {
-        holds!(rt; game.apply(*event).is_ok(), *event);
+        holds!(rt; applied(&mut game, *event).is_ok(), *event);
     }
-    same!(rt; game.good_rounds(no_keys(), rounds), Ok(()));
+    same!(rt; rounds_are_good(&mut game, no_keys(), rounds), Ok(()));
     game
 }
 
@@ -96,14 +99,14 @@ fn rounds_run_tics(rt: HostRuntime) {
 fn a_stopped_node_holds_the_others_up(rt: HostRuntime) {
     let rt = &rt;
     let mut game = must!(rt; opened(rt.alloc(), 3));
-    same!(rt; game.good_rounds(no_keys(), 20), Ok(()));
+    same!(rt; rounds_are_good(&mut game, no_keys(), 20), Ok(()));
     let before = rans(&game);
     holds!(rt; before[0] > Some(10));
-    holds!(rt; game.apply(Event::Stop(1)).is_ok());
-    same!(rt; game.good_rounds(no_keys(), 20), Ok(()));
+    holds!(rt; applied(&mut game, Event::Stop(1)).is_ok());
+    same!(rt; rounds_are_good(&mut game, no_keys(), 20), Ok(()));
     let held = rans(&game);
     same!(rt; held[1], before[1]);
-    same!(rt; game.good_rounds(no_keys(), 20), Ok(()));
+    same!(rt; rounds_are_good(&mut game, no_keys(), 20), Ok(()));
     same!(rt; rans(&game), held);
 }
 
@@ -111,11 +114,11 @@ fn a_stopped_node_holds_the_others_up(rt: HostRuntime) {
 fn long_game(rt: &impl Abort, alloc: Global, quits: bool, phase: Phase) {
     let worlds = must!(rt; walks(alloc, 2));
     let mut game = must!(rt; Game::new(alloc, must!(rt; config(1_024)), worlds));
-    same!(rt; game.good_rounds(no_keys(), 30), Ok(()), quits);
+    same!(rt; rounds_are_good(&mut game, no_keys(), 30), Ok(()), quits);
     if quits {
-        holds!(rt; game.apply(Event::Quit(1)).is_ok());
+        holds!(rt; applied(&mut game, Event::Quit(1)).is_ok());
     }
-    same!(rt; game.good_rounds(no_keys(), 170), Ok(()), quits);
+    same!(rt; rounds_are_good(&mut game, no_keys(), 170), Ok(()), quits);
     let zero = game.node(0).map(|node| (node.phase(), node.ran() > 101));
     same!(rt; zero, Some((phase, quits)));
 }
@@ -131,14 +134,14 @@ fn who_stays_runs_past_the_demo(rt: HostRuntime) {
 /// A game of two that has played the events before the quit.
 fn played(alloc: Global) -> Result<Played<Walk>, Fail> {
     let worlds = walks(alloc, 2)?;
-    Ok(play(alloc, config(131_072)?, worlds, &lost()[..12])?)
+    Ok(play_list(alloc, config(131_072)?, worlds, &lost()[..12])?)
 }
 
 /// Such a game that is played on by thirty rounds.
 fn played_on(alloc: Global, keys: [Keys; 4]) -> Result<Played<Walk>, Fail> {
     let worlds = walks(alloc, 2)?;
     let events = &lost()[..12];
-    Ok(play_on(alloc, config(131_072)?, worlds, events, keys, 30)?)
+    Ok(play_further(alloc, config(131_072)?, worlds, events, keys, 30)?)
 }
 
 /// Playing on is playing and then rounds, each with the keys of its players.
@@ -148,7 +151,7 @@ fn a_game_is_played_on(rt: HostRuntime) {
     let keys = [1, 2, 3, 4].map(Keys::from_bits);
     let mut rounds = must!(rt; played(rt.alloc()));
     for _ in 0..30 {
-        same!(rt; rounds.game.good_round(keys), Ok(()));
+        same!(rt; round_is_good(&mut rounds.game, keys), Ok(()));
     }
     let on = must!(rt; played_on(rt.alloc(), keys));
     same!(rt; all_told(&on.game), all_told(&rounds.game));
@@ -167,7 +170,7 @@ fn no_game_is_played_on(rt: HostRuntime) {
         (2, 1_023, GameFault::Limit),
     ] {
         let worlds = must!(rt; walks(rt.alloc(), players));
-        let on = play_on(
+        let on = play_further(
             rt.alloc(),
             must!(rt; config(limit)),
             worlds,
@@ -206,7 +209,7 @@ fn rounds_needed(rt: &impl Abort, game: &mut Game<Walk>) -> (u32, u32) {
     }
     let mut grown = 0;
     for rounds in 1..=ALL_RAN_BY {
-        same!(rt; game.good_round(no_keys()), Ok(()));
+        same!(rt; round_is_good(game, no_keys()), Ok(()));
         let now = rans(game);
         let mut all_grown = true;
         let mut all_ran = true;
@@ -231,13 +234,13 @@ fn broken_off(rt: &impl Abort, alloc: Global, players: usize, seed: u64) -> Game
     let count = (seed % 100 * 7_919 + players as u64 % 100 * 104_729) % 3_000;
     let worlds = must!(rt; walks(alloc, players));
     let mut game =
-        must!(rt; storm(alloc, must!(rt; config(131_072)), worlds, seed, count as u32)).game;
+        must!(rt; play_storm(alloc, must!(rt; config(131_072)), worlds, seed, count as u32)).game;
     let plays = match game.node(1) {
         Some(node) => node.phase() == Phase::Playing,
         None => false,
     };
     if seed % 4 == 0 && plays {
-        holds!(rt; game.apply(Event::Quit(1)).is_ok(), (players, seed));
+        holds!(rt; applied(&mut game, Event::Quit(1)).is_ok(), (players, seed));
     }
     game
 }
@@ -268,7 +271,7 @@ fn refused_memory_ends_a_round(rt: HostRuntime) {
     };
     let mut carried_out = 0_u32;
     for _ in 0..16 {
-        match game.good_round(no_keys()) {
+        match round_is_good(&mut game, no_keys()) {
             Ok(()) => carried_out = carried_out.saturating_add(1),
             Err(fault) => {
                 same!(rt; fault, RoundFault::Memory);
@@ -287,7 +290,7 @@ fn refused_memory_ends_playing_on(rt: HostRuntime) {
         return;
     };
     let config = must!(rt; config(1_024));
-    match play_on(rt.alloc(), config, worlds, &lost()[..0], no_keys(), 16) {
+    match play_further(rt.alloc(), config, worlds, &lost()[..0], no_keys(), 16) {
         Ok(played) => {
             same!(rt; (played.done, played.refused), (0, 0));
             same!(rt; played.game.flights(), 32);

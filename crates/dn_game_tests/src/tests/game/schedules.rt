@@ -1,6 +1,6 @@
 //! Tests of schedules, against words of the generator's published reference code.
 
-use super::{build, opened, send};
+use super::{applied, build, opened, send};
 use dn_game::{Event, Game, Schedule};
 use dn_shared_tests::{holds, must, rows, same};
 use dn_world::Walk;
@@ -10,7 +10,7 @@ use std::process::Abort;
 fn send_round(game: &mut Game<Walk>, players: u32, count: u32) {
     let others = players.saturating_sub(1).max(1);
     for which in 0..count {
-        let _ = game.apply(send(0, 1 + which % others));
+        let _ = applied(game, send(0, 1 + which % others));
     }
 }
 
@@ -112,7 +112,7 @@ fn schedules_are_those_of_their_seeds(rt: HostRuntime) {
         let mut game = must!(rt; opened(rt.alloc(), row.players as usize));
         send_round(&mut game, row.players, row.sent);
         for node in row.stopped {
-            let _ = game.apply(Event::Stop(*node));
+            let _ = applied(&mut game, Event::Stop(*node));
         }
         draw(rt, &game, row.seed, row.events);
     }
@@ -126,7 +126,7 @@ fn a_stopped_game_has_no_event(rt: HostRuntime) {
         let mut schedule = Schedule::new(9);
         for node in 0..players as u32 {
             holds!(rt; schedule.next(&game).is_some(), players);
-            let _ = game.apply(Event::Stop(node));
+            let _ = applied(&mut game, Event::Stop(node));
         }
         for _ in 0..3 {
             same!(rt; schedule.next(&game), None, players);

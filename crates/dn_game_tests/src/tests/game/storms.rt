@@ -2,8 +2,8 @@
 
 use super::belts::belts;
 use super::told::all_told;
-use super::{config, walks};
-use dn_game::{Game, Played, storm};
+use super::{config, play_storm, walks};
+use dn_game::{Game, Played};
 use dn_shared_tests::{holds, must, same};
 use dn_world::{Walk, World};
 use std::alloc::Global;
@@ -12,7 +12,7 @@ use std::test::Fail;
 
 fn stormed(alloc: Global, players: usize, seed: u64, count: u32) -> Result<Played<Walk>, Fail> {
     let worlds = walks(alloc, players)?;
-    Ok(storm(alloc, config(131_072)?, worlds, seed, count)?)
+    Ok(play_storm(alloc, config(131_072)?, worlds, seed, count)?)
 }
 
 #[test]
@@ -94,7 +94,8 @@ fn worlds_with_vectors_are_stormed(rt: HostRuntime) {
     let mut compared = false;
     for seed in 1..=6 {
         let worlds = must!(rt; belts(rt.alloc(), 2));
-        let played = must!(rt; storm(rt.alloc(), must!(rt; config(131_072)), worlds, seed, 5_000));
+        let played =
+            must!(rt; play_storm(rt.alloc(), must!(rt; config(131_072)), worlds, seed, 5_000));
         same!(rt; (played.done, played.refused), (5_000, 0), seed);
         match (played.game.node(0), played.game.node(1)) {
             (Some(zero), Some(one)) if zero.ran() == one.ran() => {

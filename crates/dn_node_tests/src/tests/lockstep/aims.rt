@@ -1,7 +1,7 @@
 //! Tests of the exact numbers of the next packet, beside its bytes.
 
 use super::stages::{Stage, at};
-use super::{FORWARD, NO_KEYS, build, datagram, hears, pair, pass, quit, received, tics};
+use super::{FORWARD, NO_KEYS, build, datagram, hears, packet, pair, pass, quit, received, tics};
 use dn_lockstep::{Aim, Heard, Lockstep};
 use dn_packet::{EXIT, RETRANSMIT, SETUP};
 use dn_shared_tests::{holds, must, same};
@@ -35,13 +35,13 @@ fn numbers(flags: u8, ask: Option<u32>, start: u32, count: u8) -> Aim {
 fn aims_at(rt: &impl Abort, node: &mut Lockstep, peers: [bool; 4], stage: Stage) {
     for (to, there) in (0..4u8).zip(peers) {
         same!(rt; node.aim(to).is_some(), there, (stage, to));
-        same!(rt; node.packet(to).is_some(), there, (stage, to));
+        same!(rt; packet(node, to).is_some(), there, (stage, to));
         let mut room = [165; 104];
         same!(rt; node.packet_with_aim(to, &mut room).is_some(), there, (stage, to));
         same!(rt; room.iter().all(|byte| *byte == 165), !there, (stage, to));
     }
     same!(rt; node.aim(255), None, stage);
-    holds!(rt; node.packet(255).is_none(), stage);
+    holds!(rt; packet(node, 255).is_none(), stage);
 }
 
 #[test]

@@ -1,7 +1,9 @@
 //! Tests of how a node ends before the game, alone, and once.
 
 use super::stages::{Stage, at};
-use super::{IDLE, NO_KEYS, STILL, build, datagram, hears, pair, quit, received, run, tics};
+use super::{
+    IDLE, NO_KEYS, STILL, build, datagram, hears, packet, pair, quit, received, run, tics,
+};
 use dn_lockstep::{Cause, Heard, Lockstep, Made, Phase, Ran};
 use dn_packet::{EXIT, SETUP};
 use dn_shared_tests::{holds, must, same};
@@ -19,7 +21,7 @@ fn before_the_game_a_node_ends_in_silence(rt: HostRuntime) {
         holds!(rt; node.demo().is_empty());
         for to in 0..5 {
             same!(rt; node.aim(to), None, (stage, to));
-            holds!(rt; node.packet(to).is_none(), (stage, to));
+            holds!(rt; packet(&mut node, to).is_none(), (stage, to));
             same!(rt; node.end(to), None, (stage, to));
         }
     }

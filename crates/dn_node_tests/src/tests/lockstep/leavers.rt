@@ -1,7 +1,9 @@
 //! Tests of nodes that have left: what they hear, and what they give.
 
 use super::stages::{STOP, Stage, at};
-use super::{Exchange, IDLE, NO_KEYS, STILL, build, hears, pair, pass, quit, received, tics};
+use super::{
+    Exchange, IDLE, NO_KEYS, STILL, build, hears, packet, pair, pass, quit, received, tics,
+};
 use dn_lockstep::{Aim, Heard, Lockstep, Phase};
 use dn_packet::{EXIT, KILL, RETRANSMIT, SETUP};
 use dn_shared_tests::{holds, must, rows, same};
@@ -84,7 +86,7 @@ fn sends(rt: &impl Abort, node: &mut Lockstep, start: u32, count: u8) {
         count,
     };
     same!(rt; node.aim(1), Some(aim));
-    let size = node.packet(1).map(|bytes| bytes.len());
+    let size = packet(node, 1).map(|bytes| bytes.len());
     same!(rt; size, Some(8 + 8 * usize::from(count)));
 }
 

@@ -1,9 +1,12 @@
 //! Tests of the marks that a caller hands in, and of the rows that it is told.
 
-use super::{FORWARD, IDLE, NO_KEYS, SPEED, build, given, pair, pass, quit, received, tics};
+use super::{
+    FORWARD, IDLE, NO_KEYS, SPEED, build, given, pair, pass, quit, received, run_by, tics,
+};
 use dn_lockstep::{Cause, Heard, Lockstep, Phase, Ran};
 use dn_packet::decode;
 use dn_shared_tests::{holds, must, same};
+use dn_tic::Move;
 use std::alloc::Global;
 use std::process::Abort;
 use std::test::Fail;
@@ -29,8 +32,8 @@ fn marks_come_back_twelve_tics_on(rt: HostRuntime) {
         same!(rt; carried, if tic < 12 { 0 } else { 1_000 + tic - 12 }, tic);
         let marks = [1_000 + tic, -2_000 - tic, 3, 4];
         let number = tic.unsigned_abs().into();
-        same!(rt; key.run(&marks).0, Ran::Ran(number));
-        same!(rt; other.run(&marks).0, Ran::Ran(number));
+        same!(rt; run_by(&mut key, marks).0, Ran::Ran(number));
+        same!(rt; run_by(&mut other, marks).0, Ran::Ran(number));
     }
 }
 
@@ -40,8 +43,8 @@ fn differing(rt: &impl Abort, alloc: Global) -> Result<(Lockstep, Lockstep), Fai
     for tic in 0..17 {
         let _ = exchange(rt, &mut key, &mut other)?;
         let off = if tic == 5 { 8 } else { 7 };
-        same!(rt; key.run(&[7, off, 0, 0]).0, Ran::Ran(tic));
-        same!(rt; other.run(&[7; 4]).0, Ran::Ran(tic));
+        same!(rt; run_by(&mut key, [7, off, 0, 0]).0, Ran::Ran(tic));
+        same!(rt; run_by(&mut other, [7; 4]).0, Ran::Ran(tic));
     }
     let _ = exchange(rt, &mut key, &mut other)?;
     Ok((key, other))
@@ -57,14 +60,19 @@ fn other_marks_end_it(rt: HostRuntime) {
         was: 7,
         should: 8,
     };
-    same!(rt; key.run(&[7; 4]), (ran, None));
+    same!(rt; run_by(&mut key, [7; 4]), (ran, None));
     let cause = Cause::Inconsistent {
         player: 1,
         was: 7,
         should: 8,
     };
     same!(rt; key.phase(), Phase::Ended(cause));
-    same!(rt; other.run(&[7; 4]).0, Ran::Ran(17));
+    same!(rt; run_by(&mut other, [7; 4]).0, Ran::Ran(17));
+}
+
+/// Runs by the marks 7, of which those of players who are given up do not matter.
+fn run_without(key: &mut Lockstep, given_up: &[bool; 4], row: &mut [Option<Move>; 4]) -> Ran {
+    key.run_without(given_up, &[7; 4], row)
 }
 
 /// The marks of players who are given up may be any, and their commands are still in the row.
@@ -85,7 +93,7 @@ fn marks_of_those_given_up_do_not_matter(rt: HostRuntime) {
     for (given_up, answer) in rows {
         let (mut key, _) = must!(rt; differing(rt, rt.alloc()));
         let mut row = [None; 4];
-        same!(rt; key.run_without(&given_up, &[7; 4], &mut row), answer, given_up);
+        same!(rt; run_without(&mut key, &given_up, &mut row), answer, given_up);
         let runs = answer == Ran::Ran(17);
         same!(rt; row.map(|step| step.is_some()), [runs, runs, false, false], given_up);
     }
@@ -102,7 +110,7 @@ fn marks_of_the_gone_do_not_matter(rt: HostRuntime) {
     for tic in 20i16..50 {
         let number = tic.unsigned_abs().into();
         let _ = build(&mut other, FORWARD);
-        let (ran, row) = other.run(&[tic, 0, 0, 0]);
+        let (ran, row) = run_by(&mut other, [tic, 0, 0, 0]);
         same!(rt; ran, Ran::Ran(number));
         let row = must!(rt; row.ok_or("no row"));
         same!(rt; row.map(|step| step.map(|step| step.forward)), [None, Some(25), None, None]);
@@ -114,11 +122,11 @@ fn marks_of_the_gone_do_not_matter(rt: HostRuntime) {
 fn no_other_run_tells_a_row(rt: HostRuntime) {
     let rt = &rt;
     let (mut key, mut other) = must!(rt; pair(rt.alloc(), false));
-    same!(rt; key.run(&[0; 4]), (Ran::Waiting(0), None));
+    same!(rt; run_by(&mut key, [0; 4]), (Ran::Waiting(0), None));
     let _ = must!(rt; exchange(rt, &mut key, &mut other));
-    let (ran, row) = key.run(&[0; 4]);
+    let (ran, row) = run_by(&mut key, [0; 4]);
     same!(rt; (ran, row.is_some()), (Ran::Ran(0), true));
-    same!(rt; key.run(&[0; 4]), (Ran::Waiting(0), None));
+    same!(rt; run_by(&mut key, [0; 4]), (Ran::Waiting(0), None));
     holds!(rt; quit(&mut key));
-    same!(rt; key.run(&[0; 4]), (Ran::NotPlaying, None));
+    same!(rt; run_by(&mut key, [0; 4]), (Ran::NotPlaying, None));
 }

@@ -2,7 +2,9 @@
 
 use super::settling::{forward, settle, with_five};
 use super::stages::{Stage, at};
-use super::{LIMIT, NO_KEYS, STILL, build, choice, datagram, hears, pair, pass, received, run};
+use super::{
+    LIMIT, NO_KEYS, STILL, build, choice, datagram, hears, pair, pass, received, run, run_by,
+};
 use dn_lockstep::{Aim, Config, Heard, Lockstep, Phase, Ran, Settled};
 use dn_packet::RETRANSMIT;
 use dn_shared_tests::{holds, must, same};
@@ -25,7 +27,7 @@ fn the_others_go_on_from_the_end(rt: HostRuntime) {
         if tic > 1 {
             let _ = build(&mut key, NO_KEYS);
         }
-        let (ran, row) = key.run(&[0; 4]);
+        let (ran, row) = run_by(&mut key, [0; 4]);
         same!(rt; ran, Ran::Ran(tic));
         let [own, other, _, _] = must!(rt; row.ok_or("no row"));
         same!(rt; (own.is_some(), other.map(|step| step.forward)), (true, step), tic);
@@ -124,7 +126,7 @@ fn two_agree_on_the_third(rt: HostRuntime) {
     for tic in 0..3 {
         let _ = (build(&mut key, NO_KEYS), build(&mut other, NO_KEYS));
         let _ = (pass(&mut key, &mut other), pass(&mut other, &mut key));
-        let (first, second) = (key.run(&[0; 4]), other.run(&[0; 4]));
+        let (first, second) = (run_by(&mut key, [0; 4]), run_by(&mut other, [0; 4]));
         same!(rt; first, second, tic);
         same!(rt; first.0, Ran::Ran(tic));
         let third = first.1.and_then(|[_, _, third, _]| third);

@@ -1,6 +1,8 @@
 //! Tests of requests for commands, and of what packets carry again.
 
-use super::{IDLE, NO_KEYS, STILL, build, datagram, given, hears, pair, pass, received, tics};
+use super::{
+    IDLE, NO_KEYS, STILL, build, datagram, given, hears, packet, pair, pass, received, tics,
+};
 use dn_lockstep::{Aim, Heard, Lockstep};
 use dn_packet::{EXIT, RETRANSMIT};
 use dn_shared_tests::{must, same};
@@ -35,7 +37,7 @@ pub(super) fn sends(rt: &impl Abort, node: &mut Lockstep, start: u32, count: u8)
         count,
     };
     same!(rt; node.aim(1), Some(aim));
-    let Some(bytes) = node.packet(1) else {
+    let Some(bytes) = packet(node, 1) else {
         panic!(rt; "no packet");
     };
     same!(rt; bytes.len(), 8 + 8 * usize::from(count), start);

@@ -1,7 +1,7 @@
 //! Tests of the ends that a lockstep is told of players who are given up.
 
 use super::stages::{STOP, Stage, at};
-use super::{STILL, datagram, pair};
+use super::{STILL, datagram, pair, received};
 use dn_lockstep::{Lockstep, Settled};
 use dn_packet::EXIT;
 use dn_shared_tests::{must, rows, same};
@@ -28,9 +28,9 @@ pub(super) fn forward(forward: i8) -> TicCmd {
 /// Player 0 of two plays, has five commands of player 1, and knows its end where one is told.
 pub(super) fn with_five(alloc: Global, known: Option<u8>) -> Result<Lockstep, Fail> {
     let (mut key, _) = pair(alloc, false)?;
-    let _ = key.receive(1, datagram(0, (0, 0, 1), &[STILL; 5]).as_slice());
+    let _ = received(&mut key, 1, datagram(0, (0, 0, 1), &[STILL; 5]).as_slice());
     if let Some(end) = known {
-        let _ = key.receive(1, datagram(EXIT, (0, end, 1), &[]).as_slice());
+        let _ = received(&mut key, 1, datagram(EXIT, (0, end, 1), &[]).as_slice());
     }
     Ok(key)
 }

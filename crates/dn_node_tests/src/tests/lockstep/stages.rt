@@ -1,6 +1,6 @@
 //! Nodes of three players that stand where a test wants them.
 
-use super::{LIMIT, STILL, datagram, opened};
+use super::{LIMIT, STILL, datagram, opened, quit, received};
 use dn_lockstep::Lockstep;
 use dn_packet::SETUP;
 use dn_tic::TicCmd;
@@ -38,16 +38,16 @@ pub(super) fn at(alloc: Global, stage: Stage) -> Result<Lockstep, Fail> {
         Stage::Listener | Stage::Key => (),
         Stage::First => {
             for from in [1, 2] {
-                let _ = node.receive(from, datagram(0, (0, 0, from), &[]).as_slice());
+                let _ = received(&mut node, from, datagram(0, (0, 0, from), &[]).as_slice());
             }
         }
         Stage::Second | Stage::Leaver => {
-            let _ = node.receive(0, datagram(SETUP, (2, 65, 111), &[]).as_slice());
+            let _ = received(&mut node, 0, datagram(SETUP, (2, 65, 111), &[]).as_slice());
         }
         Stage::Quitter => (),
     }
     if stage == Stage::Quitter || stage == Stage::Leaver {
-        node.quit();
+        let _ = quit(&mut node);
     }
     Ok(node)
 }

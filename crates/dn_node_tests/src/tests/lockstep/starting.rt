@@ -1,6 +1,8 @@
 //! Tests of how a game starts.
 
-use super::{LIMIT, NO_KEYS, STILL, build, choice, given, hears, opened, pass, received, run};
+use super::{
+    LIMIT, NO_KEYS, STILL, build, choice, given, hears, opened, packet, pass, received, run,
+};
 use dn_lockstep::{Heard, Lockstep, Made, Phase, Ran};
 use dn_packet::{EXIT, KILL, RETRANSMIT, SETUP};
 use dn_setup::Settings;
@@ -27,7 +29,7 @@ fn a_listener_starts_once(rt: HostRuntime) {
     let rt = &rt;
     let mut node = must!(rt; listener(rt.alloc()));
     same!(rt; node.settings(), None);
-    same!(rt; node.packet(0).map(|bytes| bytes.len()), None);
+    same!(rt; packet(&mut node, 0).map(|bytes| bytes.len()), None);
     same!(rt; received(&mut node, 0, &CHOICE), Heard::Started);
     let settings = must!(rt; Settings::new(3, 1, true, false, 1, 7));
     same!(rt; node.settings(), Some(settings));

@@ -1,7 +1,9 @@
 //! Tests of the commands that a playing node takes.
 
 use super::stages::{Stage, at};
-use super::{IDLE, NO_KEYS, STILL, build, datagram, hears, pair, pass, received, run, tics};
+use super::{
+    IDLE, NO_KEYS, STILL, build, datagram, hears, pair, pass, received, run, run_by, tics,
+};
 use dn_lockstep::{Heard, Lockstep, Made, Phase, Ran};
 use dn_shared_tests::{must, same};
 use dn_tic::TicCmd;
@@ -52,7 +54,7 @@ fn a_ring_is_filled_and_not_overrun(rt: HostRuntime) {
 
 /// A node runs this tic, in which player 1 goes so far forward.
 fn runs_forward(rt: &impl Abort, node: &mut Lockstep, tic: u32, forward: i8) {
-    let (ran, row) = node.run(&[0; 4]);
+    let (ran, row) = run_by(node, [0; 4]);
     same!(rt; ran, Ran::Ran(tic));
     let step = must!(rt; row.and_then(|[_, step, _, _]| step).ok_or("no move"));
     same!(rt; step.forward, forward);

@@ -1,9 +1,9 @@
 //! A lockstep with a Walk beside it plays as a node with a Walk inside.
 
-use super::{LIMIT, config_of, opened};
+use super::{LIMIT, build, config_of, opened, quit, received, run};
 use arrayvec::ArrayVec;
 use dn_lockstep::Lockstep;
-use dn_node::{Heard, Node, Ran};
+use dn_node::{Heard, Made, Node, Ran};
 use dn_shared_tests::{holds, must, same};
 use dn_tic::Keys;
 use dn_world::{Walk, World};
@@ -37,6 +37,18 @@ impl Beside {
         Ok(heard)
     }
 
+    fn build(&mut self, keys: Keys) -> Made {
+        self.lockstep.build(keys)
+    }
+
+    fn packet(&mut self, to: u8) -> Option<ArrayVec<u8, 104>> {
+        self.lockstep.packet(to)
+    }
+
+    fn quit(&mut self) -> bool {
+        self.lockstep.quit()
+    }
+
     /// Runs by the world's marks, and steps the world by the row.
     fn run(&mut self) -> Ran {
         let walk = &self.walk;
@@ -57,7 +69,7 @@ fn builds(
     bits: u32,
 ) -> Option<ArrayVec<u8, 104>> {
     let keys = Keys::from_bits(bits >> 14);
-    same!(rt; beside.lockstep.build(keys), node.build(keys), bits);
+    same!(rt; beside.build(keys), build(node, bits >> 14), bits);
     gives(rt, beside, node)
 }
 
@@ -65,7 +77,7 @@ fn builds(
 fn gives(rt: &impl Abort, beside: &mut Beside, node: &mut Node<Walk>) -> Option<ArrayVec<u8, 104>> {
     let to = u8::from(node.me() == 0);
     let aim = beside.lockstep.aim(to);
-    let packet = beside.lockstep.packet(to);
+    let packet = beside.packet(to);
     let mut room = [0; 104];
     match (&packet, node.packet_with_aim(to, &mut room)) {
         (Some(bytes), Some((numbers, size))) => {
@@ -86,7 +98,7 @@ fn hears(
     if let Some(bytes) = packet {
         let from = u8::from(node.me() == 0);
         let heard = beside.receive(from, bytes.as_slice())?;
-        same!(rt; heard, node.receive(from, bytes.as_slice()));
+        same!(rt; heard, received(node, from, bytes.as_slice()));
     }
     Ok(())
 }
@@ -106,9 +118,9 @@ fn agree(rt: &impl Abort, beside: &Beside, node: &Node<Walk>) {
 
 /// Both run, and leave where they are to.
 fn runs(rt: &impl Abort, beside: &mut Beside, node: &mut Node<Walk>, leaves: bool) {
-    same!(rt; beside.run(), node.run());
+    same!(rt; beside.run(), run(node));
     if leaves {
-        same!(rt; (beside.lockstep.quit(), node.quit()), (true, true));
+        same!(rt; (beside.quit(), quit(node)), (true, true));
     }
     agree(rt, beside, node);
 }

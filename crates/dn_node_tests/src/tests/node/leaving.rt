@@ -1,6 +1,8 @@
 //! Tests of how a player leaves, and how the others play on.
 
-use super::{LIMIT, NO_KEYS, STILL, build, given, hears, opened, pass, quit, received, run};
+use super::{
+    LIMIT, NO_KEYS, STILL, build, given, hears, opened, packet, pass, quit, received, run,
+};
 use dn_node::{Aim, Cause, Heard, Made, Node, Phase, Ran};
 use dn_packet::{EXIT, RETRANSMIT};
 use dn_shared_tests::{holds, must, same};
@@ -72,8 +74,8 @@ fn gives(rt: &impl Abort, node: &mut Node<Walk>, to: u8, first: &[u8; 8], zeros:
         count: first[7],
     };
     same!(rt; node.aim(to), Some(aim));
-    let packet = node.packet(to);
-    let bytes = match &packet {
+    let given = packet(node, to);
+    let bytes = match &given {
         Some(bytes) => bytes.as_slice(),
         None => panic!(rt; "no packet to {to}"),
     };
@@ -105,7 +107,7 @@ fn who_leaves_gives_the_last_commands(rt: HostRuntime) {
     }
     for to in [2, 3, 4, 255] {
         same!(rt; c.aim(to), None);
-        holds!(rt; c.packet(to).is_none());
+        holds!(rt; packet(&mut c, to).is_none());
     }
 }
 

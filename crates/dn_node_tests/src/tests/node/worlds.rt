@@ -1,8 +1,8 @@
 //! Tests of nodes over two worlds, of which one keeps its state in a vector.
 
 use super::{
-    LEFT, LIMIT, NO_KEYS, RIGHT, SPEED, build, datagram, pair, pair_of, pass, quit, received, run,
-    tics,
+    LEFT, LIMIT, NO_KEYS, RIGHT, SPEED, build, datagram, packet, pair, pair_of, pass, quit,
+    received, run, tics,
 };
 use dn_node::{Aim, Heard, Made, Node, Phase, Ran};
 use dn_packet::{KILL, RETRANSMIT};
@@ -33,7 +33,7 @@ fn one_tic<W: World>(node: &mut Node<W>, other: &mut Node<W>, tic: u32) -> Answe
     let aim = node.aim(other.me());
     let heard = pass(other, node);
     if tic % 5 == 3 {
-        let _ = node.packet(other.me());
+        let _ = packet(node, other.me());
     } else {
         let _ = pass(node, other);
     }
