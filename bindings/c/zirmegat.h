@@ -622,7 +622,8 @@ zmg_received zmg_link_receive(zmg_link *link, const uint8_t *bytes, size_t lengt
 #define ZMG_PRESENCE_AWAY 4u      /* it left before its game started, or was forgotten before the game of this
                                    * link did; another may take its place, with a link of its own, and is
                                    * heard once 64 of its datagrams have come, or before; but if cause is 0,
-                                   * only if the link that was forgotten is gone */
+                                   * only if the link that was forgotten is gone, and never if the player is
+                                   * given up (zmg_link_has_given_up) */
 #define ZMG_PRESENCE_LEFT 5u      /* it has played, and left */
 #define ZMG_PRESENCE_FORGOTTEN 6u /* it was forgotten when this link played or had ended, or had given it the
                                    * settings, or had heard that it plays: nobody takes its place */
@@ -649,8 +650,8 @@ zmg_presence zmg_link_presence(zmg_link *link, uint8_t player);
  * than its newest, or 64 or more behind it, or a goodbye after its game, of any age; zmg_link_may_leave does
  * not wait for it. Then nobody takes its place, since its commands may have reached others: for another player,
  * make a new game with a new number. Its commands are still missing: the game goes on without it only if its
- * end is known. A player who is ZMG_PRESENCE_LEFT stays so. For a number that is not another player's nothing
- * happens. */
+ * end is known. A player who is ZMG_PRESENCE_LEFT stays so. Of one who is given up by zmg_link_give_up nothing is
+ * heard any more, and nobody takes its place. For a number that is not another player's nothing happens. */
 void zmg_link_forget(zmg_link *link, uint8_t player);
 
 /* What zmg_link_give_up returns. */
@@ -681,10 +682,11 @@ typedef struct zmg_given_up {
 
 /* Gives up a player who vanished, for good, so that the others play on. Unlike zmg_link_forget it cannot be
  * undone: from here on no datagram goes to the player, nothing of it is taken, zmg_link_run compares no mark of
- * it, and zmg_link_may_leave does not wait for it. Its presence becomes what zmg_link_forget makes of it. All who
- * play on must give it up, and hear each other's reports, and zmg_link_run waits for the player until then: then
- * its commands end at the same tic at all of them, and the game goes on from there without it. If the link
- * gathered before the call, and plays after it, the game has started: the caller begins its world with
+ * it, and zmg_link_may_leave does not wait for it. Its presence becomes what zmg_link_forget makes of it; then
+ * nothing that comes changes it, and nobody takes the player's place. All who play on must give it up, and hear
+ * each other's reports; until then zmg_link_run waits whenever it lacks a command of the player. Then its
+ * commands end at the same tic at all of them, and the game goes on from there without it. If the link gathered
+ * before the call, and plays after it, the game has started: the caller begins its world with
  * zmg_link_settings. */
 zmg_given_up zmg_link_give_up(zmg_link *link, uint8_t player);
 
@@ -692,7 +694,7 @@ zmg_given_up zmg_link_give_up(zmg_link *link, uint8_t player);
 uint32_t zmg_link_has_given_up(zmg_link *link, uint8_t player);
 
 /* Returns 1 if the newest report of another player, the teller, names the player as given up, else 0. Those who
- * play on together have to give up the same players. */
+ * play on together have to give up the same players. A teller who is given up reports nobody: 0. */
 uint32_t zmg_link_reports_gone(zmg_link *link, uint8_t teller, uint8_t player);
 
 /* Returns which player's report is missing, the lowest number of them, if known is 1: of those who are not given

@@ -110,12 +110,14 @@ static void look_for_silence(uint8_t me, uint8_t of) {
     if (now - p->heard[of] > PATIENCE) give_up(me, of);
 }
 
-/* Whom one gives up that is not given up itself is given up. */
+/* Whom another has given up is given up. One who is given up itself reports nobody. */
 static void follow(uint8_t me, uint8_t of) {
-    if (all[me].gone >> of & 1) return;
     MUST(!zmg_link_reports_gone(&links[me], of, me));
-    for (uint8_t p = 0; p < players; p++)
-        if (zmg_link_reports_gone(&links[me], of, p)) give_up(me, p);
+    for (uint8_t p = 0; p < players; p++) {
+        if (!zmg_link_reports_gone(&links[me], of, p)) continue;
+        MUST(!(all[me].gone >> of & 1));
+        give_up(me, p);
+    }
 }
 
 static void tick(uint8_t me) {

@@ -132,7 +132,8 @@ impl Link {
     /// its game, of any age; [`may_leave`](Link::may_leave) does not wait for it. Then nobody takes its place,
     /// since its commands may have reached others: for another player, make a new game with a new number. Its
     /// commands are still missing: the game goes on without it only if its end is known. A player who has
-    /// [left](Presence::Left) stays so. For a number that is not another player's nothing happens.
+    /// [left](Presence::Left) stays so. Of one who is given up by [`give_up`](Link::give_up) nothing is heard any
+    /// more, and nobody takes its place. For a number that is not another player's nothing happens.
     pub fn forget(&mut self, player: u8) {
         // SAFETY: the call has exclusive use of the handle (`Held`).
         unsafe { raw::zmg_link_forget(self.0.at(), player) }
@@ -141,10 +142,11 @@ impl Link {
     /// Gives up a player who vanished, for good, so that the others play on. Unlike [`forget`](Link::forget) it
     /// cannot be undone: from here on no datagram goes to the player, nothing of it is taken,
     /// [`run`](Link::run) compares no mark of it, and [`may_leave`](Link::may_leave) does not wait for it. Its
-    /// presence becomes what `forget` makes of it. All who play on must give it up, and hear each other's
-    /// reports, and [`run`](Link::run) waits for the player until then: then its commands end at the same tic at
-    /// all of them, and the game goes on from there without it. If the link gathered before the
-    /// call, and plays after it, the game has started: the caller begins its world with the start of
+    /// presence becomes what `forget` makes of it; then nothing that comes changes it, and nobody takes the
+    /// player's place. All who play on must give it up, and hear each other's reports; until then
+    /// [`run`](Link::run) waits whenever it lacks a command of the player. Then its commands end at the same tic
+    /// at all of them, and the game goes on from there without it. If the link gathered before the call, and plays
+    /// after it, the game has started: the caller begins its world with the start of
     /// [`settings`](Link::settings).
     pub fn give_up(&mut self, player: u8) -> GivenUp {
         // SAFETY: the call has exclusive use of the handle (`Held`).
@@ -158,7 +160,7 @@ impl Link {
     }
 
     /// Returns true if the newest report of another player, the teller, names the player as given up. Those who
-    /// play on together have to give up the same players.
+    /// play on together have to give up the same players. A teller who is given up reports nobody.
     pub fn reports_gone(&self, teller: u8, player: u8) -> bool {
         // SAFETY: the call has exclusive use of the handle (`Held`).
         unsafe { raw::zmg_link_reports_gone(self.0.at(), teller, player) != 0 }
@@ -316,7 +318,8 @@ pub struct Identity {
 #[derive(Clone, Copy, Debug, PartialEq, Eq)]
 #[non_exhaustive]
 pub enum Parting {
-    /// It was forgotten by [`Link::forget`], before the game of this link had started. It may be heard again.
+    /// It was forgotten by [`Link::forget`], before the game of this link had started. It may be heard again,
+    /// unless it is given up by [`Link::give_up`].
     Forgotten,
     /// It quit.
     Quit,
@@ -342,7 +345,8 @@ pub enum Presence {
     Different(Identity),
     /// It left before its game started, or was forgotten before the game of this link did. Another may take its
     /// place, with a link of its own, and is heard once 64 of its datagrams have come, or before; but if it was
-    /// forgotten ([`Parting::Forgotten`]), only if the link that was forgotten is gone.
+    /// forgotten ([`Parting::Forgotten`]), only if the link that was forgotten is gone, and never if the player
+    /// is given up ([`Link::has_given_up`]).
     Away(Parting),
     /// It has played and left.
     Left(Parting),

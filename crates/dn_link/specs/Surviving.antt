@@ -1,11 +1,11 @@
 -- What becomes of the peers of a link that gives up a player.
-use Rattle.std.specs.Prelude.{◌≡◌, ℕ, Bool, true, false, Option, Some, None}
+use Rattle.std.specs.Prelude.{◌≡◌, ℕ, ◌&&◌, Bool, true, false, not, Option, Some, None}
 use Rattle.dn_report.specs.declared.report.Report.{Report}
 use Rattle.dn_others.specs.Keeping.{has, newest_of}
 use Rattle.dn_survivor.specs.Calls.{GivesUp}
 use Rattle.dn_survivor.specs.Surviving.{Surviving}
 use Rattle.dn_survivor.specs.declared.answers.GivenUp.{GivenUp}
-use Rattle.dn_link.specs.Linked.{Linked, forgotten, surviving_of}
+use Rattle.dn_link.specs.Linked.{Linked, forgotten, has_given_up, surviving_of}
 
 -- a player is given up by the call with this answer
 abbrev pub is_given_up : GivenUp → Bool
@@ -32,6 +32,6 @@ abbrev pub names : Option Report → ℕ → Bool
 names None player = false
 names (Some report) player = has report.gone player
 
--- another has given up a player, as far as it reported
+-- another has given up a player, as far as it reported; of one who is given up itself nothing counts
 abbrev pub reports_gone : Linked → ℕ → ℕ → Bool
-reports_gone link teller player = names (newest_of link.others teller) player
+reports_gone link teller player = not (has_given_up link teller) && names (newest_of link.others teller) player

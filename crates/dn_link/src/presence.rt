@@ -25,7 +25,8 @@ pub enum Presence {
     Playing,
     /// It said hello with another identity, and takes no part.
     Different(Identity),
-    /// It left before its game started, for this cause, or was forgotten then (0). Another may take its place.
+    /// It left before its game started, for this cause, or was forgotten then (0). Another may take its place, but
+    /// not that of one who is given up (`Link::has_given_up`), of whom nothing is heard.
     Away(u8),
     /// It has played and left, for this cause.
     Left(u8),

@@ -1,6 +1,6 @@
 //! What holds of links of which players may be given up.
 
-ghost use Rattle.std.specs.Prelude.{◌≡◌, ◌<◌, ◌≤◌, ℕ, ℤ, pos, Bool, true, false, List, get_or, Option, Some, IfSome, Err, slice_get};
+ghost use Rattle.std.specs.Prelude.{◌≡◌, ◌<◌, ◌≤◌, ℕ, ℤ, pos, Bool, true, false, List, [], get_or, Option, Some, IfSome, Err, slice_get};
 ghost use Rattle.dn_tic.specs.declared.command.Move.{Move};
 ghost use Rattle.dn_tic.specs.declared.input.Input.{Input};
 ghost use Rattle.dn_setup.specs.Settings.{Settings};
@@ -34,10 +34,10 @@ ghost use Rattle.dn_seal.specs.declared.seal.Seal.{Seal};
 ghost use Rattle.dn_notice.specs.declared.fault.ReportDatagramFault.{ReportDatagramFault};
 ghost use Rattle.dn_notice.specs.Opening.{IsOpenedAs};
 ghost use Rattle.dn_open.specs.Sealed.{sealing_of};
+ghost use Rattle.dn_link.specs.declared.bundle.Bundle.{Bundle};
 ghost use Rattle.dn_link.specs.declared.bundle.BundleFault.{BundleFault};
 ghost use Rattle.dn_link.specs.declared.bundle.Identity.{Identity};
 ghost use Rattle.dn_link.specs.declared.received.Received.{Received};
-ghost use Rattle.dn_link.specs.Bundles.{IsEmpty};
 ghost use Rattle.dn_link.specs.Linked.{Gives, Linked, Receives, forgotten, has_given_up, holds_back, remains, surviving_of};
 ghost use Rattle.dn_link.specs.Linking.{new_peer};
 ghost use Rattle.dn_link.specs.Notices.{HearsNotice, is_notice, notice_for};
@@ -45,6 +45,7 @@ ghost use Rattle.dn_link.specs.Paced.{PaceState};
 ghost use Rattle.dn_link.specs.Reading.{IsBundledAs};
 ghost use Rattle.dn_link.specs.RemainingLinks.{AreRemainingLinks, IsGenuineIn, KeepsGiven, WasSealedIn};
 ghost use Rattle.dn_link.specs.Surviving.{GivesUpPeer};
+ghost use Rattle.dn_link.specs.Text.{IsBundle, sealed_bytes};
 
 use dn_survivor::{remaining_game_opens, survivors_agree};
 
@@ -174,8 +175,8 @@ pub fn remaining_links_go_on()
 pub fn remaining_bytes_are_genuine()
     ensures stay { (seal : Seal) (session later : Session) (bytes : List ℕ) → KeepsGiven session later
         → WasSealedIn seal session bytes → WasSealedIn seal later bytes }
-    ensures empty { (seal : Seal) (session : Session) (bytes : List ℕ) → IsEmpty seal bytes
-        → WasSealedIn seal session bytes }
+    ensures empty { (seal : Seal) (session : Session) (bundle : Bundle) → IsBundle bundle → bundle.parts.items ≡ []
+        → WasSealedIn seal session (sealed_bytes seal bundle) }
     ensures genuine { (seal : Seal) (session : Session) (player : ℕ) (bytes : List ℕ)
         → WasSealedIn seal session bytes → IsGenuineIn seal session player bytes }
     ensures refused { (seal : Seal) (session : Session) (player : ℕ) (bytes : List ℕ) (fault : BundleFault)

@@ -66,7 +66,7 @@ static void follow(void)
 {
     for (int by = 0; by < zmg_the_game.players; by++)
         for (int p = 0; p < zmg_the_game.players; p++)
-            if (!is_given_up(by) && zmg_link_reports_gone(&zmg_the_link, (uint8_t) by, (uint8_t) p) && !is_given_up(p))
+            if (zmg_link_reports_gone(&zmg_the_link, (uint8_t) by, (uint8_t) p) && !is_given_up(p))
                 give_up(p);
 }
 

@@ -19,10 +19,12 @@ pub(super) fn is_notice(bytes: &[u8]) -> bool
 }
 
 impl Link {
-    ghost use Rattle.std.specs.Prelude.{IfSome};
+    ghost use Rattle.std.specs.Prelude.{ℕ, IfSome};
     ghost use Rattle.std.specs.Option.{option_map};
     ghost use Rattle.dn_report.specs.Text.{IsReport};
     ghost use Rattle.dn_survivor.specs.Telling.{report_for};
+    ghost use Rattle.dn_survivor.specs.declared.answers.Reported.TheVariants as reported;
+    ghost use Rattle.dn_link.specs.declared.received.Received.TheVariants as received;
     ghost use Rattle.dn_link.specs.Linked.{IsWhole, surviving_of};
     ghost use Rattle.dn_link.specs.Notices.{HearsNotice, notice_for};
     ghost use Rattle.dn_link.specs.Linking.{identity_of, linked, seal_of};
@@ -45,6 +47,8 @@ impl Link {
         ensures told { HearsNotice (seal_of self.old) bytes.now (linked self.old) (pace_of self.old)
             (linked self.new) (pace_of self.new) result }
         ensures gone { (linked self.new).others.gone ≡ (linked self.old).others.gone }
+        ensures waits { (from : ℕ) → result ≡ received.Reported from reported.Kept
+            → (linked self.new).node ≡ (linked self.old).node }
         ensures quiet { IsWhole (linked self.old) → ((linked self.new).node ≡ (linked self.old).node)
             × ((linked self.new).peers ≡ (linked self.old).peers) }
         ensures seal { seal_of self.new ≡ seal_of self.old }

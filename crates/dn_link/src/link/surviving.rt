@@ -8,10 +8,13 @@ use dn_report::Report;
 use dn_survivor::{GivenUp, Reported};
 
 impl Link {
-    ghost use Rattle.std.specs.Prelude.{◌<◌, true, IfSome};
+    ghost use Rattle.std.specs.Prelude.{◌<◌, ◌≢◌, true, IfSome};
+    ghost use Rattle.dn_machine.specs.declared.answers.Phase.TheVariants.{Gathering};
     ghost use Rattle.dn_report.specs.Text.{IsReport};
     ghost use Rattle.dn_survivor.specs.Calls.{HearsReport, undecided_in};
     ghost use Rattle.dn_survivor.specs.Telling.{report_for};
+    ghost use Rattle.dn_survivor.specs.declared.answers.GivenUp.TheVariants as given_up;
+    ghost use Rattle.dn_survivor.specs.declared.answers.Reported.TheVariants as reported;
     ghost use Rattle.dn_link.specs.Linked.{IsWhole, has_given_up, remains, surviving_of};
     ghost use Rattle.dn_link.specs.Linking.{identity_of, linked, seal_of};
     ghost use Rattle.dn_link.specs.Pacing.{pace_of};
@@ -35,11 +38,14 @@ impl Link {
         self.is_peer(player) && !self.has_given_up(player)
     }
 
-    /// Whether the newest report of another player names a player as given up. Those who play on together have to
-    /// give up the same players.
+    /// Whether the newest report of another player, the teller, names a player as given up. Those who play on
+    /// together have to give up the same players. A teller who is given up reports nobody.
     pub fn reports_gone(&self, teller: u8, player: u8) -> bool
         ensures { result ≡ reports_gone (linked self.now) teller player }
     {
+        if self.has_given_up(teller) {
+            return false;
+        }
         match self.survivor.others().newest.get(usize::from(teller)) {
             Some(Some(report)) => match report.gone.get(usize::from(player)) {
                 Some(names) => *names,
@@ -70,6 +76,7 @@ impl Link {
     pub fn hear_report(&mut self, from: u8, report: Report) -> Reported
         ensures heard { HearsReport from report (surviving_of (linked self.old)) (surviving_of (linked self.new)) result }
         ensures gone { (linked self.new).others.gone ≡ (linked self.old).others.gone }
+        ensures waits { result ≡ reported.Kept → (linked self.new).node ≡ (linked self.old).node }
         ensures quiet { IsWhole (linked self.old) → (linked self.new).node ≡ (linked self.old).node }
         ensures peers { (linked self.new).peers ≡ (linked self.old).peers }
         ensures pace { pace_of self.new ≡ pace_of self.old }
@@ -81,12 +88,14 @@ impl Link {
 
     /// Gives up a player who vanished, for good, so that the others play on: as `Survivor::give_up`, and the
     /// player is forgotten, too. From here on no datagram goes to it, nothing of it is taken, and neither the
-    /// start nor `may_leave` waits for it. A run waits for it until its end is decided: all who play on must give
-    /// it up, and hear each other's reports. Then the game goes on without it from the same tic on at all of
-    /// them. Where this link gathered, and plays after it, the game has started:
-    /// the caller begins its world.
+    /// start nor `may_leave` waits for it. A run that lacks a command of it waits until its end is decided: all
+    /// who play on must give it up, and hear each other's reports. Then the game goes on without it from the same
+    /// tic on at all of them. Where this link gathered, and plays after it, the game has started: the caller
+    /// begins its world.
     pub fn give_up(&mut self, player: u8) -> GivenUp
         ensures given { GivesUpPeer player (linked self.old) (linked self.new) result }
+        ensures waits { result ≡ given_up.Waiting → (linked self.old).node.phase ≢ Gathering
+            → (linked self.new).node ≡ (linked self.old).node }
         ensures pace { pace_of self.new ≡ pace_of self.old }
         ensures seal { seal_of self.new ≡ seal_of self.old }
         ensures identity { identity_of self.new ≡ identity_of self.old }

@@ -10,8 +10,10 @@ use crate::received::{Received, received_of};
 
 impl Link {
     ghost use Rattle.dn_link.specs.Presence.{may_come};
-    ghost use Rattle.std.specs.Prelude.{◌<◌, ◌&&◌, not, true, false, Ok, ◌≡◌};
+    ghost use Rattle.std.specs.Prelude.{ℕ, ◌<◌, ◌&&◌, not, true, false, Ok, ◌≡◌};
     ghost use Rattle.dn_machine.specs.Game.{fresh};
+    ghost use Rattle.dn_survivor.specs.declared.answers.Reported.TheVariants as reported;
+    ghost use Rattle.dn_link.specs.declared.received.Received.TheVariants as received;
     ghost use Rattle.dn_link.specs.Hearing.{ByTest, HearsAll};
     ghost use Rattle.dn_link.specs.Packets.{packets_in};
     ghost use Rattle.dn_link.specs.Linked.{IsWhole, Receives, ReceivesAs, done_with, has_given_up, hears, is_peer, met};
@@ -142,6 +144,8 @@ impl Link {
         ensures told { is_notice bytes.now ≡ true → HearsNotice (seal_of self.old) bytes.now (linked self.old)
             (pace_of self.old) (linked self.new) (pace_of self.new) result }
         ensures gone { (linked self.new).others.gone ≡ (linked self.old).others.gone }
+        ensures waits { is_notice bytes.now ≡ true → (from : ℕ) → result ≡ received.Reported from reported.Kept
+            → (linked self.new).node ≡ (linked self.old).node }
         ensures quiet { is_notice bytes.now ≡ true → IsWhole (linked self.old)
             → ((linked self.new).node ≡ (linked self.old).node) × ((linked self.new).peers ≡ (linked self.old).peers) }
         ensures seal { seal_of self.new ≡ seal_of self.old }
