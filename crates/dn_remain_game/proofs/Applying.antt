@@ -63,14 +63,16 @@ module _ {W S : Type 0} (state : W → S) (rules : Rules S) (old g : Contents W)
       → ((done : Done) × (answer ≡ Ok done)
       × IsAfter state rules old g (own_unless rules all (Send node to) (is_barred all (Send node to))) done)
       ⊎ (answer ≡ Err Refusal.Memory)
+      → OnErr answer (g ≡ old)
       → IsAppliedOwn state rules old g all event answer
-  own_sent event node to answer same (inl (done, answered, after)) =
+  own_sent event node to answer same (inl (done, answered, after)) kept =
       inl (
         done,
         answered,
         subst (λ (e : Event). IsAfter state rules old g (own_unless rules all e (is_barred all e)) done) (sym same) after,
       )
-  own_sent event node to answer same (inr memory) = inr (ap is_send same, memory)
+  own_sent event node to answer same (inr memory) kept =
+      inr (ap is_send same, subst (λ (a : Result Done Refusal). OnErr a (g ≡ old)) memory kept, memory)
 
   -- any other does what it does
   pub after_event : (event named : RemainEvent) (done : Happened) → event ≡ named
@@ -93,12 +95,12 @@ module _ {W S : Type 0} (state : W → S) (rules : Rules S) (old new : Contents 
       let is : done ≡ did = cc in
       inl (after_event state rules old new all event (Own own) (Happened.Own done) same free
       (record { game = after.game; answered = ap Happened.Own (is ∙ after.answered); kept = after.kept }))
-  own_done done (inr (send, wrong)) = absurd (cc)
+  own_done done (inr (send, stays, wrong)) = absurd (cc)
 
-  left : (refusal : Refusal) → IsAppliedOwn state rules old new all own (Err refusal) → new ≡ old
+  left : (refusal : Refusal) → IsAppliedOwn state rules old new all own (Err refusal)
       → IsApplied state rules old new all event (Err refusal)
-  left refusal (inl (did, wrong, after)) kept = absurd (cc)
-  left refusal (inr (send, is)) kept =
+  left refusal (inl (did, wrong, after)) = absurd (cc)
+  left refusal (inr (send, kept, is)) =
       inr (sym free, record { asks = ap asks_room same ∙ send; same = kept; answered = as_same refusal is })
     where
       as_same : (refusal : Refusal) → ◌≡◌ {A = Result Done Refusal} (Err refusal) (Err Refusal.Memory)
@@ -106,11 +108,11 @@ module _ {W S : Type 0} (state : W → S) (rules : Rules S) (old new : Contents 
       as_same refusal e = cc
 
   pub own_left : (refusal : Refusal) (answer : Result Happened Refusal) → answer ≡ Err refusal
-      → IsAppliedOwn state rules old new all own (Err refusal) → new ≡ old
+      → IsAppliedOwn state rules old new all own (Err refusal)
       → IsApplied state rules old new all event answer
-  own_left refusal answer told is kept =
+  own_left refusal answer told is =
       subst (λ (a : Result Happened Refusal). IsApplied state rules old new all event a) (sym told)
-      (left refusal is kept)
+      (left refusal is)
 
 -- what holds of a refused event, and what holds anyway
 pub on_err : {A E : Type 0} (r : Result A E) (e : E) (P : Type 0) → r ≡ Err e → OnErr r P → P

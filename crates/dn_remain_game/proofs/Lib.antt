@@ -23,6 +23,10 @@ pub mod InputsMade
 pub mod Nobody
 pub mod GoneInside
 pub mod SurvivorAnswers
+pub mod Whose
+pub mod Framing
+pub mod Roomy
+pub mod Surviving
 pub mod SteadyAnswers
 pub mod Barred
 pub mod Given

@@ -79,13 +79,13 @@ IsApplied state rules old new all event answer =
     IsAfter state rules old new (applied_remain rules all event) answer
     ⊎ ((refused_remain rules.players all event ≡ None) × IsLeftOut old new event answer)
 
--- the same of an event of the machine that is not refused
+-- the same of an event of the machine that is not refused: it is applied, or it is a send that is left out
 abbrev pub IsAppliedOwn : {W S : Type 0} → (W → S) → Rules S → Contents W → Contents W → Remaining → Event
     → Result Done Refusal → Type 0
 IsAppliedOwn state rules old new all event answer =
     ((done : Done) × (answer ≡ Ok done)
     × IsAfter state rules old new (own_unless rules all event (is_barred all event)) done)
-    ⊎ (IsTrue (is_send event) × (answer ≡ Err Refusal.Memory))
+    ⊎ (IsTrue (is_send event) × (new ≡ old) × (answer ≡ Err Refusal.Memory))
 
 -- the nodes and the packet that an event names are there
 abbrev pub IsAddressedOwn : {W : Type 0} → Contents W → Event → Type 0

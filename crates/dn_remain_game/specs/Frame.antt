@@ -1,4 +1,4 @@
--- What an event leaves as it is.
+-- Which worlds nodes have.
 use Rattle.std.specs.Prelude.{◌≡◌, ℕ, List, Some, slice_get}
 use Rattle.dn_lockstep.specs.Told.{HasStarted}
 use Rattle.dn_remain_game.specs.declared.lived.Lived.{Lived}

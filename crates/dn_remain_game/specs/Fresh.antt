@@ -1,5 +1,5 @@
 -- The nodes of a game that opens.
-use Rattle.std.specs.Prelude.{◌≡◌, ℕ, List, map, Some, slice_get}
+use Rattle.std.specs.Prelude.{◌≡◌, ℕ, List, All, map, Some, slice_get}
 use Rattle.dn_setup.specs.Settings.{Settings}
 use Rattle.dn_machine.specs.Game.{fresh}
 use Rattle.dn_machine.specs.Worlds.{Rules}
@@ -12,6 +12,10 @@ abbrev pub AreFresh : {W S : Type 0} → (W → S) → Rules S → Settings → 
 AreFresh {W} state rules settings nodes =
     (i : ℕ) (n : Lived W) → slice_get nodes i ≡ Some n
     → Represents state rules i (living n) (nobody_gone (fresh settings i))
+
+-- each node's demo has memory for this many bytes
+abbrev pub AreLimited : {W : Type 0} → ℕ → List (Lived W) → Type 0
+AreLimited limit nodes = All (λ n. (living n).survivor.lockstep.demo.limit ≡ limit) nodes
 
 -- the worlds of nodes, in order
 abbrev pub worlds_of : {W : Type 0} → List (Lived W) → List W

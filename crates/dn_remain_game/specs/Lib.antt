@@ -1,11 +1,13 @@
 pub mod Living
 pub mod Contents
 pub mod Frame
+pub mod Kept
 pub mod Represents
 pub mod Events
 pub mod Applied
 pub mod Room
 pub mod Told
+pub mod Survivors
 pub mod Opening
 pub mod Fresh
 pub mod InputsMade

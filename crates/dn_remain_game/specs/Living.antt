@@ -18,6 +18,7 @@ use Rattle.dn_machine.specs.Limits.{Limits}
 use Rattle.dn_machine.specs.Node.{Node, ran}
 use Rattle.dn_machine.specs.Worlds.{Rules, rules_within}
 use Rattle.dn_lockstep.specs.declared.lockstep.aiming.Aim.{Aim}
+use Rattle.dn_lockstep.specs.Contents.{whose}
 use Rattle.dn_lockstep.specs.Near.{IsFair}
 use Rattle.dn_lockstep.specs.Received.{received, IsTold}
 use Rattle.dn_lockstep.specs.Sent.{aim_of, bytes_of}
@@ -54,6 +55,10 @@ pub record KeepsWorld {W : Type 0} (old new : Living W) : Type 0 where
   pub begun : HasStarted old.survivor.lockstep → HasStarted new.survivor.lockstep
   pub world : (HasStarted new.survivor.lockstep → HasStarted old.survivor.lockstep)
       → new.survivor.lockstep.ran ≡ old.survivor.lockstep.ran → new.world ≡ old.world
+
+-- it stays whose it is
+abbrev pub StaysWhose : {W : Type 0} → Living W → Living W → Type 0
+StaysWhose old new = whose new.survivor.lockstep ≡ whose old.survivor.lockstep
 
 -- it represents the node after a step, answers as the step does, and moves its world only where it starts or runs
 pub record IsAfter {W S A : Type 0} (state : W → S) (rules : Rules S) (me : ℕ) (old new : Living W)

@@ -100,8 +100,8 @@ pub record AreAgreedInGame {W S : Type 0} (state : W → S) (rules : Rules S) (s
       → AreAgreedQuiet state rules settings inputs last g survivors
 
 -- an answer that tells of no failed check: no mark was off, a packet was dropped only as set-up out of place, by a
--- node that does not play, or by one that has given up its sender, a report only for the last two, no report was one
--- that its receiver should not have been told, and each end that was decided was taken
+-- node that does not play, or as from one who is given up, a report only for the last two, no report was one that
+-- its receiver should not have been told, and each end that was decided was taken
 pub record IsSteady (answer : Result Happened Refusal) : Type 0 where
   pub consistent : (player : ℕ) (was should : ℤ)
       → answer ≢ Ok (Happened.Own (Done.Ran (Ran.Inconsistent player was should)))

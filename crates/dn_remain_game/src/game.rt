@@ -2,6 +2,7 @@
 
 ghost use Rattle.std.specs.Prelude.{◌≡◌, ◌<◌, ◌≤◌, All, length, false, slice_get, slice_index_or, Option};
 ghost use Rattle.std.specs.Option.{option_copied};
+ghost use Rattle.std.specs.Vec.{vec_capacity};
 
 mod applying;
 mod giving;
@@ -24,6 +25,8 @@ pub struct Game<W> {
     reports: Vec<Telling>,
     ghost two: { 2 ≤ length nodes.items },
     ghost few: { length nodes.items ≤ 4 },
+    // the list of nodes has memory for these, neither more nor fewer
+    ghost exact: { vec_capacity nodes ≡ length nodes.items },
     ghost receivers: { All (λ flight. flight.to < length nodes.items) flights.items },
     ghost hearers: { All (λ telling. telling.to < length nodes.items) reports.items },
 }

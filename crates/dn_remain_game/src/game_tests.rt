@@ -1,6 +1,8 @@
 //! Games in which players vanish, as lists of events with their answers.
 
 mod crashes;
+mod lists;
+mod memory;
 mod refusals;
 mod weaker;
 

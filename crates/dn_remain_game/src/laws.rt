@@ -28,8 +28,8 @@ ghost use Rattle.dn_remain_game.specs.Represents.{Represents};
 use dn_world::World;
 
 /// A new game is one that no event led to. And whatever events led to a game, one by one, with these answers: all
-/// that `play_remaining` promises holds of it. `opened` is for what `Game::new` says of the game that it makes, and
-/// `Game::apply` says in `carried` that one event more leads on.
+/// that the clause `promised` of `play_remaining` says of the game that is left holds of it. `opened` is for what
+/// `Game::new` says of the game that it makes, and `Game::apply` says in `carried` that one event more leads on.
 pub fn reached_remaining_games_agree<W: World>()
     ensures opened { (limits : Limits) (settings : Settings) (g : Contents W)
         → Represents W.state (rules_within W.physics limits) g (opening_remaining settings)

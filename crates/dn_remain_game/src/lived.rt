@@ -21,7 +21,7 @@ impl<W: World> Lived<W> {
     ghost use Rattle.dn_setup.specs.Settings.{Settings as Choice};
     ghost use Rattle.dn_machine.specs.Game.{fresh};
     ghost use Rattle.dn_machine.specs.Worlds.{rules_within};
-    ghost use Rattle.dn_lockstep.specs.Contents.{contents};
+    ghost use Rattle.dn_lockstep.specs.Contents.{whose};
     ghost use Rattle.dn_survivor.specs.Represents.{nobody_gone};
     ghost use Rattle.dn_survivor.specs.Surviving.{surviving};
     ghost use Rattle.dn_remain_game.specs.Living.{Represents, living};
@@ -35,6 +35,7 @@ impl<W: World> Lived<W> {
             → Represents W.state (rules_within W.physics (limits_in config)) config.me (living node)
             (nobody_gone (fresh settings config.me))) }
         ensures given { IfOk result (λ node. (living node).world ≡ world) }
+        ensures whose { IfOk result (λ node. whose (living node).survivor.lockstep ≡ whose_in config) }
     {
         calls_are_wary();
         let survivor = Survivor::new(alloc, config, MOST_AHEAD)?;

@@ -3,6 +3,7 @@
 ghost use Rattle.std.specs.Prelude.{◌≡◌, ◌+◌, ◌<◌, ◌^◌, length, IfOk};
 ghost use Rattle.dn_remain_game.specs.Contents.{contents};
 ghost use Rattle.dn_remain_game.specs.Frame.{KeepGiven};
+ghost use Rattle.dn_remain_game.specs.Fresh.{AreLimited};
 ghost use Rattle.dn_remain_game.specs.Opening.{IsAdmitted, rules_in};
 ghost use Rattle.dn_remain_game.specs.Promised.{HasPlayed};
 ghost use Rattle.dn_remain_game.specs.Room.{IsWithinTwice};
@@ -25,12 +26,14 @@ pub struct Played<W> {
 }
 
 impl<W: World> Played<W> {
+    ghost use Rattle.dn_remain_game.specs.Kept.{KeepsWhose};
     ghost use Rattle.dn_remain_game.specs.Promised.{AppliesOne};
 
     /// Applies one more event, and counts it by its answer.
     fn apply(&mut self, event: RemainEvent)
         requires { self.old.done + self.old.refused + 1 < 2 ^ 64 }
         ensures applied { AppliesOne W.state W.physics self.old self.new event }
+        ensures whose { KeepsWhose (contents self.old.game) (contents self.new.game) }
         ensures counted { self.new.done + self.new.refused ≡ self.old.done + self.old.refused + 1 }
     {
         match self.game.apply(event) {
@@ -58,6 +61,8 @@ pub fn play_remaining<W: World>(
         (rules_in W.physics config (length worlds.items)) config.settings events.now played) }
     // A node that has not started has the world that was given for it.
     ensures given { IfOk result (λ played. KeepGiven worlds.items (contents played.game)) }
+    // Each demo has the limit of the configuration.
+    ensures limits { IfOk result (λ played. AreLimited config.limit (contents played.game).nodes) }
     // There is memory for no more than twice the packets and the reports that there are, and one.
     ensures room { IfOk result (λ played. IsWithinTwice played.game) }
 {

@@ -2,6 +2,7 @@
 
 ghost use Rattle.std.specs.Prelude.{◌≡◌, ◌<◌, ◌≤◌, ◌+◌, ◌*◌, OnOk, OnErr, vec_len};
 ghost use Rattle.std.specs.Vec.{vec_capacity};
+ghost use Rattle.dn_remain_game.specs.Room.{grown};
 
 use arrayvec::ArrayVec;
 use dn_lockstep::Aim;
@@ -38,6 +39,8 @@ pub(crate) fn grow<T>(list: &mut Vec<T>) -> Result<(), AllocError>
     ensures items { list.new.items ≡ list.old.items }
     ensures len { vec_len list.new ≡ vec_len list.old }
     ensures ok { OnOk result (vec_len list.new + 1 ≤ vec_capacity list.new) }
+    ensures grown { OnOk result (vec_capacity list.new ≡ grown (vec_len list.old) (vec_capacity list.old)) }
+    ensures kept { OnErr result (vec_capacity list.new ≡ vec_capacity list.old) }
     ensures full { OnErr result (vec_capacity list.new < vec_len list.new + 1) }
     ensures within { vec_capacity list.old ≤ 2 * vec_len list.old + 1
         → vec_capacity list.new ≤ 2 * vec_len list.new + 1 }

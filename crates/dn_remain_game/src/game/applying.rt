@@ -4,6 +4,7 @@ ghost use Rattle.std.specs.Prelude.{◌≡◌, None, Err, OnErr, true};
 ghost use Rattle.dn_machine.specs.declared.events.Refusal.{Refusal};
 ghost use Rattle.dn_machine.specs.Runs.{is_send};
 ghost use Rattle.dn_machine.specs.Game.{refused};
+ghost use Rattle.dn_remain.specs.declared.events.RemainEvent.TheVariants.{Own};
 
 use super::Game;
 use crate::happened::Happened;
@@ -15,9 +16,11 @@ impl<W: World> Game<W> {
     ghost use Rattle.dn_remain_game.specs.Contents.{contents};
     ghost use Rattle.dn_remain_game.specs.Applied.{IsAddressedOwn, IsApplied, IsAppliedOwn, Tells, TellsReached};
     ghost use Rattle.dn_remain_game.specs.Events.{asks_room};
+    ghost use Rattle.dn_remain_game.specs.Kept.{KeepsOthers, KeepsWhose, changed_by, changed_by_own};
     ghost use Rattle.dn_remain_game.specs.Promised.{IsCarriedOn};
+    ghost use Rattle.dn_remain_game.specs.Survivors.{AsksSurvivor};
     ghost use Rattle.dn_remain_game.specs.Told.{HasTold};
-    ghost use Rattle.dn_remain_game.specs.Room.{IsFull, LacksRoom, StaysWithin};
+    ghost use Rattle.dn_remain_game.specs.Room.{IsFull, LacksRoom, StaysWithin, room_after, room_of};
 
     /// Applies an event of the game of `dn_machine` that is not refused but for want of memory.
     fn apply_own(&mut self, event: Event) -> Result<Done, Refusal>
@@ -29,6 +32,10 @@ impl<W: World> Game<W> {
         ensures memory { OnErr result ((is_send event ≡ true) × IsFull self.new) }
         ensures reports { self.new.reports ≡ self.old.reports }
         ensures room { StaysWithin self.old self.new }
+        ensures taken { room_of self.new ≡ room_after self.old (Own event) result }
+        ensures whose { KeepsWhose (contents self.old) (contents self.new) }
+        ensures others { KeepsOthers (changed_by_own (contents self.old) event) (contents self.old)
+            (contents self.new) }
     {
         Ok(match event {
             Event::Build { node, keys } => Done::Built(self.build(node, keys)),
@@ -57,8 +64,19 @@ impl<W: World> Game<W> {
         ensures memory { result ≡ Err Refusal.Memory → (asks_room event ≡ true) × LacksRoom self.new event }
         // A telling adds the very report that the node's survivor gives. Nothing else is told.
         ensures reports { HasTold (contents self.old) (contents self.new) event result }
+        // A player is given up by the node's survivor, and the receiver's survivor hears the very report that was
+        // told.
+        ensures survivor { AsksSurvivor (contents self.old) (contents self.new) event result }
         // If there was memory for no more than twice the packets and the reports, and one, so there is now.
         ensures room { StaysWithin self.old self.new }
+        // Memory is taken by a send for one more packet, and by a telling for one more report, or for as many again
+        // as there are. What is refused takes none.
+        ensures taken { room_of self.new ≡ room_after self.old event result }
+        // Each node is whose it was, with the limit of its demo.
+        ensures whose { KeepsWhose (contents self.old) (contents self.new) }
+        // Each node but the one that the event changes is as it was. A telling and a stop change none.
+        ensures others { KeepsOthers (changed_by (contents self.old) event) (contents self.old)
+            (contents self.new) }
     {
         if let Some(refusal) = self.refused(event) {
             return Err(refusal);

@@ -1,9 +1,10 @@
 //! Players are given up, and reports are told and heard.
 
-ghost use Rattle.std.specs.Prelude.{◌≡◌, ◌<◌, ◌≤◌, ◌⊎◌, Ok, Err, OnErr, length, slice_get};
+ghost use Rattle.std.specs.Prelude.{◌≡◌, ◌<◌, ◌≤◌, ◌⊎◌, Some, None, Ok, Err, OnErr, length, slice_get};
 ghost use Rattle.dn_machine.specs.declared.events.Refusal.{Refusal};
 ghost use Rattle.dn_remain.specs.Remaining.{wary_of};
 ghost use Rattle.dn_remain.specs.Wary.{report_to};
+ghost use Rattle.dn_remain.specs.declared.events.RemainEvent.TheVariants.{Tell, Hear};
 ghost use Rattle.dn_remain_game.specs.Events.{gave_up, heard_at, told_report};
 ghost use Rattle.dn_remain_game.specs.declared.happened.Happened.{Happened};
 
@@ -25,8 +26,10 @@ fn narrow(player: u32) -> u8
 impl<W: World> Game<W> {
     ghost use Rattle.dn_remain_game.specs.Contents.{contents};
     ghost use Rattle.dn_remain_game.specs.Applied.{Tells, TellsReached, IsAfter};
+    ghost use Rattle.dn_remain_game.specs.Kept.{KeepsOthers, KeepsWhose, changed_by};
+    ghost use Rattle.dn_remain_game.specs.Survivors.{GivesUpAt, HearsAt};
     ghost use Rattle.dn_remain_game.specs.Told.{TellsReport};
-    ghost use Rattle.dn_remain_game.specs.Room.{IsFullOfReports, KeepsPosts, StaysWithin};
+    ghost use Rattle.dn_remain_game.specs.Room.{IsFullOfReports, KeepsPosts, StaysWithin, room_after, room_of};
 
     /// A node gives up a player.
     pub(super) fn give_up(&mut self, node: u32, player: u32) -> GivenUp
@@ -34,7 +37,10 @@ impl<W: World> Game<W> {
         ensures steps { TellsReached W.state W.physics (contents self.old) (λ rules all.
             IsAfter W.state rules (contents self.old) (contents self.new) (gave_up rules.limits all node player)
             (Happened.GivenUp result)) }
+        ensures survivor { GivesUpAt (contents self.old) (contents self.new) node player result }
         ensures posts { KeepsPosts self.old self.new }
+        ensures whose { KeepsWhose (contents self.old) (contents self.new) }
+        ensures others { KeepsOthers (Some node) (contents self.old) (contents self.new) }
     {
         self.nodes[node as usize].give_up(narrow(player))
     }
@@ -53,6 +59,9 @@ impl<W: World> Game<W> {
         ensures reports { TellsReport (contents self.old) (contents self.new) node to result }
         ensures flights { self.new.flights ≡ self.old.flights }
         ensures room { StaysWithin self.old self.new }
+        ensures taken { room_of self.new ≡ room_after self.old (Tell node to) result }
+        ensures whose { KeepsWhose (contents self.old) (contents self.new) }
+        ensures others { KeepsOthers None (contents self.old) (contents self.new) }
     {
         let Ok(()) = grow(&mut self.reports) else {
             return Err(Refusal::Memory);
@@ -76,7 +85,11 @@ impl<W: World> Game<W> {
         ensures steps { TellsReached W.state W.physics (contents self.old) (λ rules all.
             IsAfter W.state rules (contents self.old) (contents self.new)
             (heard_at rules.limits all (slice_get all.reports which)) (Happened.Reported result)) }
+        ensures survivor { HearsAt (contents self.old) (contents self.new) which result }
         ensures posts { KeepsPosts self.old self.new }
+        ensures whose { KeepsWhose (contents self.old) (contents self.new) }
+        ensures others { KeepsOthers (changed_by (contents self.old) (Hear which)) (contents self.old)
+            (contents self.new) }
     {
         let telling = &self.reports[which as usize];
         let report = copied(&telling.report);

@@ -1,10 +1,11 @@
 //! How a game is made.
 
 ghost use Rattle.std.specs.Prelude.{◌≡◌, length, IfOk};
+ghost use Rattle.std.specs.Vec.{vec_capacity};
 ghost use Rattle.dn_demo.specs.Recorded.{IsLimit};
 ghost use Rattle.dn_lockstep.specs.Opening.{IsGame};
 ghost use Rattle.dn_remain_game.specs.Opening.{IsAdmitted, config_of, rules_in};
-ghost use Rattle.dn_remain_game.specs.Fresh.{AreFresh, worlds_of};
+ghost use Rattle.dn_remain_game.specs.Fresh.{AreFresh, AreLimited, worlds_of};
 
 use super::Game;
 use crate::config::{GameConfig, GameFault};
@@ -18,7 +19,7 @@ impl<W: World> Game<W> {
     ghost use Rattle.dn_remain.specs.Remaining.{opening_remaining};
     ghost use Rattle.dn_remain_game.specs.Contents.{contents};
     ghost use Rattle.dn_remain_game.specs.Represents.{Represents};
-    ghost use Rattle.dn_remain_game.specs.Room.{IsWithinTwice};
+    ghost use Rattle.dn_remain_game.specs.Room.{IsWithinTwice, room_of};
 
     /// A game with a node for each world, in the players' order. The worlds are given up where there is
     /// no game.
@@ -28,7 +29,11 @@ impl<W: World> Game<W> {
             (rules_in W.physics config (length worlds.items)) (contents game)
             (opening_remaining config.settings)) }
         ensures given { IfOk result (λ game. worlds_of (contents game).nodes ≡ worlds.items) }
+        // Each demo has the limit of the configuration.
+        ensures limits { IfOk result (λ game. AreLimited config.limit (contents game).nodes) }
         ensures room { IfOk result IsWithinTwice }
+        // No memory is taken for packets and reports yet.
+        ensures none { IfOk result (λ game. room_of game ≡ record { packets = 0; reports = 0 }) }
     {
         if !is_game(worlds.len()) {
             return Err(GameFault::Players);
@@ -59,8 +64,8 @@ fn config_of(config: &GameConfig, players: u8, me: u8) -> Config
     }
 }
 
-/// A node for each world, in the players' order, with no history. Memory for the list or for a demo may be
-/// refused, and nothing else: then the worlds are given up.
+/// A node for each world, in the players' order, with no history, in a list that has room for these and no
+/// more. Memory for the list or for a demo may be refused, and nothing else: then the worlds are given up.
 fn nodes_of<W: World>(
     alloc: Global,
     config: &GameConfig,
@@ -71,7 +76,9 @@ fn nodes_of<W: World>(
     ensures opened { IfOk result (λ nodes. AreFresh W.state
         (rules_in W.physics config.now (length worlds.items)) config.now.settings nodes.items) }
     ensures given { IfOk result (λ nodes. worlds_of nodes.items ≡ worlds.items) }
+    ensures limits { IfOk result (λ nodes. AreLimited config.now.limit nodes.items) }
     ensures one_each { IfOk result (λ nodes. length nodes.items ≡ length worlds.items) }
+    ensures room { IfOk result (λ nodes. vec_capacity nodes ≡ length worlds.items) }
 {
     let players = worlds.len() as u8;
     let mut nodes = Vec::with_capacity(alloc, worlds.len())?;

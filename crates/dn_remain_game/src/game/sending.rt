@@ -1,12 +1,13 @@
 //! Packets are asked for and delivered.
 
-ghost use Rattle.std.specs.Prelude.{◌≡◌, ◌<◌, ◌⊎◌, None, Ok, Err, OnErr, length, slice_get};
+ghost use Rattle.std.specs.Prelude.{◌≡◌, ◌<◌, ◌⊎◌, Some, None, Ok, Err, OnErr, length, slice_get};
 ghost use Rattle.dn_machine.specs.declared.events.Event.TheVariants.{Send, Deliver};
 ghost use Rattle.dn_machine.specs.declared.events.Done.{Done};
 ghost use Rattle.dn_machine.specs.declared.events.Refusal.{Refusal};
 ghost use Rattle.dn_machine.specs.Game.{refused_flight};
 ghost use Rattle.dn_remain_game.specs.Events.{own_unless};
 ghost use Rattle.dn_remain.specs.Remaining.{is_barred};
+ghost use Rattle.dn_remain.specs.declared.events.RemainEvent.TheVariants.{Own};
 
 use super::Game;
 use crate::under_way::{Flight, grow};
@@ -16,7 +17,8 @@ use dn_world::World;
 impl<W: World> Game<W> {
     ghost use Rattle.dn_remain_game.specs.Contents.{contents};
     ghost use Rattle.dn_remain_game.specs.Applied.{Tells, IsAfter};
-    ghost use Rattle.dn_remain_game.specs.Room.{IsFull, KeepsPosts, StaysWithin};
+    ghost use Rattle.dn_remain_game.specs.Kept.{KeepsOthers, KeepsWhose, changed_by_own};
+    ghost use Rattle.dn_remain_game.specs.Room.{IsFull, KeepsPosts, StaysWithin, room_after, room_of};
 
     /// Asks a node for a packet, which joins those that were sent. Room for it is made first.
     pub(super) fn send(&mut self, node: u32, to: u32) -> Result<Done, Refusal>
@@ -31,6 +33,9 @@ impl<W: World> Game<W> {
         ensures memory { OnErr result (IsFull self.new) }
         ensures reports { self.new.reports ≡ self.old.reports }
         ensures room { StaysWithin self.old self.new }
+        ensures taken { room_of self.new ≡ room_after self.old (Own (Send node to)) result }
+        ensures whose { KeepsWhose (contents self.old) (contents self.new) }
+        ensures others { KeepsOthers (Some node) (contents self.old) (contents self.new) }
     {
         let Ok(()) = grow(&mut self.flights) else {
             return Err(Refusal::Memory);
@@ -57,6 +62,9 @@ impl<W: World> Game<W> {
             → IsAfter W.state rules (contents self.old) (contents self.new)
             (own_unless rules all (Deliver which) (is_barred all (Deliver which))) (Done.Heard result)) }
         ensures posts { KeepsPosts self.old self.new }
+        ensures whose { KeepsWhose (contents self.old) (contents self.new) }
+        ensures others { KeepsOthers (changed_by_own (contents self.old) (Deliver which)) (contents self.old)
+            (contents self.new) }
     {
         let flight = &self.flights[which as usize];
         self.nodes[usize::from(flight.to)].receive(flight.from, flight.bytes.as_slice())

@@ -1,6 +1,6 @@
 //! What the events of one node do.
 
-ghost use Rattle.std.specs.Prelude.{◌≡◌, ◌<◌, length};
+ghost use Rattle.std.specs.Prelude.{◌≡◌, ◌<◌, Some, None, length};
 ghost use Rattle.dn_machine.specs.declared.events.Event.TheVariants.{Build, Give, Run, Quit, Stop};
 ghost use Rattle.dn_remain_game.specs.Events.{in_game, on_own};
 
@@ -12,6 +12,7 @@ use dn_world::World;
 impl<W: World> Game<W> {
     ghost use Rattle.dn_remain_game.specs.Contents.{contents};
     ghost use Rattle.dn_remain_game.specs.Applied.{Tells, IsAfter};
+    ghost use Rattle.dn_remain_game.specs.Kept.{KeepsOthers, KeepsWhose};
     ghost use Rattle.dn_remain_game.specs.Room.{KeepsPosts};
     ghost use Rattle.dn_machine.specs.declared.events.Done.TheVariants as done;
 
@@ -22,6 +23,8 @@ impl<W: World> Game<W> {
             IsAfter W.state rules (contents self.old) (contents self.new) (in_game all (on_own rules all (Build node keys)))
             (done.Built result)) }
         ensures posts { KeepsPosts self.old self.new }
+        ensures whose { KeepsWhose (contents self.old) (contents self.new) }
+        ensures others { KeepsOthers (Some node) (contents self.old) (contents self.new) }
     {
         self.nodes[node as usize].build(keys)
     }
@@ -33,6 +36,8 @@ impl<W: World> Game<W> {
             IsAfter W.state rules (contents self.old) (contents self.new) (in_game all (on_own rules all (Give node command)))
             (done.Built result)) }
         ensures posts { KeepsPosts self.old self.new }
+        ensures whose { KeepsWhose (contents self.old) (contents self.new) }
+        ensures others { KeepsOthers (Some node) (contents self.old) (contents self.new) }
     {
         self.nodes[node as usize].give(command)
     }
@@ -43,6 +48,8 @@ impl<W: World> Game<W> {
         ensures steps { Tells W.state W.physics (contents self.old) (λ rules all.
             IsAfter W.state rules (contents self.old) (contents self.new) (in_game all (on_own rules all (Run node))) (done.Ran result)) }
         ensures posts { KeepsPosts self.old self.new }
+        ensures whose { KeepsWhose (contents self.old) (contents self.new) }
+        ensures others { KeepsOthers (Some node) (contents self.old) (contents self.new) }
     {
         self.nodes[node as usize].run()
     }
@@ -53,6 +60,8 @@ impl<W: World> Game<W> {
         ensures steps { Tells W.state W.physics (contents self.old) (λ rules all.
             IsAfter W.state rules (contents self.old) (contents self.new) (in_game all (on_own rules all (Quit node))) (done.Quit result)) }
         ensures posts { KeepsPosts self.old self.new }
+        ensures whose { KeepsWhose (contents self.old) (contents self.new) }
+        ensures others { KeepsOthers (Some node) (contents self.old) (contents self.new) }
     {
         self.nodes[node as usize].quit()
     }
@@ -63,6 +72,8 @@ impl<W: World> Game<W> {
         ensures steps { Tells W.state W.physics (contents self.old) (λ rules all.
             IsAfter W.state rules (contents self.old) (contents self.new) (in_game all (on_own rules all (Stop node))) done.Stopped) }
         ensures posts { KeepsPosts self.old self.new }
+        ensures whose { KeepsWhose (contents self.old) (contents self.new) }
+        ensures others { KeepsOthers None (contents self.old) (contents self.new) }
     {
         self.stopped[node as usize] = true;
     }

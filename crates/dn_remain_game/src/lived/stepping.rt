@@ -26,33 +26,37 @@ impl<W: World> Lived<W> {
     ghost use Rattle.dn_machine.specs.Building.{on_build};
     ghost use Rattle.dn_machine.specs.Game.{own_marks};
     ghost use Rattle.dn_machine.specs.Running.{on_quit, on_run_but};
+    ghost use Rattle.dn_survivor.specs.Calls as calls;
     ghost use Rattle.dn_survivor.specs.Calls.{HearsReport};
     ghost use Rattle.dn_survivor.specs.Surviving.{has_given_up};
     ghost use Rattle.dn_survivor.specs.Telling.{report_for};
-    ghost use Rattle.dn_remain_game.specs.Living.{GivesUp, Hears, HearsAny, HearsNear, IsGiven, Steps, Tells, living, on_node};
+    ghost use Rattle.dn_remain_game.specs.Living.{GivesUp, Hears, HearsAny, HearsNear, IsGiven, StaysWhose, Steps, Tells, living, on_node};
 
     /// Builds the command of these keys for the next tic. A node that builds none stays as it is.
     pub(crate) fn build(&mut self, keys: Keys) -> Made
-        ensures { Steps W.state W.physics (living self.old) (living self.new)
+        ensures step { Steps W.state W.physics (living self.old) (living self.new)
             (λ rules me wary. on_node wary (on_build rules.limits me wary.node (Pressed keys)))
             (λ made. result ≡ made) }
+        ensures whose { StaysWhose (living self.old) (living self.new) }
     {
         self.survivor.build(keys)
     }
 
     /// Takes the given command for the next tic, where [`Lived::build`] would build one.
     pub(crate) fn give(&mut self, command: Command) -> Made
-        ensures { Steps W.state W.physics (living self.old) (living self.new)
+        ensures step { Steps W.state W.physics (living self.old) (living self.new)
             (λ rules me wary. on_node wary (on_build rules.limits me wary.node (Given command)))
             (λ made. result ≡ made) }
+        ensures whose { StaysWhose (living self.old) (living self.new) }
     {
         self.survivor.give(command)
     }
 
     /// Ends the node, and answers whether it had not ended.
     pub(crate) fn quit(&mut self) -> bool
-        ensures { Steps W.state W.physics (living self.old) (living self.new)
+        ensures step { Steps W.state W.physics (living self.old) (living self.new)
             (λ rules me wary. on_node wary (on_quit wary.node)) (λ quit. result ≡ quit) }
+        ensures whose { StaysWhose (living self.old) (living self.new) }
     {
         self.survivor.quit()
     }
@@ -65,6 +69,7 @@ impl<W: World> Lived<W> {
         ensures peer { IfSome result (λ given. Gives (living self.old).survivor.lockstep to) }
         ensures fair { Tells W.state W.physics (living self.old) (λ rules me wary. wary.gone to ≡ false
             → IfSome (sent_to to rules.limits me wary.node).1 IsFair) }
+        ensures whose { StaysWhose (living self.old) (living self.new) }
     {
         let aim = self.survivor.lockstep().aim(to);
         let bytes = self.survivor.packet(to)?;
@@ -79,6 +84,7 @@ impl<W: World> Lived<W> {
             bytes.now (living self.old) (living self.new) result }
         ensures barred { has_given_up (living self.old).survivor from ≡ true
             → (result ≡ heard.Dropped drops.given_up) × (living self.new ≡ living self.old) }
+        ensures whose { StaysWhose (living self.old) (living self.new) }
     {
         let heard = self.survivor.receive(from, bytes);
         if let Heard::Started = heard {
@@ -105,9 +111,10 @@ impl<W: World> Lived<W> {
     /// Runs the next tic, where no mark is off of a player who is not given up, and the command of every player
     /// who takes part is there.
     pub(crate) fn run(&mut self) -> Ran
-        ensures { Steps W.state W.physics (living self.old) (living self.new)
+        ensures step { Steps W.state W.physics (living self.old) (living self.new)
             (λ rules me wary. on_node wary (on_run_but rules.limits wary.gone wary.node
             (own_marks rules wary.node))) (λ ran. result ≡ ran) }
+        ensures whose { StaysWhose (living self.old) (living self.new) }
     {
         let marks = self.marks();
         let mut row = [None; 4];
@@ -133,7 +140,8 @@ impl<W: World> Lived<W> {
 
     /// Gives up a player, for good. A node that waited only for that one starts.
     pub(crate) fn give_up(&mut self, player: u8) -> GivenUp
-        ensures { GivesUp W.state W.physics player (living self.old) (living self.new) result }
+        ensures step { GivesUp W.state W.physics player (living self.old) (living self.new) result }
+        ensures survivor { calls.GivesUp player (living self.old).survivor (living self.new).survivor result }
     {
         let gathered = self.is_gathering();
         let given_up = self.survivor.give_up(player);

@@ -4,6 +4,7 @@ use Rattle.dn_remain.specs.declared.events.RemainEvent.{RemainEvent}
 use Rattle.dn_remain_game.specs.Contents.{contents}
 use Rattle.dn_remain_game.proofs.Counting.{given_more, has_played, played_more}
 use Rattle.dn_remain_game.proofs.Given.{given_opens}
+use Rattle.dn_remain_game.proofs.Whose.{limits_stay}
 use Rattle.dn_remain_game.proofs.playing.play_remaining.Goals as goal
 
 pub loop-event-init : goal.loop-event-init
@@ -16,6 +17,7 @@ loop-event-init g c = (
     refused = refl;
   },
   given_opens c.args.worlds.items (contents c.in_ok-game.game) c.in_ok-game.ensures.given,
+  c.in_ok-game.ensures.limits,
   c.in_ok-game.ensures.room,
 )
 
@@ -31,7 +33,9 @@ loop-event-preserved g c =
           c.apply.ensures.applied),
       given_more _ _ _ c.args.config.settings (take at events) c.args.worlds.items _ c.loop-event.played
           c.apply.new.self before.1 c.apply.ensures.applied before.2,
-      c.apply.ensures.applied.room before.3,
+      limits_stay c.args.config.limit (contents c.loop-event.played.game).nodes (contents c.apply.new.self.game).nodes
+          c.apply.ensures.whose before.3,
+      c.apply.ensures.applied.room before.4,
     )
 
 pub returns-clause-promised : goal.returns-clause-promised

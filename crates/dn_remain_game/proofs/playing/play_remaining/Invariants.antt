@@ -1,6 +1,7 @@
 use Rattle.std.proofs.Common.{◌≡◌, ◌+◌, length, take}
 use Rattle.dn_remain_game.specs.Contents.{contents}
 use Rattle.dn_remain_game.specs.Frame.{KeepGiven}
+use Rattle.dn_remain_game.specs.Fresh.{AreLimited}
 use Rattle.dn_remain_game.specs.Opening.{rules_in}
 use Rattle.dn_remain_game.specs.Promised.{IsPlayed}
 use Rattle.dn_remain_game.specs.Room.{IsWithinTwice}
@@ -12,4 +13,5 @@ invariant-loop-event g l =
     × IsPlayed g.W.World.state (rules_in g.W.World.physics l.fn.config (length l.fn.worlds.items))
     l.fn.config.settings (take l.event-index l.events) l.played
     × KeepGiven l.fn.worlds.items (contents l.played.game)
+    × AreLimited l.fn.config.limit (contents l.played.game).nodes
     × IsWithinTwice l.played.game

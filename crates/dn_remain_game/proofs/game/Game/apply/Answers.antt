@@ -8,7 +8,10 @@ use Rattle.dn_remain_game.specs.Room.{LacksRoom}
 use Rattle.dn_remain_game.specs.declared.under_way.Telling.{Telling}
 use Rattle.dn_remain_game.proofs.Answering.{carries}
 use Rattle.dn_remain_game.proofs.Applying.{after_event, after_refused, on_err, own_done, own_left, told_so}
+use Rattle.dn_remain_game.proofs.Framing.{others_by}
+use Rattle.dn_remain_game.proofs.Roomy.{done_takes, kept_room, refused_takes, taken_by}
 use Rattle.dn_remain_game.proofs.ReportsTold.{refused_tells, told_by}
+use Rattle.dn_remain_game.proofs.Surviving.{asked_by, refused_asks}
 use Rattle.dn_remain_game.proofs.game.Game.apply.Goals as goal
 
 pub returns-in-Some-clause-applied : goal.returns-in-Some-clause-applied
@@ -30,7 +33,6 @@ returns-in_err-apply_own-in-Own-clause-applied g c limits settings events answer
     own_left g.W.World.state (rules_within g.W.World.physics limits) _ _ reached.last c.args.event _ c.in-Own.is free _
     c.from_residual.result told (c.in_err-apply_own-in-Own.ensures.applied limits reached.last reached.game
     (sym (free ∙ ap (refused_remain limits.players reached.last) c.in-Own.is)))
-    c.in_err-apply_own-in-Own.ensures.unchanged
 
 pub returns-in-GiveUp-clause-applied : goal.returns-in-GiveUp-clause-applied
 returns-in-GiveUp-clause-applied g c limits settings events answers reached =
@@ -73,7 +75,7 @@ returns-in-Hear-clause-carried g c = carries _ _ _ _ _ _ (returns-in-Hear-clause
 pub returns-in_err-apply_own-in-Own-clause-memory : goal.returns-in_err-apply_own-in-Own-clause-memory
 returns-in_err-apply_own-in-Own-clause-memory g c is =
     let full = c.in_err-apply_own-in-Own.ensures.memory in
-    (ap asks_room c.in-Own.is ∙ full.0, subst (LacksRoom c.apply_own.new.self) (sym c.in-Own.is) full.1)
+    (ap asks_room c.in-Own.is ∙ full.0, subst (LacksRoom c.apply_own.new.self) (sym c.in-Own.is) full)
 
 pub returns-in-Tell-clause-memory : goal.returns-in-Tell-clause-memory
 returns-in-Tell-clause-memory g c is = (
@@ -104,3 +106,98 @@ returns-in-Tell-clause-reports g c = told_by (contents c.args.self.now) (content
 pub returns-in-Hear-clause-reports : goal.returns-in-Hear-clause-reports
 returns-in-Hear-clause-reports g c =
     told_by (contents c.args.self.now) (contents c.hear.new.self) c.args.event _ _ c.in-Hear.is (ap (λ (v : Vec Telling). v.items) c.hear.ensures.posts.reports)
+
+pub returns-in-Some-clause-survivor : goal.returns-in-Some-clause-survivor
+returns-in-Some-clause-survivor g c = refused_asks (contents c.args.self.now) (contents c.args.self.now) c.args.event _
+
+pub returns-in_ok-apply_own-in-Own-clause-survivor : goal.returns-in_ok-apply_own-in-Own-clause-survivor
+returns-in_ok-apply_own-in-Own-clause-survivor g c =
+    asked_by (contents c.args.self.now) (contents c.apply_own.new.self) c.args.event _ _ c.in-Own.is tt
+
+pub returns-in_err-apply_own-in-Own-clause-survivor : goal.returns-in_err-apply_own-in-Own-clause-survivor
+returns-in_err-apply_own-in-Own-clause-survivor g c =
+    asked_by (contents c.args.self.now) (contents c.apply_own.new.self) c.args.event _ _ c.in-Own.is tt
+
+pub returns-in-GiveUp-clause-survivor : goal.returns-in-GiveUp-clause-survivor
+returns-in-GiveUp-clause-survivor g c =
+    asked_by (contents c.args.self.now) (contents c.give_up.new.self) c.args.event _ _ c.in-GiveUp.is
+    (c.give_up.result, refl, c.give_up.ensures.survivor)
+
+pub returns-in-Tell-clause-survivor : goal.returns-in-Tell-clause-survivor
+returns-in-Tell-clause-survivor g c =
+    asked_by (contents c.args.self.now) (contents c.tell.new.self) c.args.event _ _ c.in-Tell.is tt
+
+pub returns-in-Hear-clause-survivor : goal.returns-in-Hear-clause-survivor
+returns-in-Hear-clause-survivor g c =
+    asked_by (contents c.args.self.now) (contents c.hear.new.self) c.args.event _ _ c.in-Hear.is
+    (c.hear.result, refl, c.hear.ensures.survivor)
+
+pub returns-in-Some-clause-whose : goal.returns-in-Some-clause-whose
+returns-in-Some-clause-whose g c = refl
+
+pub returns-in_ok-apply_own-in-Own-clause-whose : goal.returns-in_ok-apply_own-in-Own-clause-whose
+returns-in_ok-apply_own-in-Own-clause-whose g c = c.in_ok-apply_own-in-Own.ensures.whose
+
+pub returns-in_err-apply_own-in-Own-clause-whose : goal.returns-in_err-apply_own-in-Own-clause-whose
+returns-in_err-apply_own-in-Own-clause-whose g c = c.in_err-apply_own-in-Own.ensures.whose
+
+pub returns-in-GiveUp-clause-whose : goal.returns-in-GiveUp-clause-whose
+returns-in-GiveUp-clause-whose g c = c.give_up.ensures.whose
+
+pub returns-in-Tell-clause-whose : goal.returns-in-Tell-clause-whose
+returns-in-Tell-clause-whose g c = c.tell.ensures.whose
+
+pub returns-in-Hear-clause-whose : goal.returns-in-Hear-clause-whose
+returns-in-Hear-clause-whose g c = c.hear.ensures.whose
+
+pub returns-in-Some-clause-others : goal.returns-in-Some-clause-others
+returns-in-Some-clause-others g c i apart = refl
+
+pub returns-in_ok-apply_own-in-Own-clause-others : goal.returns-in_ok-apply_own-in-Own-clause-others
+returns-in_ok-apply_own-in-Own-clause-others g c =
+    others_by (contents c.args.self.now) (contents c.apply_own.new.self) c.args.event _ c.in-Own.is
+    c.in_ok-apply_own-in-Own.ensures.others
+
+pub returns-in_err-apply_own-in-Own-clause-others : goal.returns-in_err-apply_own-in-Own-clause-others
+returns-in_err-apply_own-in-Own-clause-others g c =
+    others_by (contents c.args.self.now) (contents c.apply_own.new.self) c.args.event _ c.in-Own.is
+    c.in_err-apply_own-in-Own.ensures.others
+
+pub returns-in-GiveUp-clause-others : goal.returns-in-GiveUp-clause-others
+returns-in-GiveUp-clause-others g c =
+    others_by (contents c.args.self.now) (contents c.give_up.new.self) c.args.event _ c.in-GiveUp.is
+    c.give_up.ensures.others
+
+pub returns-in-Tell-clause-others : goal.returns-in-Tell-clause-others
+returns-in-Tell-clause-others g c =
+    others_by (contents c.args.self.now) (contents c.tell.new.self) c.args.event _ c.in-Tell.is
+    c.tell.ensures.others
+
+pub returns-in-Hear-clause-others : goal.returns-in-Hear-clause-others
+returns-in-Hear-clause-others g c =
+    others_by (contents c.args.self.now) (contents c.hear.new.self) c.args.event _ c.in-Hear.is
+    c.hear.ensures.others
+
+pub returns-in_ok-apply_own-in-Own-clause-taken : goal.returns-in_ok-apply_own-in-Own-clause-taken
+returns-in_ok-apply_own-in-Own-clause-taken g c =
+    done_takes c.args.self.now c.apply_own.new.self c.args.event _ c.in-Own.is c.in_ok-apply_own-in-Own.ensures.taken
+
+pub returns-in_err-apply_own-in-Own-clause-taken : goal.returns-in_err-apply_own-in-Own-clause-taken
+returns-in_err-apply_own-in-Own-clause-taken g c =
+    let told : c.from_residual.result ≡ Err c.in_err-apply_own-in-Own.field-0.0 = search rules in
+    refused_takes c.args.self.now c.apply_own.new.self c.args.event c.from_residual.result _ told
+    c.in_err-apply_own-in-Own.ensures.taken
+
+pub returns-in-GiveUp-clause-taken : goal.returns-in-GiveUp-clause-taken
+returns-in-GiveUp-clause-taken g c =
+    done_takes c.args.self.now c.give_up.new.self c.args.event _ c.in-GiveUp.is
+    (kept_room c.args.self.now c.give_up.new.self c.give_up.ensures.posts)
+
+pub returns-in-Tell-clause-taken : goal.returns-in-Tell-clause-taken
+returns-in-Tell-clause-taken g c =
+    taken_by c.args.self.now c.tell.new.self c.args.event _ _ c.in-Tell.is c.tell.ensures.taken
+
+pub returns-in-Hear-clause-taken : goal.returns-in-Hear-clause-taken
+returns-in-Hear-clause-taken g c =
+    done_takes c.args.self.now c.hear.new.self c.args.event _ c.in-Hear.is
+    (kept_room c.args.self.now c.hear.new.self c.hear.ensures.posts)

@@ -2,8 +2,10 @@ use Rattle.std.proofs.Common.{inl, refl, arith}
 use Rattle.dn_machine.specs.declared.events.Done.{Done}
 use Rattle.dn_machine.specs.Worlds.{rules_within}
 use Rattle.dn_remain_game.specs.Contents.{contents}
+use Rattle.dn_remain_game.proofs.Framing.{others_step}
 use Rattle.dn_remain_game.proofs.Sending.{sends_none, sends_some}
 use Rattle.dn_remain_game.proofs.Standing.{joins}
+use Rattle.dn_remain_game.proofs.Whose.{whose_step}
 use Rattle.dn_remain_game.proofs.game.Game.send.Goals as goal
 
 pub returns-in_default-packet-clause-sent : goal.returns-in_default-packet-clause-sent
@@ -27,3 +29,21 @@ returns-clause-sent g c limits all r =
           (joins _ _ _ _ c.push_reserved.ensures.items c.in-Ok.ensures.items)
           (omega (arith, c.len-which.ensures, c.in-Ok.ensures.len, c.args.self.now.flights.ok.0)),
     )
+
+pub returns-in_default-packet-clause-whose : goal.returns-in_default-packet-clause-whose
+returns-in_default-packet-clause-whose g c =
+    whose_step c.args.self.now.nodes.items c.args.node _ c.packet.new.self c.index_mut.ensures.value
+    c.packet.ensures.whose
+
+pub returns-clause-whose : goal.returns-clause-whose
+returns-clause-whose g c =
+    whose_step c.args.self.now.nodes.items c.args.node _ c.packet.new.self c.index_mut.ensures.value
+    c.packet.ensures.whose
+
+pub returns-in_default-packet-clause-others : goal.returns-in_default-packet-clause-others
+returns-in_default-packet-clause-others g c i apart =
+    others_step c.args.self.now.nodes.items c.args.node c.packet.new.self _ refl i apart
+
+pub returns-clause-others : goal.returns-clause-others
+returns-clause-others g c i apart =
+    others_step c.args.self.now.nodes.items c.args.node c.packet.new.self _ refl i apart

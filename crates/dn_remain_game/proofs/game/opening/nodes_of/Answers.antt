@@ -1,7 +1,10 @@
 use Rattle.std.proofs.Common.{rules, ◌≡◌, [], ◌∷◌, ◌++◌, length, ap, sym, ◌∙◌, arith, length-append}
 use Rattle.std.specs.Prelude.{◌==◌}
 use Rattle.std.proofs.lemmas.Bool.{cond-true, eq-eqb}
+use Rattle.dn_lockstep.specs.declared.config.Config.{Config}
+use Rattle.dn_lockstep.specs.Contents.{Whose}
 use Rattle.dn_remain_game.proofs.Freshening.{fresh_more, given_more, given_all}
+use Rattle.dn_remain_game.proofs.Whose.{limited_more}
 use Rattle.dn_remain_game.proofs.game.opening.nodes_of.Goals as goal
 
 pub loop-world-preserved : goal.loop-world-preserved
@@ -14,7 +17,9 @@ loop-world-preserved g c =
     let players : c.len-players.result ≡ length c.args.worlds.items = search rules in
     let me : c.len-in-loop-world.result ≡ length c.loop-world.nodes.items = search rules in
     let opened = (rw c.config_of-own.ensures at c.in-Ok.ensures.opened) config.settings
-    (λ zero. cond-true (c.len-in-loop-world.result == 0) _ _ (eq-eqb _ 0 zero)) in (
+    (λ zero. cond-true (c.len-in-loop-world.result == 0) _ _ (eq-eqb _ 0 zero)) in
+    let limit = ap (λ (w : Whose). w.limit) c.in-Ok.ensures.whose
+    ∙ ap (λ (own : Config). own.limit) c.config_of-own.ensures in (
       before.0,
       before.1,
       omega (arith, longer, before.2, c.in-Some.ensures.steps.1),
@@ -22,7 +27,8 @@ loop-world-preserved g c =
           (rw (players, me) at opened)),
       given_more _ c.loop-world.nodes.items _ _ before.4 _ _ _ _ pushed c.in-Ok.ensures.given
           c.in-Some.ensures.steps.0,
-      c.push_reserved.ensures.capacity ∙ before.5,
+      rw pushed (limited_more config.limit c.loop-world.nodes.items c.in-Ok.node before.5 limit),
+      c.push_reserved.ensures.capacity ∙ before.6,
     )
 
 pub returns-clause-given : goal.returns-clause-given

@@ -1,6 +1,6 @@
 use Rattle.std.proofs.Common.{◌≡◌, ◌+◌, ◌++◌, length}
 use Rattle.std.specs.Vec.{vec_capacity}
-use Rattle.dn_remain_game.specs.Fresh.{AreFresh, worlds_of}
+use Rattle.dn_remain_game.specs.Fresh.{AreFresh, AreLimited, worlds_of}
 use Rattle.dn_remain_game.specs.Opening.{rules_in}
 use Rattle.dn_remain_game.proofs.game.opening.nodes_of.Given as goal
 
@@ -13,4 +13,5 @@ invariant-loop-world g l =
     × AreFresh g.W.World.state (rules_in g.W.World.physics l.config (length l.fn.worlds.items))
     l.config.settings l.nodes.items
     × (worlds_of l.nodes.items ++ l.world-iterator.rest.items ≡ l.fn.worlds.items)
+    × AreLimited l.config.limit l.nodes.items
     × (vec_capacity l.nodes ≡ length l.fn.worlds.items)

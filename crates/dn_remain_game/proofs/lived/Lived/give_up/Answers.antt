@@ -9,8 +9,8 @@ use Rattle.dn_remain_game.proofs.lived.Lived.give_up.Goals.{else-gathered-via-th
 use Rattle.dn_remain_game.proofs.lived.Lived.give_up.Goals as goal
 
 -- who has started has begun its world
-pub returns-then-is_playing : goal.returns-then-is_playing
-returns-then-is_playing g c =
+pub returns-then-is_playing-clause-step : goal.returns-then-is_playing-clause-step
+returns-then-is_playing-clause-step g c =
     let n = c.args.self.now.survivor.lockstep in
     let rest = c.begin.ensures.rest in
     given_up g.W.World.state g.W.World.physics (living c.args.self.now) (living c.begin.new.self) c.args.player
@@ -26,8 +26,8 @@ returns-then-is_playing g c =
     c.give_up-given_up.result) (sym rest) c.give_up-given_up.ensures.gives)
 
 -- who has not has the world that it had
-pub returns-else-gathered : goal.returns-else-gathered
-returns-else-gathered g c =
+pub returns-else-gathered-clause-step : goal.returns-else-gathered-clause-step
+returns-else-gathered-clause-step g c =
     let n = c.args.self.now.survivor.lockstep in
     given_up g.W.World.state g.W.World.physics (living c.args.self.now)
     (record { survivor = surviving c.give_up-given_up.new.self; world = c.args.self.now.world }) c.args.player
@@ -38,3 +38,8 @@ returns-else-gathered g c =
       | else-gathered-via-else-gathered w ↦ c.is_gathering-gathered.ensures.no w.if-gathered.false gathers
     ]))
     c.give_up-given_up.ensures.gives
+
+pub returns-then-is_playing-clause-survivor : goal.returns-then-is_playing-clause-survivor
+returns-then-is_playing-clause-survivor g c =
+    subst (λ (s : Surviving). survivor.GivesUp c.args.player (surviving c.args.self.now.survivor) s
+    c.give_up-given_up.result) (sym c.begin.ensures.rest) c.give_up-given_up.ensures.gives

@@ -36,3 +36,12 @@ returns-clause-step g c limits me wary r =
     (subst (λ (n : Contents). Tells n (λ limits me m. c.aim-aim.result ≡ option_map aim_of (sent_to c.args.to limits me m).1))
     c.lockstep.ensures c.aim-aim.ensures.told) c.packet.ensures.others c.packet.new.self.lockstep.known refl limits me
     wary r c.in_ok-bytes.bytes c.in_ok-aim.field-0 c.in_ok-bytes.was c.in_ok-aim.was
+
+pub returns-in_err-bytes-clause-whose : goal.returns-in_err-bytes-clause-whose
+returns-in_err-bytes-clause-whose g c = c.packet.ensures.step.same
+
+pub returns-in_err-aim-clause-whose : goal.returns-in_err-aim-clause-whose
+returns-in_err-aim-clause-whose g c = c.packet.ensures.step.same
+
+pub returns-clause-whose : goal.returns-clause-whose
+returns-clause-whose g c = c.packet.ensures.step.same

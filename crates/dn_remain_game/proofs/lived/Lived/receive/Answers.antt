@@ -1,11 +1,13 @@
-use Rattle.std.proofs.Common.{◌≢◌, ℕ, refl, ap, sym, ◌∙◌, subst}
+use Rattle.std.proofs.Common.{◌≡◌, ◌≢◌, ℕ, refl, ap, sym, ◌∙◌, subst}
 use Rattle.dn_setup.specs.Starts.{start_of}
 use Rattle.dn_machine.specs.declared.answers.Heard.{Heard}
+use Rattle.dn_lockstep.specs.Contents.{whose}
 use Rattle.dn_lockstep.specs.Hearing as lockstep
 use Rattle.dn_lockstep.specs.Rows.{seats_of}
 use Rattle.dn_survivor.specs.Surviving.{Surviving, surviving}
 use Rattle.dn_remain_game.specs.Living.{Living, living}
 use Rattle.dn_remain_game.proofs.Hearing.{HasHeard, hears, hears_any}
+use Rattle.dn_remain_game.proofs.Whose.{whose_received}
 use Rattle.dn_remain_game.proofs.lived.Lived.receive.Given.{Over}
 use Rattle.dn_remain_game.proofs.lived.Lived.receive.Goals.{After-begin, After-receive-heard}
 use Rattle.dn_remain_game.proofs.lived.Lived.receive.Goals as goal
@@ -47,6 +49,19 @@ returns-in-Started-clause-near g c free =
     (surviving c.args.self.now.survivor).lockstep s.lockstep c.receive-heard.result) (sym c.begin.ensures.rest)
     (c.receive-heard.ensures.near free))
 
+-- it stays whose it is
+same_whose : (g : Over) (c : After-receive-heard g)
+    → whose (surviving c.receive-heard.new.self).lockstep ≡ whose (surviving c.args.self.now.survivor).lockstep
+same_whose g c =
+    whose_received (surviving c.args.self.now.survivor) (surviving c.receive-heard.new.self) c.args.from
+    c.args.bytes.now c.receive-heard.result c.receive-heard.ensures.any c.receive-heard.ensures.barred
+    c.receive-heard.ensures.dropped
+
+pub returns-in-Started-clause-whose : goal.returns-in-Started-clause-whose
+returns-in-Started-clause-whose g c =
+    ap (λ (s : Surviving). whose s.lockstep) c.begin.ensures.rest
+    ∙ same_whose g (goal.at.returns-in-Started-clause-whose g c).After-receive-heard
+
 -- who has not has the world that it had
 went_on : (g : Over) (c : After-receive-heard g) → c.receive-heard.result ≢ Heard.Started
     → HasHeard g.W.World.state g.W.World.physics (living c.args.self.now)
@@ -77,4 +92,5 @@ returns-in_default g c =
         ap (λ (s : Surviving). record { survivor = s; world = c.args.self.now.world })
             (c.receive-heard.ensures.dropped 15 is),
       );
+      whose = same_whose g (goal.at.returns-in_default g c).After-receive-heard;
     }

@@ -1,0 +1,102 @@
+-- A node stays whose it is, and keeps the limit of its demo.
+use Rattle.std.proofs.Common.{◌≡◌, ℕ, Bool, true, false, List, [], ◌∷◌, ◌++◌, set, Option, Some, None, refl, ap, ◌∙◌}
+use Rattle.std.specs.List.{All}
+use Rattle.std.specs.Prelude.{slice_index_or}
+use Rattle.std.proofs.Math.Seq.{map-set_same}
+use Rattle.std.proofs.lemmas.List.Elements.{All-cons, All-head, All-map, All-nil, All-push, All-tail}
+use Rattle.dn_machine.specs.Drops as drops
+use Rattle.dn_machine.specs.declared.answers.Heard.{Heard}
+use Rattle.dn_report.specs.declared.report.Report.{Report}
+use Rattle.dn_lockstep.specs.Contents.{Whose, whose}
+use Rattle.dn_lockstep.specs.Hearing.{HearsAny, Spares}
+use Rattle.dn_survivor.specs.Calls.{GivesUp, GivesUpUnless, HearsReport, HearsReportUnless, refused_give_up, refused_report}
+use Rattle.dn_survivor.specs.Surviving.{Surviving, has_given_up}
+use Rattle.dn_survivor.specs.declared.answers.GivenUp.{GivenUp}
+use Rattle.dn_survivor.specs.declared.answers.Reported.{Reported}
+use Rattle.dn_remain_game.specs.declared.lived.Lived.{Lived}
+use Rattle.dn_remain_game.specs.Fresh.{AreLimited}
+use Rattle.dn_remain_game.specs.Kept.{whose_of}
+use Rattle.dn_remain_game.specs.Living.{StaysWhose, living}
+
+-- a survivor that hears a datagram, gives up a player or hears a report
+module _ (old new : Surviving) where
+  same_whose : new ≡ old → whose new.lockstep ≡ whose old.lockstep
+  same_whose is = ap (λ (s : Surviving). whose s.lockstep) is
+
+  pub whose_received : (from : ℕ) (bytes : List ℕ) (heard : Heard)
+      → (has_given_up old from ≡ false → HearsAny from bytes old.lockstep new.lockstep heard)
+      → (has_given_up old from ≡ true → heard ≡ Heard.Dropped drops.given_up) → Spares old new heard
+      → whose new.lockstep ≡ whose old.lockstep
+  whose_received from bytes heard any barred dropped = by_case (has_given_up old from) refl
+    where
+      by_case : (gone : Bool) → has_given_up old from ≡ gone → whose new.lockstep ≡ whose old.lockstep
+      by_case true is = same_whose (dropped drops.given_up (barred is))
+      by_case false is = (any is).same
+
+  given_unless : (refused : Option GivenUp) (player : ℕ) (answer : GivenUp)
+      → GivesUpUnless refused player old new answer → whose new.lockstep ≡ whose old.lockstep
+  given_unless (Some reason) player answer is = same_whose is.1
+  given_unless None player answer is = is.1.same
+
+  whose_given : (player : ℕ) (answer : GivenUp) → GivesUp player old new answer
+      → whose new.lockstep ≡ whose old.lockstep
+  whose_given player answer is = given_unless (refused_give_up old player) player answer is
+
+  heard_unless : (refused : Option Reported) (from : ℕ) (report : Report) (answer : Reported)
+      → HearsReportUnless refused from report old new answer → whose new.lockstep ≡ whose old.lockstep
+  heard_unless (Some reason) from report answer is = same_whose is.1
+  heard_unless None from report answer is = is.1.same
+
+  whose_heard : (from : ℕ) (report : Report) (answer : Reported) → HearsReport from report old new answer
+      → whose new.lockstep ≡ whose old.lockstep
+  whose_heard from report answer is = heard_unless (refused_report old from report) from report answer is
+
+-- one of these nodes took a step, and stays whose it is
+pub whose_step : {W : Type 0} (nodes : List (Lived W)) (place : ℕ) (old next : Lived W)
+    → old ≡ slice_index_or nodes place old → StaysWhose (living old) (living next)
+    → whose_of (set nodes place next) ≡ whose_of nodes
+whose_step {W} nodes place old next read kept =
+    let own = λ (n : Lived W). whose (living n).survivor.lockstep in
+    map-set_same own nodes place next old (kept ∙ ap own read)
+
+-- so does one that gives up a player, or hears a report
+pub given_step : {W : Type 0} (nodes : List (Lived W)) (place : ℕ) (old next : Lived W) (player : ℕ)
+    (answer : GivenUp) → old ≡ slice_index_or nodes place old
+    → GivesUp player (living old).survivor (living next).survivor answer
+    → whose_of (set nodes place next) ≡ whose_of nodes
+given_step nodes place old next player answer read is =
+    whose_step nodes place old next read
+    (whose_given (living old).survivor (living next).survivor player answer is)
+
+pub heard_step : {W : Type 0} (nodes : List (Lived W)) (place : ℕ) (old next : Lived W) (from : ℕ)
+    (report : Report) (answer : Reported) → old ≡ slice_index_or nodes place old
+    → HearsReport from report (living old).survivor (living next).survivor answer
+    → whose_of (set nodes place next) ≡ whose_of nodes
+heard_step nodes place old next from report answer read is =
+    whose_step nodes place old next read
+    (whose_heard (living old).survivor (living next).survivor from report answer is)
+
+-- the limits of the demos
+module _ {W : Type 0} (limit : ℕ) where
+  pub limited_none : AreLimited {W = W} limit []
+  limited_none = All-nil (λ (n : Lived W). (living n).survivor.lockstep.demo.limit ≡ limit)
+
+  pub limited_more : (nodes : List (Lived W)) (node : Lived W) → AreLimited limit nodes
+      → (living node).survivor.lockstep.demo.limit ≡ limit → AreLimited limit (nodes ++ node ∷ [])
+  limited_more nodes node before one =
+      All-push (λ (n : Lived W). (living n).survivor.lockstep.demo.limit ≡ limit) nodes node before one
+
+  limited_as : (nodes : List (Lived W)) → All (λ (w : Whose). w.limit ≡ limit) (whose_of nodes)
+      → AreLimited limit nodes
+  limited_as [] all = limited_none
+  limited_as (node ∷ nodes) all =
+      let P = λ (w : Whose). w.limit ≡ limit in
+      let first = whose (living node).survivor.lockstep in
+      All-cons (λ (n : Lived W). (living n).survivor.lockstep.demo.limit ≡ limit) node nodes
+      (All-head P first (whose_of nodes) all) (limited_as nodes (All-tail P first (whose_of nodes) all))
+
+  pub limits_stay : (old new : List (Lived W)) → whose_of new ≡ whose_of old → AreLimited limit old
+      → AreLimited limit new
+  limits_stay old new kept before =
+      limited_as new (rw kept
+      (All-map (λ (w : Whose). w.limit ≡ limit) (λ (n : Lived W). whose (living n).survivor.lockstep) old before))

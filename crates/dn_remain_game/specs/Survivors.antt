@@ -1,0 +1,34 @@
+-- What a node's survivor does when the node gives up a player, or when a report comes to it.
+use Rattle.std.specs.Prelude.{◌≡◌, ℕ, Some, slice_get, Result, Ok}
+use Rattle.dn_machine.specs.declared.events.Refusal.{Refusal}
+use Rattle.dn_remain.specs.declared.events.RemainEvent.{RemainEvent}
+use Rattle.dn_remain.specs.declared.events.RemainEvent.TheVariants.{GiveUp, Hear}
+use Rattle.dn_survivor.specs.Calls.{GivesUp, HearsReport}
+use Rattle.dn_survivor.specs.declared.answers.GivenUp.{GivenUp}
+use Rattle.dn_survivor.specs.declared.answers.Reported.{Reported}
+use Rattle.dn_remain_game.specs.declared.happened.Happened.{Happened}
+use Rattle.dn_remain_game.specs.declared.lived.Lived.{Lived}
+use Rattle.dn_remain_game.specs.declared.under_way.Telling.{Telling}
+use Rattle.dn_remain_game.specs.Contents.{Contents}
+use Rattle.dn_remain_game.specs.Living.{living}
+
+-- the survivor of this node gives up this player, and that is its answer
+abbrev pub GivesUpAt : {W : Type 0} → Contents W → Contents W → ℕ → ℕ → GivenUp → Type 0
+GivesUpAt {W} old new node player answer =
+    (a b : Lived W) → slice_get old.nodes node ≡ Some a → slice_get new.nodes node ≡ Some b
+    → GivesUp player (living a).survivor (living b).survivor answer
+
+-- the survivor of the node that the report of this number is for hears the very report that was told
+abbrev pub HearsAt : {W : Type 0} → Contents W → Contents W → ℕ → Reported → Type 0
+HearsAt {W} old new which answer =
+    (t : Telling) (a b : Lived W) → slice_get old.reports which ≡ Some t → slice_get old.nodes t.to ≡ Some a
+    → slice_get new.nodes t.to ≡ Some b
+    → HearsReport t.from t.report (living a).survivor (living b).survivor answer
+
+-- by the event; what is refused asks nothing of a survivor
+abbrev pub AsksSurvivor : {W : Type 0} → Contents W → Contents W → RemainEvent → Result Happened Refusal → Type 0
+AsksSurvivor old new (GiveUp node player) (Ok answer) =
+    (given : GivenUp) × (answer ≡ Happened.GivenUp given) × GivesUpAt old new node player given
+AsksSurvivor old new (Hear which) (Ok answer) =
+    (reported : Reported) × (answer ≡ Happened.Reported reported) × HearsAt old new which reported
+AsksSurvivor old new event answer = Unit {0}
