@@ -1,3 +1,4 @@
+pub mod Again
 pub mod Hints
 pub mod Once
 pub mod Readings

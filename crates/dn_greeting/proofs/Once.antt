@@ -1,32 +1,61 @@
--- Bytes are read as one greeting.
-use Rattle.std.proofs.Common.{◌≡◌, ℕ, List, arith, Result}
+-- Bytes are read as one greeting of a sort, and what a reader returns is that one.
+use Rattle.std.proofs.Common.{◌≡◌, ◌≢◌, ◌≤◌, ◌+◌, ℕ, List, length, take, drop, ap, sym, ◌∙◌, arith, inl, Option, Some, None, Result, Ok, Err}
 use Rattle.dn_seal.specs.declared.seal.Seal.{Seal}
-use Rattle.dn_greeting.specs.declared.greeting.Answer.{Answer}
-use Rattle.dn_greeting.specs.declared.greeting.Call.{Call}
 use Rattle.dn_greeting.specs.declared.greeting.GreetingFault.{GreetingFault}
-use Rattle.dn_greeting.specs.declared.greeting.Refused.{Refused}
-use Rattle.dn_greeting.specs.declared.greeting.Retry.{Retry}
+use Rattle.dn_greeting.specs.declared.greeting.GreetingFault.TheVariants.{Form}
 use Rattle.dn_greeting.specs.Text.{answer_rest, call_rest, refused_rest, retry_rest, IsAnswer, IsCall, IsRefused, IsRetry}
-use Rattle.dn_greeting.specs.Reading.{IsAnswerIn, IsCallIn, IsRefusedIn, IsRetryIn}
+use Rattle.dn_greeting.specs.Reading.{first_fault, IsReadAs}
 use Rattle.dn_greeting.proofs.Rests.{length-answer, length-call, length-refused, length-retry, same_answer, same_call, same_refused, same_retry}
-use Rattle.dn_greeting.proofs.Readings.{one_reading}
+use Rattle.dn_greeting.proofs.Readings.{one_reading, reads_form, reads_ok}
 
-pub one_call : (seal : Seal) (bytes : List ℕ) (a b : Result Call GreetingFault) → IsCallIn seal bytes a
-    → IsCallIn seal bytes b → a ≡ b
-one_call seal bytes a b =
-    one_reading seal 1 130 IsCall call_rest (omega arith) (λ t is. omega (arith, length-call t is)) same_call bytes a b
+-- a sort of greetings: behind the head of each stand so many bytes, and no two have the same
+pub record IsSort {T : Type 0} (n : ℕ) (Is : T → Type 0) (rest : T → List ℕ) : Type 0 where
+  pub some : 1 ≤ n
+  pub long : (t : T) → Is t → length (rest t) ≡ n
+  pub same : (s t : T) → Is s → Is t → rest s ≡ rest t → s ≡ t
 
-pub one_answer : (seal : Seal) (bytes : List ℕ) (a b : Result Answer GreetingFault) → IsAnswerIn seal bytes a
-    → IsAnswerIn seal bytes b → a ≡ b
-one_answer seal bytes a b =
-    one_reading seal 2 130 IsAnswer answer_rest (omega arith) (λ t is. omega (arith, length-answer t is)) same_answer bytes a b
+pub calls : IsSort 102 IsCall call_rest
+calls = record { some = omega arith; long = length-call; same = same_call }
 
-pub one_refused : (seal : Seal) (bytes : List ℕ) (a b : Result Refused GreetingFault) → IsRefusedIn seal bytes a
-    → IsRefusedIn seal bytes b → a ≡ b
-one_refused seal bytes a b =
-    one_reading seal 3 46 IsRefused refused_rest (omega arith) (λ t is. omega (arith, length-refused t is)) same_refused bytes a b
+pub answers : IsSort 102 IsAnswer answer_rest
+answers = record { some = omega arith; long = length-answer; same = same_answer }
 
-pub one_retry : (seal : Seal) (bytes : List ℕ) (a b : Result Retry GreetingFault) → IsRetryIn seal bytes a
-    → IsRetryIn seal bytes b → a ≡ b
-one_retry seal bytes a b =
-    one_reading seal 5 64 IsRetry retry_rest (omega arith) (λ t is. omega (arith, length-retry t is)) same_retry bytes a b
+pub refusals : IsSort 18 IsRefused refused_rest
+refusals = record { some = omega arith; long = length-refused; same = same_refused }
+
+pub retries : IsSort 36 IsRetry retry_rest
+retries = record { some = omega arith; long = length-retry; same = same_retry }
+
+module _ {T : Type 0} {n : ℕ} {Is : T → Type 0} {rest : T → List ℕ} (sort : IsSort n Is rest) (size : ℕ)
+    (sized : n + 28 ≡ size) (what : ℕ) (seal : Seal) (bytes : List ℕ)
+  where
+    abbrev Reads : Result T GreetingFault → Type 0
+    Reads = IsReadAs seal what size Is rest bytes
+
+    enough : 29 ≤ size
+    enough = let some = sort.some in omega (arith, some, sized)
+
+    long : (t : T) → Is t → length (rest t) + 28 ≡ size
+    long t is = let all = sort.long t is in omega (arith, all, sized)
+
+    pub only : (a b : Result T GreetingFault) → Reads a → Reads b → a ≡ b
+    only = one_reading seal what size Is rest enough long sort.same bytes
+
+    -- this is read, and nothing else
+    abbrev IsOnly : Result T GreetingFault → Type 0
+    IsOnly found = Reads found × ((read : Result T GreetingFault) → Reads read → found ≡ read)
+
+    the_only : (found : Result T GreetingFault) → Reads found → IsOnly found
+    the_only found reads = (reads, λ read. only found read reads)
+
+    module _ (fault : Option GreetingFault) (first : fault ≡ first_fault seal what size bytes) where
+      pub refused : (f : GreetingFault) → fault ≡ Some f → IsOnly (Err f)
+      refused f is = the_only (Err f) (inl (sym first ∙ is))
+
+      pub opened : fault ≡ None → (t : T) → Is t × (take n (drop 12 bytes) ≡ rest t) → IsOnly (Ok t)
+      opened none t (is, there) =
+          the_only (Ok t) (reads_ok seal what size Is rest enough long sort.same bytes n t sized (sym first ∙ none) is there)
+
+      pub unread : fault ≡ None → ((t : T) → Is t → take n (drop 12 bytes) ≢ rest t) → IsOnly (Err Form)
+      unread none never =
+          the_only (Err Form) (reads_form seal what size Is rest enough long sort.same bytes n sized (sym first ∙ none) never)

@@ -143,8 +143,8 @@ on_read from call now table (Some n) = on_holder from call now n table
 on_read from call now table None =
     let after = on_newcomer from call now table (seat_for from call now table) in (after.0, Some after.1)
 
--- the cookie of an address. It is another after each change, so a call that somebody repeats seats nobody once a
--- newcomer was given a seat, or a holder lost one
+-- the cookie of an address. After each change, until the count stops, it is made of another count: so a call that
+-- somebody repeats seats nobody once a newcomer was given a seat, or a holder lost one
 abbrev pub cookie_for : Address → Lobby → List ℕ
 cookie_for from table = cookie_of table.cookies from table.changes
 
@@ -188,11 +188,12 @@ HearsCall from bytes now old new reply =
     (read : Result Call GreetingFault) × IsCallIn old.seal bytes read
     × (new ≡ (on_call from bytes now old read).0) × (reply ≡ (on_call from bytes now old read).1)
 
--- before the game silent holders lose their seats
+-- one change more if a holder is lost at this second
 abbrev pub changes_at : ℕ → Lobby → ℕ
 changes_at now table =
     if list_any (is_lost now) table.places then one_more table.changes else table.changes
 
+-- before the game silent holders lose their seats
 abbrev pub swept : ℕ → Lobby → Lobby
 swept now table =
     if table.begun

@@ -59,7 +59,7 @@ pub fn calls_without_the_cookie_change_nothing()
 {}
 
 /// The cookie of an address is another after each change of who holds the seats: a call that has it before and after
-/// has one code for two counts of changes. So but for such a code, what was recorded seats nobody again.
+/// has one code for two counts of changes. So a call that was recorded before a change seats nobody after it, but for such a code.
 pub fn changes_make_other_cookies()
     ensures seatings { (from at : Address) (call other : Call) (now n : ℕ) (table : Lobby)
         → has_cookie from call table ≡ true → has_cookie from call (seated at other now n table) ≡ true

@@ -1,4 +1,4 @@
--- How far a game is in which there may be no part yet.
+-- How far a session's game has come, if it has one.
 use Rattle.std.specs.Prelude.{ℕ, ◌-◌, if◌then◌else◌, nat_lt, Bool, false, slice_index, Option, Some, None, is_some}
 use Rattle.dn_host.specs.declared.counts.Counts.{Counts}
 use Rattle.dn_host.specs.declared.game.Game.{Game}

@@ -1,5 +1,5 @@
 -- How a player's datagrams come: what counts as a sign of life, and of where the player is.
-use Rattle.std.specs.Prelude.{ℕ, nat_lt, nat_le, if◌then◌else◌, List, [], ◌∷◌, slice_index_or, slice_set, Option, Some, None}
+use Rattle.std.specs.Prelude.{ℕ, ◌+◌, min, nat_lt, nat_le, if◌then◌else◌, List, [], ◌∷◌, slice_index, slice_index_or, slice_set, Option, Some, None}
 use Rattle.dn_link.specs.declared.figures.Figures.{Figures}
 use Rattle.dn_link.specs.declared.received.Received.{Received}
 use Rattle.dn_link.specs.declared.received.Received.TheVariants.{Heard}
@@ -33,10 +33,27 @@ abbrev pub coming_of : (before after : Option Figures) → Option Coming
 coming_of (Some before) (Some after) = Some (coming_in before after)
 coming_of before after = None
 
--- how the datagram came of which this was made
+-- of each of four players, how many came late, and one more of this one; a count stops at the largest of 32 bits
+abbrev pub one_more : (player : ℕ) → List ℕ → List ℕ
+one_more player late =
+    if nat_lt player 4
+    then slice_set late player (min (slice_index late player + 1) 4294967295)
+    else late
+
+-- how the datagram behind this result came
 abbrev pub came_by : Received → (before after : List (Option Figures)) → Option Coming
 came_by (Heard from started) before after = coming_of (line_of before from) (line_of after from)
 came_by received before after = None
+
+-- of whom a datagram came late
+abbrev pub late_of : Received → Option Coming → Option ℕ
+late_of (Heard from started) (Some Late) = Some from
+late_of received coming = None
+
+-- how many came late, and one more of the player of whom one did
+abbrev pub late_by : Option ℕ → List ℕ → List ℕ
+late_by None late = late
+late_by (Some player) late = one_more player late
 
 -- of whom a new datagram came
 abbrev pub news_of : Received → Option Coming → Option ℕ

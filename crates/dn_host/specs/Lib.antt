@@ -1,6 +1,8 @@
 pub mod Walks
 pub mod Coming
 pub mod Endings
+pub mod Ticks
+pub mod Absence
 pub mod Measured
 pub mod Addresses
 pub mod Stages
@@ -9,6 +11,10 @@ pub mod Begun
 pub mod Seals
 pub mod Parts
 pub mod Made
+pub mod Played
+pub mod Counted
+pub mod Taking
+pub mod Greetings
 pub mod Summed
 pub mod Summaries
 pub mod Leaving
@@ -16,4 +22,7 @@ pub mod Replays
 pub mod Offers
 pub mod Peers
 pub mod Calling
+pub mod Waiting
 pub mod Arrived
+pub mod Standing
+pub mod Telling

@@ -9,7 +9,9 @@ use Rattle.dn_lockstep.specs.declared.config.Config.{Config}
 use Rattle.dn_seal.specs.declared.seal.Seal.{Seal}
 use Rattle.dn_link.specs.declared.bundle.Identity.{Identity}
 use Rattle.dn_link.specs.declared.link.Link.{Link}
-use Rattle.dn_link.specs.Linking.{identity_of, linked, seal_of}
+use Rattle.dn_link.specs.Linking.{identity_of, linked, new_peer, seal_of}
+use Rattle.dn_link.specs.Pacing.{new_pace, pace_of}
+use Rattle.dn_others.specs.Keeping.{nothing_kept}
 use Rattle.dn_greeting.specs.declared.greeting.Address.{Address}
 use Rattle.dn_greeting.specs.declared.greeting.Answer.{Answer}
 use Rattle.dn_greeting.specs.declared.greeting.Terms.{Terms}
@@ -41,13 +43,17 @@ identity_in config ahead =
       host = codes "zirmegat netgame";
     }
 
--- a link of that player in a window of this width, under this seal, which has no history
+-- a link of that player in a window of this width, under this seal, which has no history: nothing is kept of the
+-- others, nothing is known of a peer, and nothing came
 pub record IsLinkOf (config : Config) (ahead : ℕ) (seal : Seal) (link : Link) : Type 0 where
   pub sealed : seal_of link ≡ seal
   pub whose_is : whose (linked link).node ≡ whose_within config ahead
   pub identity : identity_of link ≡ identity_in config ahead
   pub opened : (settings : Settings) → (config.me ≡ 0 → config.settings ≡ Some settings)
       → Represents (limits_within config ahead) config.me (linked link).node (fresh settings config.me)
+  pub others : (linked link).others ≡ nothing_kept
+  pub peers : (player : ℕ) → (linked link).peers player ≡ new_peer
+  pub pace : pace_of link ≡ new_pace
 
 -- a player's part in a game that has not begun, with these terms and under this seal, with the others at these places
 pub record IsPartOf (terms : Terms) (seal : Seal) (me : ℕ) (settings : Option Settings)
@@ -57,8 +63,8 @@ pub record IsPartOf (terms : Terms) (seal : Seal) (me : ℕ) (settings : Option 
   pub rate : game.rate ≡ terms.rate
   pub counts : game.counts ≡ None
 
--- a part in the game of the answer is had from who is at this address, or there is no room for it, where it gives a
--- seat; else it is the terms that are wrong
+-- the result is a part in the answer's game, with the host at this address; or Memory; or Terms if the answer gives no
+-- guest's seat
 abbrev pub IsPartAs : Option (List ℕ) → Address → Answer → Result Game HostFault → Type 0
 IsPartAs secret host answer (Ok game) = IsSeat answer.terms answer.seat
     × IsPartOf answer.terms (game_seal secret answer.game) answer.seat None (Some host ∷ answer.seats) game

@@ -1,4 +1,4 @@
--- What a host offers: whose terms are those of a game, and when a session breaks off since they are not.
+-- What a host offers: whose terms are those of a game, and when a session breaks off because they are not.
 use Rattle.std.specs.Prelude.{◌≡◌, ◌<◌, ◌≤◌, ℕ, true}
 use Rattle.dn_demo.specs.Recorded.{IsLimit}
 use Rattle.dn_lockstep.specs.Opening.{CanBeAhead, IsGame, IsKeyed}

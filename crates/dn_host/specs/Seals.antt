@@ -1,4 +1,4 @@
--- By what a game is sealed.
+-- What a game is sealed with.
 use Rattle.std.specs.Prelude.{◌≡◌, ℕ, List, Option, Some, None}
 use Rattle.dn_seal.specs.declared.seal.Seal.{Seal}
 use Rattle.dn_seal.specs.declared.suite.Suite.TheVariants.{Open, Secret}

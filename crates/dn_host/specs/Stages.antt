@@ -23,6 +23,11 @@ abbrev pub IfEnded : Turned → (Ending → Type 0) → Type 0
 IfEnded (Turned_ended ending) P = P ending
 IfEnded turned P = ⊤
 
+-- the session ended
+abbrev pub is_over : Turned → Bool
+is_over (Turned_ended ending) = true
+is_over turned = false
+
 -- how a session ends whose lobby ends it so before its game begins: so, or by its game
 abbrev pub EndsBy : (Ending → Type 0) → (begun : Bool) → Ending → Type 0
 EndsBy Refuses begun ending = (Refuses ending × (begun ≡ false)) ⊎ (is_refusal ending ≡ false)

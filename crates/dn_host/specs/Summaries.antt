@@ -30,8 +30,8 @@ IsNoLater (Within time) Longer = ⊤
 IsNoLater Longer Longer = ⊤
 IsNoLater Longer most = ⊥
 
--- each gap is before a tic or before the end; there is one if and only if the longest time is one; and what came of
--- each player came over its line
+-- there are no more gaps than tics; there is one exactly when the longest time is one; half of the keys are felt no
+-- later than most; and what came of each player came over its line
 pub record IsSummaryBy (link : Linked) (pace : PaceState) (s : Summary) : Type 0 where
   pub few : s.gaps ≤ s.tics
   pub calm : s.gaps ≡ 0 → s.longest ≤ longest_calm

@@ -15,16 +15,14 @@ use crate::parts::part_of;
 use crate::plan::Plan;
 use crate::random::draw;
 use crate::screen::Screen;
+use crate::waiting::Waiting;
 use crate::wire::Wire;
-use dn_greeting::{Address, Answer, Joiner, News, Refusal};
+use dn_greeting::{Address, Answer, Joiner, News};
 use std::alloc::Global;
 use std::random::RandomSource;
 
 /// The host's player.
 const HOST: u8 = 0;
-
-/// After how long a silence of the host the screen is told.
-const QUIET: u64 = 10_000_000;
 
 /// A joiner in the lobby and in its game.
 #[derive(Drop)]
@@ -33,13 +31,9 @@ pub(crate) struct Caller {
     plan: Plan,
     host: Address,
     joiner: Joiner,
-    quiet: u64,
     /// The call of this second may still be made again.
     may_repeat: bool,
-    /// Why it has no seat, while it goes on asking for one,
-    waits: Option<Refusal>,
-    /// and what of that the screen was told.
-    told: Option<Refusal>,
+    waiting: Waiting,
 }
 
 impl Caller {
@@ -54,7 +48,8 @@ impl Caller {
 
     /// Calls the host.
     fn call<W: Wire>(&mut self, wire: &mut W)
-        ensures { self.new.plan ≡ self.old.plan }
+        ensures plan { self.new.plan ≡ self.old.plan }
+        ensures repeat { self.new.may_repeat ≡ self.old.may_repeat }
     {
         let call = self.joiner.call();
         wire.send(&self.host, call.as_slice());
@@ -62,7 +57,9 @@ impl Caller {
 
     /// Calls again at once, as the host asks, but once a second: a host that always asks is not called more often.
     fn repeat<W: Wire>(&mut self, wire: &mut W)
-        ensures { self.new.plan ≡ self.old.plan }
+        ensures plan { self.new.plan ≡ self.old.plan }
+        ensures once { self.new.may_repeat ≡ false }
+        ensures still { self.old.may_repeat ≡ false → wire.new ≡ wire.old }
     {
         if self.may_repeat {
             self.may_repeat = false;
@@ -78,22 +75,6 @@ impl Caller {
         if is_calling(has_run(game), silence(game, HOST, now)) {
             self.call(wire);
             self.may_repeat = true;
-        }
-    }
-
-    /// Tells why it has no seat, if that is new, and that the host is silent.
-    fn tell<S: Screen>(&mut self, screen: &mut S, now: u64)
-        ensures { self.new.plan ≡ self.old.plan }
-    {
-        if self.waits != self.told {
-            self.told = self.waits;
-            if let Some(refusal) = self.waits {
-                screen.wait(refusal);
-            }
-        }
-        if now.saturating_sub(self.quiet) >= QUIET {
-            screen.miss();
-            self.quiet = now;
         }
     }
 
@@ -133,6 +114,8 @@ impl Lobby for Caller {
 
     ghost Faults = { λ f. ⊤ };
 
+    ghost Greets = { λ old new. ⊤ };
+
     ghost hosts = { false };
 
     ghost secret = { λ caller. caller.plan.secret };
@@ -154,11 +137,10 @@ impl Lobby for Caller {
                 self.repeat(wire);
                 return Ok(None);
             }
-            // Once its link has started only answers count.
+            // Once its link has started, refusals and hints do not count.
             News::Refused(_) | News::Hinted(_) if begun => return Ok(None),
             News::Refused(refusal) if may_pass(refusal) => {
-                self.waits = Some(refusal);
-                self.quiet = now;
+                self.waiting.hear(Some(refusal), now);
                 return Ok(None);
             }
             News::Refused(refusal) => return Ok(Some(Ending::Refused(refusal))),
@@ -167,8 +149,7 @@ impl Lobby for Caller {
             News::Moved => self.follow(game, before),
             News::Seated | News::Anew => self.start(game, now)?,
         }
-        self.waits = None;
-        self.quiet = now;
+        self.waiting.hear(None, now);
         Ok(None)
     }
 
@@ -182,7 +163,7 @@ impl Lobby for Caller {
         self.close(game);
         self.call_again(game, wire, now);
         if !has_run(game) {
-            self.tell(screen, now);
+            self.waiting.tell(screen, now);
         }
         Ok(())
     }
@@ -204,9 +185,7 @@ pub(crate) fn new_caller(
         plan: *plan,
         host: guest.host,
         joiner: Joiner::new(plan.secret, guest.host, mark, guest.seat, guest.players),
-        quiet: now,
         may_repeat: false,
-        waits: None,
-        told: None,
+        waiting: Waiting::new(now),
     })
 }

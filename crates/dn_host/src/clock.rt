@@ -1,6 +1,7 @@
 //! The clock of a session, in microseconds.
 
-ghost use Rattle.std.specs.Prelude.{◌≡◌, IfErr};
+ghost use Rattle.std.specs.Prelude.{◌≡◌, ◌-◌, ◌/◌, ◌^◌, min, IfErr};
+ghost use Rattle.dn_host.specs.Ticks.{length_at};
 ghost use Rattle.dn_host.specs.declared.ends.HostFault.TheVariants as fault;
 
 use crate::ends::HostFault;
@@ -27,12 +28,16 @@ pub(crate) fn nap(clock: &impl Clock, now: u64, due: u64) {
 }
 
 /// The seconds of a time.
-pub(crate) fn seconds(time: u64) -> u32 {
+pub(crate) fn seconds(time: u64) -> u32
+    ensures { result ≡ min (time / 1000000) (2 ^ 32 - 1) }
+{
     u32::try_from(time / 1_000_000).unwrap_or(u32::MAX)
 }
 
 /// How long a tick is, at so many a second; a part of a microsecond does not count.
-pub(crate) fn length(rate: u8) -> u64 {
+pub(crate) fn length(rate: u8) -> u64
+    ensures { result ≡ length_at rate }
+{
     1_000_000 / u64::from(rate.max(1))
 }
 

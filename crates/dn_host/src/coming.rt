@@ -3,7 +3,7 @@
 ghost use Rattle.std.specs.Prelude.{◌≡◌};
 ghost use Rattle.dn_link.specs.Linking.{linked};
 ghost use Rattle.dn_link.specs.Pacing.{pace_of};
-ghost use Rattle.dn_host.specs.Coming.{came_by, coming_in, coming_of, figures_by, line_of};
+ghost use Rattle.dn_host.specs.Coming.{came_by, coming_in, coming_of, figures_by, late_of, line_of};
 
 use dn_link::{Figures, Link, Received};
 
@@ -75,6 +75,16 @@ pub(crate) fn came_by(received: &Received, before: &Lines, after: &Lines) -> Opt
         Received::Heard { from, .. } => {
             coming_of(&line_of(before, *from), &line_of(after, *from))
         }
+        _ => None,
+    }
+}
+
+/// Of whom a datagram came late.
+pub(crate) fn late_of(received: &Received, coming: Option<Coming>) -> Option<u8>
+    ensures { result ≡ late_of received.now coming }
+{
+    match (received, coming) {
+        (Received::Heard { from, .. }, Some(Coming::Late)) => Some(*from),
         _ => None,
     }
 }

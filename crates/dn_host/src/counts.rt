@@ -1,24 +1,22 @@
 //! What is counted of a game from its beginning on.
 
-ghost use Rattle.std.specs.Prelude.{◌≡◌, ◌≤◌, ◌++◌, [], ℕ, List, replicate};
+ghost use Rattle.std.specs.Prelude.{◌≡◌, ◌-◌, ◌++◌, ℕ, List, replicate};
 ghost use Rattle.dn_link.specs.Linking.{linked};
 ghost use Rattle.dn_link.specs.Pacing.{pace_of};
 ghost use Rattle.dn_measure.specs.Measure.{IsMeasureOf, IsSummaryOf};
 ghost use Rattle.dn_measure.specs.declared.told.Told.{Told};
-ghost use Rattle.dn_measure.specs.declared.told.Told.TheVariants.{Built, Ran};
-ghost use Rattle.dn_host.specs.Arrived.{arrivals_by, came_from_each, came_from, since_then};
+ghost use Rattle.dn_measure.specs.Runs.{is_gap};
+ghost use Rattle.dn_host.specs.Arrived.{arrivals_by};
 ghost use Rattle.dn_host.specs.Measured.{IsSomeMeasure};
 ghost use Rattle.dn_host.specs.Summaries.{IsSummaryBy};
 
+use crate::arrived::{Came, came, since, standing};
 use crate::done::Done;
 use dn_link::Link;
-use dn_measure::{Arrivals, Measure, PeerStatus, Status, Summary, Told};
+use dn_measure::{Measure, Status, Summary, Told};
 
 /// After how long without a tic it is told for whom the game waits, in microseconds.
 const GAP: u64 = 100_000;
-
-/// What came from each player.
-type Came = [Option<Arrivals>; 4];
 
 /// What is counted of a game, from its beginning on.
 #[derive(Drop)]
@@ -36,33 +34,6 @@ pub(crate) struct Counts {
     ghost measured: { IsSomeMeasure measure },
 }
 
-/// What came from a player so far, so much of it late.
-fn came_from(link: &Link, player: u8, late: u32) -> Option<Arrivals>
-    ensures { result ≡ came_from (linked link.now) (pace_of link.now) player late }
-{
-    let figures = link.figures(player)?;
-    Some(Arrivals {
-        came: figures.came,
-        lost: figures.lost,
-        late,
-        twice: figures.repeated,
-        old: figures.too_old,
-    })
-}
-
-/// What came from each player so far, so much of it late.
-fn came(link: &Link, late: [u32; 4]) -> Came
-    ensures { result ≡ came_from_each (linked link.now) (pace_of link.now) late }
-{
-    let [a, b, c, d] = late;
-    [
-        came_from(link, 0, a),
-        came_from(link, 1, b),
-        came_from(link, 2, c),
-        came_from(link, 3, d),
-    ]
-}
-
 /// Tells so often the same.
 fn tell(measure: &mut Measure, told: Told, times: u32)
     ensures { (start : ℕ) (before : List Told) → IsMeasureOf measure.old start before
@@ -73,31 +44,15 @@ fn tell(measure: &mut Measure, told: Told, times: u32)
     }
 }
 
-/// What came from a player since there was that much.
-fn since(after: Option<Arrivals>, before: Option<Arrivals>) -> Option<Arrivals>
-    ensures { result ≡ since_then after before }
-{
-    match (after, before) {
-        (Some(after), Some(before)) => Some(after.since(&before)),
-        (after, _) => after,
-    }
-}
-
-/// How a player stands.
-fn standing(link: &Link, player: u8, arrivals: Option<Arrivals>) -> Option<PeerStatus> {
-    let figures = link.figures(player)?;
-    Some(PeerStatus {
-        lead: figures.lead,
-        arrivals: arrivals?,
-    })
-}
-
 impl Counts {
+    ghost use Rattle.dn_host.specs.Coming.{late_by, one_more};
+    ghost use Rattle.dn_host.specs.Counted.{TellsMore, told_of};
+    ghost use Rattle.dn_host.specs.Taking.{IsFresh};
+    ghost use Rattle.dn_host.specs.Telling.{AreTold, status_at};
+
     /// Nothing, of a game that begins now.
     pub(crate) fn new(link: &Link, now: u64) -> Counts
-        ensures measure { IsMeasureOf result.measure now [] }
-        ensures before { result.before ≡ came_from_each (linked link.now) (pace_of link.now) (replicate 4 0) }
-        ensures late { result.late ≡ replicate 4 0 }
+        ensures { IsFresh link.now now result }
     {
         Counts {
             measure: Measure::new(now),
@@ -112,11 +67,7 @@ impl Counts {
 
     /// Counts what was done.
     pub(crate) fn add(&mut self, done: Done, now: u64)
-        ensures told { (start : ℕ) (before : List Told) → IsMeasureOf self.old.measure start before
-            → IsMeasureOf self.new.measure start
-            (before ++ (replicate done.built (Built now) ++ replicate done.ran (Ran now))) }
-        ensures before { self.new.before ≡ self.old.before }
-        ensures late { self.new.late ≡ self.old.late }
+        ensures { TellsMore (told_of done now) self.old self.new }
     {
         tell(&mut self.measure, Told::Built(now), done.built);
         tell(&mut self.measure, Told::Ran(now), done.ran);
@@ -127,10 +78,21 @@ impl Counts {
     }
 
     /// Counts a datagram of a player that came late.
-    pub(crate) fn come_late(&mut self, player: u8) {
-        let late = &mut self.late;
-        if let Some(count) = late.get_mut(usize::from(player)) {
-            *count = count.saturating_add(1);
+    fn come_late(&mut self, player: u8)
+        ensures { self.new ≡ record self.old { late = one_more player self.old.late } }
+    {
+        if player < 4 {
+            let late = &mut self.late;
+            late[usize::from(player)] = late[usize::from(player)].saturating_add(1);
+        }
+    }
+
+    /// Counts the datagram of a player that came late, if one did.
+    pub(crate) fn count_late(&mut self, late: Option<u8>)
+        ensures { self.new ≡ record self.old { late = late_by late self.old.late } }
+    {
+        if let Some(player) = late {
+            self.come_late(player);
         }
     }
 
@@ -151,17 +113,21 @@ impl Counts {
     }
 
     /// Whether no tic was run for so long that it is told for whom the game waits.
-    fn is_held_up(&self, now: u64) -> bool {
+    fn is_held_up(&self, now: u64) -> bool
+        ensures { result ≡ is_gap (now - self.now.ran) }
+    {
         now.saturating_sub(self.ran) > GAP
     }
 
-    /// How the game stands, since the last time, if its next tic waits for this player.
-    pub(crate) fn status(&mut self, link: &Link, waiting: Option<u8>, now: u64) -> Status {
+    /// How the game stands now, since the last time, if its next tic waits for this player.
+    fn standing(&self, link: &Link, waiting: Option<u8>, now: u64) -> Status
+        ensures { result ≡ status_at self.now (linked link.now) (pace_of link.now) waiting now }
+    {
         let [a, b, c, d] = self.arrivals(link);
-        let status = Status {
+        Status {
             tics: self.tics.saturating_sub(self.shown),
             micros: now.saturating_sub(self.since),
-            waiting: waiting.filter(|_| self.is_held_up(now)),
+            waiting: if self.is_held_up(now) { waiting } else { None },
             refused: link.refused(),
             peers: [
                 standing(link, 0, a),
@@ -169,7 +135,15 @@ impl Counts {
                 standing(link, 2, c),
                 standing(link, 3, d),
             ],
-        };
+        }
+    }
+
+    /// How the game stands; from now on the tics are counted anew for the next time.
+    pub(crate) fn status(&mut self, link: &Link, waiting: Option<u8>, now: u64) -> Status
+        ensures status { result ≡ status_at self.old (linked link.now) (pace_of link.now) waiting now }
+        ensures told { AreTold now self.old self.new }
+    {
+        let status = self.standing(link, waiting, now);
         self.shown = self.tics;
         self.since = now;
         status

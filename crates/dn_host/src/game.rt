@@ -1,11 +1,12 @@
 //! One player's part in a game: its link, where the others are, and what is counted.
 
-use crate::coming::Coming;
+use crate::coming::{Coming, late_of};
 use crate::counts::Counts;
 use crate::done::Done;
 use crate::heard::LastHeard;
 use crate::peers::Peers;
 use crate::play::Play;
+use crate::walking::is_started;
 use crate::wire::Wire;
 use dn_greeting::Address;
 use dn_link::Received;
@@ -28,14 +29,17 @@ pub(crate) struct Game {
 }
 
 impl Game {
-    ghost use Rattle.std.specs.Prelude.{◌≡◌, false, true, None, Some};
+    ghost use Rattle.std.specs.Prelude.{◌≡◌, if◌then◌else◌, replicate, false, true, None, Some};
     ghost use Rattle.dn_link.specs.Linked.{Receives};
     ghost use Rattle.dn_link.specs.Linking.{identity_of, linked, seal_of};
     ghost use Rattle.dn_link.specs.Notices.{HearsNotice, is_notice};
     ghost use Rattle.dn_link.specs.Pace.{Paces};
     ghost use Rattle.dn_link.specs.Pacing.{pace_of};
     ghost use Rattle.dn_host.specs.Coming.{came_by, figures_by, news_of, noted};
+    ghost use Rattle.dn_host.specs.Counted.{CountsMore, IsCounted, told_of};
     ghost use Rattle.dn_host.specs.Peers.{AreFollowed};
+    ghost use Rattle.dn_host.specs.Taking.{Begins, late_counted};
+    ghost use Rattle.dn_host.specs.Walks.{is_started};
 
     /// A part in a game that has not begun; its first tick is due now.
     pub(crate) fn new(play: Play, peers: Peers, rate: u8, now: u64) -> Game
@@ -92,18 +96,37 @@ impl Game {
         self.peers.follow(before, after);
     }
 
-    /// The game begins.
-    fn begin(&mut self, now: u64)
-        ensures { self.new.play.link ≡ self.old.play.link }
+    /// The game begins, if it started with what came in.
+    fn begin(&mut self, received: &Received, now: u64)
+        ensures counts { Begins (is_started received.now) self.old.play.link now self.old.counts self.new.counts }
+        ensures began { self.new.began ≡ (if is_started received.now then now else self.old.began) }
+        ensures heard { self.new.heard.at ≡ (if is_started received.now then replicate 4 now else self.old.heard.at) }
+        ensures rest { self.new ≡ record self.old {
+          counts = self.new.counts;
+          began = self.new.began;
+          heard = self.new.heard;
+        } }
     {
-        self.began = now;
-        self.heard = LastHeard::new(now);
-        self.counts = Some(Counts::new(&self.play.link, now));
+        if is_started(received) {
+            self.began = now;
+            self.heard = LastHeard::new(now);
+            self.counts = Some(Counts::new(&self.play.link, now));
+        }
+    }
+
+    /// Counts the datagram of a player that came late, if one did and the game has begun.
+    fn count_late(&mut self, late: Option<u8>)
+        ensures { self.new ≡ record self.old { counts = late_counted late self.old.counts } }
+    {
+        if let Some(counts) = &mut self.counts {
+            counts.count_late(late);
+        }
     }
 
     /// Counts what was done now, if the game has begun.
     pub(crate) fn count(&mut self, done: Done, now: u64)
-        ensures { self.new.play.link ≡ self.old.play.link }
+        ensures link { self.new.play.link ≡ self.old.play.link }
+        ensures counts { CountsMore (told_of done now) self.old.counts self.new.counts }
     {
         if let Some(counts) = &mut self.counts {
             counts.add(done, now);
@@ -113,7 +136,9 @@ impl Game {
     /// Runs what can be run, builds the command that is owed then, sends it and goes on running; all of that is
     /// counted in this order.
     pub(crate) fn run<W: Wire>(&mut self, wire: &mut W, now: u64)
-        ensures { seal_of self.new.play.link ≡ seal_of self.old.play.link }
+        ensures counted { IsCounted now self.old.counts self.new.counts (linked self.old.play.link).node
+            (linked self.new.play.link).node }
+        ensures seal { seal_of self.new.play.link ≡ seal_of self.old.play.link }
     {
         let ran = self.play.run_all();
         self.count(Done { built: 0, ran }, now);
@@ -129,17 +154,9 @@ impl Game {
         ensures { seal_of self.new.play.link ≡ seal_of self.old.play.link }
     {
         let (received, coming) = self.take(from, bytes, now);
-        if let Received::Heard {
-            from: player,
-            started,
-        } = received
-        {
-            if started {
-                self.begin(now);
-            }
-            if let (Some(counts), Some(Coming::Late)) = (&mut self.counts, coming) {
-                counts.come_late(player);
-            }
+        self.begin(&received, now);
+        self.count_late(late_of(&received, coming));
+        if matches!(received, Received::Heard { .. }) {
             self.run(wire, now);
         }
     }

@@ -1,7 +1,7 @@
 //! Joining a game.
 
 ghost use Rattle.std.specs.Prelude.{IfOk, IfSome};
-ghost use Rattle.dn_host.specs.Outcomes.{IsOutcome};
+ghost use Rattle.dn_host.specs.Outcomes.{HasLink, IsOutcome};
 ghost use Rattle.dn_host.specs.Seals.{IsSealedUnder};
 
 use crate::caller::new_caller;
@@ -37,6 +37,7 @@ pub fn join_game<R: Clock + RandomSource, W: Wire, S: Screen>(
     guest: &Guest,
 ) -> Result<Outcome, HostFault>
     ensures outcome { IfOk result IsOutcome }
+    ensures linked { IfOk result HasLink }
     ensures sealed { IfOk result (λ o. IfSome o.link (IsSealedUnder plan.now.secret)) }
 {
     let start = now(rt)?;

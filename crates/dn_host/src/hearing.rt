@@ -1,7 +1,8 @@
 //! Taking the datagrams that are there.
 
-ghost use Rattle.std.specs.Prelude.{◌≡◌, ◌≤◌, ℕ, List, Option, Bool, length, false, IfOk, IfErr, IfSome};
+ghost use Rattle.std.specs.Prelude.{◌≡◌, ◌≤◌, ◌&&◌, ℕ, List, Option, Bool, length, false, IfOk, IfErr, IfSome};
 ghost use Rattle.dn_host.specs.Begun.{has_begun};
+ghost use Rattle.dn_host.specs.Greetings.{GreetsFew, Opens, is_greeting, is_hint, is_named, is_opened};
 ghost use Rattle.dn_host.specs.Parts.{IsPart};
 ghost use Rattle.dn_host.specs.Stages.{IfEnding};
 
@@ -25,18 +26,31 @@ const NAME: [u8; 8] = *b"zirmegat";
 const SHORTEST: usize = 29;
 
 /// Whether bytes may be a greeting: nothing else has this kind.
-fn is_greeting(bytes: &[u8]) -> bool {
+fn is_greeting(bytes: &[u8]) -> bool
+    ensures { result ≡ is_greeting bytes.now }
+{
     bytes.len() >= 2 && bytes[1] == 4
 }
 
 /// Whether they have the name of greetings too, and may be as long as one: others are none, and cost nothing.
-fn is_named(bytes: &[u8]) -> bool {
+fn is_named(bytes: &[u8]) -> bool
+    ensures { result ≡ is_named bytes.now }
+{
     bytes.len() >= SHORTEST && bytes[2..10] == NAME[..]
 }
 
 /// Whether bytes may be a hint: no other greeting says that it is one.
-fn is_hint(bytes: &[u8]) -> bool {
+fn is_hint(bytes: &[u8]) -> bool
+    ensures { result ≡ is_hint bytes.now }
+{
     bytes.len() >= 12 && bytes[11] == 4
+}
+
+/// Whether a greeting is opened, if so many still may be: no hint is in a game that has begun.
+fn is_opened(left: u32, begun: bool, bytes: &[u8]) -> bool
+    ensures { result ≡ is_opened left begun bytes.now }
+{
+    left > 0 && is_named(bytes) && !(is_hint(bytes) && begun)
 }
 
 /// What came of the datagrams that were read.
@@ -50,7 +64,7 @@ pub(crate) enum Heard {
     Ending(Ending),
 }
 
-/// Takes a greeting, if so many may still be opened, and it may be one and is no hint in a game that has begun.
+/// Takes a greeting, if it is opened.
 fn greet_one<W: Wire, L: Lobby>(
     lobby: &mut L,
     game: &mut Option<Game>,
@@ -62,11 +76,13 @@ fn greet_one<W: Wire, L: Lobby>(
 ) -> Result<Option<Ending>, HostFault>
     ensures ends { IfOk result (λ found. IfSome found (λ ending.
         L.Refuses ending × (has_begun game.new ≡ false))) }
+    ensures opens { Opens L.Greets (is_opened left.old (has_begun game.old) bytes.now) left.old left.new lobby.old
+        lobby.new }
     ensures faults { IfErr result L.Faults }
     ensures secret { L.secret lobby.new ≡ L.secret lobby.old }
     ensures part { IsPart L.hosts (L.secret lobby.old) game.old → IsPart L.hosts (L.secret lobby.old) game.new }
 {
-    if *left == 0 || !is_named(bytes) || is_hint(bytes) && has_begun(game) {
+    if !is_opened(*left, has_begun(game), bytes) {
         return Ok(None);
     }
     *left -= 1;
@@ -100,6 +116,8 @@ fn hear_one<W: Wire, L: Lobby>(
 ) -> Result<Option<Ending>, HostFault>
     ensures ends { IfOk result (λ found. IfSome found (λ ending.
         L.Refuses ending × (has_begun game.new ≡ false))) }
+    ensures opens { Opens L.Greets (is_greeting bytes.now && is_opened left.old (has_begun game.old) bytes.now) left.old
+        left.new lobby.old lobby.new }
     ensures faults { IfErr result L.Faults }
     ensures secret { L.secret lobby.new ≡ L.secret lobby.old }
     ensures part { IsPart L.hosts (L.secret lobby.old) game.old → IsPart L.hosts (L.secret lobby.old) game.new }
@@ -112,6 +130,7 @@ fn hear_one<W: Wire, L: Lobby>(
 }
 
 /// Takes the datagrams that are there, up to some number. Of more than two greetings the rest is dropped.
+#[tactic(auto, using(crate::proofs::Greeted::few, crate::proofs::Greeted::one_more))]
 pub(crate) fn hear_all<W: Wire, L: Lobby>(
     lobby: &mut L,
     game: &mut Option<Game>,
@@ -120,6 +139,7 @@ pub(crate) fn hear_all<W: Wire, L: Lobby>(
 ) -> Result<Heard, HostFault>
     ensures ends { IfOk result (λ heard. IfEnding heard (λ ending.
         L.Refuses ending × (has_begun game.new ≡ false))) }
+    ensures few { GreetsFew L.Greets lobby.old lobby.new }
     ensures faults { IfErr result L.Faults }
     ensures secret { L.secret lobby.new ≡ L.secret lobby.old }
     ensures part { IsPart L.hosts (L.secret lobby.old) game.old → IsPart L.hosts (L.secret lobby.old) game.new }

@@ -1,6 +1,6 @@
 //! A host in its lobby and in its game.
 
-ghost use Rattle.std.specs.Prelude.{◌≡◌, ◌≢◌, true, map, IfErr, IfOk};
+ghost use Rattle.std.specs.Prelude.{◌≡◌, ◌≢◌, ⊤, true, map, IfErr, IfOk};
 ghost use Rattle.dn_link.specs.Linking.{seal_of};
 ghost use Rattle.dn_host.specs.Peers.{holder_address};
 ghost use Rattle.dn_host.specs.Seals.{IsSealedUnder};
@@ -103,6 +103,8 @@ impl<R: RandomSource + Drop> Lobby for Keeper<'_, R> {
     ghost Refuses = { λ ending. ⊥ };
 
     ghost Faults = { λ f. f ≢ fault.Terms };
+
+    ghost Greets = { λ old new. ⊤ };
 
     ghost hosts = { true };
 

@@ -1,13 +1,15 @@
 //! When a session ends, and how it leaves.
 
-ghost use Rattle.std.specs.Prelude.{◌≡◌};
+ghost use Rattle.std.specs.Prelude.{◌≡◌, None};
 ghost use Rattle.dn_link.specs.Linked.{may_leave};
 ghost use Rattle.dn_link.specs.Linking.{linked, seal_of};
-ghost use Rattle.dn_host.specs.Leaving.{after_wait, free_since, has_waited};
+ghost use Rattle.dn_host.specs.declared.leave.Stage.TheVariants.{Leaving};
+ghost use Rattle.dn_host.specs.Absence.{causes_of};
+ghost use Rattle.dn_host.specs.Endings.{others_end};
+ghost use Rattle.dn_host.specs.Leaving.{after_wait, free_since, has_waited, is_over};
 
 use crate::endings::others_end;
 use crate::game::Game;
-use dn_link::Presence;
 use dn_machine::{Cause, Phase};
 use dn_measure::End;
 
@@ -33,7 +35,9 @@ pub(crate) enum Stage {
 }
 
 /// Begins to leave.
-fn leaving(end: End, now: u64) -> Stage {
+fn leaving(end: End, now: u64) -> Stage
+    ensures { result ≡ Leaving end now None }
+{
     Stage::Leaving {
         end,
         since: now,
@@ -43,32 +47,29 @@ fn leaving(end: End, now: u64) -> Stage {
 
 /// Quits, and begins to leave.
 fn quitting(game: &mut Game, end: End, now: u64) -> Stage
-    ensures { seal_of game.new.play.link ≡ seal_of game.old.play.link }
+    ensures stage { result ≡ Leaving end now None }
+    ensures seal { seal_of game.new.play.link ≡ seal_of game.old.play.link }
 {
     let _ = game.play.link.quit();
     leaving(end, now)
 }
 
 /// Whether the seconds of play are over; 0 are never.
-fn is_over(since: u64, now: u64, seconds: u32) -> bool {
+fn is_over(since: u64, now: u64, seconds: u32) -> bool
+    ensures { result ≡ is_over since now seconds }
+{
     seconds > 0 && now.saturating_sub(since) >= u64::from(seconds) * 1_000_000
 }
 
-/// For which cause a player left, as its byte, if it said so.
-fn cause_of(game: &Game, player: u8) -> Option<u8> {
-    match game.play.link.presence(player) {
-        Presence::Left(cause) => Some(cause),
-        _ => None,
-    }
-}
-
 /// How it ends where all others left.
-fn end_of(game: &Game) -> End {
+fn end_of(game: &Game) -> End
+    ensures { result ≡ others_end (causes_of (linked game.now.play.link)) }
+{
     others_end(&[
-        cause_of(game, 0),
-        cause_of(game, 1),
-        cause_of(game, 2),
-        cause_of(game, 3),
+        game.cause_of(0),
+        game.cause_of(1),
+        game.cause_of(2),
+        game.cause_of(3),
     ])
 }
 
@@ -91,7 +92,8 @@ fn after_play(game: &mut Game, now: u64, seconds: u32) -> Stage
         return quitting(game, end, now);
     }
     if let Some(player) = game.lost(now) {
-        game.play.link.forget(player);
+        let player = player as u8;
+        game.forget(player);
         return quitting(game, End::Lost(player), now);
     }
     Stage::Going

@@ -2,6 +2,8 @@
 #![tactic(auto)]
 
 mod absence;
+mod answers;
+mod arrived;
 mod begun;
 mod caller;
 mod calling;
@@ -34,6 +36,7 @@ mod showing;
 mod tests;
 mod ticking;
 mod udp;
+mod waiting;
 mod walking;
 mod wire;
 

@@ -20,6 +20,9 @@ pub(crate) trait Lobby {
     // for which faults they may break it off
     ghost Faults: { HostFault → Type 0 };
 
+    // what one greeting may make of it
+    ghost Greets: { Self → Self → Type 0 };
+
     // it has a part in the game from the start
     ghost hosts: { Bool };
 
@@ -36,6 +39,7 @@ pub(crate) trait Lobby {
         now: u64,
     ) -> Result<Option<Ending>, HostFault>
         ensures ends { IfOk result (λ found. IfSome found (λ ending. Refuses ending × (has_begun game.new ≡ false))) }
+        ensures greets { Greets self.old self.new }
         ensures faults { IfErr result Faults }
         ensures secret { secret self.new ≡ secret self.old }
         ensures part { IsPart hosts (secret self.old) game.old → IsPart hosts (secret self.old) game.new };

@@ -5,8 +5,8 @@
 pub struct Plan {
     /// The key that the players share, if they do.
     pub secret: Option<[u8; 32]>,
-    /// What the keys are drawn from.
+    /// What the key presses are drawn from.
     pub seed: u64,
-    /// For how many seconds is played, from the beginning of the game on; 0 is for ever.
+    /// How many seconds to play from the start of the game; 0 is for ever.
     pub seconds: u32,
 }

@@ -3,15 +3,15 @@
 ghost use Rattle.std.specs.Prelude.{◌≡◌, ◌≤◌, true, false, IfErr, IfOk};
 ghost use Rattle.dn_link.specs.Linked.{IsWhole};
 ghost use Rattle.dn_link.specs.Linking.{linked};
-ghost use Rattle.dn_host.specs.Walks.{waited_for};
+ghost use Rattle.dn_host.specs.Played.{Plays, times_of};
 
+use crate::answers::{is_caught_up, is_made, times_of, waits_for};
 use crate::coming::{Coming, came_by, lines_of};
 use crate::done::Done;
 use crate::ends::HostFault;
 use crate::walking::{go_on, is_started, marks_of};
 use dn_link::{Link, Received};
 use dn_lockstep::Config;
-use dn_machine::{Made, Ran};
 use dn_seal::Seal;
 use dn_tic::Keys;
 use dn_world::{Walk, World};
@@ -33,16 +33,6 @@ pub(crate) struct Play {
     keys: Lcg64Xsh32,
     waiting: Option<u8>,
     ghost whole: { IsWhole (linked link) },
-}
-
-/// For whom a run waits.
-fn waits_for(ran: Ran) -> Option<u8>
-    ensures { result ≡ waited_for ran }
-{
-    match ran {
-        Ran::Waiting(player) => Some(player),
-        _ => None,
-    }
 }
 
 impl Play {
@@ -87,32 +77,37 @@ impl Play {
     }
 
     /// For whose command the next tic waited when it was last tried.
-    pub(crate) fn waiting(&self) -> Option<u8> {
+    pub(crate) fn waiting(&self) -> Option<u8>
+        ensures { result ≡ self.now.waiting }
+    {
         self.waiting
     }
 
     /// Builds the command that is owed, if there is one. Whether there was.
     pub(crate) fn catch_up(&mut self) -> bool
+        ensures plays { Plays (times_of result) 0 (linked self.old.link).node (linked self.new.link).node }
         ensures seal { seal_of self.new.link ≡ seal_of self.old.link }
     {
-        matches!(self.link.catch_up(), Some(Made::Made(_)))
+        is_caught_up(self.link.catch_up())
     }
 
     /// Builds the command that is owed, if there is one, and that of the next keys.
     pub(crate) fn build(&mut self) -> Done
+        ensures plays { Plays result.built result.ran (linked self.old.link).node (linked self.new.link).node }
         ensures seal { seal_of self.new.link ≡ seal_of self.old.link }
     {
         let owed = self.catch_up();
         let keys = Keys::from_bits(self.keys.next_word());
-        let made = matches!(self.link.build(keys), Made::Made(_));
+        let made = is_made(self.link.build(keys));
         Done {
-            built: u32::from(owed) + u32::from(made),
+            built: times_of(owed) + times_of(made),
             ran: 0,
         }
     }
 
     /// A tick goes by: by how many 32nds of a tick the next one comes later, as `Link::lean` says.
     pub(crate) fn lean(&mut self) -> i8
+        ensures link { linked self.new.link ≡ linked self.old.link }
         ensures seal { seal_of self.new.link ≡ seal_of self.old.link }
     {
         self.link.lean()
@@ -123,6 +118,7 @@ impl Play {
     fn run_one(&mut self) -> bool
         ensures runs { RunsWalk (linked self.old.link).node self.old.world (linked self.new.link).node self.new.world
             result self.new.waiting }
+        ensures plays { Plays 0 (times_of result) (linked self.old.link).node (linked self.new.link).node }
         ensures others { (linked self.new.link).others ≡ (linked self.old.link).others }
         ensures peers { (linked self.new.link).peers ≡ (linked self.old.link).peers }
         ensures pace { pace_of self.new.link ≡ pace_of self.old.link }
@@ -137,6 +133,7 @@ impl Play {
     /// Runs all tics that can be run.
     pub(crate) fn run_all(&mut self) -> u32
         ensures few { result ≤ 32 }
+        ensures plays { Plays 0 result (linked self.old.link).node (linked self.new.link).node }
         ensures others { (linked self.new.link).others ≡ (linked self.old.link).others }
         ensures peers { (linked self.new.link).peers ≡ (linked self.old.link).peers }
         ensures pace { pace_of self.new.link ≡ pace_of self.old.link }

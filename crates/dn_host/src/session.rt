@@ -1,16 +1,18 @@
 //! The loop of a session.
 
-ghost use Rattle.std.specs.Prelude.{◌≡◌, ◌⊎◌, ℕ, List, Option, Bool, false, true, None, IfOk, IfErr, IfSome, is_some, unwrap_or};
+ghost use Rattle.std.specs.Prelude.{◌≡◌, ◌⊎◌, false, true, None, IfOk, IfErr, IfSome, is_some, unwrap_or};
 ghost use Rattle.dn_host.specs.Begun.{has_begun};
 ghost use Rattle.dn_link.specs.Linking.{linked};
 ghost use Rattle.dn_link.specs.Pacing.{pace_of};
+ghost use Rattle.dn_host.specs.Leaving.{has_ended, left_at};
 ghost use Rattle.dn_host.specs.Outcomes.{IsOutcome};
 ghost use Rattle.dn_host.specs.Parts.{IsPart, link_of};
 ghost use Rattle.dn_host.specs.Seals.{IsSealedUnder};
 ghost use Rattle.dn_host.specs.Summaries.{IsSummaryBy};
 ghost use Rattle.dn_host.specs.Summed.{Measures};
-ghost use Rattle.dn_host.specs.Stages.{EndsBy, IfEnded, is_refusal};
+ghost use Rattle.dn_host.specs.Stages.{EndsBy, IfEnded, is_over, is_refusal};
 ghost use Rattle.dn_host.specs.declared.ends.HostFault.TheVariants as fault;
+ghost use Rattle.dn_host.specs.declared.leave.Stage.TheVariants.{Going};
 
 use crate::clock::{nap, now};
 use crate::ends::{Ending, HostFault, Outcome};
@@ -19,6 +21,7 @@ use crate::hearing::{Heard, hear_all};
 use crate::leave::Stage;
 use crate::lobby::Lobby;
 use crate::screen::Screen;
+use crate::showing::show;
 use crate::wire::Wire;
 use std::time::Clock;
 
@@ -48,23 +51,14 @@ pub(crate) struct Session<L> {
     left: Option<u64>,
 }
 
-/// Tells how the game stands.
-fn show<S: Screen>(game: &mut Option<Game>, screen: &mut S, now: u64)
-    ensures part { (hosts : Bool) (secret : Option (List ℕ)) → IsPart hosts secret game.old → IsPart hosts secret game.new }
-{
-    if let Some(game) = game {
-        if let Some(status) = game.status(now) {
-            screen.show(&status);
-        }
-    }
-}
-
 impl<L: Lobby + Drop> Session<L> {
     /// A session that begins now, with this part in the game, of so many seconds of play from the beginning of the
     /// game on.
     pub(crate) fn new(lobby: L, game: Option<Game>, seconds: u32, now: u64) -> Session<L>
         ensures lobby { result.lobby ≡ lobby }
         ensures game { result.game ≡ game }
+        ensures going { result.stage ≡ Going }
+        ensures left { result.left ≡ None }
     {
         Session {
             lobby,
@@ -79,6 +73,9 @@ impl<L: Lobby + Drop> Session<L> {
     /// Does what is due in the game.
     fn play<W: Wire>(&mut self, wire: &mut W, now: u64)
         ensures lobby { self.new.lobby ≡ self.old.lobby }
+        ensures left { self.new.left ≡ left_at self.old.stage self.new.stage now self.old.left }
+        ensures ended { has_ended self.old.stage ≡ false → has_ended self.new.stage ≡ true
+            → is_some self.new.game ≡ true }
         ensures part { IsPart L.hosts (L.secret self.old.lobby) self.old.game
             → IsPart L.hosts (L.secret self.old.lobby) self.new.game }
     {
@@ -99,6 +96,8 @@ impl<L: Lobby + Drop> Session<L> {
         screen: &mut S,
         now: u64,
     ) -> Result<(), HostFault>
+        ensures stage { self.new.stage ≡ self.old.stage }
+        ensures left { self.new.left ≡ self.old.left }
         ensures faults { IfErr result L.Faults }
         ensures secret { L.secret self.new.lobby ≡ L.secret self.old.lobby }
         ensures part { IsPart L.hosts (L.secret self.old.lobby) self.old.game
@@ -128,6 +127,10 @@ impl<L: Lobby + Drop> Session<L> {
         now: u64,
     ) -> Result<Turned, HostFault>
         ensures ends { IfOk result (λ turned. IfEnded turned (EndsBy L.Refuses (has_begun self.new.game))) }
+        ensures left { IfOk result (λ _. self.new.left ≡ left_at self.old.stage self.new.stage now self.old.left) }
+        ensures over { IfOk result (λ turned. is_over turned ≡ false → has_ended self.new.stage ≡ false) }
+        ensures there { has_ended self.old.stage ≡ false → IfOk result (λ turned. IfEnded turned
+            (λ ending. (L.Refuses ending) ⊎ (is_some self.new.game ≡ true))) }
         ensures faults { IfErr result L.Faults }
         ensures secret { L.secret self.new.lobby ≡ L.secret self.old.lobby }
         ensures part { IsPart L.hosts (L.secret self.old.lobby) self.old.game
@@ -184,6 +187,8 @@ pub(crate) fn run<C: Clock, W: Wire, S: Screen, L: Lobby + Drop>(
 ) -> Result<Outcome, HostFault>
     ensures outcome { IfOk result IsOutcome }
     ensures ends { IfOk result (λ o. (L.Refuses o.ending) ⊎ (is_refusal o.ending ≡ false)) }
+    ensures there { has_ended session.stage ≡ false
+        → IfOk result (λ o. (L.Refuses o.ending) ⊎ (is_some o.link ≡ true)) }
     ensures hosts { IsPart L.hosts (L.secret session.lobby) session.game → L.hosts ≡ true
         → IfOk result (λ o. is_some o.link ≡ true) }
     ensures sealed { IsPart L.hosts (L.secret session.lobby) session.game

@@ -1,15 +1,31 @@
 //! What a game shows of itself.
 
+ghost use Rattle.std.specs.Prelude.{◌≡◌, ℕ, List, Option, Bool};
+ghost use Rattle.dn_host.specs.Parts.{IsPart};
+
 use crate::game::Game;
+use crate::screen::Screen;
 use dn_link::Link;
 use dn_machine::Phase;
 use dn_measure::{Status, Summary};
 
+/// Tells how the game stands, if there is one that has begun.
+pub(crate) fn show<S: Screen>(game: &mut Option<Game>, screen: &mut S, now: u64)
+    ensures part { (hosts : Bool) (secret : Option (List ℕ)) → IsPart hosts secret game.old → IsPart hosts secret game.new }
+{
+    if let Some(game) = game {
+        if let Some(status) = game.status(now) {
+            screen.show(&status);
+        }
+    }
+}
+
 impl Game {
-    ghost use Rattle.std.specs.Prelude.{◌≡◌, IfSome, is_some};
+    ghost use Rattle.std.specs.Prelude.{IfSome, is_some};
     ghost use Rattle.dn_link.specs.Linking.{linked};
     ghost use Rattle.dn_link.specs.Pacing.{pace_of};
     ghost use Rattle.dn_host.specs.Begun.{has_counted};
+    ghost use Rattle.dn_host.specs.Telling.{IsStatus};
     ghost use Rattle.dn_host.specs.Summaries.{IsSummaryBy};
     ghost use Rattle.dn_host.specs.Summed.{MeasuresBy};
 
@@ -31,7 +47,9 @@ impl Game {
     }
 
     /// When it began.
-    pub(crate) fn began(&self) -> u64 {
+    pub(crate) fn began(&self) -> u64
+        ensures { result ≡ self.now.began }
+    {
         self.began
     }
 
@@ -44,7 +62,9 @@ impl Game {
     }
 
     /// Where its link stands.
-    pub(crate) fn phase(&self) -> Phase {
+    pub(crate) fn phase(&self) -> Phase
+        ensures { result ≡ (linked self.now.play.link).node.phase }
+    {
         self.play.link.lockstep().phase()
     }
 
@@ -57,7 +77,9 @@ impl Game {
 
     /// How the game stands, since the last time, if it has begun.
     pub(crate) fn status(&mut self, now: u64) -> Option<Status>
-        ensures { self.new.play.link ≡ self.old.play.link }
+        ensures link { self.new.play.link ≡ self.old.play.link }
+        ensures status { IsStatus self.old.counts self.new.counts (linked self.old.play.link)
+            (pace_of self.old.play.link) self.old.play.waiting now result }
     {
         let waiting = self.play.waiting();
         match &mut self.counts {

@@ -9,11 +9,14 @@ const MISSED: u64 = 8;
 
 impl Game {
     ghost use Rattle.std.specs.Prelude.{◌≡◌};
-    ghost use Rattle.dn_link.specs.Linking.{seal_of};
+    ghost use Rattle.dn_link.specs.Linking.{linked, seal_of};
+    ghost use Rattle.dn_host.specs.Counted.{IsCounted};
 
     /// A tick: a command is built and sent, and what can be run is run.
     fn tick<W: Wire>(&mut self, wire: &mut W, now: u64)
-        ensures { seal_of self.new.play.link ≡ seal_of self.old.play.link }
+        ensures counted { IsCounted now self.old.counts self.new.counts (linked self.old.play.link).node
+            (linked self.new.play.link).node }
+        ensures seal { seal_of self.new.play.link ≡ seal_of self.old.play.link }
     {
         let done = self.play.build();
         self.count(done, now);

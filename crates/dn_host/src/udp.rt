@@ -9,7 +9,7 @@ use dn_greeting::Address;
 use std::io;
 use std::net::{IpAddr, Ipv4Addr, Ipv6Addr, Net, SocketAddr, UdpSocket};
 
-/// A UDP socket, for IPv6 and IPv4, or for IPv4 alone where the system has no IPv6.
+/// A UDP socket, for IPv6 and IPv4, or for IPv4 alone where no IPv6 socket can be bound at the port.
 #[derive(Drop)]
 pub struct Udp {
     socket: UdpSocket,
@@ -57,7 +57,7 @@ fn of_bytes(ip: &[u8; 16]) -> Ipv6Addr
     Ipv6Addr::from_octets(*ip)
 }
 
-/// Where a socket of all addresses of the machine is bound at a port: of IPv6, and of IPv4 where there is none.
+/// Where a socket of all addresses of the machine is bound at a port: of IPv6, and of IPv4 where that cannot be bound.
 fn places(port: u16) -> [SocketAddr; 2]
     ensures { map address_of result ≡ own_places port }
 {

@@ -1,11 +1,11 @@
 -- A key is read back from its text.
-use Rattle.std.proofs.Common.{◌≡◌, ◌<◌, ℕ, ◌+◌, ◌-◌, ◌/◌, ◌%◌, ◌*◌, List, [], ◌∷◌, ◌++◌, length, take, get_or, Ok, inl, inr, true, false, refl, ap, ◌∙◌, subst, arith}
-use Rattle.std.specs.Prelude.{All, nat_lt, ◌==◌, slice_index}
+use Rattle.std.proofs.Common.{◌≡◌, ◌<◌, ℕ, ◌-◌, ◌/◌, ◌%◌, List, [], ◌∷◌, ◌++◌, length, take, get_or, Ok, inl, inr, false, refl, arith}
+use Rattle.std.specs.Prelude.{All}
 use Rattle.std.proofs.lemmas.Bool.{cases_lt, lt-ltb, eq-eqb, ne_eqb}
 use Rattle.std.proofs.lemmas.List.{length_push, get_or_push, get_or_past, take_at}
-use Rattle.hex.specs.Hex.{IsBytes, encode_lower, decode_of, decode_pairs, decode_sized, lower_digits}
+use Rattle.hex.specs.Hex.{IsBytes, encode_lower, decode_of, decode_sized, lower_digits}
 use Rattle.hex.proofs.HexLemmas.{length-encode_with, decode_of-encode_lower}
-use Rattle.dn_key.specs.Text.{key_text, key_read, key_of_digits, filled, is_zeros}
+use Rattle.dn_key.specs.Text.{key_text, key_read, key_of_digits, is_zeros}
 
 -- 64 digits and a line end are read as the digits are
 read_digits : (digits : List ℕ) → length digits ≡ 64 → key_read (digits ++ 10 ∷ []) ≡ key_of_digits digits

@@ -1,9 +1,16 @@
 -- What the file of a key is read as.
-use Rattle.std.specs.Prelude.{◌≡◌, ◌≤◌, ◌⊎◌, ℕ, List, length, Result, Err}
+use Rattle.std.specs.Prelude.{◌≡◌, ◌⊎◌, ℕ, List, false, take, Result, Ok, Err}
 use Rattle.dn_key.specs.declared.fault.KeyFault.{KeyFault}
 use Rattle.dn_key.specs.declared.fault.KeyFault.TheVariants.{Read}
-use Rattle.dn_key.specs.Text.{key_read}
+use Rattle.dn_key.specs.Fault.{IsOfReading}
+use Rattle.dn_key.specs.Text.{is_zeros, key_read}
 
--- the system failed; or some text is read so, of no more bytes than show whether a file is too long
+-- a key that is not all zeros, or a fault of reading
 abbrev pub IsRead : Result (List ℕ) KeyFault → Type 0
-IsRead result = (result ≡ Err Read) ⊎ ((text : List ℕ) × (length text ≤ 66) × (result ≡ key_read text))
+IsRead (Ok key) = is_zeros key ≡ false
+IsRead (Err fault) = IsOfReading fault
+
+-- where the file has these bytes: the system failed; or the first 66 of them are read so, one more than a key's text
+-- has
+abbrev pub IsReadOf : List ℕ → Result (List ℕ) KeyFault → Type 0
+IsReadOf bytes result = (result ≡ Err Read) ⊎ (result ≡ key_read (take 66 bytes))

@@ -17,7 +17,7 @@ pub enum KeyFault {
     /// The file could not be made.
     #[error("key: cannot make the file")]
     Make,
-    /// The file could not be written whole; it was removed.
+    /// The file could not be written whole; it was removed, if it could be.
     #[error("key: cannot write the file")]
     Write,
     /// The file could not be read.
@@ -32,7 +32,7 @@ pub enum KeyFault {
 }
 
 impl KeyFault {
-    /// Whether the file was refused for what is in it, or since it is there. Else the system failed.
+    /// Whether the file was refused for what is in it, or because it is there. Else the system failed.
     pub fn is_refusal(self) -> bool
         ensures { result ≡ is_refusal self }
     {

@@ -26,13 +26,13 @@ pub enum End {
     OthersLeft,
     /// The demo was full.
     Full,
-    /// All others left, this player since its demo was full.
+    /// All others left, this player because its demo was full.
     FullAt(u8),
     /// Nothing came from this player for too long.
     Lost(u8),
-    /// This player's world is another.
+    /// This player's world differs from one's own.
     Inconsistent(u8),
-    /// All others left, this player since it found the world of one to be another.
+    /// All others left, this player because it found that another's world differs.
     InconsistentAt(u8),
 }
 

@@ -12,9 +12,9 @@ use clap::ArgMatches;
 /// What a session is told beside its game.
 #[derive(Clone, Copy, Debug, PartialEq, Eq)]
 pub struct Pace {
-    /// What its keys are drawn from.
+    /// What its key presses are drawn from.
     pub seed: u64,
-    /// For how many seconds it plays; 0 is until it is interrupted.
+    /// How many seconds it plays from the start of the game; 0 is until it is interrupted.
     pub seconds: u32,
 }
 

@@ -71,6 +71,8 @@ impl Lobby for Counter {
 
     ghost Faults = { λ fault. ⊤ };
 
+    ghost Greets = { λ old new. ⊤ };
+
     ghost hosts = { false };
 
     ghost secret = { λ counter. None };

@@ -1,38 +1,18 @@
-use Rattle.std.proofs.Common.{◌≡◌, sym, ◌∙◌, arith, inl, None}
-use Rattle.dn_seal.specs.declared.seal.Seal.{Seal}
-use Rattle.dn_seal.specs.Sealing.{sealing}
-use Rattle.dn_greeting.specs.Text.{retry_rest, IsRetry}
-use Rattle.dn_greeting.specs.Reading.{first_fault}
-use Rattle.dn_greeting.proofs.Once.{one_retry}
-use Rattle.dn_greeting.proofs.Rests.{length-retry, same_retry}
-use Rattle.dn_greeting.proofs.Readings.{reads_form, reads_ok}
+use Rattle.std.proofs.Common.{refl}
+use Rattle.dn_greeting.proofs.Once.{retries, opened, refused, unread}
 use Rattle.dn_greeting.proofs.reading.open_retry.Goals as goal
 
-pub returns-in-Some-clause-only : goal.returns-in-Some-clause-only
-returns-in-Some-clause-only c = λ read. one_retry _ _ _ read (inl (sym c.fault_in.ensures.first ∙ c.in-Some.is))
+pub returns-in-Some : goal.returns-in-Some
+returns-in-Some c =
+    let o = refused retries 64 refl 5 _ _ _ c.fault_in.ensures.first _ c.in-Some.is in
+    record { opens = o.0; only = o.1 }
 
-opens : goal.returns-in-Some-retry_in-clause-opens
-opens c =
-    let seal : Seal = (sealing c.args.sealer.now).seal in
-    let none : first_fault seal 5 64 c.args.bytes.now ≡ None = sym c.fault_in.ensures.first ∙ c.in-None.is in
-    reads_ok seal 5 64 IsRetry retry_rest (omega arith) (λ t is. omega (arith, length-retry t is)) same_retry
-    c.args.bytes.now 36 _ (omega arith) none c.in-Some-retry_in.ensures.0 c.in-Some-retry_in.ensures.1
+pub returns-in-Some-retry_in : goal.returns-in-Some-retry_in
+returns-in-Some-retry_in c =
+    let o = opened retries 64 refl 5 _ _ _ c.fault_in.ensures.first c.in-None.is _ c.in-Some-retry_in.ensures in
+    record { opens = o.0; only = o.1 }
 
-pub returns-in-Some-retry_in-clause-opens : goal.returns-in-Some-retry_in-clause-opens
-returns-in-Some-retry_in-clause-opens c = opens c
-
-pub returns-in-Some-retry_in-clause-only : goal.returns-in-Some-retry_in-clause-only
-returns-in-Some-retry_in-clause-only c = λ read. one_retry _ _ _ read (opens c)
-
-fails : goal.returns-in-None-retry_in-clause-opens
-fails c =
-    let seal : Seal = (sealing c.args.sealer.now).seal in
-    let none : first_fault seal 5 64 c.args.bytes.now ≡ None = sym c.fault_in.ensures.first ∙ c.in-None.is in
-    reads_form seal 5 64 IsRetry retry_rest (omega arith) (λ t is. omega (arith, length-retry t is)) same_retry
-    c.args.bytes.now 36 (omega arith) none c.in-None-retry_in.ensures
-
-pub returns-in-None-retry_in-clause-opens : goal.returns-in-None-retry_in-clause-opens
-returns-in-None-retry_in-clause-opens c = fails c
-
-pub returns-in-None-retry_in-clause-only : goal.returns-in-None-retry_in-clause-only
-returns-in-None-retry_in-clause-only c = λ read. one_retry _ _ _ read (fails c)
+pub returns-in-None-retry_in : goal.returns-in-None-retry_in
+returns-in-None-retry_in c =
+    let o = unread retries 64 refl 5 _ _ _ c.fault_in.ensures.first c.in-None.is c.in-None-retry_in.ensures in
+    record { opens = o.0; only = o.1 }

@@ -1,26 +1,24 @@
 use Rattle.std.proofs.Common.{◌≡◌, ap, sym, ◌∙◌, true, false, refl, rules}
 use Rattle.std.specs.Prelude.{◌&&◌, Bool}
-use Rattle.std.specs.Str.{bytes_eq}
 use Rattle.std.proofs.lemmas.Slice.Eq.{bytes_eq-Decides}
 use Rattle.dn_greeting.specs.declared.greeting.Answer.{Answer}
-use Rattle.dn_greeting.specs.Text.{answer_rest, is_guest, is_terms}
+use Rattle.dn_greeting.specs.Text.{answer_rest, is_guest, is_terms, IsAnswer}
 use Rattle.dn_greeting.specs.Told.{told_answer}
+use Rattle.dn_greeting.proofs.Again.{never, told_is}
 use Rattle.dn_greeting.proofs.Rests.{answer_back}
 use Rattle.dn_greeting.proofs.telling.answer_in.Goals as goal
 use Rattle.dn_greeting.proofs.telling.answer_in.Goals.{else-is_answer-via-then-is_answer+else-eq, else-is_answer-via-else-is_answer}
 
 pub returns : goal.returns
 returns c = λ answer is e.
-    let told : c.told_answer-answer.result ≡ answer = c.told_answer-answer.ensures.value ∙ ap told_answer e ∙ answer_back answer is in
     elim c.else-is_answer.branch [
       | else-is_answer-via-then-is_answer+else-eq w ↦
-          let same : bytes_eq c.args.rest.now w.as_slice.result.now ≡ true =
-          (bytes_eq-Decides c.args.rest.now w.as_slice.result.now).1
-          (e ∙ ap answer_rest (sym told) ∙ sym w.answer_rest.ensures ∙ sym w.as_slice.ensures.value) in
-          cc (w.eq.ensures, w.if-eq.false)
+          never IsAnswer answer_rest told_answer answer_back _ _ _ c.told_answer-answer.ensures.value
+          (w.as_slice.ensures.value ∙ w.answer_rest.ensures) (sym w.eq.ensures ∙ w.if-eq.false) answer is e
       | else-is_answer-via-else-is_answer w ↦
           let fits : is_guest answer.terms.players answer.seat && is_terms answer.terms ≡ true = rw (is.seat, is.terms) refl in
-          let same = ap (λ (answer : Answer). is_guest answer.terms.players answer.seat && is_terms answer.terms) told in
+          let same = ap (λ (answer : Answer). is_guest answer.terms.players answer.seat && is_terms answer.terms)
+          (told_is IsAnswer answer_rest told_answer answer_back _ _ c.told_answer-answer.ensures.value answer is e) in
           cc (c.is_answer.ensures, w.if-is_answer.false)
     ]
 

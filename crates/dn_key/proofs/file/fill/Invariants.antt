@@ -1,8 +1,13 @@
-use Rattle.std.proofs.Common.{length, ◌-◌, ◌≤◌}
+use Rattle.std.proofs.Common.{length, take, ◌-◌, ◌≡◌, ◌≤◌}
+use Rattle.std.specs.Io.KnownBytes.{Consumes}
 use Rattle.dn_key.proofs.file.fill.Given as goal
 
 abbrev pub invariant-loop-filled : goal.invariant-loop-filled
-invariant-loop-filled g l = l.filled ≤ length l.room
+invariant-loop-filled g l = record {
+  within : l.filled ≤ length l.room;
+  same_length : length l.room ≡ length l.initial.room;
+  taken : Consumes (g.R.Read.remaining l.initial.file) (g.R.Read.remaining l.file) (take l.filled l.room);
+}
 
 abbrev pub decreases-loop-filled : goal.decreases-loop-filled
 decreases-loop-filled g l = length l.initial.room - l.filled

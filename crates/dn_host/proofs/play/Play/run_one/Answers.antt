@@ -1,7 +1,9 @@
-use Rattle.std.proofs.Common.{◌≡◌, ℤ, List, subst}
+use Rattle.std.proofs.Common.{◌≡◌, ℤ, Bool, List, sym, subst}
 use Rattle.dn_machine.specs.Running.{on_run}
 use Rattle.dn_lockstep.specs.Runs.{RunsBy}
 use Rattle.dn_link.specs.Linking.{linked}
+use Rattle.dn_host.specs.Played.{Plays, times_of}
+use Rattle.dn_host.proofs.Playing.{plays_run}
 use Rattle.dn_host.proofs.play.Play.run_one.Goals as goal
 
 pub returns-clause-runs : goal.returns-clause-runs
@@ -18,3 +20,11 @@ returns-clause-runs c =
       c.go_on.ensures.ran,
       c.waits_for-self.ensures,
     )
+
+pub returns-clause-plays : goal.returns-clause-plays
+returns-clause-plays c =
+    let run = c.run-ran in
+    let old = (linked c.args.self.now.link).node in
+    let new = (linked run.new.self).node in
+    subst (λ (ran : Bool). Plays 0 (times_of ran) old new) (sym c.go_on.ensures.ran)
+    (plays_run _ old new run.result.0 run.result.1 (run.ensures.step c.args.self.now.whole))

@@ -1,0 +1,11 @@
+use Rattle.std.proofs.Common.{ℕ, ap, ◌∙◌, Option}
+use Rattle.std.specs.Prelude.{is_some}
+use Rattle.dn_lockstep.specs.Contents.{Contents}
+use Rattle.dn_link.specs.Linked.{end_known}
+use Rattle.dn_host.proofs.game.Game.is_whole.Goals as goal
+
+pub returns : goal.returns
+returns c =
+    c.is_some.ensures
+    ∙ ap (λ (end : Option ℕ). is_some end)
+    (c.end.ensures.value ∙ ap (λ (n : Contents). end_known n c.args.player) c.lockstep.ensures)
