@@ -1,5 +1,8 @@
 //! The command line, read and run.
 
+ghost use Rattle.clap.specs.Values.{kind_of};
+ghost use Rattle.dn_program.specs.Explained.{IsExplained};
+
 use crate::runs::run;
 use crate::status::{BROKEN_OFF, MISUSED};
 use crate::words::matches_of;
@@ -13,7 +16,9 @@ use std::time::Clock;
 use std::{env, io};
 
 /// Prints a fault of the command line on standard error, and help on standard output.
-fn explain(rt: &(impl Print + Eprint), error: &Error) -> Result<u8, RunFault> {
+fn explain(rt: &(impl Print + Eprint), error: &Error) -> Result<u8, RunFault>
+    ensures { IsExplained (kind_of error.now) result }
+{
     if error.kind() == ErrorKind::OutOfMemory {
         return Err(RunFault::Memory);
     }
@@ -50,8 +55,9 @@ fn answer<
 /// Reads the command line and runs it, prints the line of a run that ended early, and answers the exit
 /// status: 0 where all went well, 1 where what was given was refused, 2 where the command line was wrong, 3 where
 /// the run broke off. With `each_second` a session over a network tells on standard error each second how it goes.
-/// No clause says so: the contracts of the system's handles do not tell what is read and printed. What each
-/// subcommand prints and its status are clauses of `dn_netgame` and `dn_measure`; that this hands them on is tested.
+/// No clause says so: the contracts of the system's handles do not tell what is read and printed. What the
+/// other subcommands print, and the lines of a session that played, are clauses of `dn_netgame` and `dn_measure`; the
+/// rest, and that this hands them on, is tested.
 pub fn finish<
     R: Env + Input + Print + Eprint + AllocGlobal + Net + Files + RandomSource + Clock + Drop,
 >(rt: &R, each_second: bool) -> u8 {

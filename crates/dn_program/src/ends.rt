@@ -1,5 +1,10 @@
 //! How a session over a network ended: what is printed of it, and the exit status.
 
+ghost use Rattle.std.specs.Prelude.{◌≡◌, IfOk, is_some};
+ghost use Rattle.std.specs.String.{string_bytes};
+ghost use Rattle.dn_program.specs.Endings.{ending_lines, ending_status, hint_line, refusal_line};
+ghost use Rattle.dn_program.specs.Printed.{IsEnded, IsSessionPrinted, prints_demo};
+
 use crate::say::{say, say_line};
 use crate::status::{BROKEN_OFF, REFUSED};
 use dn_greeting::{Hint, Refusal};
@@ -13,7 +18,9 @@ pub(crate) fn text_of_refusal(
     alloc: Global,
     outcome: &str,
     refusal: Refusal,
-) -> Result<String, AllocError> {
+) -> Result<String, AllocError>
+    ensures { IfOk result (λ text. string_bytes text ≡ refusal_line outcome.now refusal) }
+{
     match refusal {
         Refusal::Full => format!(in alloc; "{outcome}: no seat is free\n"),
         Refusal::Taken => format!(in alloc; "{outcome}: the seat is taken\n"),
@@ -25,7 +32,9 @@ pub(crate) fn text_of_refusal(
 }
 
 /// The line of a joiner whose calls the host could not read.
-fn text_of_hint(alloc: Global, hint: Hint) -> Result<String, AllocError> {
+fn text_of_hint(alloc: Global, hint: Hint) -> Result<String, AllocError>
+    ensures { IfOk result (λ text. string_bytes text ≡ hint_line hint) }
+{
     match hint {
         Hint::Key => String::from_str(alloc, "refused: another key\n"),
         Hint::Version(_) => String::from_str(alloc, "refused: another version\n"),
@@ -33,7 +42,11 @@ fn text_of_hint(alloc: Global, hint: Hint) -> Result<String, AllocError> {
 }
 
 /// What is printed of a session, and the exit status.
-fn told(alloc: Global, outcome: &Outcome) -> Result<(String, u8), AllocError> {
+fn told(alloc: Global, outcome: &Outcome) -> Result<(String, u8), AllocError>
+    ensures lines { IfOk result (λ told. string_bytes told.0
+        ≡ ending_lines outcome.now.ending outcome.now.summary) }
+    ensures status { IfOk result (λ told. told.1 ≡ ending_status outcome.now.ending) }
+{
     match outcome.ending {
         Ending::Ended(end) => Ok((text_of_session(alloc, end, &outcome.summary)?, end.status())),
         Ending::Refused(refusal) => Ok((text_of_refusal(alloc, "refused", refusal)?, REFUSED)),
@@ -41,15 +54,14 @@ fn told(alloc: Global, outcome: &Outcome) -> Result<(String, u8), AllocError> {
     }
 }
 
-/// Prints the demo of a session that had one.
-fn print_demo(rt: &impl Print, outcome: &Outcome) -> Result<(), RunFault> {
-    let Some(link) = &outcome.link else {
-        return Ok(());
-    };
-    if rt.write_all(link.lockstep().demo()).is_err() {
-        return Err(RunFault::Write);
+/// The demo that is printed: with `raw` that of a session that had a seat.
+fn demo_of(outcome: &Outcome, raw: bool) -> Option<&[u8]>
+    ensures { is_some result ≡ prints_demo raw outcome.now }
+{
+    match (raw, outcome.ending) {
+        (true, Ending::Ended(_)) => Some(outcome.link.as_ref()?.lockstep().demo()),
+        _ => None,
     }
-    Ok(())
 }
 
 /// Prints how a session ended, and with `raw` its demo, and answers the exit status.
@@ -57,11 +69,15 @@ fn print_outcome(
     rt: &(impl Print + Eprint + AllocGlobal),
     outcome: &Outcome,
     raw: bool,
-) -> Result<u8, RunFault> {
+) -> Result<u8, RunFault>
+    ensures { IsEnded raw outcome.now result }
+{
     let (text, status) = told(rt.alloc(), outcome)?;
     say(rt, raw, text.as_str())?;
-    if raw && status != REFUSED {
-        print_demo(rt, outcome)?;
+    if let Some(demo) = demo_of(outcome, raw) {
+        if rt.write_all(demo).is_err() {
+            return Err(RunFault::Write);
+        }
     }
     Ok(status)
 }
@@ -71,7 +87,9 @@ pub(crate) fn print_session(
     rt: &(impl Print + Eprint + AllocGlobal),
     session: Result<Outcome, HostFault>,
     raw: bool,
-) -> Result<u8, RunFault> {
+) -> Result<u8, RunFault>
+    ensures { IsSessionPrinted raw session result }
+{
     match session {
         Ok(outcome) => print_outcome(rt, &outcome, raw),
         Err(HostFault::Memory) => Err(RunFault::Memory),

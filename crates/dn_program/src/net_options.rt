@@ -17,7 +17,7 @@ pub(crate) fn with_rounds<'a>(
     ensures { IfOk result (HasMore command.entry loop_rules) }
 {
     let game = with_game(alloc, command)?;
-    let seed = with_seed(alloc, game, "What the keys are drawn from")?;
+    let seed = with_seed(alloc, game, "What the key presses are drawn from")?;
     let about = "How many rounds there are";
     let rounds = with_number(alloc, seed, "rounds", 1, 1_000_000, "100", about)?;
     let about = "The port of player 0, before those of the others";
@@ -61,7 +61,7 @@ fn with_session<'a>(alloc: Global, command: Command<'a>) -> Result<Command<'a>, 
     ensures { IfOk result (HasMore command.entry session_rules) }
 {
     let key = with_key_file(alloc, command)?;
-    let seed = with_seed(alloc, key, "What the keys are drawn from")?;
+    let seed = with_seed(alloc, key, "What the key presses are drawn from")?;
     let about = "How many seconds are played, or 0 until the program is interrupted";
     let seconds = with_number(alloc, seed, "seconds", 0, 86_400, "0", about)?;
     let about = "Prints the bytes of the demo, and its lines on standard error";

@@ -1,5 +1,11 @@
 //! What `host`, `join` and `key` run.
 
+ghost use Rattle.std.specs.Prelude.{◌≡◌, codes};
+ghost use Rattle.clap.specs.Matches.{found_of, first_value};
+ghost use Rattle.dn_program.specs.Joined.{IsGuestOf, IsOwnPort};
+ghost use Rattle.dn_program.specs.Printed.{Answers, key_status};
+ghost use Rattle.dn_program.specs.Sessions.{IsHostingOf, IsKeyRun, IsPlanOf, IsPrepared, IsSecretOf};
+
 use crate::ends::print_session;
 use crate::say::say_line;
 use crate::screen::ErrorScreen;
@@ -20,7 +26,9 @@ use std::time::Clock;
 const AHEAD: u8 = 8;
 
 /// Prints the line of a key that was not made or not read, and answers the exit status.
-fn tell_key(rt: &(impl Print + Eprint), raw: bool, fault: KeyFault) -> Result<u8, RunFault> {
+fn tell_key(rt: &(impl Print + Eprint), raw: bool, fault: KeyFault) -> Result<u8, RunFault>
+    ensures { Answers raw (key_status fault) result }
+{
     say_line(rt, raw, fault)?;
     if fault.is_refusal() {
         Ok(REFUSED)
@@ -33,7 +41,9 @@ fn tell_key(rt: &(impl Print + Eprint), raw: bool, fault: KeyFault) -> Result<u8
 pub(crate) fn run_key(
     rt: &(impl Print + Eprint + Files + RandomSource),
     matches: &ArgMatches<'_>,
-) -> Result<u8, RunFault> {
+) -> Result<u8, RunFault>
+    ensures { IsKeyRun (first_value (found_of matches.now) (codes "file")) result }
+{
     let Some(file) = dn_options::file(matches) else {
         return Ok(MISUSED);
     };
@@ -44,7 +54,9 @@ pub(crate) fn run_key(
 }
 
 /// The key that the players share, if a file of one was given.
-fn secret_of(rt: &impl Files, matches: &ArgMatches<'_>) -> Result<Option<[u8; KEY]>, KeyFault> {
+fn secret_of(rt: &impl Files, matches: &ArgMatches<'_>) -> Result<Option<[u8; KEY]>, KeyFault>
+    ensures { IsSecretOf matches.now result }
+{
     match dn_options::key(matches) {
         Some(path) => Ok(Some(read_key(rt, path)?)),
         None => Ok(None),
@@ -52,7 +64,9 @@ fn secret_of(rt: &impl Files, matches: &ArgMatches<'_>) -> Result<Option<[u8; KE
 }
 
 /// How a session goes.
-fn plan_of(secret: Option<[u8; KEY]>, pace: Pace) -> Plan {
+fn plan_of(secret: Option<[u8; KEY]>, pace: Pace) -> Plan
+    ensures { IsPlanOf secret pace result }
+{
     Plan {
         secret,
         seed: pace.seed,
@@ -66,7 +80,9 @@ fn prepared(
     raw: bool,
     port: u16,
     matches: &ArgMatches<'_>,
-) -> Result<Result<(Plan, Udp), u8>, RunFault> {
+) -> Result<Result<(Plan, Udp), u8>, RunFault>
+    ensures { IsPrepared raw matches.now result }
+{
     let Some(pace) = dn_options::pace_of(matches) else {
         return Ok(Err(MISUSED));
     };
@@ -82,7 +98,9 @@ fn prepared(
 }
 
 /// What a host offers.
-fn hosting_of(game: GameConfig, players: u8, rate: u8) -> Hosting {
+fn hosting_of(game: GameConfig, players: u8, rate: u8) -> Hosting
+    ensures { IsHostingOf game players rate result }
+{
     let terms = Terms {
         players,
         extra: game.extra,
@@ -128,6 +146,24 @@ fn found(rt: &impl Net, address: &str) -> Option<Address> {
     }
 }
 
+/// Whom a joiner calls, and for what.
+fn guest_of(host: Address, matches: &ArgMatches<'_>) -> Guest
+    ensures { IsGuestOf host matches.now result }
+{
+    Guest {
+        host,
+        seat: dn_options::me(matches),
+        players: dn_options::players(matches),
+    }
+}
+
+/// The port of a joiner, or 0 for any that is free.
+fn own_port(matches: &ArgMatches<'_>) -> u16
+    ensures { IsOwnPort matches.now result }
+{
+    dn_options::port(matches).unwrap_or(0)
+}
+
 /// Runs `join`, and answers the exit status. With `each_second` it tells each second how the game stands.
 pub(crate) fn run_join<R: Print + Eprint + AllocGlobal + Net + Files + RandomSource + Clock + Drop>(
     rt: &R,
@@ -142,16 +178,11 @@ pub(crate) fn run_join<R: Print + Eprint + AllocGlobal + Net + Files + RandomSou
         say_line(rt, raw, "address: not found")?;
         return Ok(REFUSED);
     };
-    let port = dn_options::port(matches).unwrap_or(0);
-    let (plan, mut wire) = match prepared(rt, raw, port, matches)? {
+    let (plan, mut wire) = match prepared(rt, raw, own_port(matches), matches)? {
         Ok(ready) => ready,
         Err(status) => return Ok(status),
     };
-    let guest = Guest {
-        host,
-        seat: dn_options::me(matches),
-        players: dn_options::players(matches),
-    };
+    let guest = guest_of(host, matches);
     let mut screen = ErrorScreen::new(rt, each_second, address);
     let session = join_game(rt, rt.alloc(), &mut wire, &mut screen, &plan, &guest);
     print_session(rt, session, raw)

@@ -1,11 +1,15 @@
 //! Where the texts of a session over a network go: to standard output, and with `--raw`, which leaves that to the
 //! demo, to standard error.
 
+ghost use Rattle.dn_program.specs.Printed.{Answers};
+
 use dn_netgame::RunFault;
 use std::fmt::Display;
 
 /// Prints a text.
-pub(crate) fn say(rt: &(impl Print + Eprint), raw: bool, text: &str) -> Result<(), RunFault> {
+pub(crate) fn say(rt: &(impl Print + Eprint), raw: bool, text: &str) -> Result<(), RunFault>
+    ensures { Answers raw tt result }
+{
     if raw {
         let _ = rt.eprint(text);
     } else if rt.print(text).is_err() {
@@ -19,7 +23,9 @@ pub(crate) fn say_line<D: Display + Drop>(
     rt: &(impl Print + Eprint),
     raw: bool,
     line: D,
-) -> Result<(), RunFault> {
+) -> Result<(), RunFault>
+    ensures { Answers raw tt result }
+{
     if raw {
         let _ = rt.eprintln(line);
     } else if rt.println(line).is_err() {
