@@ -7,7 +7,8 @@ use Rattle.dn_lockstep.specs.Contents.{Contents, whose}
 use Rattle.dn_lockstep.specs.Opening.{IsAdmittedWithin, whose_within}
 use Rattle.dn_setup.specs.Settings.{Settings}
 use Rattle.zirmegat.specs.declared.config.NodeConfig.{NodeConfig}
-use Rattle.zirmegat.specs.Opening.{IsChosen, IsFresh, IsMade, OpensWithin, config_of, fault_code}
+use Rattle.zirmegat.specs.Codes.{fault_code}
+use Rattle.zirmegat.specs.Opening.{IsChosen, IsFresh, IsMade, OpensWithin, config_of}
 
 pub made_again : {A B : Type 0} (config : Config) (ahead : ℕ) (one : A) (other : B)
     → IsAdmittedWithin {A = A} config ahead (Ok one) → IsAdmittedWithin {A = B} config ahead (Ok other)

@@ -1,10 +1,10 @@
 -- Whole commands: what a caller gives of one, and what a node tells of those that it has or would make.
-use Rattle.std.specs.Prelude.{◌≡◌, ◌<◌, ℕ, Bool, true, Option, is_some}
+use Rattle.std.specs.Prelude.{◌≡◌, ◌<◌, ℕ, Bool, true, nat_lt, Option, Some, None, is_some, if◌then◌else◌}
 use Rattle.dn_tic.specs.declared.command.TicCmd.{TicCmd}
 use Rattle.dn_tic.specs.declared.input.Command.{Command}
 use Rattle.dn_tic.specs.declared.input.Input.{Input}
 use Rattle.dn_lockstep.specs.Commands.{last_held, makes, can_make}
-use Rattle.dn_lockstep.specs.Contents.{Contents}
+use Rattle.dn_lockstep.specs.Contents.{Contents, end_in}
 use Rattle.dn_lockstep.specs.Rings.{count_of}
 use Rattle.dn_lockstep.specs.Steps.{Tells}
 use Rattle.dn_setup.specs.Starts.{bit}
@@ -21,6 +21,14 @@ given_in f =
 -- a command, and whether there is one
 abbrev pub known_told : Option TicCmd → KnownCommand
 known_told command = record { known = bit (is_some command); command = command_told command }
+
+-- how many commands it has of a player, where the game has the player
+abbrev pub got_of : Contents → ℕ → Option ℕ
+got_of n player = if nat_lt player n.players then Some (count_of n.rings player) else None
+
+-- the tic after a player's last command, where the game has the player and the node knows the tic
+abbrev pub end_of : Contents → ℕ → Option ℕ
+end_of n player = if nat_lt player n.players then end_in n player else None
 
 -- whether it would make a command, of whatever input
 abbrev pub CanBuild : Contents → Bool → Type 0

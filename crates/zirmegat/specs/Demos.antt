@@ -11,6 +11,7 @@ use Rattle.zirmegat.specs.declared.reader.DemoReader.TheVariants.{Feeding, Whole
 use Rattle.zirmegat.specs.declared.demo_handle.DemoHandle.{DemoHandle}
 use Rattle.zirmegat.specs.declared.demo_answers.StartFields.{StartFields}
 use Rattle.zirmegat.specs.declared.demo_answers.DemoAnswer.{DemoAnswer}
+use Rattle.zirmegat.specs.Codes.{demo_code}
 
 -- what a reader has: the bytes that were fed and not yet read, and the demo that was read
 pub record Reading : Type 0 where
@@ -28,13 +29,6 @@ demo_of h = if h.live then option_map reading_of h.reader else None
 -- a reader that no bytes came to
 abbrev pub blank : Reading
 blank = record { bytes = []; demo = None }
-
-abbrev pub demo_code : DemoFault → ℕ
-demo_code DemoFault.Short = 1
-demo_code DemoFault.Version = 2
-demo_code DemoFault.NoPlayers = 3
-demo_code DemoFault.NoMarker = 4
-demo_code DemoFault.Memory = 5
 
 -- a piece is taken behind the others, or there is no memory for it, which an empty piece does not need; a demo
 -- that was read takes none
@@ -67,8 +61,7 @@ start_told s =
       episode = s.episode;
       map = s.map;
       deathmatch = s.deathmatch;
-      respawn =
-          s.respawn;
+      respawn = s.respawn;
       fast = s.fast;
       no_monsters = s.no_monsters;
     }
@@ -86,8 +79,8 @@ demo_told d =
     record {
       tics = length d.rows;
       cut = d.cut;
-      after = d.after;
       known = 1;
+      after = d.after;
       version = d.version;
       view = d.view;
       start = start_told d.start;
@@ -101,9 +94,6 @@ no_demo =
       tics = 0;
       cut = 0;
       after = 0;
-      known = 0;
-      version = 0;
-      view = 0;
       start = record {
         skill = 0;
         episode = 0;
@@ -114,6 +104,9 @@ no_demo =
         no_monsters =
             0;
       };
+      known = 0;
+      version = 0;
+      view = 0;
       present = 0 ∷ 0 ∷ 0 ∷ 0 ∷ [];
     }
 

@@ -1,32 +1,21 @@
 -- A datagram's packet as plain fields.
-use Rattle.std.specs.Prelude.{◌≡◌, ℕ, pos, List, [], ◌∷◌, length, map, take, slice_get, Option, Some, None, Result, Ok, Err}
+use Rattle.std.specs.Prelude.{◌≡◌, ℕ, ℤ, pos, List, [], ◌∷◌, length, map, take, slice_get, Option, Some, None, Result, Ok, Err}
 use Rattle.dn_tic.specs.declared.command.TicCmd.{TicCmd}
 use Rattle.dn_packet.specs.declared.packet.Packet.{Packet}
 use Rattle.dn_packet.specs.declared.packet.PacketFault.{PacketFault}
 use Rattle.zirmegat.specs.declared.packets.CommandFields.{CommandFields}
 use Rattle.zirmegat.specs.declared.packets.PacketFields.{PacketFields}
+use Rattle.zirmegat.specs.Codes.{packet_code}
+
+-- a command of these numbers, as C has it
+abbrev pub fields : ℤ → ℤ → ℤ → ℤ → ℕ → ℕ → CommandFields
+fields turn mark forward side chat buttons =
+    record { turn = turn; mark = mark; forward = forward; side = side; chat = chat; buttons = buttons }
 
 -- a command, and all 0 for none
 abbrev pub command_told : Option TicCmd → CommandFields
-command_told (Some c) =
-    record {
-      turn = c.turn;
-      mark = c.mark;
-      forward = c.forward;
-      side = c.side;
-      chat = c.chat;
-      buttons =
-          c.buttons;
-    }
-command_told None = record {
-  turn = pos 0;
-  mark = pos 0;
-  forward = pos 0;
-  side = pos 0;
-  chat = 0;
-  buttons =
-      0;
-}
+command_told (Some c) = fields c.turn c.mark c.forward c.side c.chat c.buttons
+command_told None = fields (pos 0) (pos 0) (pos 0) (pos 0) 0 0
 
 abbrev pub command_in : CommandFields → TicCmd
 command_in f =
@@ -66,12 +55,6 @@ packet_in f =
       player = f.player;
       cmds = record { items = map command_in (take f.count f.commands) };
     }
-
-abbrev pub packet_code : PacketFault → ℕ
-packet_code PacketFault.Short = 1
-packet_code PacketFault.Many = 2
-packet_code PacketFault.Length = 3
-packet_code PacketFault.Sum = 4
 
 -- what a reading is told as: 0 and the fields, or the number of the fault
 abbrev pub IsDecodedAs : Result Packet PacketFault → ℕ → PacketFields → PacketFields → Type 0

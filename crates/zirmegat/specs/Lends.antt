@@ -26,22 +26,26 @@ lends_lockstep h r = Lends handle.the_row lockstep.the_row h r (with_node h.now)
 abbrev pub lends_held : MutBor LockstepHandle → Option (MutBor Lockstep) → Fml
 lends_held h r = LendsIf handle.the_row lockstep.the_row h r (with_node h.now) h.now
 
--- the same of a sealed node
+-- the handle of a sealed node with another one
 abbrev pub with_sealed : SealedHandle → SealedLockstep → SealedHandle
 with_sealed h node = record h { node = Some node }
 
+-- once the borrow ends, the handle has the sealed node that it shows last
 abbrev pub lends_sealed : MutBor SealedHandle → MutBor SealedLockstep → Fml
 lends_sealed h r = Lends sealed_handle.the_row sealed.the_row h r (with_sealed h.now)
 
+-- the same where one is lent, and else the handle stays as it is
 abbrev pub lends_held_sealed : MutBor SealedHandle → Option (MutBor SealedLockstep) → Fml
 lends_held_sealed h r = LendsIf sealed_handle.the_row sealed.the_row h r (with_sealed h.now) h.now
 
--- the same of a link
+-- the handle with another link
 abbrev pub with_link : LinkHandle → Link → LinkHandle
 with_link h value = record h { link = Some value }
 
+-- once the borrow ends, it has the link that is shown last
 abbrev pub lends_link : MutBor LinkHandle → MutBor Link → Fml
 lends_link h r = Lends link_handle.the_row link.the_row h r (with_link h.now)
 
+-- the same where a link is lent, and else it stays
 abbrev pub lends_held_link : MutBor LinkHandle → Option (MutBor Link) → Fml
 lends_held_link h r = LendsIf link_handle.the_row link.the_row h r (with_link h.now) h.now

@@ -1,7 +1,9 @@
 pub mod Held
 pub mod Lends
+pub mod Codes
 pub mod Calls
 pub mod Answers
+pub mod Asking
 pub mod Opening
 pub mod Going
 pub mod Fields

@@ -16,7 +16,6 @@ use Rattle.dn_tic.specs.declared.command.Move.{Move}
 use Rattle.dn_others.specs.Keeping.{nothing_kept}
 use Rattle.dn_survivor.specs.declared.answers.GivenUp.{GivenUp}
 use Rattle.dn_seal.specs.declared.seal.Seal.{Seal}
-use Rattle.dn_link.specs.declared.bundle.BundleFault.{BundleFault}
 use Rattle.dn_link.specs.declared.link.Link.{Link}
 use Rattle.dn_link.specs.declared.received.Received.{Received}
 use Rattle.dn_link.specs.declared.bundle.Identity.{Identity}
@@ -40,7 +39,7 @@ use Rattle.zirmegat.specs.Answers.{made_told}
 use Rattle.zirmegat.specs.Going.{Builds, Runs, RunsBut}
 use Rattle.zirmegat.specs.Opening.{OpensWithin}
 use Rattle.zirmegat.specs.Sealed.{IsPut}
-use Rattle.zirmegat.specs.Surviving.{notice_code, reported_code}
+use Rattle.zirmegat.specs.Codes.{bundle_code, notice_code, reported_code}
 
 -- a link, what it keeps for its pace, and what it has in common with the others of its game
 pub record Joined : Type 0 where
@@ -143,16 +142,6 @@ Forgets player n k = (k.link ≡ forgotten player n.link) × (k.pace ≡ n.pace)
 abbrev pub GivesUpIn : ℕ → Joined → Joined → GivenUp → Type 0
 GivesUpIn player n k answer = GivesUpPeer player n.link k.link answer × (k.pace ≡ n.pace) × StaysOf n k
 
-abbrev pub bundle_code : BundleFault → ℕ
-bundle_code BundleFault.Short = 1
-bundle_code BundleFault.Long = 2
-bundle_code BundleFault.Suite = 3
-bundle_code BundleFault.Kind = 4
-bundle_code BundleFault.Game = 5
-bundle_code BundleFault.Receiver = 6
-bundle_code BundleFault.Tag = 7
-bundle_code BundleFault.Form = 8
-
 -- bytes that are no datagram are told with the number of their fault; 0 is for no link
 abbrev pub unopened : ℕ → ReceivedAnswer
 unopened reason = record { code = 2; reason = reason; player = 0; started = 0 }
@@ -205,30 +194,24 @@ abbrev pub presence_of : ℕ → Linked → Presence
 presence_of player link =
     if is_peer link.node player then (link.peers player).presence else Presence.Unknown
 
+-- a line of these numbers
+abbrev pub line_at : ℕ → ℕ → ℕ → ℕ → ℕ → ℕ → ℤ → ℤ → LineAnswer
+line_at known came lost repeated too_old missing_there lead lead_there =
+    record {
+      known = known;
+      came = came;
+      lost = lost;
+      repeated = repeated;
+      too_old = too_old;
+      missing_there = missing_there;
+      lead = lead;
+      lead_there = lead_there;
+    }
+
 -- what is known of the line to a player
 abbrev pub line_told : Option Figures → LineAnswer
-line_told (Some figures) =
-    record {
-      known = 1;
-      came = figures.came;
-      lost = figures.lost;
-      repeated = figures.repeated;
-      too_old = figures.too_old;
-      missing_there = figures.missing_there;
-      lead = figures.lead;
-      lead_there = figures.lead_there;
-    }
-line_told None =
-    record {
-      known = 0;
-      came = 0;
-      lost = 0;
-      repeated = 0;
-      too_old = 0;
-      missing_there = 0;
-      lead = pos 0;
-      lead_there = pos 0;
-    }
+line_told (Some f) = line_at 1 f.came f.lost f.repeated f.too_old f.missing_there f.lead f.lead_there
+line_told None = line_at 0 0 0 0 0 0 (pos 0) (pos 0)
 
 abbrev pub figures_at : ℕ → Joined → Option Figures
 figures_at player n =

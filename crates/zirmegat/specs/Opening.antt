@@ -10,6 +10,7 @@ use Rattle.dn_lockstep.specs.Opening.{IsAdmittedWithin, limits_within, whose_wit
 use Rattle.dn_lockstep.specs.Represents.{Represents}
 use Rattle.zirmegat.specs.declared.config.NodeConfig.{NodeConfig}
 use Rattle.zirmegat.specs.declared.config.GameSettings.{GameSettings}
+use Rattle.zirmegat.specs.Codes.{settings_code, fault_code}
 
 -- flags of C: 0 is no
 abbrev pub is_set : ℕ → Bool
@@ -27,21 +28,6 @@ IsChosen config (Err fault) = (config.me ≡ 0) × IsCheckedAs (choice_in config
 abbrev pub config_of : NodeConfig → Option Settings → Config
 config_of c settings =
     record { players = c.players; me = c.me; extra = is_set c.extra; limit = c.limit; settings = settings }
-
-abbrev pub settings_code : SettingsFault → ℕ
-settings_code SettingsFault.Skill = 6
-settings_code SettingsFault.Deathmatch = 7
-settings_code SettingsFault.Episode = 8
-settings_code SettingsFault.Map = 9
-
--- 3 is never answered: player 0 always has settings here, and no other player has
-abbrev pub fault_code : NodeFault → ℕ
-fault_code NodeFault.Players = 1
-fault_code NodeFault.Me = 2
-fault_code NodeFault.Key = 3
-fault_code NodeFault.Limit = 4
-fault_code NodeFault.Memory = 5
-fault_code NodeFault.Ahead = 10
 
 -- a node with no history
 abbrev pub IsFresh : Config → ℕ → Contents → Type 0

@@ -7,7 +7,6 @@ use Rattle.dn_lockstep.specs.Contents.{Contents}
 use Rattle.dn_lockstep.specs.Near.{IsFair}
 use Rattle.dn_lockstep.specs.Sent.{sent_to}
 use Rattle.dn_lockstep.specs.Steps.{Tells}
-use Rattle.dn_seal.specs.declared.opened.SealFault.{SealFault}
 use Rattle.dn_seal.specs.declared.seal.Seal.{Seal}
 use Rattle.dn_open.specs.declared.sealed.SealedLockstep.{SealedLockstep}
 use Rattle.dn_open.specs.declared.arrived.Arrived.{Arrived}
@@ -17,6 +16,7 @@ use Rattle.zirmegat.specs.declared.answers.HeardAnswer.{HeardAnswer}
 use Rattle.zirmegat.specs.declared.config.NodeConfig.{NodeConfig}
 use Rattle.zirmegat.specs.declared.sealed_handle.SealedHandle.{SealedHandle}
 use Rattle.zirmegat.specs.Answers.{heard_told}
+use Rattle.zirmegat.specs.Codes.{seal_code}
 use Rattle.zirmegat.specs.Opening.{OpensWithin}
 
 -- a lockstep, and what it has in common with the others of its game
@@ -34,6 +34,10 @@ sealed_of h = if h.live then option_map locked_of h.node else None
 -- its lockstep takes a step, and its seal stays
 abbrev pub Keeps : (Contents → Contents → Type 0) → Locked → Locked → Type 0
 Keeps Step n k = Step n.lockstep k.lockstep × (k.seal ≡ n.seal)
+
+-- the same of a step with an answer
+abbrev pub KeepsBy : {A : Type 0} → (Contents → Contents → A → Type 0) → Locked → Locked → A → Type 0
+KeepsBy Step n k answer = Keeps (λ old new. Step old new answer) n k
 
 -- its lockstep is made by this configuration in this window, or there is none, and it has this seal
 abbrev pub OpensSealed : NodeConfig → ℕ → Seal → ℕ → Option Locked → Type 0
@@ -57,16 +61,6 @@ SendsOut to room written count n k =
 abbrev pub HearsOpen : List ℕ → Locked → Locked → Arrived → Type 0
 HearsOpen bytes n k arrived = HearsSealed n.seal bytes n.lockstep k.lockstep arrived
     × SparesSealed n.lockstep k.lockstep arrived × (k.seal ≡ n.seal)
-
-abbrev pub seal_code : SealFault → ℕ
-seal_code SealFault.Short = 1
-seal_code SealFault.Long = 2
-seal_code SealFault.Suite = 3
-seal_code SealFault.Kind = 4
-seal_code SealFault.Game = 5
-seal_code SealFault.Receiver = 6
-seal_code SealFault.Tag = 7
-seal_code SealFault.Request = 8
 
 -- what is heard is told as any node tells it
 abbrev pub arrived_told : Arrived → HeardAnswer

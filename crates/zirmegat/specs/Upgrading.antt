@@ -6,7 +6,7 @@ use Rattle.dn_demo.specs.Upgraded.{IsUpgraded}
 use Rattle.dn_demo.specs.declared.demo.DemoFault.{DemoFault}
 use Rattle.dn_demo.specs.declared.upgrading.UpgradeFault.{UpgradeFault}
 use Rattle.zirmegat.specs.declared.upgrading.UpgradeAnswer.{UpgradeAnswer}
-use Rattle.zirmegat.specs.Demos.{demo_code}
+use Rattle.zirmegat.specs.Codes.{demo_code}
 use Rattle.dn_packet.specs.Written.{IsWritten}
 
 abbrev pub upgrade_code : UpgradeFault → ℕ

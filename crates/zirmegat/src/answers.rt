@@ -1,8 +1,9 @@
 //! What the calls that move a game on answer, as plain numbers.
 
 ghost use Rattle.std.specs.Prelude.{◌≡◌};
+ghost use Rattle.zirmegat.specs.Codes.{seal_code};
 ghost use Rattle.zirmegat.specs.Answers.{made_told, heard_told, ran_told, move_told};
-ghost use Rattle.zirmegat.specs.Sealed.{arrived_told, seal_code};
+ghost use Rattle.zirmegat.specs.Sealed.{arrived_told};
 
 use dn_lockstep::{Heard, Made, Ran};
 use dn_open::Arrived;
@@ -159,6 +160,9 @@ pub struct MoveAnswer {
     /// 1 where there is a move, and else 0.
     pub present: u8,
 }
+
+/// The moves of the four seats in one tic.
+pub(crate) type Row = [MoveAnswer; 4];
 
 impl MoveAnswer {
     /// No move.

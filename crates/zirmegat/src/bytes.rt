@@ -2,6 +2,9 @@
 
 ghost use Rattle.std.specs.Prelude.{◌≤◌, length, take, drop};
 ghost use Rattle.dn_packet.specs.Written.{IsWritten};
+ghost use Rattle.zirmegat.specs.Sealed.{IsPut};
+
+use arrayvec::ArrayVec;
 
 /// Writes these bytes to the front of the room, and answers how many there are.
 pub(crate) fn write(bytes: &[u8], out: &mut [u8]) -> usize
@@ -19,4 +22,15 @@ pub(crate) fn write_from(bytes: &[u8], from: usize, out: &mut [u8]) -> usize
 {
     let rest = &bytes[from.min(bytes.len())..];
     write(&rest[..rest.len().min(out.len())], out)
+}
+
+/// Writes these bytes to the front of the room, and answers how many there are, and 0 where there are none.
+pub(crate) fn put<const N: usize>(bytes: Option<ArrayVec<u8, N>>, out: &mut [u8]) -> usize
+    requires { N ≤ length out.old }
+    ensures { IsPut bytes.entry out.old out.new result }
+{
+    match bytes {
+        Some(bytes) => write(bytes.as_slice(), out),
+        None => 0,
+    }
 }

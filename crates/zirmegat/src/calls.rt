@@ -1,27 +1,22 @@
 //! The calls that move a game on.
 
-ghost use Rattle.std.specs.Prelude.{◌≡◌, ◌<◌, ◌≤◌, ◌%◌, ◌^◌, Bool, List, length, map, Option, None, is_some};
+ghost use Rattle.std.specs.Prelude.{◌≡◌, ◌<◌, ◌≤◌, ◌%◌, ◌^◌, length, map, Option, None, is_some};
 ghost use Rattle.std.specs.Option.{option_map};
-ghost use Rattle.dn_tic.specs.declared.command.Move.{Move as Step};
 ghost use Rattle.dn_tic.specs.declared.input.Input.TheVariants.{Pressed};
-ghost use Rattle.dn_setup.specs.Starts.{bit};
 ghost use Rattle.dn_machine.specs.Drops as drops;
-ghost use Rattle.dn_machine.specs.declared.answers.Made.{Made as Built};
-ghost use Rattle.dn_machine.specs.declared.answers.Heard.{Heard as Hearing};
 ghost use Rattle.dn_machine.specs.declared.answers.Heard.TheVariants as Heard;
-ghost use Rattle.dn_machine.specs.declared.answers.Ran.{Ran as Answer};
-ghost use Rattle.dn_machine.specs.declared.answers.Made.TheVariants as Made;
-ghost use Rattle.dn_machine.specs.declared.answers.Ran.TheVariants as Ran;
 ghost use Rattle.dn_lockstep.specs.declared.lockstep.aiming.Aim.{Aim as Aimed};
 ghost use Rattle.dn_lockstep.specs.Sent.{sent_to, aim_of};
 ghost use Rattle.dn_lockstep.specs.Giving.{gives};
 ghost use Rattle.dn_lockstep.specs.Runs.{told_by};
 ghost use Rattle.dn_lockstep.specs.Steps.{Tells};
+ghost use Rattle.zirmegat.specs.Asking.{Answers, AnswersMade, AnswersRan, AnswersQuit};
 ghost use Rattle.zirmegat.specs.Calls.{lockstep_of, Calls, Reads};
-ghost use Rattle.zirmegat.specs.Answers.{made_told, aim_told, heard_told, ran_told, move_told, row_told_over};
+ghost use Rattle.zirmegat.specs.Answers.{aim_told, heard_told, ran_told, move_told, row_told_over};
 ghost use Rattle.zirmegat.specs.Going.{Builds, Sends, Hears, Runs, Quits};
 
-use crate::answers::{HeardAnswer, MadeAnswer, MoveAnswer, RanAnswer};
+use crate::answers::{HeardAnswer, MadeAnswer, MoveAnswer, RanAnswer, Row};
+use crate::ask::ask;
 use crate::handle::LockstepHandle;
 use crate::read_answers::{AimAnswer, flag};
 use dn_lockstep::{Heard, Made, Ran};
@@ -32,15 +27,9 @@ use dn_tic::{Keys, Move};
 /// Builds the command of these keys for the next tic.
 #[unsafe(no_mangle)]
 pub extern "C" fn zmg_lockstep_build(node: &mut LockstepHandle, keys: u32) -> MadeAnswer
-    ensures { Calls (lockstep_of node.old) (lockstep_of node.new)
-        (λ n k. (made : Built) × (result ≡ made_told made)
-        × Builds (Pressed (keys % 2 ^ 18)) n k made)
-        (result ≡ made_told Made.NotPlaying) }
+    ensures { AnswersMade (Builds (Pressed (keys % 2 ^ 18))) (lockstep_of node.old) (lockstep_of node.new) result }
 {
-    match node.held() {
-        Some(held) => MadeAnswer::of(held.build(Keys::from_bits(keys))),
-        None => MadeAnswer::of(Made::NotPlaying),
-    }
+    ask!(node, held => MadeAnswer::of(held.build(Keys::from_bits(keys))), MadeAnswer::of(Made::NotPlaying))
 }
 
 /// The exact numbers of the packet that `zmg_lockstep_packet` would give now.
@@ -52,10 +41,7 @@ pub extern "C" fn zmg_lockstep_aim(node: &mut LockstepHandle, to: u8) -> AimAnsw
         × (is_some aim ≡ gives n to))
         (result ≡ aim_told None) }
 {
-    match node.held() {
-        Some(held) => AimAnswer::of(held.aim(to)),
-        None => AimAnswer::of(None),
-    }
+    ask!(node, held => AimAnswer::of(held.aim(to)), AimAnswer::of(None))
 }
 
 /// Writes the next packet to a player, and answers how many bytes it has, and 0 where there is none.
@@ -70,10 +56,7 @@ pub extern "C" fn zmg_lockstep_packet(node: &mut LockstepHandle, to: u8, out: &m
     if out.len() < MAX_DATAGRAM {
         return 0;
     }
-    match node.held() {
-        Some(held) => held.packet_to(to, out),
-        None => 0,
-    }
+    ask!(node, held => held.packet_to(to, out), 0)
 }
 
 /// Receives a datagram that came from player `from`. If the code is 0, the caller begins its world.
@@ -83,28 +66,18 @@ pub extern "C" fn zmg_lockstep_receive(
     from: u8,
     bytes: &[u8],
 ) -> HeardAnswer
-    ensures { Calls (lockstep_of node.old) (lockstep_of node.new)
-        (λ n k. (heard : Hearing) × (result ≡ heard_told heard)
-        × Hears from bytes.now n k heard)
-        (result ≡ heard_told (Heard.Dropped drops.not_playing)) }
+    ensures { Answers heard_told (heard_told (Heard.Dropped drops.not_playing)) (Hears from bytes.now)
+        (lockstep_of node.old) (lockstep_of node.new) result }
 {
-    match node.held() {
-        Some(held) => HeardAnswer::of(held.receive(from, bytes)),
-        None => HeardAnswer::of(Heard::Dropped(Dropped::NotPlaying as u8)),
-    }
+    ask!(node, held => HeardAnswer::of(held.receive(from, bytes)), HeardAnswer::of(Heard::Dropped(Dropped::NotPlaying as u8)))
 }
 
 /// Ends the node, and answers 1 where it had not ended.
 #[unsafe(no_mangle)]
 pub extern "C" fn zmg_lockstep_quit(node: &mut LockstepHandle) -> u32
-    ensures { Calls (lockstep_of node.old) (lockstep_of node.new)
-        (λ n k. (quit : Bool) × (result ≡ bit quit) × Quits n k quit)
-        (result ≡ 0) }
+    ensures { AnswersQuit Quits (lockstep_of node.old) (lockstep_of node.new) result }
 {
-    match node.held() {
-        Some(held) => flag(held.quit()),
-        None => 0,
-    }
+    ask!(node, held => flag(held.quit()), 0)
 }
 
 /// Writes a move over an empty one.
@@ -120,7 +93,7 @@ fn tell_move(answer: &mut MoveAnswer, step: Option<Move>)
 /// Writes four moves. It is not inlined, since the compiler would otherwise load all of them before it stores
 /// one.
 #[inline(never)]
-fn tell_moves(row: &mut [MoveAnswer; 4], moves: &[Option<Move>; 4])
+fn tell_moves(row: &mut Row, moves: &[Option<Move>; 4])
     ensures { row.new ≡ map move_told moves.now }
 {
     *row = [MoveAnswer::NONE; 4];
@@ -131,7 +104,7 @@ fn tell_moves(row: &mut [MoveAnswer; 4], moves: &[Option<Move>; 4])
 }
 
 /// Writes the moves of a row, if there is one.
-pub(crate) fn tell_row(row: &mut [MoveAnswer; 4], moves: Option<[Option<Move>; 4]>)
+pub(crate) fn tell_row(row: &mut Row, moves: Option<[Option<Move>; 4]>)
     ensures { row.new ≡ row_told_over row.old moves }
 {
     if let Some(moves) = moves {
@@ -139,13 +112,15 @@ pub(crate) fn tell_row(row: &mut [MoveAnswer; 4], moves: Option<[Option<Move>; 4
     }
 }
 
-/// Writes the moves of a tic, if it was run.
-pub(crate) fn tell_run(row: &mut [MoveAnswer; 4], ran: Ran, moves: &[Option<Move>; 4])
-    ensures { row.new ≡ row_told_over row.old (told_by ran moves.now) }
+/// Answers for a run, and writes the moves of the tic, if it was run.
+pub(crate) fn tell_run(row: &mut Row, ran: Ran, moves: &[Option<Move>; 4]) -> RanAnswer
+    ensures row { row.new ≡ row_told_over row.old (told_by ran moves.now) }
+    ensures ran { result ≡ ran_told ran }
 {
     if let Ran::Ran(_) = ran {
         tell_moves(row, moves);
     }
+    RanAnswer::of(ran)
 }
 
 /// Runs the next tic by the four players' marks in the caller's world as it stands. Where it was run, `row`
@@ -154,21 +129,13 @@ pub(crate) fn tell_run(row: &mut [MoveAnswer; 4], ran: Ran, moves: &[Option<Move
 pub extern "C" fn zmg_lockstep_run(
     node: &mut LockstepHandle,
     marks: &[i16; 4],
-    row: &mut [MoveAnswer; 4],
+    row: &mut Row,
 ) -> RanAnswer
-    ensures { Calls (lockstep_of node.old) (lockstep_of node.new)
-        (λ n k. (ran : Answer) × (moves : List (Option Step))
-        × (result ≡ ran_told ran) × (row.new ≡ row_told_over row.old (told_by ran moves))
-        × Runs marks.now n k ran (told_by ran moves))
-        ((result ≡ ran_told Ran.NotPlaying) × (row.new ≡ row.old)) }
+    ensures { AnswersRan (Runs marks.now) (lockstep_of node.old) (lockstep_of node.new) row.old row.new result }
 {
-    match node.held() {
-        Some(held) => {
-            let mut moves = [None; 4];
-            let ran = held.run_into(marks, &mut moves);
-            tell_run(row, ran, &moves);
-            RanAnswer::of(ran)
-        }
-        None => RanAnswer::of(Ran::NotPlaying),
-    }
+    ask!(node, held => {
+        let mut moves = [None; 4];
+        let ran = held.run_into(marks, &mut moves);
+        tell_run(row, ran, &moves)
+    }, RanAnswer::of(Ran::NotPlaying))
 }

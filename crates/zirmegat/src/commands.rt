@@ -4,14 +4,13 @@ ghost use Rattle.std.specs.Prelude.{◌≡◌, Bool, Option, None};
 ghost use Rattle.dn_tic.specs.declared.command.TicCmd.{TicCmd as Cmd};
 ghost use Rattle.dn_tic.specs.declared.input.Input.TheVariants.{Given};
 ghost use Rattle.dn_setup.specs.Starts.{bit};
-ghost use Rattle.dn_machine.specs.declared.answers.Made.{Made as Built};
-ghost use Rattle.dn_machine.specs.declared.answers.Made.TheVariants as Made;
-ghost use Rattle.zirmegat.specs.Calls.{lockstep_of, Calls, Reads};
-ghost use Rattle.zirmegat.specs.Answers.{made_told};
-ghost use Rattle.zirmegat.specs.Commands.{given_in, known_told, CanBuild, TellsCommand};
+ghost use Rattle.zirmegat.specs.Asking.{AnswersMade};
 ghost use Rattle.zirmegat.specs.Going.{Builds};
+ghost use Rattle.zirmegat.specs.Commands.{given_in, known_told, CanBuild, TellsCommand};
+ghost use Rattle.zirmegat.specs.Calls.{lockstep_of, Reads};
 
 use crate::answers::MadeAnswer;
+use crate::ask::ask;
 use crate::handle::LockstepHandle;
 use crate::packets::CommandFields;
 use crate::read_answers::flag;
@@ -59,15 +58,9 @@ pub extern "C" fn zmg_lockstep_give(
     node: &mut LockstepHandle,
     command: &CommandFields,
 ) -> MadeAnswer
-    ensures { Calls (lockstep_of node.old) (lockstep_of node.new)
-        (λ n k. (made : Built) × (result ≡ made_told made)
-        × Builds (Given (given_in command.now)) n k made)
-        (result ≡ made_told Made.NotPlaying) }
+    ensures { AnswersMade (Builds (Given (given_in command.now))) (lockstep_of node.old) (lockstep_of node.new) result }
 {
-    match node.held() {
-        Some(held) => MadeAnswer::of(held.give(given(command))),
-        None => MadeAnswer::of(Made::NotPlaying),
-    }
+    ask!(node, held => MadeAnswer::of(held.give(given(command))), MadeAnswer::of(Made::NotPlaying))
 }
 
 /// 1 where `zmg_lockstep_build` and `zmg_lockstep_give` would make a command now, and else 0.
@@ -76,10 +69,7 @@ pub extern "C" fn zmg_lockstep_can_build(node: &mut LockstepHandle) -> u32
     ensures { Reads (lockstep_of node.old) (lockstep_of node.new)
         (λ n. (can : Bool) × (result ≡ bit can) × CanBuild n can) (result ≡ 0) }
 {
-    match node.held() {
-        Some(held) => flag(held.can_build()),
-        None => 0,
-    }
+    ask!(node, held => flag(held.can_build()), 0)
 }
 
 /// A player's command for a tic: one of the last that the node keeps of the player, and so that of the next tic
@@ -94,8 +84,5 @@ pub extern "C" fn zmg_lockstep_command(
         (λ n. (command : Option Cmd) × (result ≡ known_told command) × TellsCommand n player tic command)
         (result ≡ known_told None) }
 {
-    match node.held() {
-        Some(held) => KnownCommand::of(held.command(player, tic)),
-        None => KnownCommand::of(None),
-    }
+    ask!(node, held => KnownCommand::of(held.command(player, tic)), KnownCommand::of(None))
 }

@@ -6,7 +6,7 @@ ghost use Rattle.zirmegat.specs.Answers.{row_told_over};
 ghost use Rattle.zirmegat.specs.Calls.{Calls, Reads};
 ghost use Rattle.zirmegat.specs.Demos.{demo_of, blank, reading_told, row_by, no_demo, IsPushed, IsReadOut};
 
-use crate::answers::MoveAnswer;
+use crate::answers::Row;
 use crate::calls::tell_row;
 use crate::demo_answers::DemoAnswer;
 use crate::demo_handle::DemoHandle;
@@ -16,6 +16,20 @@ use std::alloc::Global;
 
 /// The handle holds no reader.
 const NONE: u32 = 9;
+
+/// What the reader answers, which is put back; or else this, where the handle holds none.
+macro_rules! with_reader {
+    ($demo:ident, $alloc:ident, $held:ident => $answer:expr, $none:expr) => {
+        match $demo.take($alloc) {
+            Some(mut $held) => {
+                let answer = $answer;
+                *$demo = DemoHandle::of($held);
+                answer
+            }
+            None => $none,
+        }
+    };
+}
 
 /// Makes a reader in the handle, which gives up the one that it held: 0, or 5 where there is no memory.
 #[unsafe(no_mangle)]
@@ -48,14 +62,7 @@ pub extern "C" fn zmg_demo_push(alloc: Global, demo: &mut DemoHandle, bytes: &[u
     ensures { Calls (demo_of demo.old) (demo_of demo.new)
         (λ r s. IsPushed bytes.now r s result) (result ≡ 9) }
 {
-    match demo.take(alloc) {
-        Some(mut held) => {
-            let code = held.push(bytes);
-            *demo = DemoHandle::of(held);
-            code
-        }
-        None => NONE,
-    }
+    with_reader!(demo, alloc, held => held.push(bytes), NONE)
 }
 
 /// Reads the bytes that came: 0, or why they are no demo, after which the reader has no bytes: 1 fewer
@@ -65,14 +72,7 @@ pub extern "C" fn zmg_demo_read(alloc: Global, demo: &mut DemoHandle) -> u32
     ensures reads { Calls (demo_of demo.old) (demo_of demo.new) (λ r s. IsReadOut r s result) (result ≡ 9) }
     ensures no_memory { result ≢ 5 }
 {
-    match demo.take(alloc) {
-        Some(mut held) => {
-            let code = held.read(alloc);
-            *demo = DemoHandle::of(held);
-            code
-        }
-        None => NONE,
-    }
+    with_reader!(demo, alloc, held => held.read(alloc), NONE)
 }
 
 /// What a demo that was read has beside its rows.
@@ -80,14 +80,7 @@ pub extern "C" fn zmg_demo_read(alloc: Global, demo: &mut DemoHandle) -> u32
 pub extern "C" fn zmg_demo_tell(alloc: Global, demo: &mut DemoHandle) -> DemoAnswer
     ensures { Reads (demo_of demo.old) (demo_of demo.new) (λ r. result ≡ reading_told r) (result ≡ no_demo) }
 {
-    match demo.take(alloc) {
-        Some(held) => {
-            let told = held.told();
-            *demo = DemoHandle::of(held);
-            told
-        }
-        None => DemoAnswer::NONE,
-    }
+    with_reader!(demo, alloc, held => held.told(), DemoAnswer::NONE)
 }
 
 /// Tells the moves of a tic, counted from 0: 1, or 0 where the demo has no such tic, which leaves `row`
@@ -97,7 +90,7 @@ pub extern "C" fn zmg_demo_row(
     alloc: Global,
     demo: &mut DemoHandle,
     tic: usize,
-    row: &mut [MoveAnswer; 4],
+    row: &mut Row,
 ) -> u32
     ensures { Reads (demo_of demo.old) (demo_of demo.new)
         (λ r. (result ≡ bit (is_some (row_by tic r))) × (row.new ≡ row_told_over row.old (row_by tic r)))

@@ -7,6 +7,7 @@
 #![tactic(auto)]
 
 mod answers;
+mod ask;
 mod bytes;
 mod calls;
 mod commands;
@@ -29,6 +30,7 @@ mod packets;
 mod read_answers;
 mod reader;
 mod readers;
+mod reading;
 mod report_answers;
 mod sealed_calls;
 mod sealed_handle;

@@ -2,7 +2,8 @@
 
 ghost use Rattle.std.specs.Prelude.{◌≡◌};
 ghost use Rattle.dn_link.specs.declared.presence.Presence.TheVariants.{Different};
-ghost use Rattle.zirmegat.specs.Links.{bundle_code, line_told, no_host, owed_told, presence_at, presence_told, received_told, unopened};
+ghost use Rattle.zirmegat.specs.Codes.{bundle_code};
+ghost use Rattle.zirmegat.specs.Links.{line_told, no_host, owed_told, presence_at, presence_told, received_told, unopened};
 
 use crate::answers::MadeAnswer;
 use crate::report_answers::{notice_code, reported_code};
@@ -43,44 +44,27 @@ impl ReceivedAnswer {
     pub(crate) fn of(received: Received) -> ReceivedAnswer
         ensures { result ≡ received_told received }
     {
-        match received {
-            Received::Heard { from, started } => ReceivedAnswer {
-                code: 0,
-                reason: 0,
-                player: from,
-                started: u8::from(started),
-            },
-            Received::Stranger(from) => ReceivedAnswer {
-                code: 1,
-                reason: 0,
-                player: from,
-                started: 0,
-            },
-            Received::Unreported(fault) => ReceivedAnswer {
-                code: 6,
-                reason: notice_code(fault),
-                player: 0,
-                started: 0,
-            },
-            Received::Reported { from, reported } => ReceivedAnswer {
-                code: 5,
-                reason: reported_code(reported),
-                player: from,
-                started: 0,
-            },
-            Received::GivenUp(from) => ReceivedAnswer {
-                code: 4,
-                reason: 0,
-                player: from,
-                started: 0,
-            },
-            Received::Different(from) => ReceivedAnswer {
-                code: 3,
-                reason: 0,
-                player: from,
-                started: 0,
-            },
-            Received::Unopened(fault) => ReceivedAnswer::unopened(bundle_code(fault)),
+        let (code, reason, player) = match received {
+            Received::Heard { from, started } => {
+                return ReceivedAnswer {
+                    code: 0,
+                    reason: 0,
+                    player: from,
+                    started: u8::from(started),
+                };
+            }
+            Received::Stranger(from) => (1, 0, from),
+            Received::Unopened(fault) => return ReceivedAnswer::unopened(bundle_code(fault)),
+            Received::Different(from) => (3, 0, from),
+            Received::GivenUp(from) => (4, 0, from),
+            Received::Reported { from, reported } => (5, reported_code(reported), from),
+            Received::Unreported(fault) => (6, notice_code(fault), 0),
+        };
+        ReceivedAnswer {
+            code,
+            reason,
+            player,
+            started: 0,
         }
     }
 }
@@ -205,30 +189,33 @@ pub struct LineAnswer {
 }
 
 impl LineAnswer {
+    /// There is no such line.
+    pub(crate) const NONE: LineAnswer = LineAnswer {
+        known: 0,
+        came: 0,
+        lost: 0,
+        repeated: 0,
+        too_old: 0,
+        missing_there: 0,
+        lead: 0,
+        lead_there: 0,
+    };
+
     pub(crate) fn of(figures: Option<Figures>) -> LineAnswer
         ensures { result ≡ line_told figures }
     {
-        match figures {
-            Some(figures) => LineAnswer {
-                known: 1,
-                came: figures.came,
-                lost: figures.lost,
-                repeated: figures.repeated,
-                too_old: figures.too_old,
-                missing_there: figures.missing_there,
-                lead: figures.lead,
-                lead_there: figures.lead_there,
-            },
-            None => LineAnswer {
-                known: 0,
-                came: 0,
-                lost: 0,
-                repeated: 0,
-                too_old: 0,
-                missing_there: 0,
-                lead: 0,
-                lead_there: 0,
-            },
+        let Some(figures) = figures else {
+            return LineAnswer::NONE;
+        };
+        LineAnswer {
+            known: 1,
+            came: figures.came,
+            lost: figures.lost,
+            repeated: figures.repeated,
+            too_old: figures.too_old,
+            missing_there: figures.missing_there,
+            lead: figures.lead,
+            lead_there: figures.lead_there,
         }
     }
 }

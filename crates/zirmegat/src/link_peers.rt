@@ -9,6 +9,7 @@ ghost use Rattle.dn_link.specs.declared.presence.Presence.TheVariants.{Unknown};
 ghost use Rattle.zirmegat.specs.Calls.{Reads};
 ghost use Rattle.zirmegat.specs.Links.{figures_at, line_told, link_of, presence_of, presence_told};
 
+use crate::ask::ask;
 use crate::link_answers::{LineAnswer, PresenceAnswer};
 use crate::link_handle::LinkHandle;
 use crate::read_answers::flag;
@@ -19,10 +20,7 @@ use dn_link::Presence;
 pub extern "C" fn zmg_link_may_leave(link: &mut LinkHandle) -> u32
     ensures { Reads (link_of link.old) (link_of link.new) (λ n. result ≡ bit (may_leave n.link)) (result ≡ 0) }
 {
-    match link.held() {
-        Some(held) => flag(held.may_leave()),
-        None => 0,
-    }
+    ask!(link, held => flag(held.may_leave()), 0)
 }
 
 /// 1 if a peer that plays reports that two or more of the last datagrams to it did not come, or came after newer
@@ -32,10 +30,7 @@ pub extern "C" fn zmg_link_wants_second(link: &mut LinkHandle, player: u8) -> u3
     ensures { Reads (link_of link.old) (link_of link.new)
         (λ n. result ≡ bit (wants_second n.link n.pace player)) (result ≡ 0) }
 {
-    match link.held() {
-        Some(held) => flag(held.wants_second(player)),
-        None => 0,
-    }
+    ask!(link, held => flag(held.wants_second(player)), 0)
 }
 
 /// Who is there.
@@ -44,10 +39,7 @@ pub extern "C" fn zmg_link_presence(link: &mut LinkHandle, player: u8) -> Presen
     ensures { Reads (link_of link.old) (link_of link.new)
         (λ n. result ≡ presence_told (presence_of player n.link)) (result ≡ presence_told Unknown) }
 {
-    match link.held() {
-        Some(held) => PresenceAnswer::of(held.presence(player)),
-        None => PresenceAnswer::of(Presence::Unknown),
-    }
+    ask!(link, held => PresenceAnswer::of(held.presence(player)), PresenceAnswer::of(Presence::Unknown))
 }
 
 /// What is known of the line to another player.
@@ -56,10 +48,7 @@ pub extern "C" fn zmg_link_line(link: &mut LinkHandle, player: u8) -> LineAnswer
     ensures { Reads (link_of link.old) (link_of link.new)
         (λ n. result ≡ line_told (figures_at player n)) (result ≡ line_told None) }
 {
-    match link.held() {
-        Some(held) => LineAnswer::of(held.figures(player)),
-        None => LineAnswer::of(None),
-    }
+    ask!(link, held => LineAnswer::of(held.figures(player)), LineAnswer::NONE)
 }
 
 /// How often bytes came that were no datagram to this player in this game.
@@ -67,10 +56,7 @@ pub extern "C" fn zmg_link_line(link: &mut LinkHandle, player: u8) -> LineAnswer
 pub extern "C" fn zmg_link_refused(link: &mut LinkHandle) -> u32
     ensures { Reads (link_of link.old) (link_of link.new) (λ n. result ≡ n.pace.refused) (result ≡ 0) }
 {
-    match link.held() {
-        Some(held) => held.refused(),
-        None => 0,
-    }
+    ask!(link, held => held.refused(), 0)
 }
 
 /// How many of its commands not every remaining player has acknowledged.
@@ -78,8 +64,5 @@ pub extern "C" fn zmg_link_refused(link: &mut LinkHandle) -> u32
 pub extern "C" fn zmg_link_unacknowledged(link: &mut LinkHandle) -> u32
     ensures { Reads (link_of link.old) (link_of link.new) (λ n. result ≡ unacknowledged n.link) (result ≡ 0) }
 {
-    match link.held() {
-        Some(held) => held.unacknowledged(),
-        None => 0,
-    }
+    ask!(link, held => held.unacknowledged(), 0)
 }

@@ -1,31 +1,28 @@
 //! The calls that read the lockstep of a link. For a handle that holds none they return 0.
 
-ghost use Rattle.std.specs.Prelude.{◌≡◌, pos, Bool, Option, Some, None, nat_lt, if◌then◌else◌, length, map, take, drop};
+ghost use Rattle.std.specs.Prelude.{◌≡◌, pos, Bool, Option, None, length, take, drop};
 ghost use Rattle.dn_tic.specs.declared.command.TicCmd.{TicCmd as Cmd};
 ghost use Rattle.dn_setup.specs.Starts.{bit};
-ghost use Rattle.dn_lockstep.specs.Contents.{end_in};
 ghost use Rattle.dn_lockstep.specs.Rings.{count_of};
 ghost use Rattle.zirmegat.specs.Calls.{Reads};
-ghost use Rattle.zirmegat.specs.Commands.{known_told, CanBuild, TellsCommand};
+ghost use Rattle.zirmegat.specs.Commands.{known_told, got_of, end_of, CanBuild, TellsCommand};
 ghost use Rattle.zirmegat.specs.Links.{link_of};
 ghost use Rattle.zirmegat.specs.Answers.{phase_told, phase_at, number_told, settings_told};
 ghost use Rattle.dn_packet.specs.Written.{IsWritten};
 
-use crate::bytes;
+use crate::ask::ask;
 use crate::commands::KnownCommand;
 use crate::config::KnownSettings;
 use crate::link_handle::LinkHandle;
 use crate::read_answers::{Number, PhaseAnswer, flag};
+use crate::{bytes, reading};
 
 /// The number of its player.
 #[unsafe(no_mangle)]
 pub extern "C" fn zmg_link_me(link: &mut LinkHandle) -> u32
     ensures { Reads (link_of link.old) (link_of link.new) (λ n. result ≡ n.link.node.me) (result ≡ 0) }
 {
-    match link.held() {
-        Some(held) => u32::from(held.lockstep().me()),
-        None => 0,
-    }
+    ask!(link, held => u32::from(reading::me(held)), 0)
 }
 
 /// How many players the game has.
@@ -33,10 +30,7 @@ pub extern "C" fn zmg_link_me(link: &mut LinkHandle) -> u32
 pub extern "C" fn zmg_link_players(link: &mut LinkHandle) -> u32
     ensures { Reads (link_of link.old) (link_of link.new) (λ n. result ≡ n.link.node.players) (result ≡ 0) }
 {
-    match link.held() {
-        Some(held) => u32::from(held.lockstep().players()),
-        None => 0,
-    }
+    ask!(link, held => u32::from(reading::players(held)), 0)
 }
 
 /// Where it stands.
@@ -45,10 +39,7 @@ pub extern "C" fn zmg_link_phase(link: &mut LinkHandle) -> PhaseAnswer
     ensures { Reads (link_of link.old) (link_of link.new)
         (λ n. result ≡ phase_told n.link.node.phase) (result ≡ phase_at 0 0 (pos 0) (pos 0) 0) }
 {
-    match link.held() {
-        Some(held) => PhaseAnswer::of(held.lockstep().phase()),
-        None => PhaseAnswer::NONE,
-    }
+    ask!(link, held => PhaseAnswer::of(reading::phase(held)), PhaseAnswer::NONE)
 }
 
 /// How many commands it built.
@@ -56,10 +47,7 @@ pub extern "C" fn zmg_link_phase(link: &mut LinkHandle) -> PhaseAnswer
 pub extern "C" fn zmg_link_made(link: &mut LinkHandle) -> u32
     ensures { Reads (link_of link.old) (link_of link.new) (λ n. result ≡ count_of n.link.node.rings n.link.node.me) (result ≡ 0) }
 {
-    match link.held() {
-        Some(held) => held.lockstep().made(),
-        None => 0,
-    }
+    ask!(link, held => reading::made(held), 0)
 }
 
 /// How many tics it ran.
@@ -67,23 +55,16 @@ pub extern "C" fn zmg_link_made(link: &mut LinkHandle) -> u32
 pub extern "C" fn zmg_link_ran(link: &mut LinkHandle) -> u32
     ensures { Reads (link_of link.old) (link_of link.new) (λ n. result ≡ n.link.node.ran) (result ≡ 0) }
 {
-    match link.held() {
-        Some(held) => held.lockstep().ran(),
-        None => 0,
-    }
+    ask!(link, held => reading::ran(held), 0)
 }
 
 /// How many commands it has of a player, where the game has the player.
 #[unsafe(no_mangle)]
 pub extern "C" fn zmg_link_got(link: &mut LinkHandle, player: u8) -> Number
     ensures { Reads (link_of link.old) (link_of link.new)
-        (λ n. result ≡ number_told (if nat_lt player n.link.node.players then Some (count_of n.link.node.rings player) else None))
-        (result ≡ number_told None) }
+        (λ n. result ≡ number_told (got_of n.link.node player)) (result ≡ number_told None) }
 {
-    match link.held() {
-        Some(held) => Number::of(held.lockstep().got(player)),
-        None => Number::of(None),
-    }
+    ask!(link, held => Number::of(reading::got(held, player)), Number::of(None))
 }
 
 /// The tic after a player's last command, where the node knows it. From that tic on no tic has a move of the
@@ -91,13 +72,9 @@ pub extern "C" fn zmg_link_got(link: &mut LinkHandle, player: u8) -> Number
 #[unsafe(no_mangle)]
 pub extern "C" fn zmg_link_end(link: &mut LinkHandle, player: u8) -> Number
     ensures { Reads (link_of link.old) (link_of link.new)
-        (λ n. result ≡ number_told (if nat_lt player n.link.node.players then end_in n.link.node player else None))
-        (result ≡ number_told None) }
+        (λ n. result ≡ number_told (end_of n.link.node player)) (result ≡ number_told None) }
 {
-    match link.held() {
-        Some(held) => Number::of(held.lockstep().end(player)),
-        None => Number::of(None),
-    }
+    ask!(link, held => Number::of(reading::end(held, player)), Number::of(None))
 }
 
 /// The choice of game, from the start on; player 0 knows it from the beginning.
@@ -106,10 +83,7 @@ pub extern "C" fn zmg_link_settings(link: &mut LinkHandle) -> KnownSettings
     ensures { Reads (link_of link.old) (link_of link.new)
         (λ n. result ≡ settings_told n.link.node.settings) (result ≡ settings_told None) }
 {
-    match link.held() {
-        Some(held) => KnownSettings::of(held.lockstep().settings()),
-        None => KnownSettings::of(None),
-    }
+    ask!(link, held => KnownSettings::of(reading::settings(held)), KnownSettings::of(None))
 }
 
 /// How many bytes its demo has so far.
@@ -117,10 +91,7 @@ pub extern "C" fn zmg_link_settings(link: &mut LinkHandle) -> KnownSettings
 pub extern "C" fn zmg_link_demo_length(link: &mut LinkHandle) -> usize
     ensures { Reads (link_of link.old) (link_of link.new) (λ n. result ≡ length n.link.node.demo.bytes) (result ≡ 0) }
 {
-    match link.held() {
-        Some(held) => held.lockstep().demo().len(),
-        None => 0,
-    }
+    ask!(link, held => reading::demo(held).len(), 0)
 }
 
 /// Copies its demo so far from this byte on, as many bytes as there is room for, and answers how many.
@@ -130,10 +101,7 @@ pub extern "C" fn zmg_link_demo(link: &mut LinkHandle, from: usize, out: &mut [u
         (λ n. IsWritten (take (length out.old) (drop from n.link.node.demo.bytes)) out.old out.new result)
         ((result ≡ 0) × (out.new ≡ out.old)) }
 {
-    match link.held() {
-        Some(held) => bytes::write_from(held.lockstep().demo(), from, out),
-        None => 0,
-    }
+    ask!(link, held => bytes::write_from(reading::demo(held), from, out), 0)
 }
 
 /// As `zmg_lockstep_can_build`.
@@ -142,10 +110,7 @@ pub extern "C" fn zmg_link_can_build(link: &mut LinkHandle) -> u32
     ensures { Reads (link_of link.old) (link_of link.new)
         (λ n. (can : Bool) × (result ≡ bit can) × CanBuild n.link.node can) (result ≡ 0) }
 {
-    match link.held() {
-        Some(held) => flag(held.lockstep().can_build()),
-        None => 0,
-    }
+    ask!(link, held => flag(reading::can_build(held)), 0)
 }
 
 /// As `zmg_lockstep_command`.
@@ -156,8 +121,5 @@ pub extern "C" fn zmg_link_command(link: &mut LinkHandle, player: u8, tic: u32) 
         × TellsCommand n.link.node player tic command)
         (result ≡ known_told None) }
 {
-    match link.held() {
-        Some(held) => KnownCommand::of(held.lockstep().command(player, tic)),
-        None => KnownCommand::of(None),
-    }
+    ask!(link, held => KnownCommand::of(reading::command(held, player, tic)), KnownCommand::of(None))
 }

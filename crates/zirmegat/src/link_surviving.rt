@@ -2,16 +2,17 @@
 
 ghost use Rattle.std.specs.Prelude.{◌≡◌, ◌<◌, ◌≤◌, None, length};
 ghost use Rattle.dn_setup.specs.Starts.{bit};
-ghost use Rattle.dn_link.specs.Linked.{has_given_up, surviving_of};
-ghost use Rattle.dn_link.specs.Surviving.{reports_gone};
 ghost use Rattle.dn_survivor.specs.Calls.{undecided_in};
-ghost use Rattle.dn_survivor.specs.declared.answers.GivenUp.{GivenUp as Answer};
 ghost use Rattle.dn_survivor.specs.declared.answers.GivenUp.TheVariants.{NotPlaying};
-ghost use Rattle.zirmegat.specs.Answers.{number_told};
-ghost use Rattle.zirmegat.specs.Calls.{Calls, Reads};
+ghost use Rattle.dn_link.specs.Surviving.{reports_gone};
+ghost use Rattle.dn_link.specs.Linked.{has_given_up, surviving_of};
 ghost use Rattle.zirmegat.specs.Links.{GivesReport, GivesUpIn, link_of};
+ghost use Rattle.zirmegat.specs.Answers.{number_told};
+ghost use Rattle.zirmegat.specs.Asking.{Answers};
+ghost use Rattle.zirmegat.specs.Calls.{Reads};
 ghost use Rattle.zirmegat.specs.Surviving.{give_up_told};
 
+use crate::ask::ask;
 use crate::bytes;
 use crate::give_up_answers::GiveUpAnswer;
 use crate::link_handle::LinkHandle;
@@ -22,17 +23,12 @@ use dn_survivor::GivenUp;
 const MAX_REPORT: usize = 425;
 
 /// Gives up a player who vanished, for good: no datagram goes to it, and nothing of it is taken. The others play
-/// on once all of them have given it up and have told each other what they have of it; until then a run waits.
+/// on once all of them have given it up and have told each other what they have of it; until then a run that lacks a command of it waits.
 #[unsafe(no_mangle)]
 pub extern "C" fn zmg_link_give_up(link: &mut LinkHandle, player: u8) -> GiveUpAnswer
-    ensures { Calls (link_of link.old) (link_of link.new)
-        (λ n k. (answer : Answer) × (result ≡ give_up_told answer) × GivesUpIn player n k answer)
-        (result ≡ give_up_told NotPlaying) }
+    ensures { Answers give_up_told (give_up_told NotPlaying) (GivesUpIn player) (link_of link.old) (link_of link.new) result }
 {
-    match link.held() {
-        Some(held) => GiveUpAnswer::of(held.give_up(player)),
-        None => GiveUpAnswer::of(GivenUp::NotPlaying),
-    }
+    ask!(link, held => GiveUpAnswer::of(held.give_up(player)), GiveUpAnswer::of(GivenUp::NotPlaying))
 }
 
 /// 1 where a player is given up, and else 0.
@@ -41,22 +37,16 @@ pub extern "C" fn zmg_link_has_given_up(link: &mut LinkHandle, player: u8) -> u3
     ensures { Reads (link_of link.old) (link_of link.new)
         (λ n. result ≡ bit (has_given_up n.link player)) (result ≡ 0) }
 {
-    match link.held() {
-        Some(held) => flag(held.has_given_up(player)),
-        None => 0,
-    }
+    ask!(link, held => flag(held.has_given_up(player)), 0)
 }
 
-/// 1 where the newest report of another player names a player as given up, and else 0.
+/// 1 where the newest report of another player, who is not given up, names a player as given up, and else 0.
 #[unsafe(no_mangle)]
 pub extern "C" fn zmg_link_reports_gone(link: &mut LinkHandle, teller: u8, player: u8) -> u32
     ensures { Reads (link_of link.old) (link_of link.new)
         (λ n. result ≡ bit (reports_gone n.link teller player)) (result ≡ 0) }
 {
-    match link.held() {
-        Some(held) => flag(held.reports_gone(teller, player)),
-        None => 0,
-    }
+    ask!(link, held => flag(held.reports_gone(teller, player)), 0)
 }
 
 /// Of the players whose report is missing the one with the lowest number. Ask it while somebody is given up.
@@ -85,11 +75,5 @@ pub extern "C" fn zmg_link_report(link: &mut LinkHandle, to: u8, out: &mut [u8])
     if out.len() < MAX_REPORT {
         return 0;
     }
-    let Some(held) = link.held() else {
-        return 0;
-    };
-    match held.report_datagram(to) {
-        Some(report) => bytes::write(report.as_slice(), out),
-        None => 0,
-    }
+    ask!(link, held => bytes::put(held.report_datagram(to), out), 0)
 }

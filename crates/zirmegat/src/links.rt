@@ -9,12 +9,12 @@ ghost use Rattle.dn_seal.specs.declared.suite.Suite.TheVariants.{Secret};
 ghost use Rattle.dn_others.specs.Keeping.{nothing_kept};
 ghost use Rattle.dn_link.specs.Linking.{identity_of, linked, new_peer, seal_of};
 ghost use Rattle.dn_link.specs.Pacing.{new_pace, pace_of};
-ghost use Rattle.zirmegat.specs.Opening.{IsFresh};
 ghost use Rattle.zirmegat.specs.Links.{OpensLink, link_of};
+ghost use Rattle.zirmegat.specs.Opening.{IsFresh};
 
 use crate::config::{NodeConfig, fault_code, settings_code};
 use crate::link_handle::LinkHandle;
-use crate::sealed_locksteps::is_unset;
+use crate::sealed_locksteps::{SharedSecret, is_unset};
 use dn_link::Link;
 use dn_lockstep::{Config, NodeFault};
 use dn_seal::Seal;
@@ -83,7 +83,7 @@ pub extern "C" fn zmg_link_new(
     link: &mut LinkHandle,
     config: &NodeConfig,
     ahead: u8,
-    secret: &[u8; 32],
+    secret: &SharedSecret,
     game: &[u8; 16],
     host: &[u8; 16],
 ) -> u32

@@ -32,6 +32,23 @@ pub struct CommandFields {
 }
 
 impl CommandFields {
+    /// No command.
+    pub(crate) const NONE: CommandFields = CommandFields {
+        turn: 0,
+        mark: 0,
+        forward: 0,
+        side: 0,
+        chat: 0,
+        buttons: 0,
+    };
+
+    /// The command at this place, and all 0 where there is none.
+    fn at(commands: &[TicCmd], place: usize) -> CommandFields
+        ensures { result ≡ command_told (slice_get commands.now place) }
+    {
+        CommandFields::of(commands.get(place).copied())
+    }
+
     /// A command, and all 0 for none.
     pub(crate) fn of(command: Option<TicCmd>) -> CommandFields
         ensures { result ≡ command_told command }
@@ -45,22 +62,8 @@ impl CommandFields {
                 chat: command.chat,
                 buttons: command.buttons,
             },
-            None => CommandFields {
-                turn: 0,
-                mark: 0,
-                forward: 0,
-                side: 0,
-                chat: 0,
-                buttons: 0,
-            },
+            None => CommandFields::NONE,
         }
-    }
-
-    /// The command at this place, and all 0 where there is none.
-    fn at(commands: &[TicCmd], place: usize) -> CommandFields
-        ensures { result ≡ command_told (slice_get commands.now place) }
-    {
-        CommandFields::of(commands.get(place).copied())
     }
 
     fn command(&self) -> TicCmd
@@ -95,6 +98,13 @@ pub struct PacketFields {
     pub commands: [CommandFields; MAX_COMMANDS],
 }
 
+/// The commands at these places.
+macro_rules! at_places {
+    ($commands:ident; $($place:literal)*) => {
+        [$(CommandFields::at($commands, $place)),*]
+    };
+}
+
 impl PacketFields {
     fn of(packet: &Packet) -> PacketFields
         ensures { result ≡ fields_of packet.now }
@@ -106,20 +116,7 @@ impl PacketFields {
             start: packet.start,
             player: packet.player,
             count: commands.len() as u8,
-            commands: [
-                CommandFields::at(commands, 0),
-                CommandFields::at(commands, 1),
-                CommandFields::at(commands, 2),
-                CommandFields::at(commands, 3),
-                CommandFields::at(commands, 4),
-                CommandFields::at(commands, 5),
-                CommandFields::at(commands, 6),
-                CommandFields::at(commands, 7),
-                CommandFields::at(commands, 8),
-                CommandFields::at(commands, 9),
-                CommandFields::at(commands, 10),
-                CommandFields::at(commands, 11),
-            ],
+            commands: at_places!(commands; 0 1 2 3 4 5 6 7 8 9 10 11),
         }
     }
 

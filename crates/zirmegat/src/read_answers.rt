@@ -121,6 +121,15 @@ pub struct AimAnswer {
 }
 
 impl AimAnswer {
+    /// There is nothing to give.
+    pub(crate) const NONE: AimAnswer = AimAnswer {
+        known: 0,
+        ask: Number { known: 0, value: 0 },
+        start: 0,
+        flags: 0,
+        count: 0,
+    };
+
     pub(crate) fn of(aim: Option<Aim>) -> AimAnswer
         ensures { result ≡ aim_told aim }
     {
@@ -132,13 +141,7 @@ impl AimAnswer {
                 flags: aim.flags,
                 count: aim.count,
             },
-            None => AimAnswer {
-                known: 0,
-                ask: Number::of(None),
-                start: 0,
-                flags: 0,
-                count: 0,
-            },
+            None => AimAnswer::NONE,
         }
     }
 }

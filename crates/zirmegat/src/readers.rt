@@ -1,12 +1,13 @@
 //! The calls that read a lockstep. For a handle that holds none they return 0.
 
-ghost use Rattle.std.specs.Prelude.{◌≡◌, pos, Some, None, nat_lt, if◌then◌else◌, length, take, drop};
-ghost use Rattle.dn_lockstep.specs.Contents.{end_in};
+ghost use Rattle.std.specs.Prelude.{◌≡◌, pos, None, length, take, drop};
 ghost use Rattle.dn_lockstep.specs.Rings.{count_of};
 ghost use Rattle.zirmegat.specs.Calls.{lockstep_of, Reads};
+ghost use Rattle.zirmegat.specs.Commands.{got_of, end_of};
 ghost use Rattle.zirmegat.specs.Answers.{phase_told, phase_at, number_told, settings_told};
 ghost use Rattle.dn_packet.specs.Written.{IsWritten};
 
+use crate::ask::ask;
 use crate::bytes;
 use crate::config::KnownSettings;
 use crate::handle::LockstepHandle;
@@ -17,10 +18,7 @@ use crate::read_answers::{Number, PhaseAnswer};
 pub extern "C" fn zmg_lockstep_me(node: &mut LockstepHandle) -> u32
     ensures { Reads (lockstep_of node.old) (lockstep_of node.new) (λ n. result ≡ n.me) (result ≡ 0) }
 {
-    match node.held() {
-        Some(held) => u32::from(held.me()),
-        None => 0,
-    }
+    ask!(node, held => u32::from(held.me()), 0)
 }
 
 /// How many players the game has.
@@ -28,10 +26,7 @@ pub extern "C" fn zmg_lockstep_me(node: &mut LockstepHandle) -> u32
 pub extern "C" fn zmg_lockstep_players(node: &mut LockstepHandle) -> u32
     ensures { Reads (lockstep_of node.old) (lockstep_of node.new) (λ n. result ≡ n.players) (result ≡ 0) }
 {
-    match node.held() {
-        Some(held) => u32::from(held.players()),
-        None => 0,
-    }
+    ask!(node, held => u32::from(held.players()), 0)
 }
 
 /// Where it stands.
@@ -40,10 +35,7 @@ pub extern "C" fn zmg_lockstep_phase(node: &mut LockstepHandle) -> PhaseAnswer
     ensures { Reads (lockstep_of node.old) (lockstep_of node.new)
         (λ n. result ≡ phase_told n.phase) (result ≡ phase_at 0 0 (pos 0) (pos 0) 0) }
 {
-    match node.held() {
-        Some(held) => PhaseAnswer::of(held.phase()),
-        None => PhaseAnswer::NONE,
-    }
+    ask!(node, held => PhaseAnswer::of(held.phase()), PhaseAnswer::NONE)
 }
 
 /// How many commands it built.
@@ -52,10 +44,7 @@ pub extern "C" fn zmg_lockstep_made(node: &mut LockstepHandle) -> u32
     ensures { Reads (lockstep_of node.old) (lockstep_of node.new)
         (λ n. result ≡ count_of n.rings n.me) (result ≡ 0) }
 {
-    match node.held() {
-        Some(held) => held.made(),
-        None => 0,
-    }
+    ask!(node, held => held.made(), 0)
 }
 
 /// How many tics it ran.
@@ -63,23 +52,16 @@ pub extern "C" fn zmg_lockstep_made(node: &mut LockstepHandle) -> u32
 pub extern "C" fn zmg_lockstep_ran(node: &mut LockstepHandle) -> u32
     ensures { Reads (lockstep_of node.old) (lockstep_of node.new) (λ n. result ≡ n.ran) (result ≡ 0) }
 {
-    match node.held() {
-        Some(held) => held.ran(),
-        None => 0,
-    }
+    ask!(node, held => held.ran(), 0)
 }
 
 /// How many commands it has of a player, where the game has the player.
 #[unsafe(no_mangle)]
 pub extern "C" fn zmg_lockstep_got(node: &mut LockstepHandle, player: u8) -> Number
     ensures { Reads (lockstep_of node.old) (lockstep_of node.new)
-        (λ n. result ≡ number_told (if nat_lt player n.players then Some (count_of n.rings player) else None))
-        (result ≡ number_told None) }
+        (λ n. result ≡ number_told (got_of n player)) (result ≡ number_told None) }
 {
-    match node.held() {
-        Some(held) => Number::of(held.got(player)),
-        None => Number::of(None),
-    }
+    ask!(node, held => Number::of(held.got(player)), Number::of(None))
 }
 
 /// The tic after a player's last command, where the node knows it. From that tic on no tic has a move of the
@@ -87,13 +69,9 @@ pub extern "C" fn zmg_lockstep_got(node: &mut LockstepHandle, player: u8) -> Num
 #[unsafe(no_mangle)]
 pub extern "C" fn zmg_lockstep_end(node: &mut LockstepHandle, player: u8) -> Number
     ensures { Reads (lockstep_of node.old) (lockstep_of node.new)
-        (λ n. result ≡ number_told (if nat_lt player n.players then end_in n player else None))
-        (result ≡ number_told None) }
+        (λ n. result ≡ number_told (end_of n player)) (result ≡ number_told None) }
 {
-    match node.held() {
-        Some(held) => Number::of(held.end(player)),
-        None => Number::of(None),
-    }
+    ask!(node, held => Number::of(held.end(player)), Number::of(None))
 }
 
 /// The choice of game, from the start on; player 0 knows it from the beginning.
@@ -102,10 +80,7 @@ pub extern "C" fn zmg_lockstep_settings(node: &mut LockstepHandle) -> KnownSetti
     ensures { Reads (lockstep_of node.old) (lockstep_of node.new)
         (λ n. result ≡ settings_told n.settings) (result ≡ settings_told None) }
 {
-    match node.held() {
-        Some(held) => KnownSettings::of(held.settings()),
-        None => KnownSettings::of(None),
-    }
+    ask!(node, held => KnownSettings::of(held.settings()), KnownSettings::of(None))
 }
 
 /// How many bytes its demo has so far.
@@ -114,10 +89,7 @@ pub extern "C" fn zmg_lockstep_demo_length(node: &mut LockstepHandle) -> usize
     ensures { Reads (lockstep_of node.old) (lockstep_of node.new)
         (λ n. result ≡ length n.demo.bytes) (result ≡ 0) }
 {
-    match node.held() {
-        Some(held) => held.demo().len(),
-        None => 0,
-    }
+    ask!(node, held => held.demo().len(), 0)
 }
 
 /// Copies its demo so far from this byte on, as many bytes as there is room for, and answers how many.
@@ -127,8 +99,5 @@ pub extern "C" fn zmg_lockstep_demo(node: &mut LockstepHandle, from: usize, out:
         (λ n. IsWritten (take (length out.old) (drop from n.demo.bytes)) out.old out.new result)
         ((result ≡ 0) × (out.new ≡ out.old)) }
 {
-    match node.held() {
-        Some(held) => bytes::write_from(held.demo(), from, out),
-        None => 0,
-    }
+    ask!(node, held => bytes::write_from(held.demo(), from, out), 0)
 }

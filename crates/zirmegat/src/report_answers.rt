@@ -1,7 +1,7 @@
 //! What a link makes of sealed reports, as plain numbers.
 
 ghost use Rattle.std.specs.Prelude.{◌≡◌};
-ghost use Rattle.zirmegat.specs.Surviving.{notice_code, reported_code};
+ghost use Rattle.zirmegat.specs.Codes.{notice_code, reported_code};
 
 use crate::give_up_answers::settled_code;
 use dn_notice::ReportDatagramFault;

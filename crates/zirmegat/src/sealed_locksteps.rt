@@ -54,8 +54,11 @@ fn open(alloc: Global, node: &mut SealedHandle, config: &NodeConfig, ahead: u8, 
     }
 }
 
+/// The secret that the players of a game share.
+pub(crate) type SharedSecret = [u8; 32];
+
 /// Whether a secret was never set: whether it is all zeros.
-pub(crate) fn is_unset(secret: &[u8; 32]) -> bool
+pub(crate) fn is_unset(secret: &SharedSecret) -> bool
     ensures { IsTrue result ↔ (secret.now ≡ no_secret) }
 {
     *secret == [0; 32]
@@ -70,7 +73,7 @@ pub extern "C" fn zmg_sealed_lockstep_new(
     node: &mut SealedHandle,
     config: &NodeConfig,
     ahead: u8,
-    secret: &[u8; 32],
+    secret: &SharedSecret,
     game: &[u8; 16],
 ) -> u32
     ensures set { secret.now ≢ no_secret

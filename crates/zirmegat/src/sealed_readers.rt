@@ -1,31 +1,28 @@
 //! The calls that read a sealed lockstep. For a handle that holds none they return 0.
 
-ghost use Rattle.std.specs.Prelude.{◌≡◌, pos, Bool, Option, Some, None, nat_lt, if◌then◌else◌, length, map, take, drop};
+ghost use Rattle.std.specs.Prelude.{◌≡◌, pos, Bool, Option, None, length, take, drop};
+ghost use Rattle.zirmegat.specs.Sealed.{sealed_of};
 ghost use Rattle.dn_tic.specs.declared.command.TicCmd.{TicCmd as Cmd};
 ghost use Rattle.dn_setup.specs.Starts.{bit};
-ghost use Rattle.dn_lockstep.specs.Contents.{end_in};
 ghost use Rattle.dn_lockstep.specs.Rings.{count_of};
 ghost use Rattle.zirmegat.specs.Calls.{Reads};
-ghost use Rattle.zirmegat.specs.Commands.{known_told, CanBuild, TellsCommand};
-ghost use Rattle.zirmegat.specs.Sealed.{sealed_of};
+ghost use Rattle.zirmegat.specs.Commands.{known_told, got_of, end_of, CanBuild, TellsCommand};
 ghost use Rattle.zirmegat.specs.Answers.{phase_told, phase_at, number_told, settings_told};
 ghost use Rattle.dn_packet.specs.Written.{IsWritten};
 
-use crate::bytes;
+use crate::ask::ask;
 use crate::commands::KnownCommand;
 use crate::config::KnownSettings;
 use crate::read_answers::{Number, PhaseAnswer, flag};
 use crate::sealed_handle::SealedHandle;
+use crate::{bytes, reading};
 
 /// The number of its player.
 #[unsafe(no_mangle)]
 pub extern "C" fn zmg_sealed_lockstep_me(node: &mut SealedHandle) -> u32
     ensures { Reads (sealed_of node.old) (sealed_of node.new) (λ n. result ≡ n.lockstep.me) (result ≡ 0) }
 {
-    match node.held() {
-        Some(held) => u32::from(held.lockstep().me()),
-        None => 0,
-    }
+    ask!(node, held => u32::from(reading::me(held)), 0)
 }
 
 /// How many players the game has.
@@ -33,10 +30,7 @@ pub extern "C" fn zmg_sealed_lockstep_me(node: &mut SealedHandle) -> u32
 pub extern "C" fn zmg_sealed_lockstep_players(node: &mut SealedHandle) -> u32
     ensures { Reads (sealed_of node.old) (sealed_of node.new) (λ n. result ≡ n.lockstep.players) (result ≡ 0) }
 {
-    match node.held() {
-        Some(held) => u32::from(held.lockstep().players()),
-        None => 0,
-    }
+    ask!(node, held => u32::from(reading::players(held)), 0)
 }
 
 /// Where it stands.
@@ -45,10 +39,7 @@ pub extern "C" fn zmg_sealed_lockstep_phase(node: &mut SealedHandle) -> PhaseAns
     ensures { Reads (sealed_of node.old) (sealed_of node.new)
         (λ n. result ≡ phase_told n.lockstep.phase) (result ≡ phase_at 0 0 (pos 0) (pos 0) 0) }
 {
-    match node.held() {
-        Some(held) => PhaseAnswer::of(held.lockstep().phase()),
-        None => PhaseAnswer::NONE,
-    }
+    ask!(node, held => PhaseAnswer::of(reading::phase(held)), PhaseAnswer::NONE)
 }
 
 /// How many commands it built.
@@ -56,10 +47,7 @@ pub extern "C" fn zmg_sealed_lockstep_phase(node: &mut SealedHandle) -> PhaseAns
 pub extern "C" fn zmg_sealed_lockstep_made(node: &mut SealedHandle) -> u32
     ensures { Reads (sealed_of node.old) (sealed_of node.new) (λ n. result ≡ count_of n.lockstep.rings n.lockstep.me) (result ≡ 0) }
 {
-    match node.held() {
-        Some(held) => held.lockstep().made(),
-        None => 0,
-    }
+    ask!(node, held => reading::made(held), 0)
 }
 
 /// How many tics it ran.
@@ -67,23 +55,16 @@ pub extern "C" fn zmg_sealed_lockstep_made(node: &mut SealedHandle) -> u32
 pub extern "C" fn zmg_sealed_lockstep_ran(node: &mut SealedHandle) -> u32
     ensures { Reads (sealed_of node.old) (sealed_of node.new) (λ n. result ≡ n.lockstep.ran) (result ≡ 0) }
 {
-    match node.held() {
-        Some(held) => held.lockstep().ran(),
-        None => 0,
-    }
+    ask!(node, held => reading::ran(held), 0)
 }
 
 /// How many commands it has of a player, where the game has the player.
 #[unsafe(no_mangle)]
 pub extern "C" fn zmg_sealed_lockstep_got(node: &mut SealedHandle, player: u8) -> Number
     ensures { Reads (sealed_of node.old) (sealed_of node.new)
-        (λ n. result ≡ number_told (if nat_lt player n.lockstep.players then Some (count_of n.lockstep.rings player) else None))
-        (result ≡ number_told None) }
+        (λ n. result ≡ number_told (got_of n.lockstep player)) (result ≡ number_told None) }
 {
-    match node.held() {
-        Some(held) => Number::of(held.lockstep().got(player)),
-        None => Number::of(None),
-    }
+    ask!(node, held => Number::of(reading::got(held, player)), Number::of(None))
 }
 
 /// The tic after a player's last command, where the node knows it. From that tic on no tic has a move of the
@@ -91,13 +72,9 @@ pub extern "C" fn zmg_sealed_lockstep_got(node: &mut SealedHandle, player: u8) -
 #[unsafe(no_mangle)]
 pub extern "C" fn zmg_sealed_lockstep_end(node: &mut SealedHandle, player: u8) -> Number
     ensures { Reads (sealed_of node.old) (sealed_of node.new)
-        (λ n. result ≡ number_told (if nat_lt player n.lockstep.players then end_in n.lockstep player else None))
-        (result ≡ number_told None) }
+        (λ n. result ≡ number_told (end_of n.lockstep player)) (result ≡ number_told None) }
 {
-    match node.held() {
-        Some(held) => Number::of(held.lockstep().end(player)),
-        None => Number::of(None),
-    }
+    ask!(node, held => Number::of(reading::end(held, player)), Number::of(None))
 }
 
 /// The choice of game, from the start on; player 0 knows it from the beginning.
@@ -106,10 +83,7 @@ pub extern "C" fn zmg_sealed_lockstep_settings(node: &mut SealedHandle) -> Known
     ensures { Reads (sealed_of node.old) (sealed_of node.new)
         (λ n. result ≡ settings_told n.lockstep.settings) (result ≡ settings_told None) }
 {
-    match node.held() {
-        Some(held) => KnownSettings::of(held.lockstep().settings()),
-        None => KnownSettings::of(None),
-    }
+    ask!(node, held => KnownSettings::of(reading::settings(held)), KnownSettings::of(None))
 }
 
 /// How many bytes its demo has so far.
@@ -117,10 +91,7 @@ pub extern "C" fn zmg_sealed_lockstep_settings(node: &mut SealedHandle) -> Known
 pub extern "C" fn zmg_sealed_lockstep_demo_length(node: &mut SealedHandle) -> usize
     ensures { Reads (sealed_of node.old) (sealed_of node.new) (λ n. result ≡ length n.lockstep.demo.bytes) (result ≡ 0) }
 {
-    match node.held() {
-        Some(held) => held.lockstep().demo().len(),
-        None => 0,
-    }
+    ask!(node, held => reading::demo(held).len(), 0)
 }
 
 /// Copies its demo so far from this byte on, as many bytes as there is room for, and answers how many.
@@ -134,10 +105,7 @@ pub extern "C" fn zmg_sealed_lockstep_demo(
         (λ n. IsWritten (take (length out.old) (drop from n.lockstep.demo.bytes)) out.old out.new result)
         ((result ≡ 0) × (out.new ≡ out.old)) }
 {
-    match node.held() {
-        Some(held) => bytes::write_from(held.lockstep().demo(), from, out),
-        None => 0,
-    }
+    ask!(node, held => bytes::write_from(reading::demo(held), from, out), 0)
 }
 
 /// As `zmg_lockstep_can_build`.
@@ -146,10 +114,7 @@ pub extern "C" fn zmg_sealed_lockstep_can_build(node: &mut SealedHandle) -> u32
     ensures { Reads (sealed_of node.old) (sealed_of node.new)
         (λ n. (can : Bool) × (result ≡ bit can) × CanBuild n.lockstep can) (result ≡ 0) }
 {
-    match node.held() {
-        Some(held) => flag(held.lockstep().can_build()),
-        None => 0,
-    }
+    ask!(node, held => flag(reading::can_build(held)), 0)
 }
 
 /// As `zmg_lockstep_command`.
@@ -164,8 +129,5 @@ pub extern "C" fn zmg_sealed_lockstep_command(
         × TellsCommand n.lockstep player tic command)
         (result ≡ known_told None) }
 {
-    match node.held() {
-        Some(held) => KnownCommand::of(held.lockstep().command(player, tic)),
-        None => KnownCommand::of(None),
-    }
+    ask!(node, held => KnownCommand::of(reading::command(held, player, tic)), KnownCommand::of(None))
 }

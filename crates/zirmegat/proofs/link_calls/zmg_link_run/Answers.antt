@@ -1,29 +1,14 @@
-use Rattle.zirmegat.proofs.Calling.{link_lent}
+use Rattle.zirmegat.specs.Links.{joined_of}
+use Rattle.zirmegat.proofs.Calling.{ran_lent, runs}
 use Rattle.zirmegat.proofs.link_calls.zmg_link_run.Goals as goal
 
 pub returns-in-Some : goal.returns-in-Some
 returns-in-Some c =
-    link_lent c.args.link.now c.in-Some.held.now c.run_into-ran.new.self _ _
-    c.in-Some.ensures.live c.in-Some.ensures.value (
+    ran_lent joined_of c.args.link.now.link c.in-Some.held.now c.run_into-ran.new.self _ _ c.run_into-ran.result c.run_into-ran.new.row
+    c.in-Some.ensures.live c.in-Some.ensures.value c.tell_run.ensures.ran c.tell_run.ensures.row (
       (
-        c.run_into-ran.result,
-        c.run_into-ran.new.row,
-        c.of.ensures,
-        c.tell_run.ensures,
-        (
-          λ whole. (
-            c.run_into-ran.ensures.step whole,
-            c.run_into-ran.ensures.further,
-            λ player e. (c.run_into-ran.ensures.waits player e).0,
-            λ e. (c.run_into-ran.ensures.idle e).0,
-          ),
-          (
-            c.run_into-ran.ensures.but,
-            c.run_into-ran.ensures.further,
-            λ player e. (c.run_into-ran.ensures.waits player e).0,
-            λ e. (c.run_into-ran.ensures.idle e).0,
-          ),
-        ),
+        λ whole. runs (c.run_into-ran.ensures.step whole) c.run_into-ran.ensures.further c.run_into-ran.ensures.waits c.run_into-ran.ensures.idle,
+        runs c.run_into-ran.ensures.but c.run_into-ran.ensures.further c.run_into-ran.ensures.waits c.run_into-ran.ensures.idle,
       ),
       c.run_into-ran.ensures.others,
       c.run_into-ran.ensures.peers,
