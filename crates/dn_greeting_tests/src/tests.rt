@@ -4,6 +4,7 @@ mod bytes;
 mod calls;
 mod cookies;
 mod joiners;
+mod malformed;
 mod seats;
 
 use dn_greeting::Address;

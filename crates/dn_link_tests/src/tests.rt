@@ -9,6 +9,7 @@ mod identities;
 mod links;
 mod lobby;
 mod pace;
+mod reports;
 mod successors;
 mod surviving;
 

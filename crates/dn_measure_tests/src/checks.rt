@@ -1,48 +1,14 @@
-//! What the tests of this crate compare and confirm, told by name where it fails. The macros of `dn_shared_tests`
-//! call these; they stand in each crate of tests, since a library has no function that may end the process.
+//! How a test of this crate ends that has failed.
 
-ghost use Rattle.std.specs.Prelude.{◌≡◌, Ok};
-
-use std::fmt::Debug;
+use dn_shared_tests::checks::Ends;
+use std::fmt::Display;
 use std::process::Abort;
 
-/// Compares what a test found with what it wants. Where they differ, what was asked is told.
-pub(crate) fn compare<T: PartialEq + Debug + Drop>(
-    rt: &impl Abort,
-    what: &str,
-    found: T,
-    wanted: T,
-) {
-    assert_eq!(rt; found, wanted, "{what}");
-}
+/// The process panics, with what the macros of `dn_shared_tests` tell of the check that failed.
+pub(crate) struct Panics;
 
-/// The same, and the row of its table is told.
-pub(crate) fn compare_in_row<T: PartialEq + Debug + Drop>(
-    rt: &impl Abort,
-    what: &str,
-    row: &impl Debug,
-    found: T,
-    wanted: T,
-) {
-    assert_eq!(rt; found, wanted, "{what}, row {row:?}");
-}
-
-/// Confirms a fact.
-pub(crate) fn confirm(rt: &impl Abort, what: &str, fact: bool) {
-    assert!(rt; fact, "{what}");
-}
-
-/// The same, and the row of its table is told.
-pub(crate) fn confirm_in_row(rt: &impl Abort, what: &str, row: &impl Debug, fact: bool) {
-    assert!(rt; fact, "{what}, row {row:?}");
-}
-
-/// What a call gives, which has to succeed.
-pub(crate) fn succeed<T, E>(rt: &impl Abort, what: &str, given: Result<T, E>) -> T
-    ensures { given ≡ Ok result }
-{
-    match given {
-        Ok(value) => value,
-        Err(_) => panic!(rt; "{what}"),
+impl<R: Abort> Ends<R> for Panics {
+    fn end<D: Display + Drop>(rt: &R, told: D) -> ! {
+        rt.panic(told)
     }
 }

@@ -4,7 +4,7 @@ use dn_measure::{
     Arrivals, End, Felt, Lack, Measure, PeerStatus, Status, Summary, Told, carries, lacks_of,
     text_of_session, text_of_status, text_of_summary,
 };
-use dn_shared_tests::{holds, must, same};
+use dn_shared_tests::{holds, list, must, same};
 use std::alloc::Global;
 use std::process::Abort;
 
@@ -146,13 +146,9 @@ fn arrivals_are_counted_since_the_game_began(rt: HostRuntime) {
     same!(rt; now.since(&before), arrivals(100, 0));
     let (before, now) = (all_of(1, 2, 3), all_of(11, 22, 33));
     same!(rt; now.since(&before), all_of(10, 20, 30));
-    for (came, lost, loss) in [
-        (0, 0, 1_000),
-        (1, 0, 0),
-        (0, 1, 1_000),
-        (4_123, 412, 91),
-        (85, 15, 150),
-    ] {
+    for (came, lost, loss) in list! {
+        (0, 0, 1_000), (1, 0, 0), (0, 1, 1_000), (4_123, 412, 91), (85, 15, 150)
+    } {
         same!(rt; arrivals(came, lost).loss(), loss, (came, lost));
     }
 }
@@ -189,25 +185,21 @@ fn each_threshold_is_the_least_that_is_enough(rt: HostRuntime) {
     let rt = &rt;
     holds!(rt; is_enough(&JUST_ENOUGH));
     holds!(rt; lacks_of(&JUST_ENOUGH).is_empty());
-    let mut line = JUST_ENOUGH;
-    line.micros = 9_999_999;
-    lacks_one(rt, &line, Lack::Time);
-    let mut line = JUST_ENOUGH;
-    line.tics = 0;
-    lacks_one(rt, &line, Lack::Tics);
-    let mut line = JUST_ENOUGH;
-    line.tics = 2_069;
-    lacks_one(rt, &line, Lack::Rate);
+    for (line, lack) in list! {
+        (Summary { micros: 9_999_999, ..JUST_ENOUGH }, Lack::Time),
+        (Summary { tics: 0, ..JUST_ENOUGH }, Lack::Tics),
+        (Summary { tics: 2_069, ..JUST_ENOUGH }, Lack::Rate),
+        (Summary { gaps: 2, ..JUST_ENOUGH }, Lack::Calm),
+        (Summary { longest: 1_000_001, ..JUST_ENOUGH }, Lack::Pause)
+    } {
+        lacks_one(rt, &line, lack);
+    }
+    // Of the second minute the beginning is enough.
     let mut line = JUST_ENOUGH;
     line.gaps = 2;
-    lacks_one(rt, &line, Lack::Calm);
-    // Of the second minute the beginning is enough.
     line.tics = 2_071;
     line.micros = 60_000_001;
     holds!(rt; is_enough(&line));
-    let mut line = JUST_ENOUGH;
-    line.longest = 1_000_001;
-    lacks_one(rt, &line, Lack::Pause);
     for felt in [Felt::Within(251), Felt::Longer, Felt::Never] {
         let mut line = JUST_ENOUGH;
         line.most = felt;

@@ -1,20 +1,24 @@
 //! What the crates of tests share: comparing two values, confirming a fact, and taking what a call has to give,
-//! each told of by name where it fails. What they call stands in the module `checks` of each such crate.
+//! each told of by name where it fails.
 //!
 //! A test with these is proved at less cost than one with `assert_eq!`, `assert!` and `?` of its own. The
 //! first two are proved anew at each place, which takes several times as long as a call. At each `?` a test gives
 //! up all that it holds, and that is proved anew each time.
 #![tactic(auto)]
 
+pub mod checks;
+
 /// Compares two values, of which the first was found and the second is wanted; with a row of a table, that row is
 /// told too.
 #[macro_export]
 macro_rules! same {
     ($rt:expr; $found:expr, $wanted:expr) => {
-        crate::checks::compare($rt, stringify!($found), $found, $wanted)
+        $crate::checks::compare::<crate::checks::Panics, _, _>($rt, stringify!($found), $found, $wanted)
     };
     ($rt:expr; $found:expr, $wanted:expr, $row:expr) => {
-        crate::checks::compare_in_row($rt, stringify!($found), &$row, $found, $wanted)
+        $crate::checks::compare_in_row::<crate::checks::Panics, _, _, _>(
+            $rt, stringify!($found), &$row, $found, $wanted
+        )
     };
 }
 
@@ -22,10 +26,10 @@ macro_rules! same {
 #[macro_export]
 macro_rules! holds {
     ($rt:expr; $fact:expr) => {
-        crate::checks::confirm($rt, stringify!($fact), $fact)
+        $crate::checks::confirm::<crate::checks::Panics, _>($rt, stringify!($fact), $fact)
     };
     ($rt:expr; $fact:expr, $row:expr) => {
-        crate::checks::confirm_in_row($rt, stringify!($fact), &$row, $fact)
+        $crate::checks::confirm_in_row::<crate::checks::Panics, _, _>($rt, stringify!($fact), &$row, $fact)
     };
 }
 
@@ -33,7 +37,24 @@ macro_rules! holds {
 #[macro_export]
 macro_rules! must {
     ($rt:expr; $call:expr) => {
-        crate::checks::succeed($rt, stringify!($call), $call)
+        $crate::checks::succeed::<crate::checks::Panics, _, _, _>($rt, stringify!($call), $call)
+    };
+}
+
+/// What a call gives, if it was not refused memory. Where it was, it has to answer this fault, and that is told
+/// as `finds_no_memory` does.
+#[macro_export]
+macro_rules! granted {
+    ($rt:expr; $name:expr, $call:expr, $memory:expr) => {
+        $crate::checks::grant::<crate::checks::Panics, _, _, _>($rt, $name, $call, $memory)
+    };
+}
+
+/// A list whose lines stay as they are written: of short items several on a line, of wide ones one.
+#[macro_export]
+macro_rules! list {
+    ($($item:expr),*) => {
+        [$($item),*]
     };
 }
 
@@ -57,4 +78,12 @@ macro_rules! row {
 /// and wants each of these lines.
 pub fn finds_no_memory(rt: &impl Print, call: &str) {
     let _ = println!(rt; "no memory: {call}");
+}
+
+/// The bytes, with another at this place.
+pub fn changed<const SIZE: usize>(mut bytes: [u8; SIZE], place: usize, byte: u8) -> [u8; SIZE] {
+    if let Some(old) = bytes.get_mut(place) {
+        *old = byte;
+    }
+    bytes
 }

@@ -25,13 +25,16 @@ fn open(rt: &impl Abort, alloc: Global, players: u8, me: u8) -> Survivor {
 
 /// A survivor of a game of so many, whose window is so wide.
 fn open_ahead(rt: &impl Abort, alloc: Global, players: u8, me: u8, ahead: u8) -> Survivor {
-    let settings = must!(rt; Settings::new(2, 0, false, false, 1, 1));
+    let settings = match me {
+        0 => Some(must!(rt; Settings::new(2, 0, false, false, 1, 1))),
+        _ => None,
+    };
     let config = Config {
         players,
         me,
         extra: false,
         limit: 1024,
-        settings: if me == 0 { Some(settings) } else { None },
+        settings,
     };
     must!(rt; Survivor::new(alloc, config, ahead))
 }

@@ -22,7 +22,7 @@ use dn_game::{
     play_on, storm,
 };
 use dn_setup::{Settings, SettingsFault};
-use dn_shared_tests::same;
+use dn_shared_tests::{must, same};
 use dn_tic::{Command, Keys};
 use dn_world::{Walk, World};
 use std::alloc::{AllocError, Global};
@@ -105,6 +105,12 @@ fn walks(alloc: Global, count: usize) -> Result<Vec<Walk>, AllocError> {
 fn opened(alloc: Global, players: usize) -> Result<Game<Walk>, Fail> {
     let worlds = walks(alloc, players)?;
     Ok(Game::new(alloc, config(131_072)?, worlds)?)
+}
+
+/// A game of two with little room for demos, if there is memory for it.
+fn small_game(rt: &impl Abort, alloc: Global) -> Option<Game<Walk>> {
+    let worlds = walks(alloc, 2).ok()?;
+    Game::new(alloc, must!(rt; config(1_024)), worlds).ok()
 }
 
 fn build(node: u32, bits: u32) -> Event {

@@ -150,14 +150,11 @@ fn calls_have_these_bytes(rt: HostRuntime) {
 fn replies_have_these_bytes(rt: HostRuntime) {
     let rt = &rt;
     let sealed = greeter(Some(SECRET));
-    let four = Refused {
+    let refused = |refusal| Refused {
         mark: MARK,
-        refusal: Refusal::Players(4),
+        refusal,
     };
-    let full = Refused {
-        mark: MARK,
-        refusal: Refusal::Full,
-    };
+    let (four, full) = (refused(Refusal::Players(4)), refused(Refusal::Full));
     holds!(rt; seal_answer(&sealed, &answer()).as_slice() == ANSWER.as_slice());
     holds!(rt; open_answer(&sealed, &ANSWER) == Ok(answer()));
     holds!(rt; seal_refused(&sealed, &four).as_slice() == REFUSED.as_slice());
@@ -190,14 +187,8 @@ fn retries_have_these_bytes(rt: HostRuntime) {
 #[test]
 fn hints_have_these_bytes(rt: HostRuntime) {
     let rt = &rt;
-    let version = Hinted {
-        mark: MARK,
-        hint: Hint::Version(9),
-    };
-    let key = Hinted {
-        mark: MARK,
-        hint: Hint::Key,
-    };
+    let hinted = |hint| Hinted { mark: MARK, hint };
+    let (version, key) = (hinted(Hint::Version(9)), hinted(Hint::Key));
     holds!(rt; hinted_bytes(&version).as_slice() == HINTED.as_slice());
     holds!(rt; hinted_bytes(&key).as_slice() == OTHER_KEY.as_slice());
     holds!(rt; read_hinted(&HINTED) == Ok(version));
@@ -232,175 +223,4 @@ fn altered_calls_have_these_faults(rt: HostRuntime) {
     holds!(rt; open_call(&sealed, &CALL[..129]) == Err(GreetingFault::Length));
     holds!(rt; open_call(&sealed, &ANSWER) == Err(GreetingFault::What));
     holds!(rt; open_answer(&sealed, &CALL) == Err(GreetingFault::What));
-}
-
-/// Bytes of a greeting that differ from a right one, by their places, and the tag of it all.
-type Malformed = (&'static [(usize, u8)], [u8; 16]);
-
-/// The bytes of a greeting that differs so from one with this front.
-fn malformed(front: &[u8; 114], (changes, tag): &Malformed) -> [u8; 130] {
-    let mut bytes = [0; 130];
-    bytes[..114].copy_from_slice(front);
-    for (place, byte) in *changes {
-        if let Some(old) = bytes.get_mut(*place) {
-            *old = *byte;
-        }
-    }
-    bytes[114..].copy_from_slice(tag);
-    bytes
-}
-
-/// The front of a right call under the secret, for any seat of any game.
-const RIGHT_CALL: [u8; 114] = [
-    1, 4, 122, 105, 114, 109, 101, 103, 97, 116, 1, 1, 1, 2, 3, 4, 5, 6, 7, 8, 9, 10, 11, 12, 13,
-    14, 15, 16, 1, 0, 0, 0, 0, 0, 0, 0, 0, 0, 0, 0, 0, 0, 0, 0, 0, 0, 0, 0, 0, 0, 0, 0, 0, 0, 0, 0,
-    0, 0, 0, 0, 0, 0, 0, 0, 0, 0, 0, 0, 0, 0, 0, 0, 0, 0, 0, 0, 0, 0, 0, 0, 0, 0, 0, 0, 0, 0, 0, 0,
-    0, 0, 0, 0, 0, 0, 0, 0, 0, 0, 0, 0, 0, 0, 0, 0, 0, 0, 0, 0, 0, 0, 0, 0, 0, 0,
-];
-
-/// Calls for seat 4, of one player, of five, and with a byte behind the cookie and before the tag.
-const MALFORMED: [Malformed; 5] = [
-    (
-        &[(32, 4)],
-        [
-            207, 66, 101, 159, 222, 106, 171, 83, 162, 221, 108, 29, 11, 219, 72, 62,
-        ],
-    ),
-    (
-        &[(33, 1)],
-        [
-            173, 16, 25, 29, 234, 97, 33, 37, 82, 205, 178, 151, 86, 201, 164, 125,
-        ],
-    ),
-    (
-        &[(33, 5)],
-        [
-            36, 1, 139, 217, 143, 82, 102, 56, 152, 5, 207, 201, 214, 77, 67, 176,
-        ],
-    ),
-    (
-        &[(50, 1)],
-        [
-            111, 191, 74, 10, 160, 45, 118, 212, 201, 210, 205, 36, 195, 137, 89, 168,
-        ],
-    ),
-    (
-        &[(113, 1)],
-        [
-            183, 21, 174, 40, 245, 107, 136, 44, 117, 194, 152, 65, 110, 246, 161, 182,
-        ],
-    ),
-];
-
-#[test]
-fn malformed_calls_are_none(rt: HostRuntime) {
-    let rt = &rt;
-    for row in &MALFORMED {
-        let bytes = malformed(&RIGHT_CALL, row);
-        holds!(rt; open_call(&greeter(Some(SECRET)), &bytes) == Err(GreetingFault::Form));
-    }
-}
-
-/// The front of a right answer: seat 1 of two, a window of five, and one other's address.
-const RIGHT_ANSWER: [u8; 114] = [
-    1, 4, 122, 105, 114, 109, 101, 103, 97, 116, 1, 2, 1, 2, 3, 4, 5, 6, 7, 8, 9, 10, 11, 12, 13,
-    14, 15, 16, 1, 0, 0, 0, 1, 2, 0, 5, 35, 1, 0, 0, 0, 201, 202, 203, 204, 205, 206, 207, 208,
-    209, 210, 211, 212, 213, 214, 215, 216, 1, 0, 0, 0, 0, 0, 0, 0, 0, 0, 0, 255, 255, 192, 168, 1,
-    20, 165, 19, 0, 0, 0, 0, 0, 0, 0, 0, 0, 0, 0, 0, 0, 0, 0, 0, 0, 0, 0, 0, 0, 0, 0, 0, 0, 0, 0,
-    0, 0, 0, 0, 0, 0, 0, 0, 0, 0, 0,
-];
-
-/// Answers for seat 0, for seat 3 of three, of five players, with a flag of 2, with a window of 13 and of none, with
-/// half an address, with a byte where no address is, and at a rate of none and of 36.
-const NO_ANSWERS: [Malformed; 10] = [
-    (
-        &[(32, 0), (33, 4), (34, 1), (35, 9), (37, 0), (40, 1)],
-        [
-            254, 140, 234, 223, 247, 78, 179, 64, 106, 27, 248, 199, 11, 52, 70, 116,
-        ],
-    ),
-    (
-        &[(32, 3), (33, 3)],
-        [
-            220, 3, 102, 159, 11, 102, 236, 253, 212, 235, 249, 2, 73, 64, 194, 60,
-        ],
-    ),
-    (
-        &[(33, 5)],
-        [
-            175, 226, 124, 128, 32, 3, 246, 62, 202, 64, 190, 42, 91, 83, 248, 36,
-        ],
-    ),
-    (
-        &[(34, 2)],
-        [
-            175, 206, 89, 250, 173, 76, 129, 155, 112, 200, 50, 115, 166, 5, 172, 170,
-        ],
-    ),
-    (
-        &[(35, 13)],
-        [
-            59, 55, 189, 33, 163, 79, 157, 204, 232, 75, 22, 92, 124, 144, 173, 152,
-        ],
-    ),
-    (
-        &[(35, 0)],
-        [
-            133, 125, 125, 35, 242, 179, 110, 221, 29, 142, 217, 168, 4, 147, 220, 13,
-        ],
-    ),
-    (
-        &[
-            (57, 2),
-            (68, 0),
-            (69, 0),
-            (70, 0),
-            (71, 0),
-            (72, 0),
-            (73, 0),
-            (74, 0),
-            (75, 0),
-        ],
-        [
-            67, 248, 246, 215, 176, 176, 186, 154, 231, 248, 140, 68, 219, 186, 90, 206,
-        ],
-    ),
-    (
-        &[
-            (57, 0),
-            (68, 0),
-            (69, 0),
-            (70, 0),
-            (71, 0),
-            (72, 0),
-            (73, 0),
-            (74, 0),
-            (75, 0),
-            (113, 1),
-        ],
-        [
-            208, 208, 87, 168, 162, 72, 4, 105, 19, 116, 70, 100, 132, 232, 90, 201,
-        ],
-    ),
-    (
-        &[(36, 0)],
-        [
-            100, 65, 116, 206, 196, 110, 255, 37, 250, 125, 135, 163, 208, 180, 213, 24,
-        ],
-    ),
-    (
-        &[(36, 36)],
-        [
-            226, 212, 7, 31, 246, 19, 243, 105, 109, 254, 242, 223, 129, 214, 46, 36,
-        ],
-    ),
-];
-
-#[test]
-fn malformed_answers_are_none(rt: HostRuntime) {
-    let rt = &rt;
-    for row in &NO_ANSWERS {
-        let bytes = malformed(&RIGHT_ANSWER, row);
-        holds!(rt; open_answer(&greeter(Some(SECRET)), &bytes) == Err(GreetingFault::Form));
-    }
 }

@@ -104,30 +104,21 @@ fn answers_are_taken_in_order(rt: HostRuntime) {
 fn an_answer_is_to_a_call_that_was_made(rt: HostRuntime) {
     let rt = &rt;
     let mut joiner = joiner();
-    let last = answer(u32::MAX, GAME, None);
-    same!(rt;
-        hears(&mut joiner, host(), &answer(1, GAME, None)),
-        News::Nothing
-    );
-    let _ = next_call(&mut joiner);
-    same!(rt; hears(&mut joiner, host(), &last), News::Nothing);
-    same!(rt;
-        hears(&mut joiner, host(), &answer(2, GAME, None)),
-        News::Nothing
-    );
-    same!(rt;
-        hears(&mut joiner, host(), &answer(1, GAME, None)),
-        News::Seated
-    );
-    let _ = next_call(&mut joiner);
-    same!(rt;
-        hears(&mut joiner, host(), &answer(3, GAME, None)),
-        News::Nothing
-    );
-    same!(rt;
-        hears(&mut joiner, host(), &answer(2, GAME, None)),
-        News::Same
-    );
+    // Whether it calls once more before, the number of the call that is answered, and what it makes of that.
+    let rows = [
+        (false, 1, News::Nothing),
+        (true, u32::MAX, News::Nothing),
+        (false, 2, News::Nothing),
+        (false, 1, News::Seated),
+        (true, 3, News::Nothing),
+        (false, 2, News::Same),
+    ];
+    for (calls, number, news) in rows {
+        if calls {
+            let _ = next_call(&mut joiner);
+        }
+        same!(rt; hears(&mut joiner, host(), &answer(number, GAME, None)), news, number);
+    }
 }
 
 #[test]

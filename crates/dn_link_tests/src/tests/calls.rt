@@ -47,6 +47,10 @@ pub(super) fn has_given_up(at: &Link, player: u8) -> bool {
     at.has_given_up(player)
 }
 
+pub(super) fn reports_gone(at: &Link, teller: u8, player: u8) -> bool {
+    at.reports_gone(teller, player)
+}
+
 pub(super) fn undecided(at: &Link) -> Option<u8> {
     at.undecided()
 }

@@ -4,11 +4,19 @@ use super::calls::{presence, quit, receive};
 use super::links::{Bytes, arrives, datagram, link_of, loses, meets};
 use dn_link::{Identity, Link, Presence, Received};
 use dn_shared_tests::{holds, same};
+use std::alloc::Global;
 use std::process::Abort;
 
 /// A datagram that arrives of a player who differs.
 fn differs(rt: &impl Abort, at: &mut Link, from: u8, bytes: &Bytes) {
     same!(rt; receive(at, bytes.as_slice()), Received::Different(from));
+}
+
+/// Player 0, a player 1 with another digest, and one with the right digest.
+fn two_for_one(rt: &impl Abort, alloc: Global) -> (Link, Link, Link) {
+    let key = link_of(rt, alloc, 2, 0, 1);
+    let (wrong, right) = (link_of(rt, alloc, 2, 1, 9), link_of(rt, alloc, 2, 1, 1));
+    (key, wrong, right)
 }
 
 /// A player with another digest is told so, at both ends, and takes no part.
@@ -36,9 +44,7 @@ fn who_differs_takes_no_part(rt: HostRuntime) {
 #[test]
 fn who_differed_may_play(rt: HostRuntime) {
     let rt = &rt;
-    let mut key = link_of(rt, rt.alloc(), 2, 0, 1);
-    let mut wrong = link_of(rt, rt.alloc(), 2, 1, 9);
-    let mut right = link_of(rt, rt.alloc(), 2, 1, 1);
+    let (mut key, mut wrong, mut right) = two_for_one(rt, rt.alloc());
     loses(rt, &mut wrong, 0);
     meets(rt, &mut right, &mut key);
     let settings = datagram(rt, &mut key, 1);
@@ -55,9 +61,7 @@ fn who_differed_may_play(rt: HostRuntime) {
 #[test]
 fn who_differs_is_not_heard(rt: HostRuntime) {
     let rt = &rt;
-    let mut key = link_of(rt, rt.alloc(), 2, 0, 1);
-    let mut wrong = link_of(rt, rt.alloc(), 2, 1, 9);
-    let mut right = link_of(rt, rt.alloc(), 2, 1, 1);
+    let (mut key, mut wrong, mut right) = two_for_one(rt, rt.alloc());
     let late = datagram(rt, &mut wrong, 0);
     meets(rt, &mut right, &mut key);
     meets(rt, &mut right, &mut key);

@@ -1,15 +1,14 @@
 //! Links of which a player vanishes: the others give it up, and play on.
 
 use super::calls::{
-    end, give_up, gives, got, has_given_up, may_leave, phase, presence, quit, receive, refused,
-    run, unacknowledged, undecided,
+    end, give_up, gives, got, has_given_up, may_leave, phase, presence, quit, receive, run,
+    unacknowledged, undecided,
 };
 use super::links::{Bytes, build, datagram, link_of, make, meets, starts};
 use super::lobby::three;
-use arrayvec::ArrayVec;
+use super::reports::reports;
 use dn_link::{Link, Presence, Received};
 use dn_machine::{Phase, Ran};
-use dn_notice::{MAX_SEALED_REPORT, ReportDatagramFault};
 use dn_shared_tests::{holds, same};
 use dn_survivor::{GivenUp, Reported};
 use std::alloc::Global;
@@ -29,7 +28,7 @@ pub(super) fn playing(rt: &impl Abort, alloc: Global) -> (Link, Link, Link) {
 
 /// The last two of a game whose first vanishes: it has made three commands, of which player 1 alone has heard.
 /// With them player 0 itself, and its datagram to player 2.
-fn vanishes(rt: &impl Abort, alloc: Global) -> (Link, Link, Link, Bytes) {
+pub(super) fn vanishes(rt: &impl Abort, alloc: Global) -> (Link, Link, Link, Bytes) {
     let (mut key, mut one, two) = playing(rt, alloc);
     for tic in 0..3 {
         make(rt, &mut key, tic);
@@ -40,7 +39,7 @@ fn vanishes(rt: &impl Abort, alloc: Global) -> (Link, Link, Link, Bytes) {
 }
 
 /// The others give it up.
-fn both_give_up(rt: &impl Abort, one: &mut Link, two: &mut Link) {
+pub(super) fn both_give_up(rt: &impl Abort, one: &mut Link, two: &mut Link) {
     same!(rt; give_up(one, 0), GivenUp::Waiting);
     same!(rt; give_up(two, 0), GivenUp::Waiting);
 }
@@ -49,24 +48,6 @@ fn both_give_up(rt: &impl Abort, one: &mut Link, two: &mut Link) {
 fn both_report(rt: &impl Abort, one: &mut Link, two: &mut Link) {
     same!(rt; reports(rt, one, two), Reported::Decided);
     same!(rt; reports(rt, two, one), Reported::Decided);
-}
-
-/// What one link reports to another, sealed.
-fn report(rt: &impl Abort, from: &Link, to: u8) -> ArrayVec<u8, MAX_SEALED_REPORT> {
-    let Some(bytes) = from.report_datagram(to) else {
-        panic!(rt; "no report");
-    };
-    bytes
-}
-
-/// What the other makes of it.
-fn reports(rt: &impl Abort, from: &Link, at: &mut Link) -> Reported {
-    let bytes = report(rt, from, at.lockstep().me());
-    let player = from.lockstep().me();
-    match at.receive(bytes.as_slice()) {
-        Received::Reported { from, reported } if from == player => reported,
-        _ => panic!(rt; "no report"),
-    }
 }
 
 /// Whether a link has anything to tell a player of those who are given up.
@@ -108,24 +89,6 @@ fn who_vanishes_is_given_up(rt: HostRuntime) {
     same!(rt; got(&two, 0), Some(0));
     both_report(rt, &mut one, &mut two);
     same!(rt; undecided(&one), None);
-}
-
-/// No report is opened that is to another, nor one that was altered.
-#[test]
-fn reports_are_opened_as_they_were_sealed(rt: HostRuntime) {
-    let rt = &rt;
-    let (mut key, mut one, mut two, _) = vanishes(rt, rt.alloc());
-    both_give_up(rt, &mut one, &mut two);
-    let mut bytes = report(rt, &two, 1);
-    let to_another = Received::Unreported(ReportDatagramFault::Receiver);
-    same!(rt; receive(&mut key, bytes.as_slice()), to_another);
-    if let Some(last) = bytes.last_mut() {
-        *last ^= 1;
-    }
-    let altered = Received::Unreported(ReportDatagramFault::Tag);
-    same!(rt; refused(&one), 0);
-    same!(rt; receive(&mut one, bytes.as_slice()), altered);
-    same!(rt; refused(&one), 1);
 }
 
 /// Player 0 makes three commands, of which player 1 alone has heard, and vanishes.

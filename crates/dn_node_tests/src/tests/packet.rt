@@ -8,7 +8,7 @@ use dn_packet::{
     EXIT, Head, KILL, Packet, PacketFault, RETRANSMIT, SETUP, decode, decode_into, encode,
     encode_into, encode_parts, encode_to,
 };
-use dn_shared_tests::{holds, same};
+use dn_shared_tests::{changed, holds, list, same};
 use dn_tic::TicCmd;
 use std::process::Abort;
 
@@ -34,14 +34,6 @@ fn twelve() -> [u8; 104] {
     bytes[5] = 0;
     bytes[6] = 0;
     bytes[7] = 12;
-    bytes
-}
-
-/// The bytes, with another byte at this place.
-fn changed(mut bytes: [u8; 16], place: usize, byte: u8) -> [u8; 16]
-    requires { place < 16 }
-{
-    bytes[place] = byte;
     bytes
 }
 
@@ -117,12 +109,9 @@ fn commands_are_written_in_two_pieces(rt: HostRuntime) {
 
 #[test]
 fn flags_stand_above_the_sum(rt: HostRuntime) {
-    for (byte, flags) in [
-        (0x85, EXIT),
-        (0x45, RETRANSMIT),
-        (0x25, SETUP),
-        (0x15, KILL),
-    ] {
+    for (byte, flags) in list! {
+        (0x85, EXIT), (0x45, RETRANSMIT), (0x25, SETUP), (0x15, KILL)
+    } {
         is_text_of(
             &rt,
             &changed(ONE, 3, byte),
@@ -158,10 +147,9 @@ fn each_proper_prefix_is_short_or_of_wrong_length(rt: HostRuntime) {
     let twelve = twelve();
     for bytes in [ONE.as_slice(), twelve.as_slice()] {
         for len in 0..bytes.len() {
-            let fault = if len < 8 {
-                PacketFault::Short
-            } else {
-                PacketFault::Length
+            let fault = match len {
+                0..=7 => PacketFault::Short,
+                _ => PacketFault::Length,
             };
             same!(&rt; decode(&bytes[..len]), Err(fault), len);
         }

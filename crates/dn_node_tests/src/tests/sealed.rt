@@ -92,12 +92,14 @@ fn strange_envelopes_are_dropped(rt: HostRuntime) {
 fn envelopes_of_other_games_are_dropped(rt: HostRuntime) {
     let rt = &rt;
     let (_, _, first) = opened(rt, rt.alloc(), Seal::new(SECRET, GAME));
-    let mut next = lockstep(rt, rt.alloc(), 1, Seal::new(SECRET, NEXT));
-    same!(rt; arrives(&mut next, &first), Arrived::Unopened(SealFault::Game));
-    let mut unset = lockstep(rt, rt.alloc(), 1, Seal::new([0; 32], GAME));
-    same!(rt; arrives(&mut unset, &first), Arrived::Unopened(SealFault::Tag));
-    let mut open = lockstep(rt, rt.alloc(), 1, Seal::without_secret(GAME));
-    same!(rt; arrives(&mut open, &first), Arrived::Unopened(SealFault::Suite));
+    for (seal, fault) in [
+        (Seal::new(SECRET, NEXT), SealFault::Game),
+        (Seal::new([0; 32], GAME), SealFault::Tag),
+        (Seal::without_secret(GAME), SealFault::Suite),
+    ] {
+        let mut other = lockstep(rt, rt.alloc(), 1, seal);
+        same!(rt; arrives(&mut other, &first), Arrived::Unopened(fault));
+    }
 }
 
 #[test]

@@ -3,7 +3,7 @@
 use super::{START, STILL, packet_of};
 use dn_packet::encode;
 use dn_setup::{Gather, Settings, SettingsFault, SetupFault, from_packet, to_packet};
-use dn_shared_tests::{holds, must, same};
+use dn_shared_tests::{holds, list, must, same};
 
 #[test]
 fn fields_are_checked_in_their_order(rt: HostRuntime) {
@@ -50,21 +50,15 @@ fn a_packet_tells_settings(rt: HostRuntime) {
 
 #[test]
 fn packets_are_refused_in_order(rt: HostRuntime) {
-    for (flags, ask, start, player, fault) in [
-        (0, 5, 65, 110, SetupFault::NotSetup),
-        (0, 5, 65, 111, SetupFault::NotSetup),
+    for (flags, ask, start, player, fault) in list! {
+        (0, 5, 65, 110, SetupFault::NotSetup), (0, 5, 65, 111, SetupFault::NotSetup),
         (13, 99, 71, 111, SetupFault::NotSetup),
-        (2, 5, 65, 110, SetupFault::Version),
-        (2, 99, 71, 109, SetupFault::Version),
-        (2, 5, 65, 109, SetupFault::Version),
-        (2, 99, 71, 112, SetupFault::Version),
-        (2, 5, 65, 111, SetupFault::Range),
-        (2, 15, 65, 111, SetupFault::Range),
-        (2, 192, 65, 111, SetupFault::Range),
-        (2, 0, 1, 111, SetupFault::Range),
-        (2, 0, 64, 111, SetupFault::Range),
-        (2, 0, 97, 111, SetupFault::Range),
-    ] {
+        (2, 5, 65, 110, SetupFault::Version), (2, 99, 71, 109, SetupFault::Version),
+        (2, 5, 65, 109, SetupFault::Version), (2, 99, 71, 112, SetupFault::Version),
+        (2, 5, 65, 111, SetupFault::Range), (2, 15, 65, 111, SetupFault::Range),
+        (2, 192, 65, 111, SetupFault::Range), (2, 0, 1, 111, SetupFault::Range),
+        (2, 0, 64, 111, SetupFault::Range), (2, 0, 97, 111, SetupFault::Range)
+    } {
         let packet = packet_of(flags, (ask, start, player), &[]);
         same!(&rt; from_packet(&packet), Err(fault), (flags, ask, start, player));
     }

@@ -6,6 +6,7 @@ use dn_node::{Heard, Made, Ran};
 use dn_shared_tests::{must, same};
 use dn_world::Walk;
 use std::alloc::Global;
+use std::process::Abort;
 use std::test::Fail;
 
 const STALE: Result<Done, Refusal> = Ok(Done::Heard(Heard::Stale));
@@ -43,6 +44,13 @@ pub(super) fn started(alloc: Global) -> Result<Game<Walk>, Fail> {
     hand_over(&mut game, send(0, 1));
     hand_over(&mut game, send(1, 0));
     Ok(game)
+}
+
+/// A packet is near until node 1 has made one command more, its 65th.
+fn becomes_far(rt: &impl Abort, game: &mut Game<Walk>, packet: u32) {
+    applies(rt, game, Event::Deliver(packet), STALE);
+    applies(rt, game, build(1, 0), Ok(Done::Built(Made::Made(64))));
+    applies(rt, game, Event::Deliver(packet), FAR);
 }
 
 #[test]
@@ -89,13 +97,7 @@ fn a_request_alone_may_be_far(rt: HostRuntime) {
     same!(rt; (flight.aim.start, flight.aim.ask), (3, Some(0)));
     same!(rt; hand_over(&mut game, send(1, 0)), Some(Heard::Taken(2)));
     play_rounds(&mut game, 62);
-    for (event, answer) in [
-        (Event::Deliver(4), STALE),
-        (build(1, 0), Ok(Done::Built(Made::Made(64)))),
-        (Event::Deliver(4), FAR),
-    ] {
-        applies(rt, &mut game, event, answer);
-    }
+    becomes_far(rt, &mut game, 4);
 }
 
 #[test]
@@ -120,11 +122,5 @@ fn a_start_alone_may_be_far(rt: HostRuntime) {
         applies(rt, &mut game, event, Ok(Done::Ran(Ran::Ran(0))));
     }
     play_rounds(&mut game, 59);
-    for (event, answer) in [
-        (Event::Deliver(5), STALE),
-        (build(1, 0), Ok(Done::Built(Made::Made(64)))),
-        (Event::Deliver(5), FAR),
-    ] {
-        applies(rt, &mut game, event, answer);
-    }
+    becomes_far(rt, &mut game, 5);
 }

@@ -5,7 +5,7 @@ use super::{applied, config, opened, play_list, rounds_are_good, send, walks};
 use dn_demo::Demo;
 use dn_game::{Event, Game, play_on_with};
 use dn_node::Node;
-use dn_shared_tests::{holds, must, same};
+use dn_shared_tests::{holds, list, must, same};
 use dn_tic::{Command, Input, Keys, Move, TicCmd};
 use dn_world::Walk;
 use std::alloc::Global;
@@ -64,23 +64,11 @@ fn give(node: u32, command: Command) -> Event {
 
 /// Both nodes start, player 1 is given two commands and player 0 one, and both run a tic.
 fn list() -> [Event; 15] {
-    [
-        send(0, 1),
-        Event::Deliver(0),
-        give(1, SECOND),
-        send(1, 0),
-        Event::Deliver(1),
-        give(1, THIRD),
-        send(1, 0),
-        Event::Deliver(2),
-        give(0, FIRST),
-        send(0, 1),
-        Event::Deliver(3),
-        send(1, 0),
-        Event::Deliver(4),
-        Event::Run(0),
-        Event::Run(1),
-    ]
+    list! {
+        send(0, 1), Event::Deliver(0), give(1, SECOND), send(1, 0), Event::Deliver(1), give(1, THIRD),
+        send(1, 0), Event::Deliver(2), give(0, FIRST), send(0, 1), Event::Deliver(3), send(1, 0),
+        Event::Deliver(4), Event::Run(0), Event::Run(1)
+    }
 }
 
 /// What a node tells of the commands of that list.
@@ -165,16 +153,10 @@ fn letters_are_read_at_every_node(rt: HostRuntime) {
     for round in 0..4 {
         same!(rt; game.good_round_with(&letters(round)), Ok(()), round);
     }
-    for (number, player, tic, chat) in [
-        (0, 0, 0, 16),
-        (0, 1, 0, 1),
-        (1, 0, 0, 16),
-        (1, 0, 1, 32),
-        (1, 0, 2, 48),
-        (1, 1, 0, 1),
-        (1, 1, 1, 17),
-        (1, 1, 2, 33),
-    ] {
+    for (number, player, tic, chat) in list! {
+        (0, 0, 0, 16), (0, 1, 0, 1), (1, 0, 0, 16), (1, 0, 1, 32), (1, 0, 2, 48), (1, 1, 0, 1),
+        (1, 1, 1, 17), (1, 1, 2, 33)
+    } {
         let Some(node) = game.node(number) else {
             panic!(rt; "no node {number}");
         };

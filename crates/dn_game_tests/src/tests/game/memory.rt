@@ -2,10 +2,10 @@
 
 use super::playing::events;
 use super::told::all_told;
-use super::{applied, applies, config, opened, play_list, play_storm, send, walks};
+use super::{applied, applies, config, opened, play_list, play_storm, send, small_game, walks};
 use dn_game::{Done, Event, Game, GameFault, OpenEvent, Refusal, play_open};
 use dn_seal::Seal;
-use dn_shared_tests::{finds_no_memory, holds, must, same};
+use dn_shared_tests::{finds_no_memory, granted, holds, must, same};
 use dn_world::Walk;
 use std::process::Abort;
 
@@ -37,29 +37,20 @@ fn all_counted(rt: &(impl Abort + Print), list: &str, counts: (usize, usize), wa
 #[test]
 fn refused_memory_is_told(rt: HostRuntime) {
     let rt = &rt;
+    let memory = GameFault::Memory;
     if let Ok(worlds) = walks(rt.alloc(), 2) {
-        match Game::new(rt.alloc(), must!(rt; config(1_024)), worlds) {
-            Ok(mut game) => {
-                for _ in 0..30 {
-                    send_one(rt, &mut game);
-                }
-            }
-            Err(fault) => {
-                same!(rt; fault, GameFault::Memory);
-                finds_no_memory(rt, "Game::new");
+        let made = Game::new(rt.alloc(), must!(rt; config(1_024)), worlds);
+        if let Some(mut game) = granted!(rt; "Game::new", made, memory) {
+            for _ in 0..30 {
+                send_one(rt, &mut game);
             }
         }
     }
     if let Ok(worlds) = walks(rt.alloc(), 2) {
-        match play_storm(rt.alloc(), must!(rt; config(1_024)), worlds, 1, 500) {
-            Ok(played) => {
-                holds!(rt; played.refused <= 1);
-                all_counted(rt, "a send of storm", (played.done, played.refused), 500);
-            }
-            Err(fault) => {
-                same!(rt; fault, GameFault::Memory);
-                finds_no_memory(rt, "storm");
-            }
+        let played = play_storm(rt.alloc(), must!(rt; config(1_024)), worlds, 1, 500);
+        if let Some(played) = granted!(rt; "storm", played, memory) {
+            holds!(rt; played.refused <= 1);
+            all_counted(rt, "a send of storm", (played.done, played.refused), 500);
         }
     }
 }
@@ -71,15 +62,10 @@ fn play_goes_on_without_a_packet(rt: HostRuntime) {
     let Ok(worlds) = walks(rt.alloc(), 2) else {
         return;
     };
-    match play_list(rt.alloc(), must!(rt; config(1_024)), worlds, &events()) {
-        Ok(played) => {
-            all_counted(rt, "a send of play", (played.done, played.refused), 15);
-            holds!(rt; played.refused > 0 || played.game.flights() == 5);
-        }
-        Err(fault) => {
-            same!(rt; fault, GameFault::Memory);
-            finds_no_memory(rt, "play");
-        }
+    let played = play_list(rt.alloc(), must!(rt; config(1_024)), worlds, &events());
+    if let Some(played) = granted!(rt; "play", played, GameFault::Memory) {
+        all_counted(rt, "a send of play", (played.done, played.refused), 15);
+        holds!(rt; played.refused > 0 || played.game.flights() == 5);
     }
 }
 
@@ -97,16 +83,11 @@ fn play_open_goes_on_without_a_packet(rt: HostRuntime) {
         OpenEvent::Own(send(0, 1)),
         OpenEvent::Own(send(0, 1)),
     ];
-    match play_open(rt.alloc(), must!(rt; config(1_024)), worlds, seal, &list) {
-        Ok(played) => {
-            all_counted(rt, "a send of play_open", (played.done, played.refused), 4);
-            same!(rt; played.game.flights(), played.done);
-            holds!(rt; played.refused <= 1);
-        }
-        Err(fault) => {
-            same!(rt; fault, GameFault::Memory);
-            finds_no_memory(rt, "play_open");
-        }
+    let played = play_open(rt.alloc(), must!(rt; config(1_024)), worlds, seal, &list);
+    if let Some(played) = granted!(rt; "play_open", played, GameFault::Memory) {
+        all_counted(rt, "a send of play_open", (played.done, played.refused), 4);
+        same!(rt; played.game.flights(), played.done);
+        holds!(rt; played.refused <= 1);
     }
 }
 
@@ -114,10 +95,7 @@ fn play_open_goes_on_without_a_packet(rt: HostRuntime) {
 #[test]
 fn only_sends_are_left_out(rt: HostRuntime) {
     let rt = &rt;
-    let Ok(worlds) = walks(rt.alloc(), 2) else {
-        return;
-    };
-    let Ok(mut game) = Game::new(rt.alloc(), must!(rt; config(1_024)), worlds) else {
+    let Some(mut game) = small_game(rt, rt.alloc()) else {
         return;
     };
     let mut left_out = false;
@@ -152,10 +130,7 @@ fn there_is_room_for_many_packets(rt: HostRuntime) {
 #[test]
 fn the_first_send_needs_room_in_both_lists(rt: HostRuntime) {
     let rt = &rt;
-    let Ok(worlds) = walks(rt.alloc(), 2) else {
-        return;
-    };
-    let Ok(mut game) = Game::new(rt.alloc(), must!(rt; config(1_024)), worlds) else {
+    let Some(mut game) = small_game(rt, rt.alloc()) else {
         return;
     };
     let before = all_told(&game);

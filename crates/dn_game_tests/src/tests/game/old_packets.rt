@@ -6,7 +6,7 @@ use super::{applied, applies, build, opened, send};
 use dn_game::{Event, Game, Refusal};
 use dn_node::{Config, Heard, Made, Node, Ran};
 use dn_setup::Settings;
-use dn_shared_tests::{must, same};
+use dn_shared_tests::{list, must, same};
 use dn_tic::Keys;
 use dn_world::Walk;
 use std::alloc::Global;
@@ -119,23 +119,10 @@ fn far_packets_are_left_out(rt: HostRuntime) {
     // Of 28 packets those that start at tic 0 are far: the numbers 1, 2 and 3.
     same!(rt; game.flights(), 28);
     same!(rt; game.node(0).map(|node| node.made()), Some(65));
-    draw(
-        rt,
-        &game,
-        1_920,
-        &[
-            Event::Run(0),
-            build(1, 66_914),
-            Event::Run(0),
-            build(0, 182_945),
-            Event::Deliver(9),
-            Event::Deliver(24),
-            Event::Run(0),
-            Event::Run(0),
-            Event::Run(1),
-            Event::Deliver(10),
-            Event::Run(1),
-            Event::Deliver(21),
-        ],
-    );
+    let events = list! {
+        Event::Run(0), build(1, 66_914), Event::Run(0), build(0, 182_945), Event::Deliver(9),
+        Event::Deliver(24), Event::Run(0), Event::Run(0), Event::Run(1), Event::Deliver(10), Event::Run(1),
+        Event::Deliver(21)
+    };
+    draw(rt, &game, 1_920, &events);
 }

@@ -3,7 +3,7 @@
 use super::{applied, applies, build, config, opened, play_list, send, walks};
 use dn_game::{Done, Event, Game, Played, Refusal, read_script};
 use dn_node::{Aim, Heard, Made, Node, Phase, Ran};
-use dn_shared_tests::{holds, must, rows, same};
+use dn_shared_tests::{holds, list, must, rows, same};
 use dn_world::Walk;
 use std::alloc::Global;
 use std::process::Abort;
@@ -35,23 +35,11 @@ const FLIGHTS: [Sent; 5] = rows! {
 
 /// The script's events.
 pub(crate) fn events() -> [Event; 15] {
-    [
-        send(0, 1),
-        Event::Deliver(0),
-        build(1, 0),
-        send(1, 0),
-        Event::Deliver(1),
-        build(1, 0),
-        send(1, 0),
-        Event::Deliver(2),
-        build(0, 0),
-        send(0, 1),
-        Event::Deliver(3),
-        send(1, 0),
-        Event::Deliver(4),
-        Event::Run(0),
-        Event::Run(1),
-    ]
+    list! {
+        send(0, 1), Event::Deliver(0), build(1, 0), send(1, 0), Event::Deliver(1), build(1, 0),
+        send(1, 0), Event::Deliver(2), build(0, 0), send(0, 1), Event::Deliver(3), send(1, 0),
+        Event::Deliver(4), Event::Run(0), Event::Run(1)
+    }
 }
 
 /// Their answers.

@@ -3,11 +3,11 @@
 use super::told::all_told;
 use super::{
     applied, build, config, opened, play_further, play_list, play_storm, round_is_good,
-    rounds_are_good, send, walks,
+    rounds_are_good, send, small_game, walks,
 };
 use dn_game::{Event, Game, GameFault, PlayOnFault, Played, RoundFault};
 use dn_machine::{Cause, Phase};
-use dn_shared_tests::{finds_no_memory, holds, must, rows, same};
+use dn_shared_tests::{finds_no_memory, holds, list, must, rows, same};
 use dn_tic::Keys;
 use dn_world::Walk;
 use std::alloc::Global;
@@ -31,21 +31,11 @@ fn rans(game: &Game<Walk>) -> [Option<u32>; 4] {
 /// Node 1 has missed the first command, node 0 has heard its request, and the packet that met it is
 /// lost too; then node 0 quits.
 fn lost() -> [Event; 13] {
-    [
-        send(0, 1),
-        Event::Deliver(0),
-        send(1, 0),
-        Event::Deliver(1),
-        build(0, 0),
-        send(0, 1),
-        build(0, 0),
-        send(0, 1),
-        Event::Deliver(3),
-        send(1, 0),
-        Event::Deliver(4),
-        send(0, 1),
-        Event::Quit(0),
-    ]
+    list! {
+        send(0, 1), Event::Deliver(0), send(1, 0), Event::Deliver(1), build(0, 0), send(0, 1),
+        build(0, 0), send(0, 1), Event::Deliver(3), send(1, 0), Event::Deliver(4), send(0, 1),
+        Event::Quit(0)
+    }
 }
 
 /// A game of two after events of which none is refused, and then rounds.
@@ -263,10 +253,7 @@ fn storms_go_on(rt: HostRuntime) {
 #[test]
 fn refused_memory_ends_a_round(rt: HostRuntime) {
     let rt = &rt;
-    let Ok(worlds) = walks(rt.alloc(), 2) else {
-        return;
-    };
-    let Ok(mut game) = Game::new(rt.alloc(), must!(rt; config(1_024)), worlds) else {
+    let Some(mut game) = small_game(rt, rt.alloc()) else {
         return;
     };
     let mut carried_out = 0_u32;

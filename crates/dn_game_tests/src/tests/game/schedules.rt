@@ -2,7 +2,7 @@
 
 use super::{applied, build, opened, send};
 use dn_game::{Event, Game, Schedule};
-use dn_shared_tests::{holds, must, rows, same};
+use dn_shared_tests::{holds, list, must, rows, same};
 use dn_world::Walk;
 use std::process::Abort;
 
@@ -38,68 +38,27 @@ struct Drawn<'a> {
 #[test]
 fn schedules_are_those_of_their_seeds(rt: HostRuntime) {
     let rt = &rt;
-    let none = [
-        send(1, 0),
-        build(1, 90_222),
-        Event::Run(1),
-        build(0, 13_817),
-        send(1, 0),
-        Event::Run(0),
-    ];
-    let last = [
-        send(1, 0),
-        build(1, 90_222),
-        Event::Deliver(13),
-        build(0, 13_817),
-        send(1, 0),
-        Event::Deliver(36),
-        build(0, 94_512),
-        send(1, 0),
-        Event::Deliver(17),
-        build(0, 132_397),
-        send(1, 0),
-        Event::Deliver(20),
-    ];
-    let stopped = [
-        build(0, 247_037),
-        build(0, 171_759),
-        Event::Run(1),
-        Event::Deliver(33),
-        Event::Run(3),
-        build(1, 61_850),
-        send(1, 3),
-        send(3, 1),
-        send(1, 2),
-        Event::Run(1),
-        Event::Run(3),
-        send(0, 2),
-    ];
-    let lone = [
-        send(2, 0),
-        build(2, 235_360),
-        build(2, 204_307),
-        build(2, 66_395),
-        Event::Run(2),
-        build(2, 223_571),
-        build(2, 129_347),
-        send(2, 1),
-        send(2, 1),
-        send(2, 1),
-        build(2, 120_856),
-        Event::Run(2),
-    ];
-    let few = [
-        Event::Deliver(6),
-        build(2, 122_339),
-        build(1, 108_468),
-        Event::Run(1),
-        Event::Run(1),
-        Event::Deliver(28),
-        build(1, 60_471),
-        Event::Deliver(3),
-        send(1, 2),
-        build(1, 196_009),
-    ];
+    let none = list! {
+        send(1, 0), build(1, 90_222), Event::Run(1), build(0, 13_817), send(1, 0), Event::Run(0)
+    };
+    let last = list! {
+        send(1, 0), build(1, 90_222), Event::Deliver(13), build(0, 13_817), send(1, 0),
+        Event::Deliver(36), build(0, 94_512), send(1, 0), Event::Deliver(17), build(0, 132_397),
+        send(1, 0), Event::Deliver(20)
+    };
+    let stopped = list! {
+        build(0, 247_037), build(0, 171_759), Event::Run(1), Event::Deliver(33), Event::Run(3),
+        build(1, 61_850), send(1, 3), send(3, 1), send(1, 2), Event::Run(1), Event::Run(3), send(0, 2)
+    };
+    let lone = list! {
+        send(2, 0), build(2, 235_360), build(2, 204_307), build(2, 66_395), Event::Run(2),
+        build(2, 223_571), build(2, 129_347), send(2, 1), send(2, 1), send(2, 1), build(2, 120_856),
+        Event::Run(2)
+    };
+    let few = list! {
+        Event::Deliver(6), build(2, 122_339), build(1, 108_468), Event::Run(1), Event::Run(1),
+        Event::Deliver(28), build(1, 60_471), Event::Deliver(3), send(1, 2), build(1, 196_009)
+    };
     let rows = rows! {
         Drawn { players, sent, stopped, seed,     events }
               [ 2,       0,    &[],     42,       &none ]

@@ -2,7 +2,7 @@
 
 use super::{came, rising};
 use dn_line::{HubFault, Line, LineFault, MemoryHub};
-use dn_shared_tests::{finds_no_memory, must, same};
+use dn_shared_tests::{granted, must, same};
 
 #[test]
 fn two_to_four_players_have_a_hub(rt: HostRuntime) {
@@ -72,11 +72,8 @@ fn long_datagrams_are_cut(rt: HostRuntime) {
 #[test]
 fn refused_memory_is_told(rt: HostRuntime) {
     let rt = &rt;
-    match MemoryHub::new(rt.alloc(), 4) {
-        Ok(hub) => same!(rt; hub.failed(), 0),
-        Err(fault) => {
-            same!(rt; fault, HubFault::Memory);
-            finds_no_memory(rt, "MemoryHub::new");
-        }
+    let made = MemoryHub::new(rt.alloc(), 4);
+    if let Some(hub) = granted!(rt; "MemoryHub::new", made, HubFault::Memory) {
+        same!(rt; hub.failed(), 0);
     }
 }

@@ -3,7 +3,7 @@
 use super::{came, rising};
 use crate::tests::free_line;
 use dn_line::{Datagram, Line, LineFault, UdpLine, is_base};
-use dn_shared_tests::{finds_no_memory, holds, must, same};
+use dn_shared_tests::{granted, holds, list, must, same};
 
 /// How many polls are made for a datagram that is on its way.
 const POLLS: u32 = 100_000;
@@ -20,15 +20,10 @@ fn awaited(line: &mut UdpLine, me: u8) -> Option<Datagram> {
 
 #[test]
 fn four_ports_fit_behind_the_last_base(rt: HostRuntime) {
-    for (port, may) in [
-        (0, false),
-        (1_023, false),
-        (1_024, true),
-        (5_029, true),
-        (65_532, true),
-        (65_533, false),
-        (65_535, false),
-    ] {
+    for (port, may) in list! {
+        (0, false), (1_023, false), (1_024, true), (5_029, true), (65_532, true), (65_533, false),
+        (65_535, false)
+    } {
         same!(&rt; is_base(port), may, port);
     }
 }
@@ -101,15 +96,10 @@ fn strangers_are_told(rt: HostRuntime) {
 fn refused_memory_is_told(rt: HostRuntime) {
     let rt = &rt;
     for step in 0..200u16 {
-        match UdpLine::bind(rt, rt.alloc(), 32_000 + 8 * step, 0, 3, 4) {
-            Ok(line) => {
-                same!(rt; line.failed(), 0);
-                return;
-            }
-            Err(fault) => {
-                same!(rt; fault, LineFault::Bind);
-                finds_no_memory(rt, "UdpLine::bind");
-            }
+        let bound = UdpLine::bind(rt, rt.alloc(), 32_000 + 8 * step, 0, 3, 4);
+        if let Some(line) = granted!(rt; "UdpLine::bind", bound, LineFault::Bind) {
+            same!(rt; line.failed(), 0);
+            return;
         }
     }
     holds!(rt; false, "no port is free");

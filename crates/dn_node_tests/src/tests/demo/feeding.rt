@@ -3,7 +3,8 @@
 ghost use Rattle.std.specs.Prelude.{◌<◌};
 
 use super::{
-    BEGUN, PLACES, PLAYED, Place, RECORDED, START, place, stand, with_cut, with_more, without_tics,
+    BEGUN, PLACES, PLAYED, Place, RECORDED, START, of_nobody, of_other_version, place, stand,
+    with_cut, with_more, without_tics,
 };
 use dn_demo::{Demo, DemoFault, Fed, Feed, FeedFault, play};
 use dn_shared_tests::{must, same};
@@ -68,10 +69,7 @@ fn ends_everywhere_as(
 #[test]
 fn pieces_end_as_their_join(rt: HostRuntime) {
     let (more, cut, none) = (with_more(), with_cut(), without_tics());
-    let mut other = PLAYED;
-    other[0] = 110;
-    let mut nobody = PLAYED;
-    nobody[9..13].copy_from_slice(&[0; 4]);
+    let (other, nobody) = (of_other_version(), of_nobody());
     let mut long_more = [7; 37];
     long_more[..34].copy_from_slice(&RECORDED);
     for (bytes, counts, places) in [
@@ -95,10 +93,9 @@ fn pieces_end_as_their_join(rt: HostRuntime) {
 fn fronts_of_a_demo_are_refused(rt: HostRuntime) {
     for demo in [PLAYED.as_slice(), RECORDED.as_slice()] {
         for len in 0..demo.len() {
-            let fault = if len < 13 {
-                FeedFault::Short
-            } else {
-                FeedFault::NoMarker
+            let fault = match len {
+                0..=12 => FeedFault::Short,
+                _ => FeedFault::NoMarker,
             };
             same!(&rt; fed(&demo[..len], 0, 5).err(), Some(fault), len);
         }

@@ -1,12 +1,12 @@
 //! Tests of read demos and their playing.
 
 use super::{
-    BEGUN, PLACES, PLAYED, Place, RECORDED, START, moved, stand, two_tics, with_cut, with_more,
-    without_tics,
+    BEGUN, ODD, PLACES, PLAYED, Place, RECORDED, START, moved, of_nobody, of_other_version, stand,
+    two_tics, with_cut, with_more, without_tics,
 };
 use dn_demo::{Demo, DemoFault, play};
 use dn_setup::Start;
-use dn_shared_tests::{must, same};
+use dn_shared_tests::{changed, list, must, same};
 use dn_world::Walk;
 use std::alloc::Global;
 use std::process::Abort;
@@ -71,11 +71,7 @@ fn headers_and_rows_are_told(rt: HostRuntime) {
 #[test]
 fn odd_bytes_are_kept(rt: HostRuntime) {
     let rt = &rt;
-    let bytes = [
-        109, 200, 4, 0, 255, 2, 1, 9, 77, 2, 0, 255, 0, 1, 0x80, 0x80, 255, 127, 2, 0xFF, 0x80,
-        0x80,
-    ];
-    let demo = must!(rt; Demo::read(rt.alloc(), &bytes));
+    let demo = must!(rt; Demo::read(rt.alloc(), &ODD));
     let start = Start {
         skill: 200,
         episode: 4,
@@ -98,48 +94,24 @@ fn odd_bytes_are_kept(rt: HostRuntime) {
     same!(rt; demo.tics(), 1);
 }
 
+/// Of one player, in both versions: the place of a marker, that of the last, how many bytes there are, and what
+/// is read.
 #[test]
 fn only_a_first_byte_ends_a_demo(rt: HostRuntime) {
     let rt = &rt;
-    // One player: the place of the marker, how many bytes there are, and what is read.
-    for (place, len, tics, after) in [
-        (14, 18, 1, 0),
-        (15, 18, 1, 0),
-        (16, 18, 1, 0),
-        (14, 24, 1, 6),
-        (13, 18, 0, 4),
-        (13, 15, 0, 1),
-    ] {
+    for (version, place, last, len, tics, after) in list! {
+        (109, 14, 17, 18, 1, 0), (109, 15, 17, 18, 1, 0), (109, 16, 17, 18, 1, 0), (109, 14, 17, 24, 1, 6),
+        (109, 13, 17, 18, 0, 4), (109, 13, 17, 15, 0, 1),
+        (111, 14, 18, 19, 1, 0), (111, 16, 18, 19, 1, 0), (111, 17, 18, 19, 1, 0), (111, 13, 18, 19, 0, 5),
+        (111, 23, 18, 24, 1, 5)
+    } {
         let mut bytes = [0; 24];
-        bytes[0] = 109;
+        bytes[0] = version;
         bytes[9] = 1;
-        bytes[place] = 0x80;
-        bytes[17] = 0x80;
-        let demo = must!(rt; Demo::read(rt.alloc(), &bytes[..len]));
-        same!(rt; demo.tics(), tics, place);
-        same!(rt; demo.cut(), 0);
-        same!(rt; demo.after(), after, place);
-    }
-}
-
-#[test]
-fn commands_of_version_111_have_five_bytes(rt: HostRuntime) {
-    let rt = &rt;
-    for (place, len, tics, after) in [
-        (14, 19, 1, 0),
-        (16, 19, 1, 0),
-        (17, 19, 1, 0),
-        (13, 19, 0, 5),
-        (23, 24, 1, 5),
-    ] {
-        let mut bytes = [0; 24];
-        bytes[0] = 111;
-        bytes[9] = 1;
-        bytes[place] = 0x80;
-        bytes[18] = 0x80;
-        let demo = must!(rt; Demo::read(rt.alloc(), &bytes[..len]));
-        same!(rt; demo.tics(), tics, place);
-        same!(rt; demo.after(), after, place);
+        let bytes = changed(changed(bytes, place, 0x80), last, 0x80);
+        let front = bytes.get(..len).unwrap_or(&[]);
+        let demo = must!(rt; Demo::read(rt.alloc(), front));
+        same!(rt; (demo.tics(), demo.cut(), demo.after()), (tics, 0, after), (version, place));
     }
 }
 
@@ -183,33 +155,19 @@ fn is_refused(rt: &impl Abort, alloc: Global, bytes: &[u8], fault: DemoFault) {
 #[test]
 fn bytes_are_refused_in_order(rt: HostRuntime) {
     let rt = &rt;
-    let mut other = PLAYED;
-    other[0] = 110;
-    let mut later = PLAYED;
-    later[0] = 112;
-    let mut earlier = PLAYED;
-    earlier[0] = 108;
-    let mut nobody = PLAYED;
-    nobody[9] = 0;
-    nobody[10] = 0;
-    let mut neither = nobody;
-    neither[0] = 0;
-    for (bytes, fault) in [
-        (&neither[..0], DemoFault::Short),
-        (&neither[..12], DemoFault::Short),
+    let (other, nobody) = (of_other_version(), of_nobody());
+    let (later, earlier) = (changed(PLAYED, 0, 112), changed(PLAYED, 0, 108));
+    let neither = changed(nobody, 0, 0);
+    for (bytes, fault) in list! {
+        (&neither[..0], DemoFault::Short), (&neither[..12], DemoFault::Short),
         (&PLAYED[..12], DemoFault::Short),
-        (&neither[..13], DemoFault::Version),
-        (neither.as_slice(), DemoFault::Version),
-        (other.as_slice(), DemoFault::Version),
-        (later.as_slice(), DemoFault::Version),
+        (&neither[..13], DemoFault::Version), (neither.as_slice(), DemoFault::Version),
+        (other.as_slice(), DemoFault::Version), (later.as_slice(), DemoFault::Version),
         (earlier.as_slice(), DemoFault::Version),
-        (&nobody[..13], DemoFault::NoPlayers),
-        (nobody.as_slice(), DemoFault::NoPlayers),
-        (&PLAYED[..13], DemoFault::NoMarker),
-        (&PLAYED[..29], DemoFault::NoMarker),
-        (&RECORDED[..12], DemoFault::Short),
-        (&RECORDED[..33], DemoFault::NoMarker),
-    ] {
+        (&nobody[..13], DemoFault::NoPlayers), (nobody.as_slice(), DemoFault::NoPlayers),
+        (&PLAYED[..13], DemoFault::NoMarker), (&PLAYED[..29], DemoFault::NoMarker),
+        (&RECORDED[..12], DemoFault::Short), (&RECORDED[..33], DemoFault::NoMarker)
+    } {
         is_refused(rt, rt.alloc(), bytes, fault);
     }
 }
@@ -218,10 +176,9 @@ fn bytes_are_refused_in_order(rt: HostRuntime) {
 fn fronts_of_a_demo_are_none(rt: HostRuntime) {
     for demo in [PLAYED.as_slice(), RECORDED.as_slice()] {
         for len in 0..demo.len() {
-            let fault = if len < 13 {
-                DemoFault::Short
-            } else {
-                DemoFault::NoMarker
+            let fault = match len {
+                0..=12 => DemoFault::Short,
+                _ => DemoFault::NoMarker,
             };
             let read = Demo::read(rt.alloc(), &demo[..len]);
             same!(&rt; read.err(), Some(fault), len);

@@ -7,7 +7,7 @@ use super::{RECORDED, START, moved};
 use dn_demo::{
     Demo, DemoFault, Recorder, RecorderFault, UpgradeFault, capacity, is_limit, upgrade,
 };
-use dn_shared_tests::{finds_no_memory, holds, must, same};
+use dn_shared_tests::{granted, holds, must, same};
 
 #[test]
 fn limits_are_checked(rt: HostRuntime) {
@@ -105,27 +105,16 @@ fn a_full_demo_takes_no_row(rt: HostRuntime) {
 #[test]
 fn refused_memory_is_told(rt: HostRuntime) {
     let rt = &rt;
-    match Recorder::new(rt.alloc(), 1_024) {
-        Ok(recorder) => holds!(rt; recorder.bytes().is_empty()),
-        Err(fault) => {
-            same!(rt; fault, RecorderFault::Memory);
-            finds_no_memory(rt, "Recorder::new");
-        }
+    let made = Recorder::new(rt.alloc(), 1_024);
+    if let Some(recorder) = granted!(rt; "Recorder::new", made, RecorderFault::Memory) {
+        holds!(rt; recorder.bytes().is_empty());
     }
-    match Demo::read(rt.alloc(), &RECORDED) {
-        Ok(demo) => {
-            same!(rt; demo.tics(), 2);
-            match upgrade(rt.alloc(), &demo, 1_024) {
-                Ok(recorder) => same!(rt; recorder.bytes(), RECORDED.as_slice()),
-                Err(fault) => {
-                    same!(rt; fault, UpgradeFault::Memory);
-                    finds_no_memory(rt, "upgrade");
-                }
-            }
-        }
-        Err(fault) => {
-            same!(rt; fault, DemoFault::Memory);
-            finds_no_memory(rt, "Demo::read");
+    let read = Demo::read(rt.alloc(), &RECORDED);
+    if let Some(demo) = granted!(rt; "Demo::read", read, DemoFault::Memory) {
+        same!(rt; demo.tics(), 2);
+        let upgraded = upgrade(rt.alloc(), &demo, 1_024);
+        if let Some(recorder) = granted!(rt; "upgrade", upgraded, UpgradeFault::Memory) {
+            same!(rt; recorder.bytes(), RECORDED.as_slice());
         }
     }
 }

@@ -2,9 +2,9 @@
 
 ghost use Rattle.std.specs.Prelude.{◌<◌};
 
-use super::{PLAYED, RECORDED, two_tics};
+use super::{PLAYED, RECORDED, of_nobody, of_other_version, two_tics};
 use dn_demo::Feed;
-use dn_shared_tests::same;
+use dn_shared_tests::{changed, same};
 use dn_world::Walk;
 use std::process::Abort;
 
@@ -62,13 +62,7 @@ fn no_bytes_end_no_row(rt: HostRuntime) {
 #[test]
 fn what_is_no_row_is_not_told(rt: HostRuntime) {
     let rt = &rt;
-    let mut other = PLAYED;
-    other[0] = 110;
-    let mut nobody = PLAYED;
-    nobody[9..13].copy_from_slice(&[0; 4]);
-    let mut cut = PLAYED;
-    cut[17] = 0x80;
-    for bytes in [other, nobody, cut] {
+    for bytes in [of_other_version(), of_nobody(), changed(PLAYED, 17, 0x80)] {
         let mut feed = Feed::new(Walk::new());
         let (row, rest) = feed.next_row(&bytes);
         same!(rt; (row, rest.len()), (None, 0));

@@ -1,6 +1,6 @@
 //! Tests of demos that are upgraded.
 
-use super::{PLAYED, RECORDED, place};
+use super::{ODD, PLAYED, RECORDED, place};
 use dn_demo::{Demo, UpgradeFault, play, upgrade};
 use dn_shared_tests::{must, same};
 use dn_world::Walk;
@@ -35,15 +35,11 @@ fn demos_of_both_versions_are_upgraded(rt: HostRuntime) {
 #[test]
 fn flags_of_players_are_written_as_one(rt: HostRuntime) {
     let rt = &rt;
-    let bytes = [
-        109, 200, 4, 0, 255, 2, 1, 9, 77, 2, 0, 255, 0, 1, 0x80, 0x80, 255, 127, 2, 0xFF, 0x80,
-        0x80,
-    ];
     let upgraded = [
         111, 200, 4, 0, 255, 2, 1, 9, 77, 1, 0, 1, 0, 1, 0x80, 0, 0x80, 255, 127, 2, 0, 0xFF, 0x80,
         0x80,
     ];
-    let demo = must!(rt; Demo::read(rt.alloc(), &bytes));
+    let demo = must!(rt; Demo::read(rt.alloc(), &ODD));
     let recorder = must!(rt; upgrade(rt.alloc(), &demo, 1_024));
     same!(rt; recorder.bytes(), upgraded.as_slice());
 }
@@ -54,8 +50,7 @@ fn upgrades_are_refused_in_order(rt: HostRuntime) {
     // two players who stand still for 102 tics: 1,034 bytes as they are recorded here
     let mut bytes = [0; 830];
     bytes[0] = 109;
-    bytes[9] = 1;
-    bytes[10] = 1;
+    bytes[9..11].copy_from_slice(&[1; 2]);
     bytes[829] = 0x80;
     let demo = must!(rt; Demo::read(rt.alloc(), &bytes));
     same!(rt; demo.tics(), 102);

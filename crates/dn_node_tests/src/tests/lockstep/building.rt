@@ -22,12 +22,18 @@ fn fills(rt: &impl Abort, node: &mut Lockstep) {
     same!(rt; (node.made(), node.ran()), (5, 0));
 }
 
+/// Two nodes with five commands each that wait.
+fn full(rt: &impl Abort, alloc: Global) -> (Lockstep, Lockstep) {
+    let (mut key, mut other) = must!(rt; pair(alloc, false));
+    fills(rt, &mut key);
+    fills(rt, &mut other);
+    (key, other)
+}
+
 #[test]
 fn five_commands_may_wait(rt: HostRuntime) {
     let rt = &rt;
-    let (mut key, mut other) = must!(rt; pair(rt.alloc(), false));
-    fills(rt, &mut key);
-    fills(rt, &mut other);
+    let (mut key, mut other) = full(rt, rt.alloc());
     same!(rt; tic(&mut key, &mut other, IDLE), (Ran::Ran(0), Ran::Ran(0)));
     same!(rt; build(&mut key, NO_KEYS), Made::Made(5));
     same!(rt; build(&mut key, NO_KEYS), Made::Full);
@@ -131,9 +137,7 @@ fn five_given_commands_may_wait(rt: HostRuntime) {
 #[test]
 fn a_command_can_be_built_once_a_tic_was_run(rt: HostRuntime) {
     let rt = &rt;
-    let (mut key, mut other) = must!(rt; pair(rt.alloc(), false));
-    fills(rt, &mut key);
-    fills(rt, &mut other);
+    let (mut key, mut other) = full(rt, rt.alloc());
     holds!(rt; !can_build(&key));
     let _ = pass(&mut other, &mut key);
     same!(rt; run(&mut key), Ran::Ran(0));

@@ -3,7 +3,7 @@
 use super::{LIMIT, build, choice, run};
 use dn_lockstep::{Config, Lockstep, Made, NodeFault, Phase, Ran, is_game};
 use dn_setup::Settings;
-use dn_shared_tests::{finds_no_memory, holds, must, same};
+use dn_shared_tests::{granted, holds, list, must, same};
 use std::test::Fail;
 
 fn config(players: u8, me: u8, limit: u32, settings: Option<Settings>) -> Config {
@@ -18,14 +18,9 @@ fn config(players: u8, me: u8, limit: u32, settings: Option<Settings>) -> Config
 
 #[test]
 fn two_to_four_may_play(rt: HostRuntime) {
-    for (players, may) in [
-        (0, false),
-        (1, false),
-        (2, true),
-        (4, true),
-        (5, false),
-        (usize::MAX, false),
-    ] {
+    for (players, may) in list! {
+        (0, false), (1, false), (2, true), (4, true), (5, false), (usize::MAX, false)
+    } {
         same!(&rt; is_game(players), may, players);
     }
 }
@@ -34,28 +29,19 @@ fn two_to_four_may_play(rt: HostRuntime) {
 #[test]
 fn the_first_fault_is_told(rt: HostRuntime) -> Result<(), Fail> {
     let some = Some(choice()?);
-    for (players, me, settings, limit, fault) in [
-        (0, 0, None, 0, NodeFault::Players),
-        (1, 1, some, 1_023, NodeFault::Players),
-        (1, 0, some, LIMIT, NodeFault::Players),
-        (5, 5, some, 1_023, NodeFault::Players),
-        (5, 4, None, LIMIT, NodeFault::Players),
-        (255, 255, some, 16_777_217, NodeFault::Players),
-        (2, 2, some, 1_023, NodeFault::Me),
-        (2, 2, None, LIMIT, NodeFault::Me),
-        (4, 4, some, 16_777_217, NodeFault::Me),
-        (3, 255, some, 0, NodeFault::Me),
-        (2, 0, None, 1_023, NodeFault::Key),
-        (2, 0, None, LIMIT, NodeFault::Key),
-        (2, 1, some, 16_777_217, NodeFault::Key),
-        (2, 1, some, LIMIT, NodeFault::Key),
+    for (players, me, settings, limit, fault) in list! {
+        (0, 0, None, 0, NodeFault::Players), (1, 1, some, 1_023, NodeFault::Players),
+        (1, 0, some, LIMIT, NodeFault::Players), (5, 5, some, 1_023, NodeFault::Players),
+        (5, 4, None, LIMIT, NodeFault::Players), (255, 255, some, 16_777_217, NodeFault::Players),
+        (2, 2, some, 1_023, NodeFault::Me), (2, 2, None, LIMIT, NodeFault::Me),
+        (4, 4, some, 16_777_217, NodeFault::Me), (3, 255, some, 0, NodeFault::Me),
+        (2, 0, None, 1_023, NodeFault::Key), (2, 0, None, LIMIT, NodeFault::Key),
+        (2, 1, some, 16_777_217, NodeFault::Key), (2, 1, some, LIMIT, NodeFault::Key),
         (4, 3, some, LIMIT, NodeFault::Key),
-        (2, 0, some, 1_023, NodeFault::Limit),
-        (2, 1, None, 1_023, NodeFault::Limit),
-        (2, 0, some, 16_777_217, NodeFault::Limit),
-        (4, 3, None, 0, NodeFault::Limit),
-        (4, 3, None, u32::MAX, NodeFault::Limit),
-    ] {
+        (2, 0, some, 1_023, NodeFault::Limit), (2, 1, None, 1_023, NodeFault::Limit),
+        (2, 0, some, 16_777_217, NodeFault::Limit), (4, 3, None, 0, NodeFault::Limit),
+        (4, 3, None, u32::MAX, NodeFault::Limit)
+    } {
         let made = Lockstep::new(rt.alloc(), config(players, me, limit, settings));
         same!(&rt; made.err(), Some(fault), (me, players, limit, settings));
     }
@@ -65,13 +51,11 @@ fn the_first_fault_is_told(rt: HostRuntime) -> Result<(), Fail> {
 #[test]
 fn a_node_begins_with_nothing(rt: HostRuntime) -> Result<(), Fail> {
     let some = Some(choice()?);
-    for (players, me, settings, limit, phase) in [
-        (2, 0, some, 1_024, Phase::Gathering),
-        (2, 1, None, 1_024, Phase::Listening),
-        (3, 2, None, LIMIT, Phase::Listening),
-        (4, 0, some, 16_777_216, Phase::Gathering),
-        (4, 3, None, 16_777_216, Phase::Listening),
-    ] {
+    for (players, me, settings, limit, phase) in list! {
+        (2, 0, some, 1_024, Phase::Gathering), (2, 1, None, 1_024, Phase::Listening),
+        (3, 2, None, LIMIT, Phase::Listening), (4, 0, some, 16_777_216, Phase::Gathering),
+        (4, 3, None, 16_777_216, Phase::Listening)
+    } {
         let mut node = Lockstep::new(rt.alloc(), config(players, me, limit, settings))?;
         same!(&rt; node.me(), me);
         same!(&rt; node.phase(), phase, me);
@@ -95,11 +79,8 @@ fn a_node_begins_with_nothing(rt: HostRuntime) -> Result<(), Fail> {
 fn refused_memory_is_told(rt: HostRuntime) {
     let rt = &rt;
     let settings = Some(must!(rt; choice()));
-    match Lockstep::new(rt.alloc(), config(2, 0, LIMIT, settings)) {
-        Ok(node) => same!(rt; node.phase(), Phase::Gathering),
-        Err(fault) => {
-            same!(rt; fault, NodeFault::Memory);
-            finds_no_memory(rt, "Lockstep::new");
-        }
+    let made = Lockstep::new(rt.alloc(), config(2, 0, LIMIT, settings));
+    if let Some(node) = granted!(rt; "Lockstep::new", made, NodeFault::Memory) {
+        same!(rt; node.phase(), Phase::Gathering);
     }
 }

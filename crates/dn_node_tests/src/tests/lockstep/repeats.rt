@@ -3,39 +3,32 @@
 use super::requests::sends;
 use super::{LIMIT, NO_KEYS, STILL, build, hears, opened, pair, run};
 use dn_lockstep::{Heard, Made};
-use dn_shared_tests::{must, same};
+use dn_shared_tests::{list, must, same};
+use std::alloc::Global;
+use std::process::Abort;
 
-#[test]
-fn a_packet_may_repeat_the_last_command(rt: HostRuntime) {
-    let rt = &rt;
-    let (mut key, _) = must!(rt; pair(rt.alloc(), true));
+/// So many builds, and then a packet that starts there with so many commands, for each row.
+fn build_and_send(rt: &impl Abort, alloc: Global, extra: bool, rows: &[(u32, u32, u8)]) {
+    let (mut key, _) = must!(rt; pair(alloc, extra));
     sends(rt, &mut key, 0, 0);
-    for (built, start, count) in [
-        (1, 0, 1),
-        (1, 0, 2),
-        (0, 1, 1),
-        (0, 1, 1),
-        (2, 1, 3),
-        (0, 3, 1),
-    ] {
-        for _ in 0..built {
+    for (built, start, count) in rows {
+        for _ in 0..*built {
             let _ = build(&mut key, NO_KEYS);
         }
-        sends(rt, &mut key, start, count);
+        sends(rt, &mut key, *start, *count);
     }
 }
 
 #[test]
+fn a_packet_may_repeat_the_last_command(rt: HostRuntime) {
+    let rows = list! { (1, 0, 1), (1, 0, 2), (0, 1, 1), (0, 1, 1), (2, 1, 3), (0, 3, 1) };
+    build_and_send(&rt, rt.alloc(), true, &rows);
+}
+
+#[test]
 fn each_command_goes_out_once(rt: HostRuntime) {
-    let rt = &rt;
-    let (mut key, _) = must!(rt; pair(rt.alloc(), false));
-    sends(rt, &mut key, 0, 0);
-    for (built, start, count) in [(1, 0, 1), (1, 1, 1), (0, 2, 0), (3, 2, 3), (0, 5, 0)] {
-        for _ in 0..built {
-            let _ = build(&mut key, NO_KEYS);
-        }
-        sends(rt, &mut key, start, count);
-    }
+    let rows = list! { (1, 0, 1), (1, 1, 1), (0, 2, 0), (3, 2, 3), (0, 5, 0) };
+    build_and_send(&rt, rt.alloc(), false, &rows);
 }
 
 /// A peer that was given nothing for more than twelve commands is given the newest alone.

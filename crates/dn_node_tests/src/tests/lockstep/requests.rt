@@ -5,7 +5,7 @@ use super::{
 };
 use dn_lockstep::{Aim, Heard, Lockstep};
 use dn_packet::{EXIT, RETRANSMIT};
-use dn_shared_tests::{must, same};
+use dn_shared_tests::{list, must, same};
 use dn_tic::TicCmd;
 use std::alloc::Global;
 use std::process::Abort;
@@ -51,24 +51,11 @@ pub(super) fn sends(rt: &impl Abort, node: &mut Lockstep, start: u32, count: u8)
 fn requests_within_the_last_twelve_are_met(rt: HostRuntime) {
     let rt = &rt;
     // commands made, the ask byte, and the first command of the next packet
-    for (made, byte, start) in [
-        (30, 17, 30),
-        (30, 18, 18),
-        (30, 29, 29),
-        (30, 30, 30),
-        (30, 31, 30),
-        (30, 94, 30),
-        (30, 222, 30),
-        (5, 0, 0),
-        (5, 5, 5),
-        (5, 6, 5),
-        (5, 255, 5),
-        (260, 254, 254),
-        (260, 248, 248),
-        (260, 247, 260),
-        (260, 4, 260),
-        (260, 5, 260),
-    ] {
+    for (made, byte, start) in list! {
+        (30, 17, 30), (30, 18, 18), (30, 29, 29), (30, 30, 30), (30, 31, 30), (30, 94, 30),
+        (30, 222, 30), (5, 0, 0), (5, 5, 5), (5, 6, 5), (5, 255, 5), (260, 254, 254), (260, 248, 248),
+        (260, 247, 260), (260, 4, 260), (260, 5, 260)
+    } {
         let (mut key, _) = must!(rt; at_tic(rt.alloc(), made));
         same!(rt; key.made(), made);
         same!(rt; ask(&mut key, byte), Heard::Stale, (made, byte));
@@ -79,12 +66,18 @@ fn requests_within_the_last_twelve_are_met(rt: HostRuntime) {
     }
 }
 
+/// A node at tic 30 that was asked for tic 18, and has sent the twelve commands since.
+fn at_thirty(rt: &impl Abort, alloc: Global) -> Lockstep {
+    let (mut key, _) = must!(rt; at_tic(alloc, 30));
+    same!(rt; ask(&mut key, 18), Heard::Stale);
+    sends(rt, &mut key, 18, 12);
+    key
+}
+
 #[test]
 fn a_met_request_stands_for_ten_packets(rt: HostRuntime) {
     let rt = &rt;
-    let (mut key, _) = must!(rt; at_tic(rt.alloc(), 30));
-    same!(rt; ask(&mut key, 18), Heard::Stale);
-    sends(rt, &mut key, 18, 12);
+    let mut key = at_thirty(rt, rt.alloc());
     for _ in 0..10 {
         same!(rt; ask(&mut key, 20), Heard::Stale);
         sends(rt, &mut key, 30, 0);
@@ -99,9 +92,7 @@ fn a_met_request_stands_for_ten_packets(rt: HostRuntime) {
 #[test]
 fn dropped_packets_do_not_count(rt: HostRuntime) {
     let rt = &rt;
-    let (mut key, _) = must!(rt; at_tic(rt.alloc(), 30));
-    same!(rt; ask(&mut key, 18), Heard::Stale);
-    sends(rt, &mut key, 18, 12);
+    let mut key = at_thirty(rt, rt.alloc());
     let stop = TicCmd {
         forward: -128,
         ..STILL

@@ -3,7 +3,7 @@
 use super::{LIMIT, NO_KEYS, build, config_of, given, pass, quit, received, run};
 use arrayvec::ArrayVec;
 use dn_lockstep::{Heard, Lockstep, Made, NodeFault, Phase, Ran};
-use dn_shared_tests::{finds_no_memory, must, same};
+use dn_shared_tests::{granted, must, same};
 use std::alloc::Global;
 use std::process::Abort;
 use std::test::Fail;
@@ -69,20 +69,22 @@ fn each_window_is_filled_and_run(rt: HostRuntime) {
 
 /// A player runs a window's tics before the other hears of any, and has then made two windows of commands, for
 /// which the other asks.
-fn far_ahead(rt: &impl Abort, (key, other): (&mut Lockstep, &mut Lockstep), ahead: u8) {
+fn far_ahead(rt: &impl Abort, alloc: Global, ahead: u8) -> (Lockstep, Lockstep) {
+    let (mut key, mut other) = must!(rt; pair(alloc, ahead));
     let all = u32::from(ahead);
     for _ in 0..ahead {
-        let _ = (build(key, NO_KEYS), build(other, NO_KEYS));
+        let _ = (build(&mut key, NO_KEYS), build(&mut other, NO_KEYS));
     }
-    same!(rt; pass(other, key), Some(Heard::Taken(all)), ahead);
+    same!(rt; pass(&mut other, &mut key), Some(Heard::Taken(all)), ahead);
     // this packet is lost
-    let _ = must!(rt; given(key, 1));
+    let _ = must!(rt; given(&mut key, 1));
     for _ in 0..ahead {
-        let _ = (run(key), build(key, NO_KEYS));
+        let _ = (run(&mut key), build(&mut key, NO_KEYS));
     }
     same!(rt; (key.made(), key.ran()), (all + all, all), ahead);
-    same!(rt; pass(key, other), Some(Heard::Gap), ahead);
-    same!(rt; pass(other, key), Some(Heard::Stale), ahead);
+    same!(rt; pass(&mut key, &mut other), Some(Heard::Gap), ahead);
+    same!(rt; pass(&mut other, &mut key), Some(Heard::Stale), ahead);
+    (key, other)
 }
 
 /// The other has all of them in one packet, or in two if they are more than twelve.
@@ -90,8 +92,7 @@ fn far_ahead(rt: &impl Abort, (key, other): (&mut Lockstep, &mut Lockstep), ahea
 fn two_windows_are_made_good(rt: HostRuntime) {
     let rt = &rt;
     for ahead in 1..=12_u8 {
-        let (mut key, mut other) = must!(rt; pair(rt.alloc(), ahead));
-        far_ahead(rt, (&mut key, &mut other), ahead);
+        let (mut key, mut other) = far_ahead(rt, rt.alloc(), ahead);
         let due = 2 * u32::from(ahead);
         same!(rt; pass(&mut key, &mut other), Some(Heard::Taken(due.min(12))), ahead);
         if ahead > 6 {
@@ -107,8 +108,7 @@ fn two_windows_are_made_good(rt: HostRuntime) {
 fn a_cut_packet_tells_no_end(rt: HostRuntime) {
     let rt = &rt;
     for ahead in 1..=12_u8 {
-        let (mut key, mut other) = must!(rt; pair(rt.alloc(), ahead));
-        far_ahead(rt, (&mut key, &mut other), ahead);
+        let (mut key, mut other) = far_ahead(rt, rt.alloc(), ahead);
         assert!(rt; quit(&mut key));
         if ahead > 6 {
             same!(rt; pass(&mut key, &mut other), Some(Heard::Taken(12)), ahead);
@@ -215,11 +215,8 @@ fn a_window_hides_delay(rt: HostRuntime) {
 #[test]
 fn refused_memory_is_told_in_a_window(rt: HostRuntime) {
     let rt = &rt;
-    match Lockstep::within(rt.alloc(), must!(rt; config_of((2, 0), false, LIMIT)), 12) {
-        Ok(node) => same!(rt; node.phase(), Phase::Gathering),
-        Err(fault) => {
-            same!(rt; fault, NodeFault::Memory);
-            finds_no_memory(rt, "Lockstep::within");
-        }
+    let made = Lockstep::within(rt.alloc(), must!(rt; config_of((2, 0), false, LIMIT)), 12);
+    if let Some(node) = granted!(rt; "Lockstep::within", made, NodeFault::Memory) {
+        same!(rt; node.phase(), Phase::Gathering);
     }
 }

@@ -4,7 +4,7 @@ use super::{FORWARD, IDLE, LEFT, RIGHT, SPEED, build, pair, pair_of, pass, quit,
 use dn_demo::{Demo, play};
 use dn_node::{Cause, Heard, Made, Node, Phase, Ran};
 use dn_packet::EXIT;
-use dn_shared_tests::{holds, must, same};
+use dn_shared_tests::{holds, list, must, same};
 use dn_world::Walk;
 use std::alloc::Global;
 use std::process::Abort;
@@ -39,14 +39,10 @@ fn ends_full(rt: &impl Abort, alloc: Global, limit: u32, (ran, size): (u32, usiz
 #[test]
 fn a_full_demo_ends_a_node(rt: HostRuntime) {
     let rt = &rt;
-    for (limit, ran, size) in [
-        (1_034, 102, 1_034),
-        (1_033, 101, 1_024),
-        (1_024, 101, 1_024),
-        (1_035, 102, 1_034),
-        (1_043, 102, 1_034),
-        (1_044, 103, 1_044),
-    ] {
+    for (limit, ran, size) in list! {
+        (1_034, 102, 1_034), (1_033, 101, 1_024), (1_024, 101, 1_024), (1_035, 102, 1_034),
+        (1_043, 102, 1_034), (1_044, 103, 1_044)
+    } {
         ends_full(rt, rt.alloc(), limit, (ran, size));
     }
 }

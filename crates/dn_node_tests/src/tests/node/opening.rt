@@ -1,9 +1,9 @@
 //! Tests of how a node is made, and of how its world begins.
 
-use super::{LIMIT, build, choice, datagram, opened, received, run};
+use super::{LIMIT, build, choice, config_of, datagram, opened, received, run};
 use dn_node::{Config, Heard, Made, Node, NodeFault, Phase, Ran};
 use dn_packet::SETUP;
-use dn_shared_tests::{finds_no_memory, must, same};
+use dn_shared_tests::{granted, must, same};
 use dn_world::Walk;
 use std::test::Fail;
 
@@ -34,19 +34,10 @@ fn a_node_is_refused_as_its_lockstep_is(rt: HostRuntime) -> Result<(), Fail> {
 #[test]
 fn refused_memory_is_told(rt: HostRuntime) {
     let rt = &rt;
-    let config = Config {
-        players: 2,
-        me: 0,
-        extra: false,
-        limit: LIMIT,
-        settings: Some(must!(rt; choice())),
-    };
-    match Node::new(rt.alloc(), config, Walk::new()) {
-        Ok(node) => same!(rt; node.phase(), Phase::Gathering),
-        Err(fault) => {
-            same!(rt; fault, NodeFault::Memory);
-            finds_no_memory(rt, "Node::new");
-        }
+    let config = must!(rt; config_of((2, 0), false, LIMIT));
+    let made = Node::new(rt.alloc(), config, Walk::new());
+    if let Some(node) = granted!(rt; "Node::new", made, NodeFault::Memory) {
+        same!(rt; node.phase(), Phase::Gathering);
     }
 }
 

@@ -9,6 +9,7 @@ use dn_packet::{KILL, RETRANSMIT};
 use dn_setup::Settings;
 use dn_shared_tests::{holds, must, same};
 use dn_world::{Belt, Walk, World};
+use std::alloc::Global;
 use std::process::Abort;
 
 /// All that a node answers and tells in one tic.
@@ -71,14 +72,18 @@ fn end<W: World>(rt: &impl Abort, node: &mut Node<W>, other: &mut Node<W>) {
     holds!(rt; quit(other));
 }
 
+/// Two nodes that play, over worlds that keep their state in a vector.
+fn belts(rt: &impl Abort, alloc: Global) -> (Node<Belt>, Node<Belt>) {
+    let worlds = (must!(rt; Belt::new(alloc)), must!(rt; Belt::new(alloc)));
+    must!(rt; pair_of(alloc, false, LIMIT, worlds))
+}
+
 #[test]
 fn nodes_of_two_worlds_answer_alike(rt: HostRuntime) {
     let rt = &rt;
-    let alloc = rt.alloc();
-    let belts = (must!(rt; Belt::new(alloc)), must!(rt; Belt::new(alloc)));
-    let (mut belt, mut other_belt) = must!(rt; pair_of(alloc, false, LIMIT, belts));
+    let (mut belt, mut other_belt) = belts(rt, rt.alloc());
     let walks = (Walk::new(), Walk::new());
-    let (mut walk, mut other_walk) = must!(rt; pair_of(alloc, false, LIMIT, walks));
+    let (mut walk, mut other_walk) = must!(rt; pair_of(rt.alloc(), false, LIMIT, walks));
     for tic in 0..40 {
         let one = one_tic(&mut belt, &mut other_belt, tic);
         let two = one_tic(&mut walk, &mut other_walk, tic);
@@ -97,9 +102,7 @@ fn nodes_of_two_worlds_answer_alike(rt: HostRuntime) {
 #[test]
 fn a_node_steps_its_world(rt: HostRuntime) {
     let rt = &rt;
-    let alloc = rt.alloc();
-    let belts = (must!(rt; Belt::new(alloc)), must!(rt; Belt::new(alloc)));
-    let (mut key, mut other) = must!(rt; pair_of(alloc, false, LIMIT, belts));
+    let (mut key, mut other) = belts(rt, rt.alloc());
     // map 1
     same!(rt; key.world().places(), [1, 1, 1, 1].as_slice());
     for (keys, places) in [

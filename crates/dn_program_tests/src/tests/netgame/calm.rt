@@ -28,13 +28,8 @@ fn without_calm_there_is_the_storm(rt: HostRuntime) {
         (4, 4_294_967_295, 700),
     ];
     for (players, seed, count) in rows {
-        let storm = storm(
-            rt.alloc(),
-            must!(rt; rules(DEFAULT_LIMIT)),
-            players,
-            seed,
-            count,
-        );
+        let game = must!(rt; rules(DEFAULT_LIMIT));
+        let storm = storm(rt.alloc(), game, players, seed, count);
         let game = must!(rt; rules(DEFAULT_LIMIT));
         let printed = calm(rt.alloc(), game, players, (seed, count, 0));
         same!(rt; storm.status, Ok(0), seed);

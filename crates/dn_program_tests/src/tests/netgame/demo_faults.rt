@@ -4,13 +4,12 @@ use super::demos::{TWO, TWO_LONG};
 use super::printed::{demo, prints, upgrade};
 use super::streams::Zeros;
 use super::upgrades::LEAST;
-use dn_shared_tests::same;
+use dn_shared_tests::{changed, list, same};
 
 #[test]
 fn bytes_that_are_no_demo_are_refused(rt: HostRuntime) {
     let rt = &rt;
-    let mut version = TWO;
-    version[0] = 0x6E;
+    let version = changed(TWO, 0, 0x6E);
     let mut nobody = TWO;
     nobody[9..13].copy_from_slice(&[0; 4]);
     let mut long_nobody = TWO_LONG;
@@ -44,11 +43,10 @@ fn bytes_that_are_no_demo_are_refused(rt: HostRuntime) {
 #[test]
 fn too_long_comes_before_every_other_refusal(rt: HostRuntime) {
     let rt = &rt;
-    for (size, text, left) in [
-        (33_554_432, "demo: version\n", 0),
-        (33_554_433, "demo: too long\n", 0),
-        (33_554_500, "demo: too long\n", 67),
-    ] {
+    for (size, text, left) in list! {
+        (33_554_432, "demo: version\n", 0), (33_554_433, "demo: too long\n", 0),
+        (33_554_500, "demo: too long\n", 67)
+    } {
         let mut input = Zeros { rest: size };
         prints(rt, demo(rt.alloc(), &mut input), 1, text.as_bytes(), size);
         same!(rt; input.rest, left);

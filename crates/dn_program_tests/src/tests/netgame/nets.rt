@@ -181,25 +181,15 @@ fn refused_memory_is_told(rt: HostRuntime) {
     let mut rest = room.as_mut_slice();
     let played = must!(rt; play_alone(rt, rt.alloc(), base, false, &mut rest));
     let left = rest.len();
-    shown_or_refused(
-        rt,
-        "run_play",
-        played,
-        &room[..512_usize.saturating_sub(left)],
-        &[ALONE],
-    );
+    let written = &room[..512_usize.saturating_sub(left)];
+    shown_or_refused(rt, "run_play", played, written, &[ALONE]);
     let mut room = [0; 512];
     let mut rest = room.as_mut_slice();
     let game = must!(rt; rules(DEFAULT_LIMIT));
     let looped = run_loop(rt, rt.alloc(), game, 2, base, 1, 1, &mut rest);
     let left = rest.len();
-    shown_or_refused(
-        rt,
-        "run_loop",
-        looped,
-        &room[..512_usize.saturating_sub(left)],
-        &ONE_ROUND,
-    );
+    let written = &room[..512_usize.saturating_sub(left)];
+    shown_or_refused(rt, "run_loop", looped, written, &ONE_ROUND);
 }
 
 /// A run over sockets has written its lines, or that none is bound; or there is no memory, and it has written

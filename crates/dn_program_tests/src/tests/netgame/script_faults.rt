@@ -4,7 +4,7 @@ use super::games::{DEFAULT_LIMIT, rules};
 use super::printed::{prints, sim};
 use super::streams::Zeros;
 use dn_netgame::{RunFault, run_sim};
-use dn_shared_tests::{finds_no_memory, holds, must, same};
+use dn_shared_tests::{finds_no_memory, holds, list, must, same};
 
 #[test]
 fn texts_that_are_no_script_are_refused(rt: HostRuntime) {
@@ -31,11 +31,10 @@ fn texts_that_are_no_script_are_refused(rt: HostRuntime) {
 #[test]
 fn too_long_comes_before_a_bad_line(rt: HostRuntime) {
     let rt = &rt;
-    for (size, text, left) in [
-        (1_048_576, "script: line 1\n", 0),
-        (1_048_577, "script: too long\n", 0),
-        (1_048_600, "script: too long\n", 23),
-    ] {
+    for (size, text, left) in list! {
+        (1_048_576, "script: line 1\n", 0), (1_048_577, "script: too long\n", 0),
+        (1_048_600, "script: too long\n", 23)
+    } {
         let mut input = Zeros { rest: size };
         let printed = must!(rt; sim(rt.alloc(), DEFAULT_LIMIT, 2, &mut input));
         prints(rt, printed, 1, text.as_bytes(), size);
@@ -51,13 +50,8 @@ fn refused_memory_is_told(rt: HostRuntime) {
     let mut room = [0; 256];
     let mut rest = room.as_mut_slice();
     let mut input = b"send 0 1".as_slice();
-    let status = run_sim(
-        rt.alloc(),
-        must!(rt; rules(DEFAULT_LIMIT)),
-        2,
-        &mut input,
-        &mut rest,
-    );
+    let game = must!(rt; rules(DEFAULT_LIMIT));
+    let status = run_sim(rt.alloc(), game, 2, &mut input, &mut rest);
     let left = rest.len();
     let written = &room[..256_usize.saturating_sub(left)];
     match status {

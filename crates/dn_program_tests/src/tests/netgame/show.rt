@@ -1,7 +1,7 @@
 //! Datagrams shown.
 
 use dn_netgame::run_show;
-use dn_shared_tests::{must, same};
+use dn_shared_tests::{changed, must, same};
 
 /// One command of player 0: forward 50 and attack.
 pub(crate) const ONE: [u8; 16] = [
@@ -21,12 +21,9 @@ fn twelve() -> [u8; 104] {
 #[test]
 fn datagrams_are_shown(rt: HostRuntime) {
     let rt = &rt;
-    let mut sum = ONE;
-    sum[15] = 2;
-    let mut many = ONE;
-    many[7] = 13;
-    let mut kill = ONE;
-    kill[3] = 0x15;
+    let sum = changed(ONE, 15, 2);
+    let many = changed(ONE, 7, 13);
+    let kill = changed(ONE, 3, 0x15);
     let mut long = [0; 300];
     long[..104].copy_from_slice(&twelve());
     let choice = [0xCA, 0x8C, 0x92, 0x21, 0x63, 0x47, 0x6F, 0x00];

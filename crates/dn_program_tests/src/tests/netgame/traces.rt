@@ -178,13 +178,8 @@ fn scripts_are_told_event_by_event(rt: HostRuntime) {
     for (script, status, text) in rows {
         let mut input = script;
         let mut output = Vec::new(rt.alloc());
-        let answer = trace_sim(
-            rt.alloc(),
-            must!(rt; rules(DEFAULT_LIMIT)),
-            2,
-            &mut input,
-            &mut output,
-        );
+        let game = must!(rt; rules(DEFAULT_LIMIT));
+        let answer = trace_sim(rt.alloc(), game, 2, &mut input, &mut output);
         same!(rt; answer, Ok(status));
         same!(rt; output.as_slice(), text.as_bytes());
     }
@@ -195,13 +190,8 @@ fn packets_that_are_dropped_are_told(rt: HostRuntime) {
     let rt = &rt;
     let mut input = b"send 0 1\ndeliver 0\ndeliver 0\nsend 1 2\ndeliver 1\n".as_slice();
     let mut output = Vec::new(rt.alloc());
-    let status = trace_sim(
-        rt.alloc(),
-        must!(rt; rules(DEFAULT_LIMIT)),
-        3,
-        &mut input,
-        &mut output,
-    );
+    let game = must!(rt; rules(DEFAULT_LIMIT));
+    let status = trace_sim(rt.alloc(), game, 3, &mut input, &mut output);
     let text = b"event 0 send 0 1: sent 0\n\
         event 1 deliver 0: started\n\
         event 2 deliver 0: dropped 6 set-up\n\
@@ -215,12 +205,8 @@ fn packets_that_are_dropped_are_told(rt: HostRuntime) {
 fn storms_are_told_event_by_event(rt: HostRuntime) {
     let rt = &rt;
     for rounds in [0, 4] {
-        let plain = calm(
-            rt.alloc(),
-            must!(rt; rules(DEFAULT_LIMIT)),
-            2,
-            (42, 6, rounds),
-        );
+        let game = must!(rt; rules(DEFAULT_LIMIT));
+        let plain = calm(rt.alloc(), game, 2, (42, 6, rounds));
         let mut text = Vec::new(rt.alloc());
         must!(rt; text.extend_from_slice(DRAWN_TOLD.as_bytes()));
         must!(rt; text.extend_from_slice(plain.bytes.as_slice()));
@@ -236,14 +222,8 @@ fn storms_are_told_event_by_event(rt: HostRuntime) {
 fn a_storm_is_written_as_its_script(rt: HostRuntime) {
     let rt = &rt;
     let mut output = Vec::new(rt.alloc());
-    let status = storm_script(
-        rt.alloc(),
-        must!(rt; rules(DEFAULT_LIMIT)),
-        2,
-        42,
-        6,
-        &mut output,
-    );
+    let game = must!(rt; rules(DEFAULT_LIMIT));
+    let status = storm_script(rt.alloc(), game, 2, 42, 6, &mut output);
     same!(rt; status, Ok(0));
     same!(rt; output.as_slice(), DRAWN.as_bytes());
 }
@@ -253,13 +233,8 @@ fn a_storm_is_written_as_its_script(rt: HostRuntime) {
 fn a_storm_is_played_again_by_its_script(rt: HostRuntime) {
     let rt = &rt;
     for (players, seed, count) in [(2, 1, 1_000), (3, 7, 3_000), (4, 4_294_967_295, 5_000)] {
-        let storm = storm(
-            rt.alloc(),
-            must!(rt; rules(DEFAULT_LIMIT)),
-            players,
-            seed,
-            count,
-        );
+        let game = must!(rt; rules(DEFAULT_LIMIT));
+        let storm = storm(rt.alloc(), game, players, seed, count);
         same!(rt; storm.status, Ok(0), seed);
         let mut script = Vec::new(rt.alloc());
         let game = must!(rt; rules(DEFAULT_LIMIT));

@@ -2,7 +2,7 @@
 
 use super::ONE;
 use super::host::{Called, Host};
-use dn_shared_tests::{holds, same};
+use dn_shared_tests::{holds, list, same};
 use std::process::Abort;
 
 /// A call breaks off, and prints this.
@@ -14,13 +14,9 @@ fn breaks_off(rt: &impl Abort, called: &Called, line: &str, text: &[u8]) {
 #[test]
 fn read_faults_are_told(rt: HostRuntime) {
     let rt = &rt;
-    for line in [
-        "netgame show",
-        "netgame demo",
-        "netgame rows",
-        "netgame upgrade",
-        "netgame sim",
-    ] {
+    for line in list! {
+        "netgame show", "netgame demo", "netgame rows", "netgame upgrade", "netgame sim"
+    } {
         let mut host = Host::new(rt, line.as_bytes(), &ONE);
         host.mute = true;
         breaks_off(rt, &host.call(), line, b"read fault\n");
@@ -31,18 +27,11 @@ fn read_faults_are_told(rt: HostRuntime) {
 #[test]
 fn write_faults_are_told(rt: HostRuntime) {
     let rt = &rt;
-    for line in [
-        "netgame show",
-        "netgame demo",
-        "netgame rows",
-        "netgame upgrade",
-        "netgame sim",
-        "netgame storm",
-        "netgame loop --rounds 1",
-        "netgame play --rounds 1",
-        "netgame play --me 2",
-        "netgame --help",
-    ] {
+    for line in list! {
+        "netgame show", "netgame demo", "netgame rows", "netgame upgrade", "netgame sim",
+        "netgame storm", "netgame loop --rounds 1", "netgame play --rounds 1", "netgame play --me 2",
+        "netgame --help"
+    } {
         let mut host = Host::new(rt, line.as_bytes(), &ONE);
         host.jams.set(1);
         host.sockets = 2;

@@ -2,7 +2,7 @@
 //! address or no socket.
 
 use super::host::{Called, Host};
-use dn_shared_tests::{holds, must, same};
+use dn_shared_tests::{holds, list, must, same};
 use std::net::Net;
 use std::process::Abort;
 use std::random::RandomSource;
@@ -54,22 +54,14 @@ fn a_key_that_cannot_be_made_is_told(rt: HostRuntime) {
 #[test]
 fn a_session_that_cannot_begin_is_told(rt: HostRuntime) {
     let rt = &rt;
-    for (line, status, printed) in [
+    for (line, status, printed) in list! {
         ("netgame host", 3, "socket fault\n"),
         ("netgame join 127.0.0.1:5029", 3, "socket fault\n"),
         ("netgame join 127.0.0.1", 1, "address: not found\n"),
         ("netgame join 127.0.0.1:70000", 1, "address: not found\n"),
-        (
-            "netgame host --key /nowhere/key",
-            3,
-            "key: cannot read the file\n",
-        ),
-        (
-            "netgame join 127.0.0.1:5029 --key /nowhere/key",
-            3,
-            "key: cannot read the file\n",
-        ),
-    ] {
+        ("netgame host --key /nowhere/key", 3, "key: cannot read the file\n"),
+        ("netgame join 127.0.0.1:5029 --key /nowhere/key", 3, "key: cannot read the file\n")
+    } {
         answers(rt, &call(rt, line), status, printed);
     }
 }
@@ -77,15 +69,11 @@ fn a_session_that_cannot_begin_is_told(rt: HostRuntime) {
 #[test]
 fn with_raw_all_texts_go_to_standard_error(rt: HostRuntime) {
     let rt = &rt;
-    for (line, status, told) in [
+    for (line, status, told) in list! {
         ("netgame host --raw", 3, "socket fault\n"),
         ("netgame join 127.0.0.1 --raw", 1, "address: not found\n"),
-        (
-            "netgame host --raw --key /nowhere/key",
-            3,
-            "key: cannot read the file\n",
-        ),
-    ] {
+        ("netgame host --raw --key /nowhere/key", 3, "key: cannot read the file\n")
+    } {
         let called = call(rt, line);
         same!(rt; called.status, status, line);
         same!(rt; called.printed.as_slice(), b"", line);

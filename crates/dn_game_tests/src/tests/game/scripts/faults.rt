@@ -1,7 +1,7 @@
 //! Tests of bad lines, long texts and refused memory.
 
 use dn_game::{ScriptFault, read_script};
-use dn_shared_tests::{finds_no_memory, must, same};
+use dn_shared_tests::{finds_no_memory, granted, list, must, same};
 use std::alloc::Global;
 
 /// Bad lines, with a bar between each two.
@@ -34,17 +34,11 @@ fn other_lines_are_bad(rt: HostRuntime) {
 #[test]
 fn the_first_bad_line_is_told(rt: HostRuntime) {
     let rt = &rt;
-    for (text, number) in [
-        ("build 0 f\nrun 0\nbuild 0 q", 3),
-        ("build 0 f\nrun 0\nbuild 0 q\n", 3),
-        ("q\nrun 0", 1),
-        ("\nq", 2),
-        ("\n\n# a\nq\nq\n", 4),
-        ("run 0\n\nrun\n\nstop\n", 3),
-        ("run 0\r\nrun 0\r\n", 1),
-        ("run 0\n ", 2),
-        ("run 0\n \n", 2),
-    ] {
+    for (text, number) in list! {
+        ("build 0 f\nrun 0\nbuild 0 q", 3), ("build 0 f\nrun 0\nbuild 0 q\n", 3), ("q\nrun 0", 1),
+        ("\nq", 2), ("\n\n# a\nq\nq\n", 4), ("run 0\n\nrun\n\nstop\n", 3), ("run 0\r\nrun 0\r\n", 1),
+        ("run 0\n ", 2), ("run 0\n \n", 2)
+    } {
         let fault = fault_of(rt.alloc(), text.as_bytes());
         same!(rt; fault, Some(ScriptFault::Line(number)), text);
     }
@@ -69,15 +63,10 @@ fn long_texts_are_told_first(rt: HostRuntime) {
 #[test]
 fn refused_memory_is_told(rt: HostRuntime) {
     let rt = &rt;
-    match read_script(
-        rt.alloc(),
-        b"run 0\nrun 1\nrun 2\nrun 3\nrun 4\nrun 5\nrun 6\nrun 7\nrun 8",
-    ) {
-        Ok(events) => same!(rt; events.len(), 9),
-        Err(fault) => {
-            same!(rt; fault, ScriptFault::Memory);
-            finds_no_memory(rt, "read_script");
-        }
+    let nine = b"run 0\nrun 1\nrun 2\nrun 3\nrun 4\nrun 5\nrun 6\nrun 7\nrun 8";
+    let read = read_script(rt.alloc(), nine);
+    if let Some(events) = granted!(rt; "read_script", read, ScriptFault::Memory) {
+        same!(rt; events.len(), 9);
     }
     match fault_of(rt.alloc(), b"run 0\nrun") {
         Some(ScriptFault::Memory) => finds_no_memory(rt, "read_script before a bad line"),

@@ -2,7 +2,7 @@
 
 use dn_game::read_script;
 use dn_machine::Event;
-use dn_shared_tests::{must, same};
+use dn_shared_tests::{list, must, same};
 use dn_tic::Keys;
 use std::alloc::Global;
 use std::process::Abort;
@@ -61,26 +61,12 @@ fn lines_are_events(rt: HostRuntime) {
 #[test]
 fn each_letter_is_a_key(rt: HostRuntime) {
     let rt = &rt;
-    for (line, place) in [
-        ("build 0 f", 0),
-        ("build 0 b", 1),
-        ("build 0 l", 2),
-        ("build 0 r", 3),
-        ("build 0 a", 4),
-        ("build 0 d", 5),
-        ("build 0 t", 6),
-        ("build 0 s", 7),
-        ("build 0 x", 8),
-        ("build 0 u", 9),
-        ("build 0 1", 10),
-        ("build 0 2", 11),
-        ("build 0 3", 12),
-        ("build 0 4", 13),
-        ("build 0 5", 14),
-        ("build 0 6", 15),
-        ("build 0 7", 16),
-        ("build 0 8", 17),
-    ] {
+    for (line, place) in list! {
+        ("build 0 f", 0), ("build 0 b", 1), ("build 0 l", 2), ("build 0 r", 3), ("build 0 a", 4),
+        ("build 0 d", 5), ("build 0 t", 6), ("build 0 s", 7), ("build 0 x", 8), ("build 0 u", 9),
+        ("build 0 1", 10), ("build 0 2", 11), ("build 0 3", 12), ("build 0 4", 13), ("build 0 5", 14),
+        ("build 0 6", 15), ("build 0 7", 16), ("build 0 8", 17)
+    } {
         reads(rt, rt.alloc(), line, &[build(0, 1 << place)]);
     }
     let all = "build 0 8u7x6s5t4d3a2r1lfb";
