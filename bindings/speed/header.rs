@@ -1,7 +1,8 @@
 //! The structs and codes of zirmegat.h.
 
+use crate::game::KEPT;
 use crate::game::command::Command;
-use crate::game::packet::NoPacket;
+use crate::game::packet::{NoPacket, expand};
 use crate::game::settings::{OutOfRange, Settings};
 
 #[repr(C)]
@@ -156,6 +157,21 @@ impl From<NoPacket> for DropFault {
             NoPacket::Sum => DropFault::Sum,
         }
     }
+}
+
+/// The tic of a packet's first command, by the byte of it that the packet carries.
+#[inline(always)]
+pub fn first_tic(made: u32, start: u8, stops: bool) -> Result<u32, DropFault> {
+    let tic = expand(made, start).ok_or(DropFault::Tic)?;
+    if stops { Err(DropFault::Command) } else { Ok(tic) }
+}
+
+/// The tics of a packet's first command and after its last, at a node that plays.
+#[inline(always)]
+pub fn tics(made: u32, ran: u32, start: u8, count: u32, stops: bool) -> Result<(u32, u32), DropFault> {
+    let start = first_tic(made, start, stops)?;
+    let end = start + count;
+    if end > ran + KEPT { Err(DropFault::Overrun) } else { Ok((start, end)) }
 }
 
 impl From<DropFault> for Heard {

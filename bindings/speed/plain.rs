@@ -12,13 +12,13 @@ mod header;
 
 use game::command::{COMMAND_SIZE, Command, SLOW_TURNS, TURN_KEYS};
 use game::demo::{Demo, MARKER};
-use game::packet::{EXIT, HEAD_SIZE, KILL, PACKET_SIZE, Packet, RETRANSMIT, SETUP, expand, seal};
+use game::packet::{EXIT, HEAD_SIZE, KILL, PACKET_SIZE, Packet, RETRANSMIT, SETUP, seal};
 use game::seat::{Seat, place};
 use game::settings::Settings;
 use game::{AHEAD, KEPT, MAX_PLAYERS, TIC_LIMIT, VERSION};
 use header::{
     Aim, CommandFields, Config, DropFault, Heard, HeardCode, KnownCommand, KnownSettings, Made, MadeCode, Move,
-    NewFault, Number, PhaseAnswer, Ran, RanCode,
+    NewFault, Number, PhaseAnswer, Ran, RanCode, first_tic, tics,
 };
 
 #[derive(Clone, Copy, PartialEq, Eq)]
@@ -63,6 +63,11 @@ pub struct Node {
     seats: [Seat; MAX_PLAYERS],
     settings: Option<Settings>,
     demo: Demo,
+}
+
+/// Whether a command of the packet would end a demo.
+fn has_marker(packet: &Packet) -> bool {
+    packet.commands.iter().any(|command| command[0] == MARKER)
 }
 
 impl Node {
@@ -269,38 +274,26 @@ impl Node {
         self.demo.begin(&settings, self.me, self.players);
     }
 
-    /// The tic of a packet's first command, where the packet has a place in a game.
-    fn first_tic(&self, packet: &Packet) -> Result<u32, DropFault> {
-        let start = expand(self.made(), packet.start).ok_or(DropFault::Tic)?;
-        if packet.commands.iter().any(|command| command[0] == MARKER) {
-            return Err(DropFault::Command);
-        }
-        Ok(start)
-    }
-
     /// Hears a packet once this node has ended: those who play on may still ask for commands.
     fn answer(&mut self, from: usize, packet: &Packet) -> Result<Heard, DropFault> {
         if packet.has(EXIT) {
             return Err(DropFault::NotPlaying);
         }
-        self.first_tic(packet)?;
         let made = self.made();
+        first_tic(made, packet.start, has_marker(packet))?;
         self.seats[from].meet_request(made, packet);
         Ok(Heard::new(HeardCode::Noted))
     }
 
     /// Takes the commands of a packet.
     fn take(&mut self, from: usize, packet: &Packet) -> Result<Heard, DropFault> {
-        let start = self.first_tic(packet)?;
-        let end = start + packet.commands.len() as u32;
-        if end > self.ran + KEPT {
-            return Err(DropFault::Overrun);
-        }
+        let made = self.made();
+        let count = packet.commands.len() as u32;
+        let (start, end) = tics(made, self.ran, packet.start, count, has_marker(packet))?;
         let exit = packet.has(EXIT);
         if self.seats[from].is_strange_end(end, exit) {
             return Err(DropFault::End);
         }
-        let made = self.made();
         let seat = &mut self.seats[from];
         seat.meet_request(made, packet);
         if exit {

@@ -23,7 +23,7 @@ use game::settings::Settings;
 use game::{AHEAD, KEPT, MAX_PLAYERS, PAUSE, TIC_LIMIT, VERSION};
 use header::{
     Aim, CommandFields, Config, DropFault, Heard, HeardCode, KnownCommand, KnownSettings, Made, MadeCode, Move,
-    NewFault, Number, PhaseAnswer, RanCode,
+    NewFault, Number, PhaseAnswer, RanCode, first_tic, tics,
 };
 
 const PLACES: usize = 16; // a power of two above the twelve that the game keeps
@@ -498,16 +498,10 @@ impl Node {
     fn take(&mut self, from: u8, flags: u8, head: u64, stop: bool, body: &[[u8; 8]]) -> Heard {
         let from = of(from);
         let made = self.made();
-        let Some(start) = expand(made, (head >> 40) as u8) else {
-            return dropped(DropFault::Tic);
+        let (start, end) = match tics(made, self.ran, (head >> 40) as u8, body.len() as u32, stop) {
+            Ok(tics) => tics,
+            Err(fault) => return dropped(fault),
         };
-        if stop {
-            return dropped(DropFault::Command);
-        }
-        let end = start + body.len() as u32;
-        if end > self.ran + KEPT {
-            return dropped(DropFault::Overrun);
-        }
         let got = self.count[from];
         let known = self.end[from];
         let exit = flags & EXIT != 0;
@@ -544,11 +538,8 @@ impl Node {
             return dropped(DropFault::NotPlaying);
         }
         let made = self.made();
-        if expand(made, (head >> 40) as u8).is_none() {
-            return dropped(DropFault::Tic);
-        }
-        if stop {
-            return dropped(DropFault::Command);
+        if let Err(fault) = first_tic(made, (head >> 40) as u8, stop) {
+            return dropped(fault);
         }
         if flags & RETRANSMIT == 0 || !self.meet(from, made, (head >> 32) as u8) {
             self.pause[from] = self.pause[from].saturating_sub(1);

@@ -4,6 +4,7 @@ use crate::*;
 use core::mem::{offset_of, size_of};
 
 mod codes;
+mod header;
 mod link;
 mod sealed;
 mod sharing;

@@ -1,5 +1,6 @@
 //! What is made of each code of the library, and of codes that it does not have.
 
+use super::header::codes;
 use crate::*;
 
 /// Codes that no header has yet. Each is kept, and none is taken for a code that has a name.
@@ -72,55 +73,48 @@ fn codes_of_calls_have_their_names() {
     }
 }
 
+/// The number of a drop that a report alone has.
+const GIVEN_UP: &str = "GivenUp";
+
 #[test]
-fn codes_of_drops_have_their_names() {
-    let dropped = [
-        Dropped::Short,
-        Dropped::Many,
-        Dropped::Length,
-        Dropped::Sum,
-        Dropped::Stranger,
-        Dropped::OutOfPlace,
-        Dropped::Version,
-        Dropped::Range,
-        Dropped::Kill,
-        Dropped::Tic,
-        Dropped::Command,
-        Dropped::Overrun,
-        Dropped::NotPlaying,
-        Dropped::End,
-    ];
-    for (number, dropped) in (1..).zip(dropped) {
-        assert_eq!(values::heard(coded(6, number)), Heard::Dropped(dropped));
+fn drops_are_named_as_in_the_header() {
+    let drops = codes("ZMG_DROP_");
+    assert!(drops.len() >= 15);
+    for (name, number) in &drops {
+        let Heard::Dropped(dropped) = values::heard(coded(6, *number)) else {
+            panic!("{name} is none");
+        };
+        match dropped {
+            Dropped::Unknown(_) => assert_eq!(name, GIVEN_UP),
+            dropped => assert_eq!(format!("{dropped:?}"), *name),
+        }
     }
-    for number in [0, 15].into_iter().chain(STRANGE) {
+    let next = drops.len() as u32 + 1;
+    for number in [0, next].into_iter().chain(STRANGE) {
         let dropped = Heard::Dropped(Dropped::Unknown(number));
         assert_eq!(values::heard(coded(6, number)), dropped);
     }
 }
 
 #[test]
-fn codes_of_arrivals_have_their_names() {
-    let unopened = [
-        SealError::Short,
-        SealError::Long,
-        SealError::Suite,
-        SealError::Kind,
-        SealError::Game,
-        SealError::Receiver,
-        SealError::Tag,
-        SealError::Request,
-    ];
-    for (number, unopened) in (1..).zip(unopened) {
-        assert_eq!(
-            values::arrived(coded(7, number)),
-            Arrived::Unopened(unopened)
-        );
+fn unopened_envelopes_are_named_as_in_the_header() {
+    let faults: Vec<_> = codes("ZMG_SEAL_");
+    assert!(faults.len() >= 8);
+    for (name, number) in &faults {
+        let Arrived::Unopened(fault) = values::arrived(coded(7, *number)) else {
+            panic!("{name} is none");
+        };
+        assert_eq!(format!("{fault:?}"), *name);
     }
-    for number in [0, 9].into_iter().chain(STRANGE) {
+    let next = faults.len() as u32 + 1;
+    for number in [0, next].into_iter().chain(STRANGE) {
         let unopened = Arrived::Unopened(SealError::Unknown(number));
         assert_eq!(values::arrived(coded(7, number)), unopened);
     }
+}
+
+#[test]
+fn codes_of_arrivals_have_their_names() {
     assert_eq!(values::arrived(coded(8, 0)), Arrived::Late);
     assert_eq!(values::arrived(coded(9, 0)), Arrived::Unlike);
     for code in (0..7).chain([10]).chain(STRANGE) {
